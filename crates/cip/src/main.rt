@@ -1,0 +1,30 @@
+//! The program `cip`: its words, the files of the system and standard output, handed to `run`.
+#![tactic(auto)]
+
+use cip_io::{HostSink, HostStore};
+use cip_main::{Words, run, say_no_memory, say_usage};
+use std::process::ExitCode;
+use std::{env, io};
+
+/// The words of the command line, without the program's name.
+fn words(rt: &(impl std::rt::Env + AllocGlobal)) -> io::Result<Words> {
+    let mut words = Words::new(rt.alloc())?;
+    for word in env::args(rt)?.skip(1) {
+        words.add(word.as_str())?;
+    }
+    Ok(words)
+}
+
+fn main(rt: HostRuntime) -> ExitCode {
+    let mut out = HostSink::new(&rt);
+    let status = match words(&rt) {
+        Ok(words) => {
+            let mut store = HostStore::new(&rt);
+            let mut logs = Vec::new(rt.alloc());
+            run(rt.alloc(), &words, &mut store, &mut out, &mut logs)
+        }
+        Err(fault) if fault.kind() == io::ErrorKind::OutOfMemory => say_no_memory(&mut out),
+        Err(_) => say_usage(&mut out),
+    };
+    ExitCode::from(status)
+}

@@ -1,0 +1,11 @@
+pub mod Casts
+pub mod Comparison
+pub mod Divisors
+pub mod Fields
+pub mod Halves
+pub mod Products
+pub mod Quotients
+pub mod SumSteps
+pub mod Sums
+pub mod TextParts
+pub mod WholeNumbers

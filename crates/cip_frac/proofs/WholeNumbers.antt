@@ -1,0 +1,83 @@
+-- Sums and products of whole numbers, whose denominators are 1.
+use Rattle.std.proofs.Common.{◌≡◌, ℕ, ◌*◌, ◌<◌, ◌^◌, ℤ, pos, ◌+ℤ◌, ◌*ℤ◌, unsigned_abs, true, false, sym, ap, subst, ◌∙◌, refl, arith, lit<, inl, Option, Some, None}
+use Rattle.std.specs.Prelude.{MatchOption}
+use Rattle.std.proofs.lemmas.Int.{unsigned_abs-mul}
+use Rattle.cip_rational.specs.Rational.{ℚ, ◌+ℚ◌, ◌*ℚ◌, ratio, numerator, denominator}
+use Rattle.cip_rational.specs.Range.{sum_overflows, product_overflows}
+use Rattle.cip_frac.specs.Terms.{AreLowest}
+use Rattle.cip_frac.proofs.Casts.{kept}
+use Rattle.cip_frac.proofs.Fields.{gcd_one, AreLowest-whole}
+use Rattle.cip_frac.proofs.Sums.{total_large, none_large, sum_ratio}
+use Rattle.cip_frac.proofs.Products.{product_large, product_fits, product_ratio}
+use Rattle.cip_frac.proofs.SumSteps.{read, times_one}
+
+pub option_map : {V : Type 0} (o : Option V) {P P' : Type 0} {Q Q' : V → Type 0} → (P → P') → ((v : V) → Q v → Q' v) → MatchOption o P Q → MatchOption o P' Q'
+option_map None f g h = f h
+option_map (Some v) f g h = g v h
+
+-- a whole number that is below 2 ^ 127 is what the code makes of it
+pub made_lowest : (z r : ℤ) → (unsigned_abs z < 2 ^ 127) × (r ≡ z) → AreLowest (read r) 1
+made_lowest z r h = let e : read r ≡ z = ap read h.1 ∙ kept z h.0 in rw e (AreLowest-whole z h.0)
+
+pub made_ratio : (z r : ℤ) → (unsigned_abs z < 2 ^ 127) × (r ≡ z) → ratio (read r) 1 ≡ ratio z 1
+made_ratio z r h = ap (λ n. ratio n 1) (ap read h.1 ∙ kept z h.0)
+
+-- the same for a product
+pub made_product : (z w r : ℤ) → (unsigned_abs z * unsigned_abs w < 2 ^ 127) × (r ≡ z *ℤ w) → AreLowest (read r) 1
+made_product z w r h = made_lowest (z *ℤ w) r (rw (unsigned_abs-mul z w) h.0, h.1)
+
+module _ (x y : ℚ) (a c : ℤ) (b d : ℕ) (ea : a ≡ numerator x) (eb : b ≡ denominator x) (ha : AreLowest a b) (ec : c ≡ numerator y) (ed : d ≡ denominator y) (hc : AreLowest c d) (one_b : b ≡ 1) (one_d : d ≡ 1) where
+  ea1 : 1 ≡ denominator x
+  ea1 = sym one_b ∙ eb
+
+  ed1 : 1 ≡ denominator y
+  ed1 = sym one_d ∙ ed
+
+  la : AreLowest a 1
+  la = subst (AreLowest a) one_b ha
+
+  lc : AreLowest c 1
+  lc = subst (AreLowest c) one_d hc
+
+  raised : a *ℤ pos 1 +ℤ c *ℤ pos 1 ≡ a +ℤ c
+  raised = rw (times_one a, times_one c) refl
+
+  ka : read a ≡ a
+  ka = kept a ha.over_small
+
+  kc : read c ≡ c
+  kc = kept c hc.over_small
+
+  few : (n : ℕ) → n < 2 ^ 127 → n * 1 < 2 ^ 127
+  few n h = omega (arith, h)
+
+  pub whole_sum_is : (o : Option ℚ) → MatchOption o (¬ (unsigned_abs (read a +ℤ read c) < 2 ^ 127)) (λ v. (unsigned_abs (read a +ℤ read c) < 2 ^ 127) × (v ≡ ratio (read a +ℤ read c) 1)) → MatchOption o (sum_overflows x y ≡ true) (λ v. (sum_overflows x y ≡ false) × (v ≡ x +ℚ y))
+  whole_sum_is o m = option_map o too_large_sum fitting_sum m
+    where
+      too_large_sum : ¬ (unsigned_abs (read a +ℤ read c) < 2 ^ 127) → sum_overflows x y ≡ true
+      too_large_sum h = total_large x y a c 1 1 ea ea1 la ec ed1 lc 1 (gcd_one 1) 1 1 refl refl (rw raised (rw (ka, kc) at h))
+
+      fitting_sum : (v : ℚ) → (unsigned_abs (read a +ℤ read c) < 2 ^ 127) × (v ≡ ratio (read a +ℤ read c) 1) → (sum_overflows x y ≡ false) × (v ≡ x +ℚ y)
+      fitting_sum v h =
+          let small : unsigned_abs (a +ℤ c) < 2 ^ 127 = rw (ka, kc) at h.0 in
+          let value : v ≡ ratio (a +ℤ c) 1 = rw (ka, kc) at h.1 in
+          let total : unsigned_abs (a *ℤ pos 1 +ℤ c *ℤ pos 1) < 2 ^ 127 = rw raised small in
+          let once : (a +ℤ c) *ℤ pos 1 ≡ a *ℤ pos 1 +ℤ c *ℤ pos 1 = times_one (a +ℤ c) ∙ sym raised in
+          let none : sum_overflows x y ≡ false = none_large x y a c 1 1 ea ea1 la ec ed1 lc 1 (gcd_one 1) 1 1 refl refl (few _ ha.over_small) (few _ hc.over_small) total (lit< tt) in
+          (none, value ∙ sum_ratio x y a c 1 1 ea ea1 la ec ed1 lc 1 (gcd_one 1) 1 1 refl refl 1 (gcd_one _) (a +ℤ c) 1 once refl (lit< tt))
+
+  pub whole_product_is : (o : Option ℚ) → MatchOption o (¬ (unsigned_abs (read a *ℤ read c) < 2 ^ 127)) (λ v. (unsigned_abs (read a *ℤ read c) < 2 ^ 127) × (v ≡ ratio (read a *ℤ read c) 1)) → MatchOption o (product_overflows x y ≡ true) (λ v. (product_overflows x y ≡ false) × (v ≡ x *ℚ y))
+  whole_product_is o m = option_map o too_large_product fitting_product m
+    where
+      too_large_product : ¬ (unsigned_abs (read a *ℤ read c) < 2 ^ 127) → product_overflows x y ≡ true
+      too_large_product h =
+          let h' : ¬ (unsigned_abs (a *ℤ c) < 2 ^ 127) = rw (ka, kc) at h in
+          product_large x y a c 1 1 ea ea1 la ec ed1 lc 1 1 (gcd_one _) (gcd_one _) a c 1 1 (times_one a) (times_one c) refl refl (inl (omega (arith, h')))
+
+      fitting_product : (v : ℚ) → (unsigned_abs (read a *ℤ read c) < 2 ^ 127) × (v ≡ ratio (read a *ℤ read c) 1) → (product_overflows x y ≡ false) × (v ≡ x *ℚ y)
+      fitting_product v h =
+          let small : unsigned_abs (a *ℤ c) < 2 ^ 127 = rw (ka, kc) at h.0 in
+          let value : v ≡ ratio (a *ℤ c) 1 = rw (ka, kc) at h.1 in (
+            product_fits x y a c 1 1 ea ea1 la ec ed1 lc 1 1 (gcd_one _) (gcd_one _) a c 1 1 (times_one a) (times_one c) refl refl small (lit< tt),
+            value ∙ product_ratio x y a c 1 1 ea ea1 la ec ed1 lc 1 1 (gcd_one _) (gcd_one _) a c 1 1 (times_one a) (times_one c) refl refl,
+          )

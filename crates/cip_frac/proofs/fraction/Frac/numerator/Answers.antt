@@ -1,0 +1,5 @@
+use Rattle.cip_frac.proofs.Fields.{numerator_field}
+use Rattle.cip_frac.proofs.fraction.Frac.numerator.Goals as goal
+
+pub returns-clause-value : goal.returns-clause-value
+returns-clause-value c = numerator_field c.self.inside.numerator c.self.inside.denominator c.args.self c.self.invariant c.self.view_is

@@ -1,0 +1,21 @@
+use Rattle.std.proofs.Common.{◌≡◌, arith, subst, sym}
+use Rattle.std.specs.Int.{IsGcd}
+use Rattle.std.proofs.lemmas.Nat.Gcd.{IsGcd-swap, IsGcd-from_zero}
+use Rattle.cip_frac.proofs.Fields.{gcd_one}
+use Rattle.cip_frac.proofs.gcd.short_gcd.Goals as goal
+
+pub returns-else-a-eq0 : goal.returns-else-a-eq0
+returns-else-a-eq0 c =
+    let e : c.args.a ≡ 1 = omega arith in
+    subst (λ n. IsGcd n c.args.b 1) (sym e) (IsGcd-swap c.args.b 1 1 (gcd_one c.args.b))
+
+pub returns-else-b-eq0 : goal.returns-else-b-eq0
+returns-else-b-eq0 c =
+    let e : c.args.b ≡ 1 = omega arith in
+    subst (λ n. IsGcd c.args.a n 1) (sym e) (gcd_one c.args.a)
+
+pub returns-then-rest-eq0 : goal.returns-then-rest-eq0
+returns-then-rest-eq0 c = c.narrowed-low.ensures.same _ (IsGcd-from_zero _ _ c.if-rest-eq0.true)
+
+pub returns : goal.returns
+returns c = c.narrowed-low.ensures.same _ c.stripped_gcd.ensures

@@ -1,0 +1,236 @@
+// Fractions in lowest terms.
+ghost use Rattle.std.specs.Prelude.{◌≡◌, ◌≢◌, ℕ, ℤ, ◌<◌, ◌≤◌, ◌^◌, ◌↔◌, IsTrue, pos, negsuc, neg_ℤ, unsigned_abs, MatchResult, true, false, if◌then◌else◌};
+ghost use Rattle.std.specs.Int.{IsGcd};
+ghost use Rattle.cip_rational.specs.Rational.{ℚ, ◌<ℚ◌, negate, inverse, absolute, integer, ratio, zeroℚ, oneℚ, numerator, denominator, IsWhole, floor, ceil};
+ghost use Rattle.cip_rational.specs.Range.{largest, magnitude, fits_range};
+ghost use Rattle.cip_frac.specs.Fault.{quotient_of, IsFaultOf};
+
+use crate::bounded::{LARGEST, floor_part_of};
+use crate::gcd::gcd;
+use std::marker::Model;
+
+/// Why two integers make no fraction.
+#[derive(Clone, Copy, PartialEq, Eq, Debug)]
+pub enum FracFault {
+    ZeroBelow,
+    Wide,
+}
+
+/// A fraction in lowest terms, the denominator positive, and both below 2^127 in magnitude.
+#[derive(Clone, Copy, Debug)]
+pub struct Frac {
+    numerator: i128,
+    denominator: u128,
+}
+
+impl Model for Frac {
+    ghost use Rattle.cip_rational.specs.Rational.{ℚ, coded_ℚ};
+
+    ghost Value = { ℚ };
+
+    ghost coded = { coded_ℚ };
+
+    ghost use Rattle.cip_frac.specs.Terms.{rational_of, HasLowest, terms_of, gives_back};
+
+    ghost view = { rational_of };
+
+    ghost invariant = { HasLowest };
+
+    ghost inverse = { terms_of };
+
+    ghost inverse_ok = { gives_back };
+}
+
+#[inline]
+fn with_sign(is_below_zero: bool, size: u128) -> i128
+    requires { size < 2 ^ 127 }
+    ensures { result ≡ (if is_below_zero then neg_ℤ (pos size) else pos size) }
+{
+    if is_below_zero {
+        -(size as i128)
+    } else {
+        size as i128
+    }
+}
+
+impl From<i64> for Frac {
+    ghost from_gives = { λ p value. value ≡ integer p };
+
+    #[inline]
+    fn from(p: i64) -> Frac {
+        Frac {
+            numerator: p as i128,
+            denominator: 1,
+        }
+    }
+}
+
+impl Frac {
+    ghost use Rattle.cip_frac.specs.Terms.{AreLowest};
+
+    #[inline]
+    pub fn zero() -> Frac
+        ensures { result ≡ zeroℚ }
+    {
+        Frac {
+            numerator: 0,
+            denominator: 1,
+        }
+    }
+
+    #[inline]
+    pub fn one() -> Frac
+        ensures { result ≡ oneℚ }
+    {
+        Frac {
+            numerator: 1,
+            denominator: 1,
+        }
+    }
+
+    /// p / q
+    pub fn new(p: i128, q: i128) -> Result<Frac, FracFault>
+        ensures { MatchResult result (λ value. (q ≢ pos 0) × (value ≡ quotient_of p q)) (IsFaultOf p q) }
+    {
+        if q == 0 {
+            return Err(FracFault::ZeroBelow);
+        }
+        let over = p.unsigned_abs();
+        let under = q.unsigned_abs();
+        let common = gcd(over, under);
+        let size = over / common;
+        let denominator = under / common;
+        if size > LARGEST || denominator > LARGEST {
+            return Err(FracFault::Wide);
+        }
+        let numerator = with_sign((p < 0) != (q < 0), size);
+        Ok(Frac {
+            numerator,
+            denominator,
+        })
+    }
+
+    /// p itself, but for -2^127.
+    #[inline]
+    pub fn whole(p: i128) -> Result<Frac, FracFault>
+        ensures { MatchResult result (λ value. value ≡ integer p)
+            (λ fault. (fault ≡ FracFault.Wide) × (p ≡ negsuc largest) × (fits_range (integer p) ≡ false)) }
+    {
+        if p == i128::MIN {
+            return Err(FracFault::Wide);
+        }
+        Ok(Frac {
+            numerator: p,
+            denominator: 1,
+        })
+    }
+
+    #[inline]
+    pub fn numerator(self) -> i128
+        ensures value { result ≡ numerator self }
+        ensures bounded { magnitude result ≤ largest }
+    {
+        self.numerator
+    }
+
+    #[inline]
+    pub fn denominator(self) -> i128
+        ensures value { result ≡ pos (denominator self) }
+        ensures bounded { magnitude result ≤ largest }
+    {
+        self.denominator as i128
+    }
+
+    #[inline]
+    pub fn neg(self) -> Frac
+        ensures { result ≡ negate self }
+    {
+        Frac {
+            numerator: -self.numerator,
+            denominator: self.denominator,
+        }
+    }
+
+    #[inline]
+    pub fn abs(self) -> Frac
+        ensures { result ≡ absolute self }
+    {
+        if self.numerator < 0 { self.neg() } else { self }
+    }
+
+    #[inline]
+    pub fn is_whole(self) -> bool
+        ensures { IsTrue result ↔ IsWhole self }
+    {
+        self.denominator == 1
+    }
+
+    #[inline]
+    pub fn is_zero(self) -> bool
+        ensures { IsTrue result ↔ (self ≡ zeroℚ) }
+    {
+        self.numerator == 0
+    }
+
+    #[inline]
+    pub fn is_negative(self) -> bool
+        ensures { IsTrue result ↔ (self <ℚ zeroℚ) }
+    {
+        self.numerator < 0
+    }
+
+    #[inline]
+    pub fn is_positive(self) -> bool
+        ensures { IsTrue result ↔ (zeroℚ <ℚ self) }
+    {
+        self.numerator > 0
+    }
+
+    #[inline]
+    pub fn floor(self) -> i128
+        ensures { result ≡ floor self }
+    {
+        floor_part_of(self.numerator, self.denominator)
+    }
+
+    #[inline]
+    pub fn ceil(self) -> i128
+        ensures { result ≡ ceil self }
+    {
+        -floor_part_of(-self.numerator, self.denominator)
+    }
+
+    // 1 / self
+    #[inline]
+    pub(crate) fn reciprocal(self) -> Frac
+        requires { self ≢ zeroℚ }
+        ensures { result ≡ inverse self }
+    {
+        Frac {
+            numerator: with_sign(self.numerator < 0, self.denominator),
+            denominator: self.numerator.unsigned_abs(),
+        }
+    }
+
+    // A number from its lowest terms.
+    #[inline]
+    pub(crate) fn of_lowest(numerator: i128, denominator: u128) -> Frac
+        requires { AreLowest numerator denominator }
+        ensures { result ≡ ratio numerator denominator }
+    {
+        Frac {
+            numerator,
+            denominator,
+        }
+    }
+
+    // The lowest terms.
+    #[inline]
+    pub(crate) fn terms(self) -> (i128, u128)
+        ensures over { result.0 ≡ numerator self }
+        ensures under { result.1 ≡ denominator self }
+        ensures lowest { AreLowest result.0 result.1 }
+    {
+        (self.numerator, self.denominator)
+    }
+}

@@ -1,0 +1,14 @@
+// Exact fractions of 128 bits.
+#![tactic(auto)]
+
+mod bounded;
+mod fraction;
+mod gcd;
+mod operations;
+mod order;
+#[cfg(test)]
+mod tests;
+mod text;
+
+pub use fraction::{Frac, FracFault};
+pub use operations::{Operation, Wide};

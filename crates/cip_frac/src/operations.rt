@@ -1,0 +1,201 @@
+// Sums, differences, products and quotients.
+ghost use Rattle.std.specs.Prelude.{◌≡◌, ◌≢◌, ℕ, ◌<◌, ◌^◌, true, false, ◌+ℤ◌, ◌*ℤ◌, unsigned_abs, MatchOption, MatchResult};
+ghost use Rattle.cip_rational.specs.Rational.{◌+ℚ◌, ◌-ℚ◌, ◌*ℚ◌, inverse, ratio, zeroℚ};
+ghost use Rattle.cip_rational.specs.Range.{sum_overflows, difference_overflows, product_overflows, quotient_overflows};
+
+use crate::bounded::{
+    bounded_common, bounded_product, bounded_sum, part_of, raised, signed_part_of,
+};
+use crate::fraction::Frac;
+use crate::gcd::gcd;
+
+#[derive(Clone, Copy, PartialEq, Eq, Debug)]
+pub enum Operation {
+    Sum,
+    Difference,
+    Product,
+    Quotient,
+}
+
+/// An operation that goes past the range, and the two numbers it was given.
+#[derive(Clone, Copy, PartialEq, Eq, Debug)]
+pub struct Wide {
+    pub op: Operation,
+    pub left: Frac,
+    pub right: Frac,
+}
+
+impl Frac {
+    #[inline]
+    pub fn add(self, other: Frac) -> Result<Frac, Wide>
+        ensures { MatchResult result
+            (λ value. (sum_overflows self other ≡ false) × (value ≡ self +ℚ other))
+            (λ wide. (sum_overflows self other ≡ true)
+            × (wide ≡ record { op = Operation.Sum; left = self; right = other })) }
+    {
+        match sum(self, other) {
+            Some(value) => Ok(value),
+            None => Err(Wide {
+                op: Operation::Sum,
+                left: self,
+                right: other,
+            }),
+        }
+    }
+
+    #[inline]
+    pub fn sub(self, other: Frac) -> Result<Frac, Wide>
+        ensures { MatchResult result
+            (λ value. (difference_overflows self other ≡ false) × (value ≡ self -ℚ other))
+            (λ wide. (difference_overflows self other ≡ true)
+            × (wide ≡ record { op = Operation.Difference; left = self; right = other })) }
+    {
+        match sum(self, other.neg()) {
+            Some(value) => Ok(value),
+            None => Err(Wide {
+                op: Operation::Difference,
+                left: self,
+                right: other,
+            }),
+        }
+    }
+
+    #[inline]
+    pub fn mul(self, other: Frac) -> Result<Frac, Wide>
+        ensures { MatchResult result
+            (λ value. (product_overflows self other ≡ false) × (value ≡ self *ℚ other))
+            (λ wide. (product_overflows self other ≡ true)
+            × (wide ≡ record { op = Operation.Product; left = self; right = other })) }
+    {
+        match product(self, other) {
+            Some(value) => Ok(value),
+            None => Err(Wide {
+                op: Operation::Product,
+                left: self,
+                right: other,
+            }),
+        }
+    }
+
+    #[inline]
+    pub fn div(self, other: Frac) -> Result<Frac, Wide>
+        requires { other ≢ zeroℚ }
+        ensures { MatchResult result
+            (λ value. (quotient_overflows self other ≡ false) × (value ≡ self *ℚ inverse other))
+            (λ wide. (quotient_overflows self other ≡ true)
+            × (wide ≡ record { op = Operation.Quotient; left = self; right = other })) }
+    {
+        match product(self, other.reciprocal()) {
+            Some(value) => Ok(value),
+            None => Err(Wide {
+                op: Operation::Quotient,
+                left: self,
+                right: other,
+            }),
+        }
+    }
+}
+
+#[inline]
+fn whole_sum(a: i128, c: i128) -> Option<Frac>
+    ensures { MatchOption result (¬ (unsigned_abs (a +ℤ c) < 2 ^ 127))
+        (λ value. (unsigned_abs (a +ℤ c) < 2 ^ 127) × (value ≡ ratio (a +ℤ c) 1)) }
+{
+    match bounded_sum(a, c) {
+        Some(total) => Some(Frac::of_lowest(total, 1)),
+        None => None,
+    }
+}
+
+#[inline]
+fn whole_product(a: i128, c: i128) -> Option<Frac>
+    ensures { MatchOption result (¬ (unsigned_abs (a *ℤ c) < 2 ^ 127))
+        (λ value. (unsigned_abs (a *ℤ c) < 2 ^ 127) × (value ≡ ratio (a *ℤ c) 1)) }
+{
+    match bounded_product(a, c) {
+        Some(product) => Some(Frac::of_lowest(product, 1)),
+        None => None,
+    }
+}
+
+#[inline]
+fn sum(left: Frac, right: Frac) -> Option<Frac>
+    ensures { MatchOption result (sum_overflows left right ≡ true)
+        (λ value. (sum_overflows left right ≡ false) × (value ≡ left +ℚ right)) }
+{
+    let (a, b) = left.terms();
+    let (c, d) = right.terms();
+    if b == 1 && d == 1 {
+        return whole_sum(a, c);
+    }
+    fraction_sum(left, right)
+}
+
+#[inline]
+fn product(left: Frac, right: Frac) -> Option<Frac>
+    ensures { MatchOption result (product_overflows left right ≡ true)
+        (λ value. (product_overflows left right ≡ false) × (value ≡ left *ℚ right)) }
+{
+    let (a, b) = left.terms();
+    let (c, d) = right.terms();
+    if b == 1 && d == 1 {
+        return whole_product(a, c);
+    }
+    fraction_product(left, right)
+}
+
+// With the greatest common divisor g of the denominators, the sum's numerator has no divisor in common with
+// the product of the denominators' other parts: so what is left to take out divides g.
+#[inline(never)]
+fn fraction_sum(left: Frac, right: Frac) -> Option<Frac>
+    ensures { MatchOption result (sum_overflows left right ≡ true)
+        (λ value. (sum_overflows left right ≡ false) × (value ≡ left +ℚ right)) }
+{
+    let (a, b) = left.terms();
+    let (c, d) = right.terms();
+    let g = gcd(b, d);
+    let over = part_of(d, g);
+    let under = part_of(b, g);
+    let Some(first) = raised(a, over) else {
+        return None;
+    };
+    let Some(second) = raised(c, under) else {
+        return None;
+    };
+    let Some(total) = bounded_sum(first, second) else {
+        return None;
+    };
+    let Some(common) = bounded_common(under, d) else {
+        return None;
+    };
+    if g == 1 {
+        return Some(Frac::of_lowest(total, common));
+    }
+    let rest = gcd(total.unsigned_abs(), g);
+    let numerator = signed_part_of(total, rest);
+    let last = part_of(d, rest);
+    Some(Frac::of_lowest(numerator, under * last))
+}
+
+// Each numerator is cancelled against the other denominator first, so the product is in lowest terms.
+#[inline(never)]
+fn fraction_product(left: Frac, right: Frac) -> Option<Frac>
+    ensures { MatchOption result (product_overflows left right ≡ true)
+        (λ value. (product_overflows left right ≡ false) × (value ≡ left *ℚ right)) }
+{
+    let (a, b) = left.terms();
+    let (c, d) = right.terms();
+    let g = gcd(a.unsigned_abs(), d);
+    let h = gcd(c.unsigned_abs(), b);
+    let first = signed_part_of(a, g);
+    let second = signed_part_of(c, h);
+    let Some(numerator) = bounded_product(first, second) else {
+        return None;
+    };
+    let under = part_of(b, h);
+    let over = part_of(d, g);
+    let Some(denominator) = bounded_common(under, over) else {
+        return None;
+    };
+    Some(Frac::of_lowest(numerator, denominator))
+}

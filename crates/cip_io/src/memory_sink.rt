@@ -1,0 +1,70 @@
+// A sink in memory, with a fixed room.
+ghost use Rattle.std.specs.Prelude.{◌≡◌, ◌<◌, ◌≤◌, ◌==◌, min, length, take, IfOk, OnErr, Some, is_err};
+ghost use Rattle.cip_io.specs.States.{new_sink, free_room, after_push, after_refusal};
+
+use crate::{Failed, Sink};
+use std::alloc::{AllocError, Global};
+use std::marker::Model;
+
+/// Takes as many bytes as its room, which is taken at the start. Where only a part fits, it takes that part, and
+/// where nothing fits, it fails.
+#[derive(Drop)]
+pub struct MemorySink {
+    bytes: Vec<u8>,
+    used: usize,
+    faults: u64,
+}
+
+impl Model for MemorySink {
+    ghost use Rattle.std.specs.Prelude.{◌≤◌, length, take};
+    ghost use Rattle.cip_io.specs.States.{SinkState};
+
+    ghost Value = { SinkState };
+
+    ghost view = { λ s. record { taken = take s.used s.bytes.items; room = length s.bytes.items; faults = s.faults } };
+
+    ghost invariant = { λ s. s.used ≤ length s.bytes.items };
+}
+
+impl MemorySink {
+    pub fn new(alloc: Global, room: usize) -> Result<Self, AllocError>
+        ensures { IfOk result (λ sink. sink ≡ new_sink room) }
+    {
+        Ok(MemorySink {
+            bytes: vec![in alloc; 0; room]?,
+            used: 0,
+            faults: 0,
+        })
+    }
+
+    /// The bytes taken so far.
+    pub fn taken(&self) -> &[u8]
+        ensures { result.now ≡ self.now.taken }
+    {
+        &self.bytes[..self.used]
+    }
+}
+
+impl Sink for MemorySink {
+    ghost taken = { λ s. Some s.taken };
+
+    ghost faults = { λ s. s.faults };
+
+    fn push(&mut self, piece: &[u8]) -> Result<usize, Failed>
+        requires { 0 < length piece.now }
+        ensures when { is_err result ≡ (free_room self.old == 0) }
+        ensures count { IfOk result (λ n. n ≡ min (free_room self.old) (length piece.now)) }
+        ensures ok { IfOk result (λ n. self.new ≡ after_push self.old (take n piece.now)) }
+        ensures err { OnErr result (self.new ≡ after_refusal self.old) }
+        ensures later { self.old.faults ≤ self.new.faults }
+    {
+        let count = piece.len().min(self.bytes.len() - self.used);
+        if count == 0 {
+            self.faults = self.faults.saturating_add(1);
+            return Err(Failed);
+        }
+        self.bytes[self.used..self.used + count].copy_from_slice(&piece[..count]);
+        self.used += count;
+        Ok(count)
+    }
+}

@@ -1,0 +1,7 @@
+use Rattle.std.proofs.Common.{IfOk}
+use Rattle.cip_problem.specs.Activity.{activity}
+use Rattle.cip_lin.proofs.Sums.{activity_from-zero}
+use Rattle.cip_lin.proofs.rows.Row.activity.Goals as goal
+
+pub returns-clause-value : goal.returns-clause-value
+returns-clause-value c = rw (c.sum_of_products.ensures.steps, c.as_slice.ensures, ← c.self.view_is) (activity_from-zero _ _)

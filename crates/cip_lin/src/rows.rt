@@ -1,0 +1,178 @@
+//! Linear rows: sums of products by rising column, between two sides.
+ghost use Rattle.std.specs.Prelude.{◌≡◌, ◌++◌, ◌∷◌, [], length, MatchResult, IfOk};
+ghost use Rattle.cip_rational.specs.Rational.{zeroℚ};
+ghost use Rattle.cip_problem.specs.Activity.{StandsBelow, activity};
+ghost use Rattle.cip_problem.specs.Terms.{AreTerms};
+ghost use Rattle.cip_lin.specs.Faults.{CanFollow, IsAppendFault, IsBuildFault};
+ghost use Rattle.cip_lin.specs.Sums.{activity_from};
+
+use cip_frac::{Frac, Wide};
+use smallvec::SmallVec;
+use std::alloc::{AllocError, Global};
+use std::marker::Model;
+
+/// One product of a linear sum: a column and the coefficient that stands on it.
+#[derive(Clone, Copy, Debug, PartialEq, Eq)]
+pub struct Term {
+    pub col: u32,
+    pub coef: Frac,
+}
+
+impl Model for Term {
+    ghost use Rattle.cip_problem.specs.Program as problem;
+    ghost use Rattle.cip_problem.specs.Codes.{term_code};
+
+    ghost Value = { problem.Term };
+
+    ghost coded = { term_code };
+
+    ghost view = { λ t. record { column = t.col; coefficient = t.coef } };
+
+    ghost inverse = { λ t. record { col = t.column; coef = t.coefficient } };
+}
+
+impl Default for Term {
+    fn default() -> Term {
+        Term {
+            col: 0,
+            coef: Frac::zero(),
+        }
+    }
+}
+
+/// Why a row was refused. `at` is the place of the term, from 0.
+#[derive(Clone, Copy, Debug, PartialEq, Eq)]
+pub enum RowFault {
+    /// The column of the term is not above that of the term before it.
+    NotRising { at: usize },
+    /// The coefficient of the term is 0.
+    ZeroTerm { at: usize },
+    /// A growth was refused.
+    NoMemory,
+}
+
+/// A row: its terms by rising column, none with the coefficient 0, and its two sides.
+#[derive(Debug, Drop)]
+pub struct Row {
+    terms: SmallVec<Term, 4>,
+    low: Option<Frac>,
+    high: Option<Frac>,
+}
+
+/// The sum of the terms' products at a point, in their order, or the first operation that overflows.
+fn sum_of_products(terms: &[Term], point: &[Frac]) -> Result<Frac, Wide>
+    requires { StandsBelow (length point.now) terms.now }
+    ensures steps { result ≡ activity_from zeroℚ terms.now point.now }
+{
+    let mut sum = Frac::zero();
+    for term in terms {
+        let product = term.coef.mul(point[term.col as usize])?;
+        sum = sum.add(product)?;
+    }
+    Ok(sum)
+}
+
+impl Model for Row {
+    ghost use Rattle.cip_problem.specs.Program as problem;
+    ghost use Rattle.cip_problem.specs.Terms.{AreTerms};
+    ghost use Rattle.cip_problem.specs.Codes.{row_code};
+
+    ghost Value = { problem.Row };
+
+    ghost coded = { row_code };
+
+    ghost view = { λ r. record { terms = r.terms.items; low = r.low; high = r.high } };
+
+    ghost invariant = { λ r. AreTerms r.terms.items };
+}
+
+impl Row {
+    /// A row without terms.
+    pub fn empty(alloc: Global, low: Option<Frac>, high: Option<Frac>) -> Row
+        ensures { result ≡ record { terms = []; low = low; high = high } }
+    {
+        Row {
+            terms: SmallVec::new(alloc),
+            low,
+            high,
+        }
+    }
+
+    /// The row of these terms, or the first term that cannot stand in one.
+    pub fn build(
+        alloc: Global,
+        terms: &[Term],
+        low: Option<Frac>,
+        high: Option<Frac>,
+    ) -> Result<Row, RowFault>
+        ensures { MatchResult result
+            (λ row. (row ≡ record { terms = terms.now; low = low; high = high }) × AreTerms terms.now)
+            (IsBuildFault terms.now) }
+    {
+        let mut row = Row::empty(alloc, low, high);
+        for term in terms {
+            row.append(*term)?;
+        }
+        Ok(row)
+    }
+
+    /// Puts a term at the end, where it can stand there; else the row is as before.
+    pub fn append(&mut self, term: Term) -> Result<(), RowFault>
+        ensures { MatchResult result
+            (λ _. (self.new ≡ record self.old { terms = self.old.terms ++ term ∷ [] }) × CanFollow self.old.terms term)
+            (λ fault. (self.new ≡ self.old) × IsAppendFault self.old.terms term fault) }
+    {
+        let at = self.terms.len();
+        if let Some(last) = self.terms.as_slice().last() {
+            if term.col <= last.col {
+                return Err(RowFault::NotRising { at });
+            }
+        }
+        if term.coef.is_zero() {
+            return Err(RowFault::ZeroTerm { at });
+        }
+        match self.terms.push(term) {
+            Ok(()) => Ok(()),
+            Err(_) => Err(RowFault::NoMemory),
+        }
+    }
+
+    /// Sets the high side.
+    pub fn set_high(&mut self, high: Option<Frac>)
+        ensures { self.new ≡ record self.old { high = high } }
+    {
+        self.high = high;
+    }
+
+    /// The terms, by rising column.
+    pub fn terms(&self) -> &[Term]
+        ensures terms { result.now ≡ self.now.terms }
+        ensures valid { AreTerms self.now.terms }
+    {
+        self.terms.as_slice()
+    }
+
+    /// The low side.
+    pub fn low(&self) -> Option<Frac>
+        ensures { result ≡ self.now.low }
+    {
+        self.low
+    }
+
+    /// The high side.
+    pub fn high(&self) -> Option<Frac>
+        ensures { result ≡ self.now.high }
+    {
+        self.high
+    }
+
+    /// The sum of the row's products at a point, by rising column, or the first operation of it
+    /// that overflows. The point has a value for each column of the row.
+    pub fn activity(&self, point: &[Frac]) -> Result<Frac, Wide>
+        requires { StandsBelow (length point.now) self.now.terms }
+        ensures steps { result ≡ activity_from zeroℚ self.now.terms point.now }
+        ensures value { IfOk result (λ sum. sum ≡ activity self.now.terms point.now) }
+    {
+        sum_of_products(self.terms.as_slice(), point)
+    }
+}

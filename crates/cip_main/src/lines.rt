@@ -1,0 +1,76 @@
+//! Lines of a text and their fields.
+ghost use Rattle.std.specs.Prelude.{◌≡◌, ◌<◌, ◌≤◌, ◌^◌, IfSome};
+
+/// The most fields that a line of a thin text has is five; a line with more is seen as six.
+const MOST: usize = 6;
+
+/// The fields of a line: the first six at most.
+#[derive(Clone, Copy)]
+pub(crate) struct Fields<'a> {
+    words: [&'a [u8]; 6],
+    count: usize,
+    ghost counted: { count ≤ 6 },
+}
+
+impl<'a> Fields<'a> {
+    /// The fields of a line, seen as a slice.
+    pub(crate) fn as_slice(&self) -> &[&'a [u8]] {
+        &self.words[..self.count]
+    }
+}
+
+/// What a line of a text is.
+#[derive(Clone, Copy, Debug, PartialEq, Eq)]
+pub(crate) enum LineKind {
+    /// A line of blanks alone, or a comment.
+    Nothing,
+    /// A line whose first byte is not a blank.
+    Section,
+    /// Any other line.
+    Entry,
+}
+
+/// Blank, tab and carriage return.
+fn is_blank(byte: u8) -> bool {
+    byte == b' ' || byte == b'\t' || byte == b'\r'
+}
+
+/// The fields of a line.
+pub(crate) fn split_fields(line: &[u8]) -> Fields<'_> {
+    let mut words: [&[u8]; 6] = [&[]; 6];
+    let mut count = 0;
+    for word in line.split(|byte| is_blank(*byte)) {
+        if !word.is_empty() && count < MOST {
+            words[count] = word;
+            count += 1;
+        }
+    }
+    Fields { words, count }
+}
+
+/// The kind of a line: a line of blanks alone and one that begins with `*` are nothing.
+pub(crate) fn kind_of(line: &[u8]) -> LineKind {
+    match line.first() {
+        None | Some(b'*') => LineKind::Nothing,
+        Some(first) if !is_blank(*first) => LineKind::Section,
+        Some(_) if line.iter().all(|byte| is_blank(*byte)) => LineKind::Nothing,
+        Some(_) => LineKind::Entry,
+    }
+}
+
+/// The value of one to nine decimal digits.
+pub(crate) fn short_number(text: &[u8]) -> Option<u32>
+    ensures { IfSome result (λ value. value < 10 ^ 9) }
+{
+    if text.is_empty() || text.len() > 9 {
+        return None;
+    }
+    let mut value = 0u32;
+    for byte in text {
+        if !byte.is_ascii_digit() {
+            return None;
+        }
+        value = value * 10 + u32::from(*byte - b'0');
+    }
+    Some(value)
+}

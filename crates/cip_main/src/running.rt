@@ -1,0 +1,76 @@
+//! The whole way from the words and the store to the sink.
+use crate::logs::Log;
+use crate::reader::{ReadFault, Thin, read_program};
+use crate::report::report;
+use crate::search::run_search;
+use crate::words::Words;
+use cip_io::{Failed, Sink, Store, push_all};
+use std::alloc::Global;
+
+/// The nodes that a search may take.
+const NODE_LIMIT: usize = 1_000_000;
+
+const USAGE: &[u8] = b"status usage\nend\n";
+
+const READ_FAULT: &[u8] = b"status readfault\nend\n";
+
+const REFUSED: &[u8] = b"status refused\ntext model\nline 1\nkind 21 OutOfProfile\nend\n";
+
+const NO_MEMORY: &[u8] = b"status nomemory\nend\n";
+
+/// Does all that the program does, and answers its exit status:
+///
+/// - 0: an optimal point was printed;
+/// - 2: the words are not `solve` and the name of a text;
+/// - 3: the store failed;
+/// - 4: the text is not thin;
+/// - 5: the sink failed; what it took is a prefix of the answer;
+/// - 6: a growth was refused;
+/// - 10: the node budget, 1,000,000, is spent.
+///
+/// A search adds one log to `logs`.
+pub fn run<S: Store, K: Sink>(
+    alloc: Global,
+    words: &Words,
+    store: &mut S,
+    out: &mut K,
+    logs: &mut Vec<Log>,
+) -> u8 {
+    let Some(name) = words.model() else {
+        return say(out, USAGE, 2);
+    };
+    match read_program(alloc, store, name) {
+        Ok(thin) => solve(alloc, thin, out, logs),
+        Err(ReadFault::Store) => say(out, READ_FAULT, 3),
+        Err(ReadFault::NotThin) => say(out, REFUSED, 4),
+        Err(ReadFault::NoMemory) => say(out, NO_MEMORY, 6),
+    }
+}
+
+/// Searches the program and reports.
+fn solve<K: Sink>(alloc: Global, thin: Thin, out: &mut K, logs: &mut Vec<Log>) -> u8 {
+    let Thin { program, zeros } = thin;
+    let answer = run_search(alloc, &program, zeros, NODE_LIMIT, logs);
+    match report(&program, &answer, out) {
+        Ok(()) => answer.ended.status(),
+        Err(Failed) => 5,
+    }
+}
+
+/// Writes a fixed answer; its status, or 5 where the sink failed.
+fn say<K: Sink>(out: &mut K, text: &[u8], status: u8) -> u8 {
+    match push_all(out, text) {
+        Ok(()) => status,
+        Err(Failed) => 5,
+    }
+}
+
+/// Says that a growth was refused before there was a program to speak of.
+pub fn say_no_memory<K: Sink>(out: &mut K) -> u8 {
+    say(out, NO_MEMORY, 6)
+}
+
+/// Says that the words are not accepted.
+pub fn say_usage<K: Sink>(out: &mut K) -> u8 {
+    say(out, USAGE, 2)
+}

@@ -1,0 +1,6 @@
+pub mod Inside
+pub mod Keys
+pub mod Least
+pub mod Names
+pub mod Programs
+pub mod Verdicts

@@ -1,0 +1,70 @@
+-- The verdict on a point: bounds by column, whole columns, rows in order, the cost; the first that is met.
+use Rattle.std.specs.Prelude.{ℕ, ◌+◌, Bool, ◌&&◌, not, List, [], ◌∷◌, Option, None, Some, Result, Ok, Err, if◌then◌else◌}
+use Rattle.cip_rational.specs.Rational.{ℚ, zeroℚ, is_whole}
+use Rattle.cip_frac.specs.declared.operations.Wide.{Wide as Overflow}
+use Rattle.cip_problem.specs.Program.{Sides, Row, Program}
+use Rattle.cip_problem.specs.Box.{is_between}
+use Rattle.cip_lin.specs.Sums.{and_then, product_added, activity_from}
+use Rattle.cip_model.specs.declared.verdicts.Place.TheVariants.{Row as AtRow, Cost}
+use Rattle.cip_model.specs.declared.verdicts.Verdict.{Verdict}
+use Rattle.cip_model.specs.declared.verdicts.Verdict.TheVariants.{Feasible, BreaksBound, BreaksWhole, BreaksRow, Wide}
+
+-- the first column, counted from `at`, whose value is outside its sides
+abbrev pub first_outside : ℕ → List Sides → List ℚ → Option ℕ
+first_outside at [] point = None
+first_outside at (sides ∷ others) [] = None
+first_outside at (sides ∷ others) (value ∷ values) =
+    if is_between sides.low sides.high value then first_outside (at + 1) others values else Some at
+
+-- the first whole column, counted from `at`, whose value is not whole
+abbrev pub first_not_whole : ℕ → List Bool → List ℚ → Option ℕ
+first_not_whole at [] point = None
+first_not_whole at (whole ∷ others) [] = None
+first_not_whole at (whole ∷ others) (value ∷ values) =
+    if whole && not (is_whole value) then Some at else first_not_whole (at + 1) others values
+
+-- what a row's activity says of the row, if it says anything
+abbrev pub row_verdict : ℕ → Row → Result ℚ Overflow → Option Verdict
+row_verdict at row (Err overflow) = Some (Wide (AtRow at))
+row_verdict at row (Ok value) = if is_between row.low row.high value then None else Some (BreaksRow at value)
+
+abbrev pub or_else : Option Verdict → Option Verdict → Option Verdict
+or_else (Some verdict) next = Some verdict
+or_else None next = next
+
+-- the first verdict on a row, counted from `at`
+abbrev pub first_broken : ℕ → List Row → List ℚ → Option Verdict
+first_broken at [] point = None
+first_broken at (row ∷ rows) point =
+    or_else (row_verdict at row (activity_from zeroℚ row.terms point)) (first_broken (at + 1) rows point)
+
+-- a sum with the products of costs and values added, one after another
+abbrev pub cost_from : ℚ → List ℚ → List ℚ → Result ℚ Overflow
+cost_from sum [] point = Ok sum
+cost_from sum (cost ∷ costs) [] = Ok sum
+cost_from sum (cost ∷ costs) (value ∷ values) =
+    and_then (product_added sum cost value) (λ more. cost_from more costs values)
+
+abbrev pub cost_verdict : Result ℚ Overflow → Verdict
+cost_verdict (Ok cost) = Feasible cost
+cost_verdict (Err overflow) = Wide Cost
+
+abbrev pub from_rows : Option Verdict → Verdict → Verdict
+from_rows (Some verdict) next = verdict
+from_rows None next = next
+
+abbrev pub from_wholes : Option ℕ → Verdict → Verdict
+from_wholes (Some column) next = BreaksWhole column
+from_wholes None next = next
+
+abbrev pub from_bounds : Option ℕ → Verdict → Verdict
+from_bounds (Some column) next = BreaksBound column
+from_bounds None next = next
+
+-- the verdict on a point with a value for each column
+abbrev pub verdict_of : Program → List ℚ → Verdict
+verdict_of program point =
+    from_bounds (first_outside 0 program.bounds point)
+    (from_wholes (first_not_whole 0 program.integral point)
+    (from_rows (first_broken 0 program.rows point)
+    (cost_verdict (cost_from program.constant program.costs point))))

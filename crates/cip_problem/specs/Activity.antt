@@ -1,0 +1,17 @@
+-- The activity of a row at a point, and its least activity in a box.
+use Rattle.std.specs.Prelude.{ℕ, ◌<◌, Bool, true, false, List, [], ◌∷◌, Option, None, Some, slice_index_or, if◌then◌else◌, All, length}
+use Rattle.cip_rational.specs.Rational.{ℚ, ◌+ℚ◌, ◌*ℚ◌, ◌≤ℚ◌, zeroℚ}
+use Rattle.cip_problem.specs.Program.{Term, Sides, Row}
+
+-- the value of a column at a point: a list of one value for each column
+abbrev pub value_at : List ℚ → ℕ → ℚ
+value_at point column = slice_index_or point column zeroℚ
+
+-- the sum of the products of a row at a point
+abbrev pub activity : List Term → List ℚ → ℚ
+activity [] point = zeroℚ
+activity (t ∷ ts) point = (t.coefficient *ℚ value_at point t.column) +ℚ activity ts point
+
+-- each term stands on one of the first n columns
+abbrev pub StandsBelow : ℕ → List Term → Type 0
+StandsBelow n terms = All (λ t. t.column < n) terms

@@ -1,0 +1,31 @@
+-- Programs with linear rows (constraint integer programs; Achterberg 2007), over the rational numbers.
+use Rattle.std.specs.Prelude.{ℕ, Bool, List, Option}
+use Rattle.cip_rational.specs.Rational.{ℚ}
+
+-- One product of a linear sum: a coefficient, and the number of the column that it stands on.
+pub record Term : Type 0 where
+  pub column : ℕ
+  pub coefficient : ℚ
+
+-- The low and the high side of a column. A side that is not there is open.
+pub record Sides : Type 0 where
+  pub low : Option ℚ
+  pub high : Option ℚ
+
+-- A row: a linear sum by rising column, no coefficient 0, and the two sides that it lies between.
+pub record Row : Type 0 where
+  pub terms : List Term
+  pub low : Option ℚ
+  pub high : Option ℚ
+
+-- A program. Rows and columns are numbered from 0 in the order of the lists. The costs and the
+-- constant are those of the minimised form: where the text maximises they are its negated ones.
+pub record Program : Type 0 where
+  pub column_names : List (List ℕ)
+  pub row_names : List (List ℕ)
+  pub rows : List Row
+  pub costs : List ℚ
+  pub constant : ℚ
+  pub maximized : Bool
+  pub integral : List Bool
+  pub bounds : List Sides

@@ -1,0 +1,2 @@
+pub mod LinearExamples
+pub mod Tried

@@ -1,0 +1,11 @@
+//! Tests of the whole program, from bytes to bytes, over stores and sinks in memory.
+#![tactic(auto)]
+
+#[cfg(test)]
+mod cases;
+#[cfg(test)]
+mod refused_texts;
+#[cfg(test)]
+mod solved_texts;
+#[cfg(test)]
+mod statuses;

@@ -1,0 +1,100 @@
+//! The statuses, and pieces of a text.
+use crate::cases::{NOT_THIN, THREE_COLUMNS, THREE_SOLVED, run_words};
+use cip_io::MemoryStore;
+use std::alloc::{AllocError, Global};
+use std::test::Fail;
+
+/// A store in which `M` has the three-column text, in pieces of at most this many bytes.
+fn store_of(alloc: Global, piece: usize) -> Result<MemoryStore, AllocError> {
+    let mut store = MemoryStore::new(alloc, piece.max(1));
+    store.add("M", THREE_COLUMNS.as_bytes())?;
+    Ok(store)
+}
+
+#[test]
+fn pieces_do_not_matter(rt: HostRuntime) -> Result<(), Fail> {
+    for piece in [1, 7, 4_096] {
+        let mut store = store_of(rt.alloc(), piece)?;
+        let outcome = run_words(rt.alloc(), &["solve", "M"], &mut store, 4_096)?;
+        assert_eq!(rt;
+            outcome.taken.as_slice(),
+            THREE_SOLVED.as_bytes(),
+            "pieces of {piece}"
+        );
+        assert_eq!(rt; outcome.status, 0);
+    }
+    Ok(())
+}
+
+#[test]
+fn a_failing_store_is_a_read_fault(rt: HostRuntime) -> Result<(), Fail> {
+    for call in 1..4 {
+        let mut store = store_of(rt.alloc(), 4_096)?;
+        store.fail_at(call)?;
+        let outcome = run_words(rt.alloc(), &["solve", "M"], &mut store, 4_096)?;
+        assert_eq!(rt;
+            outcome.taken.as_slice(),
+            "status readfault\nend\n".as_bytes(),
+            "call {call}"
+        );
+        assert_eq!(rt; outcome.status, 3);
+    }
+    let mut store = store_of(rt.alloc(), 4_096)?;
+    let outcome = run_words(rt.alloc(), &["solve", "N"], &mut store, 4_096)?;
+    assert_eq!(rt;
+        outcome.taken.as_slice(),
+        "status readfault\nend\n".as_bytes()
+    );
+    assert_eq!(rt; outcome.status, 3);
+    Ok(())
+}
+
+#[test]
+fn a_refused_text_is_pulled_to_its_end(rt: HostRuntime) -> Result<(), Fail> {
+    let mut store = MemoryStore::new(rt.alloc(), 4);
+    store.add("M", b"ROWS\nROWS\n")?;
+    store.fail_at(4)?;
+    let outcome = run_words(rt.alloc(), &["solve", "M"], &mut store, 4_096)?;
+    assert_eq!(rt; outcome.status, 3);
+    let mut store = MemoryStore::new(rt.alloc(), 4);
+    store.add("M", b"ROWS\nROWS\n")?;
+    let outcome = run_words(rt.alloc(), &["solve", "M"], &mut store, 4_096)?;
+    assert_eq!(rt; outcome.taken.as_slice(), NOT_THIN.as_bytes());
+    assert_eq!(rt; outcome.status, 4);
+    Ok(())
+}
+
+#[test]
+fn a_full_sink_has_a_prefix(rt: HostRuntime) -> Result<(), Fail> {
+    for room in 0..THREE_SOLVED.len() {
+        let mut store = store_of(rt.alloc(), 4_096)?;
+        let outcome = run_words(rt.alloc(), &["solve", "M"], &mut store, room)?;
+        assert_eq!(rt; outcome.taken.as_slice(), &THREE_SOLVED.as_bytes()[..room]);
+        assert_eq!(rt; outcome.status, 5);
+    }
+    Ok(())
+}
+
+const REFUSED_WORDS: [&[&str]; 8] = [
+    &[],
+    &["solve"],
+    &["check", "M"],
+    &["solve", "M", "M"],
+    &["solve", "-"],
+    &["solve", "--help"],
+    &["--help", "M"],
+    &["Solve", "M"],
+];
+
+#[test]
+fn other_words_are_refused(rt: HostRuntime) -> Result<(), Fail> {
+    for words in REFUSED_WORDS {
+        let mut store = store_of(rt.alloc(), 4_096)?;
+        store.fail_at(1)?;
+        let outcome = run_words(rt.alloc(), words, &mut store, 4_096)?;
+        assert_eq!(rt; outcome.taken.as_slice(), "status usage\nend\n".as_bytes());
+        assert_eq!(rt; outcome.status, 2);
+        assert_eq!(rt; outcome.entries.len(), 0);
+    }
+    Ok(())
+}
