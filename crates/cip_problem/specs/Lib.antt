@@ -1,6 +1,10 @@
 pub mod Activity
 pub mod Box
+pub mod BoxBound
 pub mod Codes
+pub mod Log
+pub mod Points
 pub mod Program
 pub mod Terms
 pub mod WellFormed
+pub mod Wholes

@@ -1,0 +1,112 @@
+-- What a search did: the nodes that it took and ended, in that order. A node is a box with a bound.
+-- Node 0 has the program's box; a split of a node gives two new nodes, whose boxes are its box with one whole
+-- column at most a whole number, and at least the next one.
+use Rattle.std.specs.Prelude.{◌≡◌, ◌≢◌, ℕ, ◌+◌, ◌==◌, ◌<◌, ℤ, pos, ◌+ℤ◌, Bool, true, false, List, [], ◌∷◌, ◌++◌, map, Option, None, Some, if◌then◌else◌, slice_set, slice_get, length, ⊤}
+use Rattle.std.specs.List.{Contains}
+use Rattle.cip_rational.specs.Rational.{ℚ, integer, lt_test}
+use Rattle.cip_problem.specs.Program.{Sides, Program}
+use Rattle.cip_problem.specs.Box.{sides_at}
+use Rattle.cip_problem.specs.BoxBound.{box_bound}
+use Rattle.cip_problem.specs.Wholes.{AllHaveWholes}
+
+-- how a node ended: by a split of a column at a whole number, with the numbers of the low and the high half;
+-- closed, as it has no point that is better than the one held; or put aside
+pub data End : Type 0 where
+  Split : (column : ℕ) (at : ℤ) (low high : ℕ) → End
+  Closed : End
+  Parked : End
+
+-- a node that was taken and has ended, with the bound that it had then
+pub record Entry : Type 0 where
+  pub node : ℕ
+  pub bound : Option ℚ
+  pub end : End
+
+-- a node: its number, its box, and a bound below the cost of its points, if there is one
+pub record Node : Type 0 where
+  pub number : ℕ
+  pub box : List Sides
+  pub bound : Option ℚ
+
+-- the node that a search begins with
+abbrev pub root : Program → Node
+root program = record { number = 0; box = program.bounds; bound = box_bound program program.bounds }
+
+-- a box with a column at most `at`
+abbrev pub low_half : List Sides → ℕ → ℤ → List Sides
+low_half box column at = slice_set box column (record { low = (sides_at box column).low; high = Some (integer at) })
+
+-- a box with a column at least `at + 1`
+abbrev pub high_half : List Sides → ℕ → ℤ → List Sides
+high_half box column at = slice_set box column (record { low = Some (integer (at +ℤ pos 1)); high = (sides_at box column).high })
+
+-- the node of this number
+abbrev pub node_of : List Node → ℕ → Option Node
+node_of [] number = None
+node_of (node ∷ nodes) number = if node.number == number then Some node else node_of nodes number
+
+-- the nodes that an end of a node gives; they inherit its bound
+abbrev pub halves : Option Node → Option ℚ → End → List Node
+halves None bound end = []
+halves (Some node) bound Closed = []
+halves (Some node) bound Parked = []
+halves (Some node) bound (Split column at low high) =
+    record { number = low; box = low_half node.box column at; bound = bound }
+    ∷ record { number = high; box = high_half node.box column at; bound = bound } ∷ []
+
+-- the nodes given by an entry
+abbrev pub nodes_of : List Node → Entry → List Node
+nodes_of given entry = halves (node_of given entry.node) entry.bound entry.end
+
+-- all nodes given: those given before, and those that the entries give
+abbrev pub given_after : List Node → List Entry → List Node
+given_after given [] = given
+given_after given (entry ∷ entries) = given_after (given ++ nodes_of given entry) entries
+
+-- a column of a node's box can be split at a whole number: it is a whole column, and in both halves each
+-- whole column has a whole value
+pub record CanSplit (integral : List Bool) (box : List Sides) (column : ℕ) (at : ℤ) : Type 0 where
+  pub whole : slice_get integral column ≡ Some true
+  pub low : AllHaveWholes integral (low_half box column at)
+  pub high : AllHaveWholes integral (high_half box column at)
+
+-- the end of a node is a right one: a split has two new numbers and can be made
+abbrev pub IsRightEnd : List Bool → List Node → Node → End → Type 0
+IsRightEnd integral given node Closed = ⊤
+IsRightEnd integral given node Parked = ⊤
+IsRightEnd integral given node (Split column at low high) =
+    CanSplit integral node.box column at × (node_of given low ≡ None) × (node_of given high ≡ None) × (low ≢ high)
+
+-- an entry can follow: it is of a node given before and not yet taken, and its end is a right one
+pub record CanFollow (integral : List Bool) (given : List Node) (taken : List ℕ) (entry : Entry) : Type 0 where
+  pub node : Node
+  pub given_before : node_of given entry.node ≡ Some node
+  pub once : ¬ Contains taken entry.node
+  pub right : IsRightEnd integral given node entry.end
+
+-- entries can follow, one after another
+abbrev pub AllFollow : List Bool → List Node → List ℕ → List Entry → Type 0
+AllFollow integral given taken [] = ⊤
+AllFollow integral given taken (entry ∷ entries) =
+    CanFollow integral given taken entry × AllFollow integral (given ++ nodes_of given entry) (entry.node ∷ taken) entries
+
+-- the log of a search over a program
+abbrev pub IsLog : Program → List Entry → Type 0
+IsLog program log = AllFollow program.integral (root program ∷ []) [] log
+
+-- a node matters beside what is held: nothing is held, it has no bound, or its bound is below the cost held
+abbrev pub matters : Option ℚ → Option ℚ → Bool
+matters None bound = true
+matters (Some cost) None = true
+matters (Some cost) (Some bound) = lt_test bound cost
+
+-- a node is open where it was given and has not been taken
+pub record IsOpen (program : Program) (log : List Entry) (node : Node) : Type 0 where
+  pub given : node_of (given_after (root program ∷ []) log) node.number ≡ Some node
+  pub not_taken : ¬ Contains (map (λ entry. entry.node) log) node.number
+
+-- an open node matters
+pub record HasOpenNode (program : Program) (log : List Entry) (held : Option ℚ) : Type 0 where
+  pub node : Node
+  pub open_ : IsOpen program log node
+  pub matter : matters held node.bound ≡ true
