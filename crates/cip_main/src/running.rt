@@ -1,11 +1,12 @@
 //! The whole way from the words and the store to the sink.
-use crate::logs::Log;
-use crate::reader::{ReadFault, Thin, read_program};
-use crate::report::report;
-use crate::search::run_search;
+use crate::reader::{ReadFault, read_program};
 use crate::words::Words;
+use cip_frac::Frac;
 use cip_io::{Failed, Sink, Store, push_all};
-use std::alloc::Global;
+use cip_model::{Program, Verdict};
+use cip_report::{Answer, Ended, Held, report};
+use cip_solve::{Log, root_bound, solve};
+use std::alloc::{AllocError, Global};
 
 /// The nodes that a search may take.
 const NODE_LIMIT: usize = 1_000_000;
@@ -40,18 +41,43 @@ pub fn run<S: Store, K: Sink>(
         return say(out, USAGE, 2);
     };
     match read_program(alloc, store, name) {
-        Ok(thin) => solve(alloc, thin, out, logs),
+        Ok(program) => solve_and_report(alloc, &program, out, logs),
         Err(ReadFault::Store) => say(out, READ_FAULT, 3),
         Err(ReadFault::NotThin) => say(out, REFUSED, 4),
         Err(ReadFault::NoMemory) => say(out, NO_MEMORY, 6),
     }
 }
 
+/// The point of zeros with its cost. It is feasible in each program of a thin text.
+fn zeros(alloc: Global, program: &Program) -> Result<Held, AllocError> {
+    let point = vec![in alloc; Frac::zero(); program.columns()]?;
+    match program.check(point.as_slice()) {
+        Verdict::Feasible(cost) => Ok(Held { cost, point }),
+        _ => Err(AllocError),
+    }
+}
+
+/// Searches the program, from the point of zeros on.
+fn search(alloc: Global, program: &Program, logs: &mut Vec<Log>) -> Answer {
+    match zeros(alloc, program) {
+        Ok(held) => solve(alloc, program, held, NODE_LIMIT, logs),
+        Err(AllocError) => Answer {
+            ended: Ended::NoMemory,
+            held: None,
+            bound: root_bound(program),
+        },
+    }
+}
+
 /// Searches the program and reports.
-fn solve<K: Sink>(alloc: Global, thin: Thin, out: &mut K, logs: &mut Vec<Log>) -> u8 {
-    let Thin { program, zeros } = thin;
-    let answer = run_search(alloc, &program, zeros, NODE_LIMIT, logs);
-    match report(&program, &answer, out) {
+fn solve_and_report<K: Sink>(
+    alloc: Global,
+    program: &Program,
+    out: &mut K,
+    logs: &mut Vec<Log>,
+) -> u8 {
+    let answer = search(alloc, program, logs);
+    match report(program, &answer, out) {
         Ok(()) => answer.ended.status(),
         Err(Failed) => 5,
     }

@@ -1,0 +1,8 @@
+//! Programs from thin texts of free MPS.
+#![tactic(auto)]
+
+mod draft;
+mod lines;
+mod reader;
+
+pub use reader::{Reader, Refusal};

@@ -1,0 +1,9 @@
+// The texts of numbers: definitions and laws, for the contracts of the other crates.
+// A function here does nothing. Its contract is a law, so that the check proves it.
+#![tactic(auto)]
+
+ghost use Rattle.cip_numerals.specs.Statements.{TextsTellNumbers};
+
+pub fn texts_tell_numbers()
+    ensures { TextsTellNumbers }
+{}

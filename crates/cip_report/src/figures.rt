@@ -1,0 +1,45 @@
+//! The figures of an answer.
+use cip_frac::Frac;
+
+/// How a search ended.
+#[derive(Clone, Copy, Debug, PartialEq, Eq)]
+pub enum Ended {
+    Optimal,
+    NodeLimit,
+    NoMemory,
+}
+
+impl Ended {
+    /// The printed word.
+    pub fn word(self) -> &'static str {
+        match self {
+            Ended::Optimal => "optimal",
+            Ended::NodeLimit => "nodelimit",
+            Ended::NoMemory => "nomemory",
+        }
+    }
+
+    /// The exit status.
+    pub fn status(self) -> u8 {
+        match self {
+            Ended::Optimal => 0,
+            Ended::NodeLimit => 10,
+            Ended::NoMemory => 6,
+        }
+    }
+}
+
+/// A feasible point and its cost in the minimised form.
+#[derive(Debug, Drop)]
+pub struct Held {
+    pub cost: Frac,
+    pub point: Vec<Frac>,
+}
+
+/// What is printed of a search. Cost and bound are those of the minimised form.
+#[derive(Debug, Drop)]
+pub struct Answer {
+    pub ended: Ended,
+    pub held: Option<Held>,
+    pub bound: Option<Frac>,
+}

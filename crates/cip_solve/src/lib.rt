@@ -1,0 +1,8 @@
+//! The search over the whole points of a program's box, and its log.
+#![tactic(auto)]
+
+mod logs;
+mod search;
+
+pub use logs::{End, Log, Logged};
+pub use search::{root_bound, solve};

@@ -1,0 +1,81 @@
+-- The figures of an answer to `solve`, and its text.
+use lib.Chars.{codes}
+use Rattle.std.specs.Prelude.{ℕ, List, [], ◌∷◌, ◌++◌, Option, None, Some}
+use Rattle.cip_rational.specs.Rational.{ℚ}
+use Rattle.cip_numerals.specs.NumberText.{fraction_text}
+
+-- how a search ended
+pub data Status : Type 0 where
+  Optimal : Status
+  NodeLimit : Status
+  NoMemory : Status
+
+-- a point with its cost: one is printed exactly where the other is
+pub record Held : Type 0 where
+  pub cost : ℚ
+  pub point : List ℚ
+
+-- the figures of an answer, as they are printed
+pub record Figures : Type 0 where
+  pub status : Status
+  pub held : Option Held
+  pub bound : Option ℚ
+
+-- the printed word
+abbrev pub status_word : Status → List ℕ
+status_word Optimal = codes "optimal"
+status_word NodeLimit = codes "nodelimit"
+status_word NoMemory = codes "nomemory"
+
+-- a word, a blank, a figure, and a line feed
+abbrev pub line : List ℕ → List ℕ → List ℕ
+line word figure = word ++ 32 ∷ figure ++ 10 ∷ []
+
+-- a figure, or `none`
+abbrev pub figure_text : Option ℚ → List ℕ
+figure_text None = codes "none"
+figure_text (Some figure) = fraction_text figure
+
+-- a line for each column: its name and its value
+abbrev pub point_lines : List (List ℕ) → List ℚ → List ℕ
+point_lines [] point = []
+point_lines (name ∷ names) [] = []
+point_lines (name ∷ names) (value ∷ values) = line name (fraction_text value) ++ point_lines names values
+
+-- the cost line, and the bound line
+abbrev pub cost_line : Option Held → List ℕ
+cost_line None = line (codes "cost") (figure_text None)
+cost_line (Some held) = line (codes "cost") (figure_text (Some held.cost))
+
+-- the lines of the point, if there is one
+abbrev pub held_lines : List (List ℕ) → Option Held → List ℕ
+held_lines names None = []
+held_lines names (Some held) = point_lines names held.point
+
+-- the text of an answer, for a program whose columns have these names
+abbrev pub answer_text : List (List ℕ) → Figures → List ℕ
+answer_text names figures =
+    line (codes "status") (status_word figures.status)
+    ++ cost_line figures.held
+    ++ line (codes "bound") (figure_text figures.bound)
+    ++ held_lines names figures.held
+    ++ codes "end" ++ 10 ∷ []
+
+-- the texts that have no figures
+abbrev pub usage_text : List ℕ
+usage_text = line (codes "status") (codes "usage") ++ codes "end" ++ 10 ∷ []
+
+abbrev pub read_fault_text : List ℕ
+read_fault_text = line (codes "status") (codes "readfault") ++ codes "end" ++ 10 ∷ []
+
+abbrev pub no_memory_text : List ℕ
+no_memory_text = line (codes "status") (codes "nomemory") ++ codes "end" ++ 10 ∷ []
+
+-- the text of a refusal: of which text, at which line, and the number and name of the kind
+abbrev pub refusal_text : List ℕ → List ℕ → List ℕ → List ℕ
+refusal_text text number kind =
+    line (codes "status") (codes "refused") ++ line (codes "text") text ++ line (codes "line") number ++ line (codes "kind") kind ++ codes "end" ++ 10 ∷ []
+
+-- what is said of a text that is not thin
+abbrev pub not_thin_text : List ℕ
+not_thin_text = refusal_text (codes "model") (codes "1") (codes "21 OutOfProfile")
