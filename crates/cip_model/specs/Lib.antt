@@ -1,3 +1,4 @@
+pub mod CanCheck
 pub mod Inside
 pub mod Keys
 pub mod Least

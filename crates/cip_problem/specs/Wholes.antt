@@ -1,7 +1,7 @@
 -- How many whole assignments a box has: choices of one whole value between the sides for each whole column.
 use Rattle.std.specs.Prelude.{◌≡◌, ℕ, zero, suc, ◌+◌, ◌*◌, ◌≤◌, ℤ, pos, negsuc, ◌+ℤ◌, ◌-ℤ◌, Bool, true, false, List, [], ◌∷◌, Option, None, Some, ⊤}
 use Rattle.std.specs.List.{AllZip}
-use Rattle.cip_rational.specs.Rational.{ℚ, integer, floor, ceil}
+use Rattle.cip_rational.specs.Rational.{ℚ, integer, IsWhole, floor, ceil}
 use Rattle.cip_problem.specs.Program.{Sides}
 use Rattle.cip_problem.specs.Box.{Between}
 
@@ -52,3 +52,12 @@ pub record HasWhole (sides : Sides) : Type 0 where
 -- each whole column of a box has a whole value
 abbrev pub AllHaveWholes : List Bool → List Sides → Type 0
 AllHaveWholes integral box = AllZip (λ whole sides. whole ≡ true → HasWhole sides) integral box
+
+-- a side of a column is there, and is a whole number
+abbrev pub IsWholeSide : Option ℚ → Type 0
+IsWholeSide None = ⊥
+IsWholeSide (Some side) = IsWhole side
+
+-- both sides of a column are there, and are whole numbers
+abbrev pub HasWholeSides : Sides → Type 0
+HasWholeSides sides = IsWholeSide sides.low × IsWholeSide sides.high
