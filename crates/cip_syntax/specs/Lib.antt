@@ -1,2 +1,4 @@
 pub mod CommandLine
 pub mod Figures
+pub mod Lines
+pub mod ThinText
