@@ -2,6 +2,7 @@
 #![tactic(auto)]
 
 mod draft;
+mod fields;
 mod lines;
 mod reader;
 
