@@ -4,4 +4,5 @@ pub mod Keys
 pub mod Least
 pub mod Names
 pub mod Programs
+pub mod Small
 pub mod Verdicts

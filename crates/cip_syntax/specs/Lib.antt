@@ -1,4 +1,5 @@
 pub mod CommandLine
 pub mod Figures
+pub mod Headline
 pub mod Lines
 pub mod ThinText
