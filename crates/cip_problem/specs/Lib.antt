@@ -5,6 +5,7 @@ pub mod Codes
 pub mod Log
 pub mod Points
 pub mod Program
+pub mod Statements
 pub mod Terms
 pub mod WellFormed
 pub mod Wholes

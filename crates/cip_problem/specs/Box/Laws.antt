@@ -5,7 +5,7 @@ use Rattle.std.proofs.lemmas.Bool.{and_parts, and_from}
 use Rattle.cip_rational.specs.Rational.{ℚ, le_test, ◌≤ℚ◌}
 use Rattle.cip_rational.specs.Rational.Order.{≤ℚ_trans, ≤ℚ_refl, ≤ℚ_antisymm, le_of_test, test_of_le}
 use Rattle.cip_problem.specs.Program.{Sides}
-use Rattle.cip_problem.specs.Box.{Between, IsInBox, low_inside, high_inside, sides_inside, box_inside, sides_equal, at_least, at_most, is_between}
+use Rattle.cip_problem.specs.Box.{Between, HasOneValue, IsInBox, low_inside, high_inside, sides_inside, box_inside, sides_equal, at_least, at_most, is_between}
 
 -- ---- the tests of a value
 
@@ -40,12 +40,6 @@ pub not_between_of_test : (low high : Option ℚ) (value : ℚ) → is_between l
 not_between_of_test low high value h k = true≢false (sym (test_of_between low high value k) ∙ h)
 
 -- ---- sides that are equal
-
--- there is one value between the sides, and no other
-pub record HasOneValue (low high : Option ℚ) : Type 0 where
-  pub value : ℚ
-  pub between : Between low high value
-  pub only : (other : ℚ) → Between low high other → other ≡ value
 
 pub one_value : (low high : Option ℚ) → sides_equal low high ≡ true → HasOneValue low high
 one_value None high h = absurd (true≢false (sym h))

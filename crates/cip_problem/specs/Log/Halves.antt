@@ -1,6 +1,6 @@
 -- The halves of a box: together they have its points with whole values, and none that it has not.
 use borrow.Author.Differences.{sum_is_lem, at_most_in}
-use Rattle.std.proofs.Common.{◌≡◌, ◌⊎◌, inl, inr, zero, suc, ℕ, ℤ, pos, ◌+ℤ◌, ◌≤ℤ◌, Bool, true, false, List, [], ◌∷◌, Option, None, Some, IfSome, slice_get, refl, sym, ap, ◌∙◌, subst, arith}
+use Rattle.std.proofs.Common.{◌≡◌, ◌⊎◌, inl, inr, zero, suc, ℕ, ℤ, pos, ◌+ℤ◌, ◌≤ℤ◌, Bool, true, false, List, [], ◌∷◌, Option, None, Some, IfSome, slice_get, refl, sym, ap, ◌∙◌, subst, arith, true≢false}
 use Rattle.std.proofs.lemmas.Option.{none-some, same_Some}
 use Rattle.cip_rational.specs.Rational.{ℚ, integer, oneℚ, ◌+ℚ◌, ◌≤ℚ◌, ◌<ℚ◌, IsWhole}
 use Rattle.cip_rational.specs.Rational.Order.{≤ℚ_trans, le_or_lt}
@@ -9,7 +9,8 @@ use Rattle.cip_rational.specs.Rational.Rounding.{integer-add, integer-one, integ
 use Rattle.cip_problem.specs.Program.{Sides}
 use Rattle.cip_problem.specs.Box.{Between, IsInBox, sides_at}
 use Rattle.cip_problem.specs.Points.{AreWhole}
-use Rattle.cip_problem.specs.Wholes.{HasWhole, AllHaveWholes}
+use Rattle.cip_problem.specs.Wholes.{wholes_between, assignments, plus, AtMost, HasWhole, AllHaveWholes}
+use Rattle.cip_problem.specs.Wholes.Laws.{times_more, more_times, split_wholes}
 use Rattle.cip_problem.specs.Log.{low_half, high_half, CanSplit}
 
 -- a whole value is at most a whole number, or at least the next one
@@ -17,7 +18,7 @@ pub below_or_above : (value : ℚ) (at : ℤ) → IsWhole value → (value ≤�
 below_or_above value at h = elim (le_or_lt value (integer at)) [
   | inl k ↦ inl k
   | inr k ↦
-    inr (subst (λ t. t ≤ℚ value) (sym (integer-add at (pos 1) ∙ ap (λ t. integer at +ℚ t) integer-one)) (whole_gap (integer at) value (IsWhole-integer at) h k))
+      inr (subst (λ t. t ≤ℚ value) (sym (integer-add at (pos 1) ∙ ap (λ t. integer at +ℚ t) integer-one)) (whole_gap (integer at) value (IsWhole-integer at) h k))
 ]
 
 pub at_le_next : (at : ℤ) → integer at ≤ℚ integer (at +ℤ pos 1)
@@ -78,3 +79,17 @@ low_half_within integral box column at point h k = low_within integral box colum
 
 pub high_half_within : (integral : List Bool) (box : List Sides) (column : ℕ) (at : ℤ) (point : List ℚ) → CanSplit integral box column at → IsInBox (high_half box column at) point → IsInBox box point
 high_half_within integral box column at point h k = high_within integral box column at point h.whole h.low k
+
+-- ---- the whole assignments of the halves
+
+halves_of_column : (integral : List Bool) (box : List Sides) (column : ℕ) (at : ℤ) → slice_get integral column ≡ Some true → AllHaveWholes integral (low_half box column at) → AllHaveWholes integral (high_half box column at) → AtMost (plus (assignments integral (low_half box column at)) (assignments integral (high_half box column at))) (assignments integral box)
+halves_of_column [] box column at e h k = absurd (none-some true e)
+halves_of_column (w ∷ ws) [] column at e h k = absurd h
+halves_of_column (false ∷ ws) (s ∷ ss) zero at e h k = absurd (true≢false (sym (same_Some false true e)))
+halves_of_column (true ∷ ws) (s ∷ ss) zero at e h k = times_more _ _ _ (assignments ws ss) (split_wholes s.low s.high at (h.0 refl) (k.0 refl))
+halves_of_column (false ∷ ws) (s ∷ ss) (suc column) at e h k = halves_of_column ws ss column at e h.1 k.1
+halves_of_column (true ∷ ws) (s ∷ ss) (suc column) at e h k = more_times (wholes_between s.low s.high) _ _ _ (halves_of_column ws ss column at e h.1 k.1)
+
+-- the halves have no more whole assignments together than the box
+pub halves_count : (integral : List Bool) (box : List Sides) (column : ℕ) (at : ℤ) → CanSplit integral box column at → AtMost (plus (assignments integral (low_half box column at)) (assignments integral (high_half box column at))) (assignments integral box)
+halves_count integral box column at h = halves_of_column integral box column at h.whole h.low h.high
