@@ -2,6 +2,7 @@ pub mod Activity
 pub mod Box
 pub mod BoxBound
 pub mod Codes
+pub mod Examples
 pub mod Log
 pub mod Points
 pub mod Program

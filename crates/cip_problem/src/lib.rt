@@ -3,6 +3,7 @@
 // Each function here does nothing. Its contract is one of the laws of the definitions, so that the check proves it.
 #![tactic(auto)]
 
+ghost use Rattle.cip_problem.specs.Examples.{Examples};
 ghost use Rattle.cip_problem.specs.Statements.{HalvesCover, HalvesWithin, HalvesCount, BoxBoundHolds, InnerBoxes, SideTests};
 
 pub fn halves_cover()
@@ -27,4 +28,8 @@ pub fn inner_boxes()
 
 pub fn side_tests()
     ensures { SideTests }
+{}
+
+pub fn examples()
+    ensures { Examples }
 {}

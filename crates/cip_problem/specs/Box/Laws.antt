@@ -1,6 +1,5 @@
 -- What lies between two sides, and what the tests of sides and boxes say.
-use Rattle.std.proofs.Common.{◌≡◌, ◌≢◌, ◌⊎◌, inl, inr, ℕ, ◌+◌, zero, suc, Bool, true, false, ◌&&◌, List, [], ◌∷◌, length, Option, None, Some, IfSome, refl, sym, ap, ◌∙◌, subst, arith, true≢false}
-use Rattle.std.specs.List.{AllZip}
+use Rattle.std.proofs.Common.{◌≡◌, true, false, List, [], ◌∷◌, length, Option, None, Some, IfSome, refl, sym, ◌∙◌, arith, true≢false}
 use Rattle.std.proofs.lemmas.Bool.{and_parts, and_from}
 use Rattle.cip_rational.specs.Rational.{ℚ, le_test, ◌≤ℚ◌}
 use Rattle.cip_rational.specs.Rational.Order.{≤ℚ_trans, ≤ℚ_refl, ≤ℚ_antisymm, le_of_test, test_of_le}

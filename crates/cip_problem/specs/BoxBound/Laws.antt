@@ -1,8 +1,8 @@
 -- The bound of a box is at most the cost of each point of it.
 use Rattle.std.proofs.Common.{◌≡◌, Bool, true, false, cond, List, [], ◌∷◌, length, Option, None, Some, IfSome, refl, sym, ap, ◌∙◌, subst, arith}
 use Rattle.std.proofs.lemmas.Option.{none-some, same_Some}
-use Rattle.cip_rational.specs.Rational.{ℚ, ◌+ℚ◌, ◌*ℚ◌, negate, zeroℚ, ◌≤ℚ◌, ◌<ℚ◌, le_test, lt_test}
-use Rattle.cip_rational.specs.Rational.Order.{≤ℚ_refl, ≤ℚ_of_lt, ≤ℚ_of_eq, ≤ℚ_antisymm, lt_of_test, le_of_lt_test}
+use Rattle.cip_rational.specs.Rational.{ℚ, ◌+ℚ◌, ◌*ℚ◌, negate, zeroℚ, ◌≤ℚ◌, ◌<ℚ◌, lt_test}
+use Rattle.cip_rational.specs.Rational.Order.{≤ℚ_of_lt, ≤ℚ_of_eq, ≤ℚ_antisymm, lt_of_test, le_of_lt_test}
 use Rattle.cip_rational.specs.Rational.Monotone.{+ℚ_mono, *ℚ_mono}
 use Rattle.cip_rational.specs.Rational.Ring.{negate-*ℚ, zero-*ℚ}
 use Rattle.cip_rational.specs.Sums.{dot}
@@ -10,7 +10,7 @@ use Rattle.cip_rational.specs.Linear.{linear_le}
 use Rattle.cip_problem.specs.Program.{Sides, Program}
 use Rattle.cip_problem.specs.Box.{Between, IsInBox}
 use Rattle.cip_problem.specs.BoxBound.{sum_if_both, product_at, least_cost, least_costs, box_bound}
-use Rattle.cip_problem.specs.Points.{IsFeasible, cost_of, IsLowerBound}
+use Rattle.cip_problem.specs.Points.{cost_of, IsLowerBound}
 use Rattle.cip_problem.specs.WellFormed.{IsWellFormed}
 
 -- ---- one column

@@ -1,13 +1,13 @@
 -- The halves of a box: together they have its points with whole values, and none that it has not.
 use borrow.Author.Differences.{sum_is_lem, at_most_in}
-use Rattle.std.proofs.Common.{◌≡◌, ◌⊎◌, inl, inr, zero, suc, ℕ, ℤ, pos, ◌+ℤ◌, ◌≤ℤ◌, Bool, true, false, List, [], ◌∷◌, Option, None, Some, IfSome, slice_get, refl, sym, ap, ◌∙◌, subst, arith, true≢false}
+use Rattle.std.proofs.Common.{◌≡◌, ◌⊎◌, inl, inr, zero, suc, ℕ, ℤ, pos, ◌+ℤ◌, Bool, true, false, List, [], ◌∷◌, Option, None, Some, IfSome, slice_get, refl, sym, ap, ◌∙◌, subst, arith, true≢false}
 use Rattle.std.proofs.lemmas.Option.{none-some, same_Some}
-use Rattle.cip_rational.specs.Rational.{ℚ, integer, oneℚ, ◌+ℚ◌, ◌≤ℚ◌, ◌<ℚ◌, IsWhole}
+use Rattle.cip_rational.specs.Rational.{ℚ, integer, ◌+ℚ◌, ◌≤ℚ◌, IsWhole}
 use Rattle.cip_rational.specs.Rational.Order.{≤ℚ_trans, le_or_lt}
 use Rattle.cip_rational.specs.Rational.Whole.{IsWhole-integer}
 use Rattle.cip_rational.specs.Rational.Rounding.{integer-add, integer-one, integer_le, whole_gap}
 use Rattle.cip_problem.specs.Program.{Sides}
-use Rattle.cip_problem.specs.Box.{Between, IsInBox, sides_at}
+use Rattle.cip_problem.specs.Box.{Between, IsInBox}
 use Rattle.cip_problem.specs.Points.{AreWhole}
 use Rattle.cip_problem.specs.Wholes.{wholes_between, assignments, plus, AtMost, HasWhole, AllHaveWholes}
 use Rattle.cip_problem.specs.Wholes.Laws.{times_more, more_times, split_wholes}

@@ -1,14 +1,12 @@
 -- Sums and products of numbers of choices, and how many whole numbers lie between two sides.
 use borrow.Author.Differences.{up, down, sum_is_lem, neg_is, at_most_in, le_out, same_in, same_out, lt-true, lt-false}
-use Rattle.std.proofs.Common.{◌≡◌, ◌≢◌, ℕ, zero, suc, ◌+◌, ◌-◌, ◌*◌, ◌≤◌, ℤ, pos, negsuc, ◌+ℤ◌, ◌-ℤ◌, ◌≤ℤ◌, neg_ℤ, Bool, true, false, int_lt, List, [], ◌∷◌, Option, None, Some, slice_get, refl, sym, ap, ◌∙◌, subst, arith, true≢false, add-mul, mul-add, mul-le-mul_right, mul-le-mul_left, zero-mul, mul-zero}
-use Rattle.std.proofs.lemmas.Option.{none-some, same_Some}
+use Rattle.std.proofs.Common.{◌≡◌, ◌≢◌, ℕ, zero, suc, ◌+◌, ◌-◌, ◌*◌, ◌≤◌, ℤ, pos, negsuc, ◌+ℤ◌, ◌-ℤ◌, ◌≤ℤ◌, neg_ℤ, true, false, int_lt, Option, None, Some, refl, sym, ap, ◌∙◌, subst, arith, true≢false, add-mul, mul-add, mul-le-mul_right, mul-le-mul_left, zero-mul, mul-zero}
 use Rattle.cip_rational.specs.Rational.{ℚ, integer, numerator, floor, ceil, IsWhole}
 use Rattle.cip_rational.specs.Rational.Order.{≤ℚ_trans}
 use Rattle.cip_rational.specs.Rational.Whole.{whole_is}
 use Rattle.cip_rational.specs.Rational.Rounding.{floor_le, floor_greatest, le_ceil, ceil_least, integer_le, floor-integer, ceil-integer}
-use Rattle.cip_problem.specs.Program.{Sides}
 use Rattle.cip_problem.specs.Box.{Between, two_wholes_between}
-use Rattle.cip_problem.specs.Wholes.{count, wholes_between, times, assignments, plus, AtMost, HasWhole, HasTwoWholes}
+use Rattle.cip_problem.specs.Wholes.{count, wholes_between, times, plus, AtMost, HasWhole, HasTwoWholes}
 
 -- ---- numbers of choices
 
