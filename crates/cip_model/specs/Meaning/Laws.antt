@@ -1,5 +1,5 @@
 -- The verdict on a point holds, and every verdict but that a sum overflows settles whether the point is feasible.
-use Rattle.std.proofs.Common.{◌≡◌, ◌⊎◌, inl, inr, ℕ, suc, ◌+◌, Bool, true, false, cond, not, ◌&&◌, List, [], ◌∷◌, Option, None, Some, Result, Ok, Err, IfOk, length, slice_get, refl, sym, ap, ◌∙◌, subst, arith, true≢false}
+use Rattle.std.proofs.Common.{◌≡◌, ◌⊎◌, inl, inr, ℕ, suc, ◌+◌, ◌<◌, Bool, true, false, cond, not, ◌&&◌, List, [], ◌∷◌, Option, None, Some, Result, Ok, Err, IfOk, length, slice_get, refl, sym, ap, ◌∙◌, subst, arith, true≢false}
 use Rattle.std.specs.List.{AllByRecursion}
 use Rattle.cip_rational.specs.Rational.{ℚ, ◌+ℚ◌, ◌*ℚ◌, zeroℚ, IsWhole, is_whole}
 use Rattle.cip_rational.specs.Rational.Ring.{+ℚ_assoc, +ℚ-zero}
@@ -28,6 +28,7 @@ use Rattle.cip_model.specs.Meaning.{IsOutside, IsSplit, IsBroken, RowOverflows, 
 pub record OutsideFrom (at : ℕ) (box : List Sides) (point : List ℚ) (column : ℕ) : Type 0 where
   pub place : ℕ
   pub is : column ≡ at + place
+  pub is_place : place < length box
   pub outside : ¬ Between (sides_at box place).low (sides_at box place).high (value_at point place)
 
 -- what the first place outside says
@@ -37,8 +38,8 @@ BoundsHold at box point (Some column) = OutsideFrom at box point column
 
 bounds_cons : (at : ℕ) (s : Sides) (box : List Sides) (v : ℚ) (point : List ℚ) (rest : Option ℕ) (t : Bool) → is_between s.low s.high v ≡ t → BoundsHold (at + 1) box point rest → BoundsHold at (s ∷ box) (v ∷ point) (cond t rest (Some at))
 bounds_cons at s box v point None true e h = (between_of_test s.low s.high v e, h)
-bounds_cons at s box v point (Some column) true e h = record { place = suc h.place; is = omega (arith, h.is); outside = h.outside }
-bounds_cons at s box v point rest false e h = record { place = 0; is = omega arith; outside = not_between_of_test s.low s.high v e }
+bounds_cons at s box v point (Some column) true e h = record { place = suc h.place; is = omega (arith, h.is); is_place = omega (arith, h.is_place); outside = h.outside }
+bounds_cons at s box v point rest false e h = record { place = 0; is = omega arith; is_place = omega arith; outside = not_between_of_test s.low s.high v e }
 
 first_outside_holds : (at : ℕ) (box : List Sides) (point : List ℚ) → length box ≡ length point → BoundsHold at box point (first_outside at box point)
 first_outside_holds at [] [] e = tt
@@ -156,16 +157,16 @@ module _ (program : Program) (point : List ℚ) where
       let e : h.place ≡ column = omega (arith, h.is) in
       subst (λ n. IsSplit program point n) e (record { integral = h.integral_there; not_whole = h.not_whole })
 
-  bounds_case : (first : Option ℕ) (next : Verdict) → BoundsHold 0 program.bounds point first → (IsInBox program.bounds point → VerdictHolds program point next) → VerdictHolds program point (from_bounds first next)
-  bounds_case None next h f = f h
-  bounds_case (Some column) next h f =
+  bounds_case : IsWellFormed program → (first : Option ℕ) (next : Verdict) → BoundsHold 0 program.bounds point first → (IsInBox program.bounds point → VerdictHolds program point next) → VerdictHolds program point (from_bounds first next)
+  bounds_case formed None next h f = f h
+  bounds_case formed (Some column) next h f =
       let e : h.place ≡ column = omega (arith, h.is) in
-      subst (λ n. IsOutside program point n) e (record { outside = h.outside })
+      subst (λ n. IsOutside program point n) e (record { is_column = omega (arith, h.is_place, formed.bounds); outside = h.outside })
 
   -- the verdict on a point with a value for each column holds
   pub verdict_holds : IsWellFormed program → length point ≡ columns program → VerdictHolds program point (verdict_of program point)
   verdict_holds formed long =
-      bounds_case (first_outside 0 program.bounds point) _ (first_outside_holds 0 program.bounds point (formed.bounds ∙ sym long))
+      bounds_case formed (first_outside 0 program.bounds point) _ (first_outside_holds 0 program.bounds point (formed.bounds ∙ sym long))
       (λ within. wholes_case (first_not_whole 0 program.integral point) _ (first_not_whole_holds 0 program.integral point (formed.integral ∙ sym long))
       (λ wholes. rows_case (first_broken 0 program.rows point) _ (first_broken_holds 0 program.rows point)
       (λ rows. cost_case (cost_from program.constant program.costs point) refl (record { within = within; whole = wholes; rows = rows }))))
