@@ -74,7 +74,7 @@ room_taken integral (n ∷ nodes) taken number node e h = tested (λ g. room_tak
 -- ---- the ends of nodes
 
 -- the number of whole assignments is finite
-pub record IsFinite (integral : List Bool) (node : Node) : Type 0 where
+record IsFinite (integral : List Bool) (node : Node) : Type 0 where
   pub number : ℕ
   pub is : assignments integral node.box ≡ Some number
 
@@ -91,7 +91,7 @@ finite_append P [] ys h k = k
 finite_append P (x ∷ xs) ys h k = (h.0, finite_append P xs ys h.1 k)
 
 -- two parts of a finite number, neither of which is 0
-pub record AreParts (a b : Option ℕ) (n : ℕ) : Type 0 where
+record AreParts (a b : Option ℕ) (n : ℕ) : Type 0 where
   pub first : ℕ
   pub second : ℕ
   pub is_first : a ≡ Some first
@@ -118,7 +118,7 @@ room_of_parts t u a b c n e h =
     omega (arith, room_of_le t a, room_of_le u b, ap room h.is_first, ap room h.is_second, ap room e, h.sum, h.first_positive, h.second_positive)
 
 -- the nodes that an end gives have less room together than the node had, and finitely many assignments
-pub record FitsIn (integral : List Bool) (node : Node) (given : List Node) (taken : List ℕ) : Type 0 where
+record FitsIn (integral : List Bool) (node : Node) (given : List Node) (taken : List ℕ) : Type 0 where
   pub room_for : room_left integral given taken + 1 ≤ room (assignments integral node.box)
   pub finite : AllByRecursion (IsFinite integral) given
 
