@@ -2,3 +2,4 @@ pub mod CommandLine
 pub mod Figures
 pub mod Lines
 pub mod ThinText
+pub mod TextStatements
