@@ -3,3 +3,4 @@ pub mod Figures
 pub mod Headline
 pub mod Lines
 pub mod ThinText
+pub mod TextStatements

@@ -2,3 +2,5 @@
 #![tactic(auto)]
 
 ghost use Rattle.std.specs.Prelude.{◌≡◌};
+
+pub mod texts;
