@@ -1,7 +1,9 @@
 //! Lines of a text and their fields.
 ghost use Rattle.std.specs.Prelude.{◌≡◌, ◌<◌, ◌≤◌, ◌^◌, ◌++◌, ◌∷◌, [], IfSome, map, take};
 ghost use Rattle.cip_syntax.specs.Lines as text;
+ghost use Rattle.cip_reading.specs.Reading.{short_number};
 ghost use Rattle.cip_mps.specs.Words.{words_of};
+ghost use Rattle.cip_mps.specs.LineKinds.{said};
 
 use crate::fields::{Fields, MOST};
 
@@ -27,11 +29,11 @@ impl<'a> Fields<'a> {
 /// What a line of a text is.
 #[derive(Clone, Copy, Debug, PartialEq, Eq)]
 pub(crate) enum LineKind {
-    /// A line of blanks alone, or a comment.
+    /// An empty line, or a comment.
     Nothing,
     /// A line whose first byte is not a blank.
     Section,
-    /// Any other line.
+    /// A line whose first byte is a blank.
     Entry,
 }
 
@@ -56,19 +58,21 @@ pub(crate) fn split_fields(line: &[u8]) -> Fields<'_>
     fields
 }
 
-/// The kind of a line: a line of blanks alone and one that begins with `*` are nothing.
-pub(crate) fn kind_of(line: &[u8]) -> LineKind {
+/// The kind of a line: an empty line and one that begins with `*` are nothing.
+pub(crate) fn kind_of(line: &[u8]) -> LineKind
+    ensures { text.record_of 42 line.now ≡ said result (text.fields line.now) }
+{
     match line.first() {
         None | Some(b'*') => LineKind::Nothing,
-        Some(first) if !is_blank(*first) => LineKind::Section,
-        Some(_) if line.iter().all(|byte| is_blank(*byte)) => LineKind::Nothing,
-        Some(_) => LineKind::Entry,
+        Some(first) if is_blank(*first) => LineKind::Entry,
+        Some(_) => LineKind::Section,
     }
 }
 
 /// The value of one to nine decimal digits.
 pub(crate) fn short_number(text: &[u8]) -> Option<u32>
-    ensures { IfSome result (λ value. value < 10 ^ 9) }
+    ensures value { result ≡ short_number text.now }
+    ensures small { IfSome result (λ value. value < 10 ^ 9) }
 {
     if text.is_empty() || text.len() > 9 {
         return None;
