@@ -2,4 +2,5 @@ pub mod CommandLine
 pub mod Figures
 pub mod Lines
 pub mod ThinText
+pub mod TextExamples
 pub mod TextStatements
