@@ -3,4 +3,5 @@ pub mod Figures
 pub mod Headline
 pub mod Lines
 pub mod ThinText
+pub mod TextExamples
 pub mod TextStatements

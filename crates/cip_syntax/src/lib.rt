@@ -3,4 +3,5 @@
 
 ghost use Rattle.std.specs.Prelude.{◌≡◌};
 
+pub mod text_examples;
 pub mod texts;

@@ -3,10 +3,10 @@
 --     values_end           no value of contents that keep the rules ends the lines of COLUMNS
 --     one_program          a text has at most one program
 use lib.Chars.{codes}
-use Rattle.std.proofs.Common.{◌≡◌, ◌≢◌, ℕ, List, [], ◌∷◌, ◌++◌, map, Option, None, Some, refl, sym, ap, ◌∙◌, append_assoc, arith}
+use Rattle.std.proofs.Common.{◌⊎◌, inl, inr, ◌≡◌, ◌≢◌, ℕ, List, [], ◌∷◌, ◌++◌, map, Option, None, Some, refl, sym, ap, ◌∙◌, subst, append_assoc, arith}
 use Rattle.std.specs.List.{AllByRecursion, flat_map}
 use Rattle.cip_problem.specs.Program.{Program}
-use Rattle.cip_syntax.specs.Lines.{Record, Section, Entry}
+use Rattle.cip_syntax.specs.Lines.{Record, Section, Entry, records}
 use Rattle.cip_syntax.specs.ThinText.{Value, ValueLine, BoundLine, Contents, Coefficient, optional_value, values_of, optional_words, value_record, bound_record, row_record, records_of, IsShortNumber, KeepsRules, program_of, IsThin}
 
 -- ---- a run of records
@@ -192,3 +192,42 @@ pub one_program : (text : List ℕ) (p q : Program) → IsThin text p → IsThin
 one_program text p q h k =
     let same = same_contents h.contents k.contents h.rest k.rest (values_end h.contents h.rules) (values_end k.contents k.rules) (sym h.are_records ∙ k.are_records) in
     h.is_program ∙ ap program_of same ∙ sym k.is_program
+
+-- ---- the last record
+
+abbrev end_of_data : Record
+end_of_data = Section (codes "ENDATA" ∷ [])
+
+none_later : (xs ys : List Record) → AllByRecursion (λ record_. record_ ≢ end_of_data) (xs ++ ys) → AllByRecursion (λ record_. record_ ≢ end_of_data) ys
+none_later [] ys h = h
+none_later (x ∷ xs) ys h = none_later xs ys h.1
+
+-- the records of a thin text have ENDATA
+pub has_end : (text : List ℕ) (p : Program) → IsThin text p → ¬ AllByRecursion (λ record_. record_ ≢ Section (codes "ENDATA" ∷ [])) (records text)
+has_end text p thin h =
+    let c = thin.contents in
+    let r = thin.rest in
+    let all = subst (AllByRecursion (λ record_. record_ ≢ end_of_data)) (thin.are_records ∙ records_are c r) h in
+    let rows = none_later (map row_record c.rows) _ all.1.1.1.1.1 in
+    let entries = none_later (map value_record c.entries) _ rows.1.1 in
+    let limits = none_later (map value_record c.limits) _ entries.1.1 in
+    let bounds = none_later (map bound_record c.bounds) _ limits.1 in
+    bounds.0 refl
+
+-- ---- the first records
+
+-- the third record says MAX
+pub says_max : (text : List ℕ) (p : Program) → IsThin text p → (a b r : Record) (others : List Record) → records text ≡ a ∷ b ∷ r ∷ others → r ≡ Entry (codes "MAX" ∷ [])
+says_max text p thin a b r others e =
+    let same : a ∷ b ∷ r ∷ others ≡ from_name thin.contents thin.rest = sym e ∙ thin.are_records ∙ records_are thin.contents thin.rest in
+    head_same (tail_same (tail_same same))
+
+row_or_columns : (rows : List (List ℕ)) (r : Record) (others t : List Record) → r ∷ others ≡ map row_record rows ++ Section (codes "COLUMNS" ∷ []) ∷ t → (r ≡ Section (codes "COLUMNS" ∷ [])) ⊎ ((name : List ℕ) × (r ≡ row_record name))
+row_or_columns [] r others t e = inl (head_same e)
+row_or_columns (name ∷ names) r others t e = inr (name, head_same e)
+
+-- the record after the objective is a row, or the start of COLUMNS
+pub row_first : (text : List ℕ) (p : Program) → IsThin text p → (a b c d e r : Record) (others : List Record) → records text ≡ a ∷ b ∷ c ∷ d ∷ e ∷ r ∷ others → (r ≡ Section (codes "COLUMNS" ∷ [])) ⊎ ((name : List ℕ) × (r ≡ row_record name))
+row_first text p thin a b c d e r others q =
+    let same : a ∷ b ∷ c ∷ d ∷ e ∷ r ∷ others ≡ from_name thin.contents thin.rest = sym q ∙ thin.are_records ∙ records_are thin.contents thin.rest in
+    row_or_columns thin.contents.rows r others _ (tail_same (tail_same (tail_same (tail_same (tail_same same)))))

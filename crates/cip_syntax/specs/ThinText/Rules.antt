@@ -1,7 +1,7 @@
 -- The rules of a thin text as a test, and that it decides them.
 --     keeps_rules c, Decides-keeps_rules
 --     not_thin               records of contents that break a rule are of no thin text
-use Rattle.std.proofs.Common.{◌≡◌, ◌≢◌, ℕ, ◌≤◌, Bool, true, false, not, ◌&&◌, ◌||◌, leb, List, [], ◌∷◌, ◌++◌, length, map, refl, sym, ◌∙◌, subst, arith, Decides}
+use Rattle.std.proofs.Common.{◌≡◌, ◌≢◌, ℕ, ◌≤◌, Bool, true, false, not, ◌&&◌, ◌||◌, leb, List, [], ◌∷◌, ◌++◌, length, map, refl, sym, ap, ◌∙◌, subst, arith, Decides}
 use Rattle.std.specs.Str.{bytes_eq}
 use Rattle.std.specs.List.{AllByRecursion}
 use Rattle.std.proofs.lemmas.Slice.Eq.{bytes_eq-Decides}
@@ -9,9 +9,9 @@ use Rattle.std.proofs.lemmas.Bool.Decides.{Decides-and, Decides-or, Decides-not,
 use Rattle.std.proofs.lemmas.Bool.{leb-true}
 use lib.Chars.{codes}
 use Rattle.cip_problem.specs.Program.{Program}
-use Rattle.cip_syntax.specs.Lines.{Record, records}
+use Rattle.cip_syntax.specs.Lines.{Record, Section, Entry, records}
 use Rattle.cip_syntax.specs.ThinText.{Contents, Coefficient, column_names, coefficients, limits_of, IsShortNumber, IsIn, AreDistinct, AreOne, NamesOther, NoTwoValues, entry_count, HasShortName, KeepsRules, records_of, IsThin}
-use Rattle.cip_syntax.specs.ThinText.Parts.{EndsAtMarker, values_end, same_contents}
+use Rattle.cip_syntax.specs.ThinText.Parts.{EndsAtMarker, values_end, same_contents, has_end}
 
 -- ---- tests on lists
 
@@ -171,3 +171,33 @@ not_thin text c rest e m b h =
     let thin = h.1 in
     let same = same_contents thin.contents c thin.rest rest (values_end thin.contents thin.rules) m (sym thin.are_records ∙ e) in
     rules_broken c b (subst KeepsRules same thin.rules)
+
+-- the same test of the premise
+abbrev pub ends_at_marker : Contents → Bool
+ends_at_marker c = all_pass (λ line. not (bytes_eq line.first.digits (codes "'INTEND'"))) c.entries
+
+pub marker_ends : (c : Contents) → ends_at_marker c ≡ true → EndsAtMarker c
+marker_ends c =
+    (Decides-all _ (λ line. line.first.digits ≢ codes "'INTEND'") (λ line. Decides-not _ (bytes_eq-Decides line.first.digits (codes "'INTEND'"))) c.entries).0
+
+abbrev pub is_end : Record → Bool
+is_end (Entry words) = false
+is_end (Section []) = false
+is_end (Section (word ∷ [])) = bytes_eq word (codes "ENDATA")
+is_end (Section (word ∷ other ∷ words)) = false
+
+not_end : (texts : List Record) → all_pass (λ record_. not (is_end record_)) texts ≡ true → AllByRecursion (λ record_. record_ ≢ Section (codes "ENDATA" ∷ [])) texts
+not_end [] e = tt
+not_end (r ∷ texts) e = (λ f. one (is_end r) e (ap is_end f), not_end texts (later (is_end r) e))
+  where
+    one : (b : Bool) → (not b && all_pass (λ record_. not (is_end record_)) texts) ≡ true → b ≡ true → ⊥
+    one true h f = cc
+    one false h f = cc
+
+    later : (b : Bool) → (not b && all_pass (λ record_. not (is_end record_)) texts) ≡ true → all_pass (λ record_. not (is_end record_)) texts ≡ true
+    later true h = absurd (cc)
+    later false h = h
+
+-- a text without ENDATA
+pub not_thin_without_end : (text : List ℕ) → all_pass (λ record_. not (is_end record_)) (records text) ≡ true → ¬ ((p : Program) × IsThin text p)
+not_thin_without_end text e h = has_end text h.0 h.1 (not_end (records text) e)
