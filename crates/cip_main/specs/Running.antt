@@ -1,13 +1,12 @@
--- What a call of `run` answers, by the words, the texts of the store, what the sink took, and the logs.
-use lib.Chars.{codes}
-use Rattle.std.specs.Prelude.{◌≡◌, ◌≢◌, ◌⊎◌, ◌++◌, ◌∷◌, [], ◌≤◌, ℕ, List, Option, None, Some, IfSome, length, ⊤}
+-- What a call of `run` does: by the words, what the store tells, what the sink took, and the logs.
+use Rattle.std.specs.Prelude.{◌≡◌, ◌⊎◌, ◌++◌, ◌∷◌, [], ◌<◌, ℕ, List, Option, None, Some, IfSome, option_map, drop, length}
 use Rattle.std.specs.Io.KnownBytes.{append_known}
 use Rattle.cip_io.specs.Faults.{Rose}
 use Rattle.cip_io.specs.Sink.{PushesPart}
 use Rattle.cip_problem.specs.Program.{Program}
 use Rattle.cip_problem.specs.Log.{Entry}
 use Rattle.cip_syntax.specs.CommandLine.{Job, Solve}
-use Rattle.cip_syntax.specs.Figures.{Status, Optimal, NodeLimit, NoMemory, Figures, answer_text, usage_text, read_fault_text, no_memory_text, not_thin_text}
+use Rattle.cip_syntax.specs.Figures.{Status, NodeLimit, NoMemory, Figures, exit_status, answer_text, usage_text, read_fault_text, no_memory_text, not_thin_text}
 use Rattle.cip_syntax.specs.ThinText.{IsThin}
 use Rattle.cip_syntax.specs.Headline.{AreTrue}
 use Rattle.cip_solve.specs.declared.logs.Log.{Log}
@@ -17,65 +16,157 @@ use Rattle.cip_solve.specs.Logs.{entries_of}
 abbrev pub node_limit : ℕ
 node_limit = 1000000
 
--- the exit status that goes with a search's end
-abbrev pub exit_status : Status → ℕ
-exit_status Optimal = 0
-exit_status NodeLimit = 10
-exit_status NoMemory = 6
+-- the most bytes that are pulled of a text: one more than a text may have
+abbrev pub most_pulled : ℕ
+most_pulled = 67108865
 
--- a sink before and after a call: the bytes it took, where it tells them, and its count of faults
-pub record SinkChange : Type 0 where
-  pub taken_before : Option (List ℕ)
-  pub taken_after : Option (List ℕ)
-  pub faults_before : ℕ
-  pub faults_after : ℕ
+-- a store as it tells itself at a moment: the texts of its names, what is left of the current one, how many faults
+pub record StoreTells : Type 0 where
+  pub holds : List ℕ → Option (List ℕ)
+  pub left : Option (List ℕ)
+  pub faults : ℕ
+
+-- a sink as it tells itself at a moment: the bytes taken, how many faults
+pub record SinkTells : Type 0 where
+  pub taken : Option (List ℕ)
+  pub faults : ℕ
+
+-- a call: the job that its words mean, if they are accepted; store, sink and logs before and after it; its status
+pub record Call : Type 0 where
+  pub job : Option Job
+  pub store : StoreTells
+  pub store_after : StoreTells
+  pub sink : SinkTells
+  pub sink_after : SinkTells
+  pub logs : List Log
+  pub logs_after : List Log
+  pub status : ℕ
 
 -- the sink took exactly this text, and the status is this one; or the sink failed, the status is 5, and it took a
 -- front part of the text
-abbrev pub Says : SinkChange → (text : List ℕ) → (status result : ℕ) → Type 0
-Says sink text status result =
-    ((result ≡ status) × (sink.taken_after ≡ append_known sink.taken_before text))
-    ⊎ ((result ≡ 5) × Rose sink.faults_before sink.faults_after × PushesPart sink.taken_before sink.taken_after text)
+abbrev pub Says : Call → (text : List ℕ) → (status : ℕ) → Type 0
+Says call text status =
+    ((call.status ≡ status) × (call.sink_after.taken ≡ append_known call.sink.taken text))
+    ⊎ ((call.status ≡ 5) × Rose call.sink.faults call.sink_after.faults × PushesPart call.sink.taken call.sink_after.taken text)
 
--- the logs are as before
-abbrev pub NoSearch : (old new : List Log) → Type 0
-NoSearch old new = new ≡ old
+-- the text was pulled to its end, or to the first byte too many
+abbrev pub IsPulledWhole : Call → Option (List ℕ) → Type 0
+IsPulledWhole call text = call.store_after.left ≡ option_map (drop most_pulled) text
 
--- one log was added, of these entries; or none, where memory was refused before the search
-abbrev pub OneSearch : (old new : List Log) → List Entry → Status → Type 0
-OneSearch old new entries status =
-    ((log : Log) × (new ≡ old ++ log ∷ []) × (entries ≡ entries_of log))
-    ⊎ ((new ≡ old) × (entries ≡ []) × (status ≡ NoMemory))
+-- the words are not accepted: nothing is pulled
+pub record IsUsage (call : Call) : Type 0 where
+  pub no_job : call.job ≡ None
+  pub says : Says call usage_text 2
+  pub untouched : call.store_after.left ≡ call.store.left
+  pub no_search : call.logs_after ≡ call.logs
 
--- an answer with figures: they are true of the program that the text has, and the sink was told them
-pub record Answered (text : Option (List ℕ)) (sink : SinkChange) (old new : List Log) (result : ℕ) : Type 0 where
+-- the store failed
+pub record IsReadFault (call : Call) : Type 0 where
+  pub says : Says call read_fault_text 3
+  pub rose : Rose call.store.faults call.store_after.faults
+  pub no_search : call.logs_after ≡ call.logs
+
+-- the text is not thin
+pub record IsRefused (call : Call) (text : Option (List ℕ)) : Type 0 where
+  pub says : Says call not_thin_text 4
+  pub not_thin : IfSome text (λ bytes. (program : Program) → ¬ IsThin bytes program)
+  pub pulled : IsPulledWhole call text
+  pub no_search : call.logs_after ≡ call.logs
+
+-- memory was refused before the text was read
+pub record IsNoMemory (call : Call) : Type 0 where
+  pub says : Says call no_memory_text 6
+  pub no_search : call.logs_after ≡ call.logs
+
+-- these entries are those of the one log that was added; there is none where memory was refused before the search
+abbrev pub IsLogged : Call → List Entry → Status → Type 0
+IsLogged call entries status =
+    ((log : Log) × (call.logs_after ≡ call.logs ++ log ∷ []) × (entries ≡ entries_of log))
+    ⊎ ((call.logs_after ≡ call.logs) × (entries ≡ []) × (status ≡ NoMemory))
+
+-- there are figures that are true of the program of the text, and the sink was told them
+pub record IsAnswered (call : Call) (text : Option (List ℕ)) : Type 0 where
   pub program : Program
   pub figures : Figures
   pub entries : List Entry
   pub thin : IfSome text (λ bytes. IsThin bytes program)
   pub are_true : AreTrue program node_limit entries figures
-  pub says : Says sink (answer_text program.column_names figures) (exit_status figures.status) result
-  pub searched : OneSearch old new entries figures.status
+  pub says : Says call (answer_text program.column_names figures) (exit_status figures.status)
+  pub pulled : IsPulledWhole call text
+  pub logged : IsLogged call entries figures.status
 
--- the text is refused: it has no program
-pub record Refused (text : Option (List ℕ)) (sink : SinkChange) (old new : List Log) (result : ℕ) : Type 0 where
-  pub not_thin : IfSome text (λ bytes. (program : Program) → ¬ IsThin bytes program)
-  pub says : Says sink not_thin_text 4 result
-  pub no_search : NoSearch old new
+-- what a call does
+pub data Ran (call : Call) : Type 0 where
+  refuses_words : IsUsage call → Ran call
+  fails_to_read : (model : List ℕ) → call.job ≡ Some (Solve model) → IsReadFault call → Ran call
+  refuses_text : (model : List ℕ) → call.job ≡ Some (Solve model) → IsRefused call (call.store.holds model) → Ran call
+  lacks_memory : (model : List ℕ) → call.job ≡ Some (Solve model) → IsNoMemory call → Ran call
+  answers : (model : List ℕ) → call.job ≡ Some (Solve model) → IsAnswered call (call.store.holds model) → Ran call
 
--- the store failed
-pub record ReadFault (store_before store_after : ℕ) (sink : SinkChange) (old new : List Log) (result : ℕ) : Type 0 where
-  pub rose : Rose store_before store_after
-  pub says : Says sink read_fault_text 3 result
-  pub no_search : NoSearch old new
+-- ---- what follows, each by its name
 
--- memory was refused before the text was read
-pub record OutOfMemory (sink : SinkChange) (old new : List Log) (result : ℕ) : Type 0 where
-  pub says : Says sink no_memory_text 6 result
-  pub no_search : NoSearch old new
+-- the status is one of those that the program ends with
+pub data IsStatus : ℕ → Type 0 where
+  optimal : IsStatus 0
+  usage : IsStatus 2
+  read_fault : IsStatus 3
+  refused : IsStatus 4
+  write_fault : IsStatus 5
+  no_memory : IsStatus 6
+  spent : IsStatus 10
 
--- the words are not accepted; nothing is chosen or pulled
-pub record Usage (left_before left_after : Option (List ℕ)) (sink : SinkChange) (old new : List Log) (result : ℕ) : Type 0 where
-  pub untouched : left_after ≡ left_before
-  pub says : Says sink usage_text 2 result
-  pub no_search : NoSearch old new
+-- a thin text, to which the words point
+pub record Asks (call : Call) (text : List ℕ) (program : Program) : Type 0 where
+  pub model : List ℕ
+  pub job : call.job ≡ Some (Solve model)
+  pub held : call.store.holds model ≡ Some text
+  pub thin : IsThin text program
+
+-- true figures of the program were told to the sink
+pub record TellsTruth (call : Call) (program : Program) : Type 0 where
+  pub figures : Figures
+  pub entries : List Entry
+  pub are_true : AreTrue program node_limit entries figures
+  pub says : Says call (answer_text program.column_names figures) (exit_status figures.status)
+  pub logged : IsLogged call entries figures.status
+
+-- the headline: where the words ask for the program of a thin text, true figures of it are told, unless the store
+-- failed or memory was refused before the text was read
+abbrev pub Headline : Call → Type 0
+Headline call =
+    (text : List ℕ) (program : Program) → Asks call text program
+    → TellsTruth call program ⊎ (IsReadFault call ⊎ IsNoMemory call)
+
+-- status 2 comes exactly where the words are not accepted, or 5 in its place; then nothing is pulled
+pub record UsageClause (call : Call) : Type 0 where
+  pub only : call.status ≡ 2 → call.job ≡ None
+  pub always : call.job ≡ None → IsUsage call
+
+-- status 3 comes only where the store's count of faults rose, or stands at its end; where the status is 0, 4 or 10 the
+-- text was pulled whole
+pub record ReadFaultClause (call : Call) : Type 0 where
+  pub rose : call.status ≡ 3 → Rose call.store.faults call.store_after.faults
+  pub whole : (model : List ℕ) → call.job ≡ Some (Solve model)
+      → (call.status ≡ 0) ⊎ ((call.status ≡ 4) ⊎ (call.status ≡ 10)) → IsPulledWhole call (call.store.holds model)
+
+-- status 4 comes only where the text is not thin; where it isn't, the status is 4, or 3, 5 or 6 in its place
+pub record RefusedClause (call : Call) : Type 0 where
+  pub only : (model text : List ℕ) → call.job ≡ Some (Solve model) → call.store.holds model ≡ Some text
+      → call.status ≡ 4 → (program : Program) → ¬ IsThin text program
+  pub always : (model text : List ℕ) → call.job ≡ Some (Solve model) → call.store.holds model ≡ Some text
+      → ((program : Program) → ¬ IsThin text program)
+      → IsRefused call (Some text) ⊎ (IsReadFault call ⊎ IsNoMemory call)
+
+-- status 5 comes only where the sink's count of faults rose, or stands at its end
+abbrev pub WriteFaultClause : Call → Type 0
+WriteFaultClause call = call.status ≡ 5 → Rose call.sink.faults call.sink_after.faults
+
+-- status 10 comes only after a search of as many nodes as the budget has; that an open node matters then, and only
+-- then, is said with the figures
+pub record SpentLog (call : Call) : Type 0 where
+  pub log : Log
+  pub added : call.logs_after ≡ call.logs ++ log ∷ []
+  pub full : length (entries_of log) ≡ node_limit
+
+abbrev pub NodeLimitClause : Call → Type 0
+NodeLimitClause call = call.status ≡ 10 → SpentLog call
