@@ -1,6 +1,6 @@
 -- The examples of texts, by computation.
 use lib.Chars.{codes}
-use Rattle.std.proofs.Common.{arith, ◌≡◌, ℕ, List, [], ◌∷◌, ◌++◌, length, None, Some, refl, pos, neg_ℤ, ◌≤◌, ◌⊎◌, inl, inr, true, false, lit≤, ap, sym, ◌∙◌}
+use Rattle.std.proofs.Common.{arith, replicate, ◌≡◌, ℕ, List, [], ◌∷◌, ◌++◌, length, None, Some, refl, pos, neg_ℤ, ◌≤◌, ◌⊎◌, inl, inr, true, false, lit≤, ap, sym, ◌∙◌}
 use Rattle.cip_rational.specs.Rational.{negate, integer}
 use Rattle.cip_rational.specs.Rational.Ratio.{ratio-negate, integer_ratio}
 use Rattle.cip_syntax.specs.Lines.{Record, Section, Entry, records}
@@ -173,6 +173,18 @@ row_as_objective = tells with_rows (codes " L R1\n") (codes " L COST\n")
     (contents_with (codes "R1" ∷ []) (one_value (codes "a") (codes "COST") (codes "5") ∷ []) [] (bound_of (codes "B") (codes "a") (codes "10") ∷ []))
     (contents_with (codes "COST" ∷ []) (one_value (codes "a") (codes "COST") (codes "5") ∷ []) [] (bound_of (codes "B") (codes "a") (codes "10") ∷ []))
     refl refl (lit≤ tt) refl refl refl
+
+pub long_row : Tells with_rows (codes " L " ++ replicate 255 65 ++ 10 ∷ []) (codes " L " ++ replicate 256 65 ++ 10 ∷ [])
+long_row =
+    tells with_rows (codes " L " ++ replicate 255 65 ++ 10 ∷ []) (codes " L " ++ replicate 256 65 ++ 10 ∷ [])
+    (contents_with (replicate 255 65 ∷ []) (one_value (codes "a") (codes "COST") (codes "5") ∷ []) [] (bound_of (codes "B") (codes "a") (codes "10") ∷ []))
+    (contents_with (replicate 256 65 ∷ []) (one_value (codes "a") (codes "COST") (codes "5") ∷ []) [] (bound_of (codes "B") (codes "a") (codes "10") ∷ []))
+    refl
+    refl
+    (lit≤ tt)
+    refl
+    refl
+    refl
 
 pub row_as_marker : Tells with_rows (codes " L MARKER\n") (codes " L 'MARKER'\n")
 row_as_marker = tells with_rows (codes " L MARKER\n") (codes " L 'MARKER'\n")

@@ -8,6 +8,7 @@ returns c = record {
   kind_of_row = tried.kind_of_row;
   row_twice = tried.row_twice;
   row_as_objective = tried.row_as_objective;
+  long_row = tried.long_row;
   row_as_marker = tried.row_as_marker;
   unknown_row = tried.unknown_row;
   value_twice = tried.value_twice;
