@@ -7,7 +7,7 @@ use Rattle.cip_problem.specs.Points.{IsFeasible, cost_of}
 use Rattle.cip_problem.specs.WellFormed.{columns, no_program}
 use Rattle.cip_syntax.specs.Lines.{is_blank, Section, Entry, lines, fields, record_of, records}
 use Rattle.cip_syntax.specs.Lines.Laws.{HasNoLineFeed, HasNoBlank}
-use Rattle.cip_syntax.specs.TextExamples.{chvatal_text, chvatal, loose_text, loose, empty_text, with_sense, with_end, with_rows, with_entries, with_limits, with_bounds, Tells}
+use Rattle.cip_syntax.specs.TextExamples.{chvatal_text, chvatal, loose_text, loose, empty_text, with_sense, with_end, with_rows, with_entries, with_limits, with_bounds, with_column, Tells}
 use Rattle.cip_syntax.specs.ThinText.{number, IsShortNumber, IsThin}
 use Rattle.cip_syntax.specs.ThinText.ThinProgram.{IsThinProgram}
 
@@ -84,10 +84,13 @@ pub record RulesCount : Type 0 where
   pub ten_digits : Tells with_entries (codes " a R1 123456789\n b R1 3\n") (codes " a R1 1234567890\n b R1 3\n")
   pub sign : Tells with_entries (codes " a R1 5\n b R1 3\n") (codes " a R1 -5\n b R1 3\n")
   pub point : Tells with_entries (codes " a R1 5\n b R1 3\n") (codes " a R1 5\n b R1 3.0\n")
+  pub long_column : Tells with_column (replicate 255 65) (replicate 256 65)
   pub limit_of_objective : Tells with_limits (codes " RHS R1 8 R2 9\n") (codes " RHS R1 8 COST 9\n")
   pub limit_twice : Tells with_limits (codes " RHS R1 8\n RHS R2 9\n") (codes " RHS R1 8\n RHS R1 9\n")
   pub two_limit_sets : Tells with_limits (codes " RHS R1 8\n RHS R2 9\n") (codes " RHS R1 8\n SET R2 9\n")
+  pub large_limit : Tells with_limits (codes " RHS R1 999999999\n") (codes " RHS R1 1000000000\n")
   pub missing_bound : Tells with_bounds (codes " UP B a 10\n UP B b 10\n") (codes " UP B a 10\n")
   pub bound_twice : Tells with_bounds (codes " UP B a 10\n UP B b 10\n") (codes " UP B a 10\n UP B b 10\n UP B b 10\n")
   pub unknown_column : Tells with_bounds (codes " UP B a 10\n UP B b 10\n") (codes " UP B a 10\n UP B b 10\n UP B c 10\n")
+  pub large_bound : Tells with_bounds (codes " UP B a 10\n UP B b 999999999\n") (codes " UP B a 10\n UP B b 1000000000\n")
   pub two_bound_sets : Tells with_bounds (codes " UP B a 10\n UP B b 10\n") (codes " UP B a 10\n UP C b 10\n")

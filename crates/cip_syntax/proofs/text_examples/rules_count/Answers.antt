@@ -16,11 +16,14 @@ returns c = record {
   ten_digits = tried.ten_digits;
   sign = tried.sign;
   point = tried.point;
+  long_column = tried.long_column;
   limit_of_objective = tried.limit_of_objective;
   limit_twice = tried.limit_twice;
   two_limit_sets = tried.two_limit_sets;
+  large_limit = tried.large_limit;
   missing_bound = tried.missing_bound;
   bound_twice = tried.bound_twice;
   unknown_column = tried.unknown_column;
+  large_bound = tried.large_bound;
   two_bound_sets = tried.two_bound_sets;
 }
