@@ -33,7 +33,7 @@ pub record IsThinRow (row : Row) : Type 0 where
   pub coefficients : AllByRecursion (λ term. IsShort term.coefficient) row.terms
 
 -- columns are whole, from 0 to a number of at most nine digits; rows are at most such numbers, with such
--- coefficients, and so are the costs, which are maximised; no two columns or rows have one name
+-- coefficients; costs are such numbers with the other sign, as they are maximised; no two columns or rows have one name
 pub record IsThinProgram (program : Program) : Type 0 where
   pub well_formed : IsWellFormed program
   pub columns_differ : AreDistinct program.column_names
