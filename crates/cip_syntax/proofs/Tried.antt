@@ -1,6 +1,6 @@
 -- The examples of texts, by computation.
 use lib.Chars.{codes}
-use Rattle.std.proofs.Common.{arith, ◌≡◌, ℕ, List, [], ◌∷◌, ◌++◌, length, None, Some, refl, pos, neg_ℤ, ◌≤◌, ◌⊎◌, inl, inr, true, false, lit≤, ap, sym, ◌∙◌}
+use Rattle.std.proofs.Common.{arith, replicate, ◌≡◌, ℕ, List, [], ◌∷◌, ◌++◌, length, None, Some, refl, pos, neg_ℤ, ◌≤◌, ◌⊎◌, inl, inr, true, false, lit≤, ap, sym, ◌∙◌}
 use Rattle.cip_rational.specs.Rational.{negate, integer}
 use Rattle.cip_rational.specs.Rational.Ratio.{ratio-negate, integer_ratio}
 use Rattle.cip_syntax.specs.Lines.{Record, Section, Entry, records}
@@ -8,7 +8,7 @@ use Rattle.cip_syntax.specs.ThinText.{ValueLine, BoundLine, Contents, row_record
 use Rattle.cip_syntax.specs.ThinText.Rules.{keeps_rules, rules_kept, ends_at_marker, marker_ends, not_thin, not_thin_without_end}
 use Rattle.cip_syntax.specs.ThinText.Parts.{says_max, row_first}
 use Rattle.cip_problem.specs.WellFormed.{no_program}
-use Rattle.cip_syntax.specs.TextExamples.{chvatal_text, chvatal, loose_text, loose, empty_text, HasProgram, with_sense, with_end, with_rows, with_entries, with_limits, with_bounds, Tells}
+use Rattle.cip_syntax.specs.TextExamples.{chvatal_text, chvatal, loose_text, loose, empty_text, HasProgram, with_sense, with_end, with_rows, with_entries, with_limits, with_bounds, with_column, Tells}
 
 abbrev two_values : (head row digits other_row other_digits : List ℕ) → ValueLine
 two_values head row digits other_row other_digits = record {
@@ -174,6 +174,18 @@ row_as_objective = tells with_rows (codes " L R1\n") (codes " L COST\n")
     (contents_with (codes "COST" ∷ []) (one_value (codes "a") (codes "COST") (codes "5") ∷ []) [] (bound_of (codes "B") (codes "a") (codes "10") ∷ []))
     refl refl (lit≤ tt) refl refl refl
 
+pub long_row : Tells with_rows (codes " L " ++ replicate 255 65 ++ 10 ∷ []) (codes " L " ++ replicate 256 65 ++ 10 ∷ [])
+long_row =
+    tells with_rows (codes " L " ++ replicate 255 65 ++ 10 ∷ []) (codes " L " ++ replicate 256 65 ++ 10 ∷ [])
+    (contents_with (replicate 255 65 ∷ []) (one_value (codes "a") (codes "COST") (codes "5") ∷ []) [] (bound_of (codes "B") (codes "a") (codes "10") ∷ []))
+    (contents_with (replicate 256 65 ∷ []) (one_value (codes "a") (codes "COST") (codes "5") ∷ []) [] (bound_of (codes "B") (codes "a") (codes "10") ∷ []))
+    refl
+    refl
+    (lit≤ tt)
+    refl
+    refl
+    refl
+
 pub row_as_marker : Tells with_rows (codes " L MARKER\n") (codes " L 'MARKER'\n")
 row_as_marker = tells with_rows (codes " L MARKER\n") (codes " L 'MARKER'\n")
     (contents_with (codes "MARKER" ∷ []) (one_value (codes "a") (codes "COST") (codes "5") ∷ []) [] (bound_of (codes "B") (codes "a") (codes "10") ∷ []))
@@ -256,4 +268,22 @@ pub two_bound_sets : Tells with_bounds (codes " UP B a 10\n UP B b 10\n") (codes
 two_bound_sets = tells with_bounds (codes " UP B a 10\n UP B b 10\n") (codes " UP B a 10\n UP C b 10\n")
     (contents_with (codes "R1" ∷ []) (two_values (codes "a") (codes "COST") (codes "5") (codes "R1") (codes "2") ∷ one_value (codes "b") (codes "R1") (codes "3") ∷ []) (one_value (codes "RHS") (codes "R1") (codes "8") ∷ []) (bound_of (codes "B") (codes "a") (codes "10") ∷ bound_of (codes "B") (codes "b") (codes "10") ∷ []))
     (contents_with (codes "R1" ∷ []) (two_values (codes "a") (codes "COST") (codes "5") (codes "R1") (codes "2") ∷ one_value (codes "b") (codes "R1") (codes "3") ∷ []) (one_value (codes "RHS") (codes "R1") (codes "8") ∷ []) (bound_of (codes "B") (codes "a") (codes "10") ∷ bound_of (codes "C") (codes "b") (codes "10") ∷ []))
+    refl refl (lit≤ tt) refl refl refl
+
+pub long_column : Tells with_column (replicate 255 65) (replicate 256 65)
+long_column = tells with_column (replicate 255 65) (replicate 256 65)
+    (contents_with (codes "R1" ∷ []) (one_value (replicate 255 65) (codes "R1") (codes "2") ∷ []) [] (bound_of (codes "B") (replicate 255 65) (codes "10") ∷ []))
+    (contents_with (codes "R1" ∷ []) (one_value (replicate 256 65) (codes "R1") (codes "2") ∷ []) [] (bound_of (codes "B") (replicate 256 65) (codes "10") ∷ []))
+    refl refl (lit≤ tt) refl refl refl
+
+pub large_limit : Tells with_limits (codes " RHS R1 999999999\n") (codes " RHS R1 1000000000\n")
+large_limit = tells with_limits (codes " RHS R1 999999999\n") (codes " RHS R1 1000000000\n")
+    (contents_with (codes "R1" ∷ codes "R2" ∷ []) (two_values (codes "a") (codes "COST") (codes "5") (codes "R1") (codes "2") ∷ []) (one_value (codes "RHS") (codes "R1") (codes "999999999") ∷ []) (bound_of (codes "B") (codes "a") (codes "10") ∷ []))
+    (contents_with (codes "R1" ∷ codes "R2" ∷ []) (two_values (codes "a") (codes "COST") (codes "5") (codes "R1") (codes "2") ∷ []) (one_value (codes "RHS") (codes "R1") (codes "1000000000") ∷ []) (bound_of (codes "B") (codes "a") (codes "10") ∷ []))
+    refl refl (lit≤ tt) refl refl refl
+
+pub large_bound : Tells with_bounds (codes " UP B a 10\n UP B b 999999999\n") (codes " UP B a 10\n UP B b 1000000000\n")
+large_bound = tells with_bounds (codes " UP B a 10\n UP B b 999999999\n") (codes " UP B a 10\n UP B b 1000000000\n")
+    (contents_with (codes "R1" ∷ []) (two_values (codes "a") (codes "COST") (codes "5") (codes "R1") (codes "2") ∷ one_value (codes "b") (codes "R1") (codes "3") ∷ []) (one_value (codes "RHS") (codes "R1") (codes "8") ∷ []) (bound_of (codes "B") (codes "a") (codes "10") ∷ bound_of (codes "B") (codes "b") (codes "999999999") ∷ []))
+    (contents_with (codes "R1" ∷ []) (two_values (codes "a") (codes "COST") (codes "5") (codes "R1") (codes "2") ∷ one_value (codes "b") (codes "R1") (codes "3") ∷ []) (one_value (codes "RHS") (codes "R1") (codes "8") ∷ []) (bound_of (codes "B") (codes "a") (codes "10") ∷ bound_of (codes "B") (codes "b") (codes "1000000000") ∷ []))
     refl refl (lit≤ tt) refl refl refl

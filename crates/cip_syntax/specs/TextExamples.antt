@@ -104,6 +104,9 @@ with_limits limits = text_with (codes " MAX\n") (codes " L R1\n L R2\n") (codes 
 abbrev pub with_bounds : List ℕ → List ℕ
 with_bounds bounds = text_with (codes " MAX\n") (codes " L R1\n") (codes " a COST 5 R1 2\n b R1 3\n") (codes " RHS R1 8\n") bounds (codes "ENDATA\n")
 
+abbrev pub with_column : List ℕ → List ℕ
+with_column name = text_with (codes " MAX\n") (codes " L R1\n") (codes " " ++ name ++ codes " R1 2\n") [] (codes " UP B " ++ name ++ codes " 10\n") (codes "ENDATA\n")
+
 -- a text is thin
 abbrev pub HasProgram : List ℕ → Type 0
 HasProgram text = (program : Program) × IsThin text program

@@ -1,6 +1,14 @@
-// The laws of thin texts. Each function here does nothing. Its contract is a law, so that the check proves it.
+// The laws of texts. Each function here does nothing. Its contract is a law, so that the check proves it.
 
-ghost use Rattle.cip_syntax.specs.TextStatements.{OneProgram, NumbersAreShort, ProgramsAreThin, ZerosAreFeasible};
+ghost use Rattle.cip_syntax.specs.TextStatements.{LinesAreCut, FieldsAreWords, OneProgram, NumbersAreShort, ProgramsAreThin, ZerosAreFeasible};
+
+pub fn lines_are_cut()
+    ensures { LinesAreCut }
+{}
+
+pub fn fields_are_words()
+    ensures { FieldsAreWords }
+{}
 
 pub fn one_program()
     ensures { OneProgram }

@@ -204,6 +204,8 @@ program_is_well_formed c rules = record {
 pub program_is_thin : (c : Contents) → KeepsRules c → IsThinProgram (program_of c)
 program_is_thin c rules = record {
   well_formed = program_is_well_formed c rules;
+  columns_differ = rules.columns_together;
+  rows_differ = rules.rows_differ.1;
   maximized = refl;
   constant = refl;
   integral = of_map (λ whole. whole ≡ true) (λ _. true) (λ _. refl) (column_names c);

@@ -2,6 +2,7 @@
 --     same_contents        records that begin with those of two contents are of one
 --     values_end           no value of contents that keep the rules ends the lines of COLUMNS
 --     one_program          a text has at most one program
+--     has_end, says_max, row_first     a thin text has ENDATA, its third record says MAX, its sixth is a row or COLUMNS
 use lib.Chars.{codes}
 use Rattle.std.proofs.Common.{◌⊎◌, inl, inr, ◌≡◌, ◌≢◌, ℕ, List, [], ◌∷◌, ◌++◌, map, Option, None, Some, refl, sym, ap, ◌∙◌, subst, append_assoc, arith}
 use Rattle.std.specs.List.{AllByRecursion, flat_map}

@@ -6,7 +6,7 @@ use Rattle.cip_problem.specs.Program.{Sides, Row, Program}
 use Rattle.cip_problem.specs.Terms.{AreTerms}
 use Rattle.cip_problem.specs.WellFormed.{IsWellFormed}
 use Rattle.cip_problem.specs.Wholes.{HasWholeSides}
-use Rattle.cip_syntax.specs.ThinText.{rational}
+use Rattle.cip_syntax.specs.ThinText.{AreDistinct, rational}
 
 -- a natural number of at most nine digits
 pub record IsShort (value : ℚ) : Type 0 where
@@ -32,10 +32,12 @@ pub record IsThinRow (row : Row) : Type 0 where
   pub terms : AreTerms row.terms
   pub coefficients : AllByRecursion (λ term. IsShort term.coefficient) row.terms
 
--- all columns are whole, between 0 and a number of at most nine digits; rows are at most such numbers, with such
--- coefficients; and so are the costs, which are maximised
+-- columns are whole, from 0 to a number of at most nine digits; rows are at most such numbers, with such
+-- coefficients; costs are such numbers with the other sign, as they are maximised; no two columns or rows have one name
 pub record IsThinProgram (program : Program) : Type 0 where
   pub well_formed : IsWellFormed program
+  pub columns_differ : AreDistinct program.column_names
+  pub rows_differ : AreDistinct program.row_names
   pub maximized : program.maximized ≡ true
   pub constant : program.constant ≡ zeroℚ
   pub integral : AllByRecursion (λ whole. whole ≡ true) program.integral
