@@ -8,7 +8,7 @@ use Rattle.cip_syntax.specs.CommandLine.{Job, Solve}
 use Rattle.cip_syntax.specs.Figures.{Status, Optimal, NodeLimit, NoMemory, exit_status, answer_text}
 use Rattle.cip_syntax.specs.ThinText.{IsThin}
 use Rattle.cip_syntax.specs.Headline.{AreTrue}
-use Rattle.cip_syntax.specs.ThinText.Laws.{one_program}
+use Rattle.cip_syntax.specs.ThinText.Parts.{one_program}
 use Rattle.cip_solve.specs.declared.logs.Log.{Log}
 use Rattle.cip_solve.specs.Logs.{entries_of}
 use Rattle.cip_main.specs.Running.{node_limit, Call, Says, IsPulledWhole, IsUsage, IsReadFault, IsRefused, IsNoMemory, IsLogged, IsAnswered, Ran, refuses_words, fails_to_read, refuses_text, lacks_memory, answers, IsStatus, optimal, usage, read_fault, refused, write_fault, no_memory, spent, Asks, TellsTruth, Headline, UsageClause, ReadFaultClause, RefusedClause, WriteFaultClause, SpentLog, NodeLimitClause}
@@ -60,6 +60,7 @@ usage_clause call r = record { only = only r; always = always r }
     only (refuses_text model job r) e = absurd (other call 4 2 (status_is call _ 4 r.says) e (λ h. omega (arith, h)) (λ h. omega (arith, h)))
     only (lacks_memory model job r) e = absurd (other call 6 2 (status_is call _ 6 r.says) e (λ h. omega (arith, h)) (λ h. omega (arith, h)))
     only (answers model job a) e = absurd (answer_not call _ 2 a e (λ h. omega (arith, h)) (λ h. omega (arith, h)) (λ h. omega (arith, h)) (λ h. omega (arith, h)))
+
     always : Ran call → call.job ≡ None → IsUsage call
     always (refuses_words u) e = u
     always (fails_to_read model job r) e = absurd (some_job job e)
@@ -102,10 +103,12 @@ read_fault_clause call r = record { rose = rose r; whole = whole r }
     rose (refuses_text model job r) e = absurd (other call 4 3 (status_is call _ 4 r.says) e (λ h. omega (arith, h)) (λ h. omega (arith, h)))
     rose (lacks_memory model job r) e = absurd (other call 6 3 (status_is call _ 6 r.says) e (λ h. omega (arith, h)) (λ h. omega (arith, h)))
     rose (answers model job a) e = absurd (answer_not call _ 3 a e (λ h. omega (arith, h)) (λ h. omega (arith, h)) (λ h. omega (arith, h)) (λ h. omega (arith, h)))
+
     not_ended : (n : ℕ) → StatusIs call n → ¬ (n ≡ 0) → ¬ (n ≡ 4) → ¬ (n ≡ 10) → (call.status ≡ 0) ⊎ ((call.status ≡ 4) ⊎ (call.status ≡ 10)) → ⊥
     not_ended n s p q t (inl e) = other call n 0 s e p (λ h. omega (arith, h))
     not_ended n s p q t (inr (inl e)) = other call n 4 s e q (λ h. omega (arith, h))
     not_ended n s p q t (inr (inr e)) = other call n 10 s e t (λ h. omega (arith, h))
+
     whole : Ran call → (model : List ℕ) → call.job ≡ Some (Solve model) → (call.status ≡ 0) ⊎ ((call.status ≡ 4) ⊎ (call.status ≡ 10)) → IsPulledWhole call (call.store.holds model)
     whole (refuses_words u) other_model q e = absurd (some_job q u.no_job)
     whole (fails_to_read model job r) other_model q e = absurd (not_ended 3 (status_is call _ 3 r.says) (λ h. omega (arith, h)) (λ h. omega (arith, h)) (λ h. omega (arith, h)) e)
@@ -122,6 +125,7 @@ refused_clause call r = record { only = only r; always = always r }
     only (refuses_text m job r) model text q held e = subst (λ o. IfSome o (λ bytes. (program : Program) → ¬ IsThin bytes program)) (same_text call m model (Some text) job q held) r.not_thin
     only (lacks_memory m job r) model text q held e = absurd (other call 6 4 (status_is call _ 6 r.says) e (λ h. omega (arith, h)) (λ h. omega (arith, h)))
     only (answers m job a) model text q held e = absurd (answer_not call _ 4 a e (λ h. omega (arith, h)) (λ h. omega (arith, h)) (λ h. omega (arith, h)) (λ h. omega (arith, h)))
+
     always : Ran call → (model text : List ℕ) → call.job ≡ Some (Solve model) → call.store.holds model ≡ Some text → ((program : Program) → ¬ IsThin text program) → IsRefused call (Some text) ⊎ (IsReadFault call ⊎ IsNoMemory call)
     always (refuses_words u) model text q held n = absurd (some_job q u.no_job)
     always (fails_to_read m job r) model text q held n = inr (inl r)
@@ -162,10 +166,13 @@ node_limit_clause call (answers model job a) e = by_log a.logged
   where
     s : StatusIs call (exit_status a.figures.status)
     s = status_is call (answer_text a.program.column_names a.figures) (exit_status a.figures.status) a.says
+
+    five : ◌≡◌ {A = ℕ} 5 10 → ⊥
+    five h = omega (arith, h)
+
     limit : a.figures.status ≡ NodeLimit
     limit = elim s.either [ inl h ↦ is_spent a.figures.status (sym h ∙ e) | inr h ↦ absurd (five (sym h.0 ∙ e)) ]
-    five : 5 ≡ 10 → ⊥
-    five h = omega (arith, h)
+
     by_log : IsLogged call a.entries a.figures.status → SpentLog call
     by_log (inl l) = record { log = l.0; added = l.1; full = subst (λ es. length es ≡ node_limit) l.2 (a.are_true.spent limit).full }
     by_log (inr l) = absurd (not_spent (sym limit ∙ l.2))

@@ -69,6 +69,7 @@ at_split s (byte ∷ bytes) = go (is_line_feed byte)
     onto : (pieces : List (List ℕ)) → before [] (onto_first byte pieces) ≡ onto_first byte pieces
     onto [] = refl
     onto (piece ∷ pieces) = refl
+
     go : (b : Bool) → lines_taken s (before [] (cond b ([] ∷ slice_split is_line_feed bytes) (onto_first byte (slice_split is_line_feed bytes)))) ≡ lines_taken s (cond b ([] ∷ slice_split is_line_feed bytes) (onto_first byte (slice_split is_line_feed bytes)))
     go true = refl
     go false = ap (lines_taken s) (onto (slice_split is_line_feed bytes))

@@ -189,8 +189,10 @@ map_set_at g h names name n p d e =
   where
     apart : AreDistinct (p.before ++ name ∷ p.after)
     apart = subst AreDistinct p.split d
+
     front : map h p.before ≡ map g p.before
     front = map_same g h p.before (λ o m. e o (subst (IsIn o) (sym p.split) (IsIn-left o p.before (name ∷ p.after) m)) (λ q. p.first (subst (λ x. IsIn x p.before) q m)))
+
     back : map h p.after ≡ map g p.after
     back = map_same g h p.after (λ o m. e o (subst (IsIn o) (sym p.split) (IsIn-right o p.before (name ∷ p.after) (inr m))) (λ q. distinct_after p.before name p.after apart (subst (λ x. IsIn x p.after) q m)))
 
