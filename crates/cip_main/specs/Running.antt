@@ -1,5 +1,5 @@
 -- What a call of `run` does: by the words, what the store tells, what the sink took, and the logs.
-use Rattle.std.specs.Prelude.{◌≡◌, ◌⊎◌, ◌++◌, ◌∷◌, [], ◌<◌, ℕ, List, Option, None, Some, IfSome, option_map, drop, length}
+use Rattle.std.specs.Prelude.{◌≡◌, ◌⊎◌, ◌++◌, ◌∷◌, [], ℕ, List, Option, None, Some, IfSome, length}
 use Rattle.std.specs.Io.KnownBytes.{append_known}
 use Rattle.cip_io.specs.Faults.{Rose}
 use Rattle.cip_io.specs.Sink.{PushesPart}
@@ -11,14 +11,11 @@ use Rattle.cip_syntax.specs.ThinText.{IsThin}
 use Rattle.cip_syntax.specs.Headline.{AreTrue}
 use Rattle.cip_solve.specs.declared.logs.Log.{Log}
 use Rattle.cip_solve.specs.Logs.{entries_of}
+use Rattle.cip_main.specs.Pulling.{IsWhole}
 
 -- the node budget of a search
 abbrev pub node_limit : ℕ
 node_limit = 1000000
-
--- the most bytes that are pulled of a text: one more than a text may have
-abbrev pub most_pulled : ℕ
-most_pulled = 67108865
 
 -- a store as it tells itself at a moment: the texts of its names, what is left of the current one, how many faults
 pub record StoreTells : Type 0 where
@@ -51,7 +48,7 @@ Says call text status =
 
 -- the text was pulled to its end, or to the first byte too many
 abbrev pub IsPulledWhole : Call → Option (List ℕ) → Type 0
-IsPulledWhole call text = call.store_after.left ≡ option_map (drop most_pulled) text
+IsPulledWhole call text = IsWhole text call.store_after.left
 
 -- the words are not accepted: nothing is pulled
 pub record IsUsage (call : Call) : Type 0 where
