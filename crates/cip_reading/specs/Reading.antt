@@ -1,8 +1,11 @@
 -- What the reader of a thin text knows after each record, as plain values: the same steps as those of the code. That
 -- these steps read exactly the thin texts, each as its program, is a law (`Reading/Laws.antt`).
 pub mod Bytes
+pub mod Columns
 pub mod Facts
+pub mod Limits
 pub mod Names
+pub mod Rows
 pub mod Takes
 pub mod Values
 use lib.Chars.{codes}

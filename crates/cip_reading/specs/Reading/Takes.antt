@@ -8,7 +8,7 @@ use Rattle.std.proofs.lemmas.Bool.Decides.{Decides-and, Decides-not, Decides-lik
 use Rattle.std.proofs.lemmas.Slice.Eq.{bytes_eq-Decides}
 use Rattle.cip_syntax.specs.ThinText.{IsShortNumber, IsIn, number}
 use Rattle.cip_reading.specs.Reading.{bind, is_digit, short_number, number_of, is_row_name, is_short_name}
-use Rattle.cip_reading.specs.Reading.Names.{number_cases, IsNumbered, IsNowhere, place_in}
+use Rattle.cip_reading.specs.Reading.Names.{number_cases, IsNumbered, IsNowhere, IsPlace, place_in}
 
 -- a step goes on to the state `next` where the rule is kept, and refuses elsewhere
 pub data Takes {A : Type 0} (Kept : Type 0) (step : Option A) (next : A) : Type 0 where
@@ -49,6 +49,16 @@ takes_test P false a d = Refused (λ h. let e = d.1 h in cc) refl
 pub takes_unless : {A : Type 0} (P : Type 0) (b : Bool) (a : A) → Decides b P → Takes (¬ P) (cond b None (Some a)) a
 takes_unless P true a d = Refused (λ h. h (d.0 refl)) refl
 takes_unless P false a d = Taken (λ h. let e = d.1 h in cc) refl
+
+pub takes_number : {A : Type 0} (Q : Type 0) (names : List (List ℕ)) (name : List ℕ) (k : ℕ → Option A) (next : A) → ((n : ℕ) → IsPlace names name n → Takes Q (k n) next) → Takes (IsIn name names × Q) (bind (number_of names name) k) next
+takes_number {A} Q names name k next f = go (number_cases names name)
+  where
+    found : (o : Option ℕ) (n : ℕ) → o ≡ Some n → IsIn name names → Takes Q (k n) next → Takes (IsIn name names × Q) (bind o k) next
+    found o n e m (Taken q g) = Taken (m, q) (ap (λ x. bind x k) e ∙ g)
+    found o n e m (Refused q g) = Refused (λ h. q h.1) (ap (λ x. bind x k) e ∙ g)
+    go : IsNumbered names name ⊎ IsNowhere names name → Takes (IsIn name names × Q) (bind (number_of names name) k) next
+    go (inl h) = found (number_of names name) h.0 h.1 (place_in names name h.0 h.2) (f h.0 h.2)
+    go (inr h) = Refused (λ q. h.1 q.0) (ap (λ x. bind x k) h.0)
 
 -- what a step that went on says
 pub taken_kept : {A : Type 0} (P : Type 0) (o : Option A) (a t : A) → Takes P o a → o ≡ Some t → P

@@ -10,9 +10,9 @@ use Rattle.cip_rational.specs.Rational.{ℚ, negate, zeroℚ}
 use Rattle.cip_problem.specs.Program.{Term, Row}
 use Rattle.cip_syntax.specs.ThinText.{Coefficient, number, digits_at, number_or_zero, IsShortNumber, IsIn, AreDistinct, is_not_zero, rational, with_term}
 use Rattle.cip_reading.specs.Reading.{Stage, Mark, Column, Reading, bind, is_above_last, is_at, short_number, number_of, NamedRow, AtObjective, AtRow, find_row, entry_counted, last_column, mark_at, row_at, column_at, no_mark, no_column, empty_row, cost_taken, term_added, value_taken, named_taken, coefficient_taken}
-use Rattle.cip_reading.specs.Reading.Names.{names_cases, IsLast, IsPlace, number_cases, IsNumbered, IsNowhere, place_in, map_same, map_at, map_set_at, distinct_back, IsIn-left}
+use Rattle.cip_reading.specs.Reading.Names.{names_cases, IsLast, IsPlace, number_cases, IsNumbered, IsNowhere, place_in, map_same, map_at, map_set_at, distinct_back, all_front, all_last, all_push}
 use Rattle.cip_reading.specs.Reading.Takes.{Takes, Taken, Refused, takes_like, takes_at, takes_bind, takes_test, short_number_takes}
-use Rattle.cip_reading.specs.Reading.Facts.{Facts, Keeps, reading_of, row_read, mark_read, column_read, terms_of, last_valued, coefficient_in, entry_of, digits_at-other, digits_at-new, IsOther, all_none, none_all, one_if, count_push, none_from_false, terms_same, last_same, terms_push, last_push, terms_below, above_last, at_last_column}
+use Rattle.cip_reading.specs.Reading.Facts.{Facts, Keeps, reading_of, row_read, mark_read, column_read, terms_of, last_valued, coefficient_in, entry_of, digits_at-other, digits_at-new, IsOther, all_none, none_all, once_front, once_push, one_if, count_push, none_from_false, terms_same, last_same, terms_push, last_push, terms_below, above_last, at_last_column}
 
 abbrev pub with_value : Facts → Coefficient → Facts
 with_value f entry = record {
@@ -257,3 +257,51 @@ coefficient_takes stage set_name f column row digits keeps last =
     go : ((bytes_eq row f.objective ≡ true) × (row ≡ f.objective)) ⊎ ((bytes_eq row f.objective ≡ false) × (¬ (row ≡ f.objective))) → Takes (IsIn row (f.objective ∷ f.rows) × (Few × Fresh)) (after (find_row s row)) next
     go (inl p) = with_row (find_row s row) AtObjective (rw p.0 refl) (inl p.1) (at_objective p.1)
     go (inr p) = go_row (number_cases f.rows row) p.0 p.1
+
+-- ---- the rules with the value
+
+pub value_keeps : (f : Facts) (column row digits : List ℕ) → Keeps f → ValueRule f column row digits → Keeps (with_value f (entry_of column row digits))
+value_keeps f column row digits keeps rule = record {
+  rows_differ = keeps.rows_differ;
+  rows_plain = keeps.rows_plain;
+  entries_known = all_push (λ entry. IsIn entry.value.row (f.objective ∷ f.rows)) f.values (entry_of column row digits) keeps.entries_known rule.1.0;
+  limits_known = keeps.limits_known;
+  bounds_known = keeps.bounds_known;
+  columns_together = keeps.columns_together;
+  entries_once = once_push f.values (entry_of column row digits) keeps.entries_once rule.1.1.1;
+  limits_once = keeps.limits_once;
+  bounds_once = keeps.bounds_once;
+  entries_digits = all_push (λ entry. IsShortNumber entry.value.digits) f.values (entry_of column row digits) keeps.entries_digits rule.0;
+  limits_digits = keeps.limits_digits;
+  bounds_digits = keeps.bounds_digits;
+  few_rows = keeps.few_rows;
+  few_columns = keeps.few_columns;
+  few_entries = subst (λ n. n ≤ 4194304) (sym (count_push f.values (entry_of column row digits))) rule.1.1.0;
+  short_row_names = keeps.short_row_names;
+  short_column_names = keeps.short_column_names;
+}
+
+pub value_rule : (f : Facts) (column row digits : List ℕ) → Keeps (with_value f (entry_of column row digits)) → ValueRule f column row digits
+value_rule f column row digits keeps =
+    (all_last (λ entry. IsShortNumber entry.value.digits) f.values (entry_of column row digits) keeps.entries_digits, (all_last (λ entry. IsIn entry.value.row (f.objective ∷ f.rows)) f.values (entry_of column row digits) keeps.entries_known, (subst (λ n. n ≤ 4194304) (count_push f.values (entry_of column row digits)) keeps.few_entries, (once_front f.values (entry_of column row digits) keeps.entries_once).1)))
+
+pub before_value : (f : Facts) (column row digits : List ℕ) → Keeps (with_value f (entry_of column row digits)) → Keeps f
+before_value f column row digits keeps = record {
+  rows_differ = keeps.rows_differ;
+  rows_plain = keeps.rows_plain;
+  entries_known = all_front (λ entry. IsIn entry.value.row (f.objective ∷ f.rows)) f.values (entry_of column row digits ∷ []) keeps.entries_known;
+  limits_known = keeps.limits_known;
+  bounds_known = keeps.bounds_known;
+  columns_together = keeps.columns_together;
+  entries_once = (once_front f.values (entry_of column row digits) keeps.entries_once).0;
+  limits_once = keeps.limits_once;
+  bounds_once = keeps.bounds_once;
+  entries_digits = all_front (λ entry. IsShortNumber entry.value.digits) f.values (entry_of column row digits ∷ []) keeps.entries_digits;
+  limits_digits = keeps.limits_digits;
+  bounds_digits = keeps.bounds_digits;
+  few_rows = keeps.few_rows;
+  few_columns = keeps.few_columns;
+  few_entries = omega (arith, keeps.few_entries, count_push f.values (entry_of column row digits));
+  short_row_names = keeps.short_row_names;
+  short_column_names = keeps.short_column_names;
+}
