@@ -5,8 +5,11 @@ pub mod Columns
 pub mod Contents
 pub mod Facts
 pub mod Limits
+pub mod Lines
 pub mod Names
+pub mod Progress
 pub mod Rows
+pub mod Sound
 pub mod Takes
 pub mod Values
 use lib.Chars.{codes}

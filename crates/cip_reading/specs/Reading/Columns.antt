@@ -11,7 +11,7 @@ use Rattle.cip_rational.specs.Rational.Ring.{negate_zero, zero_is}
 use Rattle.cip_rational.specs.Rational.Whole.{integer-pos}
 use Rattle.cip_syntax.specs.ThinText.{BoundLine, Coefficient, number_or_zero, digits_at, bound_digits, IsIn, AreDistinct, is_not_zero, HasShortName, rational, with_term}
 use Rattle.cip_reading.specs.Reading.{Stage, Reading, Column, number_of, no_column, column_added, column_found, column_taken}
-use Rattle.cip_reading.specs.Reading.Names.{names_cases, IsLast, IsPlace, number_cases, number_at, IsNumbered, IsNowhere, place_in, map_same, distinct_push, distinct_back, all_in, all_weaker, with_last, with_last_same, with_last_other, with_last_is, with_last_keeps, with_last_push_all, last_in}
+use Rattle.cip_reading.specs.Reading.Names.{names_cases, IsLast, IsPlace, number_cases, number_at, IsNumbered, IsNowhere, place_in, map_same, distinct_push, distinct_back, all_in, all_weaker, with_last, with_last_same, with_last_other, with_last_is, with_last_keeps, with_last_push_all, with_last_distinct, with_last_length, with_last_all, last_in}
 use Rattle.cip_reading.specs.Reading.Takes.{Takes, Taken, Refused, takes_like, takes_at, takes_test, leb_decides}
 use Rattle.cip_reading.specs.Reading.Facts.{Facts, Keeps, reading_of, row_read, mark_read, column_read, high_read, terms_of, last_valued, new_column_none, terms_push, last_push}
 
@@ -171,3 +171,24 @@ column_rule f g name e keeps =
 
 pub column_has_columns : (f : Facts) (name : List ℕ) → HasColumns f → HasColumns (with_column f name)
 column_has_columns f name h = all_weaker (λ entry. IsIn entry.column f.columns) _ (λ entry m. with_last_keeps f.columns name entry.column m) f.values h
+
+pub before_column : (f : Facts) (name : List ℕ) → AllByRecursion (λ line. IsIn line.column f.columns) f.bounds → Keeps (with_column f name) → Keeps f
+before_column f name known keeps = record {
+  rows_differ = keeps.rows_differ;
+  rows_plain = keeps.rows_plain;
+  entries_known = keeps.entries_known;
+  limits_known = keeps.limits_known;
+  bounds_known = known;
+  columns_together = with_last_distinct f.columns name keeps.columns_together;
+  entries_once = keeps.entries_once;
+  limits_once = keeps.limits_once;
+  bounds_once = keeps.bounds_once;
+  entries_digits = keeps.entries_digits;
+  limits_digits = keeps.limits_digits;
+  bounds_digits = keeps.bounds_digits;
+  few_rows = keeps.few_rows;
+  few_columns = let l = with_last_length f.columns name in omega (arith, l, keeps.few_columns);
+  few_entries = keeps.few_entries;
+  short_row_names = keeps.short_row_names;
+  short_column_names = with_last_all HasShortName f.columns name keeps.short_column_names;
+}
