@@ -2,6 +2,7 @@
 -- these steps read exactly the thin texts, each as its program, is a law (`Reading/Laws.antt`).
 pub mod Bytes
 pub mod Columns
+pub mod Complete
 pub mod Contents
 pub mod Facts
 pub mod Limits
