@@ -5,6 +5,7 @@ pub mod Columns
 pub mod Complete
 pub mod Contents
 pub mod Facts
+pub mod Laws
 pub mod Limits
 pub mod Lines
 pub mod Names
@@ -12,6 +13,7 @@ pub mod Progress
 pub mod Rows
 pub mod Sound
 pub mod Takes
+pub mod Texts
 pub mod Values
 use lib.Chars.{codes}
 use Rattle.std.specs.Prelude.{ℕ, zero, suc, ◌+◌, ◌-◌, ◌==◌, Bool, true, false, ◌&&◌, not, nat_lt, nat_le, List, [], ◌∷◌, ◌++◌, length, map, slice_set, slice_index_or, Option, None, Some, is_some, if◌then◌else◌}

@@ -1,4 +1,4 @@
--- A thin text is read, as its program.
+-- The records of contents that keep the rules are read up to their end.
 use Rattle.std.proofs.Common.{◌≡◌, ◌⊎◌, inl, inr, ℕ, ◌≤◌, Bool, true, false, cond, List, [], ◌∷◌, ◌++◌, map, length, Option, None, Some, refl, sym, ap, ◌∙◌, subst}
 use Rattle.std.specs.Prelude.{if◌then◌else◌, ◌&&◌, nat_eq}
 use Rattle.std.specs.Str.{bytes_eq}
@@ -18,7 +18,7 @@ use Rattle.cip_reading.specs.Reading.Values.{with_value, value_rule, before_valu
 use Rattle.cip_reading.specs.Reading.Contents.{said, facts_of, said_with, said_with_two, line_with, line_with_two, rules_keep, rules_count, program_is}
 use Rattle.cip_reading.specs.Reading.Lines.{entry_line_takes, entry_line_takes_two, LimitsKeep, limits_reading, limit_line_takes, limit_line_takes_two, BoundsKeep, bounds_reading, bound_line_takes, before_entry, before_limit_line, before_bound_line}
 use Rattle.cip_reading.specs.Reading.Progress.{Names, objective_records, marker_record, bounds_state, end_state}
-use Rattle.cip_reading.specs.Reading.Sound.{record_step, records_taken, records_end, lines_records, read}
+use Rattle.cip_reading.specs.Reading.Sound.{record_step, records_taken, records_end}
 
 -- ---- up to the rows
 
@@ -197,10 +197,3 @@ records_run c rest rules =
     ∙ heading_taken c.title c.objective (map row_record c.rows ++ from_columns c rest) ((row_name_decides c.objective).1 (rules.rows_plain.0, rules.short_row_names.0))
     ∙ rows_taken c.objective [] c.rows (from_columns c rest) (keep_rows (facts_of c) (rules_keep c rules))
     ∙ columns_run c rest rules
-
--- ---- texts
-
-pub thin_read : (text : List ℕ) (program : Program) → IsThin text program → read text ≡ Some program
-thin_read text program h =
-    ap (λ o. bind o outcome) (lines_records (Some start) (lines text) ∙ ap (records_taken (Some start)) h.are_records ∙ records_run h.contents h.rest h.rules)
-    ∙ ap Some (program_is Done None h.contents h.rules ∙ sym h.is_program)

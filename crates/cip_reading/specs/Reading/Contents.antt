@@ -190,7 +190,7 @@ rules_count c rules =
 
 -- ---- the program
 
-terms_are : (c : Contents) (at : ℕ) (columns : List (List ℕ)) (row : List ℕ) → terms_of (coefficients c) at columns row ≡ terms_from c at columns row
+pub terms_are : (c : Contents) (at : ℕ) (columns : List (List ℕ)) (row : List ℕ) → terms_of (coefficients c) at columns row ≡ terms_from c at columns row
 terms_are c at [] row = refl
 terms_are c at (column ∷ columns) row = ap (with_term at (coefficient c column row)) (terms_are c (at + 1) columns row)
 

@@ -123,21 +123,3 @@ thin_step p first others program g s h f = go (ended_or_taken p first) s
 pub thin_from : (p : Progress) (rs : List Record) (program : Program) → IsGood p → bind (records_taken (Some (state_at p)) rs) outcome ≡ Some program → AreThin (records_at p) rs program
 thin_from p [] program g h = not_end p program g h
 thin_from p (first ∷ others) program g h = thin_step p first others program g (step p first g) h (λ next good k. thin_from next others program good k)
-
--- ---- texts
-
--- the program that is read of a text
-abbrev pub read : List ℕ → Option Program
-read text = bind (lines_taken (Some start) (lines text)) outcome
-
-pub read_thin : (text : List ℕ) (program : Program) → read text ≡ Some program → length text ≤ 67108864 → IsThin text program
-read_thin text program h short =
-    let t = thin_from AtName (records text) program tt (ap (λ o. bind o outcome) (sym (lines_records (Some start) (lines text))) ∙ h) in
-    record {
-      contents = t.contents;
-      rest = t.rest;
-      short = short;
-      are_records = t.are_records;
-      rules = t.rules;
-      is_program = t.is_program;
-    }
