@@ -253,6 +253,18 @@ with_last_distinct (a ∷ b ∷ names) name h = (λ m. h.0 (with_last_keeps (b �
 pub with_last_all : (P : List ℕ → Type 0) (names : List (List ℕ)) (name : List ℕ) → AllByRecursion P (with_last names name) → AllByRecursion P names
 with_last_all P names name h = all_from_in P names (λ other m. all_in P other (with_last names name) (with_last_keeps names name other m) h)
 
+pub with_last_push_all : (P : List ℕ → Type 0) (names : List (List ℕ)) (name : List ℕ) → AllByRecursion P names → P name → AllByRecursion P (with_last names name)
+with_last_push_all P [] name h k = (k, tt)
+with_last_push_all P (a ∷ []) name h k = go (bytes_eq a name)
+  where
+    go : (b : Bool) → AllByRecursion P (cond b (a ∷ []) (a ∷ name ∷ []))
+    go true = h
+    go false = (h.0, (k, tt))
+with_last_push_all P (a ∷ b ∷ names) name h k = (h.0, with_last_push_all P (b ∷ names) name h.1 k)
+
+pub last_in : (names : List (List ℕ)) (name : List ℕ) → IsLast names name → IsIn name names
+last_in names name l = subst (IsIn name) (sym l.split) (IsIn-push name l.before)
+
 pub with_last_length : (names : List (List ℕ)) (name : List ℕ) → length names ≤ length (with_last names name)
 with_last_length [] name = omega arith
 with_last_length (a ∷ []) name = go (bytes_eq a name)
