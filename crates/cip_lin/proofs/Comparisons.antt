@@ -1,7 +1,7 @@
 -- What the comparisons of fractions answer, as the tests of rational numbers.
-use Rattle.std.proofs.Common.{◌≡◌, Bool, true, false, cond, ◌&&◌, refl, sym, ◌∙◌, ap, is_le, is_lt, is_eq, Less, Equal, Greater}
+use Rattle.std.proofs.Common.{◌≡◌, Bool, true, false, cond, ◌&&◌, refl, sym, is_le, is_eq, Less, Equal, Greater}
 use Rattle.std.specs.Ordering.{eq_by_cmp}
-use Rattle.cip_rational.specs.Rational.{ℚ, compare_rational, le_test, lt_test, zeroℚ}
+use Rattle.cip_rational.specs.Rational.{ℚ, compare_rational, le_test, lt_test}
 use Rattle.cip_rational.specs.Rational.Order.{≤ℚ_of_lt, lt_of_test, test_of_le, le_test_of_lt, le_of_lt_test}
 
 le_cases : (a b : ℚ) (s t : Bool) → lt_test a b ≡ s → lt_test b a ≡ t → is_le (cond s Less (cond t Greater Equal)) ≡ le_test a b

@@ -1,4 +1,6 @@
--- Sums of products in the order in which they are formed, and the first operation that overflows.
+-- Sums of products in the order in which they are formed, and the first operation that overflows. The module below has
+-- the laws.
+pub mod Laws
 use Rattle.std.specs.Prelude.{ℕ, List, [], ◌∷◌, Option, None, Some, Result, Ok, Err, if◌then◌else◌}
 use Rattle.cip_rational.specs.Rational.{ℚ, ◌+ℚ◌, ◌*ℚ◌, zeroℚ, lt_test}
 use Rattle.cip_rational.specs.Range.{sum_overflows, product_overflows}

@@ -2,6 +2,7 @@ pub mod CanCheck
 pub mod Inside
 pub mod Keys
 pub mod Least
+pub mod Meaning
 pub mod Names
 pub mod Programs
 pub mod Verdicts

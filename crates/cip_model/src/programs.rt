@@ -1,9 +1,11 @@
 //! Programs with linear rows, and the test of a point against one.
 ghost use Rattle.std.specs.Prelude.{◌≡◌, length};
+ghost use Rattle.cip_problem.specs.BoxBound.{box_bound};
 ghost use Rattle.cip_problem.specs.WellFormed.{IsWellFormed, columns};
 ghost use Rattle.cip_model.specs.Programs.{is_maximize, program_of};
 ghost use Rattle.cip_model.specs.Verdicts.{verdict_of};
 ghost use Rattle.cip_model.specs.Least.{least_cost_from};
+ghost use Rattle.cip_model.specs.Meaning.{VerdictHolds, BoundHolds};
 
 use crate::checks::{broken_row, cost, least_cost, not_whole, outside};
 use crate::names::Names;
@@ -118,7 +120,8 @@ impl Program {
     /// column, whole columns, rows in order, the cost.
     pub fn check(&self, point: &[Frac]) -> Verdict
         requires { length point.now ≡ columns self.now }
-        ensures { result ≡ verdict_of self.now point.now }
+        ensures verdict { result ≡ verdict_of self.now point.now }
+        ensures meaning { VerdictHolds self.now point.now result }
     {
         if let Some(col) = outside(self.parts.bounds.as_slice(), point) {
             return Verdict::BreaksBound { col };
@@ -138,7 +141,8 @@ impl Program {
     /// The constant and the least cost of each column in a box, by rising column.
     pub fn box_bound(&self, bounds: &Bounds) -> Least
         requires { length bounds.now ≡ columns self.now }
-        ensures { result ≡ least_cost_from self.now.constant self.now.costs bounds.now }
+        ensures steps { result ≡ least_cost_from self.now.constant self.now.costs bounds.now }
+        ensures meaning { BoundHolds (box_bound self.now bounds.now) result }
     {
         least_cost(
             self.parts.constant,

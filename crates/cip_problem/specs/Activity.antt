@@ -1,7 +1,7 @@
 -- The activity of a row at a point, and its least activity in a box.
-use Rattle.std.specs.Prelude.{ℕ, ◌<◌, Bool, true, false, List, [], ◌∷◌, Option, None, Some, slice_index_or, if◌then◌else◌, All, length}
-use Rattle.cip_rational.specs.Rational.{ℚ, ◌+ℚ◌, ◌*ℚ◌, ◌≤ℚ◌, zeroℚ}
-use Rattle.cip_problem.specs.Program.{Term, Sides, Row}
+use Rattle.std.specs.Prelude.{ℕ, ◌<◌, List, [], ◌∷◌, slice_index_or, All}
+use Rattle.cip_rational.specs.Rational.{ℚ, ◌+ℚ◌, ◌*ℚ◌, zeroℚ}
+use Rattle.cip_problem.specs.Program.{Term}
 
 -- the value of a column at a point: a list of one value for each column
 abbrev pub value_at : List ℚ → ℕ → ℚ

@@ -1,5 +1,6 @@
--- Boxes: the low and the high side of each column.
-use Rattle.std.specs.Prelude.{ℕ, Bool, true, false, ◌&&◌, List, [], ◌∷◌, Option, None, Some, IfSome, slice_index_or, int_lt}
+-- Boxes: the low and the high side of each column. The module below has the laws.
+pub mod Laws
+use Rattle.std.specs.Prelude.{◌≡◌, ℕ, Bool, true, false, ◌&&◌, List, [], ◌∷◌, Option, None, Some, IfSome, slice_index_or, int_lt}
 use Rattle.std.specs.List.{AllZip}
 use Rattle.cip_rational.specs.Rational.{ℚ, ◌≤ℚ◌, le_test, floor, ceil}
 use Rattle.cip_problem.specs.Program.{Sides}
@@ -8,6 +9,12 @@ use Rattle.cip_problem.specs.Program.{Sides}
 pub record Between (low high : Option ℚ) (value : ℚ) : Type 0 where
   pub above : IfSome low (λ side. side ≤ℚ value)
   pub below : IfSome high (λ side. value ≤ℚ side)
+
+-- one value lies between the sides, and no other
+pub record HasOneValue (low high : Option ℚ) : Type 0 where
+  pub value : ℚ
+  pub between : Between low high value
+  pub only : (other : ℚ) → Between low high other → other ≡ value
 
 -- no side at all
 abbrev pub no_sides : Sides

@@ -2,9 +2,11 @@ pub mod Activity
 pub mod Box
 pub mod BoxBound
 pub mod Codes
+pub mod Examples
 pub mod Log
 pub mod Points
 pub mod Program
+pub mod Statements
 pub mod Terms
 pub mod WellFormed
 pub mod Wholes

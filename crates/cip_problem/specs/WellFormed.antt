@@ -1,7 +1,7 @@
 -- What ties the lists of a program together.
-use Rattle.std.specs.Prelude.{◌≡◌, ℕ, ◌≤◌, Bool, List, [], length, All}
-use Rattle.cip_rational.specs.Rational.{ℚ, zeroℚ}
-use Rattle.cip_problem.specs.Program.{Row, Program}
+use Rattle.std.specs.Prelude.{◌≡◌, ℕ, ◌≤◌, Bool, [], length, All}
+use Rattle.cip_rational.specs.Rational.{zeroℚ}
+use Rattle.cip_problem.specs.Program.{Program}
 use Rattle.cip_problem.specs.Activity.{StandsBelow}
 
 -- how many columns a program has

@@ -1,5 +1,7 @@
 -- How many whole assignments a box has: choices of one whole value between the sides for each whole column.
-use Rattle.std.specs.Prelude.{◌≡◌, ℕ, zero, suc, ◌+◌, ◌*◌, ◌≤◌, ℤ, pos, negsuc, ◌+ℤ◌, ◌-ℤ◌, Bool, true, false, List, [], ◌∷◌, Option, None, Some, ⊤}
+-- The module below has the laws.
+pub mod Laws
+use Rattle.std.specs.Prelude.{◌≡◌, ◌≢◌, ℕ, zero, suc, ◌+◌, ◌*◌, ◌≤◌, ℤ, pos, negsuc, ◌+ℤ◌, ◌-ℤ◌, Bool, true, false, List, [], ◌∷◌, Option, None, Some, ⊤}
 use Rattle.std.specs.List.{AllZip}
 use Rattle.cip_rational.specs.Rational.{ℚ, integer, IsWhole, floor, ceil}
 use Rattle.cip_problem.specs.Program.{Sides}
@@ -48,6 +50,14 @@ AtMost (Some m) (Some n) = m ≤ n
 pub record HasWhole (sides : Sides) : Type 0 where
   pub number : ℤ
   pub between : Between sides.low sides.high (integer number)
+
+-- two different whole numbers lie between two sides
+pub record HasTwoWholes (low high : Option ℚ) : Type 0 where
+  pub first : ℤ
+  pub second : ℤ
+  pub apart : first ≢ second
+  pub first_between : Between low high (integer first)
+  pub second_between : Between low high (integer second)
 
 -- each whole column of a box has a whole value
 abbrev pub AllHaveWholes : List Bool → List Sides → Type 0

@@ -1,6 +1,4 @@
-use Rattle.std.proofs.Common.{IfOk}
-use Rattle.cip_problem.specs.Activity.{activity}
-use Rattle.cip_lin.proofs.Sums.{activity_from-zero}
+use Rattle.cip_lin.specs.Sums.Laws.{activity_from-zero}
 use Rattle.cip_lin.proofs.rows.Row.activity.Goals as goal
 
 pub returns-clause-value : goal.returns-clause-value

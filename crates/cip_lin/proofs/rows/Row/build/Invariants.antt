@@ -1,5 +1,4 @@
 use Rattle.std.proofs.Common.{◌≡◌, take}
-use Rattle.cip_problem.specs.Program as problem
 use Rattle.cip_problem.specs.Terms.{AreTermsTo}
 use Rattle.cip_lin.proofs.rows.Row.build.Given as goal
 

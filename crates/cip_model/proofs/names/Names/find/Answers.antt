@@ -1,6 +1,5 @@
-use Rattle.std.proofs.Common.{◌∙◌, ap, sym}
+use Rattle.std.proofs.Common.{◌∙◌}
 use Rattle.std.specs.Str.{bytes_eq}
-use Rattle.cip_model.specs.Names.{number_of}
 use Rattle.cip_model.proofs.Numbers.{position-map}
 use Rattle.cip_model.proofs.names.Names.find.Goals as goal
 

@@ -1,0 +1,5 @@
+use Rattle.cip_problem.specs.BoxBound.Laws.{box_bound_holds, root_bound_holds}
+use Rattle.cip_problem.proofs.box_bound_holds.Goals as goal
+
+pub returns : goal.returns
+returns c = record { in_box = box_bound_holds; feasible = root_bound_holds }
