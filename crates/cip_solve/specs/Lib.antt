@@ -1,2 +1,4 @@
+pub mod Boxes
 pub mod Logs
 pub mod Right
+pub mod Splits
