@@ -1,2 +1,4 @@
 pub mod Places
 pub mod Ranges
+pub mod OneMore
+pub mod Steps

@@ -1,4 +1,5 @@
 pub mod Boxes
 pub mod Logs
 pub mod Right
+pub mod Searching
 pub mod Splits
