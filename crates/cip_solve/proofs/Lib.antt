@@ -1,4 +1,9 @@
+pub mod Comparisons
+pub mod Ends
+pub mod Leaves
+pub mod Offers
+pub mod OneMore
 pub mod Places
 pub mod Ranges
-pub mod OneMore
 pub mod Steps
+pub mod Taken

@@ -5,6 +5,7 @@ mod boxes;
 mod logs;
 mod search;
 mod splits;
+mod stack;
 
 pub use logs::{End, Log, Logged};
 pub use search::{root_bound, solve};
