@@ -1,8 +1,7 @@
 -- What `<=` and `<` of fractions answer.
-use Rattle.std.proofs.Common.{◌≡◌, ◌∙◌, Bool, true, false, cond, not, refl, sym, ap, is_le, is_lt, Less, Equal, Greater, Some}
-use Rattle.cip_rational.specs.Rational.{ℚ, ◌≤ℚ◌, ◌<ℚ◌, compare_rational, le_test, lt_test}
-use Rattle.cip_rational.specs.Rational.Order.{≤ℚ_of_lt, lt_of_test, test_of_lt, test_of_le, le_test_of_lt, le_of_lt_test, lt_test_of_le}
-use Rattle.cip_problem.specs.Log.{matters}
+use Rattle.std.proofs.Common.{◌≡◌, Bool, true, false, cond, not, refl, sym, is_le, is_lt, Less, Equal, Greater}
+use Rattle.cip_rational.specs.Rational.{ℚ, compare_rational, lt_test}
+use Rattle.cip_rational.specs.Rational.Order.{≤ℚ_of_lt, lt_of_test, lt_test_of_le}
 
 le_cases : (a b : ℚ) (s t : Bool) → lt_test a b ≡ s → lt_test b a ≡ t → is_le (cond s Less (cond t Greater Equal)) ≡ not (lt_test b a)
 le_cases a b true t h k = rw (lt_test_of_le (≤ℚ_of_lt (lt_of_test h))) refl

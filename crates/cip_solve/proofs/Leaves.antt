@@ -1,17 +1,17 @@
 -- Boxes whose columns have whole sides: their points, corners and splits.
-use Rattle.std.proofs.Common.{◌≡◌, ℕ, zero, suc, ◌+◌, ◌<◌, ◌≤◌, ℤ, Bool, true, false, List, [], ◌∷◌, map, length, slice_index_or, slice_set, slice_get, Option, None, Some, IfSome, All, refl, sym, ap, ◌∙◌, subst, arith, zero-lt-suc, unwrap_or}
-use Rattle.std.proofs.lemmas.List.Elements.{All-head, All-tail, All-set, All-get_or}
+use Rattle.std.proofs.Common.{◌≡◌, ℕ, zero, suc, ◌<◌, Bool, true, List, [], ◌∷◌, length, slice_set, slice_get, Option, Some, IfSome, All, refl, sym, ap, ◌∙◌, subst, arith}
+use Rattle.std.proofs.lemmas.List.Elements.{All-head, All-tail, All-set}
 use Rattle.std.proofs.lemmas.Option.{slice_get-get_or}
-use Rattle.cip_rational.specs.Rational.{ℚ, integer, ◌≤ℚ◌, IsWhole, zeroℚ}
+use Rattle.cip_rational.specs.Rational.{ℚ, integer, ◌≤ℚ◌, IsWhole}
 use Rattle.cip_rational.specs.Rational.Order.{≤ℚ_refl, ≤ℚ_antisymm}
 use Rattle.cip_rational.specs.Rational.Whole.{IsWhole-integer}
 use Rattle.cip_rational.specs.Rational.Rounding.{integer_le}
 use Rattle.cip_problem.specs.Program.{Sides}
-use Rattle.cip_problem.specs.Box.{Between, IsInBox, sides_at, no_sides}
+use Rattle.cip_problem.specs.Box.{Between, IsInBox, sides_at}
 use Rattle.cip_problem.specs.Points.{AreWhole}
 use Rattle.cip_problem.specs.Wholes.{HasWhole, AllHaveWholes}
 use Rattle.cip_problem.specs.Log.{low_half, high_half, CanSplit}
-use Rattle.cip_solve.specs.Boxes.{has_two, AllSettled, low_value, low_corner}
+use Rattle.cip_solve.specs.Boxes.{AllSettled, low_value, low_corner}
 use Rattle.cip_solve.specs.Splits.{IsWholeRange}
 use Rattle.cip_solve.specs.Splits.Halved.{AreHalves}
 use Rattle.cip_solve.specs.declared.splits.Halves.{Halves}

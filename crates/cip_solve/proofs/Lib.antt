@@ -1,3 +1,4 @@
+pub mod Answered
 pub mod Comparisons
 pub mod Ends
 pub mod Leaves

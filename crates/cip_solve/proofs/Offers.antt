@@ -1,7 +1,6 @@
 -- What the verdict on a point says of it.
-use Rattle.std.proofs.Common.{◌≡◌, ◌≢◌, ℕ, List, length, refl, sym, ◌∙◌, subst, arith}
-use Rattle.cip_rational.specs.Rational.{ℚ, ◌≤ℚ◌}
-use Rattle.cip_rational.specs.Rational.Order.{≤ℚ_of_eq, ≤ℚ_trans}
+use Rattle.std.proofs.Common.{◌≡◌, ◌≢◌, List, length, refl, sym, ◌∙◌, subst}
+use Rattle.cip_rational.specs.Rational.{ℚ}
 use Rattle.cip_problem.specs.Program.{Program}
 use Rattle.cip_problem.specs.WellFormed.{IsWellFormed, columns}
 use Rattle.cip_problem.specs.Points.{IsFeasible, cost_of}
@@ -10,8 +9,6 @@ use Rattle.cip_model.specs.Meaning.{VerdictHolds}
 use Rattle.cip_model.specs.declared.verdicts.Place.{Place}
 use Rattle.cip_model.specs.declared.verdicts.Verdict.{Verdict}
 use Rattle.cip_model.specs.declared.verdicts.Verdict.TheVariants.{Feasible, BreaksBound, BreaksWhole, BreaksRow, Wide}
-use Rattle.cip_report.specs.declared.figures.Held.{Held}
-use Rattle.cip_solve.specs.Right.{IsHeld}
 
 -- a feasible point has as many values as there are columns
 pub feasible_long : (program : Program) (point : List ℚ) → IsWellFormed program → IsFeasible program point → length point ≡ columns program

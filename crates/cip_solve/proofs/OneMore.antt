@@ -1,12 +1,10 @@
 -- A log with one more entry, and lists with one more element.
-use Rattle.std.proofs.Common.{◌≡◌, ◌≢◌, ◌⊎◌, inl, inr, ℕ, zero, suc, ◌<◌, ◌==◌, Bool, true, false, cond, List, [], ◌∷◌, ◌++◌, map, length, slice_index_or, Option, None, Some, All, Contains, refl, sym, ap, ◌∙◌, subst, arith, append_assoc}
-use Rattle.std.proofs.lemmas.List.{map-append, append-nil}
+use Rattle.std.proofs.Common.{◌≡◌, ◌≢◌, ◌⊎◌, inl, inr, ℕ, zero, suc, ◌==◌, Bool, true, false, cond, List, [], ◌∷◌, ◌++◌, map, Option, None, Some, All, Contains, refl, sym, ap, ◌∙◌, subst, arith}
+use Rattle.std.proofs.lemmas.List.{map-append}
 use Rattle.std.proofs.lemmas.List.Elements.{All-nil, All-cons, All-head, All-tail, All-pop, All-push, Contains-append_right, Contains-append_left, Contains-push_cases}
 use Rattle.std.proofs.lemmas.Bool.Decides.{eqb_tells}
 use Rattle.std.proofs.lemmas.Option.{none-some, same_Some}
-use Rattle.cip_rational.specs.Rational.{ℚ}
-use Rattle.cip_problem.specs.Program.{Program}
-use Rattle.cip_problem.specs.Log.{Entry, Node, node_of, nodes_of, given_after, IsRightEnd, CanFollow, AllFollow}
+use Rattle.cip_problem.specs.Log.{Entry, Node, node_of, nodes_of, given_after, IsRightEnd, AllFollow}
 use Rattle.cip_solve.specs.Searching.{Pairwise}
 
 -- ---- lists
@@ -100,17 +98,16 @@ given_more given (x ∷ log) entry = given_more (given ++ nodes_of given x) log 
 -- an entry can follow a log whose nodes are taken, if its node was given and is none of them
 pub follow_more : (integral : List Bool) (given : List Node) (taken : List ℕ) (log : List Entry) (entry : Entry) (node : Node) → AllFollow integral given taken log → node_of (given_after given log) entry.node ≡ Some node → ¬ Contains taken entry.node → ¬ Contains (map (λ e. e.node) log) entry.node → IsRightEnd integral (given_after given log) node entry.end → AllFollow integral given taken (log ++ entry ∷ [])
 follow_more integral given taken [] entry node h g t m r = (record { node = node; given_before = g; once = t; right = r }, tt)
-follow_more integral given taken (x ∷ log) entry node h g t m r =
-    (
-      h.0,
-      follow_more integral (given ++ nodes_of given x) (x.node ∷ taken) log entry node h.1 g
+follow_more integral given taken (x ∷ log) entry node h g t m r = (
+  h.0,
+  follow_more integral (given ++ nodes_of given x) (x.node ∷ taken) log entry node h.1 g
       (λ k. elim (contains_cons x.node entry.node taken k) [
         | inl e ↦ absurd (m (subst (Contains (x.node ∷ map (λ e. e.node) log)) e (contains_here x.node (map (λ e. e.node) log))))
         | inr l ↦ absurd (t l)
       ])
       (λ k. m (contains_later x.node entry.node (map (λ e. e.node) log) k))
-      r
-    )
+      r,
+)
 
 -- the numbers taken, with one more entry
 pub taken_more : (log : List Entry) (entry : Entry) (number : ℕ) → Contains (map (λ e. e.node) (log ++ entry ∷ [])) number → Contains (map (λ e. e.node) log) number ⊎ (entry.node ≡ number)
@@ -131,10 +128,9 @@ given_kept given (x ∷ log) number node h = given_kept (given ++ nodes_of given
 pub taken_given : (integral : List Bool) (given : List Node) (taken : List ℕ) (log : List Entry) (number : ℕ) → AllFollow integral given taken log → Contains (map (λ e. e.node) log) number → (node : Node) × (node_of (given_after given log) number ≡ Some node)
 taken_given integral given taken [] number h k = absurd (omega (arith, k.1))
 taken_given integral given taken (x ∷ log) number h k = elim (contains_cons x.node number (map (λ e. e.node) log) k) [
-  | inl e ↦
-      (
-        h.0.node,
-        given_kept (given ++ nodes_of given x) log number h.0.node (node_of_kept given (nodes_of given x) number h.0.node (subst (λ t. node_of given t ≡ Some h.0.node) e h.0.given_before)),
-      )
+  | inl e ↦ (
+    h.0.node,
+    given_kept (given ++ nodes_of given x) log number h.0.node (node_of_kept given (nodes_of given x) number h.0.node (subst (λ t. node_of given t ≡ Some h.0.node) e h.0.given_before)),
+  )
   | inr l ↦ taken_given integral (given ++ nodes_of given x) (x.node ∷ taken) log number h.1 l
 ]

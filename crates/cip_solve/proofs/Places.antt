@@ -1,9 +1,8 @@
 -- A box that is changed at one column after another.
-use Rattle.std.proofs.Common.{◌≡◌, ℕ, zero, suc, ◌+◌, ◌-◌, ◌<◌, ◌≤◌, Bool, true, false, List, [], ◌∷◌, length, take, drop, slice_set, slice_index_or, refl, sym, ap, ◌∙◌, subst, arith}
-use Rattle.cip_rational.specs.Rational.{ℚ}
+use Rattle.std.proofs.Common.{◌≡◌, ℕ, zero, suc, ◌-◌, ◌<◌, ◌≤◌, List, [], ◌∷◌, length, slice_set, refl, sym, ap, subst, arith}
 use Rattle.cip_problem.specs.Program.{Sides}
-use Rattle.cip_problem.specs.Box.{sides_at, no_sides}
-use Rattle.cip_solve.specs.Boxes.{changed_box, KeptPast, low_value, low_corner}
+use Rattle.cip_problem.specs.Box.{sides_at}
+use Rattle.cip_solve.specs.Boxes.{changed_box, KeptPast}
 
 -- ---- what is kept past a column
 

@@ -1,9 +1,9 @@
 -- Sides that are whole numbers, and their halves.
-use borrow.Author.Differences.{sum_is_lem, at_most_in, le_out, same_in, lt-true, lt-false}
-use Rattle.std.proofs.Common.{◌≡◌, ◌≤◌, ℤ, pos, ◌+ℤ◌, ◌≤ℤ◌, Bool, true, false, int_lt, Option, Some, refl, sym, ap, ◌∙◌, subst, arith}
+use borrow.Author.Differences.{le_out, same_in, lt-true, lt-false}
+use Rattle.std.proofs.Common.{◌≡◌, ℤ, pos, ◌+ℤ◌, ◌≤ℤ◌, true, false, int_lt, Some, refl, sym, ap, ◌∙◌, subst, arith}
 use Rattle.std.specs.Prelude.{◌<ℤ◌}
 use Rattle.std.proofs.lemmas.Int.{ints}
-use Rattle.cip_rational.specs.Rational.{ℚ, integer, numerator, floor, ceil}
+use Rattle.cip_rational.specs.Rational.{integer, numerator, floor}
 use Rattle.cip_rational.specs.Rational.Whole.{whole_is, IsWhole-integer}
 use Rattle.cip_rational.specs.Rational.Rounding.{floor-integer, ceil-integer}
 use Rattle.cip_problem.specs.Program.{Sides}

@@ -1,19 +1,18 @@
 -- The steps of a search: its start, a node closed, a node split, and the nodes let go.
-use Rattle.std.proofs.Common.{◌≡◌, ◌≢◌, ◌⊎◌, inl, inr, ℕ, ◌+◌, ◌<◌, ◌≤◌, ℤ, Bool, true, false, List, [], ◌∷◌, ◌++◌, map, length, slice_index_or, Option, None, Some, All, Contains, refl, sym, ap, ◌∙◌, subst, arith}
+use Rattle.std.proofs.Common.{◌≡◌, ◌≢◌, ◌⊎◌, inl, inr, ℕ, ◌+◌, ◌<◌, ◌≤◌, ℤ, true, List, [], ◌∷◌, ◌++◌, map, length, slice_index_or, Option, None, Some, All, Contains, refl, sym, ap, ◌∙◌, subst, arith}
 use Rattle.std.proofs.lemmas.List.{append-nil}
-use Rattle.std.proofs.lemmas.List.Elements.{All-nil, All-cons, All-push, All-contains, Contains-append_right, Contains-append_left, Contains-push, Contains-push_cases}
+use Rattle.std.proofs.lemmas.List.Elements.{All-push, Contains-append_left, Contains-push, Contains-push_cases}
 use Rattle.std.proofs.lemmas.Option.{none-some, same_Some}
-use Rattle.cip_rational.specs.Rational.{ℚ, ◌≤ℚ◌, ◌<ℚ◌}
-use Rattle.cip_rational.specs.Rational.Order.{≤ℚ_refl, <ℚ_of_lt_of_le, <ℚ_of_le_of_lt, not_le_of_lt, lt_of_test, test_of_lt}
-use Rattle.cip_problem.specs.Program.{Sides, Program}
+use Rattle.cip_rational.specs.Rational.{ℚ, ◌≤ℚ◌}
+use Rattle.cip_rational.specs.Rational.Order.{<ℚ_of_lt_of_le, not_le_of_lt, lt_of_test, test_of_lt}
+use Rattle.cip_problem.specs.Program.{Program}
 use Rattle.cip_problem.specs.Box.{IsInBox}
-use Rattle.cip_problem.specs.BoxBound.{box_bound}
 use Rattle.cip_problem.specs.Points.{IsFeasible, cost_of}
-use Rattle.cip_problem.specs.Log.{End, Split, Closed, Entry, Node, root, node_of, halves, nodes_of, low_half, high_half, CanSplit, IsRightEnd, IsLog, IsOpen, matters}
+use Rattle.cip_problem.specs.Log.{Split, Closed, Entry, Node, root, node_of, halves, nodes_of, low_half, high_half, CanSplit, IsLog, IsOpen, matters}
 use Rattle.cip_problem.specs.Log.Halves.{halves_cover, low_half_within, high_half_within}
 use Rattle.cip_solve.specs.Splits.{IsWholeRange}
-use Rattle.cip_solve.specs.Searching.{Pairwise, given_by, IsInOne, IsInner, Searching}
-use Rattle.cip_solve.proofs.OneMore.{pop_all, pairwise_pop, pairwise_push, contains_cons, contains_here, contains_later, none_or_some, node_of_kept, node_of_new, node_of_here, node_of_later, node_of_among, given_more, follow_more, taken_more, taken_before, taken_last, taken_given}
+use Rattle.cip_solve.specs.Searching.{given_by, IsInOne, IsInner, Searching}
+use Rattle.cip_solve.proofs.OneMore.{pop_all, pairwise_pop, pairwise_push, contains_cons, none_or_some, node_of_kept, node_of_new, node_of_here, node_of_later, node_of_among, given_more, follow_more, taken_more, taken_before, taken_last, taken_given}
 
 -- ---- points in one of the nodes
 
@@ -65,7 +64,7 @@ open_apart program log entry node h e = h.not_taken (subst (Contains (map (λ x.
 pub open_before : (program : Program) (log : List Entry) (entry : Entry) (node : Node) → IsOpen program (log ++ entry ∷ []) node → IsOpen program log node ⊎ (node_of (nodes_of (given_by program log) entry) node.number ≡ Some node)
 open_before program log entry node h =
     let g : node_of (given_by program log ++ nodes_of (given_by program log) entry) node.number ≡ Some node =
-        subst (λ t. node_of t node.number ≡ Some node) (given_next program log entry) h.given in
+    subst (λ t. node_of t node.number ≡ Some node) (given_next program log entry) h.given in
     elim (none_or_some (node_of (given_by program log) node.number)) [
       | inl none ↦ inr (sym (node_of_new (given_by program log) (nodes_of (given_by program log) entry) node.number none) ∙ g)
       | inr (other, is) ↦
@@ -218,8 +217,7 @@ halves_open program log bound cost ids nodes top column at h opened =
     let low = low_node top bound column at ids in
     let high = high_node top bound column at ids in
     let same = given_split program log top bound column at ids opened.given in
-    let free = untaken program log ids (split_entry top bound column at ids) top h.logged h.fresh opened refl in
-    (
+    let free = untaken program log ids (split_entry top bound column at ids) top h.logged h.fresh opened refl in (
       record {
         given =
             ap (λ t. node_of t ids) same
@@ -249,7 +247,7 @@ split_step program log bound cost ids nodes top column at h can low_ranges high_
     let same = given_split program log top bound column at ids opened.1.given in
     let opens = halves_open program log bound cost ids nodes top column at h opened.1 in
     let below : (k : ℕ) (d : Node) → k < length nodes → (later : ℕ) → ids ≤ later → (slice_index_or nodes k d).number ≢ later =
-        λ k d l later le. below_ids program log bound cost ids nodes _ h.fresh (opened.0 k d l) later le in
+    λ k d l later le. below_ids program log bound cost ids nodes _ h.fresh (opened.0 k d l) later le in
     record {
       logged = follow_more program.integral (root program ∷ []) [] log entry top h.logged opened.1.given (λ k. absurd (omega (arith, k.1))) opened.1.not_taken (can, h.fresh ids (omega arith), h.fresh (ids + 1) (omega arith), λ e. omega (arith, e));
       are_open = All-push (IsOpen program (log ++ entry ∷ [])) (nodes ++ high ∷ []) low (All-push (IsOpen program (log ++ entry ∷ [])) nodes high (others_open program log entry nodes top refl opened.0 others.1) opens.1) opens.0;

@@ -1,5 +1,5 @@
 -- A node is taken: its box is entered, and it is split or closed.
-use Rattle.std.proofs.Common.{◌≡◌, ◌≢◌, ◌⊎◌, inl, inr, ℕ, zero, suc, ◌+◌, ◌*◌, ◌<◌, ◌≤◌, ℤ, Bool, true, false, not, List, [], ◌∷◌, ◌++◌, map, length, Option, None, Some, All, refl, sym, ap, ◌∙◌, subst, arith, length-append}
+use Rattle.std.proofs.Common.{◌≡◌, ◌≢◌, ◌⊎◌, inl, inr, ℕ, zero, suc, ◌+◌, ◌<◌, ◌≤◌, Bool, true, false, not, List, [], ◌∷◌, ◌++◌, length, Option, Some, All, refl, sym, ap, ◌∙◌, subst, arith, length-append}
 use Rattle.std.proofs.lemmas.List.{map-append}
 use Rattle.std.proofs.lemmas.List.Elements.{All-nil, All-head, All-tail, All-push}
 use Rattle.cip_rational.specs.Rational.{ℚ, ◌≤ℚ◌}
@@ -7,16 +7,15 @@ use Rattle.cip_problem.specs.Program.{Sides, Program}
 use Rattle.cip_problem.specs.WellFormed.{IsWellFormed, columns}
 use Rattle.cip_problem.specs.Box.{IsInBox, sides_at}
 use Rattle.cip_problem.specs.Points.{IsFeasible, cost_of}
-use Rattle.cip_problem.specs.Log.{Split, Closed, Entry, Node, matters}
+use Rattle.cip_problem.specs.Log.{Split, Closed, Entry, matters}
 use Rattle.cip_model.specs.CanCheck.{CanCheck}
 use Rattle.cip_model.specs.Verdicts.{verdict_of}
 use Rattle.cip_model.specs.declared.verdicts.Place.{Place}
 use Rattle.cip_model.specs.declared.verdicts.Verdict.TheVariants.{Wide}
 use Rattle.cip_report.specs.declared.figures.Held.{Held}
-use Rattle.cip_solve.specs.Boxes.{changed_box, KeptPast, has_two, AllSettled, IsFirstOpen, low_corner}
-use Rattle.cip_solve.specs.Splits.{IsWholeRange}
+use Rattle.cip_solve.specs.Boxes.{changed_box, AllSettled, IsFirstOpen, low_corner}
 use Rattle.cip_solve.specs.Splits.Halved.{AreHalves}
-use Rattle.cip_solve.specs.Searching.{Pairwise, IsInner, Searching}
+use Rattle.cip_solve.specs.Searching.{IsInner, Searching}
 use Rattle.cip_solve.specs.Stacked.{node_at, nodes_at, Stacked}
 use Rattle.cip_solve.specs.Kept.{Kept}
 use Rattle.cip_solve.specs.Right.{IsHeld}
@@ -24,7 +23,7 @@ use Rattle.cip_solve.specs.declared.stack.OpenNode.{OpenNode}
 use Rattle.cip_solve.specs.declared.splits.Halves.{Halves}
 use Rattle.cip_solve.proofs.OneMore.{pop_all, pairwise_pop, pairwise_push}
 use Rattle.cip_solve.proofs.Places.{kept_long, kept_further, changed_set, changed_kept, changed_again, changed_before}
-use Rattle.cip_solve.proofs.Leaves.{only_corner, corner_within, corner_whole, Divides, divides}
+use Rattle.cip_solve.proofs.Leaves.{only_corner, corner_within, corner_whole, divides}
 use Rattle.cip_solve.proofs.Ends.{cleared}
 use Rattle.cip_solve.proofs.Steps.{closed_entry, split_entry, low_node, high_node, closed_step, split_step}
 
@@ -35,7 +34,7 @@ others_stay : (own bounds : List Sides) (bound : Option ℚ) (column : ℕ) (sid
 others_stay own bounds bound column sides [] e h = refl
 others_stay own bounds bound column sides (n ∷ ns) e h =
     let first : node_at own (changed_box bounds own column sides) bound n ≡ node_at own bounds bound n =
-        ap (λ t. record { number = n.id; box = t; bound = bound }) (changed_again bounds own n.column column n.sides sides e (All-head (λ node. node.column ≤ column) n ns h)) in
+    ap (λ t. record { number = n.id; box = t; bound = bound }) (changed_again bounds own n.column column n.sides sides e (All-head (λ node. node.column ≤ column) n ns h)) in
     let rest = others_stay own bounds bound column sides ns e (All-tail (λ node. node.column ≤ column) n ns h) in
     ap (λ t. t ∷ nodes_at own (changed_box bounds own column sides) bound ns) first ∙ ap (λ t. node_at own bounds bound n ∷ t) rest
 
@@ -51,8 +50,7 @@ entered own bounds deepest nodes node h =
     let long = kept_long deepest bounds own h.kept in
     let rising = pairwise_pop (λ node later. node.column ≤ later.column) nodes node h.rising in
     let reached = pop_all (λ node. 0 < node.column → node.column < length own) nodes node h.reached in
-    let settled = pop_all (λ node. AllSettled bounds 0 node.column) nodes node h.settled in
-    (
+    let settled = pop_all (λ node. AllSettled bounds 0 node.column) nodes node h.settled in (
       record {
         kept = changed_kept bounds own node.column node.sides long;
         reach = reached.1;
@@ -110,9 +108,9 @@ closed_here program log bound held new ids bounds deepest nodes node h is_held l
     let inner = entered_inner program log bound held ids bounds deepest nodes node now h refl in
     let top = node_at program.bounds bounds bound node in
     let cheapest : (point : List ℚ) → IsFeasible program point → IsInBox now point → new.cost ≤ℚ cost_of program point =
-        λ point f k.
-            let corner = only_corner now point inner.ranges (all_settled now node.column inside.1 settled) k in
-            rw corner (offered (subst (IsFeasible program) corner f)) in
+    λ point f k.
+    let corner = only_corner now point inner.ranges (all_settled now node.column inside.1 settled) k in
+    rw corner (offered (subst (IsFeasible program) corner f)) in
     let searching = closed_step program log bound held.cost new.cost ids (nodes_at program.bounds bounds bound nodes) top (popped program log bound held.cost ids program.bounds bounds nodes node h.searching) lower cheapest in
     record {
       formed = h.formed;
@@ -185,15 +183,15 @@ split_here program log bound held ids bounds deepest nodes node column halves h 
     let parts = divides program.integral now column halves whole (h.formed.integral ∙ sym now_long) inner.ranges first.within are in
     let past = kept_further node.column column now own first.reached inside.0.kept in
     let low_is : node_at own now bound low ≡ low_node top bound column halves.at ids =
-        ap (λ t. record { number = ids; box = t; bound = bound }) (changed_set now own column halves.low past ∙ parts.is_low) in
+    ap (λ t. record { number = ids; box = t; bound = bound }) (changed_set now own column halves.low past ∙ parts.is_low) in
     let high_is : node_at own now bound high ≡ high_node top bound column halves.at ids =
-        ap (λ t. record { number = ids + 1; box = t; bound = bound }) (changed_set now own column halves.high past ∙ parts.is_high) in
+    ap (λ t. record { number = ids + 1; box = t; bound = bound }) (changed_set now own column halves.high past ∙ parts.is_high) in
     let others = others_stay own bounds bound node.column node.sides nodes long rising.1 in
     let same : nodes_at own now bound ((nodes ++ high ∷ []) ++ low ∷ []) ≡ (nodes_at own bounds bound nodes ++ high_node top bound column halves.at ids ∷ []) ++ low_node top bound column halves.at ids ∷ [] =
-        nodes_after own now bound nodes high low
-        ∙ ap (λ t. (t ++ node_at own now bound high ∷ []) ++ node_at own now bound low ∷ []) others
-        ∙ ap (λ t. (nodes_at own bounds bound nodes ++ t ∷ []) ++ node_at own now bound low ∷ []) high_is
-        ∙ ap (λ t. (nodes_at own bounds bound nodes ++ high_node top bound column halves.at ids ∷ []) ++ t ∷ []) low_is in
+    nodes_after own now bound nodes high low
+    ∙ ap (λ t. (t ++ node_at own now bound high ∷ []) ++ node_at own now bound low ∷ []) others
+    ∙ ap (λ t. (nodes_at own bounds bound nodes ++ t ∷ []) ++ node_at own now bound low ∷ []) high_is
+    ∙ ap (λ t. (nodes_at own bounds bound nodes ++ high_node top bound column halves.at ids ∷ []) ++ t ∷ []) low_is in
     let searching = split_step program log bound held.cost ids (nodes_at own bounds bound nodes) top column halves.at (popped program log bound held.cost ids own bounds nodes node h.searching) parts.can parts.low_ranges parts.high_ranges in
     record {
       formed = h.formed;

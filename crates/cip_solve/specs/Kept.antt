@@ -1,5 +1,5 @@
 -- What a search keeps true from node to node, and how it ends.
-use Rattle.std.specs.Prelude.{◌≡◌, ◌≢◌, ℕ, ◌+◌, ◌*◌, ◌<◌, ◌≤◌, true, List, [], length, Option, Some, ⊤}
+use Rattle.std.specs.Prelude.{◌≡◌, ◌≢◌, ℕ, ◌+◌, ◌*◌, ◌≤◌, true, List, [], ◌∷◌, length, Option, Some, ⊤}
 use Rattle.cip_rational.specs.Rational.{ℚ}
 use Rattle.cip_problem.specs.Program.{Sides, Program}
 use Rattle.cip_problem.specs.WellFormed.{IsWellFormed}
@@ -28,3 +28,8 @@ abbrev pub IsEnded : ℕ → List Entry → Option ℚ → Held → List OpenNod
 IsEnded node_limit log bound held nodes Optimal = nodes ≡ []
 IsEnded node_limit log bound held nodes NodeLimit = (length log ≡ node_limit) × (nodes ≢ []) × (matters (Some held.cost) bound ≡ true)
 IsEnded node_limit log bound held nodes NoMemory = ⊤
+
+-- the bound at the end: the cost held where no node is open, and else that of the root
+abbrev pub final_bound : Option ℚ → ℚ → List OpenNode → Option ℚ
+final_bound bound cost [] = Some cost
+final_bound bound cost (node ∷ nodes) = bound

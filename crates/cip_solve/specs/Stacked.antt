@@ -1,5 +1,5 @@
 -- The open nodes of a search beside the box in work.
-use Rattle.std.specs.Prelude.{◌≡◌, ℕ, ◌<◌, ◌≤◌, List, map, length, Option, All}
+use Rattle.std.specs.Prelude.{ℕ, ◌<◌, ◌≤◌, List, map, length, Option, All}
 use Rattle.cip_rational.specs.Rational.{ℚ}
 use Rattle.cip_problem.specs.Program.{Sides}
 use Rattle.cip_problem.specs.Log.{Node}

@@ -1,19 +1,20 @@
 //! The search over the whole points of a program's box, by splits of its columns.
-ghost use Rattle.std.specs.Prelude.{◌≡◌, ◌≢◌, ℕ, ◌+◌, ◌<◌, ◌≤◌, [], ◌∷◌, ◌++◌, true, false, not, All, length, vec_len, vec_capacity, Some, OnOk, OnErr};
+ghost use Rattle.std.specs.Prelude.{◌≡◌, ◌≢◌, ℕ, ◌+◌, ◌<◌, ◌≤◌, [], ◌∷◌, ◌++◌, true, false, not, All, length, vec_len, vec_capacity, Some, None, IfOk, OnOk};
 ghost use Rattle.cip_rational.specs.Rational.{◌≤ℚ◌};
-ghost use Rattle.cip_problem.specs.Program as problem;
-ghost use Rattle.cip_problem.specs.WellFormed.{columns};
+ghost use Rattle.cip_problem.specs.WellFormed.{IsWellFormed, columns};
 ghost use Rattle.cip_problem.specs.Points.{IsFeasible, cost_of};
+ghost use Rattle.cip_problem.specs.Box.{sides_at};
 ghost use Rattle.cip_problem.specs.BoxBound.{box_bound};
 ghost use Rattle.cip_problem.specs.Log.{matters};
 ghost use Rattle.cip_problem.specs.Wholes.{HasWholeSides};
 ghost use Rattle.cip_model.specs.CanCheck.{CanCheck};
-ghost use Rattle.cip_model.specs.Least.{least_cost_from};
 ghost use Rattle.cip_model.specs.Verdicts.{verdict_of};
 ghost use Rattle.cip_model.specs.declared.verdicts.Place.{Place};
 ghost use Rattle.cip_model.specs.declared.verdicts.Verdict.TheVariants.{Wide};
 ghost use Rattle.cip_solve.specs.Logs.{entries_of};
-ghost use Rattle.cip_solve.specs.Kept.{Kept, IsEnded};
+ghost use Rattle.cip_solve.specs.Kept.{Kept, IsEnded, final_bound};
+ghost use Rattle.cip_solve.specs.Start.{IsRoom};
+ghost use Rattle.cip_solve.specs.CanBound.{CanBound};
 ghost use Rattle.cip_solve.specs.Right.{IsHeld, Searched};
 
 use crate::boxes::{Work, corner, first_open_column};
@@ -153,9 +154,14 @@ impl Search {
     }
 
     /// The figures at the end: where no node is open, the bound is the cost held.
-    fn answer(self, ended: Ended) -> Answer {
+    fn answer(self, ended: Ended) -> Answer
+        ensures { result ≡ record { ended = ended; held = Some self.held; bound = final_bound self.bound self.held.cost self.stack.nodes.items } }
+    {
         let Search {
-            held, bound, stack, ..
+            held,
+            bound,
+            stack,
+            ..
         } = self;
         let bound = if stack.nodes.is_empty() {
             Some(held.cost)
@@ -179,7 +185,9 @@ struct Room {
 }
 
 /// The sides of the first column of a box, if there is one.
-fn first_sides(program: &Program) -> Sides {
+fn first_sides(program: &Program) -> Sides
+    ensures { result ≡ sides_at program.now.bounds 0 }
+{
     if program.bounds().is_empty() {
         Sides::open()
     } else {
@@ -188,7 +196,15 @@ fn first_sides(program: &Program) -> Sides {
 }
 
 impl Room {
-    fn new(alloc: Global, program: &Program) -> Result<Room, AllocError> {
+    /// Makes room, for one more log too.
+    fn new(alloc: Global, program: &Program, logs: &mut Vec<Log>) -> Result<Room, AllocError>
+        ensures formed { IsWellFormed program.now }
+        ensures same { logs.new.items ≡ logs.old.items }
+        ensures log_room { OnOk result (vec_len logs.new < vec_capacity logs.new) }
+        ensures room { IfOk result (IsRoom program.now) }
+    {
+        let columns = program.columns();
+        logs.reserve(1)?;
         let mut nodes = Vec::new(alloc);
         nodes.push(OpenNode {
             id: 0,
@@ -200,14 +216,17 @@ impl Room {
                 bounds: program.bounds().copied(alloc)?,
                 deepest: 0,
             },
-            point: vec![in alloc; Frac::zero(); program.columns()]?,
+            point: vec![in alloc; Frac::zero(); columns]?,
             stack: Stack { nodes, ids: 1 },
         })
     }
 }
 
 /// The bound of the root: the least cost in the program's box, where it has one.
-pub fn root_bound(program: &Program) -> Option<Frac> {
+pub fn root_bound(program: &Program) -> Option<Frac>
+    ensures value { CanBound program.now → result ≡ box_bound program.now program.now.bounds }
+    ensures wide { ¬ CanBound program.now → result ≡ None }
+{
     match program.box_bound(program.bounds()) {
         Least::Value(value) => Some(value),
         _ => None,
@@ -222,13 +241,22 @@ pub fn solve(
     held: Held,
     node_limit: usize,
     logs: &mut Vec<Log>,
-) -> Answer {
+) -> Answer
+    requires held { IsHeld program.now held }
+    requires whole { All (λ whole. whole ≡ true) program.now.integral }
+    requires sides { All HasWholeSides program.now.bounds }
+    requires can_check { CanCheck program.now }
+    requires can_bound { CanBound program.now }
+    requires limit { 0 < node_limit }
+    ensures { Searched program.now node_limit logs.old.items logs.new.items result }
+{
     let bound = root_bound(program);
-    if logs.reserve(1).is_err() {
-        return Answer { ended: Ended::NoMemory, held: Some(held), bound };
-    }
-    let Ok(room) = Room::new(alloc, program) else {
-        return Answer { ended: Ended::NoMemory, held: Some(held), bound };
+    let Ok(room) = Room::new(alloc, program, logs) else {
+        return Answer {
+            ended: Ended::NoMemory,
+            held: Some(held),
+            bound,
+        };
     };
     let Room {
         work,

@@ -1,7 +1,5 @@
-use Rattle.std.proofs.Common.{◌≡◌, ℕ, ◌<◌, ◌-◌, ◌∙◌, slice_set, length, sym, subst, arith, rules}
-use Rattle.cip_problem.specs.Program.{Sides}
+use Rattle.std.proofs.Common.{◌≡◌, ◌∙◌, slice_set, length, arith, rules}
 use Rattle.cip_problem.specs.Box.{sides_at}
-use Rattle.cip_solve.specs.Boxes.{changed_box, KeptPast}
 use Rattle.cip_solve.proofs.Places.{kept_long, kept_further, kept_down, changed_later}
 use Rattle.cip_solve.proofs.boxes.restore.Goals as goal
 

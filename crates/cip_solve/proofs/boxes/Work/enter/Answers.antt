@@ -1,4 +1,4 @@
-use Rattle.std.proofs.Common.{◌≡◌, ◌≤◌, ◌∙◌, length, sym, arith, rules}
+use Rattle.std.proofs.Common.{◌∙◌, sym, arith}
 use Rattle.cip_solve.proofs.Places.{changed_set, set_short}
 use Rattle.cip_solve.proofs.boxes.Work.enter.Goals as goal
 

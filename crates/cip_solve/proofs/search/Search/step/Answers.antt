@@ -1,5 +1,4 @@
-use Rattle.std.proofs.Common.{◌≡◌, ◌∙◌, Bool, true, false, not, sym, refl}
-use Rattle.cip_problem.specs.Log.{matters}
+use Rattle.std.proofs.Common.{◌∙◌, sym}
 use Rattle.cip_solve.proofs.Taken.{kept_cleared}
 use Rattle.cip_solve.proofs.search.Search.step.Goals as goal
 

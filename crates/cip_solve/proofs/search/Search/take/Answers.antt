@@ -1,9 +1,9 @@
-use Rattle.std.proofs.Common.{◌≡◌, ◌∙◌, ◌≤◌, length, sym, ap, subst, arith}
+use Rattle.std.proofs.Common.{◌≡◌, ◌∙◌, length, sym, ap, subst, arith}
 use Rattle.cip_problem.specs.Box.{no_sides}
 use Rattle.cip_problem.specs.WellFormed.{columns}
 use Rattle.cip_model.specs.Verdicts.{verdict_of}
 use Rattle.cip_model.specs.declared.verdicts.Verdict.TheVariants.{Wide}
-use Rattle.cip_solve.specs.Boxes.{changed_box, AllSettled, low_corner}
+use Rattle.cip_solve.specs.Boxes.{changed_box, low_corner}
 use Rattle.cip_solve.specs.Splits.{IsWholeRange}
 use Rattle.cip_solve.specs.Splits.Halved.{AreHalves}
 use Rattle.cip_solve.specs.Searching.{IsInner}
@@ -42,7 +42,7 @@ returns-in-Some-clause-kept c =
     let e : c.enter.new.self.bounds ≡ changed_box c.args.self.now.work.bounds c.args.program.now.bounds c.args.node.column c.args.node.sides = c.enter.ensures.bounds ∙ ap (λ own. changed_box c.args.self.now.work.bounds own c.args.node.column c.args.node.sides) c.bounds.ensures.bounds in
     rw (c.add.ensures, c.split-end.ensures.end, c.split-end.ensures.ids, c.split-end.ensures.nodes, c.enter.ensures.deepest)
     (kept_split _ _ _ _ _ _ _ _ c.args.node c.enter.new.self.bounds c.in-Some.column c.split_sides-halves.result c.requires.kept e c.requires.whole c.in-Some.ensures
-      (subst (λ sides. AreHalves sides c.split_sides-halves.result) c.sides.ensures c.split_sides-halves.ensures))
+    (subst (λ sides. AreHalves sides c.split_sides-halves.result) c.sides.ensures c.split_sides-halves.ensures))
 
 pub returns-in-None-clause-kept : goal.returns-in-None-clause-kept
 returns-in-None-clause-kept c =
@@ -50,4 +50,4 @@ returns-in-None-clause-kept c =
     let at : c.corner.new.point ≡ low_corner c.enter.new.self.bounds = c.corner.ensures ∙ ap low_corner c.as_slice.ensures in
     rw (c.add-in-None.ensures, c.enter.ensures.deepest)
     (kept_closed _ _ _ _ c.offer.new.held _ _ _ _ c.args.node c.enter.new.self.bounds c.requires.kept e c.offer.ensures.held c.offer.ensures.lower
-      (rw at at c.offer.ensures.offered) c.in-None.ensures)
+    (rw at at c.offer.ensures.offered) c.in-None.ensures)
