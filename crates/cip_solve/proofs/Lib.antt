@@ -1,0 +1,10 @@
+pub mod Answered
+pub mod Comparisons
+pub mod Ends
+pub mod Leaves
+pub mod Offers
+pub mod OneMore
+pub mod Places
+pub mod Ranges
+pub mod Steps
+pub mod Taken

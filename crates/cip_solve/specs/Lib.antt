@@ -1,2 +1,9 @@
+pub mod Boxes
+pub mod CanBound
+pub mod Kept
 pub mod Logs
 pub mod Right
+pub mod Searching
+pub mod Splits
+pub mod Stacked
+pub mod Start

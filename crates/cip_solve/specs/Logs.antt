@@ -1,5 +1,5 @@
 -- The log of a search as entries.
-use Rattle.std.specs.Prelude.{ℕ, ℤ, List, map}
+use Rattle.std.specs.Prelude.{List, map}
 use Rattle.cip_problem.specs.Log.{End, Split, Closed, Parked, Entry}
 use Rattle.cip_solve.specs.declared.logs.End.{End as LoggedEnd}
 use Rattle.cip_solve.specs.declared.logs.End.TheVariants.{Split as LoggedSplit, Closed as LoggedClosed, Parked as LoggedParked}

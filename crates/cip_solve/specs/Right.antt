@@ -1,7 +1,7 @@
 -- What is right of an answer of a search: of its point, its cost, its bound and its end. All figures are those of
 -- the minimised form.
-use Rattle.std.specs.Prelude.{◌≡◌, ◌++◌, ◌∷◌, [], ℕ, ◌⊎◌, List, Option, Some, None, IfSome, option_map, length}
-use Rattle.cip_rational.specs.Rational.{ℚ, ◌≤ℚ◌}
+use Rattle.std.specs.Prelude.{◌≡◌, ◌++◌, ◌∷◌, [], ℕ, ◌⊎◌, List, Some, None, IfSome, option_map, length}
+use Rattle.cip_rational.specs.Rational.{◌≤ℚ◌}
 use Rattle.cip_problem.specs.Program.{Program}
 use Rattle.cip_problem.specs.Points.{IsFeasible, cost_of, IsLowerBound}
 use Rattle.cip_problem.specs.BoxBound.{box_bound}

@@ -1,4 +1,7 @@
 //! What a search did: one entry for each node that it took and ended.
+ghost use Rattle.std.specs.Prelude.{◌≡◌, ◌+◌, ◌<◌, [], ◌∷◌, ◌++◌, vec_len, vec_capacity};
+ghost use Rattle.cip_solve.specs.Logs.{end_of, entries_of};
+
 use cip_frac::Frac;
 use std::alloc::Global;
 
@@ -34,9 +37,19 @@ pub struct Log {
 
 impl Log {
     /// Nothing done yet.
-    pub fn new(alloc: Global) -> Log {
+    pub fn new(alloc: Global) -> Log
+        ensures { entries_of result ≡ [] }
+    {
         Log {
             taken: Vec::new(alloc),
         }
+    }
+
+    /// Adds an entry at the end, for which there is room.
+    pub(crate) fn add(&mut self, id: u64, bound: Option<Frac>, end: End)
+        requires room { vec_len self.old.taken < vec_capacity self.old.taken }
+        ensures { entries_of self.new ≡ entries_of self.old ++ record { node = id; bound = bound; end = end_of end } ∷ [] }
+    {
+        let _ = self.taken.push(Logged { id, bound, end });
     }
 }

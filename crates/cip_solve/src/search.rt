@@ -1,213 +1,169 @@
 //! The search over the whole points of a program's box, by splits of its columns.
-use crate::logs::{End, Log, Logged};
+ghost use Rattle.std.specs.Prelude.{◌≡◌, ◌≢◌, ℕ, ◌+◌, ◌<◌, ◌≤◌, [], ◌∷◌, ◌++◌, true, false, not, All, length, vec_len, vec_capacity, Some, None, IfOk, OnOk};
+ghost use Rattle.cip_rational.specs.Rational.{◌≤ℚ◌};
+ghost use Rattle.cip_problem.specs.WellFormed.{IsWellFormed, columns};
+ghost use Rattle.cip_problem.specs.Points.{IsFeasible, cost_of};
+ghost use Rattle.cip_problem.specs.Box.{sides_at};
+ghost use Rattle.cip_problem.specs.BoxBound.{box_bound};
+ghost use Rattle.cip_problem.specs.Log.{matters};
+ghost use Rattle.cip_problem.specs.Wholes.{HasWholeSides};
+ghost use Rattle.cip_model.specs.CanCheck.{CanCheck};
+ghost use Rattle.cip_model.specs.Verdicts.{verdict_of};
+ghost use Rattle.cip_model.specs.declared.verdicts.Place.{Place};
+ghost use Rattle.cip_model.specs.declared.verdicts.Verdict.TheVariants.{Wide};
+ghost use Rattle.cip_solve.specs.Logs.{entries_of};
+ghost use Rattle.cip_solve.specs.Kept.{Kept, IsEnded, final_bound};
+ghost use Rattle.cip_solve.specs.Start.{IsRoom};
+ghost use Rattle.cip_solve.specs.CanBound.{CanBound};
+ghost use Rattle.cip_solve.specs.Right.{IsHeld, Searched};
+
+use crate::boxes::{Work, corner, first_open_column};
+use crate::logs::{End, Log};
+use crate::splits::split_sides;
+use crate::stack::{OpenNode, Stack};
 use cip_frac::Frac;
-use cip_lin::{Bounds, Least, Sides};
+use cip_lin::{Least, Sides};
 use cip_model::{Program, Verdict};
 use cip_report::{Answer, Ended, Held};
 use std::alloc::{AllocError, Global};
 
-/// What the last split on the way to a node made of a column.
-#[derive(Clone, Copy, Debug, PartialEq, Eq)]
-struct Change {
-    column: u32,
-    sides: Sides,
-}
-
-/// A node that is open. The root has the box of the program; any other has the box of the node in
-/// work before the column of its change, the changed sides there, and the sides of the program
-/// past it.
-#[derive(Clone, Copy, Debug, PartialEq, Eq)]
-struct OpenNode {
-    id: u64,
-    change: Option<Change>,
-}
-
-/// A search over a program.
+/// A search over a program: the bound of its root, the point held, the box in work, the open nodes.
 #[derive(Drop)]
-struct Search<'a> {
-    program: &'a Program,
-    node_limit: usize,
+struct Search {
     bound: Option<Frac>,
     held: Held,
-    /// The box of the node in work; the columns past `deepest` have the sides of the program.
-    bounds: Bounds,
-    deepest: u32,
-    open: Vec<OpenNode>,
-    ids: u64,
+    work: Work,
+    stack: Stack,
 }
 
-/// A whole value that leaves a whole value of the sides on both halves: the middle one, rounded
-/// down, where both sides are there, else 0 moved into the range of such values.
-fn split_place(sides: Sides) -> i128 {
-    match (sides.low, sides.high) {
-        (Some(low), Some(high)) => middle(low.ceil(), high.floor()),
-        (Some(low), None) => low.ceil().max(0),
-        (None, Some(high)) => high.floor().saturating_sub(1).min(0),
-        (None, None) => 0,
-    }
-}
-
-/// Half the sum of two numbers, rounded down; the first is not above the second.
-fn middle(low: i128, high: i128) -> i128 {
-    if (low < 0) == (high < 0) {
-        low + (high - low) / 2
-    } else {
-        (low + high).div_euclid(2)
+/// Checks a point, and holds it where it is feasible and cheaper than the one held.
+fn offer(held: &mut Held, program: &Program, point: &[Frac])
+    requires held { IsHeld program.now held.old }
+    requires long { length point.now ≡ columns program.now }
+    requires narrow { (place : Place) → verdict_of program.now point.now ≢ Wide place }
+    ensures held { IsHeld program.now held.new }
+    ensures lower { held.new.cost ≤ℚ held.old.cost }
+    ensures offered { IsFeasible program.now point.now → held.new.cost ≤ℚ cost_of program.now point.now }
+{
+    if let Verdict::Feasible(cost) = program.check(point) {
+        if cost < held.cost {
+            held.cost = cost;
+            held.point.copy_from_slice(point);
+        }
     }
 }
 
-/// The sides of a column; a column that is not there is open.
-fn sides_of(bounds: &Bounds, column: u32) -> Sides {
-    if (column as usize) < bounds.len() {
-        bounds.sides(column)
-    } else {
-        Sides::open()
-    }
-}
-
-/// Sets the sides of a column that is there.
-fn put_sides(bounds: &mut Bounds, column: u32, sides: Sides) {
-    if (column as usize) < bounds.len() {
-        bounds.set_sides(column, sides);
-    }
-}
-
-/// Makes a point the corner of the low sides of a box.
-fn corner(bounds: &Bounds, point: &mut [Frac]) {
-    let mut column = 0u32;
-    for value in point.iter_mut() {
-        if let Some(low) = sides_of(bounds, column).low {
-            *value = low;
-        }
-        column = column.saturating_add(1);
-    }
-}
-
-impl<'a> Search<'a> {
-    /// The first column from `column` on with two whole values in the box of the node in work.
-    fn first_open_column(&self, column: u32) -> Option<u32> {
-        let count = u32::try_from(self.bounds.len()).unwrap_or(u32::MAX);
-        for at in column..count {
-            if sides_of(&self.bounds, at).has_two_wholes() {
-                return Some(at);
-            }
-        }
-        None
-    }
-
-    /// Makes the box of a node the box in work, and answers the column that it was changed at.
-    fn enter(&mut self, node: OpenNode) -> u32 {
-        let Some(change) = node.change else {
-            return 0;
-        };
-        for column in change.column..self.deepest {
-            let sides = sides_of(self.program.bounds(), column + 1);
-            put_sides(&mut self.bounds, column + 1, sides);
-        }
-        put_sides(&mut self.bounds, change.column, change.sides);
-        self.deepest = change.column;
-        change.column
-    }
-
-    /// Whether the cost held is at most each bound, so that no open node matters.
-    fn is_closed(&self) -> bool {
-        self.bound.is_some_and(|bound| self.held.cost <= bound)
-    }
-
-    /// Checks the one whole point of the box in work, and holds it where it is cheaper.
-    fn offer(&mut self, point: &mut [Frac]) {
-        corner(&self.bounds, point);
-        if point.len() != self.program.columns() || point.len() != self.held.point.len() {
-            return;
-        }
-        if let Verdict::Feasible(cost) = self.program.check(point) {
-            if cost < self.held.cost {
-                self.held.cost = cost;
-                self.held.point.as_mut_slice().copy_from_slice(point);
-            }
+impl Search {
+    /// Whether the cost held is at most the bound, so that no open node matters.
+    fn is_closed(&self) -> bool
+        ensures { result ≡ not (matters (Some self.now.held.cost) self.now.bound) }
+    {
+        match self.bound {
+            Some(bound) => self.held.cost <= bound,
+            None => false,
         }
     }
 
-    /// Opens the two halves of the node in work at a column.
-    fn split(&mut self, column: u32) -> End {
-        let sides = sides_of(&self.bounds, column);
-        let at = split_place(sides);
-        let low = self.ids;
-        let high = low.saturating_add(1);
-        self.ids = low.saturating_add(2);
-        let low_sides = Sides {
-            low: sides.low,
-            high: Frac::whole(at).ok(),
-        };
-        let high_sides = Sides {
-            low: Frac::whole(at.saturating_add(1)).ok(),
-            high: sides.high,
-        };
-        self.put(high, column, high_sides);
-        self.put(low, column, low_sides);
-        End::Split {
-            col: column,
-            at,
-            low,
-            high,
-        }
-    }
-
-    /// Opens a node, for which there is room.
-    fn put(&mut self, id: u64, column: u32, sides: Sides) {
-        let change = Some(Change { column, sides });
-        let _ = self.open.push(OpenNode { id, change });
-    }
-
-    /// Works on the node that was opened last: a leaf is checked, any other node is split.
-    fn step(&mut self, point: &mut [Frac], log: &mut Log) -> Result<(), AllocError> {
-        log.taken.reserve(1)?;
-        self.open.reserve(2)?;
-        let popped = self.open.pop();
-        let Some(node) = popped else {
-            return Ok(());
-        };
+    /// Works on a node: one whose columns each have one whole value is checked, any other is split.
+    fn take(&mut self, program: &Program, node: OpenNode, point: &mut [Frac], log: &mut Log)
+        requires whole { All (λ whole. whole ≡ true) program.now.integral }
+        requires can_check { CanCheck program.now }
+        requires long { length point.old ≡ columns program.now }
+        requires log_room { vec_len log.old.taken < vec_capacity log.old.taken }
+        requires room { vec_len self.old.stack.nodes + 2 ≤ vec_capacity self.old.stack.nodes }
+        requires kept { let s = self.old in Kept program.now (entries_of log.old) s.bound s.held s.stack.ids s.work.bounds s.work.deepest (s.stack.nodes.items ++ node ∷ []) }
+        ensures kept { let s = self.new in Kept program.now (entries_of log.new) s.bound s.held s.stack.ids s.work.bounds s.work.deepest s.stack.nodes.items }
+        ensures grown { length (entries_of log.new) ≡ length (entries_of log.old) + 1 }
+    {
         let id = node.id;
-        let from = self.enter(node);
-        let end = match self.first_open_column(from) {
-            Some(column) => self.split(column),
-            None => {
-                self.offer(point);
-                End::Closed
-            }
-        };
         let bound = self.bound;
-        let _ = log.taken.push(Logged { id, bound, end });
+        self.work.enter(program.bounds(), node.column, node.sides);
+        match first_open_column(&self.work.bounds, node.column) {
+            Some(column) => {
+                let halves = split_sides(self.work.bounds.sides(column));
+                let end = self.stack.split(column, halves);
+                log.add(id, bound, end);
+            }
+            None => {
+                corner(self.work.bounds.as_slice(), point);
+                offer(&mut self.held, program, point);
+                let end = End::Closed;
+                log.add(id, bound, end);
+            }
+        }
+    }
+
+    /// Works on the node that was opened last, and lets go of all open nodes where none matters.
+    fn step(
+        &mut self,
+        program: &Program,
+        point: &mut [Frac],
+        log: &mut Log,
+    ) -> Result<(), AllocError>
+        requires whole { All (λ whole. whole ≡ true) program.now.integral }
+        requires can_check { CanCheck program.now }
+        requires long { length point.old ≡ columns program.now }
+        requires some { 0 < vec_len self.old.stack.nodes }
+        requires kept { let s = self.old in Kept program.now (entries_of log.old) s.bound s.held s.stack.ids s.work.bounds s.work.deepest s.stack.nodes.items }
+        ensures kept { let s = self.new in Kept program.now (entries_of log.new) s.bound s.held s.stack.ids s.work.bounds s.work.deepest s.stack.nodes.items }
+        ensures grown { OnOk result (length (entries_of log.new) ≡ length (entries_of log.old) + 1) }
+        ensures closed { OnOk result (matters (Some self.new.held.cost) self.new.bound ≡ false → self.new.stack.nodes.items ≡ []) }
+    {
+        log.taken.reserve(1)?;
+        self.stack.nodes.reserve(2)?;
+        let Some(node) = self.stack.nodes.pop() else {
+            unreachable!()
+        };
+        self.take(program, node, point, log);
         if self.is_closed() {
-            self.open.clear();
+            self.stack.nodes.clear();
         }
         Ok(())
     }
 
     /// Takes open nodes until none is left that matters, or the budget is spent.
-    fn explore(&mut self, point: &mut [Frac], log: &mut Log) -> Result<Ended, AllocError> {
-        for _ in 0..self.node_limit {
-            if self.open.is_empty() {
-                return Ok(Ended::Optimal);
+    fn explore(
+        &mut self,
+        program: &Program,
+        node_limit: usize,
+        point: &mut [Frac],
+        log: &mut Log,
+    ) -> Ended
+        requires whole { All (λ whole. whole ≡ true) program.now.integral }
+        requires can_check { CanCheck program.now }
+        requires long { length point.old ≡ columns program.now }
+        requires limit { 0 < node_limit }
+        requires empty { entries_of log.old ≡ [] }
+        requires kept { let s = self.old in Kept program.now (entries_of log.old) s.bound s.held s.stack.ids s.work.bounds s.work.deepest s.stack.nodes.items }
+        ensures kept { let s = self.new in Kept program.now (entries_of log.new) s.bound s.held s.stack.ids s.work.bounds s.work.deepest s.stack.nodes.items }
+        ensures ended { let s = self.new in IsEnded node_limit (entries_of log.new) s.bound s.held s.stack.nodes.items result }
+    {
+        for _ in 0..node_limit {
+            if self.stack.nodes.is_empty() {
+                return Ended::Optimal;
             }
-            self.step(point, log)?;
+            if self.step(program, point, log).is_err() {
+                return Ended::NoMemory;
+            }
         }
-        if self.open.is_empty() {
-            Ok(Ended::Optimal)
+        if self.stack.nodes.is_empty() {
+            Ended::Optimal
         } else {
-            Ok(Ended::NodeLimit)
+            Ended::NodeLimit
         }
     }
 
     /// The figures at the end: where no node is open, the bound is the cost held.
-    fn answer(self, ended: Ended) -> Answer {
+    fn answer(self, ended: Ended) -> Answer
+        ensures { result ≡ record { ended = ended; held = Some self.held; bound = final_bound self.bound self.held.cost self.stack.nodes.items } }
+    {
         let Search {
             held,
             bound,
-            open,
+            stack,
             ..
         } = self;
-        let bound = if open.is_empty() {
+        let bound = if stack.nodes.is_empty() {
             Some(held.cost)
         } else {
             bound
@@ -220,34 +176,57 @@ impl<'a> Search<'a> {
     }
 }
 
-/// The room that a search takes before its first node: a box, a point, and the root.
+/// The room that a search takes before its first node: the box in work, a point, and the root.
 #[derive(Drop)]
 struct Room {
-    bounds: Bounds,
+    work: Work,
     point: Vec<Frac>,
-    open: Vec<OpenNode>,
-    log: Log,
+    stack: Stack,
+}
+
+/// The sides of the first column of a box, if there is one.
+fn first_sides(program: &Program) -> Sides
+    ensures { result ≡ sides_at program.now.bounds 0 }
+{
+    if program.bounds().is_empty() {
+        Sides::open()
+    } else {
+        program.bounds().sides(0)
+    }
 }
 
 impl Room {
-    fn new(alloc: Global, program: &Program, logs: &mut Vec<Log>) -> Result<Room, AllocError> {
+    /// Makes room, for one more log too.
+    fn new(alloc: Global, program: &Program, logs: &mut Vec<Log>) -> Result<Room, AllocError>
+        ensures formed { IsWellFormed program.now }
+        ensures same { logs.new.items ≡ logs.old.items }
+        ensures log_room { OnOk result (vec_len logs.new < vec_capacity logs.new) }
+        ensures room { IfOk result (IsRoom program.now) }
+    {
+        let columns = program.columns();
         logs.reserve(1)?;
-        let mut open = Vec::new(alloc);
-        open.push(OpenNode {
+        let mut nodes = Vec::new(alloc);
+        nodes.push(OpenNode {
             id: 0,
-            change: None,
+            column: 0,
+            sides: first_sides(program),
         })?;
         Ok(Room {
-            bounds: program.bounds().copied(alloc)?,
-            point: vec![in alloc; Frac::zero(); program.columns()]?,
-            open,
-            log: Log::new(alloc),
+            work: Work {
+                bounds: program.bounds().copied(alloc)?,
+                deepest: 0,
+            },
+            point: vec![in alloc; Frac::zero(); columns]?,
+            stack: Stack { nodes, ids: 1 },
         })
     }
 }
 
 /// The bound of the root: the least cost in the program's box, where it has one.
-pub fn root_bound(program: &Program) -> Option<Frac> {
+pub fn root_bound(program: &Program) -> Option<Frac>
+    ensures value { CanBound program.now → result ≡ box_bound program.now program.now.bounds }
+    ensures wide { ¬ CanBound program.now → result ≡ None }
+{
     match program.box_bound(program.bounds()) {
         Least::Value(value) => Some(value),
         _ => None,
@@ -262,7 +241,15 @@ pub fn solve(
     held: Held,
     node_limit: usize,
     logs: &mut Vec<Log>,
-) -> Answer {
+) -> Answer
+    requires held { IsHeld program.now held }
+    requires whole { All (λ whole. whole ≡ true) program.now.integral }
+    requires sides { All HasWholeSides program.now.bounds }
+    requires can_check { CanCheck program.now }
+    requires can_bound { CanBound program.now }
+    requires limit { 0 < node_limit }
+    ensures { Searched program.now node_limit logs.old.items logs.new.items result }
+{
     let bound = root_bound(program);
     let Ok(room) = Room::new(alloc, program, logs) else {
         return Answer {
@@ -272,25 +259,18 @@ pub fn solve(
         };
     };
     let Room {
-        bounds,
+        work,
         mut point,
-        open,
-        mut log,
+        stack,
     } = room;
     let mut search = Search {
-        program,
-        node_limit,
         bound,
         held,
-        bounds,
-        deepest: 0,
-        open,
-        ids: 1,
+        work,
+        stack,
     };
-    let ended = match search.explore(point.as_mut_slice(), &mut log) {
-        Ok(ended) => ended,
-        Err(AllocError) => Ended::NoMemory,
-    };
+    let mut log = Log::new(alloc);
+    let ended = search.explore(program, node_limit, point.as_mut_slice(), &mut log);
     let _ = logs.push(log);
     search.answer(ended)
 }

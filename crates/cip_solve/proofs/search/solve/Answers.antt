@@ -1,0 +1,26 @@
+use Rattle.std.proofs.Common.{◌≡◌, ◌++◌, ◌∷◌, [], inl, inr, arith, refl}
+use Rattle.std.proofs.lemmas.Grind.{common_steps}
+use Rattle.cip_problem.specs.BoxBound.{box_bound}
+use Rattle.cip_solve.proofs.Answered.{kept_start, right_before, right_end}
+use Rattle.cip_solve.proofs.search.solve.Goals as goal
+
+pub returns-in_default : goal.returns-in_default
+returns-in_default c =
+    let e : c.root_bound-bound.result ≡ box_bound c.args.program.now c.args.program.now.bounds = c.root_bound-bound.ensures.value c.requires.can_bound in
+    inr (c.new.ensures.same, refl, right_before c.args.program.now c.args.node_limit c.root_bound-bound.result c.args.held c.new.ensures.formed e c.requires.held c.requires.sides)
+
+pub explore-ended-requires-clause-kept : goal.explore-ended-requires-clause-kept
+explore-ended-requires-clause-kept c =
+    let e : c.root_bound-bound.result ≡ box_bound c.args.program.now c.args.program.now.bounds = c.root_bound-bound.ensures.value c.requires.can_bound in
+    let room = c.in-Ok.ensures.room in
+    rw (c.new-log.ensures, room.bounds, room.deepest, room.nodes, room.ids)
+    (kept_start c.args.program.now c.root_bound-bound.result c.args.held c.new.ensures.formed e c.requires.held c.requires.sides)
+
+pub returns : goal.returns
+returns c =
+    let items : c.push.new.self.items ≡ c.args.logs.now.items ++ c.explore-ended.new.log ∷ [] = grind (arith, common_steps, c.push.ensures.items, c.push.ensures.succeeds, c.in-Ok.ensures.log_room, c.new.ensures.same) in
+    inl (
+      c.explore-ended.new.log,
+      items,
+      rw (c.answer.ensures) (right_end _ _ _ _ _ _ _ _ _ _ c.explore-ended.ensures.kept c.explore-ended.ensures.ended),
+    )
