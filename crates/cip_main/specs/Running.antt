@@ -1,21 +1,15 @@
 -- What a call of `run` does: by the words, what the store tells, what the sink took, and the logs.
 use Rattle.std.specs.Prelude.{◌≡◌, ◌⊎◌, ◌++◌, ◌∷◌, [], ℕ, List, Option, None, Some, IfSome, length}
-use Rattle.std.specs.Io.KnownBytes.{append_known}
 use Rattle.cip_io.specs.Faults.{Rose}
-use Rattle.cip_io.specs.Sink.{PushesPart}
 use Rattle.cip_problem.specs.Program.{Program}
-use Rattle.cip_problem.specs.Log.{Entry}
 use Rattle.cip_syntax.specs.CommandLine.{Job, Solve}
-use Rattle.cip_syntax.specs.Figures.{Status, NodeLimit, NoMemory, Figures, exit_status, answer_text, usage_text, read_fault_text, no_memory_text, not_thin_text}
+use Rattle.cip_syntax.specs.Figures.{usage_text, read_fault_text, no_memory_text, not_thin_text}
 use Rattle.cip_syntax.specs.ThinText.{IsThin}
-use Rattle.cip_syntax.specs.Headline.{AreTrue}
 use Rattle.cip_solve.specs.declared.logs.Log.{Log}
 use Rattle.cip_solve.specs.Logs.{entries_of}
+use Rattle.cip_main.specs.Answering.{node_limit, Answers}
 use Rattle.cip_main.specs.Pulling.{IsWhole}
-
--- the node budget of a search
-abbrev pub node_limit : ℕ
-node_limit = 1000000
+use Rattle.cip_main.specs.Saying.{Says}
 
 -- a store as it tells itself at a moment: the texts of its names, what is left of the current one, how many faults
 pub record StoreTells : Type 0 where
@@ -41,10 +35,9 @@ pub record Call : Type 0 where
 
 -- the sink took exactly this text, and the status is this one; or the sink failed, the status is 5, and it took a
 -- front part of the text
-abbrev pub Says : Call → (text : List ℕ) → (status : ℕ) → Type 0
-Says call text status =
-    ((call.status ≡ status) × (call.sink_after.taken ≡ append_known call.sink.taken text))
-    ⊎ ((call.status ≡ 5) × Rose call.sink.faults call.sink_after.faults × PushesPart call.sink.taken call.sink_after.taken text)
+abbrev pub Tells : Call → (text : List ℕ) → (status : ℕ) → Type 0
+Tells call text status =
+    Says call.sink.taken call.sink_after.taken call.sink.faults call.sink_after.faults text status call.status
 
 -- the text was pulled to its end, or to the first byte too many
 abbrev pub IsPulledWhole : Call → Option (List ℕ) → Type 0
@@ -53,44 +46,39 @@ IsPulledWhole call text = IsWhole text call.store_after.left
 -- the words are not accepted: nothing is pulled
 pub record IsUsage (call : Call) : Type 0 where
   pub no_job : call.job ≡ None
-  pub says : Says call usage_text 2
+  pub tells : Tells call usage_text 2
   pub untouched : call.store_after.left ≡ call.store.left
   pub no_search : call.logs_after ≡ call.logs
 
 -- the store failed
 pub record IsReadFault (call : Call) : Type 0 where
-  pub says : Says call read_fault_text 3
+  pub tells : Tells call read_fault_text 3
   pub rose : Rose call.store.faults call.store_after.faults
   pub no_search : call.logs_after ≡ call.logs
 
 -- the text is not thin
 pub record IsRefused (call : Call) (text : Option (List ℕ)) : Type 0 where
-  pub says : Says call not_thin_text 4
+  pub tells : Tells call not_thin_text 4
   pub not_thin : IfSome text (λ bytes. (program : Program) → ¬ IsThin bytes program)
   pub pulled : IsPulledWhole call text
   pub no_search : call.logs_after ≡ call.logs
 
 -- memory was refused before the text was read
 pub record IsNoMemory (call : Call) : Type 0 where
-  pub says : Says call no_memory_text 6
+  pub tells : Tells call no_memory_text 6
   pub no_search : call.logs_after ≡ call.logs
 
--- these entries are those of the one log that was added; there is none where memory was refused before the search
-abbrev pub IsLogged : Call → List Entry → Status → Type 0
-IsLogged call entries status =
-    ((log : Log) × (call.logs_after ≡ call.logs ++ log ∷ []) × (entries ≡ entries_of log))
-    ⊎ ((call.logs_after ≡ call.logs) × (entries ≡ []) × (status ≡ NoMemory))
+-- true figures of the program were told to the sink
+abbrev pub TellsTruth : Call → Program → Type 0
+TellsTruth call program =
+    Answers program call.sink.taken call.sink_after.taken call.sink.faults call.sink_after.faults call.logs call.logs_after call.status
 
--- there are figures that are true of the program of the text, and the sink was told them
+-- an answer with figures of the program of the text
 pub record IsAnswered (call : Call) (text : Option (List ℕ)) : Type 0 where
   pub program : Program
-  pub figures : Figures
-  pub entries : List Entry
   pub thin : IfSome text (λ bytes. IsThin bytes program)
-  pub are_true : AreTrue program node_limit entries figures
-  pub says : Says call (answer_text program.column_names figures) (exit_status figures.status)
+  pub answers : TellsTruth call program
   pub pulled : IsPulledWhole call text
-  pub logged : IsLogged call entries figures.status
 
 -- what a call does
 pub data Ran (call : Call) : Type 0 where
@@ -98,7 +86,7 @@ pub data Ran (call : Call) : Type 0 where
   fails_to_read : (model : List ℕ) → call.job ≡ Some (Solve model) → IsReadFault call → Ran call
   refuses_text : (model : List ℕ) → call.job ≡ Some (Solve model) → IsRefused call (call.store.holds model) → Ran call
   lacks_memory : (model : List ℕ) → call.job ≡ Some (Solve model) → IsNoMemory call → Ran call
-  answers : (model : List ℕ) → call.job ≡ Some (Solve model) → IsAnswered call (call.store.holds model) → Ran call
+  gives_answer : (model : List ℕ) → call.job ≡ Some (Solve model) → IsAnswered call (call.store.holds model) → Ran call
 
 -- ---- what follows, each by its name
 
@@ -119,16 +107,8 @@ pub record Asks (call : Call) (text : List ℕ) (program : Program) : Type 0 whe
   pub held : call.store.holds model ≡ Some text
   pub thin : IsThin text program
 
--- true figures of the program were told to the sink
-pub record TellsTruth (call : Call) (program : Program) : Type 0 where
-  pub figures : Figures
-  pub entries : List Entry
-  pub are_true : AreTrue program node_limit entries figures
-  pub says : Says call (answer_text program.column_names figures) (exit_status figures.status)
-  pub logged : IsLogged call entries figures.status
-
--- the headline: where the words ask for the program of a thin text, true figures of it are told, unless the store
--- failed or memory was refused before the text was read
+-- where the words ask for the program of a thin text, true figures of it are told, unless the store failed or memory
+-- was refused before the text was read
 abbrev pub Headline : Call → Type 0
 Headline call =
     (text : List ℕ) (program : Program) → Asks call text program
@@ -167,3 +147,21 @@ pub record SpentLog (call : Call) : Type 0 where
 
 abbrev pub NodeLimitClause : Call → Type 0
 NodeLimitClause call = call.status ≡ 10 → SpentLog call
+
+-- status 6 comes only where memory was refused: before the text was read, or with figures that are as true as in any
+-- other answer
+abbrev pub MemoryClause : Call → Type 0
+MemoryClause call =
+    call.status ≡ 6 → IsNoMemory call ⊎ ((model : List ℕ) × (call.job ≡ Some (Solve model)) × IsAnswered call (call.store.holds model))
+
+-- what holds of every call, part by part
+pub record Runs (call : Call) : Type 0 where
+  pub ran : Ran call
+  pub statuses : IsStatus call.status
+  pub headline : Headline call
+  pub usage : UsageClause call
+  pub read_fault : ReadFaultClause call
+  pub refused : RefusedClause call
+  pub write_fault : WriteFaultClause call
+  pub node_limit : NodeLimitClause call
+  pub memory : MemoryClause call
