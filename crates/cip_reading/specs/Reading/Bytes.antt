@@ -5,11 +5,10 @@
 --     bytes_taken-part, bytes_taken-line      bytes without a line feed, and with one at their end
 --     bytes_taken-refused, bytes_taken-done      after a refusal, and after ENDATA, nothing changes what was read
 use Rattle.std.proofs.Common.{◌≡◌, ℕ, Bool, true, false, cond, List, [], ◌∷◌, ◌++◌, Option, None, Some, refl, sym, ap, ◌∙◌, append_assoc}
-use Rattle.std.specs.Prelude.{if◌then◌else◌}
 use Rattle.std.specs.List.{AllByRecursion, slice_split, onto_first}
 use Rattle.std.proofs.lemmas.List.{append-nil}
-use Rattle.cip_syntax.specs.Lines.{is_line_feed, is_filled, record_of, without_empty_end, lines}
-use Rattle.cip_reading.specs.Reading.{Reading, bind, is_done, record_or_none, line_taken, lines_taken}
+use Rattle.cip_syntax.specs.Lines.{is_line_feed, without_empty_end, lines}
+use Rattle.cip_reading.specs.Reading.{Reading, bind, is_done, line_taken, lines_taken}
 use Rattle.cip_reading.specs.Reading.Texts.{Stream, ended, byte_taken, bytes_taken}
 
 -- a text in parts
@@ -45,6 +44,7 @@ bytes_taken-done s unended (byte ∷ bytes) h = go (is_line_feed byte) (bytes_ta
   where
     same : line_taken s unended ≡ Some s
     same = rw h refl
+
     go : (b : Bool) → (bytes_taken (record { reading = Some s; unended = [] }) bytes).reading ≡ Some s → (bytes_taken (record { reading = Some s; unended = unended ++ byte ∷ [] }) bytes).reading ≡ Some s → (bytes_taken (cond b (record { reading = line_taken s unended; unended = [] }) (record { reading = Some s; unended = unended ++ byte ∷ [] })) bytes).reading ≡ Some s
     go true k l = ap (λ o. (bytes_taken (record { reading = o; unended = [] }) bytes).reading) same ∙ k
     go false k l = l
@@ -82,6 +82,7 @@ at_split s (byte ∷ bytes) = go (is_line_feed byte)
     onto : (pieces : List (List ℕ)) → before [] (onto_first byte pieces) ≡ onto_first byte pieces
     onto [] = refl
     onto (piece ∷ pieces) = refl
+
     go : (b : Bool) → lines_taken s (before [] (cond b ([] ∷ slice_split is_line_feed bytes) (onto_first byte (slice_split is_line_feed bytes)))) ≡ lines_taken s (cond b ([] ∷ slice_split is_line_feed bytes) (onto_first byte (slice_split is_line_feed bytes)))
     go true = refl
     go false = ap (lines_taken s) (onto (slice_split is_line_feed bytes))

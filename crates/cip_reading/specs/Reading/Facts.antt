@@ -1,17 +1,17 @@
 -- What was said of a program so far, as flat lists, and the state of the reader that has read it.
-use Rattle.std.proofs.Common.{◌≡◌, ◌⊎◌, inl, inr, ℕ, zero, suc, ◌+◌, ◌-◌, ◌<◌, ◌≤◌, Bool, true, false, cond, List, [], ◌∷◌, ◌++◌, map, length, Option, None, Some, refl, sym, ap, ◌∙◌, subst, append_assoc, arith, ltb}
-use Rattle.std.specs.Prelude.{⊤, Decides, ◌≢◌, is_some, if◌then◌else◌, nat_lt, nat_eq, ◌&&◌}
+use Rattle.std.proofs.Common.{◌≡◌, ◌⊎◌, inl, inr, ℕ, zero, suc, ◌+◌, ◌<◌, ◌≤◌, Bool, true, false, cond, List, [], ◌∷◌, ◌++◌, map, length, Option, None, Some, refl, sym, ap, ◌∙◌, subst, arith}
+use Rattle.std.specs.Prelude.{⊤, Decides, ◌≢◌, is_some, if◌then◌else◌, ◌&&◌}
 use Rattle.std.specs.Str.{bytes_eq}
 use Rattle.std.specs.List.{AllByRecursion, filter}
 use lib.Chars.{codes}
-use Rattle.std.proofs.lemmas.Bool.{lt-ltb, ltb-true, eqb-true, eq-eqb, ne_eqb, cases_Bool}
+use Rattle.std.proofs.lemmas.Bool.{lt-ltb, eq-eqb, ne_eqb}
 use Rattle.std.proofs.lemmas.List.{length-append}
 use Rattle.std.proofs.lemmas.List.Elements.{filter-append}
-use Rattle.cip_rational.specs.Rational.{ℚ, negate, zeroℚ}
+use Rattle.cip_rational.specs.Rational.{ℚ, negate}
 use Rattle.cip_problem.specs.Program.{Term, Row}
 use Rattle.cip_syntax.specs.ThinText.{Value, BoundLine, Coefficient, number, digits_at, number_or_zero, limit_digits, bound_digits, IsShortNumber, IsIn, AreDistinct, NamesOther, NoTwoValues, is_not_zero, HasShortName, rational, with_term}
 use Rattle.cip_reading.specs.Reading.{Stage, Mark, Column, Reading, is_above_last, is_at}
-use Rattle.cip_reading.specs.Reading.Names.{names_cases, same_bytes, other_bytes, bytes_same, IsLast, all_front, all_push, all_last, all_weaker}
+use Rattle.cip_reading.specs.Reading.Names.{names_cases, same_bytes, other_bytes, all_front, all_push, all_last, all_weaker}
 
 -- the objective, the rows, the columns that have a line, and the values of COLUMNS, of RHS and of BOUNDS, in order
 pub record Facts : Type 0 where
@@ -198,6 +198,7 @@ limit_decides (first ∷ limits) row = go (names_cases first.row row) (limit_dec
   where
     names : List (List ℕ)
     names = map (λ value. value.row) limits
+
     go : ((bytes_eq first.row row ≡ true) × (first.row ≡ row)) ⊎ ((bytes_eq first.row row ≡ false) × (¬ (first.row ≡ row))) → Decides (is_some (limit_digits limits row)) (IsIn row (map (λ value. value.row) limits)) → Decides (is_some (limit_digits (first ∷ limits) row)) (IsIn row (first.row ∷ map (λ value. value.row) limits))
     go (inl p) d = (λ _. inl (sym p.1), λ _. rw p.0 refl)
     go (inr p) d = (λ e. inr (d.0 (rw p.0 at e)), elim [ inl e ↦ absurd (p.1 (sym e)) | inr m ↦ rw p.0 (d.1 m) ])

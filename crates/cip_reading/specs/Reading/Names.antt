@@ -1,9 +1,9 @@
 -- Names and their numbers: what stands in a list, lists without repeats, and look-ups by number.
-use Rattle.std.proofs.Common.{◌≡◌, ℕ, zero, suc, ◌+◌, ◌<◌, ◌≤◌, Bool, true, false, cond, ◌⊎◌, inl, inr, List, [], ◌∷◌, ◌++◌, map, set, get_or, length, Option, None, Some, refl, sym, ap, ◌∙◌, subst, append_assoc, arith, add-one, add-suc, add-zero}
-use Rattle.std.specs.Prelude.{⊤, if◌then◌else◌}
+use Rattle.std.proofs.Common.{◌≡◌, ℕ, suc, ◌+◌, ◌≤◌, Bool, true, false, cond, ◌⊎◌, inl, inr, List, [], ◌∷◌, ◌++◌, map, set, get_or, length, None, Some, refl, sym, ap, ◌∙◌, subst, arith}
+use Rattle.std.specs.Prelude.{if◌then◌else◌}
 use Rattle.std.specs.Str.{bytes_eq}
 use Rattle.std.specs.List.{AllByRecursion, position_from}
-use Rattle.std.proofs.lemmas.List.{append-nil, map-append, length-map, length-append, set_at, get_or_at}
+use Rattle.std.proofs.lemmas.List.{map-append, length-map, set_at, get_or_at}
 use Rattle.std.proofs.lemmas.Slice.Eq.{bytes_eq-Decides}
 use Rattle.std.proofs.lemmas.Bool.{false_from_ne_true}
 use Rattle.cip_syntax.specs.ThinText.{IsIn, AreDistinct, not_again, without_repeats}
@@ -189,8 +189,10 @@ map_set_at g h names name n p d e =
   where
     apart : AreDistinct (p.before ++ name ∷ p.after)
     apart = subst AreDistinct p.split d
+
     front : map h p.before ≡ map g p.before
     front = map_same g h p.before (λ o m. e o (subst (IsIn o) (sym p.split) (IsIn-left o p.before (name ∷ p.after) m)) (λ q. p.first (subst (λ x. IsIn x p.before) q m)))
+
     back : map h p.after ≡ map g p.after
     back = map_same g h p.after (λ o m. e o (subst (IsIn o) (sym p.split) (IsIn-right o p.before (name ∷ p.after) (inr m))) (λ q. distinct_after p.before name p.after apart (subst (λ x. IsIn x p.after) q m)))
 
