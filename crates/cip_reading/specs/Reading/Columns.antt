@@ -15,6 +15,7 @@ use Rattle.cip_reading.specs.Reading.Names.{names_cases, IsLast, IsPlace, number
 use Rattle.cip_reading.specs.Reading.Takes.{Takes, Taken, Refused, takes_like, takes_at, takes_test, leb_decides}
 use Rattle.cip_reading.specs.Reading.Facts.{Facts, Keeps, reading_of, row_read, mark_read, column_read, high_read, terms_of, last_valued, new_column_none, terms_push, last_push}
 
+-- what was said, with other columns
 abbrev pub with_columns : Facts → List (List ℕ) → Facts
 with_columns f columns = record {
   objective = f.objective;
@@ -25,6 +26,7 @@ with_columns f columns = record {
   bounds = f.bounds;
 }
 
+-- what was said, with the column of a further line
 abbrev pub with_column : Facts → List ℕ → Facts
 with_column f name = with_columns f (with_last f.columns name)
 

@@ -14,9 +14,11 @@ use Rattle.cip_reading.specs.Reading.Values.{with_value}
 
 -- ---- flat lists
 
+-- the values of lines of COLUMNS, each with its column
 abbrev pub coefficients_in : List ValueLine → List Coefficient
 coefficients_in lines = flat_map (λ line. map (λ value. record { column = line.head; value = value }) (values_of line)) lines
 
+-- the columns of lines of COLUMNS
 abbrev pub columns_in : List ValueLine → List (List ℕ)
 columns_in lines = without_repeats (map (λ line. line.head) lines)
 
@@ -31,6 +33,7 @@ said objective rows entries limits bounds = record {
   bounds = bounds;
 }
 
+-- what contents say
 abbrev pub facts_of : Contents → Facts
 facts_of c = said c.objective c.rows c.entries c.limits c.bounds
 
@@ -41,6 +44,7 @@ flat_map-append f (x ∷ xs) ys = ap (λ zs. f x ++ zs) (flat_map-append f xs ys
 pub columns_push : (lines : List ValueLine) (line : ValueLine) → columns_in (lines ++ line ∷ []) ≡ with_last (columns_in lines) line.head
 columns_push lines line = ap without_repeats (map-append (λ l. l.head) lines (line ∷ [])) ∙ without_repeats-push (map (λ l. l.head) lines) line.head
 
+-- a line with one value, and a line with two
 abbrev pub line_with : (column row digits : List ℕ) → ValueLine
 line_with column row digits = record { head = column; first = record { row = row; digits = digits }; second = None }
 
@@ -147,6 +151,7 @@ rules_keep c rules = record {
   short_column_names = rules.short_column_names;
 }
 
+-- the columns that have a line of BOUNDS
 abbrev pub bound_columns : Contents → List (List ℕ)
 bound_columns c = map (λ line. line.column) c.bounds
 

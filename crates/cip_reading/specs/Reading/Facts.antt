@@ -39,6 +39,7 @@ last_valued values at [] row last = last
 last_valued values at (column ∷ columns) row last =
     last_valued values (at + 1) columns row (if is_some (digits_at values column row) then Some at else last)
 
+-- what was read of a row
 abbrev pub row_read : Facts → List ℕ → Row
 row_read f row = record {
   terms = terms_of f.values 0 f.columns row;
@@ -46,13 +47,16 @@ row_read f row = record {
   high = Some (rational (number_or_zero (limit_digits f.limits row)));
 }
 
+-- what was met of a row
 abbrev pub mark_read : Facts → List ℕ → Mark
 mark_read f row = record { last_column = last_valued f.values 0 f.columns row None; has_limit = is_some (limit_digits f.limits row) }
 
+-- the high side of a column, if it was given
 abbrev pub high_read : Option (List ℕ) → Option ℚ
 high_read None = None
 high_read (Some digits) = Some (rational (number digits))
 
+-- what was read of a column
 abbrev pub column_read : Facts → List ℕ → Column
 column_read f column = record {
   cost = negate (rational (coefficient_in f.values column f.objective));
@@ -77,9 +81,11 @@ reading_of stage set_name f = record {
 
 -- ---- the rules on what was said
 
+-- a name that a row can have
 abbrev pub IsPlain : List ℕ → Type 0
 IsPlain name = name ≢ codes "'MARKER'"
 
+-- what was said so far keeps the rules of a thin text, but that each column has its bound and each section one set
 pub record Keeps (f : Facts) : Type 0 where
   pub rows_differ : AreDistinct (f.objective ∷ f.rows)
   pub rows_plain : AllByRecursion IsPlain (f.objective ∷ f.rows)
@@ -101,6 +107,7 @@ pub record Keeps (f : Facts) : Type 0 where
 
 -- ---- values by look-up
 
+-- a value with its column
 abbrev pub entry_of : (column row digits : List ℕ) → Coefficient
 entry_of column row digits = record { column = column; value = record { row = row; digits = digits } }
 
@@ -257,6 +264,7 @@ last_push values at (first ∷ columns) column row last =
     last_push values (at + 1) columns column row (cond (is_some (digits_at values first row)) (Some at) last)
     ∙ ap (λ n. cond (is_some (digits_at values column row)) (Some n) (last_valued values at (first ∷ columns) row last)) e
 
+-- terms on columns below n
 abbrev pub StandBelow : ℕ → List Term → Type 0
 StandBelow n terms = AllByRecursion (λ term. term.column < n) terms
 

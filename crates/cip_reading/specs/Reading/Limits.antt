@@ -11,6 +11,7 @@ use Rattle.cip_reading.specs.Reading.Facts.{Facts, Keeps, reading_of, row_read, 
 
 -- ---- limits
 
+-- what was said, with a further value of RHS
 abbrev pub with_limit : Facts → Value → Facts
 with_limit f value = record {
   objective = f.objective;
@@ -133,6 +134,7 @@ before_limit f value keeps = record {
 
 -- ---- bounds
 
+-- what was said, with a further line of BOUNDS
 abbrev pub with_bound : Facts → BoundLine → Facts
 with_bound f line = record {
   objective = f.objective;

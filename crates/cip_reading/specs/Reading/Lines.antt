@@ -56,6 +56,7 @@ entry_line_takes_two objective rows entries column row digits other_row other_di
 
 -- ---- the set of a section
 
+-- the set of a section: that of its first line
 abbrev pub first_of : List (List ℕ) → Option (List ℕ)
 first_of [] = None
 first_of (name ∷ names) = Some name
@@ -73,6 +74,7 @@ pub record LimitsKeep (objective : List ℕ) (rows : List (List ℕ)) (entries l
   pub keeps : Keeps (said objective rows entries limits [])
   pub one : AreOne (map (λ line. line.head) limits)
 
+-- the state of the reader after lines of RHS
 abbrev pub limits_reading : List ℕ → List (List ℕ) → List ValueLine → List ValueLine → Reading
 limits_reading objective rows entries limits = reading_of InRhs (first_of (map (λ line. line.head) limits)) (said objective rows entries limits [])
 
@@ -161,6 +163,7 @@ pub record BoundsKeep (objective : List ℕ) (rows : List (List ℕ)) (entries l
   pub keeps : Keeps (said objective rows entries limits bounds)
   pub one : AreOne (map (λ line. line.set_) bounds)
 
+-- the state of the reader after lines of BOUNDS
 abbrev pub bounds_reading : List ℕ → List (List ℕ) → List ValueLine → List ValueLine → List BoundLine → Reading
 bounds_reading objective rows entries limits bounds = reading_of InBounds (first_of (map (λ line. line.set_) bounds)) (said objective rows entries limits bounds)
 

@@ -122,9 +122,11 @@ pub record IsPlace (names : List (List ℕ)) (name : List ℕ) (n : ℕ) : Type 
   pub place : length before ≡ n
   pub first : ¬ IsIn name before
 
+-- a name has a number, where the first one is i
 abbrev pub HasPlace : List (List ℕ) → List ℕ → ℕ → Type 0
 HasPlace names name i = (k : ℕ) × (position_from (bytes_eq name) i names ≡ Some (k + i)) × IsPlace names name k
 
+-- a name has no number
 abbrev pub HasNoPlace : List (List ℕ) → List ℕ → ℕ → Type 0
 HasNoPlace names name i = (position_from (bytes_eq name) i names ≡ None) × (¬ IsIn name names)
 
@@ -150,6 +152,7 @@ places_cases (other ∷ names) name i = go (names_cases name other) (places_case
 abbrev pub IsNumbered : List (List ℕ) → List ℕ → Type 0
 IsNumbered names name = (n : ℕ) × (number_of names name ≡ Some n) × IsPlace names name n
 
+-- a name stands nowhere
 abbrev pub IsNowhere : List (List ℕ) → List ℕ → Type 0
 IsNowhere names name = (number_of names name ≡ None) × (¬ IsIn name names)
 
@@ -198,6 +201,7 @@ map_set_at g h names name n p d e =
 
 -- ---- the last name of a list without repeats
 
+-- a name is the last one
 pub record IsLast (names : List (List ℕ)) (name : List ℕ) : Type 0 where
   pub before : List (List ℕ)
   pub split : names ≡ before ++ name ∷ []

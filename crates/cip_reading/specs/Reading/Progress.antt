@@ -15,6 +15,7 @@ use Rattle.cip_reading.specs.Reading.Rows.{row_facts, RowsKeep, rows_keep, row_t
 use Rattle.cip_reading.specs.Reading.Contents.{said, facts_of, line_with, line_with_two, keeps_rules}
 use Rattle.cip_reading.specs.Reading.Lines.{entry_line_takes, entry_line_takes_two, LimitsKeep, limits_reading, limit_line_takes, limit_line_takes_two, BoundsKeep, bounds_reading, bound_line_takes}
 
+-- names, or the words of a line
 abbrev pub Names : Type 0
 Names = List (List ℕ)
 
@@ -35,6 +36,7 @@ pub data Progress : Type 0 where
 
 -- ---- the records so far
 
+-- the records up to each line that leads on
 abbrev pub name_records : Names → List Record
 name_records title = Section (codes "NAME" ∷ title) ∷ []
 
@@ -52,15 +54,18 @@ abbrev pub objective_records : Names → List ℕ → List Record
 objective_records title objective =
     Section (codes "NAME" ∷ title) ∷ Section (codes "OBJSENSE" ∷ []) ∷ Entry (codes "MAX" ∷ []) ∷ Section (codes "ROWS" ∷ []) ∷ Entry (codes "N" ∷ objective ∷ []) ∷ []
 
+-- the records up to a row, and up to the line COLUMNS
 abbrev pub rows_records : Names → List ℕ → Names → List Record
 rows_records title objective rows = objective_records title objective ++ map row_record rows
 
 abbrev pub marker_records : Names → List ℕ → Names → List Record
 marker_records title objective rows = rows_records title objective rows ++ Section (codes "COLUMNS" ∷ []) ∷ []
 
+-- a marker line
 abbrev pub marker_record : List ℕ → List ℕ → Record
 marker_record name kind = Entry (name ∷ codes "'MARKER'" ∷ kind ∷ [])
 
+-- the records up to a line of COLUMNS, and up to its end marker
 abbrev pub columns_records : Names → List ℕ → Names → List ℕ → List ValueLine → List Record
 columns_records title objective rows begin_marker entries =
     (marker_records title objective rows ++ marker_record begin_marker (codes "'INTORG'") ∷ []) ++ map value_record entries
@@ -69,6 +74,7 @@ abbrev pub rhs_records : Names → List ℕ → Names → List ℕ → List Valu
 rhs_records title objective rows begin_marker entries end_marker =
     columns_records title objective rows begin_marker entries ++ marker_record end_marker (codes "'INTEND'") ∷ []
 
+-- the records up to a line of RHS, up to a line of BOUNDS, and up to ENDATA
 abbrev pub limits_records : Names → List ℕ → Names → List ℕ → List ValueLine → List ℕ → List ValueLine → List Record
 limits_records title objective rows begin_marker entries end_marker limits =
     (rhs_records title objective rows begin_marker entries end_marker ++ Section (codes "RHS" ∷ []) ∷ []) ++ map value_record limits
@@ -80,6 +86,7 @@ bounds_records c =
 abbrev pub end_records : Contents → List Record
 end_records c = bounds_records c ++ Section (codes "ENDATA" ∷ []) ∷ []
 
+-- the records so far
 abbrev pub records_at : Progress → List Record
 records_at AtName = []
 records_at (AtSenseSection title) = name_records title
@@ -96,15 +103,18 @@ records_at (AtEnd contents) = end_records contents
 
 -- ---- the state of the reader, and the rules so far
 
+-- the state before the rows
 abbrev pub early : Stage → Reading
 early stage = reading_of stage None (row_facts [] [])
 
+-- the states in BOUNDS and at the end
 abbrev pub bounds_state : Contents → Reading
 bounds_state c = bounds_reading c.objective c.rows c.entries c.limits c.bounds
 
 abbrev pub end_state : Contents → Reading
 end_state c = reading_of Done None (facts_of c)
 
+-- the state of the reader
 abbrev pub state_at : Progress → Reading
 state_at AtName = early NameDue
 state_at (AtSenseSection title) = early SenseSectionDue
@@ -124,6 +134,7 @@ pub record ContentsKeep (c : Contents) : Type 0 where
   pub bounds : BoundsKeep c.objective c.rows c.entries c.limits c.bounds
   pub one_limit_set : AreOne (map (λ line. line.head) c.limits)
 
+-- what was said so far keeps the rules
 abbrev pub IsGood : Progress → Type 0
 IsGood AtName = ⊤
 IsGood (AtSenseSection title) = ⊤

@@ -14,6 +14,7 @@ use Rattle.cip_reading.specs.Reading.Names.{names_cases, IsLast, IsPlace, number
 use Rattle.cip_reading.specs.Reading.Takes.{Takes, Taken, Refused, takes_like, takes_at, takes_bind, takes_test, short_number_takes}
 use Rattle.cip_reading.specs.Reading.Facts.{Facts, Keeps, reading_of, row_read, mark_read, column_read, terms_of, last_valued, entry_of, digits_at-other, digits_at-new, IsOther, all_none, none_all, once_front, once_push, one_if, count_push, none_from_false, terms_same, last_same, terms_push, last_push, terms_below, above_last, at_last_column}
 
+-- what was said, with a further value of COLUMNS
 abbrev pub with_value : Facts → Coefficient → Facts
 with_value f entry = record {
   objective = f.objective;
@@ -95,6 +96,7 @@ put_value t number column n mark row =
       marks = slice_set t.marks number (record mark { last_column = Some column });
     }))
 
+-- no value names this column and row yet
 abbrev IsFresh : Facts → List ℕ → List ℕ → Type 0
 IsFresh f column row = AllByRecursion (IsOther column row) f.values
 
