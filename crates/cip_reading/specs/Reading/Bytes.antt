@@ -1,16 +1,21 @@
 -- A text that comes byte after byte is read as its lines are.
 --     ended-bytes_taken      what the bytes of a text give is what its lines give
 --     with_empty_end         all pieces between line feeds, the last one also where it is empty, are read as the lines
+--     fold-byte_taken        the bytes as a fold
 --     bytes_taken-append     a text in parts
 --     bytes_taken-part, bytes_taken-line      bytes without a line feed, and with one at their end
 --     bytes_taken-refused, bytes_taken-done      after a refusal, and after ENDATA, nothing changes what was read
 use Rattle.std.proofs.Common.{◌≡◌, ℕ, Bool, true, false, cond, List, [], ◌∷◌, ◌++◌, Option, None, Some, refl, sym, ap, ◌∙◌, append_assoc}
-use Rattle.std.specs.Prelude.{if◌then◌else◌}
-use Rattle.std.specs.List.{AllByRecursion, slice_split, onto_first}
+use Rattle.std.specs.List.{AllByRecursion, fold, slice_split, onto_first}
 use Rattle.std.proofs.lemmas.List.{append-nil}
-use Rattle.cip_syntax.specs.Lines.{is_line_feed, is_filled, record_of, without_empty_end, lines}
-use Rattle.cip_reading.specs.Reading.{Reading, bind, is_done, record_or_none, line_taken, lines_taken}
+use Rattle.cip_syntax.specs.Lines.{is_line_feed, without_empty_end, lines}
+use Rattle.cip_reading.specs.Reading.{Reading, bind, is_done, line_taken, lines_taken}
 use Rattle.cip_reading.specs.Reading.Texts.{Stream, ended, byte_taken, bytes_taken}
+
+-- as a fold
+pub fold-byte_taken : (t : Stream) (bytes : List ℕ) → fold byte_taken t bytes ≡ bytes_taken t bytes
+fold-byte_taken t [] = refl
+fold-byte_taken t (byte ∷ bytes) = fold-byte_taken (byte_taken t byte) bytes
 
 -- a text in parts
 pub bytes_taken-append : (t : Stream) (xs ys : List ℕ) → bytes_taken t (xs ++ ys) ≡ bytes_taken (bytes_taken t xs) ys
@@ -45,6 +50,7 @@ bytes_taken-done s unended (byte ∷ bytes) h = go (is_line_feed byte) (bytes_ta
   where
     same : line_taken s unended ≡ Some s
     same = rw h refl
+
     go : (b : Bool) → (bytes_taken (record { reading = Some s; unended = [] }) bytes).reading ≡ Some s → (bytes_taken (record { reading = Some s; unended = unended ++ byte ∷ [] }) bytes).reading ≡ Some s → (bytes_taken (cond b (record { reading = line_taken s unended; unended = [] }) (record { reading = Some s; unended = unended ++ byte ∷ [] })) bytes).reading ≡ Some s
     go true k l = ap (λ o. (bytes_taken (record { reading = o; unended = [] }) bytes).reading) same ∙ k
     go false k l = l
@@ -67,6 +73,7 @@ with_empty_end s (piece ∷ other ∷ pieces) = with_empty_end (bind s (λ t. li
 
 -- ---- bytes before the first piece
 
+-- pieces, with bytes in front of the first one
 abbrev before : List ℕ → List (List ℕ) → List (List ℕ)
 before bytes [] = bytes ∷ []
 before bytes (piece ∷ pieces) = (bytes ++ piece) ∷ pieces

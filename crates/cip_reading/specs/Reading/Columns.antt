@@ -1,20 +1,21 @@
 -- The column of a line of COLUMNS: the reader takes it exactly where the rules are kept with it.
-use Rattle.std.proofs.Common.{◌≡◌, ◌⊎◌, inl, inr, ℕ, zero, suc, ◌+◌, ◌-◌, ◌<◌, ◌≤◌, Bool, true, false, cond, List, [], ◌∷◌, ◌++◌, map, length, Option, None, Some, refl, sym, ap, ◌∙◌, subst, arith, eqb}
-use Rattle.std.specs.Prelude.{Decides, is_some, if◌then◌else◌, nat_eq, nat_lt}
+use Rattle.std.proofs.Common.{◌≡◌, ◌⊎◌, inl, inr, ℕ, suc, ◌+◌, ◌<◌, ◌≤◌, Bool, true, false, cond, List, [], ◌∷◌, ◌++◌, map, length, Option, None, Some, refl, sym, ap, ◌∙◌, subst, arith}
+use Rattle.std.specs.Prelude.{is_some, nat_eq}
 use Rattle.std.specs.Str.{bytes_eq}
-use Rattle.std.specs.List.{AllByRecursion, filter}
+use Rattle.std.specs.List.{AllByRecursion}
 use Rattle.std.proofs.lemmas.Bool.{eqb-true, eqb-false}
 use Rattle.std.proofs.lemmas.Bool.Decides.{Decides-and, Decides-ltb}
 use Rattle.std.proofs.lemmas.List.{length-append, length-map, append-nil, map-append}
-use Rattle.cip_rational.specs.Rational.{ℚ, negate, zeroℚ}
+use Rattle.cip_rational.specs.Rational.{negate, zeroℚ}
 use Rattle.cip_rational.specs.Rational.Ring.{negate_zero, zero_is}
 use Rattle.cip_rational.specs.Rational.Whole.{integer-pos}
-use Rattle.cip_syntax.specs.ThinText.{BoundLine, Coefficient, number_or_zero, digits_at, bound_digits, IsIn, AreDistinct, is_not_zero, HasShortName, rational, with_term}
-use Rattle.cip_reading.specs.Reading.{Stage, Reading, Column, number_of, no_column, column_added, column_found, column_taken}
+use Rattle.cip_syntax.specs.ThinText.{BoundLine, number_or_zero, digits_at, bound_digits, IsIn, AreDistinct, HasShortName, rational, with_term}
+use Rattle.cip_reading.specs.Reading.{Stage, Reading, number_of, no_column, column_added, column_found, column_taken}
 use Rattle.cip_reading.specs.Reading.Names.{names_cases, IsLast, IsPlace, number_cases, number_at, IsNumbered, IsNowhere, place_in, map_same, distinct_push, distinct_back, all_in, all_weaker, with_last, with_last_same, with_last_other, with_last_is, with_last_keeps, with_last_push_all, with_last_distinct, with_last_length, with_last_all, last_in}
 use Rattle.cip_reading.specs.Reading.Takes.{Takes, Taken, Refused, takes_like, takes_at, takes_test, leb_decides}
 use Rattle.cip_reading.specs.Reading.Facts.{Facts, Keeps, reading_of, row_read, mark_read, column_read, high_read, terms_of, last_valued, new_column_none, terms_push, last_push}
 
+-- what was said, with other columns
 abbrev pub with_columns : Facts → List (List ℕ) → Facts
 with_columns f columns = record {
   objective = f.objective;
@@ -25,6 +26,7 @@ with_columns f columns = record {
   bounds = f.bounds;
 }
 
+-- what was said, with the column of a further line
 abbrev pub with_column : Facts → List ℕ → Facts
 with_column f name = with_columns f (with_last f.columns name)
 
@@ -71,20 +73,28 @@ added_is stage set_name f name keeps known apart = λ i. record (reading_of stag
   where
     g : Facts
     g = with_columns f (f.columns ++ name ∷ [])
+
     objective_is : last_valued f.values 0 f.columns f.objective None ≡ last_valued f.values 0 (f.columns ++ name ∷ []) f.objective None
     objective_is = sym (last_kept f name f.objective known apart)
+
     rows_are : map (row_read f) f.rows ≡ map (row_read g) f.rows
     rows_are = map_same (row_read g) (row_read f) f.rows (λ row m. let e = sym (terms_kept f name row known apart) in λ i. record (row_read f row) { terms = e i })
+
     marks_are : map (mark_read f) f.rows ≡ map (mark_read g) f.rows
     marks_are = map_same (mark_read g) (mark_read f) f.rows (λ row m. let e = sym (last_kept f name row known apart) in λ i. record (mark_read f row) { last_column = e i })
+
     none : digits_at f.values name f.objective ≡ None
     none = new_column_none f.values f.columns name f.objective known apart
+
     cost_is : zeroℚ ≡ negate (rational (number_or_zero (digits_at f.values name f.objective)))
     cost_is = sym (ap (λ o. negate (rational (number_or_zero o))) none ∙ ap negate rational_zero ∙ negate_zero)
+
     high_is : None ≡ high_read (bound_digits f.bounds name)
     high_is = sym (ap high_read (new_bound_none f.bounds f.columns name keeps.bounds_known apart))
+
     new_is : no_column ≡ column_read f name
     new_is = λ i. record { cost = cost_is i; high = high_is i }
+
     columns_are : map (column_read f) f.columns ++ no_column ∷ [] ≡ map (column_read f) (f.columns ++ name ∷ [])
     columns_are = (λ i. map (column_read f) f.columns ++ new_is i ∷ []) ∙ sym (map-append (column_read f) f.columns (name ∷ []))
 
@@ -110,10 +120,13 @@ column_takes stage set_name f name keeps known = go (number_cases f.columns name
   where
     s : Reading
     s = reading_of stage set_name f
+
     next : Reading
     next = reading_of stage set_name (with_column f name)
+
     columns_length : length (map (column_read f) f.columns) ≡ length f.columns
     columns_length = length-map f.columns (column_read f)
+
     new : ¬ IsIn name f.columns → Takes (ColumnRule f name) (column_added s name) next
     new apart =
         takes_at (ColumnRule f name) (column_added s name) (column_added s name) _ next refl
@@ -125,8 +138,10 @@ column_takes stage set_name f name keeps known = go (number_cases f.columns name
       where
         named : with_last f.columns name ≡ f.columns ++ name ∷ []
         named = with_last_other f.columns name (λ l. apart (last_in f.columns name l))
+
         longer : length (f.columns ++ name ∷ []) ≡ length f.columns + 1
         longer = length-append f.columns (name ∷ [])
+
     old : (n : ℕ) → number_of f.columns name ≡ Some n → IsPlace f.columns name n → (b : Bool) → nat_eq (n + 1) (length (map (column_read f) f.columns)) ≡ b → Takes (ColumnRule f name) (cond b (Some s) None) next
     old n h p true e =
         let last = at_end f.columns name n p (eqb-true (n + 1) (length (map (column_read f) f.columns)) e ∙ columns_length) in
@@ -138,6 +153,7 @@ column_takes stage set_name f name keeps known = go (number_cases f.columns name
         Refused
         (λ r. distinct_back f.columns name [] (subst AreDistinct (with_last_other f.columns name (not_last f.columns name n keeps.columns_together h (λ q. eqb-false (n + 1) (length (map (column_read f) f.columns)) e (q ∙ sym columns_length)))) r.0) (place_in f.columns name n p))
         refl
+
     go : IsNumbered f.columns name ⊎ IsNowhere f.columns name → Takes (ColumnRule f name) (column_taken s name) next
     go (inl h) = takes_at (ColumnRule f name) (column_found s name (Some h.0)) _ next _ (ap (column_found s name) (sym h.1)) refl (old h.0 h.1 h.2 (nat_eq (h.0 + 1) (length (map (column_read f) f.columns))) refl)
     go (inr h) = takes_at (ColumnRule f name) (column_found s name None) _ next _ (ap (column_found s name) (sym h.0)) refl (new h.1)

@@ -1,21 +1,18 @@
 -- The records of contents that keep the rules are read up to their end.
-use Rattle.std.proofs.Common.{◌≡◌, ◌⊎◌, inl, inr, ℕ, ◌≤◌, Bool, true, false, cond, List, [], ◌∷◌, ◌++◌, map, length, Option, None, Some, refl, sym, ap, ◌∙◌, subst}
-use Rattle.std.specs.Prelude.{if◌then◌else◌, ◌&&◌, nat_eq}
-use Rattle.std.specs.Str.{bytes_eq}
+use Rattle.std.proofs.Common.{◌≡◌, ℕ, true, false, List, [], ◌∷◌, ◌++◌, map, Option, None, Some, refl, sym, ap, ◌∙◌, subst}
 use lib.Chars.{codes}
 use Rattle.std.proofs.lemmas.Bool.{eq-eqb, and_left}
 use Rattle.std.proofs.lemmas.List.{append_assoc, append-nil, length-map}
-use Rattle.cip_problem.specs.Program.{Program}
-use Rattle.cip_syntax.specs.Lines.{Record, Section, Entry, lines, records}
-use Rattle.cip_syntax.specs.ThinText.{Value, ValueLine, BoundLine, Contents, value_record, bound_record, row_record, records_of, column_names, IsIn, KeepsRules, AreOne, program_of, IsThin}
-use Rattle.cip_reading.specs.Reading.{Stage, InRows, InColumns, InRhs, InBounds, Done, Reading, start, bind, is_row_name, is_end_marker, can_go, record_taken, lines_taken, outcome}
-use Rattle.cip_reading.specs.Reading.Names.{other_bytes, all_front, all_in}
+use Rattle.cip_syntax.specs.Lines.{Record, Section}
+use Rattle.cip_syntax.specs.ThinText.{Value, ValueLine, BoundLine, Contents, value_record, bound_record, row_record, records_of, column_names, KeepsRules}
+use Rattle.cip_reading.specs.Reading.{InRows, InColumns, Done, start, is_row_name, is_end_marker, can_go}
+use Rattle.cip_reading.specs.Reading.Names.{other_bytes, all_in}
 use Rattle.cip_reading.specs.Reading.Takes.{taken, row_name_decides}
 use Rattle.cip_reading.specs.Reading.Facts.{Facts, Keeps, IsPlain, reading_of, entry_of}
-use Rattle.cip_reading.specs.Reading.Rows.{row_facts, RowsKeep, rows_keep, keep_rows, before_rows, row_takes}
+use Rattle.cip_reading.specs.Reading.Rows.{row_facts, RowsKeep, keep_rows, before_rows, row_takes}
 use Rattle.cip_reading.specs.Reading.Columns.{with_column}
-use Rattle.cip_reading.specs.Reading.Values.{with_value, value_rule, before_value}
-use Rattle.cip_reading.specs.Reading.Contents.{said, facts_of, said_with, said_with_two, line_with, line_with_two, rules_keep, rules_count, program_is}
+use Rattle.cip_reading.specs.Reading.Values.{with_value, value_rule}
+use Rattle.cip_reading.specs.Reading.Contents.{said, facts_of, said_with, rules_keep, rules_count}
 use Rattle.cip_reading.specs.Reading.Lines.{entry_line_takes, entry_line_takes_two, LimitsKeep, limits_reading, limit_line_takes, limit_line_takes_two, BoundsKeep, bounds_reading, bound_line_takes, before_entry, before_limit_line, before_bound_line}
 use Rattle.cip_reading.specs.Reading.Progress.{Names, objective_records, marker_record, bounds_state, end_state}
 use Rattle.cip_reading.specs.Reading.Sound.{record_step, records_taken, records_end}

@@ -1,23 +1,24 @@
 -- What contents say as flat lists, and the program that the reader has at the end.
-use Rattle.std.proofs.Common.{◌≡◌, ◌⊎◌, inl, inr, ℕ, zero, suc, ◌+◌, ◌<◌, ◌≤◌, Bool, true, false, cond, List, [], ◌∷◌, ◌++◌, map, length, Option, None, Some, refl, sym, ap, ◌∙◌, subst, append_assoc, arith, eqb}
-use Rattle.std.specs.Prelude.{Decides, is_some, if◌then◌else◌, nat_eq}
+use Rattle.std.proofs.Common.{◌≡◌, ◌⊎◌, inl, inr, ℕ, suc, ◌+◌, ◌≤◌, true, false, List, [], ◌∷◌, ◌++◌, map, length, Option, None, Some, refl, sym, ap, ◌∙◌, subst, append_assoc, arith}
+use Rattle.std.specs.Prelude.{is_some}
 use Rattle.std.specs.List.{AllByRecursion, flat_map}
-use Rattle.std.proofs.lemmas.List.{length-append, length-map, map-append, append-nil}
-use Rattle.std.proofs.lemmas.Bool.{eqb-true, eq-eqb}
-use Rattle.cip_rational.specs.Rational.{ℚ, negate, zeroℚ}
-use Rattle.cip_problem.specs.Program.{Term, Sides, Row, Program}
-use Rattle.cip_syntax.specs.ThinText.{Value, ValueLine, BoundLine, Contents, Coefficient, column_names, coefficients, limits_of, values_of, optional_value, without_repeats, number, number_or_zero, bound_digits, coefficient, high_side, IsIn, AreDistinct, AreOne, KeepsRules, rational, with_term, terms_from, row_of, sides_of, program_of}
-use Rattle.cip_reading.specs.Reading.{Stage, Done, Column, Reading, program_read}
-use Rattle.cip_reading.specs.Reading.Names.{IsIn-left, IsIn-right, IsIn-cases, IsPlace, IsNumbered, IsNowhere, number_cases, is_in_or_not, map_same, all_in, all_from_in, with_last, without_repeats-push, without_repeats_keeps}
+use Rattle.std.proofs.lemmas.List.{length-append, length-map, map-append}
+use Rattle.cip_rational.specs.Rational.{negate, zeroℚ}
+use Rattle.cip_problem.specs.Program.{Sides}
+use Rattle.cip_syntax.specs.ThinText.{Value, ValueLine, BoundLine, Contents, Coefficient, column_names, coefficients, values_of, optional_value, without_repeats, number_or_zero, bound_digits, coefficient, IsIn, AreDistinct, AreOne, KeepsRules, rational, with_term, terms_from, row_of, sides_of, program_of}
+use Rattle.cip_reading.specs.Reading.{Stage, Column, program_read}
+use Rattle.cip_reading.specs.Reading.Names.{IsIn-left, IsIn-right, IsIn-cases, IsNumbered, IsNowhere, number_cases, is_in_or_not, map_same, all_in, all_from_in, with_last, without_repeats-push, without_repeats_keeps}
 use Rattle.cip_reading.specs.Reading.Facts.{Facts, Keeps, reading_of, row_read, column_read, high_read, terms_of, entry_of, bound_decides}
 use Rattle.cip_reading.specs.Reading.Columns.{HasColumns, with_column}
 use Rattle.cip_reading.specs.Reading.Values.{with_value}
 
 -- ---- flat lists
 
+-- the values of lines of COLUMNS, each with its column
 abbrev pub coefficients_in : List ValueLine → List Coefficient
 coefficients_in lines = flat_map (λ line. map (λ value. record { column = line.head; value = value }) (values_of line)) lines
 
+-- the columns of lines of COLUMNS
 abbrev pub columns_in : List ValueLine → List (List ℕ)
 columns_in lines = without_repeats (map (λ line. line.head) lines)
 
@@ -32,6 +33,7 @@ said objective rows entries limits bounds = record {
   bounds = bounds;
 }
 
+-- what contents say
 abbrev pub facts_of : Contents → Facts
 facts_of c = said c.objective c.rows c.entries c.limits c.bounds
 
@@ -42,6 +44,7 @@ flat_map-append f (x ∷ xs) ys = ap (λ zs. f x ++ zs) (flat_map-append f xs ys
 pub columns_push : (lines : List ValueLine) (line : ValueLine) → columns_in (lines ++ line ∷ []) ≡ with_last (columns_in lines) line.head
 columns_push lines line = ap without_repeats (map-append (λ l. l.head) lines (line ∷ [])) ∙ without_repeats-push (map (λ l. l.head) lines) line.head
 
+-- a line with one value, and a line with two
 abbrev pub line_with : (column row digits : List ℕ) → ValueLine
 line_with column row digits = record { head = column; first = record { row = row; digits = digits }; second = None }
 
@@ -148,6 +151,7 @@ rules_keep c rules = record {
   short_column_names = rules.short_column_names;
 }
 
+-- the columns that have a line of BOUNDS
 abbrev pub bound_columns : Contents → List (List ℕ)
 bound_columns c = map (λ line. line.column) c.bounds
 
@@ -169,8 +173,8 @@ keeps_rules c keeps limits bounds count = record {
   one_bound_set = bounds;
   bounds_once = keeps.bounds_once;
   bounds_whole =
-    let e = length-map c.bounds (λ line. line.column) in
-    all_of (bound_columns c) (column_names c) keeps.bounds_once (columns_bound c.bounds (column_names c) keeps.bounds_known) (omega (arith, e, count));
+      let e = length-map c.bounds (λ line. line.column) in
+      all_of (bound_columns c) (column_names c) keeps.bounds_once (columns_bound c.bounds (column_names c) keeps.bounds_known) (omega (arith, e, count));
   entries_digits = keeps.entries_digits;
   limits_digits = keeps.limits_digits;
   bounds_digits = keeps.bounds_digits;
@@ -217,14 +221,19 @@ program_is stage set_name c rules = λ i. record {
   where
     f : Facts
     f = facts_of c
+
     rows_are : map (row_read f) c.rows ≡ map (row_of c) c.rows
     rows_are = map_same (row_of c) (row_read f) c.rows (λ row m. let e = terms_are c 0 (column_names c) row in λ i. record (row_of c row) { terms = e i })
+
     costs_are : map (λ column. column.cost) (map (column_read f) (column_names c)) ≡ map (λ column. negate (rational (coefficient c column c.objective))) (column_names c)
     costs_are = map_map (λ column. column.cost) (column_read f) (column_names c)
+
     integral_are : map (λ _. true) (map (column_read f) (column_names c)) ≡ map (λ _. true) (column_names c)
     integral_are = map_map (λ _. true) (column_read f) (column_names c)
+
     sides : Column → Sides
     sides column = record { low = Some zeroℚ; high = column.high }
+
     bounds_are : map sides (map (column_read f) (column_names c)) ≡ map (sides_of c) (column_names c)
     bounds_are =
         map_map sides (column_read f) (column_names c)

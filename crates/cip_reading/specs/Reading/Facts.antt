@@ -1,17 +1,17 @@
 -- What was said of a program so far, as flat lists, and the state of the reader that has read it.
-use Rattle.std.proofs.Common.{◌≡◌, ◌⊎◌, inl, inr, ℕ, zero, suc, ◌+◌, ◌-◌, ◌<◌, ◌≤◌, Bool, true, false, cond, List, [], ◌∷◌, ◌++◌, map, length, Option, None, Some, refl, sym, ap, ◌∙◌, subst, append_assoc, arith, ltb}
-use Rattle.std.specs.Prelude.{⊤, Decides, ◌≢◌, is_some, if◌then◌else◌, nat_lt, nat_eq, ◌&&◌}
+use Rattle.std.proofs.Common.{◌≡◌, ◌⊎◌, inl, inr, ℕ, zero, suc, ◌+◌, ◌<◌, ◌≤◌, Bool, true, false, cond, List, [], ◌∷◌, ◌++◌, map, length, Option, None, Some, refl, sym, ap, ◌∙◌, subst, arith}
+use Rattle.std.specs.Prelude.{⊤, Decides, ◌≢◌, is_some, if◌then◌else◌, ◌&&◌}
 use Rattle.std.specs.Str.{bytes_eq}
 use Rattle.std.specs.List.{AllByRecursion, filter}
 use lib.Chars.{codes}
-use Rattle.std.proofs.lemmas.Bool.{lt-ltb, ltb-true, eqb-true, eq-eqb, ne_eqb, cases_Bool}
+use Rattle.std.proofs.lemmas.Bool.{lt-ltb, eq-eqb, ne_eqb}
 use Rattle.std.proofs.lemmas.List.{length-append}
 use Rattle.std.proofs.lemmas.List.Elements.{filter-append}
-use Rattle.cip_rational.specs.Rational.{ℚ, negate, zeroℚ}
+use Rattle.cip_rational.specs.Rational.{ℚ, negate}
 use Rattle.cip_problem.specs.Program.{Term, Row}
 use Rattle.cip_syntax.specs.ThinText.{Value, BoundLine, Coefficient, number, digits_at, number_or_zero, limit_digits, bound_digits, IsShortNumber, IsIn, AreDistinct, NamesOther, NoTwoValues, is_not_zero, HasShortName, rational, with_term}
 use Rattle.cip_reading.specs.Reading.{Stage, Mark, Column, Reading, is_above_last, is_at}
-use Rattle.cip_reading.specs.Reading.Names.{names_cases, same_bytes, other_bytes, bytes_same, IsLast, all_front, all_push, all_last, all_weaker}
+use Rattle.cip_reading.specs.Reading.Names.{names_cases, same_bytes, other_bytes, all_front, all_push, all_last, all_weaker}
 
 -- the objective, the rows, the columns that have a line, and the values of COLUMNS, of RHS and of BOUNDS, in order
 pub record Facts : Type 0 where
@@ -39,6 +39,7 @@ last_valued values at [] row last = last
 last_valued values at (column ∷ columns) row last =
     last_valued values (at + 1) columns row (if is_some (digits_at values column row) then Some at else last)
 
+-- what was read of a row
 abbrev pub row_read : Facts → List ℕ → Row
 row_read f row = record {
   terms = terms_of f.values 0 f.columns row;
@@ -46,13 +47,16 @@ row_read f row = record {
   high = Some (rational (number_or_zero (limit_digits f.limits row)));
 }
 
+-- what was met of a row
 abbrev pub mark_read : Facts → List ℕ → Mark
 mark_read f row = record { last_column = last_valued f.values 0 f.columns row None; has_limit = is_some (limit_digits f.limits row) }
 
+-- the high side of a column, if it was given
 abbrev pub high_read : Option (List ℕ) → Option ℚ
 high_read None = None
 high_read (Some digits) = Some (rational (number digits))
 
+-- what was read of a column
 abbrev pub column_read : Facts → List ℕ → Column
 column_read f column = record {
   cost = negate (rational (coefficient_in f.values column f.objective));
@@ -77,9 +81,11 @@ reading_of stage set_name f = record {
 
 -- ---- the rules on what was said
 
+-- a name that a row can have
 abbrev pub IsPlain : List ℕ → Type 0
 IsPlain name = name ≢ codes "'MARKER'"
 
+-- what was said so far keeps the rules of a thin text, but that each column has its bound and each section one set
 pub record Keeps (f : Facts) : Type 0 where
   pub rows_differ : AreDistinct (f.objective ∷ f.rows)
   pub rows_plain : AllByRecursion IsPlain (f.objective ∷ f.rows)
@@ -101,6 +107,7 @@ pub record Keeps (f : Facts) : Type 0 where
 
 -- ---- values by look-up
 
+-- a value with its column
 abbrev pub entry_of : (column row digits : List ℕ) → Coefficient
 entry_of column row digits = record { column = column; value = record { row = row; digits = digits } }
 
@@ -198,6 +205,7 @@ limit_decides (first ∷ limits) row = go (names_cases first.row row) (limit_dec
   where
     names : List (List ℕ)
     names = map (λ value. value.row) limits
+
     go : ((bytes_eq first.row row ≡ true) × (first.row ≡ row)) ⊎ ((bytes_eq first.row row ≡ false) × (¬ (first.row ≡ row))) → Decides (is_some (limit_digits limits row)) (IsIn row (map (λ value. value.row) limits)) → Decides (is_some (limit_digits (first ∷ limits) row)) (IsIn row (first.row ∷ map (λ value. value.row) limits))
     go (inl p) d = (λ _. inl (sym p.1), λ _. rw p.0 refl)
     go (inr p) d = (λ e. inr (d.0 (rw p.0 at e)), elim [ inl e ↦ absurd (p.1 (sym e)) | inr m ↦ rw p.0 (d.1 m) ])
@@ -256,6 +264,7 @@ last_push values at (first ∷ columns) column row last =
     last_push values (at + 1) columns column row (cond (is_some (digits_at values first row)) (Some at) last)
     ∙ ap (λ n. cond (is_some (digits_at values column row)) (Some n) (last_valued values at (first ∷ columns) row last)) e
 
+-- terms on columns below n
 abbrev pub StandBelow : ℕ → List Term → Type 0
 StandBelow n terms = AllByRecursion (λ term. term.column < n) terms
 

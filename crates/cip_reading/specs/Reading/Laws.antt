@@ -4,13 +4,12 @@
 --     refused              a text that is refused is not thin
 --     read_bytes           a text that comes byte after byte is read as its lines are
 --     read_well_formed     the program that is read is well-formed
-use Rattle.std.proofs.Common.{◌≡◌, ℕ, ◌+◌, ◌<◌, ◌≤◌, List, [], ◌∷◌, map, length, Option, None, Some, refl, sym, ap, ◌∙◌, subst, arith}
-use Rattle.std.specs.Prelude.{All}
+use Rattle.std.proofs.Common.{◌≡◌, ℕ, ◌<◌, ◌≤◌, List, [], ◌∷◌, map, length, None, Some, sym, ap, ◌∙◌, subst, arith}
 use Rattle.std.specs.List.{AllByRecursion}
 use Rattle.std.proofs.lemmas.List.{length-map}
 use Rattle.std.proofs.lemmas.List.Elements.{All-from_recursion}
 use Rattle.cip_rational.specs.Rational.{ℚ, negate}
-use Rattle.cip_problem.specs.Program.{Row, Program}
+use Rattle.cip_problem.specs.Program.{Program}
 use Rattle.cip_problem.specs.Activity.{StandsBelow}
 use Rattle.cip_problem.specs.WellFormed.{IsWellFormed}
 use Rattle.cip_syntax.specs.Lines.{lines, records}

@@ -1,17 +1,17 @@
 -- A value of RHS and a line of BOUNDS: the reader takes them exactly where the rules are kept with them.
-use Rattle.std.proofs.Common.{◌≡◌, ◌⊎◌, inl, inr, ℕ, zero, suc, ◌+◌, ◌<◌, ◌≤◌, Bool, true, false, cond, List, [], ◌∷◌, ◌++◌, map, set, get_or, length, Option, None, Some, refl, sym, ap, ◌∙◌, subst, arith}
-use Rattle.std.specs.Prelude.{Decides, is_some, if◌then◌else◌, slice_set}
-use Rattle.std.specs.List.{AllByRecursion}
+use Rattle.std.proofs.Common.{◌≡◌, ℕ, ◌+◌, Bool, true, false, List, [], ◌∷◌, ◌++◌, map, set, get_or, length, Option, None, Some, refl, sym, ap, ◌∙◌, subst}
+use Rattle.std.specs.Prelude.{is_some, if◌then◌else◌, slice_set}
 use Rattle.std.proofs.lemmas.List.{length-append, map-append}
 use Rattle.cip_problem.specs.Program.{Row}
 use Rattle.cip_syntax.specs.ThinText.{Value, BoundLine, number, number_or_zero, limit_digits, bound_digits, IsShortNumber, IsIn, AreDistinct, rational}
-use Rattle.cip_reading.specs.Reading.{Stage, Mark, Column, Reading, bind, short_number, number_of, no_mark, no_column, empty_row, limit_put, limit_taken, bound_put, bound_taken}
-use Rattle.cip_reading.specs.Reading.Names.{IsPlace, map_same, map_at, map_set_at, all_front, all_last, all_push, distinct_push, distinct_front, distinct_back}
+use Rattle.cip_reading.specs.Reading.{Stage, Mark, Column, Reading, short_number, no_mark, no_column, empty_row, limit_put, limit_taken, bound_put, bound_taken}
+use Rattle.cip_reading.specs.Reading.Names.{IsPlace, map_at, map_set_at, all_front, all_last, all_push, distinct_push, distinct_front, distinct_back}
 use Rattle.cip_reading.specs.Reading.Takes.{Takes, Taken, Refused, takes_at, takes_bind, takes_number, short_number_takes}
 use Rattle.cip_reading.specs.Reading.Facts.{Facts, Keeps, reading_of, row_read, mark_read, column_read, high_read, limit_digits-other, limit_digits-new, limit_decides, bound_digits-other, bound_digits-new, bound_decides, none_from_false}
 
 -- ---- limits
 
+-- what was said, with a further value of RHS
 abbrev pub with_limit : Facts → Value → Facts
 with_limit f value = record {
   objective = f.objective;
@@ -42,30 +42,39 @@ limit_put_takes stage set_name f value at keeps place =
   where
     s : Reading
     s = reading_of stage set_name f
+
     g : Facts
     g = with_limit f value
+
     mark_is : get_or (map (mark_read f) f.rows) at no_mark ≡ mark_read f value.row
     mark_is = map_at (mark_read f) f.rows value.row at no_mark place
+
     row_is : get_or (map (row_read f) f.rows) at empty_row ≡ row_read f value.row
     row_is = map_at (row_read f) f.rows value.row at empty_row place
+
     go : (b : Bool) → is_some (limit_digits f.limits value.row) ≡ b → Takes (¬ IsIn value.row (map (λ v. v.row) f.limits)) (put_limit s at (number value.digits) (mark_read f value.row) (row_read f value.row)) (reading_of stage set_name g)
     go true e = Refused (λ k. k ((limit_decides f.limits value.row).0 e)) (rw e refl)
     go false e = Taken (λ m. let p = (limit_decides f.limits value.row).1 m in let q : true ≡ false = cc in cc) (rw e put_is)
       where
         found : limit_digits (f.limits ++ value ∷ []) value.row ≡ Some value.digits
         found = limit_digits-new f.limits value.row value.digits (none_from_false (limit_digits f.limits value.row) e)
+
         row_new : row_read g value.row ≡ record (row_read f value.row) { high = Some (rational (number value.digits)) }
         row_new = λ i. record (row_read f value.row) { high = Some (rational (number_or_zero (found i))) }
+
         mark_new : mark_read g value.row ≡ record (mark_read f value.row) { has_limit = true }
         mark_new = λ i. record (mark_read f value.row) { has_limit = is_some (found i) }
+
         rows_are : set (map (row_read f) f.rows) at (record (row_read f value.row) { high = Some (rational (number value.digits)) }) ≡ map (row_read g) f.rows
         rows_are =
             ap (set (map (row_read f) f.rows) at) (sym row_new)
             ∙ map_set_at (row_read f) (row_read g) f.rows value.row at place keeps.rows_differ.1 (λ o m d. let p = limit_digits-other f.limits value o (λ q. d (sym q)) in λ i. record (row_read f o) { high = Some (rational (number_or_zero (p i))) })
+
         marks_are : set (map (mark_read f) f.rows) at (record (mark_read f value.row) { has_limit = true }) ≡ map (mark_read g) f.rows
         marks_are =
             ap (set (map (mark_read f) f.rows) at) (sym mark_new)
             ∙ map_set_at (mark_read f) (mark_read g) f.rows value.row at place keeps.rows_differ.1 (λ o m d. let p = limit_digits-other f.limits value o (λ q. d (sym q)) in λ i. record (mark_read f o) { has_limit = is_some (p i) })
+
         put_is : Some (record s {
           rows = slice_set s.rows at (record (row_read f value.row) { high = Some (rational (number value.digits)) });
           marks = slice_set s.marks at (record (mark_read f value.row) { has_limit = true });
@@ -125,6 +134,7 @@ before_limit f value keeps = record {
 
 -- ---- bounds
 
+-- what was said, with a further line of BOUNDS
 abbrev pub with_bound : Facts → BoundLine → Facts
 with_bound f line = record {
   objective = f.objective;
@@ -156,24 +166,31 @@ bound_put_takes stage set_name f line at keeps place =
   where
     s : Reading
     s = reading_of stage set_name f
+
     g : Facts
     g = with_bound f line
+
     column_is : get_or (map (column_read f) f.columns) at no_column ≡ column_read f line.column
     column_is = map_at (column_read f) f.columns line.column at no_column place
+
     go : (b : Bool) → is_some (bound_digits f.bounds line.column) ≡ b → Takes (¬ IsIn line.column (map (λ l. l.column) f.bounds)) (put_bound s at (number line.digits) (column_read f line.column)) (reading_of stage set_name g)
     go true e = Refused (λ k. k ((bound_decides f.bounds line.column).0 e)) (rw (high_there (bound_digits f.bounds line.column) ∙ e) refl)
     go false e = Taken (λ m. let p = (bound_decides f.bounds line.column).1 m in let q : true ≡ false = cc in cc) (rw (high_there (bound_digits f.bounds line.column) ∙ e) put_is)
       where
         found : bound_digits (f.bounds ++ line ∷ []) line.column ≡ Some line.digits
         found = bound_digits-new f.bounds line (none_from_false (bound_digits f.bounds line.column) e)
+
         column_new : column_read g line.column ≡ record (column_read f line.column) { high = Some (rational (number line.digits)) }
         column_new = λ i. record (column_read f line.column) { high = high_read (found i) }
+
         columns_are : set (map (column_read f) f.columns) at (record (column_read f line.column) { high = Some (rational (number line.digits)) }) ≡ map (column_read g) f.columns
         columns_are =
             ap (set (map (column_read f) f.columns) at) (sym column_new)
             ∙ map_set_at (column_read f) (column_read g) f.columns line.column at place keeps.columns_together (λ o m d. let p = bound_digits-other f.bounds line o (λ q. d (sym q)) in λ i. record (column_read f o) { high = high_read (p i) })
+
         count_is : length f.bounds + 1 ≡ length (f.bounds ++ line ∷ [])
         count_is = sym (length-append f.bounds (line ∷ []))
+
         put_is : Some (record s { columns = slice_set s.columns at (record (column_read f line.column) { high = Some (rational (number line.digits)) }); bounded = s.bounded + 1 }) ≡ Some (reading_of stage set_name g)
         put_is = λ i. Some (record (reading_of stage set_name f) { columns = columns_are i; bounded = count_is i })
 

@@ -1,16 +1,14 @@
 -- The lines of COLUMNS, RHS and BOUNDS: the reader takes each exactly where the rules are kept with it.
-use Rattle.std.proofs.Common.{◌≡◌, ◌⊎◌, inl, inr, ℕ, Bool, true, false, cond, List, [], ◌∷◌, ◌++◌, map, length, Option, None, Some, refl, sym, ap, ◌∙◌, subst}
-use Rattle.std.specs.Prelude.{⊤, Decides, if◌then◌else◌}
+use Rattle.std.proofs.Common.{◌≡◌, ℕ, List, [], ◌∷◌, ◌++◌, map, Option, None, Some, refl, sym, ap, ◌∙◌, subst}
 use Rattle.std.specs.Str.{bytes_eq}
-use Rattle.std.specs.List.{AllByRecursion, flat_map}
+use Rattle.std.specs.List.{flat_map}
 use lib.Chars.{codes}
 use Rattle.std.proofs.lemmas.List.{map-append, append_assoc, append-nil}
-use Rattle.std.proofs.lemmas.Bool.Decides.{Decides-like, Decides-and}
 use Rattle.std.proofs.lemmas.Slice.Eq.{bytes_eq-Decides}
 use Rattle.cip_syntax.specs.ThinText.{Value, ValueLine, BoundLine, values_of, optional_value, AreOne}
-use Rattle.cip_reading.specs.Reading.{Stage, InColumns, InRhs, InBounds, Reading, bind, column_taken, coefficient_taken, set_found, set_taken, limit_taken, bound_taken, bound_line_taken}
+use Rattle.cip_reading.specs.Reading.{Stage, InColumns, InRhs, InBounds, Reading, bind, column_taken, coefficient_taken, set_taken, limit_taken, bound_taken, bound_line_taken}
 use Rattle.cip_reading.specs.Reading.Names.{all_front, all_last, all_push, with_last_is}
-use Rattle.cip_reading.specs.Reading.Takes.{Takes, Taken, Refused, takes_like, takes_at, takes_bind, takes_test, takes_if}
+use Rattle.cip_reading.specs.Reading.Takes.{Takes, Taken, takes_like, takes_at, takes_bind, takes_test, takes_if}
 use Rattle.cip_reading.specs.Reading.Facts.{Facts, Keeps, reading_of, entry_of}
 use Rattle.cip_reading.specs.Reading.Columns.{with_column, HasColumns, ColumnRule, column_takes, column_keeps, column_rule, before_column}
 use Rattle.cip_reading.specs.Reading.Values.{with_value, ValueRule, coefficient_takes, value_keeps, value_rule, before_value}
@@ -42,6 +40,7 @@ two_values f column row digits other_row other_digits keeps known =
   where
     g : Facts
     g = with_column f column
+
     h : Facts
     h = with_value g (entry_of column row digits)
 
@@ -57,6 +56,7 @@ entry_line_takes_two objective rows entries column row digits other_row other_di
 
 -- ---- the set of a section
 
+-- the set of a section: that of its first line
 abbrev pub first_of : List (List ℕ) → Option (List ℕ)
 first_of [] = None
 first_of (name ∷ names) = Some name
@@ -74,6 +74,7 @@ pub record LimitsKeep (objective : List ℕ) (rows : List (List ℕ)) (entries l
   pub keeps : Keeps (said objective rows entries limits [])
   pub one : AreOne (map (λ line. line.head) limits)
 
+-- the state of the reader after lines of RHS
 abbrev pub limits_reading : List ℕ → List (List ℕ) → List ValueLine → List ValueLine → Reading
 limits_reading objective rows entries limits = reading_of InRhs (first_of (map (λ line. line.head) limits)) (said objective rows entries limits [])
 
@@ -101,14 +102,19 @@ limit_line_takes objective rows entries limits set_name row digits h =
   where
     line : ValueLine
     line = line_with set_name row digits
+
     value : Value
     value = record { row = row; digits = digits }
+
     heads : List (List ℕ)
     heads = map (λ l. l.head) limits
+
     f : Facts
     f = said objective rows entries limits []
+
     g : Facts
     g = with_limit f value
+
     o : Option Reading
     o = bind (set_taken (limits_reading objective rows entries limits) set_name) (λ t. limit_taken t row digits)
 
@@ -128,18 +134,25 @@ limit_line_takes_two objective rows entries limits set_name row digits other_row
   where
     line : ValueLine
     line = line_with_two set_name row digits other_row other_digits
+
     value : Value
     value = record { row = row; digits = digits }
+
     other : Value
     other = record { row = other_row; digits = other_digits }
+
     heads : List (List ℕ)
     heads = map (λ l. l.head) limits
+
     f : Facts
     f = said objective rows entries limits []
+
     g : Facts
     g = with_limit f value
+
     all_are : flat_map values_of (limits ++ line ∷ []) ≡ (flat_map values_of limits ++ value ∷ []) ++ other ∷ []
     all_are = limits_are limits line ∙ sym (append_assoc (flat_map values_of limits) (value ∷ []) (other ∷ []))
+
     o : Option Reading
     o = bind (set_taken (limits_reading objective rows entries limits) set_name) (λ t. bind (limit_taken t row digits) (λ u. limit_taken u other_row other_digits))
 
@@ -150,6 +163,7 @@ pub record BoundsKeep (objective : List ℕ) (rows : List (List ℕ)) (entries l
   pub keeps : Keeps (said objective rows entries limits bounds)
   pub one : AreOne (map (λ line. line.set_) bounds)
 
+-- the state of the reader after lines of BOUNDS
 abbrev pub bounds_reading : List ℕ → List (List ℕ) → List ValueLine → List ValueLine → List BoundLine → Reading
 bounds_reading objective rows entries limits bounds = reading_of InBounds (first_of (map (λ line. line.set_) bounds)) (said objective rows entries limits bounds)
 
@@ -167,8 +181,10 @@ bound_line_takes objective rows entries limits bounds kind line h =
   where
     sets : List (List ℕ)
     sets = map (λ l. l.set_) bounds
+
     f : Facts
     f = said objective rows entries limits bounds
+
     o : Option Reading
     o = bind (set_taken (bounds_reading objective rows entries limits bounds) line.set_) (λ t. bound_taken t line.column line.digits)
 

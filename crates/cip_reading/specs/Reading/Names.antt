@@ -1,9 +1,9 @@
 -- Names and their numbers: what stands in a list, lists without repeats, and look-ups by number.
-use Rattle.std.proofs.Common.{◌≡◌, ℕ, zero, suc, ◌+◌, ◌<◌, ◌≤◌, Bool, true, false, cond, ◌⊎◌, inl, inr, List, [], ◌∷◌, ◌++◌, map, set, get_or, length, Option, None, Some, refl, sym, ap, ◌∙◌, subst, append_assoc, arith, add-one, add-suc, add-zero}
-use Rattle.std.specs.Prelude.{⊤, if◌then◌else◌}
+use Rattle.std.proofs.Common.{◌≡◌, ℕ, suc, ◌+◌, ◌≤◌, Bool, true, false, cond, ◌⊎◌, inl, inr, List, [], ◌∷◌, ◌++◌, map, set, get_or, length, None, Some, refl, sym, ap, ◌∙◌, subst, arith}
+use Rattle.std.specs.Prelude.{if◌then◌else◌}
 use Rattle.std.specs.Str.{bytes_eq}
 use Rattle.std.specs.List.{AllByRecursion, position_from}
-use Rattle.std.proofs.lemmas.List.{append-nil, map-append, length-map, length-append, set_at, get_or_at}
+use Rattle.std.proofs.lemmas.List.{map-append, length-map, set_at, get_or_at}
 use Rattle.std.proofs.lemmas.Slice.Eq.{bytes_eq-Decides}
 use Rattle.std.proofs.lemmas.Bool.{false_from_ne_true}
 use Rattle.cip_syntax.specs.ThinText.{IsIn, AreDistinct, not_again, without_repeats}
@@ -122,9 +122,11 @@ pub record IsPlace (names : List (List ℕ)) (name : List ℕ) (n : ℕ) : Type 
   pub place : length before ≡ n
   pub first : ¬ IsIn name before
 
+-- a name has a number, where the first one is i
 abbrev pub HasPlace : List (List ℕ) → List ℕ → ℕ → Type 0
 HasPlace names name i = (k : ℕ) × (position_from (bytes_eq name) i names ≡ Some (k + i)) × IsPlace names name k
 
+-- a name has no number
 abbrev pub HasNoPlace : List (List ℕ) → List ℕ → ℕ → Type 0
 HasNoPlace names name i = (position_from (bytes_eq name) i names ≡ None) × (¬ IsIn name names)
 
@@ -150,6 +152,7 @@ places_cases (other ∷ names) name i = go (names_cases name other) (places_case
 abbrev pub IsNumbered : List (List ℕ) → List ℕ → Type 0
 IsNumbered names name = (n : ℕ) × (number_of names name ≡ Some n) × IsPlace names name n
 
+-- a name stands nowhere
 abbrev pub IsNowhere : List (List ℕ) → List ℕ → Type 0
 IsNowhere names name = (number_of names name ≡ None) × (¬ IsIn name names)
 
@@ -198,6 +201,7 @@ map_set_at g h names name n p d e =
 
 -- ---- the last name of a list without repeats
 
+-- a name is the last one
 pub record IsLast (names : List (List ℕ)) (name : List ℕ) : Type 0 where
   pub before : List (List ℕ)
   pub split : names ≡ before ++ name ∷ []

@@ -1,21 +1,21 @@
 -- How far a text was read: each record leads on from what was said so far, or is refused.
-use Rattle.std.proofs.Common.{◌≡◌, ◌⊎◌, inl, inr, ℕ, ◌≤◌, Bool, true, false, cond, not, List, [], ◌∷◌, ◌++◌, map, length, Option, None, Some, refl, sym, ap, ◌∙◌, subst, arith}
-use Rattle.std.specs.Prelude.{⊤, Decides, if◌then◌else◌, ◌&&◌, nat_eq}
+use Rattle.std.proofs.Common.{◌≡◌, ◌⊎◌, inl, inr, ℕ, ◌≤◌, Bool, true, false, cond, List, [], ◌∷◌, ◌++◌, map, length, None, Some, refl, sym, ap, ◌∙◌, arith}
+use Rattle.std.specs.Prelude.{⊤, ◌&&◌}
 use Rattle.std.specs.Str.{bytes_eq}
-use Rattle.std.specs.List.{AllByRecursion}
 use lib.Chars.{codes}
 use Rattle.std.proofs.lemmas.List.{map-append, append_assoc, append-nil, length-map}
 use Rattle.std.proofs.lemmas.Bool.{and_parts, eqb-true, cases_Bool}
 use Rattle.cip_syntax.specs.Lines.{Record, Section, Entry}
-use Rattle.cip_syntax.specs.ThinText.{Value, ValueLine, BoundLine, Contents, value_record, bound_record, row_record, column_names, AreOne, KeepsRules}
-use Rattle.cip_reading.specs.Reading.{Stage, NameDue, SenseSectionDue, SenseDue, RowsDue, ObjectiveDue, InRows, MarkerDue, InColumns, RhsDue, InRhs, InBounds, Done, Reading, start, bind, is_name_due, due, can_go, section_after, is_nonempty, section_taken, sense_taken, is_row_name, objective_taken, row_taken, marker_taken, is_end_marker, column_taken, coefficient_taken, column_line_taken, set_taken, limit_taken, limit_line_taken, bound_line_taken, record_taken, is_done}
+use Rattle.cip_syntax.specs.ThinText.{ValueLine, BoundLine, Contents, value_record, bound_record, row_record, column_names, AreOne, KeepsRules}
+use Rattle.cip_reading.specs.Reading.{Stage, NameDue, SenseSectionDue, SenseDue, RowsDue, ObjectiveDue, InRows, MarkerDue, InColumns, RhsDue, InRhs, InBounds, Done, Reading, bind, is_name_due, due, can_go, section_after, is_nonempty, section_taken, is_row_name, row_taken, is_end_marker, column_taken, coefficient_taken, set_taken, limit_taken, bound_line_taken, record_taken}
 use Rattle.cip_reading.specs.Reading.Names.{names_cases, bytes_same}
 use Rattle.cip_reading.specs.Reading.Takes.{Takes, Taken, Refused, row_name_decides}
-use Rattle.cip_reading.specs.Reading.Facts.{Facts, Keeps, IsPlain, reading_of}
+use Rattle.cip_reading.specs.Reading.Facts.{Keeps, IsPlain, reading_of}
 use Rattle.cip_reading.specs.Reading.Rows.{row_facts, RowsKeep, rows_keep, row_takes}
 use Rattle.cip_reading.specs.Reading.Contents.{said, facts_of, line_with, line_with_two, keeps_rules}
-use Rattle.cip_reading.specs.Reading.Lines.{first_of, entry_line_takes, entry_line_takes_two, LimitsKeep, limits_reading, limit_line_takes, limit_line_takes_two, BoundsKeep, bounds_reading, bound_line_takes}
+use Rattle.cip_reading.specs.Reading.Lines.{entry_line_takes, entry_line_takes_two, LimitsKeep, limits_reading, limit_line_takes, limit_line_takes_two, BoundsKeep, bounds_reading, bound_line_takes}
 
+-- names, or the words of a line
 abbrev pub Names : Type 0
 Names = List (List ℕ)
 
@@ -36,6 +36,7 @@ pub data Progress : Type 0 where
 
 -- ---- the records so far
 
+-- the records up to each line that leads on
 abbrev pub name_records : Names → List Record
 name_records title = Section (codes "NAME" ∷ title) ∷ []
 
@@ -53,15 +54,18 @@ abbrev pub objective_records : Names → List ℕ → List Record
 objective_records title objective =
     Section (codes "NAME" ∷ title) ∷ Section (codes "OBJSENSE" ∷ []) ∷ Entry (codes "MAX" ∷ []) ∷ Section (codes "ROWS" ∷ []) ∷ Entry (codes "N" ∷ objective ∷ []) ∷ []
 
+-- the records up to a row, and up to the line COLUMNS
 abbrev pub rows_records : Names → List ℕ → Names → List Record
 rows_records title objective rows = objective_records title objective ++ map row_record rows
 
 abbrev pub marker_records : Names → List ℕ → Names → List Record
 marker_records title objective rows = rows_records title objective rows ++ Section (codes "COLUMNS" ∷ []) ∷ []
 
+-- a marker line
 abbrev pub marker_record : List ℕ → List ℕ → Record
 marker_record name kind = Entry (name ∷ codes "'MARKER'" ∷ kind ∷ [])
 
+-- the records up to a line of COLUMNS, and up to its end marker
 abbrev pub columns_records : Names → List ℕ → Names → List ℕ → List ValueLine → List Record
 columns_records title objective rows begin_marker entries =
     (marker_records title objective rows ++ marker_record begin_marker (codes "'INTORG'") ∷ []) ++ map value_record entries
@@ -70,6 +74,7 @@ abbrev pub rhs_records : Names → List ℕ → Names → List ℕ → List Valu
 rhs_records title objective rows begin_marker entries end_marker =
     columns_records title objective rows begin_marker entries ++ marker_record end_marker (codes "'INTEND'") ∷ []
 
+-- the records up to a line of RHS, up to a line of BOUNDS, and up to ENDATA
 abbrev pub limits_records : Names → List ℕ → Names → List ℕ → List ValueLine → List ℕ → List ValueLine → List Record
 limits_records title objective rows begin_marker entries end_marker limits =
     (rhs_records title objective rows begin_marker entries end_marker ++ Section (codes "RHS" ∷ []) ∷ []) ++ map value_record limits
@@ -81,6 +86,7 @@ bounds_records c =
 abbrev pub end_records : Contents → List Record
 end_records c = bounds_records c ++ Section (codes "ENDATA" ∷ []) ∷ []
 
+-- the records so far
 abbrev pub records_at : Progress → List Record
 records_at AtName = []
 records_at (AtSenseSection title) = name_records title
@@ -97,15 +103,18 @@ records_at (AtEnd contents) = end_records contents
 
 -- ---- the state of the reader, and the rules so far
 
+-- the state before the rows
 abbrev pub early : Stage → Reading
 early stage = reading_of stage None (row_facts [] [])
 
+-- the states in BOUNDS and at the end
 abbrev pub bounds_state : Contents → Reading
 bounds_state c = bounds_reading c.objective c.rows c.entries c.limits c.bounds
 
 abbrev pub end_state : Contents → Reading
 end_state c = reading_of Done None (facts_of c)
 
+-- the state of the reader
 abbrev pub state_at : Progress → Reading
 state_at AtName = early NameDue
 state_at (AtSenseSection title) = early SenseSectionDue
@@ -125,6 +134,7 @@ pub record ContentsKeep (c : Contents) : Type 0 where
   pub bounds : BoundsKeep c.objective c.rows c.entries c.limits c.bounds
   pub one_limit_set : AreOne (map (λ line. line.head) c.limits)
 
+-- what was said so far keeps the rules
 abbrev pub IsGood : Progress → Type 0
 IsGood AtName = ⊤
 IsGood (AtSenseSection title) = ⊤
@@ -159,6 +169,7 @@ section_cases s word stage (first ∷ []) e f = go (names_cases first word) (cas
   where
     after : section_taken s (first ∷ []) ≡ cond (bytes_eq first word && can_go s stage) (Some (record s { stage = stage; set_name = None })) None
     after = ap (section_after s first) f
+
     go : ((bytes_eq first word ≡ true) × (first ≡ word)) ⊎ ((bytes_eq first word ≡ false) × (¬ (first ≡ word))) → (can_go s stage ≡ true) ⊎ (can_go s stage ≡ false) → SectionTaken s word stage (first ∷ []) ⊎ (section_taken s (first ∷ []) ≡ None)
     go (inl p) (inl q) = inl (ap (λ x. x ∷ []) p.1, q, after ∙ rw (p.0, q) refl)
     go (inl p) (inr q) = inr (after ∙ rw (p.0, q) refl)
@@ -178,6 +189,7 @@ step_name (first ∷ words) = go (names_cases first (codes "NAME"))
         either : (w : Names) → (is_nonempty w && false) ≡ false
         either [] = refl
         either (x ∷ xs) = refl
+
     go : ((bytes_eq first (codes "NAME") ≡ true) × (first ≡ codes "NAME")) ⊎ ((bytes_eq first (codes "NAME") ≡ false) × (¬ (first ≡ codes "NAME"))) → Step AtName (Section (first ∷ words))
     go (inl p) = Goes (AtSenseSection words) (rw plain (rw p.0 refl)) tt (ap (λ w. Section (w ∷ words) ∷ []) (sym p.1))
     go (inr p) = Stops (rw plain (rw p.0 refl))
@@ -253,8 +265,10 @@ step_column title objective rows begin_marker entries (column ∷ row ∷ digits
   where
     s : Reading
     s = reading_of InColumns None (said objective rows entries [] [])
+
     line : ValueLine
     line = line_with column row digits
+
     go : (b : Bool) → is_end_marker row digits ≡ b → Takes (Keeps (said objective rows (entries ++ line ∷ []) [] [])) (bind (column_taken s column) (λ t. coefficient_taken t row digits)) (reading_of InColumns None (said objective rows (entries ++ line ∷ []) [] [])) → Step (AtColumns title objective rows begin_marker entries) (Entry (column ∷ row ∷ digits ∷ []))
     go true e t =
         let p = and_parts _ _ e in
@@ -267,8 +281,10 @@ step_column title objective rows begin_marker entries (column ∷ row ∷ digits
   where
     s : Reading
     s = reading_of InColumns None (said objective rows entries [] [])
+
     line : ValueLine
     line = line_with_two column row digits other_row other_digits
+
     go : Takes (Keeps (said objective rows (entries ++ line ∷ []) [] [])) (bind (column_taken s column) (λ t. bind (coefficient_taken t row digits) (λ u. coefficient_taken u other_row other_digits))) (reading_of InColumns None (said objective rows (entries ++ line ∷ []) [] [])) → Step (AtColumns title objective rows begin_marker entries) (Entry (column ∷ row ∷ digits ∷ other_row ∷ other_digits ∷ []))
     go (Taken k g) = Goes (AtColumns title objective rows begin_marker (entries ++ line ∷ [])) g k (push_after (marker_records title objective rows ++ marker_record begin_marker (codes "'INTORG'") ∷ []) value_record entries line)
     go (Refused k g) = Stops g
@@ -283,6 +299,7 @@ step_limit title objective rows begin_marker entries end_marker limits (set_name
   where
     line : ValueLine
     line = line_with set_name row digits
+
     go : Takes (LimitsKeep objective rows entries (limits ++ line ∷ [])) (bind (set_taken (limits_reading objective rows entries limits) set_name) (λ t. limit_taken t row digits)) (limits_reading objective rows entries (limits ++ line ∷ [])) → Step (AtLimits title objective rows begin_marker entries end_marker limits) (Entry (set_name ∷ row ∷ digits ∷ []))
     go (Taken k g) = Goes (AtLimits title objective rows begin_marker entries end_marker (limits ++ line ∷ [])) g k (push_after (rhs_records title objective rows begin_marker entries end_marker ++ Section (codes "RHS" ∷ []) ∷ []) value_record limits line)
     go (Refused k g) = Stops g
@@ -290,6 +307,7 @@ step_limit title objective rows begin_marker entries end_marker limits (set_name
   where
     line : ValueLine
     line = line_with_two set_name row digits other_row other_digits
+
     go : Takes (LimitsKeep objective rows entries (limits ++ line ∷ [])) (bind (set_taken (limits_reading objective rows entries limits) set_name) (λ t. bind (limit_taken t row digits) (λ u. limit_taken u other_row other_digits))) (limits_reading objective rows entries (limits ++ line ∷ [])) → Step (AtLimits title objective rows begin_marker entries end_marker limits) (Entry (set_name ∷ row ∷ digits ∷ other_row ∷ other_digits ∷ []))
     go (Taken k g) = Goes (AtLimits title objective rows begin_marker entries end_marker (limits ++ line ∷ [])) g k (push_after (rhs_records title objective rows begin_marker entries end_marker ++ Section (codes "RHS" ∷ []) ∷ []) value_record limits line)
     go (Refused k g) = Stops g
@@ -308,8 +326,10 @@ step_bound c (kind ∷ set_name ∷ column ∷ digits ∷ []) h = go (bound_line
   where
     line : BoundLine
     line = record { set_ = set_name; column = column; digits = digits }
+
     front : List Record
     front = limits_records c.title c.objective c.rows c.begin_marker c.entries c.end_marker c.limits ++ Section (codes "BOUNDS" ∷ []) ∷ []
+
     go : Takes ((kind ≡ codes "UP") × BoundsKeep c.objective c.rows c.entries c.limits (c.bounds ++ line ∷ [])) (bound_line_taken (bounds_reading c.objective c.rows c.entries c.limits c.bounds) (kind ∷ set_name ∷ column ∷ digits ∷ [])) (bounds_reading c.objective c.rows c.entries c.limits (c.bounds ++ line ∷ [])) → Step (AtBounds c) (Entry (kind ∷ set_name ∷ column ∷ digits ∷ []))
     go (Taken k g) =
         Goes (AtBounds (with_line c line)) g (record { bounds = k.1; one_limit_set = h.one_limit_set })

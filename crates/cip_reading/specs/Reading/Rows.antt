@@ -1,16 +1,16 @@
 -- The name of a row: the reader takes it exactly where the rules are kept with it.
-use Rattle.std.proofs.Common.{◌≡◌, ◌⊎◌, inl, inr, ℕ, zero, suc, ◌+◌, ◌<◌, ◌≤◌, Bool, true, false, cond, not, List, [], ◌∷◌, ◌++◌, map, length, Option, None, Some, refl, sym, ap, ◌∙◌, subst, arith}
-use Rattle.std.specs.Prelude.{Decides, is_some, if◌then◌else◌, nat_lt, ◌&&◌}
+use Rattle.std.proofs.Common.{◌≡◌, inl, inr, ℕ, ◌<◌, ◌≤◌, List, [], ◌∷◌, ◌++◌, map, length, None, Some, refl, sym, ◌∙◌, arith}
+use Rattle.std.specs.Prelude.{Decides, ◌&&◌}
 use Rattle.std.specs.Str.{bytes_eq}
 use Rattle.std.specs.List.{AllByRecursion}
 use lib.Chars.{codes}
 use Rattle.std.proofs.lemmas.List.{length-append, length-map, map-append}
 use Rattle.std.proofs.lemmas.Bool.Decides.{Decides-and, Decides-not, Decides-like, Decides-ltb}
 use Rattle.std.proofs.lemmas.Slice.Eq.{bytes_eq-Decides}
-use Rattle.cip_syntax.specs.ThinText.{IsIn, AreDistinct, HasShortName, rational}
-use Rattle.cip_reading.specs.Reading.{Stage, Mark, Reading, InRows, empty_row, no_mark, is_new_row, is_row_name, row_added, row_taken, number_of}
+use Rattle.cip_syntax.specs.ThinText.{IsIn, AreDistinct, HasShortName}
+use Rattle.cip_reading.specs.Reading.{Reading, InRows, empty_row, no_mark, is_new_row, row_added, row_taken}
 use Rattle.cip_reading.specs.Reading.Names.{all_front, all_last, all_push, distinct_push, distinct_front, distinct_back}
-use Rattle.cip_reading.specs.Reading.Takes.{Takes, takes_at, takes_like, takes_test, row_name_decides, number_decides}
+use Rattle.cip_reading.specs.Reading.Takes.{Takes, takes_at, takes_test, row_name_decides, number_decides}
 use Rattle.cip_reading.specs.Reading.Facts.{Facts, Keeps, IsPlain, reading_of, row_read, mark_read}
 use Rattle.cip_reading.specs.Reading.Columns.{rational_zero}
 
@@ -70,8 +70,10 @@ row_added_is objective rows name = λ i. record (reading_of InRows None (row_fac
   where
     empty_is : empty_row ≡ row_read (row_facts objective rows) name
     empty_is = λ i. record empty_row { high = Some (sym rational_zero i) }
+
     rows_are : map (row_read (row_facts objective rows)) rows ++ empty_row ∷ [] ≡ map (row_read (row_facts objective rows)) (rows ++ name ∷ [])
     rows_are = (λ i. map (row_read (row_facts objective rows)) rows ++ empty_is i ∷ []) ∙ sym (map-append (row_read (row_facts objective rows)) rows (name ∷ []))
+
     marks_are : map (mark_read (row_facts objective rows)) rows ++ no_mark ∷ [] ≡ map (mark_read (row_facts objective rows)) (rows ++ name ∷ [])
     marks_are = sym (map-append (mark_read (row_facts objective rows)) rows (name ∷ []))
 
@@ -83,8 +85,10 @@ row_takes objective rows kind name keep =
   where
     s : Reading
     s = reading_of InRows None (row_facts objective rows)
+
     rows_length : length (map (row_read (row_facts objective rows)) rows) ≡ length rows
     rows_length = length-map rows (row_read (row_facts objective rows))
+
     new : Decides (is_new_row s name) (RowsKeep objective (rows ++ name ∷ []))
     new =
         Decides-like (is_new_row s name)

@@ -1,16 +1,14 @@
 -- What the reader reads is thin: its records are those of contents that keep the rules, and the program is theirs.
-use Rattle.std.proofs.Common.{◌≡◌, ◌⊎◌, inl, inr, ℕ, ◌≤◌, Bool, true, false, cond, List, [], ◌∷◌, ◌++◌, map, length, Option, None, Some, refl, sym, ap, ◌∙◌, subst}
+use Rattle.std.proofs.Common.{◌≡◌, ◌⊎◌, inl, inr, ℕ, Bool, true, false, cond, List, [], ◌∷◌, ◌++◌, Option, None, Some, refl, sym, ap, ◌∙◌, subst}
 use Rattle.std.specs.Prelude.{if◌then◌else◌}
 use Rattle.std.specs.List.{filter_map, cons_option}
-use lib.Chars.{codes}
-use Rattle.std.proofs.lemmas.List.{append_assoc, append-nil}
+use Rattle.std.proofs.lemmas.List.{append_assoc}
 use Rattle.cip_problem.specs.Program.{Program}
-use Rattle.cip_syntax.specs.Lines.{Record, Section, Entry, record_of, lines, records}
-use Rattle.cip_syntax.specs.ThinText.{Contents, value_record, bound_record, row_record, records_of, KeepsRules, program_of, IsThin}
-use Rattle.cip_reading.specs.Reading.{Stage, Done, Reading, start, bind, is_done, record_taken, record_or_none, line_taken, lines_taken, outcome}
-use Rattle.cip_reading.specs.Reading.Facts.{reading_of}
-use Rattle.cip_reading.specs.Reading.Contents.{facts_of, program_is}
-use Rattle.cip_reading.specs.Reading.Progress.{Progress, AtName, AtSenseSection, AtSense, AtRowsSection, AtObjective, AtRows, AtMarker, AtColumns, AtRhsSection, AtLimits, AtBounds, AtEnd, records_at, end_records, state_at, end_state, IsGood, Step, Ends, Stops, Goes, step, marker_record}
+use Rattle.cip_syntax.specs.Lines.{Record, record_of}
+use Rattle.cip_syntax.specs.ThinText.{Contents, records_of, KeepsRules, program_of}
+use Rattle.cip_reading.specs.Reading.{Done, Reading, bind, is_done, record_taken, record_or_none, line_taken, lines_taken, outcome}
+use Rattle.cip_reading.specs.Reading.Contents.{program_is}
+use Rattle.cip_reading.specs.Reading.Progress.{Progress, AtName, AtSenseSection, AtSense, AtRowsSection, AtObjective, AtRows, AtMarker, AtColumns, AtRhsSection, AtLimits, AtBounds, AtEnd, records_at, end_records, state_at, end_state, IsGood, Step, Ends, Stops, Goes, step}
 
 -- ---- from lines to records
 
@@ -112,6 +110,7 @@ thin_step p first others program g s h f = go (ended_or_taken p first) s
       rules = t.rules;
       is_program = t.is_program;
     }
+
     go : ((c : Contents) × (p ≡ AtEnd c)) ⊎ (record_step (state_at p) first ≡ record_taken (state_at p) first) → Step p first → AreThin (records_at p) (first ∷ others) program
     go (inl e) t = thin_at_end p e.0 (first ∷ others) program e.1 g h
     go (inr e) (Ends c k) = thin_at_end p c (first ∷ others) program k g h

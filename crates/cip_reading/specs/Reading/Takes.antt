@@ -1,13 +1,12 @@
 -- A step of the reader goes on exactly where a rule is kept, and then to one state.
-use Rattle.std.proofs.Common.{◌≡◌, ◌⊎◌, inl, inr, ℕ, ◌+◌, ◌<◌, ◌≤◌, Bool, true, false, cond, not, ◌&&◌, leb, ltb, List, [], ◌∷◌, length, Option, None, Some, refl, sym, ap, ◌∙◌, subst, arith}
-use Rattle.std.specs.Prelude.{Decides, is_some, if◌then◌else◌, nat_le, nat_lt, codes}
-use Rattle.std.specs.Str.{bytes_eq}
+use Rattle.std.proofs.Common.{◌≡◌, ◌⊎◌, inl, inr, ℕ, ◌≤◌, Bool, true, false, cond, List, [], ◌∷◌, length, Option, None, Some, refl, sym, ap, ◌∙◌}
+use Rattle.std.specs.Prelude.{Decides, is_some, nat_le, codes}
 use Rattle.std.specs.List.{AllByRecursion, list_all}
 use Rattle.std.proofs.lemmas.Bool.{leb-true, le-leb}
-use Rattle.std.proofs.lemmas.Bool.Decides.{Decides-and, Decides-not, Decides-like, Decides-ltb}
+use Rattle.std.proofs.lemmas.Bool.Decides.{Decides-and, Decides-not, Decides-like}
 use Rattle.std.proofs.lemmas.Slice.Eq.{bytes_eq-Decides}
 use Rattle.cip_syntax.specs.ThinText.{IsShortNumber, IsIn, number}
-use Rattle.cip_reading.specs.Reading.{bind, is_digit, short_number, number_of, is_row_name, is_short_name}
+use Rattle.cip_reading.specs.Reading.{bind, is_digit, short_number, number_of, is_row_name}
 use Rattle.cip_reading.specs.Reading.Names.{number_cases, IsNumbered, IsNowhere, IsPlace, place_in}
 
 -- a step goes on to the state `next` where the rule is kept, and refuses elsewhere
@@ -56,6 +55,7 @@ takes_number {A} Q names name k next f = go (number_cases names name)
     found : (o : Option ℕ) (n : ℕ) → o ≡ Some n → IsIn name names → Takes Q (k n) next → Takes (IsIn name names × Q) (bind o k) next
     found o n e m (Taken q g) = Taken (m, q) (ap (λ x. bind x k) e ∙ g)
     found o n e m (Refused q g) = Refused (λ h. q h.1) (ap (λ x. bind x k) e ∙ g)
+
     go : IsNumbered names name ⊎ IsNowhere names name → Takes (IsIn name names × Q) (bind (number_of names name) k) next
     go (inl h) = found (number_of names name) h.0 h.1 (place_in names name h.0 h.2) (f h.0 h.2)
     go (inr h) = Refused (λ q. h.1 q.0) (ap (λ x. bind x k) h.0)

@@ -1,5 +1,5 @@
 -- What is read of a text, and the reader to which a text comes byte after byte.
-use Rattle.std.specs.Prelude.{ℕ, List, [], ◌∷◌, ◌++◌, Option, None, Some, if◌then◌else◌}
+use Rattle.std.specs.Prelude.{ℕ, List, [], ◌∷◌, ◌++◌, Option, Some, if◌then◌else◌}
 use Rattle.cip_problem.specs.Program.{Program}
 use Rattle.cip_syntax.specs.Lines.{is_line_feed, lines}
 use Rattle.cip_reading.specs.Reading.{Reading, start, bind, line_taken, lines_taken, outcome}

@@ -1,19 +1,20 @@
 -- A value of COLUMNS: the reader takes it exactly where the rules are kept with it.
-use Rattle.std.proofs.Common.{◌≡◌, ◌⊎◌, inl, inr, ℕ, zero, suc, ◌+◌, ◌-◌, ◌<◌, ◌≤◌, Bool, true, false, cond, List, [], ◌∷◌, ◌++◌, map, set, get_or, length, Option, None, Some, refl, sym, ap, ◌∙◌, subst, append_assoc, arith, ltb}
-use Rattle.std.specs.Prelude.{⊤, Decides, ◌≢◌, is_some, if◌then◌else◌, nat_lt, nat_eq, ◌&&◌, slice_set, slice_index_or}
+use Rattle.std.proofs.Common.{◌≡◌, ◌⊎◌, inl, inr, ℕ, zero, suc, ◌+◌, ◌-◌, ◌<◌, ◌≤◌, Bool, true, false, cond, List, [], ◌∷◌, ◌++◌, map, set, get_or, length, Option, None, Some, refl, sym, ap, ◌∙◌, subst, arith}
+use Rattle.std.specs.Prelude.{is_some, if◌then◌else◌, nat_lt, slice_set}
 use Rattle.std.specs.Str.{bytes_eq}
 use Rattle.std.specs.List.{AllByRecursion, filter}
 use Rattle.std.proofs.lemmas.List.{length-append, length-map, append-nil}
 use Rattle.std.proofs.lemmas.Bool.{lt-ltb}
 use Rattle.std.proofs.lemmas.Bool.Decides.{Decides-ltb}
-use Rattle.cip_rational.specs.Rational.{ℚ, negate, zeroℚ}
-use Rattle.cip_problem.specs.Program.{Term, Row}
+use Rattle.cip_rational.specs.Rational.{negate}
+use Rattle.cip_problem.specs.Program.{Row}
 use Rattle.cip_syntax.specs.ThinText.{Coefficient, number, digits_at, number_or_zero, IsShortNumber, IsIn, AreDistinct, is_not_zero, rational, with_term}
-use Rattle.cip_reading.specs.Reading.{Stage, Mark, Column, Reading, bind, is_above_last, is_at, short_number, number_of, NamedRow, AtObjective, AtRow, find_row, entry_counted, last_column, mark_at, row_at, column_at, no_mark, no_column, empty_row, cost_taken, term_added, value_taken, named_taken, coefficient_taken}
+use Rattle.cip_reading.specs.Reading.{Stage, Mark, Column, Reading, bind, is_above_last, is_at, short_number, NamedRow, AtObjective, AtRow, find_row, entry_counted, no_mark, no_column, empty_row, cost_taken, term_added, value_taken, named_taken, coefficient_taken}
 use Rattle.cip_reading.specs.Reading.Names.{names_cases, IsLast, IsPlace, number_cases, IsNumbered, IsNowhere, place_in, map_same, map_at, map_set_at, distinct_back, all_front, all_last, all_push}
 use Rattle.cip_reading.specs.Reading.Takes.{Takes, Taken, Refused, takes_like, takes_at, takes_bind, takes_test, short_number_takes}
-use Rattle.cip_reading.specs.Reading.Facts.{Facts, Keeps, reading_of, row_read, mark_read, column_read, terms_of, last_valued, coefficient_in, entry_of, digits_at-other, digits_at-new, IsOther, all_none, none_all, once_front, once_push, one_if, count_push, none_from_false, terms_same, last_same, terms_push, last_push, terms_below, above_last, at_last_column}
+use Rattle.cip_reading.specs.Reading.Facts.{Facts, Keeps, reading_of, row_read, mark_read, column_read, terms_of, last_valued, entry_of, digits_at-other, digits_at-new, IsOther, all_none, none_all, once_front, once_push, one_if, count_push, none_from_false, terms_same, last_same, terms_push, last_push, terms_below, above_last, at_last_column}
 
+-- what was said, with a further value of COLUMNS
 abbrev pub with_value : Facts → Coefficient → Facts
 with_value f entry = record {
   objective = f.objective;
@@ -95,6 +96,7 @@ put_value t number column n mark row =
       marks = slice_set t.marks number (record mark { last_column = Some column });
     }))
 
+-- no value names this column and row yet
 abbrev IsFresh : Facts → List ℕ → List ℕ → Type 0
 IsFresh f column row = AllByRecursion (IsOther column row) f.values
 
@@ -110,53 +112,73 @@ value_takes stage set_name f column row digits at keeps last place =
   where
     t : Reading
     t = counted_reading stage set_name f (number digits)
+
     g : Facts
     g = with_value f (entry_of column row digits)
+
     column_is : length (map (column_read f) f.columns) - 1 ≡ length last.before
     column_is = last_is f last.before column last.split
+
     mark_is : get_or (map (mark_read f) f.rows) at no_mark ≡ mark_read f row
     mark_is = map_at (mark_read f) f.rows row at no_mark place
+
     row_is : get_or (map (row_read f) f.rows) at empty_row ≡ row_read f row
     row_is = map_at (row_read f) f.rows row at empty_row place
+
     marked : is_at (last_valued f.values 0 f.columns row None) (length last.before) ≡ is_some (digits_at f.values column row)
     marked = ap (λ cs. is_at (last_valued f.values 0 cs row None) (length last.before)) last.split ∙ at_last_column f.values last.before column row
+
     not_objective : ¬ (f.objective ≡ row)
     not_objective e = keeps.rows_differ.0 (subst (λ n. IsIn n f.rows) (sym e) (place_in f.rows row at place))
+
     go : (b : Bool) → is_some (digits_at f.values column row) ≡ b → Takes (IsFresh f column row) (put_value t at (length last.before) (number digits) (mark_read f row) (row_read f row)) (reading_of stage set_name g)
     go true e = Refused (λ k. let p = ap is_some (all_none f.values column row k) in let q : true ≡ false = cc in cc) (rw (marked ∙ e) refl)
     go false e = Taken (none_all f.values column row none) (rw (marked ∙ e) (ap (λ o. bind o put) added ∙ put_is))
       where
         none : digits_at f.values column row ≡ None
         none = none_from_false (digits_at f.values column row) e
+
         put : Row → Option Reading
         put next = Some (record t {
           rows = slice_set t.rows at next;
           marks = slice_set t.marks at (record (mark_read f row) { last_column = Some (length last.before) });
         })
+
         old : terms_of f.values 0 f.columns row ≡ terms_of f.values 0 last.before row
         old = terms_before f.values f.columns last.before column row last.split none
+
         new : terms_of g.values 0 f.columns row ≡ terms_of f.values 0 last.before row ++ with_term (length last.before) (number digits) []
         new = terms_with f.values f.columns last.before column row digits last.split keeps.columns_together none
+
         above : is_above_last (terms_of f.values 0 f.columns row) (length last.before) ≡ true
         above = rw old (above_last (terms_of f.values 0 last.before row) (length last.before) (terms_below f.values 0 last.before row (length last.before) (omega arith)))
+
         joined : terms_of f.values 0 f.columns row ++ with_term (length last.before) (number digits) [] ≡ terms_of g.values 0 f.columns row
         joined = ap (λ ts. ts ++ with_term (length last.before) (number digits) []) old ∙ sym new
+
         added : term_added (row_read f row) (length last.before) (number digits) ≡ Some (row_read g row)
         added = term_added_is (row_read f row) (length last.before) (number digits) above ∙ (λ i. Some (record (row_read f row) { terms = joined i }))
+
         rows_are : set (map (row_read f) f.rows) at (row_read g row) ≡ map (row_read g) f.rows
         rows_are = map_set_at (row_read f) (row_read g) f.rows row at place keeps.rows_differ.1 (λ o m d. row_elsewhere f column row digits o d)
+
         mark_new : mark_read g row ≡ record (mark_read f row) { last_column = Some (length last.before) }
         mark_new = let p = last_with f.values f.columns last.before column row digits last.split none in λ i. record (mark_read f row) { last_column = p i }
+
         marks_are : set (map (mark_read f) f.rows) at (record (mark_read f row) { last_column = Some (length last.before) }) ≡ map (mark_read g) f.rows
         marks_are =
             ap (set (map (mark_read f) f.rows) at) (sym mark_new)
             ∙ map_set_at (mark_read f) (mark_read g) f.rows row at place keeps.rows_differ.1 (λ o m d. mark_elsewhere f column row digits o d)
+
         columns_are : map (column_read f) f.columns ≡ map (column_read g) f.columns
         columns_are = sym (map_same (column_read f) (column_read g) f.columns (λ o m. column_elsewhere f column row digits o (λ p q. not_objective (sym q))))
+
         objective_is : last_valued f.values 0 f.columns f.objective None ≡ last_valued g.values 0 f.columns f.objective None
         objective_is = sym (last_same g.values f.values 0 f.columns f.objective None (λ c m. digits_at-other f.values (entry_of column row digits) c f.objective (λ p q. not_objective (sym q))))
+
         count_is : length (filter is_not_zero f.values) + one_if (nat_lt 0 (number digits)) ≡ length (filter is_not_zero g.values)
         count_is = sym (count_push f.values (entry_of column row digits))
+
         put_is : put (row_read g row) ≡ Some (reading_of stage set_name g)
         put_is = λ i. Some (record (reading_of stage set_name f) {
           objective_column = objective_is i;
@@ -182,38 +204,52 @@ cost_takes stage set_name f column digits keeps last =
   where
     t : Reading
     t = counted_reading stage set_name f (number digits)
+
     g : Facts
     g = with_value f (entry_of column f.objective digits)
+
     column_is : length (map (column_read f) f.columns) - 1 ≡ length last.before
     column_is = last_is f last.before column last.split
+
     place : IsPlace f.columns column (length last.before)
     place = record { before = last.before; after = []; split = last.split; place = refl; first = last_apart f.columns last.before column last.split keeps.columns_together }
+
     old_is : get_or (map (column_read f) f.columns) (length last.before) no_column ≡ column_read f column
     old_is = map_at (column_read f) f.columns column (length last.before) no_column place
+
     marked : is_at (last_valued f.values 0 f.columns f.objective None) (length last.before) ≡ is_some (digits_at f.values column f.objective)
     marked = ap (λ cs. is_at (last_valued f.values 0 cs f.objective None) (length last.before)) last.split ∙ at_last_column f.values last.before column f.objective
+
     other : (row : List ℕ) → IsIn row f.rows → ¬ (row ≡ f.objective)
     other row m e = keeps.rows_differ.0 (subst (λ n. IsIn n f.rows) e m)
+
     go : (b : Bool) → is_some (digits_at f.values column f.objective) ≡ b → Takes (IsFresh f column f.objective) (put_cost t (length last.before) (number digits) (column_read f column)) (reading_of stage set_name g)
     go true e = Refused (λ k. let p = ap is_some (all_none f.values column f.objective k) in let q : true ≡ false = cc in cc) (rw (marked ∙ e) refl)
     go false e = Taken (none_all f.values column f.objective none) (rw (marked ∙ e) put_is)
       where
         none : digits_at f.values column f.objective ≡ None
         none = none_from_false (digits_at f.values column f.objective) e
+
         new_column : column_read g column ≡ record (column_read f column) { cost = negate (rational (number digits)) }
         new_column = let p = digits_at-new f.values column f.objective digits none in λ i. record (column_read f column) { cost = negate (rational (number_or_zero (p i))) }
+
         columns_are : set (map (column_read f) f.columns) (length last.before) (record (column_read f column) { cost = negate (rational (number digits)) }) ≡ map (column_read g) f.columns
         columns_are =
             ap (set (map (column_read f) f.columns) (length last.before)) (sym new_column)
             ∙ map_set_at (column_read f) (column_read g) f.columns column (length last.before) place keeps.columns_together (λ o m d. column_elsewhere f column f.objective digits o (λ p q. d (sym p)))
+
         rows_are : map (row_read f) f.rows ≡ map (row_read g) f.rows
         rows_are = sym (map_same (row_read f) (row_read g) f.rows (λ o m. row_elsewhere f column f.objective digits o (other o m)))
+
         marks_are : map (mark_read f) f.rows ≡ map (mark_read g) f.rows
         marks_are = sym (map_same (mark_read f) (mark_read g) f.rows (λ o m. mark_elsewhere f column f.objective digits o (other o m)))
+
         objective_is : Some (length last.before) ≡ last_valued g.values 0 f.columns f.objective None
         objective_is = sym (last_with f.values f.columns last.before column f.objective digits last.split none)
+
         count_is : length (filter is_not_zero f.values) + one_if (nat_lt 0 (number digits)) ≡ length (filter is_not_zero g.values)
         count_is = sym (count_push f.values (entry_of column f.objective digits))
+
         put_is : Some (record t { objective_column = Some (length last.before); columns = slice_set t.columns (length last.before) (record (column_read f column) { cost = negate (rational (number digits)) }) }) ≡ Some (reading_of stage set_name g)
         put_is = λ i. Some (record (reading_of stage set_name f) {
           objective_column = objective_is i;
@@ -237,23 +273,31 @@ coefficient_takes stage set_name f column row digits keeps last =
   where
     s : Reading
     s = reading_of stage set_name f
+
     next : Reading
     next = reading_of stage set_name (with_value f (entry_of column row digits))
+
     Few : Type 0
     Few = length (filter is_not_zero f.values) + one_if (nat_lt 0 (number digits)) ≤ 4194304
+
     Fresh : Type 0
     Fresh = AllByRecursion (IsOther column row) f.values
+
     after : Option NamedRow → Option Reading
     after o = bind o (λ named. bind (entry_counted s (number digits)) (λ t. named_taken t named (number digits)))
+
     at_objective : row ≡ f.objective → Takes Fresh (cost_taken (counted_reading stage set_name f (number digits)) (number digits)) next
     at_objective e = subst (λ r. Takes (AllByRecursion (IsOther column r) f.values) (cost_taken (counted_reading stage set_name f (number digits)) (number digits)) (reading_of stage set_name (with_value f (entry_of column r digits)))) (sym e) (cost_takes stage set_name f column digits keeps last)
+
     with_row : (o : Option NamedRow) (named : NamedRow) → o ≡ Some named → IsIn row (f.objective ∷ f.rows) → Takes Fresh (named_taken (counted_reading stage set_name f (number digits)) named (number digits)) next → Takes (IsIn row (f.objective ∷ f.rows) × (Few × Fresh)) (after o) next
     with_row o named e m k =
         takes_like (Few × Fresh) _ _ _ (λ h. (m, h)) (λ h. h.1)
         (takes_at _ (after (Some named)) _ next _ (ap after (sym e)) refl (takes_bind Few Fresh (entry_counted s (number digits)) (counted_reading stage set_name f (number digits)) _ _ (counted s (number digits) keeps.few_entries) (λ _. k)))
+
     go_row : IsNumbered f.rows row ⊎ IsNowhere f.rows row → bytes_eq row f.objective ≡ false → ¬ (row ≡ f.objective) → Takes (IsIn row (f.objective ∷ f.rows) × (Few × Fresh)) (after (find_row s row)) next
     go_row (inl h) e d = with_row (find_row s row) (AtRow h.0) (rw e (rw h.1 refl)) (inr (place_in f.rows row h.0 h.2)) (value_takes stage set_name f column row digits h.0 keeps last h.2)
     go_row (inr h) e d = Refused (λ k. elim k.0 [ inl p ↦ d p | inr m ↦ h.1 m ]) (rw e (rw h.0 refl))
+
     go : ((bytes_eq row f.objective ≡ true) × (row ≡ f.objective)) ⊎ ((bytes_eq row f.objective ≡ false) × (¬ (row ≡ f.objective))) → Takes (IsIn row (f.objective ∷ f.rows) × (Few × Fresh)) (after (find_row s row)) next
     go (inl p) = with_row (find_row s row) AtObjective (rw p.0 refl) (inl p.1) (at_objective p.1)
     go (inr p) = go_row (number_cases f.rows row) p.0 p.1
