@@ -1,2 +1,5 @@
 pub mod Cuts
 pub mod Digits
+pub mod Terms
+pub mod WellFormed
+pub mod ColumnLines

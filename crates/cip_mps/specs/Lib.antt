@@ -1,3 +1,6 @@
+pub mod Bounded
+pub mod Codes
 pub mod Drafts
-pub mod Words
 pub mod LineKinds
+pub mod Refusals
+pub mod Words

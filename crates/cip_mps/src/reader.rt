@@ -1,6 +1,6 @@
 //! Reading a thin text, in whatever pieces it comes.
 use crate::draft::Draft;
-pub use crate::draft::Refusal;
+use crate::refusal::Refusal;
 use cip_model::Program;
 use std::alloc::{AllocError, Global};
 
