@@ -1,4 +1,10 @@
 //! Reading a thin text, in whatever pieces it comes.
+ghost use Rattle.std.specs.Prelude.{◌≡◌, ◌++◌, ◌∷◌, [], ℕ, List, Some, MatchResult, OnOk};
+ghost use Rattle.cip_syntax.specs.Lines.{lines};
+ghost use Rattle.cip_reading.specs.Reading as steps;
+ghost use Rattle.cip_mps.specs.HasRead.{HasRead, IsAfter};
+ghost use Rattle.cip_mps.specs.Refusals.{IsRefusal};
+
 use crate::draft::Draft;
 use crate::refusal::Refusal;
 use cip_model::Program;
@@ -15,7 +21,9 @@ pub struct Reader {
 
 impl Reader {
     /// Nothing read yet.
-    pub fn new(alloc: Global) -> Reader {
+    pub fn new(alloc: Global) -> Reader
+        ensures { HasRead result [] }
+    {
         Reader {
             draft: Draft::new(alloc),
             line: Vec::new(alloc),
@@ -24,7 +32,9 @@ impl Reader {
     }
 
     /// Reads one more piece of the text.
-    pub fn take_piece(&mut self, piece: &[u8]) -> Result<(), AllocError> {
+    pub fn take_piece(&mut self, piece: &[u8]) -> Result<(), AllocError>
+        ensures { (text : List ℕ) → HasRead self.old text → OnOk result (HasRead self.new (text ++ piece.now)) }
+    {
         for byte in piece {
             self.take_byte(*byte)?;
         }
@@ -32,7 +42,9 @@ impl Reader {
     }
 
     /// Reads one more byte of the text.
-    fn take_byte(&mut self, byte: u8) -> Result<(), AllocError> {
+    fn take_byte(&mut self, byte: u8) -> Result<(), AllocError>
+        ensures { (text : List ℕ) → HasRead self.old text → OnOk result (HasRead self.new (text ++ byte ∷ [])) }
+    {
         if self.refused {
             return Ok(());
         }
@@ -44,7 +56,10 @@ impl Reader {
     }
 
     /// Reads the line that has ended.
-    fn end_line(&mut self) -> Result<(), AllocError> {
+    fn end_line(&mut self) -> Result<(), AllocError>
+        ensures { (ended : List (List ℕ)) (part : List ℕ) → IsAfter self.old (steps.lines_taken (Some steps.start) ended) part
+            → OnOk result (IsAfter self.new (steps.lines_taken (Some steps.start) (ended ++ part ∷ [])) []) }
+    {
         if self.refused {
             return Ok(());
         }
@@ -61,10 +76,14 @@ impl Reader {
     }
 
     /// The program of the text, where its last byte was read.
-    pub fn finish(mut self) -> Result<Program, Refusal> {
+    pub fn finish(mut self) -> Result<Program, Refusal>
+        ensures { (text : List ℕ) → HasRead self text →
+            let outcome = steps.bind (steps.lines_taken (Some steps.start) (lines text)) steps.outcome in
+            MatchResult result (λ program. outcome ≡ Some program) (IsRefusal outcome) }
+    {
         self.end_line()?;
         let Reader { draft, refused, .. } = self;
-        if refused || !draft.is_done() {
+        if refused {
             return Err(Refusal::NotThin);
         }
         draft.into_program()
