@@ -1,5 +1,7 @@
 -- What the reader of a thin text knows after each record, as plain values: the same steps as those of the code. That
 -- these steps read exactly the thin texts, each as its program, is a law (`Reading/Laws.antt`).
+pub mod Bytes
+pub mod Names
 use lib.Chars.{codes}
 use Rattle.std.specs.Prelude.{ℕ, zero, suc, ◌+◌, ◌-◌, ◌==◌, Bool, true, false, ◌&&◌, not, nat_lt, nat_le, List, [], ◌∷◌, ◌++◌, length, map, slice_set, slice_index_or, Option, None, Some, is_some, if◌then◌else◌}
 use Rattle.std.specs.List.{position_from, list_all}
