@@ -1,5 +1,5 @@
 -- Lines of COLUMNS by the number of their words.
-use Rattle.std.proofs.Common.{◌≡◌, ℕ, List, [], ◌∷◌, length, get_or, None, Some, refl, arith}
+use Rattle.std.proofs.Common.{◌≡◌, ℕ, List, [], ◌∷◌, length, get_or, None, refl, arith}
 use denote.Ref.{Bor}
 use Rattle.cip_reading.specs.Reading.{Reading, column_taken, column_line_taken}
 use Rattle.cip_mps.specs.declared.refusal.Refusal.{Refusal}

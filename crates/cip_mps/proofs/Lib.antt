@@ -3,3 +3,4 @@ pub mod Digits
 pub mod Terms
 pub mod WellFormed
 pub mod ColumnLines
+pub mod Readers

@@ -1,11 +1,10 @@
 -- The program that was read is well-formed.
-use Rattle.std.proofs.Common.{◌≡◌, ℕ, ◌≤◌, List, length, map, true, Some, sym, ◌∙◌, subst, All}
+use Rattle.std.proofs.Common.{◌≡◌, ℕ, ◌≤◌, length, map, true, Some, sym, ◌∙◌, subst, All}
 use Rattle.std.proofs.lemmas.List.{length-map}
-use Rattle.cip_rational.specs.Rational.{ℚ, zeroℚ}
-use Rattle.cip_problem.specs.Program.{Row, Sides}
+use Rattle.cip_rational.specs.Rational.{zeroℚ}
 use Rattle.cip_problem.specs.Activity.{StandsBelow}
 use Rattle.cip_problem.specs.WellFormed.{IsWellFormed}
-use Rattle.cip_reading.specs.Reading.{Reading, Column, program_read}
+use Rattle.cip_reading.specs.Reading.{Reading, program_read}
 
 pub well_formed : (s : Reading) → length s.rows ≡ length s.row_names → All (λ row. StandsBelow (length s.columns) row.terms) s.rows → length s.columns ≡ length s.column_names → length s.rows ≤ 65536 → length s.columns ≤ 65536 → IsWellFormed (program_read s)
 well_formed s rows_named rows_stand columns_named few_rows few_columns =

@@ -1,19 +1,23 @@
 -- What a reader has read.
-use Rattle.std.specs.Prelude.{◌≡◌, ℕ, Bool, true, false, List, [], ◌∷◌, ◌++◌, Option, None, Some}
-use Rattle.std.specs.List.{slice_split}
-use Rattle.cip_syntax.specs.Lines.{is_line_feed}
-use Rattle.cip_reading.specs.Reading.{Reading, start, lines_taken}
+use Rattle.std.specs.Prelude.{◌≡◌, ℕ, Bool, true, false, List, [], Option, None, Some}
+use Rattle.cip_reading.specs.Reading.{Reading, start}
+use Rattle.cip_reading.specs.Reading.Bytes.{Stream, bytes_taken}
 use Rattle.cip_mps.specs.Drafts.{reading}
-use Rattle.cip_mps.specs.declared.reader.Reader.{Reader}
+use Rattle.cip_mps.specs.declared.reader.Reader.{Reader as TheReader}
 
--- the reader stands after lines with this outcome, and has this part of the next one; it is refused where there is none
-abbrev pub IsAfter : Reader → Option Reading → List ℕ → Type 0
-IsAfter reader None part = reader.refused ≡ true
-IsAfter reader (Some s) part = (reader.refused ≡ false) × (reading reader.draft ≡ s) × (reader.line.items ≡ part)
+-- what a reader keeps: what was read of the lines that have ended, and the bytes of the line that has not. It is refused
+-- exactly where the lines that have ended can't be read
+abbrev pub Keeps : (refused : Bool) → (kept : Reading) → (line : List ℕ) → Option Reading → List ℕ → Type 0
+Keeps refused kept line None unended = refused ≡ true
+Keeps refused kept line (Some s) unended = (refused ≡ false) × (kept ≡ s) × (line ≡ unended)
 
--- the reader has read this text: the lines that have ended, and a part of the next one
-pub record HasRead (reader : Reader) (text : List ℕ) : Type 0 where
-  pub ended : List (List ℕ)
-  pub part : List ℕ
-  pub cut : slice_split is_line_feed text ≡ ended ++ part ∷ []
-  pub is_after : IsAfter reader (lines_taken (Some start) ended) part
+abbrev pub StandsAt : TheReader → Stream → Type 0
+StandsAt reader stream = Keeps reader.refused (reading reader.draft) reader.line.items stream.reading stream.unended
+
+-- nothing read yet
+abbrev pub beginning : Stream
+beginning = record { reading = Some start; unended = [] }
+
+-- the reader has read the bytes of this text, one after another
+abbrev pub HasRead : TheReader → List ℕ → Type 0
+HasRead reader text = StandsAt reader (bytes_taken beginning text)

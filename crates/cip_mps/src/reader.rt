@@ -1,8 +1,9 @@
 //! Reading a thin text, in whatever pieces it comes.
-ghost use Rattle.std.specs.Prelude.{◌≡◌, ◌++◌, ◌∷◌, [], ℕ, List, Some, MatchResult, OnOk};
+ghost use Rattle.std.specs.Prelude.{◌≡◌, ◌++◌, [], ℕ, List, Some, MatchResult, OnOk};
 ghost use Rattle.cip_syntax.specs.Lines.{lines};
-ghost use Rattle.cip_reading.specs.Reading as steps;
-ghost use Rattle.cip_mps.specs.HasRead.{HasRead, IsAfter};
+ghost use Rattle.cip_reading.specs.Reading.{start, bind, outcome, lines_taken};
+ghost use Rattle.cip_reading.specs.Reading.Bytes.{Stream, byte_taken, ended};
+ghost use Rattle.cip_mps.specs.HasRead.{HasRead, StandsAt};
 ghost use Rattle.cip_mps.specs.Refusals.{IsRefusal};
 
 use crate::draft::Draft;
@@ -43,13 +44,14 @@ impl Reader {
 
     /// Reads one more byte of the text.
     fn take_byte(&mut self, byte: u8) -> Result<(), AllocError>
-        ensures { (text : List ℕ) → HasRead self.old text → OnOk result (HasRead self.new (text ++ byte ∷ [])) }
+        ensures { (stream : Stream) → StandsAt self.old stream
+            → OnOk result (StandsAt self.new (byte_taken stream byte)) }
     {
-        if self.refused {
-            return Ok(());
-        }
         if byte == b'\n' {
             return self.end_line();
+        }
+        if self.refused {
+            return Ok(());
         }
         self.line.push(byte)?;
         Ok(())
@@ -57,8 +59,8 @@ impl Reader {
 
     /// Reads the line that has ended.
     fn end_line(&mut self) -> Result<(), AllocError>
-        ensures { (ended : List (List ℕ)) (part : List ℕ) → IsAfter self.old (steps.lines_taken (Some steps.start) ended) part
-            → OnOk result (IsAfter self.new (steps.lines_taken (Some steps.start) (ended ++ part ∷ [])) []) }
+        ensures { (stream : Stream) → StandsAt self.old stream
+            → OnOk result (StandsAt self.new (record { reading = ended stream; unended = [] })) }
     {
         if self.refused {
             return Ok(());
@@ -78,8 +80,8 @@ impl Reader {
     /// The program of the text, where its last byte was read.
     pub fn finish(mut self) -> Result<Program, Refusal>
         ensures { (text : List ℕ) → HasRead self text →
-            let outcome = steps.bind (steps.lines_taken (Some steps.start) (lines text)) steps.outcome in
-            MatchResult result (λ program. outcome ≡ Some program) (IsRefusal outcome) }
+            let said = bind (lines_taken (Some start) (lines text)) outcome in
+            MatchResult result (λ program. said ≡ Some program) (IsRefusal said) }
     {
         self.end_line()?;
         let Reader { draft, refused, .. } = self;

@@ -129,7 +129,8 @@ impl Draft {
         ensures { Gives result (steps.marker_taken (reading self.old) (texts words.now)) (reading self.new) }
     {
         match words {
-            [_, marker, kind] if *marker == b"'MARKER'".as_slice() && *kind == b"'INTORG'".as_slice() => {
+            [_, marker, kind]
+                if *marker == b"'MARKER'".as_slice() && *kind == b"'INTORG'".as_slice() => {
                 self.stage = Stage::Columns;
                 Ok(())
             }
@@ -151,10 +152,6 @@ fn due(stage: Stage) -> Option<(&'static [u8], Stage)>
         Stage::RhsSection => Some((b"RHS", Stage::Rhs)),
         Stage::Rhs => Some((b"BOUNDS", Stage::Bounds)),
         Stage::Bounds => Some((b"ENDATA", Stage::End)),
-        Stage::Sense
-        | Stage::Objective
-        | Stage::FirstMarker
-        | Stage::Columns
-        | Stage::End => None,
+        Stage::Sense | Stage::Objective | Stage::FirstMarker | Stage::Columns | Stage::End => None,
     }
 }

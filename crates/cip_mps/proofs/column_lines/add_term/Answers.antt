@@ -1,4 +1,4 @@
-use Rattle.std.proofs.Common.{◌∙◌, ◌<◌, sym, ap, Some, arith}
+use Rattle.std.proofs.Common.{◌∙◌, sym, arith}
 use Rattle.cip_mps.proofs.Terms.{term_added_yes, term_added_no, rational_not_zero}
 use Rattle.cip_mps.proofs.column_lines.add_term.Goals as goal
 

@@ -1,6 +1,5 @@
 use Rattle.std.proofs.Common.{◌≡◌, map, take, Some}
 use Rattle.cip_rational.specs.Rational.{zeroℚ}
-use Rattle.cip_problem.specs.Program.{Sides}
 use Rattle.cip_mps.proofs.program.bounds_of.Given as goal
 
 abbrev pub invariant-loop-column : goal.invariant-loop-column

@@ -1,4 +1,4 @@
-use Rattle.std.proofs.Common.{◌∙◌, sym, arith, ◌≡◌, ◌≤◌, length}
+use Rattle.std.proofs.Common.{arith, ◌≡◌, length}
 use Rattle.cip_mps.specs.Drafts.{reading}
 use Rattle.cip_mps.proofs.WellFormed.{well_formed}
 use Rattle.cip_mps.proofs.draft.Draft.into_program.Goals as goal
