@@ -1,5 +1,5 @@
 -- Words put one after another into six places.
-use Rattle.std.proofs.Common.{◌≡◌, ℕ, zero, suc, ◌+◌, ◌<◌, ◌≤◌, Bool, true, false, List, [], ◌∷◌, ◌++◌, length, take, set, sym, ap, ◌∙◌, refl, arith}
+use Rattle.std.proofs.Common.{◌≡◌, ℕ, zero, suc, ◌+◌, ◌<◌, ◌≤◌, true, false, List, [], ◌∷◌, ◌++◌, length, take, set, sym, ap, ◌∙◌, refl, arith}
 use Rattle.std.specs.List.{filter}
 use Rattle.std.proofs.lemmas.List.{take_more_set, take_all, length_push, length-take-le, append-nil}
 use Rattle.std.proofs.lemmas.List.Elements.{filter-append}

@@ -1,3 +1,7 @@
+pub mod Bounded
+pub mod Codes
 pub mod Drafts
-pub mod Words
+pub mod HasRead
 pub mod LineKinds
+pub mod Refusals
+pub mod Words

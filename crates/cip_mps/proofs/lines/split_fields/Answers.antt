@@ -1,4 +1,4 @@
-use Rattle.std.proofs.Common.{rules, tests, sym}
+use Rattle.std.proofs.Common.{rules, tests}
 use Rattle.std.proofs.lemmas.Iterator.Consumers.{YieldsList-end}
 use Rattle.std.proofs.lemmas.Iterator.Splits.{YieldsList-from_slice_split}
 use Rattle.cip_syntax.specs.Lines.{is_blank}

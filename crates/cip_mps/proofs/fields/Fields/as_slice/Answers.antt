@@ -1,5 +1,5 @@
 use Rattle.std.proofs.lemmas.List.{take-map}
-use Rattle.std.proofs.Common.{sym, ◌∙◌, arith}
+use Rattle.std.proofs.Common.{arith}
 use Rattle.std.proofs.lemmas.Grind.{common_steps}
 use Rattle.cip_mps.proofs.fields.Fields.as_slice.Goals as goal
 

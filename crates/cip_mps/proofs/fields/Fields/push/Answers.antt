@@ -1,4 +1,4 @@
-use Rattle.std.proofs.Common.{◌∙◌, map, length, ap, ◌≡◌}
+use Rattle.std.proofs.Common.{map}
 use Rattle.std.proofs.lemmas.List.{map-set, length-map}
 use Rattle.cip_mps.proofs.Cuts.{filled}
 use Rattle.cip_mps.proofs.fields.Fields.push.Goals as goal
