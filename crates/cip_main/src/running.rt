@@ -1,4 +1,8 @@
 //! The whole way from the words and the store to the sink.
+ghost use Rattle.std.specs.Prelude.{◌≡◌, ◌≤◌};
+ghost use Rattle.cip_syntax.specs.Figures.{usage_text, read_fault_text, not_thin_text, no_memory_text};
+ghost use Rattle.cip_main.specs.Saying.{Says};
+
 use crate::reader::{ReadFault, read_program};
 use crate::words::Words;
 use cip_frac::Frac;
@@ -18,6 +22,14 @@ const READ_FAULT: &[u8] = b"status readfault\nend\n";
 const REFUSED: &[u8] = b"status refused\ntext model\nline 1\nkind 21 OutOfProfile\nend\n";
 
 const NO_MEMORY: &[u8] = b"status nomemory\nend\n";
+
+/// The fixed answers are the texts of the definitions.
+pub fn fixed_answers()
+    ensures usage { USAGE.now ≡ usage_text }
+    ensures read_fault { READ_FAULT.now ≡ read_fault_text }
+    ensures refused { REFUSED.now ≡ not_thin_text }
+    ensures no_memory { NO_MEMORY.now ≡ no_memory_text }
+{}
 
 /// Does all that the program does, and answers its exit status:
 ///
@@ -84,7 +96,10 @@ fn solve_and_report<K: Sink>(
 }
 
 /// Writes a fixed answer; its status, or 5 where the sink failed.
-fn say<K: Sink>(out: &mut K, text: &[u8], status: u8) -> u8 {
+fn say<K: Sink>(out: &mut K, text: &[u8], status: u8) -> u8
+    ensures said { Says (K.taken out.old) (K.taken out.new) (K.faults out.old) (K.faults out.new) text.now status result }
+    ensures later { K.faults out.old ≤ K.faults out.new }
+{
     match push_all(out, text) {
         Ok(()) => status,
         Err(Failed) => 5,
@@ -92,11 +107,17 @@ fn say<K: Sink>(out: &mut K, text: &[u8], status: u8) -> u8 {
 }
 
 /// Says that a growth was refused before there was a program to speak of.
-pub fn say_no_memory<K: Sink>(out: &mut K) -> u8 {
+pub fn say_no_memory<K: Sink>(out: &mut K) -> u8
+    ensures said { Says (K.taken out.old) (K.taken out.new) (K.faults out.old) (K.faults out.new) no_memory_text 6 result }
+    ensures later { K.faults out.old ≤ K.faults out.new }
+{
     say(out, NO_MEMORY, 6)
 }
 
 /// Says that the words are not accepted.
-pub fn say_usage<K: Sink>(out: &mut K) -> u8 {
+pub fn say_usage<K: Sink>(out: &mut K) -> u8
+    ensures said { Says (K.taken out.old) (K.taken out.new) (K.faults out.old) (K.faults out.new) usage_text 2 result }
+    ensures later { K.faults out.old ≤ K.faults out.new }
+{
     say(out, USAGE, 2)
 }
