@@ -1,5 +1,5 @@
 //! Answers as bytes, written to a sink from a fixed buffer.
-ghost use Rattle.std.specs.Prelude.{◌≡◌, ◌≤◌, ◌++◌, ◌∷◌, [], length, option_map, codes, IfSome, MatchResult, OnErr};
+ghost use Rattle.std.specs.Prelude.{◌≡◌, ◌≤◌, ◌++◌, length, option_map, IfSome, MatchResult, OnErr};
 ghost use Rattle.std.specs.Io.KnownBytes.{append_known};
 ghost use Rattle.cip_io.specs.Faults.{Rose};
 ghost use Rattle.cip_io.specs.Sink.{PushesPart};

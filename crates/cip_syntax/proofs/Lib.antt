@@ -1,1 +1,2 @@
-mod Tried
+pub mod Tried
+pub mod TriedAnswers

@@ -1,6 +1,7 @@
 -- The figures of an answer to `solve`, and its text.
+pub mod Laws
 use lib.Chars.{codes}
-use Rattle.std.specs.Prelude.{ℕ, List, [], ◌∷◌, ◌++◌, Option, None, Some}
+use Rattle.std.specs.Prelude.{◌≡◌, length, IfSome, ℕ, List, [], ◌∷◌, ◌++◌, Option, None, Some}
 use Rattle.cip_rational.specs.Rational.{ℚ}
 use Rattle.cip_numerals.specs.NumberText.{fraction_text}
 
@@ -68,6 +69,10 @@ head_text figures =
 abbrev pub held_lines : List (List ℕ) → Option Held → List ℕ
 held_lines names None = []
 held_lines names (Some held) = point_lines names held.point
+
+-- the point, if there is one, has a value for each name
+abbrev pub HaveValues : List (List ℕ) → Option Held → Type 0
+HaveValues names held = IfSome held (λ held. length held.point ≡ length names)
 
 -- the text of an answer, for a program whose columns have these names
 abbrev pub answer_text : List (List ℕ) → Figures → List ℕ
