@@ -19,5 +19,5 @@ abbrev pub beginning : Stream
 beginning = record { reading = Some start; unended = [] }
 
 -- the reader has read the bytes of this text, one after another
-abbrev pub HasRead : TheReader → List ℕ → Type 0
-HasRead reader text = StandsAt reader (bytes_taken beginning text)
+pub record HasRead (reader : TheReader) (text : List ℕ) : Type 0 where
+  pub stands : StandsAt reader (bytes_taken beginning text)

@@ -13,4 +13,4 @@ loop-byte-preserved c = λ stream h.
 pub returns : goal.returns
 returns c = λ text h.
     let piece = c.args.piece.now in
-    rw (bytes_taken-append beginning text piece) (rw (take_all c.loop-byte.byte-index piece (omega arith)) at (c.loop-byte.invariant (bytes_taken beginning text) h))
+    record { stands = rw (bytes_taken-append beginning text piece) (rw (take_all c.loop-byte.byte-index piece (omega arith)) at (c.loop-byte.invariant (bytes_taken beginning text) h.stands)) }
