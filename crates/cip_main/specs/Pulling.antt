@@ -3,6 +3,8 @@ use Rattle.std.specs.Prelude.{◌≡◌, ℕ, List, Option, IfSome, option_map, 
 use Rattle.cip_io.specs.Faults.{Rose}
 use Rattle.cip_problem.specs.Program.{Program}
 use Rattle.cip_syntax.specs.ThinText.{IsThin}
+use Rattle.cip_mps.specs.HasRead.{HasRead}
+use Rattle.cip_mps.specs.declared.reader.Reader.{Reader}
 use Rattle.cip_main.specs.declared.reader.ReadFault.{ReadFault}
 use Rattle.cip_main.specs.declared.reader.ReadFault.TheVariants.{Store, NotThin, NoMemory}
 
@@ -36,3 +38,10 @@ abbrev pub IsWholeUnless : (held left : Option (List ℕ)) → ReadFault → Typ
 IsWholeUnless held left Store = ⊤
 IsWholeUnless held left NotThin = IsWhole held left
 IsWholeUnless held left NoMemory = ⊤
+
+-- while a text is pulled: the reader has read the bytes that were pulled, and there are so many
+pub record IsReading (reader : Reader) (held left : Option (List ℕ)) (pulled : ℕ) : Type 0 where
+  pub bytes : List ℕ
+  pub has_read : HasRead reader bytes
+  pub is_pulled : IsPulled held left bytes
+  pub size : length bytes ≡ pulled

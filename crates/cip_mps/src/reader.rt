@@ -2,7 +2,7 @@
 ghost use Rattle.std.specs.Prelude.{◌≡◌, ◌++◌, [], ℕ, List, Some, MatchResult, OnOk};
 ghost use Rattle.cip_syntax.specs.Lines.{lines};
 ghost use Rattle.cip_reading.specs.Reading.{start, bind, outcome, lines_taken};
-ghost use Rattle.cip_reading.specs.Reading.Bytes.{Stream, byte_taken, ended};
+ghost use Rattle.cip_reading.specs.Reading.Texts.{Stream, byte_taken, ended};
 ghost use Rattle.cip_mps.specs.HasRead.{HasRead, StandsAt};
 ghost use Rattle.cip_mps.specs.Refusals.{IsRefusal};
 
