@@ -1,4 +1,5 @@
 pub mod Clauses
 pub mod Pulled
+pub mod Readings
 pub mod ThinPrograms
 pub mod TrueFigures

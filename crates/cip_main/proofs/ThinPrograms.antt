@@ -32,6 +32,7 @@ use Rattle.cip_report.specs.declared.figures.Ended.TheVariants.{NoMemory}
 use Rattle.cip_report.specs.Answers.{status_of, figures_of}
 use Rattle.cip_syntax.specs.Figures.{answer_text, exit_status}
 use Rattle.cip_main.specs.Answering.{node_limit, HasThinText, Answers}
+use Rattle.cip_main.specs.Pulling.{IsRead}
 use Rattle.cip_main.specs.Saying.{Says}
 use Rattle.cip_main.proofs.TrueFigures.{are_true}
 
@@ -111,3 +112,11 @@ answers_of program old new answer taken taken_after faults faults_after result (
 pub answer_fits : (program : Program) (old new : List Log) (answer : Answer) → HasThinText program → Searched program node_limit old new answer → IfSome answer.held (λ h. length h.point.items ≡ columns program)
 answer_fits program old new answer t (inl s) = held_fits program t answer.held s.2.held
 answer_fits program old new answer t (inr s) = held_fits program t answer.held s.2.held
+
+-- the text that was read is the one that the store tells
+pub thin_told : (held : Option (List ℕ)) (program : Program) → IsRead held program → IfSome held (λ bytes. IsThin bytes program)
+thin_told None program r = tt
+thin_told (Some bytes) program r = subst (λ t. IsThin t program) (sym r.told) r.thin
+
+pub has_text : (held : Option (List ℕ)) (program : Program) → IsRead held program → HasThinText program
+has_text held program r = record { text = r.text; thin = r.thin }

@@ -1,8 +1,9 @@
 -- Reading the program of a text that is pulled from a store.
-use Rattle.std.specs.Prelude.{◌≡◌, ℕ, List, Option, IfSome, option_map, take, drop, length, ⊤}
+use Rattle.std.specs.Prelude.{◌≡◌, ℕ, ◌+◌, ◌≤◌, Bool, true, false, List, Option, None, IfSome, option_map, take, drop, length, ⊤}
 use Rattle.cip_io.specs.Faults.{Rose}
 use Rattle.cip_problem.specs.Program.{Program}
 use Rattle.cip_syntax.specs.ThinText.{IsThin}
+use Rattle.cip_reading.specs.Reading.Texts.{read}
 use Rattle.cip_mps.specs.HasRead.{HasRead}
 use Rattle.cip_mps.specs.declared.reader.Reader.{Reader}
 use Rattle.cip_main.specs.declared.reader.ReadFault.{ReadFault}
@@ -45,3 +46,46 @@ pub record IsReading (reader : Reader) (held left : Option (List ℕ)) (pulled :
   pub has_read : HasRead reader bytes
   pub is_pulled : IsPulled held left bytes
   pub size : length bytes ≡ pulled
+
+-- the text has ended: the reader has read all of it
+pub record IsEnded (reader : Reader) (held left : Option (List ℕ)) (pulled : ℕ) : Type 0 where
+  pub bytes : List ℕ
+  pub has_read : HasRead reader bytes
+  pub all : IfSome held (λ text. text ≡ bytes)
+  pub size : length bytes ≡ pulled
+  pub whole : pulled ≤ most_pulled → IsWhole held left
+
+-- a further piece of this many bytes was read; none says that the text has ended
+pub record ReadsPiece (reader : Reader) (held left : Option (List ℕ)) (pulled count : ℕ) : Type 0 where
+  pub reading : IsReading reader held left (pulled + count)
+  pub end : count ≡ 0 → IsEnded reader held left pulled
+
+-- all of a text was read that is not too long
+pub record IsAllRead (reader : Reader) (held left : Option (List ℕ)) : Type 0 where
+  pub bytes : List ℕ
+  pub has_read : HasRead reader bytes
+  pub all : IfSome held (λ text. text ≡ bytes)
+  pub short : length bytes ≤ 67108864
+  pub whole : IsWhole held left
+
+-- the text is too long
+pub record IsTooLong (held left : Option (List ℕ)) : Type 0 where
+  pub long : IfSome held (λ text. most_pulled ≤ length text)
+  pub whole : IsWhole held left
+
+-- the text was pulled: it has ended, or is too long
+abbrev pub Reads : Reader → (held left : Option (List ℕ)) → (ended : Bool) → Type 0
+Reads reader held left true = IsAllRead reader held left
+Reads reader held left false = IsTooLong held left
+
+-- why a piece was not read
+abbrev pub PieceCause : (faults faults_after : ℕ) → ReadFault → Type 0
+PieceCause faults faults_after Store = Rose faults faults_after
+PieceCause faults faults_after NotThin = ⊥
+PieceCause faults faults_after NoMemory = ⊤
+
+-- why the bytes that were read give no program
+abbrev pub EndCause : List ℕ → ReadFault → Type 0
+EndCause bytes Store = ⊥
+EndCause bytes NotThin = read bytes ≡ None
+EndCause bytes NoMemory = ⊤

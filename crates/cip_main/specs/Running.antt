@@ -33,6 +33,25 @@ pub record Call : Type 0 where
   pub logs_after : List Log
   pub status : ℕ
 
+-- a call, from what the store and the sink told before and after it
+abbrev pub call_of : Option Job → (store store_after : StoreTells) → (sink sink_after : SinkTells) → (logs logs_after : List Log) → (status : ℕ) → Call
+call_of job store store_after sink sink_after logs logs_after status = record {
+  job = job;
+  store = store;
+  store_after = store_after;
+  sink = sink;
+  sink_after = sink_after;
+  logs = logs;
+  logs_after = logs_after;
+  status = status;
+}
+
+abbrev pub store_tells : (List ℕ → Option (List ℕ)) → Option (List ℕ) → ℕ → StoreTells
+store_tells holds left faults = record { holds = holds; left = left; faults = faults }
+
+abbrev pub sink_tells : Option (List ℕ) → ℕ → SinkTells
+sink_tells taken faults = record { taken = taken; faults = faults }
+
 -- the sink took exactly this text, and the status is this one; or the sink failed, the status is 5, and it took a
 -- front part of the text
 abbrev pub Tells : Call → (text : List ℕ) → (status : ℕ) → Type 0

@@ -1,6 +1,8 @@
 //! Reading a program from a store.
-ghost use Rattle.std.specs.Prelude.{MatchResult};
-ghost use Rattle.cip_main.specs.Pulling.{IsRead, ReadCause, IsWhole, IsWholeUnless};
+ghost use Rattle.std.specs.Prelude.{◌≡◌, ◌<◌, ◌≤◌, ℕ, List, Option, Some, MatchResult, IfOk, length, ⊤};
+ghost use Rattle.cip_reading.specs.Reading.Texts.{read};
+ghost use Rattle.cip_mps.specs.HasRead.{HasRead};
+ghost use Rattle.cip_main.specs.Pulling.{IsRead, ReadCause, IsWhole, IsWholeUnless, IsReading, ReadsPiece, Reads, PieceCause, EndCause};
 
 use cip_io::{Failed, Store};
 use cip_model::Program;
@@ -47,7 +49,10 @@ impl From<AllocError> for ReadFault {
 }
 
 /// What the reader answers at the end of a text.
-fn finish(reader: Reader) -> Result<Program, ReadFault> {
+fn finish(reader: Reader) -> Result<Program, ReadFault>
+    ensures { (bytes : List ℕ) → HasRead reader bytes
+        → MatchResult result (λ program. read bytes ≡ Some program) (EndCause bytes) }
+{
     match reader.finish() {
         Ok(program) => Ok(program),
         Err(Refusal::NotThin) => Err(ReadFault::NotThin),
@@ -55,7 +60,71 @@ fn finish(reader: Reader) -> Result<Program, ReadFault> {
     }
 }
 
-/// Pulls the text of this name to its end, or to the first byte past the limit, and reads it.
+/// Pulls the next piece of the current text and reads it; how many bytes came.
+fn read_piece<S: Store>(
+    store: &mut S,
+    reader: &mut Reader,
+    buffer: &mut [u8],
+) -> Result<usize, ReadFault>
+    requires { 0 < length buffer.old }
+    ensures read { (held : Option (List ℕ)) (pulled : ℕ) → IsReading reader.old held (S.left store.old) pulled
+        → MatchResult result (ReadsPiece reader.new held (S.left store.new) pulled) (λ _. ⊤) }
+    ensures within { IfOk result (λ count. count ≤ length buffer.old) }
+    ensures size { length buffer.new ≡ length buffer.old }
+    ensures later { S.faults store.old ≤ S.faults store.new }
+    ensures cause { MatchResult result (λ _. ⊤) (PieceCause (S.faults store.old) (S.faults store.new)) }
+{
+    let count = store.pull(buffer)?;
+    reader.take_piece(&buffer[..count])?;
+    Ok(count)
+}
+
+/// Pulls the current text to its end, or to the first byte past the limit, and reads it; whether it
+/// has ended.
+fn read_pieces<S: Store>(
+    store: &mut S,
+    reader: &mut Reader,
+    buffer: &mut [u8],
+) -> Result<bool, ReadFault>
+    requires { length buffer.old ≡ 65536 }
+    ensures read { (held : Option (List ℕ)) → IsReading reader.old held (S.left store.old) 0
+        → MatchResult result (Reads reader.new held (S.left store.new)) (λ _. ⊤) }
+    ensures later { S.faults store.old ≤ S.faults store.new }
+    ensures cause { MatchResult result (λ _. ⊤) (PieceCause (S.faults store.old) (S.faults store.new)) }
+{
+    let mut pulled = 0usize;
+    while pulled <= MOST_BYTES {
+        let room = PIECE.min(MOST_BYTES + 1 - pulled);
+        let count = read_piece(store, reader, &mut buffer[..room])?;
+        if count == 0 {
+            return Ok(true);
+        }
+        pulled += count;
+    }
+    Ok(false)
+}
+
+/// Reads the program of the current text, of which nothing was pulled yet.
+fn read_text<S: Store>(
+    store: &mut S,
+    mut reader: Reader,
+    buffer: &mut [u8],
+) -> Result<Program, ReadFault>
+    requires { length buffer.old ≡ 65536 }
+    ensures read { (held : Option (List ℕ)) → IsReading reader held (S.left store.old) 0
+        → MatchResult result (IsRead held) (ReadCause held (S.faults store.old) (S.faults store.new)) }
+    ensures whole { (held : Option (List ℕ)) → IsReading reader held (S.left store.old) 0
+        → MatchResult result (λ _. IsWhole held (S.left store.new)) (IsWholeUnless held (S.left store.new)) }
+    ensures later { S.faults store.old ≤ S.faults store.new }
+{
+    match read_pieces(store, &mut reader, buffer) {
+        Ok(true) => finish(reader),
+        Ok(false) => Err(ReadFault::NotThin),
+        Err(fault) => Err(fault),
+    }
+}
+
+/// Reads the program of the text of this name.
 pub(crate) fn read_program<S: Store>(
     alloc: Global,
     store: &mut S,
@@ -68,18 +137,7 @@ pub(crate) fn read_program<S: Store>(
         (λ _. IsWhole (S.holds store.old name.now) (S.left store.new))
         (IsWholeUnless (S.holds store.old name.now) (S.left store.new)) }
 {
-    store.choose(name)?;
-    let mut reader = Reader::new(alloc);
     let mut buffer = vec![in alloc; 0u8; PIECE]?;
-    let mut pulled = 0usize;
-    while pulled <= MOST_BYTES {
-        let room = PIECE.min(MOST_BYTES + 1 - pulled);
-        let count = store.pull(&mut buffer.as_mut_slice()[..room])?;
-        if count == 0 {
-            return finish(reader);
-        }
-        reader.take_piece(&buffer.as_slice()[..count])?;
-        pulled += count;
-    }
-    Err(ReadFault::NotThin)
+    store.choose(name)?;
+    read_text(store, Reader::new(alloc), buffer.as_mut_slice())
 }

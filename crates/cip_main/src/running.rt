@@ -6,6 +6,8 @@ ghost use Rattle.cip_report.specs.Answers.{figures_of};
 ghost use Rattle.cip_report.specs.declared.figures.Ended.TheVariants.{NoMemory};
 ghost use Rattle.cip_solve.specs.Right.{IsHeld, IsRight, Searched};
 ghost use Rattle.cip_main.specs.Answering.{node_limit, HasThinText, Answers};
+ghost use Rattle.cip_syntax.specs.CommandLine.{job_of};
+ghost use Rattle.cip_main.specs.Running.{Runs, call_of, store_tells, sink_tells};
 ghost use Rattle.cip_main.specs.Saying.{Says};
 
 use crate::reader::{ReadFault, read_program};
@@ -53,7 +55,13 @@ pub fn run<S: Store, K: Sink>(
     store: &mut S,
     out: &mut K,
     logs: &mut Vec<Log>,
-) -> u8 {
+) -> u8
+    ensures { Runs (call_of (job_of words.now)
+        (store_tells (S.holds store.old) (S.left store.old) (S.faults store.old))
+        (store_tells (S.holds store.new) (S.left store.new) (S.faults store.new))
+        (sink_tells (K.taken out.old) (K.faults out.old)) (sink_tells (K.taken out.new) (K.faults out.new))
+        logs.old.items logs.new.items result) }
+{
     let Some(name) = words.model() else {
         return say(out, USAGE, 2);
     };
