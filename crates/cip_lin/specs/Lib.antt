@@ -1,2 +1,3 @@
+pub mod Small
 pub mod Faults
 pub mod Sums

@@ -1,0 +1,4 @@
+pub mod Clauses
+pub mod Pulled
+pub mod ThinPrograms
+pub mod TrueFigures

@@ -1,0 +1,5 @@
+pub mod Answering
+pub mod Pulling
+pub mod Running
+pub mod Saying
+pub mod Words

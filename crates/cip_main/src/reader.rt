@@ -1,4 +1,7 @@
 //! Reading a program from a store.
+ghost use Rattle.std.specs.Prelude.{MatchResult};
+ghost use Rattle.cip_main.specs.Pulling.{IsRead, ReadCause, IsWhole, IsWholeUnless};
+
 use cip_io::{Failed, Store};
 use cip_model::Program;
 use cip_mps::{Reader, Refusal};
@@ -22,23 +25,33 @@ pub(crate) enum ReadFault {
 }
 
 impl From<Failed> for ReadFault {
+    ghost use Rattle.std.specs.Prelude.{◌≡◌};
+    ghost use Rattle.cip_main.specs.declared.reader.ReadFault.{ReadFault};
+
+    ghost from_gives = { λ _ fault. fault ≡ ReadFault.Store };
+
     fn from(_: Failed) -> ReadFault {
         ReadFault::Store
     }
 }
 
 impl From<AllocError> for ReadFault {
+    ghost use Rattle.std.specs.Prelude.{◌≡◌};
+    ghost use Rattle.cip_main.specs.declared.reader.ReadFault.{ReadFault};
+
+    ghost from_gives = { λ _ fault. fault ≡ ReadFault.NoMemory };
+
     fn from(_: AllocError) -> ReadFault {
         ReadFault::NoMemory
     }
 }
 
-impl From<Refusal> for ReadFault {
-    fn from(refusal: Refusal) -> ReadFault {
-        match refusal {
-            Refusal::NotThin => ReadFault::NotThin,
-            Refusal::NoMemory => ReadFault::NoMemory,
-        }
+/// What the reader answers at the end of a text.
+fn finish(reader: Reader) -> Result<Program, ReadFault> {
+    match reader.finish() {
+        Ok(program) => Ok(program),
+        Err(Refusal::NotThin) => Err(ReadFault::NotThin),
+        Err(Refusal::NoMemory) => Err(ReadFault::NoMemory),
     }
 }
 
@@ -47,7 +60,14 @@ pub(crate) fn read_program<S: Store>(
     alloc: Global,
     store: &mut S,
     name: &str,
-) -> Result<Program, ReadFault> {
+) -> Result<Program, ReadFault>
+    ensures read { MatchResult result
+        (IsRead (S.holds store.old name.now))
+        (ReadCause (S.holds store.old name.now) (S.faults store.old) (S.faults store.new)) }
+    ensures whole { MatchResult result
+        (λ _. IsWhole (S.holds store.old name.now) (S.left store.new))
+        (IsWholeUnless (S.holds store.old name.now) (S.left store.new)) }
+{
     store.choose(name)?;
     let mut reader = Reader::new(alloc);
     let mut buffer = vec![in alloc; 0u8; PIECE]?;
@@ -56,7 +76,7 @@ pub(crate) fn read_program<S: Store>(
         let room = PIECE.min(MOST_BYTES + 1 - pulled);
         let count = store.pull(&mut buffer.as_mut_slice()[..room])?;
         if count == 0 {
-            return Ok(reader.finish()?);
+            return finish(reader);
         }
         reader.take_piece(&buffer.as_slice()[..count])?;
         pulled += count;

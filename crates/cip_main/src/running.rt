@@ -1,4 +1,13 @@
 //! The whole way from the words and the store to the sink.
+ghost use Rattle.std.specs.Prelude.{◌≡◌, ◌≤◌, [], IfOk, IfSome, length};
+ghost use Rattle.cip_problem.specs.WellFormed.{columns};
+ghost use Rattle.cip_syntax.specs.Figures.{usage_text, read_fault_text, not_thin_text, no_memory_text, answer_text, exit_status};
+ghost use Rattle.cip_report.specs.Answers.{figures_of};
+ghost use Rattle.cip_report.specs.declared.figures.Ended.TheVariants.{NoMemory};
+ghost use Rattle.cip_solve.specs.Right.{IsHeld, IsRight, Searched};
+ghost use Rattle.cip_main.specs.Answering.{node_limit, HasThinText, Answers};
+ghost use Rattle.cip_main.specs.Saying.{Says};
+
 use crate::reader::{ReadFault, read_program};
 use crate::words::Words;
 use cip_frac::Frac;
@@ -18,6 +27,14 @@ const READ_FAULT: &[u8] = b"status readfault\nend\n";
 const REFUSED: &[u8] = b"status refused\ntext model\nline 1\nkind 21 OutOfProfile\nend\n";
 
 const NO_MEMORY: &[u8] = b"status nomemory\nend\n";
+
+/// The fixed answers are the texts of the definitions.
+pub fn fixed_answers()
+    ensures usage { USAGE.now ≡ usage_text }
+    ensures read_fault { READ_FAULT.now ≡ read_fault_text }
+    ensures refused { REFUSED.now ≡ not_thin_text }
+    ensures no_memory { NO_MEMORY.now ≡ no_memory_text }
+{}
 
 /// Does all that the program does, and answers its exit status:
 ///
@@ -48,24 +65,52 @@ pub fn run<S: Store, K: Sink>(
     }
 }
 
-/// The point of zeros with its cost. It is feasible in each program of a thin text.
-fn zeros(alloc: Global, program: &Program) -> Result<Held, AllocError> {
+/// The point of zeros with its cost, which is feasible in the program of a thin text.
+fn zeros(alloc: Global, program: &Program) -> Result<Held, AllocError>
+    requires { HasThinText program.now }
+    ensures { IfOk result (IsHeld program.now) }
+{
     let point = vec![in alloc; Frac::zero(); program.columns()]?;
     match program.check(point.as_slice()) {
         Verdict::Feasible(cost) => Ok(Held { cost, point }),
-        _ => Err(AllocError),
+        _ => unreachable!(),
+    }
+}
+
+/// The answer where memory is refused before there is a point.
+fn no_point(program: &Program) -> Answer
+    requires { HasThinText program.now }
+    ensures ended { result.ended ≡ NoMemory }
+    ensures right { IsRight program.now node_limit [] result }
+{
+    Answer {
+        ended: Ended::NoMemory,
+        held: None,
+        bound: root_bound(program),
     }
 }
 
 /// Searches the program, from the point of zeros on.
-fn search(alloc: Global, program: &Program, logs: &mut Vec<Log>) -> Answer {
+fn search(alloc: Global, program: &Program, logs: &mut Vec<Log>) -> Answer
+    requires { HasThinText program.now }
+    ensures { Searched program.now node_limit logs.old.items logs.new.items result }
+{
     match zeros(alloc, program) {
         Ok(held) => solve(alloc, program, held, NODE_LIMIT, logs),
-        Err(AllocError) => Answer {
-            ended: Ended::NoMemory,
-            held: None,
-            bound: root_bound(program),
-        },
+        Err(AllocError) => no_point(program),
+    }
+}
+
+/// Writes an answer; the status that goes with its end, or 5 where the sink failed.
+fn tell<K: Sink>(program: &Program, answer: &Answer, out: &mut K) -> u8
+    requires { IfSome answer.now.held (λ held. length held.point.items ≡ columns program.now) }
+    ensures { let figures = figures_of program.now answer.now in
+        Says (K.taken out.old) (K.taken out.new) (K.faults out.old) (K.faults out.new)
+        (answer_text program.now.column_names figures) (exit_status figures.status) result }
+{
+    match report(program, answer, out) {
+        Ok(()) => answer.ended.status(),
+        Err(Failed) => 5,
     }
 }
 
@@ -75,16 +120,20 @@ fn solve_and_report<K: Sink>(
     program: &Program,
     out: &mut K,
     logs: &mut Vec<Log>,
-) -> u8 {
+) -> u8
+    requires { HasThinText program.now }
+    ensures { Answers program.now (K.taken out.old) (K.taken out.new) (K.faults out.old) (K.faults out.new)
+        logs.old.items logs.new.items result }
+{
     let answer = search(alloc, program, logs);
-    match report(program, &answer, out) {
-        Ok(()) => answer.ended.status(),
-        Err(Failed) => 5,
-    }
+    tell(program, &answer, out)
 }
 
 /// Writes a fixed answer; its status, or 5 where the sink failed.
-fn say<K: Sink>(out: &mut K, text: &[u8], status: u8) -> u8 {
+fn say<K: Sink>(out: &mut K, text: &[u8], status: u8) -> u8
+    ensures said { Says (K.taken out.old) (K.taken out.new) (K.faults out.old) (K.faults out.new) text.now status result }
+    ensures later { K.faults out.old ≤ K.faults out.new }
+{
     match push_all(out, text) {
         Ok(()) => status,
         Err(Failed) => 5,
@@ -92,11 +141,17 @@ fn say<K: Sink>(out: &mut K, text: &[u8], status: u8) -> u8 {
 }
 
 /// Says that a growth was refused before there was a program to speak of.
-pub fn say_no_memory<K: Sink>(out: &mut K) -> u8 {
+pub fn say_no_memory<K: Sink>(out: &mut K) -> u8
+    ensures said { Says (K.taken out.old) (K.taken out.new) (K.faults out.old) (K.faults out.new) no_memory_text 6 result }
+    ensures later { K.faults out.old ≤ K.faults out.new }
+{
     say(out, NO_MEMORY, 6)
 }
 
 /// Says that the words are not accepted.
-pub fn say_usage<K: Sink>(out: &mut K) -> u8 {
+pub fn say_usage<K: Sink>(out: &mut K) -> u8
+    ensures said { Says (K.taken out.old) (K.taken out.new) (K.faults out.old) (K.faults out.new) usage_text 2 result }
+    ensures later { K.faults out.old ≤ K.faults out.new }
+{
     say(out, USAGE, 2)
 }

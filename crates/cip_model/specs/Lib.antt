@@ -5,4 +5,5 @@ pub mod Least
 pub mod Meaning
 pub mod Names
 pub mod Programs
+pub mod Small
 pub mod Verdicts

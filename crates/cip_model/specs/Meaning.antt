@@ -1,12 +1,13 @@
 -- What a verdict says of a program and a point, and what a bound says of a box. The modules below have the laws.
 pub mod Bound
 pub mod Laws
-use Rattle.std.specs.Prelude.{◌≡◌, ℕ, true, List, Option, None, Some, IsErr, slice_get, ⊤}
+use Rattle.std.specs.Prelude.{◌≡◌, ℕ, ◌<◌, true, List, Option, None, Some, IsErr, slice_get, ⊤}
 use Rattle.cip_rational.specs.Rational.{ℚ, zeroℚ, IsWhole}
 use Rattle.cip_problem.specs.Program.{Row, Program}
 use Rattle.cip_problem.specs.Activity.{activity, value_at}
 use Rattle.cip_problem.specs.Box.{Between, sides_at}
 use Rattle.cip_problem.specs.Points.{IsSatisfied, IsFeasible, cost_of}
+use Rattle.cip_problem.specs.WellFormed.{columns}
 use Rattle.cip_lin.specs.Sums.{activity_from}
 use Rattle.cip_lin.specs.declared.outcomes.Least.{Least}
 use Rattle.cip_lin.specs.declared.outcomes.Least.TheVariants.{Value, NoBound, Wide as TooWide}
@@ -18,6 +19,7 @@ use Rattle.cip_model.specs.declared.verdicts.Verdict.TheVariants.{Feasible, Brea
 
 -- the value of a column is not between its sides
 pub record IsOutside (program : Program) (point : List ℚ) (column : ℕ) : Type 0 where
+  pub is_column : column < columns program
   pub outside : ¬ Between (sides_at program.bounds column).low (sides_at program.bounds column).high (value_at point column)
 
 -- a column is to be whole, and its value is not

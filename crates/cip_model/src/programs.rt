@@ -144,10 +144,7 @@ impl Program {
         ensures steps { result ≡ least_cost_from self.now.constant self.now.costs bounds.now }
         ensures meaning { BoundHolds (box_bound self.now bounds.now) result }
     {
-        least_cost(
-            self.parts.constant,
-            self.parts.costs.as_slice(),
-            bounds.as_slice(),
-        )
+        let costs = self.parts.costs.as_slice();
+        least_cost(self.parts.constant, costs, bounds.as_slice())
     }
 }

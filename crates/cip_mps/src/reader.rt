@@ -1,6 +1,13 @@
 //! Reading a thin text, in whatever pieces it comes.
+ghost use Rattle.std.specs.Prelude.{◌≡◌, ◌++◌, [], ℕ, List, Some, MatchResult, OnOk};
+ghost use Rattle.cip_syntax.specs.Lines.{lines};
+ghost use Rattle.cip_reading.specs.Reading.{start, bind, outcome, lines_taken};
+ghost use Rattle.cip_reading.specs.Reading.Texts.{Stream, byte_taken, ended};
+ghost use Rattle.cip_mps.specs.HasRead.{HasRead, StandsAt};
+ghost use Rattle.cip_mps.specs.Refusals.{IsRefusal};
+
 use crate::draft::Draft;
-pub use crate::draft::Refusal;
+use crate::refusal::Refusal;
 use cip_model::Program;
 use std::alloc::{AllocError, Global};
 
@@ -15,7 +22,9 @@ pub struct Reader {
 
 impl Reader {
     /// Nothing read yet.
-    pub fn new(alloc: Global) -> Reader {
+    pub fn new(alloc: Global) -> Reader
+        ensures { HasRead result [] }
+    {
         Reader {
             draft: Draft::new(alloc),
             line: Vec::new(alloc),
@@ -24,7 +33,9 @@ impl Reader {
     }
 
     /// Reads one more piece of the text.
-    pub fn take_piece(&mut self, piece: &[u8]) -> Result<(), AllocError> {
+    pub fn take_piece(&mut self, piece: &[u8]) -> Result<(), AllocError>
+        ensures { (text : List ℕ) → HasRead self.old text → OnOk result (HasRead self.new (text ++ piece.now)) }
+    {
         for byte in piece {
             self.take_byte(*byte)?;
         }
@@ -32,19 +43,25 @@ impl Reader {
     }
 
     /// Reads one more byte of the text.
-    fn take_byte(&mut self, byte: u8) -> Result<(), AllocError> {
-        if self.refused {
-            return Ok(());
-        }
+    fn take_byte(&mut self, byte: u8) -> Result<(), AllocError>
+        ensures { (stream : Stream) → StandsAt self.old stream
+            → OnOk result (StandsAt self.new (byte_taken stream byte)) }
+    {
         if byte == b'\n' {
             return self.end_line();
+        }
+        if self.refused {
+            return Ok(());
         }
         self.line.push(byte)?;
         Ok(())
     }
 
     /// Reads the line that has ended.
-    fn end_line(&mut self) -> Result<(), AllocError> {
+    fn end_line(&mut self) -> Result<(), AllocError>
+        ensures { (stream : Stream) → StandsAt self.old stream
+            → OnOk result (StandsAt self.new (record { reading = ended stream; unended = [] })) }
+    {
         if self.refused {
             return Ok(());
         }
@@ -61,10 +78,14 @@ impl Reader {
     }
 
     /// The program of the text, where its last byte was read.
-    pub fn finish(mut self) -> Result<Program, Refusal> {
+    pub fn finish(mut self) -> Result<Program, Refusal>
+        ensures { (text : List ℕ) → HasRead self text →
+            let said = bind (lines_taken (Some start) (lines text)) outcome in
+            MatchResult result (λ program. said ≡ Some program) (IsRefusal said) }
+    {
         self.end_line()?;
         let Reader { draft, refused, .. } = self;
-        if refused || !draft.is_done() {
+        if refused {
             return Err(Refusal::NotThin);
         }
         draft.into_program()

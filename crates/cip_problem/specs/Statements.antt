@@ -1,5 +1,5 @@
 -- The main laws, each as one statement: the functions of `src/lib.rt` have them as contracts.
-use Rattle.std.specs.Prelude.{◌≡◌, ◌⊎◌, ◌↔◌, ℕ, ℤ, Bool, true, false, List, length, Option, Some, IfSome, slice_get}
+use Rattle.std.specs.Prelude.{◌≡◌, ◌⊎◌, ◌↔◌, ℕ, ◌*◌, ◌-◌, ◌≤◌, max, ℤ, Bool, true, false, List, length, Option, Some, IfSome, slice_get}
 use Rattle.cip_rational.specs.Rational.{ℚ, ◌≤ℚ◌, IsWhole}
 use Rattle.cip_problem.specs.Program.{Sides, Program}
 use Rattle.cip_problem.specs.WellFormed.{IsWellFormed}
@@ -7,7 +7,7 @@ use Rattle.cip_problem.specs.Box.{Between, HasOneValue, IsInBox, low_inside, hig
 use Rattle.cip_problem.specs.BoxBound.{box_bound}
 use Rattle.cip_problem.specs.Points.{AreWhole, cost_of, IsLowerBound}
 use Rattle.cip_problem.specs.Wholes.{assignments, plus, AtMost, HasTwoWholes}
-use Rattle.cip_problem.specs.Log.{low_half, high_half, CanSplit}
+use Rattle.cip_problem.specs.Log.{Entry, low_half, high_half, CanSplit, IsLog}
 
 -- a point of a box whose whole columns have whole values is in one of the halves
 abbrev pub HalvesCover : Type 0
@@ -54,3 +54,9 @@ pub record SideTests : Type 0 where
   pub two_wholes : (low high : Option ℚ) → two_wholes_between low high ≡ true → HasTwoWholes low high
   pub one_whole : (low high : Option ℚ) (v w : ℚ)
       → two_wholes_between low high ≡ false → IsWhole v → IsWhole w → Between low high v → Between low high w → v ≡ w
+
+-- a search in a box with n whole assignments takes at most 2 n - 1 nodes, or one
+abbrev pub LogsAreShort : Type 0
+LogsAreShort =
+    (program : Program) (log : List Entry) (n : ℕ)
+    → IsLog program log → assignments program.integral program.bounds ≡ Some n → length log ≤ max 1 (2 * n - 1)

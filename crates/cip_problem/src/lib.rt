@@ -4,7 +4,7 @@
 #![tactic(auto)]
 
 ghost use Rattle.cip_problem.specs.Examples.{Examples};
-ghost use Rattle.cip_problem.specs.Statements.{HalvesCover, HalvesWithin, HalvesCount, BoxBoundHolds, InnerBoxes, SideTests};
+ghost use Rattle.cip_problem.specs.Statements.{HalvesCover, HalvesWithin, HalvesCount, BoxBoundHolds, InnerBoxes, SideTests, LogsAreShort};
 
 pub fn halves_cover()
     ensures { HalvesCover }
@@ -28,6 +28,10 @@ pub fn inner_boxes()
 
 pub fn side_tests()
     ensures { SideTests }
+{}
+
+pub fn logs_are_short()
+    ensures { LogsAreShort }
 {}
 
 pub fn examples()

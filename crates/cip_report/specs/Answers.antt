@@ -1,6 +1,5 @@
 -- The figures that are printed of an answer: of a program that maximises, cost and bound are negated again.
-use Rattle.std.specs.Prelude.{List, Option, option_map}
-use Rattle.cip_rational.specs.Rational.{ℚ}
+use Rattle.std.specs.Prelude.{option_map}
 use Rattle.cip_problem.specs.Program.{Program}
 use Rattle.cip_problem.specs.Points.{printed}
 use Rattle.cip_syntax.specs.Figures.{Status, Optimal, NodeLimit, NoMemory, Figures, Held}

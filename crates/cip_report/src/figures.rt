@@ -1,4 +1,8 @@
 //! The figures of an answer.
+ghost use Rattle.std.specs.Prelude.{◌≡◌};
+ghost use Rattle.cip_syntax.specs.Figures.{status_word, exit_status};
+ghost use Rattle.cip_report.specs.Answers.{status_of};
+
 use cip_frac::Frac;
 
 /// How a search ended.
@@ -11,7 +15,9 @@ pub enum Ended {
 
 impl Ended {
     /// The printed word.
-    pub fn word(self) -> &'static str {
+    pub fn word(self) -> &'static str
+        ensures { result.now ≡ status_word (status_of self) }
+    {
         match self {
             Ended::Optimal => "optimal",
             Ended::NodeLimit => "nodelimit",
@@ -20,7 +26,9 @@ impl Ended {
     }
 
     /// The exit status.
-    pub fn status(self) -> u8 {
+    pub fn status(self) -> u8
+        ensures { result ≡ exit_status (status_of self) }
+    {
         match self {
             Ended::Optimal => 0,
             Ended::NodeLimit => 10,

@@ -1,6 +1,7 @@
 //! Answers and their texts.
 #![tactic(auto)]
 
+mod buffer;
 mod figures;
 mod writing;
 

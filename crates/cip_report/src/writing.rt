@@ -1,134 +1,185 @@
 //! Answers as bytes, written to a sink from a fixed buffer.
-ghost use Rattle.std.specs.Prelude.{◌≤◌};
+ghost use Rattle.std.specs.Prelude.{◌≡◌, ◌≤◌, ◌++◌, length, option_map, IfSome, MatchResult, OnErr};
+ghost use Rattle.std.specs.Io.KnownBytes.{append_known};
+ghost use Rattle.cip_io.specs.Faults.{Rose};
+ghost use Rattle.cip_io.specs.Sink.{PushesPart};
+ghost use Rattle.cip_numerals.specs.NumberText.{fraction_text};
+ghost use Rattle.cip_problem.specs.WellFormed.{columns};
+ghost use Rattle.cip_problem.specs.Points.{printed};
+ghost use Rattle.cip_syntax.specs.Figures.{line, figure_text, point_lines, held_lines, answer_text, head_text, held_cost};
+ghost use Rattle.cip_report.specs.Answers.{figures_of, printed_held};
+ghost use Rattle.cip_report.specs.Writing.{Writes};
 
-use crate::figures::Answer;
+use crate::buffer::Buffer;
+use crate::figures::{Answer, Held};
 use cip_frac::Frac;
-use cip_io::{Failed, Sink, push_all};
-use cip_model::{Program, Sense};
+use cip_io::{Failed, Sink};
+use cip_model::{Names, Program, Sense};
 
-/// The room of the buffer.
-const ROOM: usize = 4_096;
-
-/// Bytes that are not handed on yet.
-#[derive(Drop)]
-struct Buffer {
-    bytes: [u8; 4096],
-    used: usize,
-    ghost within: { used ≤ 4096 },
+/// Writes a line of a word and a figure.
+fn write_line<K: Sink>(
+    out: &mut K,
+    buffer: &mut Buffer,
+    word: &[u8],
+    figure: &[u8],
+) -> Result<(), Failed>
+    ensures taken { Writes result (K.taken out.old) (K.taken out.new) (buffer.old ++ line word.now figure.now) buffer.new }
+    ensures later { K.faults out.old ≤ K.faults out.new }
+    ensures cause { OnErr result (Rose (K.faults out.old) (K.faults out.new)) }
+{
+    buffer.write(out, word)?;
+    buffer.write(out, b" ")?;
+    buffer.write(out, figure)?;
+    buffer.write(out, b"\n")
 }
 
-impl Buffer {
-    fn new() -> Buffer {
-        Buffer {
-            bytes: [0; 4096],
-            used: 0,
-        }
-    }
+/// Writes a line of a word and a number.
+fn write_number<K: Sink>(
+    out: &mut K,
+    buffer: &mut Buffer,
+    word: &[u8],
+    value: Frac,
+) -> Result<(), Failed>
+    ensures taken { Writes result (K.taken out.old) (K.taken out.new) (buffer.old ++ line word.now (fraction_text value)) buffer.new }
+    ensures later { K.faults out.old ≤ K.faults out.new }
+    ensures cause { OnErr result (Rose (K.faults out.old) (K.faults out.new)) }
+{
+    let mut text = [0u8; 84];
+    let length = value.write_into(&mut text);
+    write_line(out, buffer, word, &text[..length])
+}
 
-    /// The bytes held.
-    fn held(&self) -> &[u8] {
-        &self.bytes[..self.used]
-    }
-
-    /// Puts bytes at the end, where there is room for them.
-    fn put(&mut self, bytes: &[u8]) -> bool {
-        if bytes.len() > ROOM - self.used {
-            return false;
-        }
-        let end = self.used + bytes.len();
-        self.bytes[self.used..end].copy_from_slice(bytes);
-        self.used = end;
-        true
-    }
-
-    /// Lets go of the bytes held.
-    fn clear(&mut self) {
-        self.used = 0;
+/// Writes a line of a word and a number, or `none` where there is none.
+fn write_figure<K: Sink>(
+    out: &mut K,
+    buffer: &mut Buffer,
+    word: &[u8],
+    value: Option<Frac>,
+) -> Result<(), Failed>
+    ensures taken { Writes result (K.taken out.old) (K.taken out.new) (buffer.old ++ line word.now (figure_text value)) buffer.new }
+    ensures later { K.faults out.old ≤ K.faults out.new }
+    ensures cause { OnErr result (Rose (K.faults out.old) (K.faults out.new)) }
+{
+    match value {
+        Some(value) => write_number(out, buffer, word, value),
+        None => write_line(out, buffer, word, b"none"),
     }
 }
 
-/// A sink behind a buffer.
-#[derive(Drop)]
-struct Writer<'a, K: Sink> {
-    out: &'a mut K,
-    buffer: Buffer,
-}
-
-impl<K: Sink> Writer<'_, K> {
-    /// Hands on what is buffered.
-    fn flush(&mut self) -> Result<(), Failed> {
-        push_all(self.out, self.buffer.held())?;
-        self.buffer.clear();
-        Ok(())
+/// Writes a line for each column: its name and its value.
+fn write_point<K: Sink>(
+    out: &mut K,
+    buffer: &mut Buffer,
+    names: &Names,
+    point: &[Frac],
+) -> Result<(), Failed>
+    requires { length point.now ≡ length names.now }
+    ensures taken { Writes result (K.taken out.old) (K.taken out.new) (buffer.old ++ point_lines names.now point.now) buffer.new }
+    ensures later { K.faults out.old ≤ K.faults out.new }
+    ensures cause { OnErr result (Rose (K.faults out.old) (K.faults out.new)) }
+{
+    for number in 0..point.len() {
+        write_number(out, buffer, names.name(number), point[number])?;
     }
-
-    /// Writes bytes, through the buffer where they fit.
-    fn write(&mut self, bytes: &[u8]) -> Result<(), Failed> {
-        if self.buffer.put(bytes) {
-            return Ok(());
-        }
-        self.flush()?;
-        if self.buffer.put(bytes) {
-            return Ok(());
-        }
-        push_all(self.out, bytes)
-    }
-
-    /// Writes a number.
-    fn number(&mut self, value: Frac) -> Result<(), Failed> {
-        let mut text = [0u8; 84];
-        let length = value.write_into(&mut text);
-        self.write(&text[..length])
-    }
-
-    /// Writes a line of a word and a figure, `none` where there is none.
-    fn figure(&mut self, word: &str, value: Option<Frac>) -> Result<(), Failed> {
-        self.write(word.as_bytes())?;
-        match value {
-            Some(value) => self.number(value)?,
-            None => self.write(b"none")?,
-        }
-        self.write(b"\n")
-    }
-
-    /// Writes a line for each column.
-    fn point(&mut self, program: &Program, point: &[Frac]) -> Result<(), Failed> {
-        let names = program.column_names();
-        for number in 0..names.len().min(point.len()) {
-            self.write(names.name(number))?;
-            self.write(b" ")?;
-            self.number(point[number])?;
-            self.write(b"\n")?;
-        }
-        Ok(())
-    }
+    Ok(())
 }
 
 /// A figure as it is printed: of a maximised program negated again.
-fn printed(program: &Program, value: Option<Frac>) -> Option<Frac> {
+fn printed(program: &Program, figure: Frac) -> Frac
+    ensures { result ≡ printed program.now figure }
+{
     match program.sense() {
-        Sense::Minimize => value,
-        Sense::Maximize => value.map(|figure| figure.neg()),
+        Sense::Minimize => figure,
+        Sense::Maximize => figure.neg(),
     }
 }
 
-/// Writes the answer of a search.
-pub fn report<K: Sink>(program: &Program, answer: &Answer, out: &mut K) -> Result<(), Failed> {
-    let mut writer = Writer {
-        out,
-        buffer: Buffer::new(),
-    };
-    writer.write(b"status ")?;
-    writer.write(answer.ended.word().as_bytes())?;
-    writer.write(b"\n")?;
-    match &answer.held {
-        Some(held) => writer.figure("cost ", printed(program, Some(held.cost)))?,
-        None => writer.figure("cost ", None)?,
+/// The cost as it is printed, where there is a point.
+fn printed_cost(program: &Program, held: &Option<Held>) -> Option<Frac>
+    ensures { result ≡ held_cost (option_map (printed_held program.now) held.now) }
+{
+    match held {
+        Some(held) => Some(printed(program, held.cost)),
+        None => None,
     }
-    writer.figure("bound ", printed(program, answer.bound))?;
-    if let Some(held) = &answer.held {
-        writer.point(program, held.point.as_slice())?;
+}
+
+/// The bound as it is printed, where there is one.
+fn printed_bound(program: &Program, bound: Option<Frac>) -> Option<Frac>
+    ensures { result ≡ option_map (printed program.now) bound }
+{
+    match bound {
+        Some(bound) => Some(printed(program, bound)),
+        None => None,
     }
-    writer.write(b"end\n")?;
-    writer.flush()
+}
+
+/// Writes the lines of status, cost and bound.
+fn write_head<K: Sink>(
+    out: &mut K,
+    buffer: &mut Buffer,
+    program: &Program,
+    answer: &Answer,
+) -> Result<(), Failed>
+    ensures taken { Writes result (K.taken out.old) (K.taken out.new) (buffer.old ++ head_text (figures_of program.now answer.now)) buffer.new }
+    ensures later { K.faults out.old ≤ K.faults out.new }
+    ensures cause { OnErr result (Rose (K.faults out.old) (K.faults out.new)) }
+{
+    let cost = printed_cost(program, &answer.held);
+    let bound = printed_bound(program, answer.bound);
+    write_line(out, buffer, b"status", answer.ended.word().as_bytes())?;
+    write_figure(out, buffer, b"cost", cost)?;
+    write_figure(out, buffer, b"bound", bound)
+}
+
+/// Writes the lines of the point, if there is one.
+fn write_held<K: Sink>(
+    out: &mut K,
+    buffer: &mut Buffer,
+    program: &Program,
+    held: &Option<Held>,
+) -> Result<(), Failed>
+    requires { IfSome held.now (λ held. length held.point.items ≡ columns program.now) }
+    ensures taken { Writes result (K.taken out.old) (K.taken out.new)
+        (buffer.old ++ held_lines program.now.column_names (option_map (printed_held program.now) held.now)) buffer.new }
+    ensures later { K.faults out.old ≤ K.faults out.new }
+    ensures cause { OnErr result (Rose (K.faults out.old) (K.faults out.new)) }
+{
+    match held {
+        Some(held) => write_point(out, buffer, program.column_names(), held.point.as_slice()),
+        None => Ok(()),
+    }
+}
+
+/// Writes the answer, of which an end may be left in the buffer.
+fn write_answer<K: Sink>(
+    out: &mut K,
+    buffer: &mut Buffer,
+    program: &Program,
+    answer: &Answer,
+) -> Result<(), Failed>
+    requires { IfSome answer.now.held (λ held. length held.point.items ≡ columns program.now) }
+    ensures taken { Writes result (K.taken out.old) (K.taken out.new)
+        (buffer.old ++ answer_text program.now.column_names (figures_of program.now answer.now)) buffer.new }
+    ensures later { K.faults out.old ≤ K.faults out.new }
+    ensures cause { OnErr result (Rose (K.faults out.old) (K.faults out.new)) }
+{
+    write_head(out, buffer, program, answer)?;
+    write_held(out, buffer, program, &answer.held)?;
+    buffer.write(out, b"end\n")
+}
+
+/// Writes the answer of a search. After an `Err` the sink took a part of it.
+pub fn report<K: Sink>(program: &Program, answer: &Answer, out: &mut K) -> Result<(), Failed>
+    requires fits { IfSome answer.now.held (λ held. length held.point.items ≡ columns program.now) }
+    ensures taken { let text = answer_text program.now.column_names (figures_of program.now answer.now) in
+        MatchResult result
+        (λ _. K.taken out.new ≡ append_known (K.taken out.old) text)
+        (λ _. PushesPart (K.taken out.old) (K.taken out.new) text) }
+    ensures later { K.faults out.old ≤ K.faults out.new }
+    ensures cause { OnErr result (Rose (K.faults out.old) (K.faults out.new)) }
+{
+    let mut buffer = Buffer::new();
+    write_answer(out, &mut buffer, program, answer)?;
+    buffer.flush(out)
 }

@@ -75,7 +75,7 @@ fn a_full_sink_has_a_prefix(rt: HostRuntime) -> Result<(), Fail> {
     Ok(())
 }
 
-const REFUSED_WORDS: [&[&str]; 8] = [
+const REFUSED_WORDS: [&[&str]; 14] = [
     &[],
     &["solve"],
     &["check", "M"],
@@ -84,7 +84,30 @@ const REFUSED_WORDS: [&[&str]; 8] = [
     &["solve", "--help"],
     &["--help", "M"],
     &["Solve", "M"],
+    &["", "M"],
+    &["solve ", "M"],
+    &["solve", "-M"],
+    &["solve", "solve", "M"],
+    &["solve", "M", ""],
+    &["solve M"],
 ];
+
+/// Names that are accepted as well.
+const NAMES: [&str; 5] = ["", "solve", "M-", " -M", "é"];
+
+#[test]
+fn any_name_without_a_dash_in_front_is_looked_up(rt: HostRuntime) -> Result<(), Fail> {
+    for name in NAMES {
+        let mut store = MemoryStore::new(rt.alloc(), 4_096);
+        let outcome = run_words(rt.alloc(), &["solve", name], &mut store, 4_096)?;
+        assert_eq!(rt; outcome.status, 3, "no text {name:?}");
+        store.add(name, THREE_COLUMNS.as_bytes())?;
+        let outcome = run_words(rt.alloc(), &["solve", name], &mut store, 4_096)?;
+        assert_eq!(rt; outcome.status, 0, "{name:?}");
+        assert_eq!(rt; outcome.taken.as_slice(), THREE_SOLVED.as_bytes());
+    }
+    Ok(())
+}
 
 #[test]
 fn other_words_are_refused(rt: HostRuntime) -> Result<(), Fail> {

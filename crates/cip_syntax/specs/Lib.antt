@@ -1,4 +1,8 @@
 pub mod CommandLine
 pub mod Figures
+pub mod Headline
 pub mod Lines
+pub mod Statements
 pub mod ThinText
+pub mod TextExamples
+pub mod TextStatements

@@ -1,4 +1,5 @@
 -- The lines of a text and their fields, as free MPS has them. A text is a list of bytes.
+pub mod Laws
 use Rattle.std.specs.Prelude.{ℕ, Bool, true, false, ◌==◌, ◌||◌, List, [], ◌∷◌, Option, None, Some, if◌then◌else◌}
 use Rattle.std.specs.List.{slice_split, filter, filter_map}
 

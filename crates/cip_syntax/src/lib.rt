@@ -1,4 +1,20 @@
 // The texts that come in and go out: definitions and laws, for the contracts of the other crates.
+// A function here does nothing. Its contract is a law, so that the check proves it.
 #![tactic(auto)]
 
-ghost use Rattle.std.specs.Prelude.{◌≡◌};
+ghost use Rattle.cip_syntax.specs.Statements.{AnswerTellsFigures, FixedTextsStandApart, Examples};
+
+pub mod text_examples;
+pub mod texts;
+
+pub fn answer_tells_figures()
+    ensures { AnswerTellsFigures }
+{}
+
+pub fn fixed_texts_stand_apart()
+    ensures { FixedTextsStandApart }
+{}
+
+pub fn examples()
+    ensures { Examples }
+{}

@@ -1,5 +1,5 @@
 -- The verdict on a point holds, and every verdict but that a sum overflows settles whether the point is feasible.
-use Rattle.std.proofs.Common.{◌≡◌, ◌⊎◌, inl, inr, ℕ, suc, ◌+◌, Bool, true, false, cond, not, ◌&&◌, List, [], ◌∷◌, Option, None, Some, Result, Ok, Err, IfOk, length, slice_get, refl, sym, ap, ◌∙◌, subst, arith, true≢false}
+use Rattle.std.proofs.Common.{◌≡◌, ◌⊎◌, inl, inr, ℕ, suc, ◌+◌, ◌<◌, Bool, true, false, cond, not, ◌&&◌, List, [], ◌∷◌, Option, None, Some, Result, Ok, Err, IfOk, length, slice_get, refl, sym, ap, ◌∙◌, subst, arith, true≢false}
 use Rattle.std.specs.List.{AllByRecursion}
 use Rattle.cip_rational.specs.Rational.{ℚ, ◌+ℚ◌, ◌*ℚ◌, zeroℚ, IsWhole, is_whole}
 use Rattle.cip_rational.specs.Rational.Ring.{+ℚ_assoc, +ℚ-zero}
@@ -25,22 +25,23 @@ use Rattle.cip_model.specs.Meaning.{IsOutside, IsSplit, IsBroken, RowOverflows, 
 -- ---- bounds
 
 -- a place, counted from `at`, whose value is outside its sides
-pub record OutsideFrom (at : ℕ) (box : List Sides) (point : List ℚ) (column : ℕ) : Type 0 where
+record OutsideFrom (at : ℕ) (box : List Sides) (point : List ℚ) (column : ℕ) : Type 0 where
   pub place : ℕ
   pub is : column ≡ at + place
+  pub is_place : place < length box
   pub outside : ¬ Between (sides_at box place).low (sides_at box place).high (value_at point place)
 
--- what the first place outside says
-abbrev pub BoundsHold : ℕ → List Sides → List ℚ → Option ℕ → Type 0
-BoundsHold at box point None = IsInBox box point
-BoundsHold at box point (Some column) = OutsideFrom at box point column
+-- where there is no first place outside, the point is in the box
+abbrev FirstOutsideSays : ℕ → List Sides → List ℚ → Option ℕ → Type 0
+FirstOutsideSays at box point None = IsInBox box point
+FirstOutsideSays at box point (Some column) = OutsideFrom at box point column
 
-bounds_cons : (at : ℕ) (s : Sides) (box : List Sides) (v : ℚ) (point : List ℚ) (rest : Option ℕ) (t : Bool) → is_between s.low s.high v ≡ t → BoundsHold (at + 1) box point rest → BoundsHold at (s ∷ box) (v ∷ point) (cond t rest (Some at))
+bounds_cons : (at : ℕ) (s : Sides) (box : List Sides) (v : ℚ) (point : List ℚ) (rest : Option ℕ) (t : Bool) → is_between s.low s.high v ≡ t → FirstOutsideSays (at + 1) box point rest → FirstOutsideSays at (s ∷ box) (v ∷ point) (cond t rest (Some at))
 bounds_cons at s box v point None true e h = (between_of_test s.low s.high v e, h)
-bounds_cons at s box v point (Some column) true e h = record { place = suc h.place; is = omega (arith, h.is); outside = h.outside }
-bounds_cons at s box v point rest false e h = record { place = 0; is = omega arith; outside = not_between_of_test s.low s.high v e }
+bounds_cons at s box v point (Some column) true e h = record { place = suc h.place; is = omega (arith, h.is); is_place = omega (arith, h.is_place); outside = h.outside }
+bounds_cons at s box v point rest false e h = record { place = 0; is = omega arith; is_place = omega arith; outside = not_between_of_test s.low s.high v e }
 
-first_outside_holds : (at : ℕ) (box : List Sides) (point : List ℚ) → length box ≡ length point → BoundsHold at box point (first_outside at box point)
+first_outside_holds : (at : ℕ) (box : List Sides) (point : List ℚ) → length box ≡ length point → FirstOutsideSays at box point (first_outside at box point)
 first_outside_holds at [] [] e = tt
 first_outside_holds at [] (v ∷ vs) e = absurd (omega (arith, e))
 first_outside_holds at (s ∷ ss) [] e = absurd (omega (arith, e))
@@ -50,27 +51,28 @@ first_outside_holds at (s ∷ ss) (v ∷ vs) e =
 -- ---- whole columns
 
 -- a place, counted from `at`, that is to have a whole value and has not
-pub record SplitFrom (at : ℕ) (integral : List Bool) (point : List ℚ) (column : ℕ) : Type 0 where
+record SplitFrom (at : ℕ) (integral : List Bool) (point : List ℚ) (column : ℕ) : Type 0 where
   pub place : ℕ
   pub is : column ≡ at + place
   pub integral_there : slice_get integral place ≡ Some true
   pub not_whole : ¬ IsWhole (value_at point place)
 
-abbrev pub WholesHold : ℕ → List Bool → List ℚ → Option ℕ → Type 0
-WholesHold at integral point None = AreWhole integral point
-WholesHold at integral point (Some column) = SplitFrom at integral point column
+-- where there is no first place that is to be whole and is not, each is
+abbrev FirstSplitSays : ℕ → List Bool → List ℚ → Option ℕ → Type 0
+FirstSplitSays at integral point None = AreWhole integral point
+FirstSplitSays at integral point (Some column) = SplitFrom at integral point column
 
 not_IsWhole_of_test : (v : ℚ) → is_whole v ≡ false → ¬ IsWhole v
 not_IsWhole_of_test v e h = true≢false (sym (test_of_IsWhole v h) ∙ e)
 
-wholes_cons : (at : ℕ) (w : Bool) (integral : List Bool) (v : ℚ) (point : List ℚ) (rest : Option ℕ) (t : Bool) → is_whole v ≡ t → WholesHold (at + 1) integral point rest → WholesHold at (w ∷ integral) (v ∷ point) (cond (w && not t) (Some at) rest)
+wholes_cons : (at : ℕ) (w : Bool) (integral : List Bool) (v : ℚ) (point : List ℚ) (rest : Option ℕ) (t : Bool) → is_whole v ≡ t → FirstSplitSays (at + 1) integral point rest → FirstSplitSays at (w ∷ integral) (v ∷ point) (cond (w && not t) (Some at) rest)
 wholes_cons at false integral v point None t e h = (λ f. absurd (true≢false (sym f)), h)
 wholes_cons at false integral v point (Some column) t e h = record { place = suc h.place; is = omega (arith, h.is); integral_there = h.integral_there; not_whole = h.not_whole }
 wholes_cons at true integral v point None true e h = (λ _. IsWhole_of_test v e, h)
 wholes_cons at true integral v point (Some column) true e h = record { place = suc h.place; is = omega (arith, h.is); integral_there = h.integral_there; not_whole = h.not_whole }
 wholes_cons at true integral v point rest false e h = record { place = 0; is = omega arith; integral_there = refl; not_whole = not_IsWhole_of_test v e }
 
-first_not_whole_holds : (at : ℕ) (integral : List Bool) (point : List ℚ) → length integral ≡ length point → WholesHold at integral point (first_not_whole at integral point)
+first_not_whole_holds : (at : ℕ) (integral : List Bool) (point : List ℚ) → length integral ≡ length point → FirstSplitSays at integral point (first_not_whole at integral point)
 first_not_whole_holds at [] [] e = tt
 first_not_whole_holds at [] (v ∷ vs) e = absurd (omega (arith, e))
 first_not_whole_holds at (w ∷ ws) [] e = absurd (omega (arith, e))
@@ -80,17 +82,18 @@ first_not_whole_holds at (w ∷ ws) (v ∷ vs) e =
 -- ---- rows
 
 -- what a verdict on rows says, these being counted from `at`
-abbrev pub RowsSay : ℕ → List Row → List ℚ → Verdict → Type 0
-RowsSay at rows point (Feasible cost) = ⊥
-RowsSay at rows point (BreaksBound column) = ⊥
-RowsSay at rows point (BreaksWhole column) = ⊥
-RowsSay at rows point (BreaksRow number value) = (place : ℕ) × (number ≡ at + place) × IsBroken rows point place value
-RowsSay at rows point (Wide Cost) = ⊥
-RowsSay at rows point (Wide (AtRow number)) = (place : ℕ) × (number ≡ at + place) × RowOverflows rows point place
+abbrev RowVerdictSays : ℕ → List Row → List ℚ → Verdict → Type 0
+RowVerdictSays at rows point (Feasible cost) = ⊥
+RowVerdictSays at rows point (BreaksBound column) = ⊥
+RowVerdictSays at rows point (BreaksWhole column) = ⊥
+RowVerdictSays at rows point (BreaksRow number value) = (place : ℕ) × (number ≡ at + place) × IsBroken rows point place value
+RowVerdictSays at rows point (Wide Cost) = ⊥
+RowVerdictSays at rows point (Wide (AtRow number)) = (place : ℕ) × (number ≡ at + place) × RowOverflows rows point place
 
-abbrev pub RowsHold : ℕ → List Row → List ℚ → Option Verdict → Type 0
-RowsHold at rows point None = AllByRecursion (λ row. IsSatisfied row point) rows
-RowsHold at rows point (Some verdict) = RowsSay at rows point verdict
+-- where there is no first verdict on rows, each is satisfied
+abbrev FirstBrokenSays : ℕ → List Row → List ℚ → Option Verdict → Type 0
+FirstBrokenSays at rows point None = AllByRecursion (λ row. IsSatisfied row point) rows
+FirstBrokenSays at rows point (Some verdict) = RowVerdictSays at rows point verdict
 
 later_broken : {row : Row} {rows : List Row} {point : List ℚ} {number : ℕ} {value : ℚ} → IsBroken rows point number value → IsBroken (row ∷ rows) point (suc number) value
 later_broken h = record { row = h.row; is_row = h.is_row; is_activity = h.is_activity; broken = h.broken }
@@ -98,7 +101,7 @@ later_broken h = record { row = h.row; is_row = h.is_row; is_activity = h.is_act
 later_overflows : {row : Row} {rows : List Row} {point : List ℚ} {number : ℕ} → RowOverflows rows point number → RowOverflows (row ∷ rows) point (suc number)
 later_overflows h = record { row = h.row; is_row = h.is_row; overflows = h.overflows }
 
-later_say : (at : ℕ) (row : Row) (rows : List Row) (point : List ℚ) (verdict : Verdict) → RowsSay (at + 1) rows point verdict → RowsSay at (row ∷ rows) point verdict
+later_say : (at : ℕ) (row : Row) (rows : List Row) (point : List ℚ) (verdict : Verdict) → RowVerdictSays (at + 1) rows point verdict → RowVerdictSays at (row ∷ rows) point verdict
 later_say at row rows point (Feasible cost) h = h
 later_say at row rows point (BreaksBound column) h = h
 later_say at row rows point (BreaksWhole column) h = h
@@ -106,20 +109,20 @@ later_say at row rows point (BreaksRow number value) h = (suc h.0, omega (arith,
 later_say at row rows point (Wide Cost) h = h
 later_say at row rows point (Wide (AtRow number)) h = (suc h.0, omega (arith, h.1), later_overflows h.2)
 
-rows_cons : (at : ℕ) (row : Row) (rows : List Row) (point : List ℚ) (rest : Option Verdict) (sum : Result ℚ Overflow) → activity_from zeroℚ row.terms point ≡ sum → RowsHold (at + 1) rows point rest → RowsHold at (row ∷ rows) point (or_else (row_verdict at row sum) rest)
+rows_cons : (at : ℕ) (row : Row) (rows : List Row) (point : List ℚ) (rest : Option Verdict) (sum : Result ℚ Overflow) → activity_from zeroℚ row.terms point ≡ sum → FirstBrokenSays (at + 1) rows point rest → FirstBrokenSays at (row ∷ rows) point (or_else (row_verdict at row sum) rest)
 rows_cons at row rows point rest (Err overflow) e h = (0, omega arith, record { row = row; is_row = refl; overflows = rw e refl })
 rows_cons at row rows point rest (Ok value) e h = tested (is_between row.low row.high value) rest refl h
   where
     same : value ≡ activity row.terms point
     same = rw e at (activity_from-zero row.terms point)
 
-    tested : (t : Bool) (rest : Option Verdict) → is_between row.low row.high value ≡ t → RowsHold (at + 1) rows point rest → RowsHold at (row ∷ rows) point (or_else (cond t None (Some (BreaksRow at value))) rest)
+    tested : (t : Bool) (rest : Option Verdict) → is_between row.low row.high value ≡ t → FirstBrokenSays (at + 1) rows point rest → FirstBrokenSays at (row ∷ rows) point (or_else (cond t None (Some (BreaksRow at value))) rest)
     tested true None f k = (subst (Between row.low row.high) same (between_of_test row.low row.high value f), k)
     tested true (Some verdict) f k = later_say at row rows point verdict k
     tested false rest f k =
         (0, omega arith, record { row = row; is_row = refl; is_activity = same; broken = subst (λ v. ¬ Between row.low row.high v) same (not_between_of_test row.low row.high value f) })
 
-first_broken_holds : (at : ℕ) (rows : List Row) (point : List ℚ) → RowsHold at rows point (first_broken at rows point)
+first_broken_holds : (at : ℕ) (rows : List Row) (point : List ℚ) → FirstBrokenSays at rows point (first_broken at rows point)
 first_broken_holds at [] point = tt
 first_broken_holds at (row ∷ rows) point =
     rows_cons at row rows point (first_broken (at + 1) rows point) (activity_from zeroℚ row.terms point) refl (first_broken_holds (at + 1) rows point)
@@ -141,7 +144,7 @@ module _ (program : Program) (point : List ℚ) where
   cost_case (Ok cost) e h = (h, rw e at (cost_from-value program.constant program.costs point))
   cost_case (Err overflow) e h = rw e refl
 
-  rows_case : (first : Option Verdict) (next : Verdict) → RowsHold 0 program.rows point first → (AllByRecursion (λ row. IsSatisfied row point) program.rows → VerdictHolds program point next) → VerdictHolds program point (from_rows first next)
+  rows_case : (first : Option Verdict) (next : Verdict) → FirstBrokenSays 0 program.rows point first → (AllByRecursion (λ row. IsSatisfied row point) program.rows → VerdictHolds program point next) → VerdictHolds program point (from_rows first next)
   rows_case None next h f = f h
   rows_case (Some (Feasible cost)) next h f = absurd h
   rows_case (Some (BreaksBound column)) next h f = absurd h
@@ -150,22 +153,22 @@ module _ (program : Program) (point : List ℚ) where
   rows_case (Some (Wide Cost)) next h f = absurd h
   rows_case (Some (Wide (AtRow number))) next h f = subst (λ n. RowOverflows program.rows point n) (omega (arith, h.1)) h.2
 
-  wholes_case : (first : Option ℕ) (next : Verdict) → WholesHold 0 program.integral point first → (AreWhole program.integral point → VerdictHolds program point next) → VerdictHolds program point (from_wholes first next)
+  wholes_case : (first : Option ℕ) (next : Verdict) → FirstSplitSays 0 program.integral point first → (AreWhole program.integral point → VerdictHolds program point next) → VerdictHolds program point (from_wholes first next)
   wholes_case None next h f = f h
   wholes_case (Some column) next h f =
       let e : h.place ≡ column = omega (arith, h.is) in
       subst (λ n. IsSplit program point n) e (record { integral = h.integral_there; not_whole = h.not_whole })
 
-  bounds_case : (first : Option ℕ) (next : Verdict) → BoundsHold 0 program.bounds point first → (IsInBox program.bounds point → VerdictHolds program point next) → VerdictHolds program point (from_bounds first next)
-  bounds_case None next h f = f h
-  bounds_case (Some column) next h f =
+  bounds_case : IsWellFormed program → (first : Option ℕ) (next : Verdict) → FirstOutsideSays 0 program.bounds point first → (IsInBox program.bounds point → VerdictHolds program point next) → VerdictHolds program point (from_bounds first next)
+  bounds_case formed None next h f = f h
+  bounds_case formed (Some column) next h f =
       let e : h.place ≡ column = omega (arith, h.is) in
-      subst (λ n. IsOutside program point n) e (record { outside = h.outside })
+      subst (λ n. IsOutside program point n) e (record { is_column = omega (arith, h.is_place, formed.bounds); outside = h.outside })
 
   -- the verdict on a point with a value for each column holds
   pub verdict_holds : IsWellFormed program → length point ≡ columns program → VerdictHolds program point (verdict_of program point)
   verdict_holds formed long =
-      bounds_case (first_outside 0 program.bounds point) _ (first_outside_holds 0 program.bounds point (formed.bounds ∙ sym long))
+      bounds_case formed (first_outside 0 program.bounds point) _ (first_outside_holds 0 program.bounds point (formed.bounds ∙ sym long))
       (λ within. wholes_case (first_not_whole 0 program.integral point) _ (first_not_whole_holds 0 program.integral point (formed.integral ∙ sym long))
       (λ wholes. rows_case (first_broken 0 program.rows point) _ (first_broken_holds 0 program.rows point)
       (λ rows. cost_case (cost_from program.constant program.costs point) refl (record { within = within; whole = wholes; rows = rows }))))

@@ -1,12 +1,14 @@
 -- Sums and products of numbers of choices, and how many whole numbers lie between two sides.
 use borrow.Author.Differences.{up, down, sum_is_lem, neg_is, at_most_in, le_out, same_in, same_out, lt-true, lt-false}
-use Rattle.std.proofs.Common.{◌≡◌, ◌≢◌, ℕ, zero, suc, ◌+◌, ◌-◌, ◌*◌, ◌≤◌, ℤ, pos, negsuc, ◌+ℤ◌, ◌-ℤ◌, ◌≤ℤ◌, neg_ℤ, true, false, int_lt, Option, None, Some, refl, sym, ap, ◌∙◌, subst, arith, true≢false, add-mul, mul-add, mul-le-mul_right, mul-le-mul_left, zero-mul, mul-zero}
+use Rattle.std.proofs.Common.{◌≡◌, ◌≢◌, ℕ, zero, suc, ◌+◌, ◌-◌, ◌*◌, ◌≤◌, ℤ, pos, negsuc, ◌+ℤ◌, ◌-ℤ◌, ◌≤ℤ◌, neg_ℤ, Bool, true, false, int_lt, Option, None, Some, refl, sym, ap, ◌∙◌, subst, arith, true≢false, add-mul, mul-add, mul-le-mul_right, mul-le-mul_left, mul-le-mul, zero-mul, mul-zero, List, [], ◌∷◌}
+use Rattle.std.specs.Prelude.{⊤}
 use Rattle.cip_rational.specs.Rational.{ℚ, integer, numerator, floor, ceil, IsWhole}
 use Rattle.cip_rational.specs.Rational.Order.{≤ℚ_trans}
 use Rattle.cip_rational.specs.Rational.Whole.{whole_is}
 use Rattle.cip_rational.specs.Rational.Rounding.{floor_le, floor_greatest, le_ceil, ceil_least, integer_le, floor-integer, ceil-integer}
+use Rattle.cip_problem.specs.Program.{Sides}
 use Rattle.cip_problem.specs.Box.{Between, two_wholes_between}
-use Rattle.cip_problem.specs.Wholes.{count, wholes_between, times, plus, AtMost, HasWhole, HasTwoWholes}
+use Rattle.cip_problem.specs.Wholes.{count, wholes_between, times, assignments, plus, AtMost, HasWhole, HasTwoWholes, AllHaveWholes}
 
 -- ---- numbers of choices
 
@@ -145,3 +147,32 @@ same_whole_of_test low high v w h p q k l =
     whole_is v p
     ∙ ap integer (one_whole_of_test low high (numerator v) (numerator w) h (subst (Between low high) (whole_is v p) k) (subst (Between low high) (whole_is w q) l))
     ∙ sym (whole_is w q)
+
+-- ---- a box in which each whole column has a whole value
+
+-- there is at least one choice
+abbrev pub IsPositive : Option ℕ → Type 0
+IsPositive None = ⊤
+IsPositive (Some n) = 1 ≤ n
+
+times_positive : (m n : Option ℕ) → IsPositive m → IsPositive n → IsPositive (times m n)
+times_positive (Some m) (Some n) h k = omega (arith, mul-le-mul h k)
+times_positive (Some zero) None h k = absurd (omega (arith, h))
+times_positive (Some (suc m)) None h k = tt
+times_positive None (Some zero) h k = absurd (omega (arith, k))
+times_positive None (Some (suc n)) h k = tt
+times_positive None None h k = tt
+
+wholes_positive : (low high : Option ℚ) (z : ℤ) → Between low high (integer z) → IsPositive (wholes_between low high)
+wholes_positive None high z h = tt
+wholes_positive (Some low) None z h = tt
+wholes_positive (Some low) (Some high) z h =
+    rw (wholes_count (ceil low) (floor high)) (omega (arith, le_out _ _ (above_ceil low (Some high) z h), le_out _ _ (below_floor (Some low) high z h)))
+
+-- so the box has a whole assignment
+pub assignments_positive : (integral : List Bool) (box : List Sides) → AllHaveWholes integral box → IsPositive (assignments integral box)
+assignments_positive [] box h = omega arith
+assignments_positive (w ∷ ws) [] h = absurd h
+assignments_positive (false ∷ ws) (s ∷ ss) h = assignments_positive ws ss h.1
+assignments_positive (true ∷ ws) (s ∷ ss) h =
+    times_positive _ _ (wholes_positive s.low s.high (h.0 refl).number (h.0 refl).between) (assignments_positive ws ss h.1)

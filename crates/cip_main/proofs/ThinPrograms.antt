@@ -1,0 +1,113 @@
+-- What a search may rely on in the program of a thin text.
+use Rattle.std.specs.Prelude.{◌≡◌, ℕ, true, List, [], ◌∷◌, ◌++◌, Option, None, Some, IfSome, All, replicate, length, refl}
+use Rattle.std.proofs.Common.{sym, ap, ◌∙◌, subst, inl, inr}
+use Rattle.std.proofs.lemmas.List.Elements.{All-from_recursion}
+use Rattle.cip_rational.specs.Rational.{ℚ, ◌≤ℚ◌, zeroℚ}
+use Rattle.cip_rational.specs.Rational.Order.{≤ℚ_of_eq}
+use Rattle.cip_problem.specs.Program.{Program}
+use Rattle.cip_problem.specs.Points.{IsFeasible, IsLowerBound}
+use Rattle.cip_problem.specs.BoxBound.{box_bound}
+use Rattle.cip_problem.specs.BoxBound.Laws.{root_bound_holds}
+use Rattle.cip_problem.specs.Points.Laws.{IsInBox-long}
+use Rattle.cip_problem.specs.WellFormed.{IsWellFormed, columns}
+use Rattle.cip_problem.specs.Wholes.{HasWholeSides}
+use Rattle.cip_syntax.specs.ThinText.{IsThin}
+use Rattle.cip_syntax.specs.ThinText.ThinProgram.{IsThinProgram}
+use Rattle.cip_syntax.specs.ThinText.Laws.{thin_program, zeros_feasible}
+use Rattle.cip_thin.specs.Laws.{thin_fits}
+use Rattle.cip_thin.specs.Statements.{NoOverflow}
+use Rattle.cip_model.specs.CanCheck.{CanCheck}
+use Rattle.cip_model.specs.Verdicts.{verdict_of}
+use Rattle.cip_model.specs.Meaning.Laws.{verdict_on_feasible}
+use Rattle.cip_model.specs.declared.verdicts.Place.{Place}
+use Rattle.cip_model.specs.declared.verdicts.Verdict.{Verdict}
+use Rattle.cip_model.specs.declared.verdicts.Verdict.TheVariants.{Feasible, Wide}
+use Rattle.cip_solve.specs.CanBound.{CanBound}
+use Rattle.cip_solve.specs.Right.{IsHeld, IsRight, Searched}
+use Rattle.cip_solve.specs.Logs.{entries_of}
+use Rattle.cip_solve.specs.declared.logs.Log.{Log}
+use Rattle.cip_report.specs.declared.figures.Held.{Held}
+use Rattle.cip_report.specs.declared.figures.Answer.{Answer}
+use Rattle.cip_report.specs.declared.figures.Ended.TheVariants.{NoMemory}
+use Rattle.cip_report.specs.Answers.{status_of, figures_of}
+use Rattle.cip_syntax.specs.Figures.{answer_text, exit_status}
+use Rattle.cip_main.specs.Answering.{node_limit, HasThinText, Answers}
+use Rattle.cip_main.specs.Saying.{Says}
+use Rattle.cip_main.proofs.TrueFigures.{are_true}
+
+pub thin : (program : Program) → HasThinText program → IsThinProgram program
+thin program h = thin_program h.text program h.thin
+
+pub all_whole : (program : Program) → HasThinText program → All (λ whole. whole ≡ true) program.integral
+all_whole program h = All-from_recursion _ program.integral (thin program h).integral
+
+pub all_sides : (program : Program) → HasThinText program → All HasWholeSides program.bounds
+all_sides program h = All-from_recursion _ program.bounds (thin program h).whole_sides
+
+pub can_check : (program : Program) → HasThinText program → CanCheck program
+can_check program h = (thin_fits program (thin program h)).checks
+
+pub can_bound : (program : Program) → HasThinText program → CanBound program
+can_bound program h = (thin_fits program (thin program h)).box_bound
+
+-- the check of the point of zeros says that it is feasible
+pub zeros_pass : (program : Program) → HasThinText program → (verdict : Verdict) → verdict ≡ verdict_of program (replicate (columns program) zeroℚ) → (cost : ℚ) × (verdict ≡ Feasible cost)
+zeros_pass program h verdict e = elim (verdict_on_feasible program _ (thin program h).well_formed feasible) [
+  | inl f ↦ (_, e ∙ f)
+  | inr w ↦ absurd (can_check program h _ w.0 feasible.within feasible.whole w.1)
+]
+  where
+    feasible : IsFeasible program (replicate (columns program) zeroℚ)
+    feasible = zeros_feasible program (thin program h)
+
+-- a point held has a value for each column
+pub held_fits : (program : Program) → HasThinText program → (held : Option Held) → IfSome held (IsHeld program) → IfSome held (λ h. length h.point.items ≡ columns program)
+held_fits program t None h = tt
+held_fits program t (Some held) h = IsInBox-long program.bounds held.point.items h.feasible.within ∙ (thin program t).well_formed.bounds
+
+bound_holds : (program : Program) → HasThinText program → (bound : Option ℚ) → bound ≡ box_bound program program.bounds → IfSome bound (IsLowerBound program)
+bound_holds program h None e = tt
+bound_holds program h (Some b) e = root_bound_holds program b (thin program h).well_formed (sym e)
+
+same_box : (bound box : Option ℚ) → bound ≡ box → IfSome bound (λ b. IfSome box (λ least. least ≤ℚ b))
+same_box None box e = tt
+same_box (Some b) None e = absurd (cc)
+same_box (Some b) (Some least) e = ≤ℚ_of_eq (same e)
+  where
+    same : Some b ≡ Some least → least ≡ b
+    same e = cc
+
+-- without a point, the box bound is a right one
+pub no_point_right : (program : Program) → HasThinText program → (bound : Option ℚ) → bound ≡ box_bound program program.bounds → IsRight program node_limit [] (record { ended = NoMemory; held = None; bound = bound })
+no_point_right program h bound e = record {
+  held = tt;
+  bound = bound_holds program h bound e;
+  box = same_box bound (box_bound program program.bounds) e;
+  none = λ n. sym e ∙ n;
+  agree = λ n. absurd (cc);
+  spent = λ n. absurd (cc);
+  unspent = λ n. absurd (cc);
+  logged = tt;
+}
+
+-- what a search has answered has its figures told
+pub answers_of : (program : Program) (old new : List Log) (answer : Answer) (taken taken_after : Option (List ℕ)) (faults faults_after result : ℕ) → Searched program node_limit old new answer → Says taken taken_after faults faults_after (answer_text program.column_names (figures_of program answer)) (exit_status (figures_of program answer).status) result → Answers program taken taken_after faults faults_after old new result
+answers_of program old new answer taken taken_after faults faults_after result (inl s) told = record {
+  figures = figures_of program answer;
+  entries = entries_of s.0;
+  are_true = are_true program node_limit (entries_of s.0) answer s.2;
+  told = told;
+  logged = inl (s.0, s.1, refl);
+}
+answers_of program old new answer taken taken_after faults faults_after result (inr s) told = record {
+  figures = figures_of program answer;
+  entries = [];
+  are_true = are_true program node_limit [] answer s.2;
+  told = told;
+  logged = inr (s.0, refl, ap status_of s.1);
+}
+
+-- the point of an answer has a value for each column
+pub answer_fits : (program : Program) (old new : List Log) (answer : Answer) → HasThinText program → Searched program node_limit old new answer → IfSome answer.held (λ h. length h.point.items ≡ columns program)
+answer_fits program old new answer t (inl s) = held_fits program t answer.held s.2.held
+answer_fits program old new answer t (inr s) = held_fits program t answer.held s.2.held

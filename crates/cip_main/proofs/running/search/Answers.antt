@@ -1,0 +1,14 @@
+use Rattle.cip_main.proofs.ThinPrograms.{all_whole, all_sides, can_check, can_bound}
+use Rattle.cip_main.proofs.running.search.Goals as goal
+
+pub solve-requires-clause-whole : goal.solve-requires-clause-whole
+solve-requires-clause-whole c = all_whole c.args.program.now c.requires
+
+pub solve-requires-clause-sides : goal.solve-requires-clause-sides
+solve-requires-clause-sides c = all_sides c.args.program.now c.requires
+
+pub solve-requires-clause-can_check : goal.solve-requires-clause-can_check
+solve-requires-clause-can_check c = can_check c.args.program.now c.requires
+
+pub solve-requires-clause-can_bound : goal.solve-requires-clause-can_bound
+solve-requires-clause-can_bound c = can_bound c.args.program.now c.requires

@@ -1,0 +1,33 @@
+-- Answers with figures: what the sink was told of a program, and the log that was added.
+use Rattle.std.specs.Prelude.{◌≡◌, ◌⊎◌, ◌++◌, ◌∷◌, [], ℕ, List, Option}
+use Rattle.cip_problem.specs.Program.{Program}
+use Rattle.cip_problem.specs.Log.{Entry}
+use Rattle.cip_syntax.specs.Figures.{Status, NoMemory, Figures, exit_status, answer_text}
+use Rattle.cip_syntax.specs.ThinText.{IsThin}
+use Rattle.cip_syntax.specs.Headline.{AreTrue}
+use Rattle.cip_solve.specs.declared.logs.Log.{Log}
+use Rattle.cip_solve.specs.Logs.{entries_of}
+use Rattle.cip_main.specs.Saying.{Says}
+
+-- the node budget of a search
+abbrev pub node_limit : ℕ
+node_limit = 1000000
+
+-- a program is that of a thin text
+pub record HasThinText (program : Program) : Type 0 where
+  pub text : List ℕ
+  pub thin : IsThin text program
+
+-- these entries are those of the one log that was added; there is none where memory was refused before the search
+abbrev pub IsLogged : (logs logs_after : List Log) → List Entry → Status → Type 0
+IsLogged logs logs_after entries status =
+    ((log : Log) × (logs_after ≡ logs ++ log ∷ []) × (entries ≡ entries_of log))
+    ⊎ ((logs_after ≡ logs) × (entries ≡ []) × (status ≡ NoMemory))
+
+-- there are figures that are true of the program beside the log that was added, and the sink was told them
+pub record Answers (program : Program) (taken taken_after : Option (List ℕ)) (faults faults_after : ℕ) (logs logs_after : List Log) (result : ℕ) : Type 0 where
+  pub figures : Figures
+  pub entries : List Entry
+  pub are_true : AreTrue program node_limit entries figures
+  pub told : Says taken taken_after faults faults_after (answer_text program.column_names figures) (exit_status figures.status) result
+  pub logged : IsLogged logs logs_after entries figures.status

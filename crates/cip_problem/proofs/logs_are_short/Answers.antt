@@ -1,0 +1,5 @@
+use Rattle.cip_problem.specs.Log.Length.{log_is_short}
+use Rattle.cip_problem.proofs.logs_are_short.Goals as goal
+
+pub returns : goal.returns
+returns c = log_is_short

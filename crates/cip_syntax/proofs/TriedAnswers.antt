@@ -1,0 +1,76 @@
+-- The definitions at values.
+use lib.Chars.{codes}
+use Rattle.std.proofs.Common.{◌≡◌, ◌≢◌, arith, [], ◌∷◌, ◌++◌, All, None, Some, refl, ap, ◌∙◌, zero-lt-suc}
+use Rattle.std.specs.Prelude.{AllPairs, ℤ, pos, negsuc}
+use Rattle.std.proofs.lemmas.List.Elements.{All-from_recursion}
+use Rattle.std.proofs.lemmas.List.Kept.{AllPairs-cons}
+use Rattle.cip_rational.specs.Gcd.{gcd}
+use Rattle.cip_rational.specs.Rational.{integer, ratio, numerator, denominator}
+use Rattle.cip_rational.specs.Rational.Lowest.{numerator-integer, denominator-integer, numerator-ratio, denominator-ratio}
+use Rattle.cip_numerals.specs.NumberText.{integer_text, denominator_text, fraction_text}
+use Rattle.cip_syntax.specs.Figures.{Optimal, NodeLimit, answer_text, usage_text, read_fault_text, no_memory_text, not_thin_text}
+use Rattle.cip_syntax.specs.Figures.Laws.{apart}
+
+-- the text of a whole number
+integer_figure : (z : ℤ) → fraction_text (integer z) ≡ integer_text z ++ []
+unfolding fraction_text
+integer_figure z = ap (λ n. integer_text n ++ denominator_text (denominator (integer z))) (numerator-integer z) ∙ ap (λ d. integer_text z ++ denominator_text d) (denominator-integer z)
+
+-- -2 / 4 is -1 / 2
+half_numerator : numerator (ratio (negsuc 1) 4) ≡ negsuc 0
+unfolding gcd
+half_numerator = numerator-ratio (negsuc 1) 4 (zero-lt-suc 3)
+
+half_denominator : denominator (ratio (negsuc 1) 4) ≡ 2
+unfolding gcd
+half_denominator = denominator-ratio (negsuc 1) 4 (zero-lt-suc 3)
+
+half_figure : fraction_text (ratio (negsuc 1) 4) ≡ codes "-1/2"
+unfolding fraction_text
+half_figure =
+    ap (λ n. integer_text n ++ denominator_text (denominator (ratio (negsuc 1) 4))) half_numerator ∙ ap (λ d. integer_text (negsuc 0) ++ denominator_text d) half_denominator
+
+pub optimal :
+    answer_text (codes "a" ∷ codes "b" ∷ codes "c" ∷ []) (record {
+      status = Optimal;
+      held = Some (record { cost = integer (pos 13); point = integer (pos 2) ∷ integer (pos 0) ∷ integer (pos 1) ∷ [] });
+      bound = Some (integer (pos 13));
+    })
+    ≡ codes "status optimal\ncost 13\nbound 13\na 2\nb 0\nc 1\nend\n"
+optimal = simp integer_figure
+
+pub no_point :
+    answer_text (codes "a" ∷ []) (record { status = NodeLimit; held = None; bound = Some (integer (pos 3)) })
+    ≡ codes "status nodelimit\ncost none\nbound 3\nend\n"
+no_point = simp integer_figure
+
+pub negative_ratio :
+    answer_text (codes "x" ∷ []) (record { status = Optimal; held = Some (record { cost = integer (negsuc 6); point = ratio (negsuc 1) 4 ∷ [] }); bound = None })
+    ≡ codes "status optimal\ncost -7\nbound none\nx -1/2\nend\n"
+negative_ratio = simp (integer_figure, half_figure)
+
+after_usage : All (λ other. usage_text ≢ other) (read_fault_text ∷ no_memory_text ∷ not_thin_text ∷ [])
+after_usage =
+    All-from_recursion (λ other. usage_text ≢ other) (read_fault_text ∷ no_memory_text ∷ not_thin_text ∷ []) (
+      apart usage_text read_fault_text refl refl,
+      (apart usage_text no_memory_text refl refl, (apart usage_text not_thin_text refl refl, tt)),
+    )
+
+after_read_fault : All (λ other. read_fault_text ≢ other) (no_memory_text ∷ not_thin_text ∷ [])
+after_read_fault =
+    All-from_recursion (λ other. read_fault_text ≢ other) (no_memory_text ∷ not_thin_text ∷ []) (
+      apart read_fault_text no_memory_text refl refl,
+      (apart read_fault_text not_thin_text refl refl, tt),
+    )
+
+after_no_memory : All (λ other. no_memory_text ≢ other) (not_thin_text ∷ [])
+after_no_memory =
+    All-from_recursion (λ other. no_memory_text ≢ other) (not_thin_text ∷ []) (apart no_memory_text not_thin_text refl refl, tt)
+
+-- no two of the texts without figures are the same
+pub fixed_texts_differ : AllPairs (λ text other. text ≢ other) (usage_text ∷ read_fault_text ∷ no_memory_text ∷ not_thin_text ∷ [])
+fixed_texts_differ =
+    AllPairs-cons (λ text other. text ≢ other) usage_text (read_fault_text ∷ no_memory_text ∷ not_thin_text ∷ []) after_usage
+    (AllPairs-cons (λ text other. text ≢ other) read_fault_text (no_memory_text ∷ not_thin_text ∷ []) after_read_fault
+    (AllPairs-cons (λ text other. text ≢ other) no_memory_text (not_thin_text ∷ []) after_no_memory
+    (AllPairs-cons (λ text other. text ≢ other) not_thin_text [] (All-from_recursion (λ other. not_thin_text ≢ other) [] tt) (λ i j d below within. absurd (omega arith)))))

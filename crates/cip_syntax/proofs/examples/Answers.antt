@@ -1,0 +1,18 @@
+use Rattle.std.proofs.Common.{refl}
+use Rattle.cip_syntax.proofs.TriedAnswers as tried
+use Rattle.cip_syntax.proofs.examples.Goals as goal
+
+pub returns : goal.returns
+returns c = record {
+  optimal = tried.optimal;
+  no_point = tried.no_point;
+  negative_ratio = tried.negative_ratio;
+  usage = refl;
+  not_thin = refl;
+  solve = refl;
+  no_name = refl;
+  option = refl;
+  two_names = refl;
+  other_command = refl;
+  no_words = refl;
+}

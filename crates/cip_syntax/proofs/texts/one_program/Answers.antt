@@ -1,0 +1,5 @@
+use Rattle.cip_syntax.specs.ThinText.Parts.{one_program}
+use Rattle.cip_syntax.proofs.texts.one_program.Goals as goal
+
+pub returns : goal.returns
+returns c = one_program

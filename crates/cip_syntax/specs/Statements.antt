@@ -1,0 +1,44 @@
+-- The laws of the texts, each as one statement, and the definitions at values: functions of `src/lib.rt` have them as
+-- contracts.
+use lib.Chars.{codes}
+use Rattle.std.specs.Prelude.{◌≡◌, ◌≢◌, ℕ, pos, negsuc, List, [], ◌∷◌, AllPairs, None, Some}
+use Rattle.cip_rational.specs.Rational.{integer, ratio}
+use Rattle.cip_syntax.specs.Figures.{Optimal, NodeLimit, Figures, HaveValues, answer_text, usage_text, read_fault_text, no_memory_text, refusal_text, not_thin_text}
+use Rattle.cip_syntax.specs.CommandLine.{Solve, job_of}
+
+-- two figures with one text, for one list of names, are the same
+abbrev pub AnswerTellsFigures : Type 0
+AnswerTellsFigures =
+    (names : List (List ℕ)) (figures other : Figures) → HaveValues names figures.held → HaveValues names other.held → answer_text names figures ≡ answer_text names other → figures ≡ other
+
+-- the texts without figures are no answers, and differ from each other
+pub record FixedTextsStandApart : Type 0 where
+  pub usage : (names : List (List ℕ)) (figures : Figures) → answer_text names figures ≢ usage_text
+  pub read_fault : (names : List (List ℕ)) (figures : Figures) → answer_text names figures ≢ read_fault_text
+  pub no_memory : (names : List (List ℕ)) (figures : Figures) → answer_text names figures ≢ no_memory_text
+  pub refusal : (names : List (List ℕ)) (figures : Figures) (text number kind : List ℕ) → answer_text names figures ≢ refusal_text text number kind
+  pub differ : AllPairs (λ text other. text ≢ other) (usage_text ∷ read_fault_text ∷ no_memory_text ∷ not_thin_text ∷ [])
+
+-- the definitions at values
+pub record Examples : Type 0 where
+  pub optimal :
+      answer_text (codes "a" ∷ codes "b" ∷ codes "c" ∷ []) (record {
+        status = Optimal;
+        held = Some (record { cost = integer (pos 13); point = integer (pos 2) ∷ integer (pos 0) ∷ integer (pos 1) ∷ [] });
+        bound = Some (integer (pos 13));
+      })
+      ≡ codes "status optimal\ncost 13\nbound 13\na 2\nb 0\nc 1\nend\n"
+  pub no_point :
+      answer_text (codes "a" ∷ []) (record { status = NodeLimit; held = None; bound = Some (integer (pos 3)) })
+      ≡ codes "status nodelimit\ncost none\nbound 3\nend\n"
+  pub negative_ratio :
+      answer_text (codes "x" ∷ []) (record { status = Optimal; held = Some (record { cost = integer (negsuc 6); point = ratio (negsuc 1) 4 ∷ [] }); bound = None })
+      ≡ codes "status optimal\ncost -7\nbound none\nx -1/2\nend\n"
+  pub usage : usage_text ≡ codes "status usage\nend\n"
+  pub not_thin : not_thin_text ≡ codes "status refused\ntext model\nline 1\nkind 21 OutOfProfile\nend\n"
+  pub solve : job_of (codes "solve" ∷ codes "m" ∷ []) ≡ Some (Solve (codes "m"))
+  pub no_name : job_of (codes "solve" ∷ []) ≡ None
+  pub option : job_of (codes "solve" ∷ codes "-m" ∷ []) ≡ None
+  pub two_names : job_of (codes "solve" ∷ codes "m" ∷ codes "n" ∷ []) ≡ None
+  pub other_command : job_of (codes "check" ∷ codes "m" ∷ []) ≡ None
+  pub no_words : job_of [] ≡ None

@@ -1,0 +1,9 @@
+// Programs of thin texts: no sum over them overflows.
+// A function here does nothing. Its contract is a law, so that the check proves it.
+#![tactic(auto)]
+
+ghost use Rattle.cip_thin.specs.Statements.{ThinProgramsFit};
+
+pub fn thin_programs_fit()
+    ensures { ThinProgramsFit }
+{}
