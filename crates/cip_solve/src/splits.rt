@@ -1,5 +1,5 @@
 //! Splits of whole sides.
-ghost use Rattle.std.specs.Prelude.{◌≡◌, ◌≢◌, ◌≤ℤ◌, ◌<ℤ◌, negsuc, true};
+ghost use Rattle.std.specs.Prelude.{◌≡◌, ◌≢◌, ◌⊎◌, ◌+ℤ◌, ◌≤ℤ◌, ◌<ℤ◌, pos, negsuc, true};
 ghost use Rattle.cip_rational.specs.Rational.{integer};
 ghost use Rattle.cip_rational.specs.Range.{largest};
 ghost use Rattle.cip_problem.specs.Box.{two_wholes_between};
@@ -22,6 +22,7 @@ fn middle(low: i128, high: i128) -> i128
     requires { low <ℤ high }
     ensures from { low ≤ℤ result }
     ensures below { result <ℤ high }
+    ensures half { (result +ℤ result ≡ low +ℤ high) ⊎ ((result +ℤ result) +ℤ pos 1 ≡ low +ℤ high) }
 {
     low + (high.abs_diff(low) / 2) as i128
 }
