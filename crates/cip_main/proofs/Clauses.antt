@@ -1,18 +1,14 @@
 -- The clauses of `run`, each from what the call does.
-use Rattle.std.specs.Prelude.{◌≡◌, ◌⊎◌, ◌++◌, ◌∷◌, [], ℕ, List, Option, None, Some, IfSome, refl, length}
+use Rattle.std.specs.Prelude.{◌≡◌, ◌⊎◌, ℕ, List, Option, None, Some, IfSome, refl, length}
 use Rattle.std.proofs.Common.{sym, ap, ◌∙◌, subst, inl, inr, arith}
 use Rattle.cip_io.specs.Faults.{Rose}
 use Rattle.cip_problem.specs.Program.{Program}
-use Rattle.cip_problem.specs.Log.{Entry}
 use Rattle.cip_syntax.specs.CommandLine.{Job, Solve}
 use Rattle.cip_syntax.specs.Figures.{Status, Optimal, NodeLimit, NoMemory, exit_status, answer_text}
 use Rattle.cip_syntax.specs.ThinText.{IsThin}
-use Rattle.cip_syntax.specs.Headline.{AreTrue}
 use Rattle.cip_syntax.specs.ThinText.Parts.{one_program}
-use Rattle.cip_solve.specs.declared.logs.Log.{Log}
-use Rattle.cip_solve.specs.Logs.{entries_of}
-use Rattle.cip_main.specs.Answering.{node_limit, IsLogged, Answers}
-use Rattle.cip_main.specs.Running.{Call, Tells, IsPulledWhole, IsUsage, IsReadFault, IsRefused, IsNoMemory, IsAnswered, Ran, refuses_words, fails_to_read, refuses_text, lacks_memory, gives_answer, IsStatus, optimal, usage, read_fault, refused, write_fault, no_memory, spent, Asks, TellsTruth, Headline, UsageClause, ReadFaultClause, RefusedClause, WriteFaultClause, SpentLog, NodeLimitClause, MemoryClause, Runs}
+use Rattle.cip_main.specs.Answering.{node_limit, IsLogged}
+use Rattle.cip_main.specs.Running.{Call, Tells, IsPulledWhole, IsUsage, IsReadFault, IsRefused, IsNoMemory, IsAnswered, Ran, refuses_words, fails_to_read, refuses_text, lacks_memory, gives_answer, IsStatus, optimal, usage, read_fault, refused, write_fault, no_memory, spent, TellsTruth, Headline, UsageClause, ReadFaultClause, RefusedClause, WriteFaultClause, SpentLog, NodeLimitClause, MemoryClause, Runs}
 
 -- the status is this one, or 5 after a fault of the sink
 record StatusIs (call : Call) (status : ℕ) : Type 0 where

@@ -1,7 +1,7 @@
 -- What is pulled of a text, piece by piece.
-use Rattle.std.specs.Prelude.{◌≡◌, ℕ, zero, suc, ◌+◌, ◌<◌, ◌≤◌, List, [], ◌∷◌, ◌++◌, Option, None, Some, IfSome, option_map, take, drop, length, refl}
+use Rattle.std.specs.Prelude.{◌≡◌, ℕ, zero, suc, ◌+◌, ◌≤◌, List, [], ◌∷◌, ◌++◌, Option, None, Some, IfSome, option_map, take, drop, length, refl}
 use Rattle.std.proofs.Common.{sym, ap, ap₂, ◌∙◌, subst, arith}
-use Rattle.std.proofs.lemmas.List.{drop-drop, drop_all, length-append, length-take-le, take-append-drop, append-nil, length-drop}
+use Rattle.std.proofs.lemmas.List.{drop-drop, drop_all, length-append, length-take-le, take-append-drop, append-nil}
 use Rattle.std.proofs.Math.Seq.{take-add}
 use Rattle.cip_io.specs.Store.{Pulls, Comes}
 use Rattle.cip_main.specs.Pulling.{IsPulled, most_pulled, IsWhole}

@@ -1,8 +1,8 @@
 -- What the reader has read of a text that is pulled piece by piece.
-use Rattle.std.specs.Prelude.{◌≡◌, ℕ, ◌+◌, ◌-◌, ◌<◌, ◌≤◌, Bool, true, false, List, [], ◌++◌, Option, None, Some, IfSome, Result, Ok, Err, MatchResult, take, length, min, refl, ⊤}
-use Rattle.std.proofs.Common.{sym, ap, ◌∙◌, subst, arith}
+use Rattle.std.specs.Prelude.{◌≡◌, ℕ, ◌+◌, ◌≤◌, Bool, true, false, List, [], ◌++◌, Option, None, Some, IfSome, Result, Ok, Err, MatchResult, take, length, refl}
+use Rattle.std.proofs.Common.{ap, ◌∙◌, subst, arith}
 use Rattle.std.proofs.lemmas.List.{length-append, length-take-le, append-nil}
-use Rattle.cip_io.specs.Faults.{raised, Rose}
+use Rattle.cip_io.specs.Faults.{Rose}
 use Rattle.cip_io.specs.Store.{Pulls}
 use Rattle.cip_problem.specs.Program.{Program}
 use Rattle.cip_syntax.specs.ThinText.{IsThin}

@@ -1,5 +1,5 @@
 -- What a search may rely on in the program of a thin text.
-use Rattle.std.specs.Prelude.{◌≡◌, ℕ, true, List, [], ◌∷◌, ◌++◌, Option, None, Some, IfSome, All, replicate, length, refl}
+use Rattle.std.specs.Prelude.{◌≡◌, ℕ, true, List, [], Option, None, Some, IfSome, All, replicate, length, refl}
 use Rattle.std.proofs.Common.{sym, ap, ◌∙◌, subst, inl, inr}
 use Rattle.std.proofs.lemmas.List.Elements.{All-from_recursion}
 use Rattle.cip_rational.specs.Rational.{ℚ, ◌≤ℚ◌, zeroℚ}
@@ -9,19 +9,17 @@ use Rattle.cip_problem.specs.Points.{IsFeasible, IsLowerBound}
 use Rattle.cip_problem.specs.BoxBound.{box_bound}
 use Rattle.cip_problem.specs.BoxBound.Laws.{root_bound_holds}
 use Rattle.cip_problem.specs.Points.Laws.{IsInBox-long}
-use Rattle.cip_problem.specs.WellFormed.{IsWellFormed, columns}
+use Rattle.cip_problem.specs.WellFormed.{columns}
 use Rattle.cip_problem.specs.Wholes.{HasWholeSides}
 use Rattle.cip_syntax.specs.ThinText.{IsThin}
 use Rattle.cip_syntax.specs.ThinText.ThinProgram.{IsThinProgram}
 use Rattle.cip_syntax.specs.ThinText.Laws.{thin_program, zeros_feasible}
 use Rattle.cip_thin.specs.Laws.{thin_fits}
-use Rattle.cip_thin.specs.Statements.{NoOverflow}
 use Rattle.cip_model.specs.CanCheck.{CanCheck}
 use Rattle.cip_model.specs.Verdicts.{verdict_of}
 use Rattle.cip_model.specs.Meaning.Laws.{verdict_on_feasible}
-use Rattle.cip_model.specs.declared.verdicts.Place.{Place}
 use Rattle.cip_model.specs.declared.verdicts.Verdict.{Verdict}
-use Rattle.cip_model.specs.declared.verdicts.Verdict.TheVariants.{Feasible, Wide}
+use Rattle.cip_model.specs.declared.verdicts.Verdict.TheVariants.{Feasible}
 use Rattle.cip_solve.specs.CanBound.{CanBound}
 use Rattle.cip_solve.specs.Right.{IsHeld, IsRight, Searched}
 use Rattle.cip_solve.specs.Logs.{entries_of}

@@ -1,16 +1,16 @@
 -- The figures that are printed of a right answer are true.
-use Rattle.std.specs.Prelude.{◌≡◌, ℕ, Bool, true, false, List, Option, None, Some, IfSome, option_map, length, refl, if◌then◌else◌}
-use Rattle.std.proofs.Common.{sym, ap, ◌∙◌, subst}
+use Rattle.std.specs.Prelude.{◌≡◌, ℕ, Bool, true, false, List, Option, None, Some, IfSome, option_map, refl, if◌then◌else◌}
+use Rattle.std.proofs.Common.{sym, ap, subst}
 use Rattle.cip_rational.specs.Rational.{ℚ, ◌≤ℚ◌, ◌<ℚ◌, negate}
 use Rattle.cip_rational.specs.Rational.Order.{not_le_of_lt}
 use Rattle.cip_rational.specs.Rational.Ring.{negate_negate}
 use Rattle.cip_rational.specs.Rational.Monotone.{negate_strict}
 use Rattle.cip_problem.specs.Program.{Program}
-use Rattle.cip_problem.specs.Points.{IsFeasible, cost_of, printed, IsLowerBound}
+use Rattle.cip_problem.specs.Points.{cost_of, printed, IsLowerBound}
 use Rattle.cip_problem.specs.BoxBound.{box_bound}
 use Rattle.cip_problem.specs.Log.{Entry, HasOpenNode}
-use Rattle.cip_syntax.specs.Figures.{Status, Optimal, NodeLimit, NoMemory, Figures, Held as PrintedHeld}
-use Rattle.cip_syntax.specs.Headline.{IsBetter, IsTruePoint, IsTrueBound, IsAtMostBox, Agree, IsSpent as IsPrintedSpent, AreTrue, printed_cost}
+use Rattle.cip_syntax.specs.Figures.{Optimal, NodeLimit}
+use Rattle.cip_syntax.specs.Headline.{IsBetter, IsTruePoint, IsTrueBound, IsAtMostBox, Agree, IsSpent as IsPrintedSpent, AreTrue}
 use Rattle.cip_report.specs.declared.figures.Ended.{Ended}
 use Rattle.cip_report.specs.declared.figures.Ended.TheVariants.{Optimal as EndedOptimal, NodeLimit as EndedNodeLimit, NoMemory as EndedNoMemory}
 use Rattle.cip_report.specs.declared.figures.Held.{Held}

@@ -1,5 +1,5 @@
 -- What a reader has read.
-use Rattle.std.specs.Prelude.{◌≡◌, ℕ, Bool, true, false, List, [], Option, None, Some}
+use Rattle.std.specs.Prelude.{◌≡◌, ℕ, Bool, true, false, List, Option, None, Some}
 use Rattle.cip_reading.specs.Reading.{Reading}
 use Rattle.cip_reading.specs.Reading.Texts.{Stream, empty_stream, bytes_taken}
 use Rattle.cip_mps.specs.Drafts.{reading}

@@ -1,5 +1,5 @@
 -- When the figures of an answer are true of a program: what is printed can be relied on.
-use Rattle.std.specs.Prelude.{◌≡◌, ℕ, Bool, true, false, List, Option, None, Some, IfSome, option_map, length}
+use Rattle.std.specs.Prelude.{◌≡◌, ℕ, Bool, true, false, List, None, Some, IfSome, option_map, length}
 use Rattle.cip_rational.specs.Rational.{ℚ, ◌<ℚ◌}
 use Rattle.cip_problem.specs.Program.{Program}
 use Rattle.cip_problem.specs.Points.{IsFeasible, cost_of, printed}

@@ -1,19 +1,18 @@
 -- Thin programs have small whole numbers, so that no sum overflows.
 --     thin_small           the program of a thin text is small
 --     thin_fits            no sum overflows
-use Rattle.std.specs.Prelude.{◌≡◌, ℕ, zero, suc, ◌+◌, ◌^◌, ◌<◌, ◌≤◌, true, List, [], ◌∷◌, length, All, pos, Some, slice_index_or}
+use Rattle.std.specs.Prelude.{◌≡◌, ℕ, zero, suc, ◌+◌, ◌^◌, ◌<◌, ◌≤◌, List, [], ◌∷◌, length, pos}
 use Rattle.std.specs.List.{AllByRecursion}
 use Rattle.std.proofs.Common.{sym, ap, ◌∙◌, arith, subst, neg_ℤ}
 use Rattle.std.proofs.lemmas.Int.{ints}
 use Rattle.std.proofs.lemmas.List.Elements.{recursion_from_All}
-use Rattle.cip_rational.specs.Rational.{ℚ, negate, integer, zeroℚ}
+use Rattle.cip_rational.specs.Rational.{ℚ, negate, integer}
 use Rattle.cip_rational.specs.Rational.Ring.{negate_negate}
 use Rattle.cip_rational.specs.Rational.Rounding.{integer-negate}
 use Rattle.cip_problem.specs.Program.{Term, Sides, Row, Program}
 use Rattle.cip_problem.specs.Terms.{AreTerms, column_at, no_term}
 use Rattle.cip_problem.specs.WellFormed.{columns}
 use Rattle.cip_problem.specs.Activity.{StandsBelow}
-use Rattle.cip_syntax.specs.ThinText.{IsThin, rational}
 use Rattle.cip_syntax.specs.ThinText.ThinProgram.{IsShort, HasThinSides, IsThinRow, IsThinProgram}
 use Rattle.cip_lin.specs.Small.{IsWithin}
 use Rattle.cip_model.specs.Small.{few, HasSmallSides, HasSmallTerms, IsSmall, small_can_check, small_box_bound}

@@ -1,4 +1,4 @@
-use Rattle.std.proofs.Common.{◌≡◌, ◌≤◌, ◌+◌, ◌-◌, ◌++◌, ℕ, length, take, drop, min, rules, arith, length-append, length-drop, length-take, ◌∙◌}
+use Rattle.std.proofs.Common.{◌≡◌, ◌≤◌, ◌+◌, ◌-◌, length, take, drop, min, rules, arith, length-append, length-drop, length-take, ◌∙◌}
 use Rattle.cip_main.specs.Pulling.{most_pulled}
 use Rattle.cip_main.proofs.Readings.{all_read, too_long}
 use Rattle.cip_main.proofs.reader.read_pieces.Goals as goal
