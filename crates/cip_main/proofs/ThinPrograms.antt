@@ -1,5 +1,5 @@
 -- What a search may rely on in the program of a thin text.
-use Rattle.std.specs.Prelude.{◌≡◌, ℕ, true, List, [], Option, None, Some, IfSome, All, replicate, length, refl}
+use Rattle.std.specs.Prelude.{◌≡◌, ℕ, true, List, [], Option, None, Some, IfSome, All, replicate, length, refl, option_map}
 use Rattle.std.proofs.Common.{sym, ap, ◌∙◌, subst, inl, inr}
 use Rattle.std.proofs.lemmas.List.Elements.{All-from_recursion}
 use Rattle.cip_rational.specs.Rational.{ℚ, ◌≤ℚ◌, zeroℚ}
@@ -21,13 +21,13 @@ use Rattle.cip_model.specs.Meaning.Laws.{verdict_on_feasible}
 use Rattle.cip_model.specs.declared.verdicts.Verdict.{Verdict}
 use Rattle.cip_model.specs.declared.verdicts.Verdict.TheVariants.{Feasible}
 use Rattle.cip_solve.specs.CanBound.{CanBound}
-use Rattle.cip_solve.specs.Right.{IsHeld, IsRight, Searched}
+use Rattle.cip_solve.specs.Right.{IsHeld, IsRight, Searched, HoldsAtMost}
 use Rattle.cip_solve.specs.Logs.{entries_of}
 use Rattle.cip_solve.specs.declared.logs.Log.{Log}
 use Rattle.cip_report.specs.declared.figures.Held.{Held}
 use Rattle.cip_report.specs.declared.figures.Answer.{Answer}
 use Rattle.cip_report.specs.declared.figures.Ended.TheVariants.{NoMemory}
-use Rattle.cip_report.specs.Answers.{status_of, figures_of}
+use Rattle.cip_report.specs.Answers.{status_of, printed_held, figures_of}
 use Rattle.cip_syntax.specs.Figures.{answer_text, exit_status}
 use Rattle.cip_main.specs.Answering.{node_limit, HasThinText, Answers}
 use Rattle.cip_main.specs.Pulling.{IsRead}
@@ -89,21 +89,34 @@ no_point_right program h bound e = record {
   logged = tt;
 }
 
+none_held : (program : Program) (held : Option Held) → option_map (printed_held program) held ≡ None → held ≡ None
+none_held program None e = refl
+none_held program (Some held) e = absurd (cc)
+
+-- an answer that holds a point lacks none
+pub some_held : (cost : ℚ) (answer : Answer) → HoldsAtMost cost answer → answer.held ≡ None → ⊥
+some_held cost answer h e = no_some (sym h.is_held ∙ e)
+  where
+    no_some : {held : Held} → Some held ≡ None → ⊥
+    no_some e = cc
+
 -- what a search has answered has its figures told
-pub answers_of : (program : Program) (old new : List Log) (answer : Answer) (taken taken_after : Option (List ℕ)) (faults faults_after result : ℕ) → Searched program node_limit old new answer → Says taken taken_after faults faults_after (answer_text program.column_names (figures_of program answer)) (exit_status (figures_of program answer).status) result → Answers program taken taken_after faults faults_after old new result
-answers_of program old new answer taken taken_after faults faults_after result (inl s) told = record {
+pub answers_of : (program : Program) (old new : List Log) (answer : Answer) (taken taken_after : Option (List ℕ)) (faults faults_after result : ℕ) → Searched program node_limit old new answer → Says taken taken_after faults faults_after (answer_text program.column_names (figures_of program answer)) (exit_status (figures_of program answer).status) result → (answer.held ≡ None → new ≡ old) → Answers program taken taken_after faults faults_after old new result
+answers_of program old new answer taken taken_after faults faults_after result (inl s) told p = record {
   figures = figures_of program answer;
   entries = entries_of s.0;
   are_true = are_true program node_limit (entries_of s.0) answer s.2;
   told = told;
   logged = inl (s.0, s.1, refl);
+  point = λ e. p (none_held program answer.held e);
 }
-answers_of program old new answer taken taken_after faults faults_after result (inr s) told = record {
+answers_of program old new answer taken taken_after faults faults_after result (inr s) told p = record {
   figures = figures_of program answer;
   entries = [];
   are_true = are_true program node_limit [] answer s.2;
   told = told;
   logged = inr (s.0, refl, ap status_of s.1);
+  point = λ e. p (none_held program answer.held e);
 }
 
 -- the point of an answer has a value for each column

@@ -1,5 +1,5 @@
 -- Answers with figures: what the sink was told of a program, and the log that was added.
-use Rattle.std.specs.Prelude.{◌≡◌, ◌⊎◌, ◌++◌, ◌∷◌, [], ℕ, List, Option}
+use Rattle.std.specs.Prelude.{◌≡◌, ◌⊎◌, ◌++◌, ◌∷◌, [], ℕ, List, Option, None}
 use Rattle.cip_problem.specs.Program.{Program}
 use Rattle.cip_problem.specs.Log.{Entry}
 use Rattle.cip_syntax.specs.Figures.{Status, NoMemory, Figures, exit_status, answer_text}
@@ -31,3 +31,5 @@ pub record Answers (program : Program) (taken taken_after : Option (List ℕ)) (
   pub are_true : AreTrue program node_limit entries figures
   pub told : Says taken taken_after faults faults_after (answer_text program.column_names figures) (exit_status figures.status) result
   pub logged : IsLogged logs logs_after entries figures.status
+  -- a point is left out only where memory was refused before the search
+  pub point : figures.held ≡ None → logs_after ≡ logs

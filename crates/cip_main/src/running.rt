@@ -1,5 +1,5 @@
 //! The whole way from the words and the store to the sink.
-ghost use Rattle.std.specs.Prelude.{◌≡◌, ◌≤◌, [], IfOk, IfSome, length};
+ghost use Rattle.std.specs.Prelude.{◌≡◌, ◌≤◌, [], None, IfOk, IfSome, length};
 ghost use Rattle.cip_problem.specs.WellFormed.{columns};
 ghost use Rattle.cip_syntax.specs.Figures.{usage_text, read_fault_text, not_thin_text, no_memory_text, answer_text, exit_status};
 ghost use Rattle.cip_report.specs.Answers.{figures_of};
@@ -101,7 +101,8 @@ fn no_point(program: &Program) -> Answer
 /// Searches the program, from the point of zeros on.
 fn search(alloc: Global, program: &Program, logs: &mut Vec<Log>) -> Answer
     requires { HasThinText program.now }
-    ensures { Searched program.now node_limit logs.old.items logs.new.items result }
+    ensures searched { Searched program.now node_limit logs.old.items logs.new.items result }
+    ensures point { result.held ≡ None → logs.new.items ≡ logs.old.items }
 {
     match zeros(alloc, program) {
         Ok(held) => solve(alloc, program, held, NODE_LIMIT, logs),

@@ -1,7 +1,7 @@
 -- What is right of an answer of a search: of its point, its cost, its bound and its end. All figures are those of
 -- the minimised form.
 use Rattle.std.specs.Prelude.{◌≡◌, ◌++◌, ◌∷◌, [], ℕ, ◌⊎◌, List, Some, None, IfSome, option_map, length}
-use Rattle.cip_rational.specs.Rational.{◌≤ℚ◌}
+use Rattle.cip_rational.specs.Rational.{ℚ, ◌≤ℚ◌}
 use Rattle.cip_problem.specs.Program.{Program}
 use Rattle.cip_problem.specs.Points.{IsFeasible, cost_of, IsLowerBound}
 use Rattle.cip_problem.specs.BoxBound.{box_bound}
@@ -45,3 +45,9 @@ abbrev pub Searched : Program → ℕ → List Log → List Log → Answer → T
 Searched program node_limit old new answer =
     ((log : Log) × (new ≡ old ++ log ∷ []) × IsRight program node_limit (entries_of log) answer)
     ⊎ ((new ≡ old) × (answer.ended ≡ NoMemory) × IsRight program node_limit [] answer)
+
+-- the answer holds a point that costs no more
+pub record HoldsAtMost (cost : ℚ) (answer : Answer) : Type 0 where
+  pub held : Held
+  pub is_held : answer.held ≡ Some held
+  pub no_dearer : held.cost ≤ℚ cost

@@ -15,7 +15,7 @@ ghost use Rattle.cip_solve.specs.Logs.{entries_of};
 ghost use Rattle.cip_solve.specs.Kept.{Kept, IsEnded, final_bound};
 ghost use Rattle.cip_solve.specs.Start.{IsRoom};
 ghost use Rattle.cip_solve.specs.CanBound.{CanBound};
-ghost use Rattle.cip_solve.specs.Right.{IsHeld, Searched};
+ghost use Rattle.cip_solve.specs.Right.{IsHeld, Searched, HoldsAtMost};
 
 use crate::boxes::{Work, corner, first_open_column};
 use crate::logs::{End, Log};
@@ -74,6 +74,7 @@ impl Search {
         requires kept { let s = self.old in Kept program.now (entries_of log.old) s.bound s.held s.stack.ids s.work.bounds s.work.deepest (s.stack.nodes.items ++ node ∷ []) }
         ensures kept { let s = self.new in Kept program.now (entries_of log.new) s.bound s.held s.stack.ids s.work.bounds s.work.deepest s.stack.nodes.items }
         ensures grown { length (entries_of log.new) ≡ length (entries_of log.old) + 1 }
+        ensures lower { self.new.held.cost ≤ℚ self.old.held.cost }
     {
         let id = node.id;
         let bound = self.bound;
@@ -108,6 +109,7 @@ impl Search {
         ensures kept { let s = self.new in Kept program.now (entries_of log.new) s.bound s.held s.stack.ids s.work.bounds s.work.deepest s.stack.nodes.items }
         ensures grown { OnOk result (length (entries_of log.new) ≡ length (entries_of log.old) + 1) }
         ensures closed { OnOk result (matters (Some self.new.held.cost) self.new.bound ≡ false → self.new.stack.nodes.items ≡ []) }
+        ensures lower { self.new.held.cost ≤ℚ self.old.held.cost }
     {
         log.taken.reserve(1)?;
         self.stack.nodes.reserve(2)?;
@@ -137,6 +139,7 @@ impl Search {
         requires kept { let s = self.old in Kept program.now (entries_of log.old) s.bound s.held s.stack.ids s.work.bounds s.work.deepest s.stack.nodes.items }
         ensures kept { let s = self.new in Kept program.now (entries_of log.new) s.bound s.held s.stack.ids s.work.bounds s.work.deepest s.stack.nodes.items }
         ensures ended { let s = self.new in IsEnded node_limit (entries_of log.new) s.bound s.held s.stack.nodes.items result }
+        ensures lower { self.new.held.cost ≤ℚ self.old.held.cost }
     {
         for _ in 0..node_limit {
             if self.stack.nodes.is_empty() {
@@ -248,7 +251,8 @@ pub fn solve(
     requires can_check { CanCheck program.now }
     requires can_bound { CanBound program.now }
     requires limit { 0 < node_limit }
-    ensures { Searched program.now node_limit logs.old.items logs.new.items result }
+    ensures searched { Searched program.now node_limit logs.old.items logs.new.items result }
+    ensures no_dearer { HoldsAtMost held.cost result }
 {
     let bound = root_bound(program);
     let Ok(room) = Room::new(alloc, program, logs) else {

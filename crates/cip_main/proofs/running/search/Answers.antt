@@ -1,4 +1,4 @@
-use Rattle.cip_main.proofs.ThinPrograms.{all_whole, all_sides, can_check, can_bound}
+use Rattle.cip_main.proofs.ThinPrograms.{all_whole, all_sides, can_check, can_bound, some_held}
 use Rattle.cip_main.proofs.running.search.Goals as goal
 
 pub solve-requires-clause-whole : goal.solve-requires-clause-whole
@@ -12,3 +12,6 @@ solve-requires-clause-can_check c = can_check c.args.program.now c.requires
 
 pub solve-requires-clause-can_bound : goal.solve-requires-clause-can_bound
 solve-requires-clause-can_bound c = can_bound c.args.program.now c.requires
+
+pub returns-in-Ok-clause-point : goal.returns-in-Ok-clause-point
+returns-in-Ok-clause-point c = λ e. absurd (some_held c.in-Ok.held.cost c.solve.result c.solve.ensures.no_dearer e)

@@ -1,4 +1,5 @@
 use Rattle.std.proofs.Common.{◌≡◌, ◌∙◌, length, sym, ap, subst, arith}
+use Rattle.cip_rational.specs.Rational.Order.{≤ℚ_refl}
 use Rattle.cip_problem.specs.Box.{no_sides}
 use Rattle.cip_problem.specs.WellFormed.{columns}
 use Rattle.cip_model.specs.Verdicts.{verdict_of}
@@ -51,3 +52,6 @@ returns-in-None-clause-kept c =
     rw (c.add-in-None.ensures, c.enter.ensures.deepest)
     (kept_closed _ _ _ _ c.offer.new.held _ _ _ _ c.args.node c.enter.new.self.bounds c.requires.kept e c.offer.ensures.held c.offer.ensures.lower
     (rw at at c.offer.ensures.offered) c.in-None.ensures)
+
+pub returns-in-Some-clause-lower : goal.returns-in-Some-clause-lower
+returns-in-Some-clause-lower c = ≤ℚ_refl c.args.self.now.held.cost
