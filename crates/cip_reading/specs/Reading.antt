@@ -1,7 +1,20 @@
 -- What the reader of a thin text knows after each record, as plain values: the same steps as those of the code. That
 -- these steps read exactly the thin texts, each as its program, is a law (`Reading/Laws.antt`).
 pub mod Bytes
+pub mod Columns
+pub mod Complete
+pub mod Contents
+pub mod Facts
+pub mod Laws
+pub mod Limits
+pub mod Lines
 pub mod Names
+pub mod Progress
+pub mod Rows
+pub mod Sound
+pub mod Takes
+pub mod Texts
+pub mod Values
 use lib.Chars.{codes}
 use Rattle.std.specs.Prelude.{ℕ, zero, suc, ◌+◌, ◌-◌, ◌==◌, Bool, true, false, ◌&&◌, not, nat_lt, nat_le, List, [], ◌∷◌, ◌++◌, length, map, slice_set, slice_index_or, Option, None, Some, is_some, if◌then◌else◌}
 use Rattle.std.specs.List.{position_from, list_all}

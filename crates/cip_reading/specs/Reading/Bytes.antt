@@ -1,40 +1,59 @@
 -- A text that comes byte after byte is read as its lines are.
---     bytes_taken            the reader after bytes, one after another
---     ended                  what it has read where the text ends
---     ended-bytes_taken      that is what its lines give
---     bytes_taken-append     a text in parts
+--     ended-bytes_taken      what the bytes of a text give is what its lines give
 --     with_empty_end         all pieces between line feeds, the last one also where it is empty, are read as the lines
+--     fold-byte_taken        the bytes as a fold
+--     bytes_taken-append     a text in parts
+--     bytes_taken-part, bytes_taken-line      bytes without a line feed, and with one at their end
+--     bytes_taken-refused, bytes_taken-done      after a refusal, and after ENDATA, nothing changes what was read
 use Rattle.std.proofs.Common.{◌≡◌, ℕ, Bool, true, false, cond, List, [], ◌∷◌, ◌++◌, Option, None, Some, refl, sym, ap, ◌∙◌, append_assoc}
-use Rattle.std.specs.Prelude.{if◌then◌else◌}
-use Rattle.std.specs.List.{slice_split, onto_first}
+use Rattle.std.specs.List.{AllByRecursion, fold, slice_split, onto_first}
 use Rattle.std.proofs.lemmas.List.{append-nil}
-use Rattle.cip_syntax.specs.Lines.{is_line_feed, is_filled, without_empty_end, lines}
+use Rattle.cip_syntax.specs.Lines.{is_line_feed, without_empty_end, lines}
 use Rattle.cip_reading.specs.Reading.{Reading, bind, is_done, line_taken, lines_taken}
+use Rattle.cip_reading.specs.Reading.Texts.{Stream, ended, byte_taken, bytes_taken}
 
--- the reader between two bytes: what was read of the lines that have ended, and the bytes of the line that has not
-pub record Stream : Type 0 where
-  pub reading : Option Reading
-  pub unended : List ℕ
-
--- what has been read where the text ends: the last line too
-abbrev pub ended : Stream → Option Reading
-ended t = bind t.reading (λ s. line_taken s t.unended)
-
--- a line feed ends the line, and any other byte is a further one of it
-abbrev pub byte_taken : Stream → ℕ → Stream
-byte_taken t byte =
-    if is_line_feed byte then record { reading = ended t; unended = [] }
-    else record { reading = t.reading; unended = t.unended ++ byte ∷ [] }
-
--- after bytes, one after another
-abbrev pub bytes_taken : Stream → List ℕ → Stream
-bytes_taken t [] = t
-bytes_taken t (byte ∷ bytes) = bytes_taken (byte_taken t byte) bytes
+-- as a fold
+pub fold-byte_taken : (t : Stream) (bytes : List ℕ) → fold byte_taken t bytes ≡ bytes_taken t bytes
+fold-byte_taken t [] = refl
+fold-byte_taken t (byte ∷ bytes) = fold-byte_taken (byte_taken t byte) bytes
 
 -- a text in parts
 pub bytes_taken-append : (t : Stream) (xs ys : List ℕ) → bytes_taken t (xs ++ ys) ≡ bytes_taken (bytes_taken t xs) ys
 bytes_taken-append t [] ys = refl
 bytes_taken-append t (x ∷ xs) ys = bytes_taken-append (byte_taken t x) xs ys
+
+-- bytes of one line
+pub bytes_taken-part : (t : Stream) (bytes : List ℕ) → AllByRecursion (λ byte. is_line_feed byte ≡ false) bytes → bytes_taken t bytes ≡ record { reading = t.reading; unended = t.unended ++ bytes }
+bytes_taken-part t [] h = λ i. record { reading = t.reading; unended = sym (append-nil t.unended) i }
+bytes_taken-part t (byte ∷ bytes) h =
+    ap (λ u. bytes_taken u bytes) (rw h.0 refl)
+    ∙ bytes_taken-part (record { reading = t.reading; unended = t.unended ++ byte ∷ [] }) bytes h.1
+    ∙ (λ i. record { reading = t.reading; unended = append_assoc t.unended (byte ∷ []) bytes i })
+
+-- bytes that end a line
+pub bytes_taken-line : (t : Stream) (bytes : List ℕ) → AllByRecursion (λ byte. is_line_feed byte ≡ false) bytes → bytes_taken t (bytes ++ 10 ∷ []) ≡ record { reading = bind t.reading (λ s. line_taken s (t.unended ++ bytes)); unended = [] }
+bytes_taken-line t bytes h = bytes_taken-append t bytes (10 ∷ []) ∙ ap (λ u. byte_taken u 10) (bytes_taken-part t bytes h)
+
+-- nothing more is read after a refusal
+pub bytes_taken-refused : (unended bytes : List ℕ) → (bytes_taken (record { reading = None; unended = unended }) bytes).reading ≡ None
+bytes_taken-refused unended [] = refl
+bytes_taken-refused unended (byte ∷ bytes) = go (is_line_feed byte) (bytes_taken-refused [] bytes) (bytes_taken-refused (unended ++ byte ∷ []) bytes)
+  where
+    go : (b : Bool) → (bytes_taken (record { reading = None; unended = [] }) bytes).reading ≡ None → (bytes_taken (record { reading = None; unended = unended ++ byte ∷ [] }) bytes).reading ≡ None → (bytes_taken (cond b (record { reading = None; unended = [] }) (record { reading = None; unended = unended ++ byte ∷ [] })) bytes).reading ≡ None
+    go true h k = h
+    go false h k = k
+
+-- nothing more is read after ENDATA
+pub bytes_taken-done : (s : Reading) (unended bytes : List ℕ) → is_done s.stage ≡ true → (bytes_taken (record { reading = Some s; unended = unended }) bytes).reading ≡ Some s
+bytes_taken-done s unended [] h = refl
+bytes_taken-done s unended (byte ∷ bytes) h = go (is_line_feed byte) (bytes_taken-done s [] bytes h) (bytes_taken-done s (unended ++ byte ∷ []) bytes h)
+  where
+    same : line_taken s unended ≡ Some s
+    same = rw h refl
+
+    go : (b : Bool) → (bytes_taken (record { reading = Some s; unended = [] }) bytes).reading ≡ Some s → (bytes_taken (record { reading = Some s; unended = unended ++ byte ∷ [] }) bytes).reading ≡ Some s → (bytes_taken (cond b (record { reading = line_taken s unended; unended = [] }) (record { reading = Some s; unended = unended ++ byte ∷ [] })) bytes).reading ≡ Some s
+    go true k l = ap (λ o. (bytes_taken (record { reading = o; unended = [] }) bytes).reading) same ∙ k
+    go false k l = l
 
 -- ---- an empty line says nothing
 
@@ -54,6 +73,7 @@ with_empty_end s (piece ∷ other ∷ pieces) = with_empty_end (bind s (λ t. li
 
 -- ---- bytes before the first piece
 
+-- pieces, with bytes in front of the first one
 abbrev before : List ℕ → List (List ℕ) → List (List ℕ)
 before bytes [] = bytes ∷ []
 before bytes (piece ∷ pieces) = (bytes ++ piece) ∷ pieces
@@ -69,6 +89,7 @@ at_split s (byte ∷ bytes) = go (is_line_feed byte)
     onto : (pieces : List (List ℕ)) → before [] (onto_first byte pieces) ≡ onto_first byte pieces
     onto [] = refl
     onto (piece ∷ pieces) = refl
+
     go : (b : Bool) → lines_taken s (before [] (cond b ([] ∷ slice_split is_line_feed bytes) (onto_first byte (slice_split is_line_feed bytes)))) ≡ lines_taken s (cond b ([] ∷ slice_split is_line_feed bytes) (onto_first byte (slice_split is_line_feed bytes)))
     go true = refl
     go false = ap (lines_taken s) (onto (slice_split is_line_feed bytes))

@@ -1,9 +1,9 @@
 -- Names and their numbers: what stands in a list, lists without repeats, and look-ups by number.
-use Rattle.std.proofs.Common.{◌≡◌, ℕ, zero, suc, ◌+◌, ◌<◌, ◌≤◌, Bool, true, false, cond, ◌⊎◌, inl, inr, List, [], ◌∷◌, ◌++◌, map, set, get_or, length, Option, None, Some, refl, sym, ap, ◌∙◌, subst, append_assoc, arith, add-one, add-suc, add-zero}
-use Rattle.std.specs.Prelude.{⊤, if◌then◌else◌}
+use Rattle.std.proofs.Common.{◌≡◌, ℕ, suc, ◌+◌, ◌≤◌, Bool, true, false, cond, ◌⊎◌, inl, inr, List, [], ◌∷◌, ◌++◌, map, set, get_or, length, None, Some, refl, sym, ap, ◌∙◌, subst, arith}
+use Rattle.std.specs.Prelude.{if◌then◌else◌}
 use Rattle.std.specs.Str.{bytes_eq}
 use Rattle.std.specs.List.{AllByRecursion, position_from}
-use Rattle.std.proofs.lemmas.List.{append-nil, map-append, length-map, length-append, set_at, get_or_at}
+use Rattle.std.proofs.lemmas.List.{map-append, length-map, set_at, get_or_at}
 use Rattle.std.proofs.lemmas.Slice.Eq.{bytes_eq-Decides}
 use Rattle.std.proofs.lemmas.Bool.{false_from_ne_true}
 use Rattle.cip_syntax.specs.ThinText.{IsIn, AreDistinct, not_again, without_repeats}
@@ -122,9 +122,11 @@ pub record IsPlace (names : List (List ℕ)) (name : List ℕ) (n : ℕ) : Type 
   pub place : length before ≡ n
   pub first : ¬ IsIn name before
 
+-- a name has a number, where the first one is i
 abbrev pub HasPlace : List (List ℕ) → List ℕ → ℕ → Type 0
 HasPlace names name i = (k : ℕ) × (position_from (bytes_eq name) i names ≡ Some (k + i)) × IsPlace names name k
 
+-- a name has no number
 abbrev pub HasNoPlace : List (List ℕ) → List ℕ → ℕ → Type 0
 HasNoPlace names name i = (position_from (bytes_eq name) i names ≡ None) × (¬ IsIn name names)
 
@@ -150,6 +152,7 @@ places_cases (other ∷ names) name i = go (names_cases name other) (places_case
 abbrev pub IsNumbered : List (List ℕ) → List ℕ → Type 0
 IsNumbered names name = (n : ℕ) × (number_of names name ≡ Some n) × IsPlace names name n
 
+-- a name stands nowhere
 abbrev pub IsNowhere : List (List ℕ) → List ℕ → Type 0
 IsNowhere names name = (number_of names name ≡ None) × (¬ IsIn name names)
 
@@ -189,13 +192,16 @@ map_set_at g h names name n p d e =
   where
     apart : AreDistinct (p.before ++ name ∷ p.after)
     apart = subst AreDistinct p.split d
+
     front : map h p.before ≡ map g p.before
     front = map_same g h p.before (λ o m. e o (subst (IsIn o) (sym p.split) (IsIn-left o p.before (name ∷ p.after) m)) (λ q. p.first (subst (λ x. IsIn x p.before) q m)))
+
     back : map h p.after ≡ map g p.after
     back = map_same g h p.after (λ o m. e o (subst (IsIn o) (sym p.split) (IsIn-right o p.before (name ∷ p.after) (inr m))) (λ q. distinct_after p.before name p.after apart (subst (λ x. IsIn x p.after) q m)))
 
 -- ---- the last name of a list without repeats
 
+-- a name is the last one
 pub record IsLast (names : List (List ℕ)) (name : List ℕ) : Type 0 where
   pub before : List (List ℕ)
   pub split : names ≡ before ++ name ∷ []
@@ -250,6 +256,18 @@ with_last_distinct (a ∷ b ∷ names) name h = (λ m. h.0 (with_last_keeps (b �
 
 pub with_last_all : (P : List ℕ → Type 0) (names : List (List ℕ)) (name : List ℕ) → AllByRecursion P (with_last names name) → AllByRecursion P names
 with_last_all P names name h = all_from_in P names (λ other m. all_in P other (with_last names name) (with_last_keeps names name other m) h)
+
+pub with_last_push_all : (P : List ℕ → Type 0) (names : List (List ℕ)) (name : List ℕ) → AllByRecursion P names → P name → AllByRecursion P (with_last names name)
+with_last_push_all P [] name h k = (k, tt)
+with_last_push_all P (a ∷ []) name h k = go (bytes_eq a name)
+  where
+    go : (b : Bool) → AllByRecursion P (cond b (a ∷ []) (a ∷ name ∷ []))
+    go true = h
+    go false = (h.0, (k, tt))
+with_last_push_all P (a ∷ b ∷ names) name h k = (h.0, with_last_push_all P (b ∷ names) name h.1 k)
+
+pub last_in : (names : List (List ℕ)) (name : List ℕ) → IsLast names name → IsIn name names
+last_in names name l = subst (IsIn name) (sym l.split) (IsIn-push name l.before)
 
 pub with_last_length : (names : List (List ℕ)) (name : List ℕ) → length names ≤ length (with_last names name)
 with_last_length [] name = omega arith
