@@ -3,7 +3,7 @@ use Rattle.std.proofs.Common.{◌≡◌, ℕ, Bool, true, false, List, [], ◌�
 use Rattle.std.proofs.lemmas.Bool.Decides.{nat_tests}
 use Rattle.cip_syntax.specs.Lines.{is_line_feed}
 use Rattle.cip_reading.specs.Reading.{Reading, bind, line_taken}
-use Rattle.cip_reading.specs.Reading.Bytes.{Stream, byte_taken}
+use Rattle.cip_reading.specs.Reading.Texts.{Stream, byte_taken}
 use Rattle.cip_mps.specs.declared.refusal.Refusal.{Refusal}
 use Rattle.cip_mps.specs.declared.refusal.Refusal.TheVariants.{NotThin}
 use Rattle.cip_mps.specs.HasRead.{Keeps}

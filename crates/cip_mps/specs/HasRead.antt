@@ -1,7 +1,7 @@
 -- What a reader has read.
-use Rattle.std.specs.Prelude.{◌≡◌, ℕ, Bool, true, false, List, [], Option, None, Some}
-use Rattle.cip_reading.specs.Reading.{Reading, start}
-use Rattle.cip_reading.specs.Reading.Bytes.{Stream, bytes_taken}
+use Rattle.std.specs.Prelude.{◌≡◌, ℕ, Bool, true, false, List, Option, None, Some}
+use Rattle.cip_reading.specs.Reading.{Reading}
+use Rattle.cip_reading.specs.Reading.Texts.{Stream, empty_stream, bytes_taken}
 use Rattle.cip_mps.specs.Drafts.{reading}
 use Rattle.cip_mps.specs.declared.reader.Reader.{Reader as TheReader}
 
@@ -14,10 +14,6 @@ Keeps refused kept line (Some s) unended = (refused ≡ false) × (kept ≡ s) �
 abbrev pub StandsAt : TheReader → Stream → Type 0
 StandsAt reader stream = Keeps reader.refused (reading reader.draft) reader.line.items stream.reading stream.unended
 
--- nothing read yet
-abbrev pub beginning : Stream
-beginning = record { reading = Some start; unended = [] }
-
 -- the reader has read the bytes of this text, one after another
 pub record HasRead (reader : TheReader) (text : List ℕ) : Type 0 where
-  pub stands : StandsAt reader (bytes_taken beginning text)
+  pub stands : StandsAt reader (bytes_taken empty_stream text)

@@ -1,7 +1,7 @@
 use Rattle.std.proofs.Common.{◌∷◌, [], take, get_or, arith}
 use Rattle.std.proofs.lemmas.List.{take_more, take_all}
-use Rattle.cip_reading.specs.Reading.Bytes.{bytes_taken, bytes_taken-append}
-use Rattle.cip_mps.specs.HasRead.{beginning}
+use Rattle.cip_reading.specs.Reading.Texts.{empty_stream, bytes_taken}
+use Rattle.cip_reading.specs.Reading.Bytes.{bytes_taken-append}
 use Rattle.cip_mps.proofs.reader.Reader.take_piece.Goals as goal
 
 pub loop-byte-preserved : goal.loop-byte-preserved
@@ -13,4 +13,4 @@ loop-byte-preserved c = λ stream h.
 pub returns : goal.returns
 returns c = λ text h.
     let piece = c.args.piece.now in
-    record { stands = rw (bytes_taken-append beginning text piece) (rw (take_all c.loop-byte.byte-index piece (omega arith)) at (c.loop-byte.invariant (bytes_taken beginning text) h.stands)) }
+    record { stands = rw (bytes_taken-append empty_stream text piece) (rw (take_all c.loop-byte.byte-index piece (omega arith)) at (c.loop-byte.invariant (bytes_taken empty_stream text) h.stands)) }

@@ -1,5 +1,5 @@
 use Rattle.std.proofs.Common.{take}
-use Rattle.cip_reading.specs.Reading.Bytes.{Stream, bytes_taken}
+use Rattle.cip_reading.specs.Reading.Texts.{Stream, bytes_taken}
 use Rattle.cip_mps.specs.HasRead.{StandsAt}
 use Rattle.cip_mps.proofs.reader.Reader.take_piece.Given as goal
 
