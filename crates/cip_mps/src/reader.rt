@@ -1,8 +1,6 @@
 //! Reading a thin text, in whatever pieces it comes.
 ghost use Rattle.std.specs.Prelude.{◌≡◌, ◌++◌, [], ℕ, List, Some, MatchResult, OnOk};
-ghost use Rattle.cip_syntax.specs.Lines.{lines};
-ghost use Rattle.cip_reading.specs.Reading.{start, bind, outcome, lines_taken};
-ghost use Rattle.cip_reading.specs.Reading.Texts.{Stream, byte_taken, ended};
+ghost use Rattle.cip_reading.specs.Reading.Texts.{read, Stream, byte_taken, ended};
 ghost use Rattle.cip_mps.specs.HasRead.{HasRead, StandsAt};
 ghost use Rattle.cip_mps.specs.Refusals.{IsRefusal};
 
@@ -79,9 +77,8 @@ impl Reader {
 
     /// The program of the text, where its last byte was read.
     pub fn finish(mut self) -> Result<Program, Refusal>
-        ensures { (text : List ℕ) → HasRead self text →
-            let said = bind (lines_taken (Some start) (lines text)) outcome in
-            MatchResult result (λ program. said ≡ Some program) (IsRefusal said) }
+        ensures { (text : List ℕ) → HasRead self text
+            → MatchResult result (λ program. read text ≡ Some program) (IsRefusal (read text)) }
     {
         self.end_line()?;
         let Reader { draft, refused, .. } = self;
