@@ -1,0 +1,100 @@
+//! A text whose search spends the node budget.
+use crate::cases::solve;
+use std::test::Fail;
+
+/// As many as possible of 21 columns between 0 and 1, where twice their sum is at most 21. The box
+/// bound, 21, is never met, so each of the 2^21 points would be checked, in more than 4,000,000
+/// nodes. Columns go from 0 to 1, the last one first, so the first point with ten columns at 1 has
+/// the last ten.
+const ODD: &str = "NAME odd
+OBJSENSE
+ MAX
+ROWS
+ N COST
+ L R
+COLUMNS
+ M 'MARKER' 'INTORG'
+ a COST 1 R 2
+ b COST 1 R 2
+ c COST 1 R 2
+ d COST 1 R 2
+ e COST 1 R 2
+ f COST 1 R 2
+ g COST 1 R 2
+ h COST 1 R 2
+ i COST 1 R 2
+ j COST 1 R 2
+ k COST 1 R 2
+ l COST 1 R 2
+ m COST 1 R 2
+ n COST 1 R 2
+ o COST 1 R 2
+ p COST 1 R 2
+ q COST 1 R 2
+ r COST 1 R 2
+ s COST 1 R 2
+ t COST 1 R 2
+ u COST 1 R 2
+ M 'MARKER' 'INTEND'
+RHS
+ RHS R 21
+BOUNDS
+ UP B a 1
+ UP B b 1
+ UP B c 1
+ UP B d 1
+ UP B e 1
+ UP B f 1
+ UP B g 1
+ UP B h 1
+ UP B i 1
+ UP B j 1
+ UP B k 1
+ UP B l 1
+ UP B m 1
+ UP B n 1
+ UP B o 1
+ UP B p 1
+ UP B q 1
+ UP B r 1
+ UP B s 1
+ UP B t 1
+ UP B u 1
+ENDATA
+";
+
+const SPENT: &str = "status nodelimit
+cost 10
+bound 21
+a 0
+b 0
+c 0
+d 0
+e 0
+f 0
+g 0
+h 0
+i 0
+j 0
+k 0
+l 1
+m 1
+n 1
+o 1
+p 1
+q 1
+r 1
+s 1
+t 1
+u 1
+end
+";
+
+#[test]
+fn the_node_budget_is_spent(rt: HostRuntime) -> Result<(), Fail> {
+    let outcome = solve(rt.alloc(), ODD.as_bytes())?;
+    assert_eq!(rt; outcome.taken.as_slice(), SPENT.as_bytes());
+    assert_eq!(rt; outcome.status, 10);
+    assert_eq!(rt; outcome.entries.as_slice(), &[1_000_000usize][..]);
+    Ok(())
+}
