@@ -92,7 +92,7 @@ within_added k m n sum a b r s t h =
     let p = within_product m n a b s t (omega (arith, h)) in
     rw p.0 (sum_is (k + m * n) sum (a *ℚ b) (within_sum k (m * n) sum (a *ℚ b) r p.1 h))
 
-then_within : (n : ℕ) (r : Result ℚ Wide) (m : ℕ) (next : ℚ → Result ℚ Wide) → IsOkWithin m r → ((q : ℚ) → IsWithin m q → IsOkWithin n (next q)) → IsOkWithin n (and_then r next)
+pub then_within : (n : ℕ) (r : Result ℚ Wide) (m : ℕ) (next : ℚ → Result ℚ Wide) → IsOkWithin m r → ((q : ℚ) → IsWithin m q → IsOkWithin n (next q)) → IsOkWithin n (and_then r next)
 then_within n (Ok q) m next h f = f q h
 then_within n (Err wide) m next h f = absurd h
 

@@ -14,7 +14,7 @@ use Rattle.cip_problem.specs.Program.{Term, Sides, Row, Program}
 use Rattle.cip_problem.specs.Activity.{value_at}
 use Rattle.cip_problem.specs.Box.{Between, IsInBox, is_between}
 use Rattle.cip_problem.specs.Points.{AreWhole}
-use Rattle.cip_lin.specs.Small.{IsWithin, IsOkWithin, TermsWithin, within_activity, within_added}
+use Rattle.cip_lin.specs.Small.{IsWithin, IsOkWithin, TermsWithin, then_within, within_activity, within_added}
 use Rattle.cip_lin.specs.Sums.{and_then, product_added, activity_from, least_added, least_then, least_at, least_side, least_of}
 use Rattle.cip_lin.specs.declared.outcomes.Least.{Least}
 use Rattle.cip_lin.specs.declared.outcomes.Least.TheVariants.{Value, NoBound, Wide as TooWide}
@@ -120,10 +120,6 @@ rows_not_wide at (row ∷ rows) point s h =
     (row_not_wide (0 + length row.terms * (few * few)) at row (activity_from zeroℚ row.terms point)
     (within_activity 0 few few zeroℚ row.terms point (zero_within 0) (terms_within row.terms point s.0.coefficients h) (omega (arith, short))))
     (rows_not_wide (at + 1) rows point s.1 h)
-
-then_within : (n : ℕ) (r : Result ℚ Overflow) (m : ℕ) (next : ℚ → Result ℚ Overflow) → IsOkWithin m r → ((q : ℚ) → IsWithin m q → IsOkWithin n (next q)) → IsOkWithin n (and_then r next)
-then_within n (Ok q) m next h f = f q h
-then_within n (Err wide) m next h f = absurd h
 
 cost_within : (k : ℕ) (sum : ℚ) (costs point : List ℚ) → IsWithin k sum → AllByRecursion (IsWithin few) costs → AllByRecursion (IsWithin few) point → k + length costs * (few * few) ≤ largest → IsOkWithin (k + length costs * (few * few)) (cost_from sum costs point)
 cost_within k sum [] point r c h l = subst (λ j. IsWithin j sum) (omega arith) r
