@@ -1,14 +1,17 @@
 -- The clauses of `run`, each from what the call does.
-use Rattle.std.specs.Prelude.{◌≡◌, ◌⊎◌, ℕ, List, Option, None, Some, IfSome, refl, length}
+use Rattle.std.specs.Prelude.{◌≡◌, ◌⊎◌, ℕ, List, Option, None, Some, IfSome, refl, length, ◌*◌, ◌-◌, ◌≤◌, ◌<◌, max}
 use Rattle.std.proofs.Common.{sym, ap, ◌∙◌, subst, inl, inr, arith}
 use Rattle.cip_io.specs.Faults.{Rose}
 use Rattle.cip_problem.specs.Program.{Program}
+use Rattle.cip_syntax.specs.Headline.{IsSpent}
+use Rattle.cip_solve.specs.Budgets.{budget_suffices}
+use Rattle.cip_problem.specs.Wholes.{assignments}
 use Rattle.cip_syntax.specs.CommandLine.{Job, Solve}
 use Rattle.cip_syntax.specs.Figures.{Status, Optimal, NodeLimit, NoMemory, exit_status, answer_text}
 use Rattle.cip_syntax.specs.ThinText.{IsThin}
 use Rattle.cip_syntax.specs.ThinText.Parts.{one_program}
 use Rattle.cip_main.specs.Answering.{node_limit, IsLogged}
-use Rattle.cip_main.specs.Running.{Call, Tells, IsPulledWhole, IsUsage, IsReadFault, IsRefused, IsNoMemory, IsAnswered, Ran, refuses_words, fails_to_read, refuses_text, lacks_memory, gives_answer, IsStatus, optimal, usage, read_fault, refused, write_fault, no_memory, spent, TellsTruth, Headline, UsageClause, ReadFaultClause, RefusedClause, WriteFaultClause, SpentLog, NodeLimitClause, MemoryClause, Runs}
+use Rattle.cip_main.specs.Running.{Call, Tells, IsPulledWhole, IsUsage, IsReadFault, IsRefused, IsNoMemory, IsAnswered, Ran, refuses_words, fails_to_read, refuses_text, lacks_memory, gives_answer, IsStatus, optimal, usage, read_fault, refused, write_fault, no_memory, spent, TellsTruth, Headline, UsageClause, ReadFaultClause, RefusedClause, WriteFaultClause, SpentLog, NodeLimitClause, MemoryClause, Runs, Asks}
 
 -- the status is this one, or 5 after a fault of the sink
 record StatusIs (call : Call) (status : ℕ) : Type 0 where
@@ -148,12 +151,12 @@ is_spent NoMemory h = absurd (omega (arith, h))
 not_spent : NodeLimit ≡ NoMemory → ⊥
 not_spent e = cc
 
-pub node_limit_clause : (call : Call) → Ran call → NodeLimitClause call
-node_limit_clause call (refuses_words u) e = absurd (other call 2 10 (status_is call _ 2 u.tells) e (λ h. omega (arith, h)) (λ h. omega (arith, h)))
-node_limit_clause call (fails_to_read model job r) e = absurd (other call 3 10 (status_is call _ 3 r.tells) e (λ h. omega (arith, h)) (λ h. omega (arith, h)))
-node_limit_clause call (refuses_text model job r) e = absurd (other call 4 10 (status_is call _ 4 r.tells) e (λ h. omega (arith, h)) (λ h. omega (arith, h)))
-node_limit_clause call (lacks_memory model job r) e = absurd (other call 6 10 (status_is call _ 6 r.tells) e (λ h. omega (arith, h)) (λ h. omega (arith, h)))
-node_limit_clause call (gives_answer model job a) e = by_log a.answers.logged
+pub spent_log : (call : Call) → Ran call → call.status ≡ 10 → SpentLog call
+spent_log call (refuses_words u) e = absurd (other call 2 10 (status_is call _ 2 u.tells) e (λ h. omega (arith, h)) (λ h. omega (arith, h)))
+spent_log call (fails_to_read model job r) e = absurd (other call 3 10 (status_is call _ 3 r.tells) e (λ h. omega (arith, h)) (λ h. omega (arith, h)))
+spent_log call (refuses_text model job r) e = absurd (other call 4 10 (status_is call _ 4 r.tells) e (λ h. omega (arith, h)) (λ h. omega (arith, h)))
+spent_log call (lacks_memory model job r) e = absurd (other call 6 10 (status_is call _ 6 r.tells) e (λ h. omega (arith, h)) (λ h. omega (arith, h)))
+spent_log call (gives_answer model job a) e = by_log a.answers.logged
   where
     s : StatusIs call (exit_status a.answers.figures.status)
     s = status_is call (answer_text a.program.column_names a.answers.figures) (exit_status a.answers.figures.status) a.answers.told
@@ -167,6 +170,31 @@ node_limit_clause call (gives_answer model job a) e = by_log a.answers.logged
     by_log : IsLogged call.logs call.logs_after a.answers.entries a.answers.figures.status → SpentLog call
     by_log (inl l) = record { log = l.0; added = l.1; full = subst (λ es. length es ≡ node_limit) l.2 (a.answers.are_true.spent limit).full }
     by_log (inr l) = absurd (not_spent (sym limit ∙ l.2))
+
+no_node_limit : (call : Call) (program : Program) (n : ℕ) → assignments program.integral program.bounds ≡ Some n → max 1 (2 * n - 1) ≤ node_limit → TellsTruth call program → call.status ≡ 10 → ⊥
+no_node_limit call program n e l t ten = elim (status_is call _ _ t.told).either [
+  | inl h ↦ not_long (t.are_true.spent (is_spent t.figures.status (sym h ∙ ten)))
+  | inr h ↦ five (sym h.0 ∙ ten)
+]
+  where
+    five : ◌≡◌ {A = ℕ} 5 10 → ⊥
+    five h = omega (arith, h)
+
+    not_long : IsSpent program node_limit t.entries t.figures → ⊥
+    not_long s =
+        let short : length t.entries < max 1 (2 * n - 1) = budget_suffices program t.entries _ n t.are_true.logged s.matter e in
+        let full : length t.entries ≡ node_limit = s.full in
+        omega (arith, short, full, l)
+
+ample : (call : Call) → Ran call → (text : List ℕ) (program : Program) (n : ℕ) → Asks call text program → assignments program.integral program.bounds ≡ Some n → max 1 (2 * n - 1) ≤ node_limit → ¬ (call.status ≡ 10)
+ample call r text program n asks e l ten = elim (headline call r text program asks) [
+  | inl t ↦ no_node_limit call program n e l t ten
+  | inr (inl f) ↦ other call 3 10 (status_is call _ 3 f.tells) ten (λ h. omega (arith, h)) (λ h. omega (arith, h))
+  | inr (inr m) ↦ other call 6 10 (status_is call _ 6 m.tells) ten (λ h. omega (arith, h)) (λ h. omega (arith, h))
+]
+
+pub node_limit_clause : (call : Call) → Ran call → NodeLimitClause call
+node_limit_clause call r = record { spent = spent_log call r; ample = ample call r }
 
 pub memory_clause : (call : Call) → Ran call → MemoryClause call
 memory_clause call (refuses_words u) e = absurd (other call 2 6 (status_is call _ 2 u.tells) e (λ h. omega (arith, h)) (λ h. omega (arith, h)))

@@ -1,7 +1,8 @@
 -- What a call of `run` does: by the words, what the store tells, what the sink took, and the logs.
-use Rattle.std.specs.Prelude.{◌≡◌, ◌⊎◌, ◌++◌, ◌∷◌, [], ℕ, List, Option, None, Some, IfSome, length}
+use Rattle.std.specs.Prelude.{◌≢◌, ◌*◌, ◌-◌, ◌≤◌, max, ◌≡◌, ◌⊎◌, ◌++◌, ◌∷◌, [], ℕ, List, Option, None, Some, IfSome, length}
 use Rattle.cip_io.specs.Faults.{Rose}
 use Rattle.cip_problem.specs.Program.{Program}
+use Rattle.cip_problem.specs.Wholes.{assignments}
 use Rattle.cip_syntax.specs.CommandLine.{Job, Solve}
 use Rattle.cip_syntax.specs.Figures.{usage_text, read_fault_text, no_memory_text, not_thin_text}
 use Rattle.cip_syntax.specs.ThinText.{IsThin}
@@ -164,8 +165,11 @@ pub record SpentLog (call : Call) : Type 0 where
   pub added : call.logs_after ≡ call.logs ++ log ∷ []
   pub full : length (entries_of log) ≡ node_limit
 
-abbrev pub NodeLimitClause : Call → Type 0
-NodeLimitClause call = call.status ≡ 10 → SpentLog call
+-- and it never comes where the budget is at least twice the number of whole assignments of the program's box, less one
+pub record NodeLimitClause (call : Call) : Type 0 where
+  pub spent : call.status ≡ 10 → SpentLog call
+  pub ample : (text : List ℕ) (program : Program) (n : ℕ) → Asks call text program
+      → assignments program.integral program.bounds ≡ Some n → max 1 (2 * n - 1) ≤ node_limit → call.status ≢ 10
 
 -- status 6 comes only where memory was refused: before the text was read, or with figures that are as true as in any
 -- other answer

@@ -11,7 +11,7 @@ use Rattle.cip_problem.specs.Points.{IsFeasible, cost_of, IsLowerBound}
 use Rattle.cip_problem.specs.Log.{Entry, Node, root, node_of, IsOpen, HasOpenNode, matters}
 use Rattle.cip_solve.specs.Splits.{IsWholeRange}
 use Rattle.cip_solve.specs.Searching.{IsInner, Searching}
-use Rattle.cip_solve.proofs.OneMore.{contains_cons, node_of_here, node_of_later, node_of_among}
+use Rattle.cip_solve.specs.OneMore.{contains_cons, node_of_here, node_of_later, node_of_among}
 
 -- ---- the start
 

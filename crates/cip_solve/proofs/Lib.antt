@@ -3,7 +3,6 @@ pub mod Comparisons
 pub mod Ends
 pub mod Leaves
 pub mod Offers
-pub mod OneMore
 pub mod Places
 pub mod Ranges
 pub mod Steps

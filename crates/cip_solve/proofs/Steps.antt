@@ -12,7 +12,7 @@ use Rattle.cip_problem.specs.Log.{Split, Closed, Entry, Node, root, node_of, hal
 use Rattle.cip_problem.specs.Log.Halves.{halves_cover, low_half_within, high_half_within}
 use Rattle.cip_solve.specs.Splits.{IsWholeRange}
 use Rattle.cip_solve.specs.Searching.{given_by, IsInOne, IsInner, Searching}
-use Rattle.cip_solve.proofs.OneMore.{pop_all, pairwise_pop, pairwise_push, contains_cons, none_or_some, node_of_kept, node_of_new, node_of_here, node_of_later, node_of_among, given_more, follow_more, taken_more, taken_before, taken_last, taken_given}
+use Rattle.cip_solve.specs.OneMore.{pop_all, pairwise_pop, pairwise_push, contains_cons, none_or_some, node_of_kept, node_of_new, node_of_here, node_of_later, node_of_among, given_more, follow_more, taken_more, taken_before, taken_last, taken_given}
 
 -- ---- points in one of the nodes
 

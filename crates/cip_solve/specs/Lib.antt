@@ -1,7 +1,9 @@
 pub mod Boxes
+pub mod Budgets
 pub mod CanBound
 pub mod Kept
 pub mod Logs
+pub mod OneMore
 pub mod Right
 pub mod Searching
 pub mod Splits
