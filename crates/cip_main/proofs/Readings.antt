@@ -68,15 +68,7 @@ too_long reader held left pulled e r = record {
 pub rose_later : (old now new : ℕ) → old ≤ now → Rose now new → Rose old new
 rose_later old now new l h = omega (arith, l, h)
 
-pub cause_later : (old now new : ℕ) (fault : ReadFault) → old ≤ now → PieceCause now new fault → PieceCause old new fault
-cause_later old now new Store l h = rose_later old now new l h
-cause_later old now new NotThin l h = h
-cause_later old now new NoMemory l h = h
-
 -- ---- the end of a text
-
-told : (held : Option (List ℕ)) (bytes : List ℕ) → IfSome held (λ text. text ≡ bytes) → IfSome held (λ text. text ≡ bytes)
-told held bytes h = h
 
 not_thin_all : (held : Option (List ℕ)) (bytes : List ℕ) → IfSome held (λ text. text ≡ bytes) → read bytes ≡ None → IfSome held (λ text. (program : Program) → ¬ IsThin text program)
 not_thin_all None bytes h e = tt

@@ -68,6 +68,7 @@ pub record IsUsage (call : Call) : Type 0 where
   pub no_job : call.job ≡ None
   pub tells : Tells call usage_text 2
   pub untouched : call.store_after.left ≡ call.store.left
+  pub no_fault : call.store_after.faults ≡ call.store.faults
   pub no_search : call.logs_after ≡ call.logs
 
 -- the store failed
@@ -83,7 +84,7 @@ pub record IsRefused (call : Call) (text : Option (List ℕ)) : Type 0 where
   pub pulled : IsPulledWhole call text
   pub no_search : call.logs_after ≡ call.logs
 
--- memory was refused before the text was read
+-- want of memory is answered, without figures; nothing ties this answer to a refused growth, or to a moment of the call
 pub record IsNoMemory (call : Call) : Type 0 where
   pub tells : Tells call no_memory_text 6
   pub no_search : call.logs_after ≡ call.logs
@@ -127,8 +128,8 @@ pub record Asks (call : Call) (text : List ℕ) (program : Program) : Type 0 whe
   pub held : call.store.holds model ≡ Some text
   pub thin : IsThin text program
 
--- where the words ask for the program of a thin text, true figures of it are told, unless the store failed or memory
--- was refused before the text was read
+-- where the words ask for the program of a thin text, true figures of it are told, unless the store failed or want of
+-- memory is answered without figures
 abbrev pub Headline : Call → Type 0
 Headline call =
     (text : List ℕ) (program : Program) → Asks call text program
@@ -171,8 +172,7 @@ pub record NodeLimitClause (call : Call) : Type 0 where
   pub ample : (text : List ℕ) (program : Program) (n : ℕ) → Asks call text program
       → assignments program.integral program.bounds ≡ Some n → max 1 (2 * n - 1) ≤ node_limit → call.status ≢ 10
 
--- status 6 comes only where memory was refused: before the text was read, or with figures that are as true as in any
--- other answer
+-- status 6 comes without figures, or with figures that are as true as in any other answer
 abbrev pub MemoryClause : Call → Type 0
 MemoryClause call =
     call.status ≡ 6 → IsNoMemory call ⊎ ((model : List ℕ) × (call.job ≡ Some (Solve model)) × IsAnswered call (call.store.holds model))

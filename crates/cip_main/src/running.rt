@@ -30,14 +30,6 @@ const REFUSED: &[u8] = b"status refused\ntext model\nline 1\nkind 21 OutOfProfil
 
 const NO_MEMORY: &[u8] = b"status nomemory\nend\n";
 
-/// The fixed answers are the texts of the definitions.
-pub fn fixed_answers()
-    ensures usage { USAGE.now ≡ usage_text }
-    ensures read_fault { READ_FAULT.now ≡ read_fault_text }
-    ensures refused { REFUSED.now ≡ not_thin_text }
-    ensures no_memory { NO_MEMORY.now ≡ no_memory_text }
-{}
-
 /// Does all that the program does, and answers its exit status:
 ///
 /// - 0: an optimal point was printed;

@@ -6,7 +6,7 @@ use Rattle.cip_main.proofs.running.run.Goals as goal
 
 pub returns-in_default : goal.returns-in_default
 returns-in_default g c =
-    runs _ (refuses_words (record { no_job = c.in_default.ensures; tells = c.say.ensures.said; untouched = refl; no_search = refl }))
+    runs _ (refuses_words (record { no_job = c.in_default.ensures; tells = c.say.ensures.said; untouched = refl; no_fault = refl; no_search = refl }))
 
 pub solve_and_report-requires : goal.solve_and_report-requires
 solve_and_report-requires g c = has_text _ c.in-Ok.program c.in-Ok.ensures.read
