@@ -12,11 +12,14 @@ use std::marker::Model;
 /// Why two integers make no fraction.
 #[derive(Clone, Copy, PartialEq, Eq, Debug)]
 pub enum FracFault {
+    /// The number below is 0.
     ZeroBelow,
+    /// In lowest terms one of the two numbers is above 2^127-1 in magnitude.
     Wide,
 }
 
-/// A fraction in lowest terms, the denominator positive, and both below 2^127 in magnitude.
+/// A fraction in lowest terms: the numerator from -(2^127-1) to 2^127-1, the denominator from 1 to 2^127-1.
+/// A contract sees it as the rational number that it stands for.
 #[derive(Clone, Copy, Debug)]
 pub struct Frac {
     numerator: i128,
@@ -68,6 +71,7 @@ impl From<i64> for Frac {
 impl Frac {
     ghost use Rattle.cip_frac.specs.Terms.{AreLowest};
 
+    /// The number 0.
     #[inline]
     pub fn zero() -> Frac
         ensures { result ≡ zeroℚ }
@@ -78,6 +82,7 @@ impl Frac {
         }
     }
 
+    /// The number 1.
     #[inline]
     pub fn one() -> Frac
         ensures { result ≡ oneℚ }
@@ -88,7 +93,8 @@ impl Frac {
         }
     }
 
-    /// p / q
+    /// p / q in lowest terms. `ZeroBelow` comes exactly where q is 0; `Wide` exactly where it isn't, and in lowest
+    /// terms the numerator or the denominator is above 2^127-1 in magnitude.
     pub fn new(p: i128, q: i128) -> Result<Frac, FracFault>
         ensures { MatchResult result (λ value. (q ≢ pos 0) × (value ≡ quotient_of p q)) (IsFaultOf p q) }
     {
@@ -110,7 +116,7 @@ impl Frac {
         })
     }
 
-    /// p itself, but for -2^127.
+    /// p itself. `Wide` comes for -2^127 alone, and no other fault.
     #[inline]
     pub fn whole(p: i128) -> Result<Frac, FracFault>
         ensures { MatchResult result (λ value. value ≡ integer p)
@@ -125,6 +131,7 @@ impl Frac {
         })
     }
 
+    /// The numerator in lowest terms, which has the sign of the number: from -(2^127-1) to 2^127-1.
     #[inline]
     pub fn numerator(self) -> i128
         ensures value { result ≡ numerator self }
@@ -133,6 +140,7 @@ impl Frac {
         self.numerator
     }
 
+    /// The denominator in lowest terms: from 1 to 2^127-1.
     #[inline]
     pub fn denominator(self) -> i128
         ensures value { result ≡ pos (denominator self) }
@@ -141,6 +149,7 @@ impl Frac {
         self.denominator as i128
     }
 
+    /// The number with the other sign; always in range.
     #[inline]
     pub fn neg(self) -> Frac
         ensures { result ≡ negate self }
@@ -151,6 +160,7 @@ impl Frac {
         }
     }
 
+    /// How far the number is from 0; always in range.
     #[inline]
     pub fn abs(self) -> Frac
         ensures { result ≡ absolute self }
@@ -158,6 +168,7 @@ impl Frac {
         if self.numerator < 0 { self.neg() } else { self }
     }
 
+    /// Whether the number is whole: its denominator in lowest terms is 1.
     #[inline]
     pub fn is_whole(self) -> bool
         ensures { IsTrue result ↔ IsWhole self }
@@ -165,6 +176,7 @@ impl Frac {
         self.denominator == 1
     }
 
+    /// Whether the number is 0.
     #[inline]
     pub fn is_zero(self) -> bool
         ensures { IsTrue result ↔ (self ≡ zeroℚ) }
@@ -172,6 +184,7 @@ impl Frac {
         self.numerator == 0
     }
 
+    /// Whether the number is below 0.
     #[inline]
     pub fn is_negative(self) -> bool
         ensures { IsTrue result ↔ (self <ℚ zeroℚ) }
@@ -179,6 +192,7 @@ impl Frac {
         self.numerator < 0
     }
 
+    /// Whether the number is above 0.
     #[inline]
     pub fn is_positive(self) -> bool
         ensures { IsTrue result ↔ (zeroℚ <ℚ self) }
@@ -186,6 +200,7 @@ impl Frac {
         self.numerator > 0
     }
 
+    /// The greatest whole number that is at most this one: from -(2^127-1) to 2^127-1.
     #[inline]
     pub fn floor(self) -> i128
         ensures { result ≡ floor self }
@@ -193,6 +208,7 @@ impl Frac {
         floor_part_of(self.numerator, self.denominator)
     }
 
+    /// The least whole number that is at least this one: from -(2^127-1) to 2^127-1.
     #[inline]
     pub fn ceil(self) -> i128
         ensures { result ≡ ceil self }

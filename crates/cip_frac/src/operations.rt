@@ -9,23 +9,33 @@ use crate::bounded::{
 use crate::fraction::Frac;
 use crate::gcd::gcd;
 
+/// Which of the four operations it was.
 #[derive(Clone, Copy, PartialEq, Eq, Debug)]
 pub enum Operation {
+    /// `add`
     Sum,
+    /// `sub`
     Difference,
+    /// `mul`
     Product,
+    /// `div`
     Quotient,
 }
 
 /// An operation that goes past the range, and the two numbers it was given.
 #[derive(Clone, Copy, PartialEq, Eq, Debug)]
 pub struct Wide {
+    /// The operation.
     pub op: Operation,
+    /// Its first number: that which was added to, subtracted from, multiplied or divided.
     pub left: Frac,
+    /// Its second number.
     pub right: Frac,
 }
 
 impl Frac {
+    /// The exact sum, formed at the least common denominator. `Wide` comes exactly where there, before anything
+    /// is cancelled, a numerator, their sum or the denominator is above 2^127-1 in magnitude.
     #[inline]
     pub fn add(self, other: Frac) -> Result<Frac, Wide>
         ensures { MatchResult result
@@ -43,6 +53,8 @@ impl Frac {
         }
     }
 
+    /// The exact difference: the sum with the other's negative. `Wide` comes exactly where that sum overflows, as
+    /// `add` says it, and names the two numbers as they were given.
     #[inline]
     pub fn sub(self, other: Frac) -> Result<Frac, Wide>
         ensures { MatchResult result
@@ -60,6 +72,8 @@ impl Frac {
         }
     }
 
+    /// The exact product. `Wide` comes exactly where in lowest terms its numerator or its denominator is above
+    /// 2^127-1 in magnitude.
     #[inline]
     pub fn mul(self, other: Frac) -> Result<Frac, Wide>
         ensures { MatchResult result
@@ -77,6 +91,8 @@ impl Frac {
         }
     }
 
+    /// The exact quotient; the other number must not be 0. `Wide` comes exactly where in lowest terms its numerator
+    /// or its denominator is above 2^127-1 in magnitude.
     #[inline]
     pub fn div(self, other: Frac) -> Result<Frac, Wide>
         requires { other ≢ zeroℚ }

@@ -19,6 +19,8 @@ fn put(buffer: &mut [u8; 84], at: usize, text: &[u8]) -> usize
 }
 
 impl Frac {
+    /// Writes the text of the number at the front of the buffer, and answers how many bytes it has. It is `p`, or
+    /// `p/q` in lowest terms, with a `-` before a p below 0. The buffer's bytes after the text stay as they were.
     pub fn write_into(&self, buffer: &mut [u8; 84]) -> usize
         ensures within { result ≤ 84 }
         ensures text { take result buffer.new ≡ fraction_text self.now }
