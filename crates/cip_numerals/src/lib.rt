@@ -4,6 +4,7 @@
 
 ghost use Rattle.cip_numerals.specs.Statements.{TextsTellNumbers};
 
+/// Two numbers with the same text are the same number.
 pub fn texts_tell_numbers()
     ensures { TextsTellNumbers }
 {}
