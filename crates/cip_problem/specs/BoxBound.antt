@@ -19,7 +19,8 @@ product_at cost (Some side) = Some (cost *ℚ side)
 -- at the low side, and a column without a cost costs 0; none where that side is open
 abbrev pub least_cost : ℚ → Sides → Option ℚ
 least_cost cost sides =
-    if lt_test cost zeroℚ then product_at cost sides.high else (if lt_test zeroℚ cost then product_at cost sides.low else Some zeroℚ)
+    if lt_test cost zeroℚ then product_at cost sides.high
+    else (if lt_test zeroℚ cost then product_at cost sides.low else Some zeroℚ)
 
 -- the least cost of all columns
 abbrev pub least_costs : List ℚ → List Sides → Option ℚ

@@ -6,18 +6,21 @@ use Rattle.cip_problem.specs.Program.{Term, Sides, Row, Program}
 
 abbrev pub term_code : Coded Term
 term_code =
-    code_by (ℕ × ℚ) (coded× coded_ℕ coded_ℚ) (λ t. (t.column, t.coefficient)) (λ p. record { column = p.0; coefficient = p.1 }) (λ _. refl)
+    code_by (ℕ × ℚ) (coded× coded_ℕ coded_ℚ)
+    (λ t. (t.column, t.coefficient)) (λ p. record { column = p.0; coefficient = p.1 }) (λ _. refl)
 
 abbrev pub sides_code : Coded Sides
 sides_code =
-    code_by (Option ℚ × Option ℚ) (coded× (coded_option coded_ℚ) (coded_option coded_ℚ)) (λ s. (s.low, s.high)) (λ p. record { low = p.0; high = p.1 }) (λ _. refl)
+    code_by (Option ℚ × Option ℚ) (coded× (coded_option coded_ℚ) (coded_option coded_ℚ))
+    (λ s. (s.low, s.high)) (λ p. record { low = p.0; high = p.1 }) (λ _. refl)
 
 abbrev pub box_code : Coded (List Sides)
 box_code = coded_list sides_code
 
 abbrev pub row_code : Coded Row
 row_code =
-    code_by (List Term × (Option ℚ × Option ℚ)) (coded× (coded_list term_code) (coded× (coded_option coded_ℚ) (coded_option coded_ℚ)))
+    code_by (List Term × (Option ℚ × Option ℚ))
+    (coded× (coded_list term_code) (coded× (coded_option coded_ℚ) (coded_option coded_ℚ)))
     (λ r. (r.terms, (r.low, r.high))) (λ p. record { terms = p.0; low = p.1.0; high = p.1.1 }) (λ _. refl)
 
 abbrev pub names_code : Coded (List (List ℕ))
@@ -29,7 +32,9 @@ Names = List (List ℕ)
 abbrev pub program_code : Coded Program
 program_code =
     code_by ((Names × Names) × ((List Row × List ℚ) × ((ℚ × Bool) × (List Bool × List Sides))))
-    (coded× (coded× names_code names_code) (coded× (coded× (coded_list row_code) (coded_list coded_ℚ)) (coded× (coded× coded_ℚ coded_bool) (coded× (coded_list coded_bool) box_code))))
+    (coded× (coded× names_code names_code)
+    (coded× (coded× (coded_list row_code) (coded_list coded_ℚ))
+    (coded× (coded× coded_ℚ coded_bool) (coded× (coded_list coded_bool) box_code))))
     (λ p. ((p.column_names, p.row_names), ((p.rows, p.costs), ((p.constant, p.maximized), (p.integral, p.bounds)))))
     (λ t. record {
       column_names = t.0.0;

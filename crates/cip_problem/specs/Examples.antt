@@ -13,7 +13,9 @@ use Rattle.cip_problem.specs.Log.{Node, Entry, Split, Closed, low_half, IsLog, I
 abbrev pub row_of : ℕ → ℕ → ℕ → ℕ → Row
 row_of x y z high = record {
   terms =
-      record { column = 0; coefficient = whole x 0 } ∷ record { column = 1; coefficient = whole y 0 } ∷ record { column = 2; coefficient = whole z 0 } ∷ [];
+      record { column = 0; coefficient = whole x 0 }
+      ∷ record { column = 1; coefficient = whole y 0 }
+      ∷ record { column = 2; coefficient = whole z 0 } ∷ [];
   low = None;
   high = Some (whole high 0);
 }

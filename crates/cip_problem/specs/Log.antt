@@ -40,7 +40,8 @@ low_half box column at = slice_set box column (record { low = (sides_at box colu
 
 -- a box with a column at least `at + 1`
 abbrev pub high_half : List Sides → ℕ → ℤ → List Sides
-high_half box column at = slice_set box column (record { low = Some (integer (at +ℤ pos 1)); high = (sides_at box column).high })
+high_half box column at =
+    slice_set box column (record { low = Some (integer (at +ℤ pos 1)); high = (sides_at box column).high })
 
 -- the node of this number
 abbrev pub node_of : List Node → ℕ → Option Node
@@ -77,7 +78,8 @@ abbrev pub IsRightEnd : List Bool → List Node → Node → End → Type 0
 IsRightEnd integral given node Closed = ⊤
 IsRightEnd integral given node Parked = ⊤
 IsRightEnd integral given node (Split column at low high) =
-    CanSplit integral node.box column at × (node_of given low ≡ None) × (node_of given high ≡ None) × (low ≢ high)
+    CanSplit integral node.box column at
+    × (node_of given low ≡ None) × (node_of given high ≡ None) × (low ≢ high)
 
 -- an entry can follow: it is of a node given before and not yet taken, and its end is a right one
 pub record CanFollow (integral : List Bool) (given : List Node) (taken : List ℕ) (entry : Entry) : Type 0 where
@@ -90,7 +92,8 @@ pub record CanFollow (integral : List Bool) (given : List Node) (taken : List �
 abbrev pub AllFollow : List Bool → List Node → List ℕ → List Entry → Type 0
 AllFollow integral given taken [] = ⊤
 AllFollow integral given taken (entry ∷ entries) =
-    CanFollow integral given taken entry × AllFollow integral (given ++ nodes_of given entry) (entry.node ∷ taken) entries
+    CanFollow integral given taken entry
+    × AllFollow integral (given ++ nodes_of given entry) (entry.node ∷ taken) entries
 
 -- the log of a search over a program
 abbrev pub IsLog : Program → List Entry → Type 0

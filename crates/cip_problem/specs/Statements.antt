@@ -27,21 +27,26 @@ pub record HalvesWithin : Type 0 where
 abbrev pub HalvesCount : Type 0
 HalvesCount =
     (integral : List Bool) (box : List Sides) (column : ℕ) (at : ℤ) → CanSplit integral box column at
-    → AtMost (plus (assignments integral (low_half box column at)) (assignments integral (high_half box column at))) (assignments integral box)
+    → AtMost
+    (plus (assignments integral (low_half box column at)) (assignments integral (high_half box column at)))
+    (assignments integral box)
 
 -- no point of a box costs less than the box bound, and so no feasible point less than that of the program's own box
 pub record BoxBoundHolds : Type 0 where
   pub in_box : (program : Program) (box : List Sides) (point : List ℚ) (b : ℚ)
-      → length program.costs ≡ length box → IsInBox box point → box_bound program box ≡ Some b → b ≤ℚ cost_of program point
+      → length program.costs ≡ length box → IsInBox box point
+      → box_bound program box ≡ Some b → b ≤ℚ cost_of program point
   pub feasible : (program : Program) (b : ℚ)
       → IsWellFormed program → box_bound program program.bounds ≡ Some b → IsLowerBound program b
 
 -- what lies between sides inside others lies between those, and a point of a box inside another is a point of that
 pub record InnerBoxes : Type 0 where
   pub low : (own outer : Option ℚ) (value : ℚ)
-      → low_inside own outer ≡ true → IfSome own (λ side. side ≤ℚ value) → IfSome outer (λ side. side ≤ℚ value)
+      → low_inside own outer ≡ true
+      → IfSome own (λ side. side ≤ℚ value) → IfSome outer (λ side. side ≤ℚ value)
   pub high : (own outer : Option ℚ) (value : ℚ)
-      → high_inside own outer ≡ true → IfSome own (λ side. value ≤ℚ side) → IfSome outer (λ side. value ≤ℚ side)
+      → high_inside own outer ≡ true
+      → IfSome own (λ side. value ≤ℚ side) → IfSome outer (λ side. value ≤ℚ side)
   pub sides : (own outer : Sides) (value : ℚ)
       → sides_inside own outer ≡ true → Between own.low own.high value → Between outer.low outer.high value
   pub boxes : (own outer : List Sides) (point : List ℚ)
@@ -49,14 +54,17 @@ pub record InnerBoxes : Type 0 where
 
 -- what the tests of two sides say of the values between them
 pub record SideTests : Type 0 where
-  pub between : (low high : Option ℚ) (value : ℚ) → (is_between low high value ≡ true) ↔ Between low high value
+  pub between : (low high : Option ℚ) (value : ℚ)
+      → (is_between low high value ≡ true) ↔ Between low high value
   pub equal : (low high : Option ℚ) → sides_equal low high ≡ true → HasOneValue low high
   pub two_wholes : (low high : Option ℚ) → two_wholes_between low high ≡ true → HasTwoWholes low high
   pub one_whole : (low high : Option ℚ) (v w : ℚ)
-      → two_wholes_between low high ≡ false → IsWhole v → IsWhole w → Between low high v → Between low high w → v ≡ w
+      → two_wholes_between low high ≡ false → IsWhole v → IsWhole w
+      → Between low high v → Between low high w → v ≡ w
 
--- a search in a box with n whole assignments takes at most 2 n - 1 nodes, or one
+-- the log of a search over a program whose box has n whole assignments has at most 2 n - 1 entries, or one
 abbrev pub LogsAreShort : Type 0
 LogsAreShort =
     (program : Program) (log : List Entry) (n : ℕ)
-    → IsLog program log → assignments program.integral program.bounds ≡ Some n → length log ≤ max 1 (2 * n - 1)
+    → IsLog program log → assignments program.integral program.bounds ≡ Some n
+    → length log ≤ max 1 (2 * n - 1)

@@ -1,8 +1,11 @@
 -- Linear arithmetic over ℚ by `omega`.
--- At a scale each rational is a difference of two naturals, `up - down`, up to a rest that is 0 where the scale makes the rational whole. The fields of `Scale` say how sums, multiples and the order go there.
--- For a list of atoms there is a scale that makes each of them whole. So, with the terms of a goal that no sum, difference, negation or whole number makes up as its atoms,
+-- At a scale each rational is a difference of two naturals, `up - down`, up to a rest that is 0 where the scale makes
+-- the rational whole. The fields of `Scale` say how sums, multiples and the order go there.
+-- For a list of atoms there is a scale that makes each of them whole. So, with the terms of a goal that no sum,
+-- difference, negation or whole number makes up as its atoms,
 --     linear_le (a ∷ b ∷ []) (λ s w. omega (arith, s.le_out, s.lt_out, s.same_out))
--- proves `_ ≤ℚ _` from the facts in scope, and so do `linear_lt`, `linear_same` and `linear_absurd` for `_ <ℚ _`, `_ ≡ _` and `⊥`. The rules that are listed read a hypothesis:
+-- proves `_ ≤ℚ _` from the facts in scope, and so do `linear_lt`, `linear_same` and `linear_absurd` for `_ <ℚ _`,
+-- `_ ≡ _` and `⊥`. The rules that are listed read a hypothesis:
 --     le_out, lt_out, same_out       `a ≤ℚ b`, `a <ℚ b`, `a ≡ b`
 --     not_le_out, not_lt_out         their denials
 --     products tt                    bound by a `let`: products of sums are multiplied out
@@ -21,15 +24,24 @@ use Rattle.cip_rational.specs.Rational.Truncated.{above, below, rest, rest_zero,
 module _ (up down rest : ℚ → ℕ) where
   -- c is the sum of a and b, up to their rests
   abbrev pub IsSumAt : ℚ → ℚ → ℚ → Type 0
-  IsSumAt a b c = (up c + down a + down b ≤ down c + up a + up b + rest a + rest b) × (down c + up a + up b ≤ up c + down a + down b + rest a + rest b) × (rest c ≤ rest a + rest b)
+  IsSumAt a b c =
+      (up c + down a + down b ≤ down c + up a + up b + rest a + rest b)
+      × (down c + up a + up b ≤ up c + down a + down b + rest a + rest b)
+      × (rest c ≤ rest a + rest b)
 
   -- c is a - b, up to their rests
   abbrev pub IsDifferenceAt : ℚ → ℚ → ℚ → Type 0
-  IsDifferenceAt a b c = (up c + down a + up b ≤ down c + up a + down b + rest a + rest b) × (down c + up a + down b ≤ up c + down a + up b + rest a + rest b) × (rest c ≤ rest a + rest b)
+  IsDifferenceAt a b c =
+      (up c + down a + up b ≤ down c + up a + down b + rest a + rest b)
+      × (down c + up a + down b ≤ up c + down a + up b + rest a + rest b)
+      × (rest c ≤ rest a + rest b)
 
   -- c is (m - n) * a, up to the rest
   abbrev pub IsMultipleAt : ℕ → ℕ → ℚ → ℚ → Type 0
-  IsMultipleAt m n a c = (up c + m * down a + n * up a ≤ down c + m * up a + n * down a + (m + n) * rest a) × (down c + m * up a + n * down a ≤ up c + m * down a + n * up a + (m + n) * rest a) × (rest c ≤ (m + n) * rest a)
+  IsMultipleAt m n a c =
+      (up c + m * down a + n * up a ≤ down c + m * up a + n * down a + (m + n) * rest a)
+      × (down c + m * up a + n * down a ≤ up c + m * down a + n * up a + (m + n) * rest a)
+      × (rest c ≤ (m + n) * rest a)
 
   -- c is a, and c is the negative of a
   abbrev pub IsSameAt : ℚ → ℚ → Type 0
@@ -63,7 +75,8 @@ pub record Scale : Type 0 where
   pub negative : (a : ℚ) → IsNegativeAt up down rest a (negate a)
   pub multiple : (m n : ℕ) (a : ℚ) → IsMultipleAt up down rest m n a (whole m n *ℚ a)
   pub number : (m n : ℕ) → (up (whole m n) + n * unit ≡ down (whole m n) + m * unit) × (rest (whole m n) ≡ 0)
-  pub signed : (z : ℤ) → (up (integer z) + parts.down z * unit ≡ down (integer z) + parts.up z * unit) × (rest (integer z) ≡ 0)
+  pub signed : (z : ℤ)
+      → (up (integer z) + parts.down z * unit ≡ down (integer z) + parts.up z * unit) × (rest (integer z) ≡ 0)
   pub none : (up zeroℚ ≡ down zeroℚ) × (rest zeroℚ ≡ 0)
   pub one : (up oneℚ ≡ down oneℚ + unit) × (rest oneℚ ≡ 0)
   pub le_out : (a b : ℚ) → a ≤ℚ b → up a + down b ≤ up b + down a

@@ -1,5 +1,5 @@
 -- Which rationals a pair of `i128` holds, and which operations leave that range.
---     largest, magnitude, fits_range       the range: numerator and denominator in lowest terms are at most `largest` in magnitude
+--     largest, magnitude, fits_range       the range: in lowest terms both numbers are at most `largest` in magnitude
 --     sum_overflows, difference_overflows, product_overflows, quotient_overflows      whether an operation leaves it
 --     checked_sum, checked_product         the result, where the operation stays in the range
 pub mod Laws
@@ -27,13 +27,15 @@ too_large z = nat_lt largest (magnitude z)
 abbrev pub raised : ℕ → ℚ → ℚ → ℤ
 raised g a b = numerator a *ℤ pos (denominator b / g)
 
--- the sum is formed at the least common denominator and not reduced before: it overflows where one of the two raised numerators, their sum or that denominator is too large
+-- the sum is formed at the least common denominator and not reduced before: it overflows where one of the two
+-- raised numerators, their sum or that denominator is too large
 unfoldable pub sum_overflows : ℚ → ℚ → Bool
 sum_overflows a b =
     let g : ℕ = gcd (denominator a) (denominator b) in
     let left : ℤ = raised g a b in
     let right : ℤ = raised g b a in
-    too_large left || too_large right || too_large (left +ℤ right) || nat_lt largest (denominator a / g * denominator b)
+    too_large left || too_large right || too_large (left +ℤ right)
+    || nat_lt largest (denominator a / g * denominator b)
 
 -- a difference is the sum with the negative
 unfoldable pub difference_overflows : ℚ → ℚ → Bool

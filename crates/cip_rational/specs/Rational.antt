@@ -158,4 +158,5 @@ is_ratio =
 
 -- the code by which a ghost name tracks a rational: its lowest terms
 abbrev pub coded_ℚ : Coded ℚ
-coded_ℚ = code_by (ℤ × ℕ) (coded× coded_ℤ coded_ℕ) (λ q. (numerator q, denominator q)) (λ t. ratio t.0 t.1) is_ratio
+coded_ℚ =
+    code_by (ℤ × ℕ) (coded× coded_ℤ coded_ℕ) (λ q. (numerator q, denominator q)) (λ t. ratio t.0 t.1) is_ratio

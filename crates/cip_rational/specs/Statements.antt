@@ -27,17 +27,23 @@ pub record OrderedField : Type 0 where
 
 -- sums, products and the order of ratios are those of schoolbook fractions
 pub record RatiosAreFractions : Type 0 where
-  pub sum : (a c : ℤ) (b d : ℕ) → 0 < b → 0 < d → ratio a b +ℚ ratio c d ≡ ratio (a *ℤ pos d +ℤ c *ℤ pos b) (b * d)
+  pub sum : (a c : ℤ) (b d : ℕ) → 0 < b → 0 < d
+      → ratio a b +ℚ ratio c d ≡ ratio (a *ℤ pos d +ℤ c *ℤ pos b) (b * d)
   pub product : (a c : ℤ) (b d : ℕ) → 0 < b → 0 < d → ratio a b *ℚ ratio c d ≡ ratio (a *ℤ c) (b * d)
-  pub order : (a c : ℤ) (b d : ℕ) → 0 < b → 0 < d → (ratio a b ≤ℚ ratio c d → (a *ℤ pos d) ≤ℤ (c *ℤ pos b)) × ((a *ℤ pos d) ≤ℤ (c *ℤ pos b) → ratio a b ≤ℚ ratio c d)
-  pub equality : (a c : ℤ) (b d : ℕ) → 0 < b → 0 < d → (ratio a b ≡ ratio c d → a *ℤ pos d ≡ c *ℤ pos b) × (a *ℤ pos d ≡ c *ℤ pos b → ratio a b ≡ ratio c d)
+  pub order : (a c : ℤ) (b d : ℕ) → 0 < b → 0 < d
+      → (ratio a b ≤ℚ ratio c d → (a *ℤ pos d) ≤ℤ (c *ℤ pos b))
+      × ((a *ℤ pos d) ≤ℤ (c *ℤ pos b) → ratio a b ≤ℚ ratio c d)
+  pub equality : (a c : ℤ) (b d : ℕ) → 0 < b → 0 < d
+      → (ratio a b ≡ ratio c d → a *ℤ pos d ≡ c *ℤ pos b)
+      × (a *ℤ pos d ≡ c *ℤ pos b → ratio a b ≡ ratio c d)
 
 -- numerator and denominator are the lowest terms, and there are no others
 pub record LowestTerms : Type 0 where
   pub value : (q : ℚ) → ratio (numerator q) (denominator q) ≡ q
   pub positive : (q : ℚ) → 0 < denominator q
   pub coprime : (q : ℚ) → IsGcd (unsigned_abs (numerator q)) (denominator q) 1
-  pub unique : (z : ℤ) (d : ℕ) → 0 < d → IsGcd (unsigned_abs z) d 1 → (numerator (ratio z d) ≡ z) × (denominator (ratio z d) ≡ d)
+  pub unique : (z : ℤ) (d : ℕ) → 0 < d → IsGcd (unsigned_abs z) d 1
+      → (numerator (ratio z d) ≡ z) × (denominator (ratio z d) ≡ d)
 
 -- the floor is the greatest whole number below, and the ceiling the least above
 pub record Rounding : Type 0 where
@@ -57,7 +63,9 @@ SumsStayInRange = (a b : ℚ) → sum_overflows a b ≡ false → fits_range (a 
 
 -- where each row times x is at most its bound, so is each combination of rows by numbers that are not negative
 abbrev pub CombinationsHold : Type 0
-CombinationsHold = (ys : List ℚ) (rows : List (List ℚ)) (bounds x : List ℚ) → AllNonneg ys → AllAtMost (products_of rows x) bounds → dot (combine ys rows) x ≤ℚ dot ys bounds
+CombinationsHold =
+    (ys : List ℚ) (rows : List (List ℚ)) (bounds x : List ℚ)
+    → AllNonneg ys → AllAtMost (products_of rows x) bounds → dot (combine ys rows) x ≤ℚ dot ys bounds
 
 -- the definitions of overflow, floor and ceiling at values
 pub record Values : Type 0 where

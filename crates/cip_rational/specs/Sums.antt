@@ -1,5 +1,5 @@
 -- Sums and dot products of lists of rationals. Where two lists are of different lengths, what is missing counts as 0.
---     sum_of, dot            the sum of a list, and of the products of two lists' entries, as far as the shorter list goes
+--     sum_of, dot            the sum of a list; of the products of two lists' entries, as far as the shorter list goes
 --     scale_list c xs        each entry times c
 --     add_lists xs ys        entry by entry, as far as the longer list goes
 --     combine ys rows        the sum of the rows, each times its number

@@ -1,4 +1,4 @@
--- A rational ac two natural numbers and a rest, for linear arithmetic: rounded toward 0 it is `above - below`, and `rest` is 0 where it is whole, else 1.
+-- A rational as two natural numbers and a rest, for linear arithmetic: rounded toward 0 it is `above - below`, and `rest` is 0 where it is whole, else 1.
 use mathlib.Core.HLevel.{Π_prop}
 use native.Mathlib.Bridge.{le_prop}
 use native.Mathlib.Nat.{mul-pos, mul-le-mul_right, mul-lt-mul_of_pos_right, lt_of_mul-lt-mul_right, le_of_mul-le-mul_right, le-div_iff_mul-le, zero-div}
