@@ -12,12 +12,15 @@ pub record AreLowest (n : ℤ) (d : ℕ) : Type 0 where
   pub over_small : unsigned_abs n < 2 ^ 127
   pub under_small : d < 2 ^ 127
 
+-- the number that the fields stand for
 abbrev pub rational_of : Inside → ℚ
 rational_of f = ratio f.numerator f.denominator
 
+-- the fields are lowest terms in the range
 abbrev pub HasLowest : Inside → Type 0
 HasLowest f = AreLowest f.numerator f.denominator
 
+-- the fields of a number
 abbrev pub terms_of : ℚ → Inside
 terms_of q = record { numerator = numerator q; denominator = denominator q }
 

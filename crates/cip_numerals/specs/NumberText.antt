@@ -19,6 +19,7 @@ abbrev pub natural_text : ℕ → List ℕ
 natural_text zero = 48 ∷ []
 natural_text (suc n) = map (λ d. 48 + d) (digits_of 10 (suc n))
 
+-- the digits, with a `-` before them where the number is below 0
 abbrev pub integer_text : ℤ → List ℕ
 integer_text (pos n) = natural_text n
 integer_text (negsuc n) = 45 ∷ natural_text (suc n)
@@ -29,6 +30,7 @@ denominator_text zero = []
 denominator_text (suc zero) = []
 denominator_text (suc (suc n)) = 47 ∷ natural_text (suc (suc n))
 
+-- `p`, or `p/q` where the denominator q in lowest terms is not 1
 unfoldable pub fraction_text : ℚ → List ℕ
 fraction_text x = integer_text (numerator x) ++ denominator_text (denominator x)
 

@@ -1,4 +1,4 @@
--- The activity of a row at a point, and its least activity in a box.
+-- The activity of a row at a point, and the columns that a row may stand on.
 use Rattle.std.specs.Prelude.{ℕ, ◌<◌, List, [], ◌∷◌, slice_index_or, All}
 use Rattle.cip_rational.specs.Rational.{ℚ, ◌+ℚ◌, ◌*ℚ◌, zeroℚ}
 use Rattle.cip_problem.specs.Program.{Term}

@@ -1,34 +1,40 @@
--- The codes by which a proof tells terms, sides and rows and programs apart: each is stored as the tuple of its fields.
+-- The codes by which a proof tells terms, sides, rows and programs apart: each is stored as the tuple of its fields.
 use Rattle.std.specs.Prelude.{ℕ, Bool, List, Option, refl}
 use Rattle.std.specs.Coded.{Coded, code_by, coded×, coded_ℕ, coded_bool, coded_list, coded_option}
 use Rattle.cip_rational.specs.Rational.{ℚ, coded_ℚ}
 use Rattle.cip_problem.specs.Program.{Term, Sides, Row, Program}
 
+-- column and coefficient
 abbrev pub term_code : Coded Term
 term_code =
     code_by (ℕ × ℚ) (coded× coded_ℕ coded_ℚ)
     (λ t. (t.column, t.coefficient)) (λ p. record { column = p.0; coefficient = p.1 }) (λ _. refl)
 
+-- low and high
 abbrev pub sides_code : Coded Sides
 sides_code =
     code_by (Option ℚ × Option ℚ) (coded× (coded_option coded_ℚ) (coded_option coded_ℚ))
     (λ s. (s.low, s.high)) (λ p. record { low = p.0; high = p.1 }) (λ _. refl)
 
+-- the sides of each column
 abbrev pub box_code : Coded (List Sides)
 box_code = coded_list sides_code
 
+-- terms, low and high
 abbrev pub row_code : Coded Row
 row_code =
     code_by (List Term × (Option ℚ × Option ℚ))
     (coded× (coded_list term_code) (coded× (coded_option coded_ℚ) (coded_option coded_ℚ)))
     (λ r. (r.terms, (r.low, r.high))) (λ p. record { terms = p.0; low = p.1.0; high = p.1.1 }) (λ _. refl)
 
+-- names as lists of bytes
 abbrev pub names_code : Coded (List (List ℕ))
 names_code = coded_list (coded_list coded_ℕ)
 
 abbrev Names : Type 0
 Names = List (List ℕ)
 
+-- all fields of a program, in pairs
 abbrev pub program_code : Coded Program
 program_code =
     code_by ((Names × Names) × ((List Row × List ℚ) × ((ℚ × Bool) × (List Bool × List Sides))))

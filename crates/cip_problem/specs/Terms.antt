@@ -3,12 +3,15 @@ use Rattle.std.specs.Prelude.{◌≡◌, ◌≢◌, ℕ, ◌+◌, ◌<◌, ◌�
 use Rattle.cip_rational.specs.Rational.{ℚ, zeroℚ}
 use Rattle.cip_problem.specs.Program.{Term}
 
+-- what stands past the last term: 0 of column 0
 abbrev pub no_term : Term
 no_term = record { column = 0; coefficient = zeroℚ }
 
+-- the column of the term at a place, counted from 0
 abbrev pub column_at : List Term → ℕ → ℕ
 column_at terms k = (slice_index_or terms k no_term).column
 
+-- the coefficient of the term at a place, counted from 0
 abbrev pub coefficient_at : List Term → ℕ → ℚ
 coefficient_at terms k = (slice_index_or terms k no_term).coefficient
 
