@@ -1,4 +1,4 @@
--- How long a log can be: a search in a box with n whole assignments takes at most 2 n - 1 nodes, or 1.
+-- How long a log can be: over a box with n whole assignments it has at most 2 n - 1 entries, or 1.
 use Rattle.std.proofs.Common.{◌≡◌, inl, inr, ℕ, suc, ◌+◌, ◌-◌, ◌*◌, ◌≤◌, ◌==◌, max, Bool, true, false, cond, ◌||◌, List, [], ◌∷◌, ◌++◌, length, Contains, Option, None, Some, refl, sym, ap, subst, arith}
 use Rattle.std.specs.List.{AllByRecursion}
 use Rattle.std.proofs.lemmas.Bool.{eqb-true, false_from_ne_true, or_cases}
