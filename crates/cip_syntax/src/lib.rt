@@ -1,20 +1,5 @@
-// The texts that come in and go out: definitions and laws, for the contracts of the other crates.
-// A function here does nothing. Its contract is a law, so that the check proves it.
+// The lines of texts and the thin texts: definitions and laws, for the contracts of the other crates.
 #![tactic(auto)]
-
-ghost use Rattle.cip_syntax.specs.Statements.{AnswerTellsFigures, FixedTextsStandApart, Examples};
 
 pub mod text_examples;
 pub mod texts;
-
-pub fn answer_tells_figures()
-    ensures { AnswerTellsFigures }
-{}
-
-pub fn fixed_texts_stand_apart()
-    ensures { FixedTextsStandApart }
-{}
-
-pub fn examples()
-    ensures { Examples }
-{}
