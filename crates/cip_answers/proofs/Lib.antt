@@ -1,1 +1,2 @@
-pub mod TriedAnswers
+pub mod AnswerTexts
+mod Tried

@@ -1,4 +1,5 @@
-// The lines of texts and the thin texts: definitions and laws, for the contracts of the other crates.
+//! The texts of programs: lines and records, thin texts and their programs. The contracts of the crates above speak of
+//! these definitions; `specs/` holds them.
 #![tactic(auto)]
 
 pub mod text_examples;

@@ -1,4 +1,4 @@
-use Rattle.cip_answers.specs.Figures.Laws.{answer_text_injective}
+use Rattle.cip_answers.proofs.AnswerTexts.{answer_text_injective}
 use Rattle.cip_answers.proofs.answer_tells_figures.Goals as goal
 
 pub returns : goal.returns

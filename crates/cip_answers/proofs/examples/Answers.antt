@@ -1,5 +1,5 @@
 use Rattle.std.proofs.Common.{refl}
-use Rattle.cip_answers.proofs.TriedAnswers as tried
+use Rattle.cip_answers.proofs.Tried as tried
 use Rattle.cip_answers.proofs.examples.Goals as goal
 
 pub returns : goal.returns

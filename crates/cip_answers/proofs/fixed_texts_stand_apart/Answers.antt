@@ -1,5 +1,5 @@
-use Rattle.cip_answers.specs.Figures.Laws.{answer_text-usage, answer_text-read_fault, answer_text-no_memory, answer_text-refusal}
-use Rattle.cip_answers.proofs.TriedAnswers as tried
+use Rattle.cip_answers.proofs.AnswerTexts.{answer_text-usage, answer_text-read_fault, answer_text-no_memory, answer_text-refusal}
+use Rattle.cip_answers.proofs.Tried as tried
 use Rattle.cip_answers.proofs.fixed_texts_stand_apart.Goals as goal
 
 pub returns : goal.returns
