@@ -3,11 +3,11 @@ use Rattle.std.specs.Prelude.{◌≡◌, ◌⊎◌, ℕ, List, Option, None, Som
 use Rattle.std.proofs.Common.{sym, ap, ◌∙◌, subst, inl, inr, arith}
 use Rattle.cip_io.specs.Faults.{Rose}
 use Rattle.cip_problem.specs.Program.{Program}
-use Rattle.cip_syntax.specs.Headline.{IsSpent}
+use Rattle.cip_answers.specs.Headline.{IsSpent}
 use Rattle.cip_solve.specs.Budgets.{budget_suffices}
 use Rattle.cip_problem.specs.Wholes.{assignments}
-use Rattle.cip_syntax.specs.CommandLine.{Job, Solve}
-use Rattle.cip_syntax.specs.Figures.{Status, Optimal, NodeLimit, NoMemory, exit_status, answer_text}
+use Rattle.cip_answers.specs.CommandLine.{Job, Solve}
+use Rattle.cip_answers.specs.Figures.{Status, Optimal, NodeLimit, NoMemory, exit_status, answer_text}
 use Rattle.cip_syntax.specs.ThinText.{IsThin}
 use Rattle.cip_syntax.specs.ThinText.Parts.{one_program}
 use Rattle.cip_main.specs.Answering.{node_limit, IsLogged}

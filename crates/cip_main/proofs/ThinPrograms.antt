@@ -28,7 +28,7 @@ use Rattle.cip_report.specs.declared.figures.Held.{Held}
 use Rattle.cip_report.specs.declared.figures.Answer.{Answer}
 use Rattle.cip_report.specs.declared.figures.Ended.TheVariants.{NoMemory}
 use Rattle.cip_report.specs.Answers.{status_of, printed_held, figures_of}
-use Rattle.cip_syntax.specs.Figures.{answer_text, exit_status}
+use Rattle.cip_answers.specs.Figures.{answer_text, exit_status}
 use Rattle.cip_main.specs.Answering.{node_limit, HasThinText, Answers}
 use Rattle.cip_main.specs.Pulling.{IsRead}
 use Rattle.cip_main.specs.Saying.{Says}

@@ -9,8 +9,8 @@ use Rattle.cip_problem.specs.Program.{Program}
 use Rattle.cip_problem.specs.Points.{cost_of, printed, IsLowerBound}
 use Rattle.cip_problem.specs.BoxBound.{box_bound}
 use Rattle.cip_problem.specs.Log.{Entry, HasOpenNode}
-use Rattle.cip_syntax.specs.Figures.{Optimal, NodeLimit}
-use Rattle.cip_syntax.specs.Headline.{IsBetter, IsTruePoint, IsTrueBound, IsAtMostBox, Agree, IsSpent as IsPrintedSpent, AreTrue}
+use Rattle.cip_answers.specs.Figures.{Optimal, NodeLimit}
+use Rattle.cip_answers.specs.Headline.{IsBetter, IsTruePoint, IsTrueBound, IsAtMostBox, Agree, IsSpent as IsPrintedSpent, AreTrue}
 use Rattle.cip_report.specs.declared.figures.Ended.{Ended}
 use Rattle.cip_report.specs.declared.figures.Ended.TheVariants.{Optimal as EndedOptimal, NodeLimit as EndedNodeLimit, NoMemory as EndedNoMemory}
 use Rattle.cip_report.specs.declared.figures.Held.{Held}

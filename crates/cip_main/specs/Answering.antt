@@ -2,9 +2,9 @@
 use Rattle.std.specs.Prelude.{◌≡◌, ◌⊎◌, ◌++◌, ◌∷◌, [], ℕ, List, Option, None}
 use Rattle.cip_problem.specs.Program.{Program}
 use Rattle.cip_problem.specs.Log.{Entry}
-use Rattle.cip_syntax.specs.Figures.{Status, NoMemory, Figures, exit_status, answer_text}
+use Rattle.cip_answers.specs.Figures.{Status, NoMemory, Figures, exit_status, answer_text}
 use Rattle.cip_syntax.specs.ThinText.{IsThin}
-use Rattle.cip_syntax.specs.Headline.{AreTrue}
+use Rattle.cip_answers.specs.Headline.{AreTrue}
 use Rattle.cip_solve.specs.declared.logs.Log.{Log}
 use Rattle.cip_solve.specs.Logs.{entries_of}
 use Rattle.cip_main.specs.Saying.{Says}

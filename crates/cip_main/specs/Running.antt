@@ -3,8 +3,8 @@ use Rattle.std.specs.Prelude.{◌≢◌, ◌*◌, ◌-◌, ◌≤◌, max, ◌�
 use Rattle.cip_io.specs.Faults.{Rose}
 use Rattle.cip_problem.specs.Program.{Program}
 use Rattle.cip_problem.specs.Wholes.{assignments}
-use Rattle.cip_syntax.specs.CommandLine.{Job, Solve}
-use Rattle.cip_syntax.specs.Figures.{usage_text, read_fault_text, no_memory_text, not_thin_text}
+use Rattle.cip_answers.specs.CommandLine.{Job, Solve}
+use Rattle.cip_answers.specs.Figures.{usage_text, read_fault_text, no_memory_text, not_thin_text}
 use Rattle.cip_syntax.specs.ThinText.{IsThin}
 use Rattle.cip_solve.specs.declared.logs.Log.{Log}
 use Rattle.cip_solve.specs.Logs.{entries_of}

@@ -1,12 +1,12 @@
 //! The whole way from the words and the store to the sink.
 ghost use Rattle.std.specs.Prelude.{◌≡◌, ◌≤◌, [], None, IfOk, IfSome, length};
 ghost use Rattle.cip_problem.specs.WellFormed.{columns};
-ghost use Rattle.cip_syntax.specs.Figures.{usage_text, read_fault_text, not_thin_text, no_memory_text, answer_text, exit_status};
+ghost use Rattle.cip_answers.specs.Figures.{usage_text, read_fault_text, not_thin_text, no_memory_text, answer_text, exit_status};
 ghost use Rattle.cip_report.specs.Answers.{figures_of};
 ghost use Rattle.cip_report.specs.declared.figures.Ended.TheVariants.{NoMemory};
 ghost use Rattle.cip_solve.specs.Right.{IsHeld, IsRight, Searched};
 ghost use Rattle.cip_main.specs.Answering.{node_limit, HasThinText, Answers};
-ghost use Rattle.cip_syntax.specs.CommandLine.{job_of};
+ghost use Rattle.cip_answers.specs.CommandLine.{job_of};
 ghost use Rattle.cip_main.specs.Running.{Runs, call_of, store_tells, sink_tells};
 ghost use Rattle.cip_main.specs.Saying.{Says};
 

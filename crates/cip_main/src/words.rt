@@ -1,6 +1,6 @@
 //! The words of a command line.
 ghost use Rattle.std.specs.Prelude.{◌≡◌, ◌++◌, ◌∷◌, [], IfOk, OnOk, OnErr, MatchOption};
-ghost use Rattle.cip_syntax.specs.CommandLine.{Solve, job_of, is_option};
+ghost use Rattle.cip_answers.specs.CommandLine.{Solve, job_of, is_option};
 
 use std::alloc::{AllocError, Global};
 use std::marker::Model;

@@ -7,7 +7,7 @@ use Rattle.std.proofs.lemmas.List.{take-append-le}
 use Rattle.cip_io.specs.Sink.{PushesPart}
 use Rattle.cip_rational.specs.Rational.{ℚ}
 use Rattle.cip_numerals.specs.NumberText.{fraction_text}
-use Rattle.cip_syntax.specs.Figures.{line, point_lines}
+use Rattle.cip_answers.specs.Figures.{line, point_lines}
 use Rattle.cip_report.specs.Writing.{Passes, Writes}
 
 -- two appended to what is known are one

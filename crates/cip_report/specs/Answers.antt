@@ -2,7 +2,7 @@
 use Rattle.std.specs.Prelude.{option_map}
 use Rattle.cip_problem.specs.Program.{Program}
 use Rattle.cip_problem.specs.Points.{printed}
-use Rattle.cip_syntax.specs.Figures.{Status, Optimal, NodeLimit, NoMemory, Figures, Held}
+use Rattle.cip_answers.specs.Figures.{Status, Optimal, NodeLimit, NoMemory, Figures, Held}
 use Rattle.cip_report.specs.declared.figures.Ended.{Ended}
 use Rattle.cip_report.specs.declared.figures.Ended.TheVariants.{Optimal as EndedOptimal, NodeLimit as EndedNodeLimit, NoMemory as EndedNoMemory}
 use Rattle.cip_report.specs.declared.figures.Held.{Held as HeldPoint}

@@ -6,7 +6,7 @@ ghost use Rattle.cip_io.specs.Sink.{PushesPart};
 ghost use Rattle.cip_numerals.specs.NumberText.{fraction_text};
 ghost use Rattle.cip_problem.specs.WellFormed.{columns};
 ghost use Rattle.cip_problem.specs.Points.{printed};
-ghost use Rattle.cip_syntax.specs.Figures.{line, figure_text, point_lines, held_lines, answer_text, head_text, held_cost};
+ghost use Rattle.cip_answers.specs.Figures.{line, figure_text, point_lines, held_lines, answer_text, head_text, held_cost};
 ghost use Rattle.cip_report.specs.Answers.{figures_of, printed_held};
 ghost use Rattle.cip_report.specs.Writing.{Writes};
 

@@ -1,2 +1,2 @@
-pub mod Tried
-pub mod TriedAnswers
+pub mod Cuts
+mod Tried

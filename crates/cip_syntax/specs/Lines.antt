@@ -1,7 +1,6 @@
 -- The lines of a text and their fields, as free MPS has them. A text is a list of bytes.
-pub mod Laws
-use Rattle.std.specs.Prelude.{ℕ, Bool, true, false, ◌==◌, ◌||◌, List, [], ◌∷◌, Option, None, Some, if◌then◌else◌}
-use Rattle.std.specs.List.{slice_split, filter, filter_map}
+use Rattle.std.specs.Prelude.{◌≡◌, ℕ, Bool, true, false, ◌==◌, ◌||◌, List, [], ◌∷◌, Option, None, Some, if◌then◌else◌}
+use Rattle.std.specs.List.{AllByRecursion, slice_split, filter, filter_map}
 
 -- the line feed
 abbrev pub is_line_feed : ℕ → Bool
@@ -10,6 +9,14 @@ is_line_feed byte = byte == 10
 -- blank, tab and carriage return
 abbrev pub is_blank : ℕ → Bool
 is_blank byte = byte == 32 || (byte == 9 || byte == 13)
+
+-- a line feed is not among the bytes
+abbrev pub HasNoLineFeed : List ℕ → Type 0
+HasNoLineFeed line = AllByRecursion (λ byte. is_line_feed byte ≡ false) line
+
+-- a blank is not among the bytes
+abbrev pub HasNoBlank : List ℕ → Type 0
+HasNoBlank word = AllByRecursion (λ byte. is_blank byte ≡ false) word
 
 abbrev pub is_filled : List ℕ → Bool
 is_filled [] = false

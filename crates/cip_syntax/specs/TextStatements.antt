@@ -5,8 +5,7 @@ use Rattle.cip_rational.specs.Rational.{zeroℚ}
 use Rattle.cip_problem.specs.Program.{Program}
 use Rattle.cip_problem.specs.Points.{IsFeasible, cost_of}
 use Rattle.cip_problem.specs.WellFormed.{columns, no_program}
-use Rattle.cip_syntax.specs.Lines.{is_blank, Section, Entry, lines, fields, record_of, records}
-use Rattle.cip_syntax.specs.Lines.Laws.{HasNoLineFeed, HasNoBlank}
+use Rattle.cip_syntax.specs.Lines.{is_blank, HasNoLineFeed, HasNoBlank, Section, Entry, lines, fields, record_of, records}
 use Rattle.cip_syntax.specs.TextExamples.{chvatal_text, chvatal, loose_text, loose, empty_text, with_sense, with_end, with_rows, with_entries, with_limits, with_bounds, with_column, Tells}
 use Rattle.cip_syntax.specs.ThinText.{number, IsShortNumber, IsThin}
 use Rattle.cip_syntax.specs.ThinText.ThinProgram.{IsThinProgram}

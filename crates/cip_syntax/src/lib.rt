@@ -1,20 +1,6 @@
-// The texts that come in and go out: definitions and laws, for the contracts of the other crates.
-// A function here does nothing. Its contract is a law, so that the check proves it.
+//! The texts of programs: lines and records, thin texts and their programs. The contracts of the crates above speak of
+//! these definitions; `specs/` holds them.
 #![tactic(auto)]
-
-ghost use Rattle.cip_syntax.specs.Statements.{AnswerTellsFigures, FixedTextsStandApart, Examples};
 
 pub mod text_examples;
 pub mod texts;
-
-pub fn answer_tells_figures()
-    ensures { AnswerTellsFigures }
-{}
-
-pub fn fixed_texts_stand_apart()
-    ensures { FixedTextsStandApart }
-{}
-
-pub fn examples()
-    ensures { Examples }
-{}

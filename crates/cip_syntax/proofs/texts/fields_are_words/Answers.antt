@@ -1,5 +1,5 @@
 use Rattle.std.proofs.Common.{refl}
-use Rattle.cip_syntax.specs.Lines.Laws.{fields_blank, fields_word, fields_last}
+use Rattle.cip_syntax.proofs.Cuts.{fields_blank, fields_word, fields_last}
 use Rattle.cip_syntax.proofs.texts.fields_are_words.Goals as goal
 
 pub returns : goal.returns

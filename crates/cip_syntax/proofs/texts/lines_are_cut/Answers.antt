@@ -1,5 +1,5 @@
 use Rattle.std.proofs.Common.{refl}
-use Rattle.cip_syntax.specs.Lines.Laws.{lines_ended, lines_last}
+use Rattle.cip_syntax.proofs.Cuts.{lines_ended, lines_last}
 use Rattle.cip_syntax.proofs.texts.lines_are_cut.Goals as goal
 
 pub returns : goal.returns

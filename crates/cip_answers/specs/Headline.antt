@@ -5,7 +5,7 @@ use Rattle.cip_problem.specs.Program.{Program}
 use Rattle.cip_problem.specs.Points.{IsFeasible, cost_of, printed}
 use Rattle.cip_problem.specs.BoxBound.{box_bound}
 use Rattle.cip_problem.specs.Log.{Entry, IsLog, HasOpenNode}
-use Rattle.cip_syntax.specs.Figures.{Optimal, NodeLimit, Figures, Held}
+use Rattle.cip_answers.specs.Figures.{Optimal, NodeLimit, Figures, Held}
 
 -- a printed cost is better than another: it is more where the program maximises, and less where it minimises
 abbrev pub IsBetter : (maximized : Bool) → ℚ → ℚ → Type 0

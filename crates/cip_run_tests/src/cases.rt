@@ -78,7 +78,7 @@ pub fn run_words(
     })
 }
 
-/// The text with its first part `old` in place of `new`; nothing where there is no such part.
+/// The text with `new` in place of its first part `old`; nothing where there is no such part.
 pub fn edited(
     alloc: Global,
     text: &str,

@@ -8,8 +8,8 @@ use Rattle.cip_rational.specs.Gcd.{gcd}
 use Rattle.cip_rational.specs.Rational.{integer, ratio, numerator, denominator}
 use Rattle.cip_rational.specs.Rational.Lowest.{numerator-integer, denominator-integer, numerator-ratio, denominator-ratio}
 use Rattle.cip_numerals.specs.NumberText.{integer_text, denominator_text, fraction_text}
-use Rattle.cip_syntax.specs.Figures.{Optimal, NodeLimit, answer_text, usage_text, read_fault_text, no_memory_text, not_thin_text}
-use Rattle.cip_syntax.specs.Figures.Laws.{apart}
+use Rattle.cip_answers.specs.Figures.{Optimal, NodeLimit, answer_text, usage_text, read_fault_text, no_memory_text, not_thin_text}
+use Rattle.cip_answers.proofs.AnswerTexts.{apart}
 
 -- the text of a whole number
 integer_figure : (z : ℤ) → fraction_text (integer z) ≡ integer_text z ++ []

@@ -1,5 +1,4 @@
 -- The figures of an answer to `solve`, and its text.
-pub mod Laws
 use lib.Chars.{codes}
 use Rattle.std.specs.Prelude.{◌≡◌, length, IfSome, ℕ, List, [], ◌∷◌, ◌++◌, Option, None, Some}
 use Rattle.cip_rational.specs.Rational.{ℚ}

@@ -3,8 +3,8 @@
 use lib.Chars.{codes}
 use Rattle.std.specs.Prelude.{◌≡◌, ◌≢◌, ℕ, pos, negsuc, List, [], ◌∷◌, AllPairs, None, Some}
 use Rattle.cip_rational.specs.Rational.{integer, ratio}
-use Rattle.cip_syntax.specs.Figures.{Optimal, NodeLimit, Figures, HaveValues, answer_text, usage_text, read_fault_text, no_memory_text, refusal_text, not_thin_text}
-use Rattle.cip_syntax.specs.CommandLine.{Solve, job_of}
+use Rattle.cip_answers.specs.Figures.{Optimal, NodeLimit, Figures, HaveValues, answer_text, usage_text, read_fault_text, no_memory_text, refusal_text, not_thin_text}
+use Rattle.cip_answers.specs.CommandLine.{Solve, job_of}
 
 -- two figures with one text, for one list of names, are the same
 abbrev pub AnswerTellsFigures : Type 0

@@ -1,6 +1,6 @@
 use Rattle.std.proofs.Common.{refl}
-use Rattle.cip_syntax.proofs.TriedAnswers as tried
-use Rattle.cip_syntax.proofs.examples.Goals as goal
+use Rattle.cip_answers.proofs.Tried as tried
+use Rattle.cip_answers.proofs.examples.Goals as goal
 
 pub returns : goal.returns
 returns c = record {

@@ -1,18 +1,13 @@
 -- How a text is cut into lines, and a line into fields: equations that say it for each text.
---     lines_ended, lines_last             a line up to its line feed; the last line, without one
+--     lines_ended, lines_last                   a line up to its line feed; the last line, without one
 --     fields_blank, fields_word, fields_last     blanks before a word, a word up to a blank, the last word
---     records_ended, records_last         what the first line says, before what the others say
 use Rattle.std.proofs.Common.{◌≡◌, ℕ, Bool, true, false, cond, List, [], ◌∷◌, ◌++◌, refl, ap, ◌∙◌}
-use Rattle.std.specs.List.{AllByRecursion, slice_split, onto_first, filter, filter_map, cons_option}
+use Rattle.std.specs.List.{slice_split, onto_first, filter}
 use Rattle.std.proofs.lemmas.List.Splits.{slice_split_at, slice_split_none, slice_split-cons_yes}
 use Rattle.std.proofs.lemmas.List.Elements.{All-from_recursion}
-use Rattle.cip_syntax.specs.Lines.{is_line_feed, is_blank, is_filled, without_empty_end, lines, fields, record_of, records}
+use Rattle.cip_syntax.specs.Lines.{is_line_feed, is_blank, is_filled, HasNoLineFeed, HasNoBlank, without_empty_end, lines, fields}
 
 -- ---- lines
-
--- a line feed is not among the bytes
-abbrev pub HasNoLineFeed : List ℕ → Type 0
-HasNoLineFeed line = AllByRecursion (λ byte. is_line_feed byte ≡ false) line
 
 -- a text has a first piece
 record HasFirst (pieces : List (List ℕ)) : Type 0 where
@@ -46,10 +41,6 @@ lines_last byte bytes h =
 
 -- ---- fields
 
--- a blank is not among the bytes
-abbrev pub HasNoBlank : List ℕ → Type 0
-HasNoBlank word = AllByRecursion (λ byte. is_blank byte ≡ false) word
-
 pub fields_blank : (byte : ℕ) (rest : List ℕ) → is_blank byte ≡ true → fields (byte ∷ rest) ≡ fields rest
 fields_blank byte rest e = ap (filter is_filled) (slice_split-cons_yes is_blank byte rest e)
 
@@ -60,11 +51,3 @@ fields_word byte word blank rest h e =
 pub fields_last : (byte : ℕ) (word : List ℕ) → HasNoBlank (byte ∷ word) → fields (byte ∷ word) ≡ (byte ∷ word) ∷ []
 fields_last byte word h =
     ap (filter is_filled) (slice_split_none is_blank (byte ∷ word) (All-from_recursion (λ b. is_blank b ≡ false) (byte ∷ word) h))
-
--- ---- records
-
-pub records_ended : (line rest : List ℕ) → HasNoLineFeed line → records (line ++ 10 ∷ rest) ≡ cons_option (record_of 42 line) (records rest)
-records_ended line rest h = ap (filter_map (record_of 42)) (lines_ended line rest h)
-
-pub records_last : (byte : ℕ) (bytes : List ℕ) → HasNoLineFeed (byte ∷ bytes) → records (byte ∷ bytes) ≡ cons_option (record_of 42 (byte ∷ bytes)) []
-records_last byte bytes h = ap (filter_map (record_of 42)) (lines_last byte bytes h)

@@ -1,0 +1,12 @@
+use Rattle.cip_answers.proofs.AnswerTexts.{answer_text-usage, answer_text-read_fault, answer_text-no_memory, answer_text-refusal}
+use Rattle.cip_answers.proofs.Tried as tried
+use Rattle.cip_answers.proofs.fixed_texts_stand_apart.Goals as goal
+
+pub returns : goal.returns
+returns c = record {
+  usage = answer_text-usage;
+  read_fault = answer_text-read_fault;
+  no_memory = answer_text-no_memory;
+  refusal = answer_text-refusal;
+  differ = tried.fixed_texts_differ;
+}

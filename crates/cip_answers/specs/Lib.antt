@@ -1,0 +1,4 @@
+pub mod CommandLine
+pub mod Figures
+pub mod Headline
+pub mod Statements
