@@ -8,15 +8,15 @@ use Rattle.std.proofs.Math.Nat.{mul-le-mul, div-one, div-le_self}
 bounded_square : (m n : ℕ) → m < 2 ^ 63 → n < 2 ^ 63 → m * n < 2 ^ 127
 bounded_square m n p q = let a : m ≤ 2 ^ 63 = omega arith in let b : n ≤ 2 ^ 63 = omega arith in let h : m * n ≤ 2 ^ 63 * 2 ^ 63 = mul-le-mul a b in omega arith
 
-pub product_fits : (a b : ℤ) → FitsSigned w128 a → FitsSigned w128 b → unsigned_abs (to_z w128 (of_z w128 a)) < 2 ^ 63 → unsigned_abs (to_z w128 (of_z w128 b)) < 2 ^ 63 → FitsSigned w128 (to_z w128 (of_z w128 a) *ℤ to_z w128 (of_z w128 b))
-product_fits a b fa fb p q =
+pub short_product_fits : (a b : ℤ) → FitsSigned w128 a → FitsSigned w128 b → unsigned_abs (to_z w128 (of_z w128 a)) < 2 ^ 63 → unsigned_abs (to_z w128 (of_z w128 b)) < 2 ^ 63 → FitsSigned w128 (to_z w128 (of_z w128 a) *ℤ to_z w128 (of_z w128 b))
+short_product_fits a b fa fb p q =
     fits_signed_mul w128 (to_z w128 (of_z w128 a)) (to_z w128 (of_z w128 b)) (2 ^ 63) (2 ^ 63) (omega arith) (omega arith) (lit< tt)
 
 pub product_is_short : (a b : ℤ) → FitsSigned w128 a → FitsSigned w128 b → unsigned_abs (to_z w128 (of_z w128 a)) < 2 ^ 63 → unsigned_abs (to_z w128 (of_z w128 b)) < 2 ^ 63 → (unsigned_abs a * unsigned_abs b < 2 ^ 127) × (to_z w128 (of_z w128 (to_z w128 (of_z w128 a) *ℤ to_z w128 (of_z w128 b))) ≡ a *ℤ b)
 product_is_short a b fa fb p q =
     let ea : to_z w128 (of_z w128 a) ≡ a = to_z-of_z w128 a fa in
     let eb : to_z w128 (of_z w128 b) ≡ b = to_z-of_z w128 b fb in
-    let f : FitsSigned w128 (a *ℤ b) = rw (sym ea, sym eb) (product_fits a b fa fb p q) in
+    let f : FitsSigned w128 (a *ℤ b) = rw (sym ea, sym eb) (short_product_fits a b fa fb p q) in
     (bounded_square (unsigned_abs a) (unsigned_abs b) (rw (ea) at p) (rw (eb) at q), rw (ea, eb) (to_z-of_z w128 (a *ℤ b) f))
 
 pub short_fits : (a : ℤ) → FitsSigned w128 a → unsigned_abs (to_z w128 (of_z w128 a)) < 2 ^ 63 → FitsSigned w64 (to_z w128 (of_z w128 a))

@@ -6,17 +6,15 @@ use Rattle.std.proofs.lemmas.Nat.Gcd.{dvd_refl, IsGcd-swap}
 use Rattle.std.proofs.Math.Nat.{one-dvd}
 use borrow.Author.Differences.{true_is_lt, true_is_le, false_is_le, false_is_lt, Apart-out}
 use Rattle.std.proofs.lemmas.Bool.Decides.{nat_tests}
-use Rattle.cip_rational.specs.Rational.Ring.{zero_is as zero_is_whole, one_is as one_is_whole}
 use Rattle.cip_rational.specs.Rational.{ℚ, ratio, integer, negate, inverse, absolute, numerator, denominator, IsWhole, zeroℚ, oneℚ, ◌<ℚ◌, le_test, is_ratio, floor, ceil}
-use Rattle.cip_rational.specs.Rational.Ratio.{ratio_same, ratio-lt, lt-ratio, ratio-le_test}
-use Rattle.cip_rational.specs.Rational.Lowest.{numerator_lowest, denominator_lowest, numerator-integer, denominator-integer, inverse-pos, inverse-negsuc}
-use Rattle.cip_rational.specs.Rational.Whole.{integer-pos, is_whole-denominator, denominator-is_whole, floor-ratio, ceil-ratio}
+use Rattle.cip_rational.specs.Rational.Ratio.{integer_ratio, ratio_same, ratio-lt, lt-ratio, ratio-le_test}
+use Rattle.cip_rational.specs.Rational.Lowest.{numerator_lowest, denominator_lowest, inverse-pos, inverse-negsuc, unsigned_abs-neg}
+use Rattle.cip_rational.specs.Rational.Whole.{is_whole-denominator, denominator-is_whole, floor-ratio, ceil-ratio}
+use Rattle.cip_rational.specs.Rational.Rounding.{integer-zero, integer-one}
 use Rattle.cip_rational.specs.Range.{fits_range, largest}
-use Rattle.cip_frac.specs.Terms.{AreLowest}
+use Rattle.cip_rational.proofs.Integers.{gcd_one}
+use Rattle.cip_frac.specs.LowestTerms.{AreLowest}
 use Rattle.cip_frac.proofs.Casts.{kept, kept_natural, negated}
-
-unsigned_abs-neg : (n : ℤ) → unsigned_abs (neg_ℤ n) ≡ unsigned_abs n
-unsigned_abs-neg n = omega (arith, ints)
 
 pub AreLowest-neg : (n : ℤ) (d : ℕ) → AreLowest n d → AreLowest (neg_ℤ n) d
 AreLowest-neg n d h =
@@ -36,14 +34,11 @@ AreLowest-whole n h =
       under_small = lit< tt;
     }
 
-pub integer_is : (z : ℤ) → integer z ≡ ratio z 1
-integer_is z = sym (is_ratio (integer z)) ∙ rw (numerator-integer z, denominator-integer z) refl
+pub zero_ratio : ratio (pos 0) 1 ≡ zeroℚ
+zero_ratio = integer_ratio (pos 0) ∙ integer-zero
 
-pub zero_is : ratio (pos 0) 1 ≡ zeroℚ
-zero_is = sym (integer_is (pos 0)) ∙ integer-pos 0 ∙ sym zero_is_whole
-
-pub one_is : ratio (pos 1) 1 ≡ oneℚ
-one_is = sym (integer_is (pos 1)) ∙ integer-pos 1 ∙ sym one_is_whole
+pub one_ratio : ratio (pos 1) 1 ≡ oneℚ
+one_ratio = integer_ratio (pos 1) ∙ integer-one
 
 zero_bits : (n : ℤ) → unsigned_abs n < 2 ^ 127 → of_z w128 n ≡ 0 → n ≡ pos 0
 zero_bits n h e = omega (arith, ints, e)
@@ -87,10 +82,10 @@ module _ (n : ℤ) (d : ℕ) (q : ℚ) (h : AreLowest n d) (e : ratio n d ≡ q)
       (λ t. denominator-is_whole q (sym denominator_is ∙ eqb→eq d 1 (subst T (sym t) tt)), λ w. eq-eqb d 1 (denominator_is ∙ is_whole-denominator q w))
 
   zero_numerator : q ≡ zeroℚ → n ≡ pos 0
-  zero_numerator z = numerator_is ∙ ap numerator (z ∙ sym zero_is) ∙ numerator_lowest (pos 0) 1 (lit< tt) (AreLowest-whole (pos 0) (lit< tt)).lowest
+  zero_numerator z = numerator_is ∙ ap numerator (z ∙ sym zero_ratio) ∙ numerator_lowest (pos 0) 1 (lit< tt) (AreLowest-whole (pos 0) (lit< tt)).lowest
 
   numerator_zero : n ≡ pos 0 → q ≡ zeroℚ
-  numerator_zero z = sym e ∙ ap (λ m. ratio m d) z ∙ ratio_same (pos 0) (pos 0) d 1 h.positive (lit< tt) (omega (arith, ints)) ∙ zero_is
+  numerator_zero z = sym e ∙ ap (λ m. ratio m d) z ∙ ratio_same (pos 0) (pos 0) d 1 h.positive (lit< tt) (omega (arith, ints)) ∙ zero_ratio
 
   pub zero_test : IsTrue (eqb (of_z w128 n) 0) ↔ (q ≡ zeroℚ)
   zero_test = (
@@ -102,20 +97,20 @@ module _ (n : ℤ) (d : ℕ) (q : ℚ) (h : AreLowest n d) (e : ratio n d ≡ q)
   negative_test =
       let k : to_z w128 (of_z w128 n) ≡ n = kept n h.over_small in
       rw k (
-        λ t. subst (λ x. x <ℚ zeroℚ) e (subst (λ x. ratio n d <ℚ x) zero_is (ratio-lt (pos 0) n 1 d (lit< tt) h.positive (below_zero n d h.positive (omega (arith, ints, t))))),
-        λ b. to_true n (pos 0) (zero_above n d h.positive (lt-ratio (pos 0) n 1 d (lit< tt) h.positive (subst (λ x. ratio n d <ℚ x) (sym zero_is) (subst (λ x. x <ℚ zeroℚ) (sym e) b)))),
+        λ t. subst (λ x. x <ℚ zeroℚ) e (subst (λ x. ratio n d <ℚ x) zero_ratio (ratio-lt (pos 0) n 1 d (lit< tt) h.positive (below_zero n d h.positive (omega (arith, ints, t))))),
+        λ b. to_true n (pos 0) (zero_above n d h.positive (lt-ratio (pos 0) n 1 d (lit< tt) h.positive (subst (λ x. ratio n d <ℚ x) (sym zero_ratio) (subst (λ x. x <ℚ zeroℚ) (sym e) b)))),
       )
 
   pub positive_test : IsTrue (int_lt (pos 0) (to_z w128 (of_z w128 n))) ↔ (zeroℚ <ℚ q)
   positive_test =
       let k : to_z w128 (of_z w128 n) ≡ n = kept n h.over_small in
       rw k (
-        λ t. subst (λ x. zeroℚ <ℚ x) e (subst (λ x. x <ℚ ratio n d) zero_is (ratio-lt n (pos 0) d 1 h.positive (lit< tt) (above_zero n d h.positive (omega (arith, ints, t))))),
-        λ b. to_true (pos 0) n (zero_below n d h.positive (lt-ratio n (pos 0) d 1 h.positive (lit< tt) (subst (λ x. x <ℚ ratio n d) (sym zero_is) (subst (λ x. zeroℚ <ℚ x) (sym e) b)))),
+        λ t. subst (λ x. zeroℚ <ℚ x) e (subst (λ x. x <ℚ ratio n d) zero_ratio (ratio-lt n (pos 0) d 1 h.positive (lit< tt) (above_zero n d h.positive (omega (arith, ints, t))))),
+        λ b. to_true (pos 0) n (zero_below n d h.positive (lt-ratio n (pos 0) d 1 h.positive (lit< tt) (subst (λ x. x <ℚ ratio n d) (sym zero_ratio) (subst (λ x. zeroℚ <ℚ x) (sym e) b)))),
       )
 
   test_of_zero : le_test zeroℚ q ≡ int_le (pos 0 *ℤ pos d) (n *ℤ pos 1)
-  test_of_zero = ap (λ x. le_test zeroℚ x) (sym e) ∙ ap (λ x. le_test x (ratio n d)) (sym zero_is) ∙ ratio-le_test (pos 0) n 1 d (lit< tt) h.positive
+  test_of_zero = ap (λ x. le_test zeroℚ x) (sym e) ∙ ap (λ x. le_test x (ratio n d)) (sym zero_ratio) ∙ ratio-le_test (pos 0) n 1 d (lit< tt) h.positive
 
   pub absolute_negative : int_lt (to_z w128 (of_z w128 n)) (pos 0) ≡ true → negate q ≡ absolute q
   unfolding absolute
@@ -135,6 +130,18 @@ module _ (n : ℤ) (d : ℕ) (q : ℚ) (h : AreLowest n d) (e : ratio n d ≡ q)
       let s' : r ≡ int_div_euclid n (pos d) = rw k at s in
       let b' : unsigned_abs r ≤ unsigned_abs n = rw k at b in
       kept r (omega (arith, h.over_small)) ∙ s' ∙ sym (floor-ratio n d h.positive) ∙ ap floor e
+
+  floor_small : (r : ℤ) → unsigned_abs r ≤ unsigned_abs (to_z w128 (of_z w128 n)) → unsigned_abs r < 2 ^ 127
+  floor_small r b =
+      let k : to_z w128 (of_z w128 n) ≡ n = kept n h.over_small in
+      let b' : unsigned_abs r ≤ unsigned_abs n = rw k at b in
+      omega (arith, h.over_small)
+
+  pub floor_lowest : (r : ℤ) → r ≡ int_div_euclid (to_z w128 (of_z w128 n)) (pos d) → unsigned_abs r ≤ unsigned_abs (to_z w128 (of_z w128 n)) → AreLowest (to_z w128 (of_z w128 r)) 1
+  floor_lowest r s b = let small = floor_small r b in rw (kept r small) (AreLowest-whole r small)
+
+  pub floor_ratio : (r : ℤ) → r ≡ int_div_euclid (to_z w128 (of_z w128 n)) (pos d) → unsigned_abs r ≤ unsigned_abs (to_z w128 (of_z w128 n)) → ratio (to_z w128 (of_z w128 r)) 1 ≡ integer (floor q)
+  floor_ratio r s b = ap (λ z. ratio z 1) (floor_field r s b) ∙ integer_ratio (floor q)
 
   pub ceil_field : (r : ℤ) → r ≡ int_div_euclid (to_z w128 (of_z w128 (pos 0 -ℤ to_z w128 (of_z w128 n)))) (pos d) → unsigned_abs r ≤ unsigned_abs (to_z w128 (of_z w128 (pos 0 -ℤ to_z w128 (of_z w128 n)))) → to_z w128 (of_z w128 (pos 0 -ℤ to_z w128 (of_z w128 r))) ≡ ceil q
   ceil_field r s b =
@@ -217,15 +224,12 @@ module _ (n : ℤ) (d : ℕ) (p : 0 < d) (g : IsGcd (unsigned_abs n) d 1) where
   pub inside_range : unsigned_abs n < 2 ^ 127 → d < 2 ^ 127 → fits_range (ratio n d) ≡ true
   inside_range a b = range_of ∙ (let c : (nat_le (unsigned_abs n) largest && nat_le d largest) ≡ true = grind (arith, nat_tests) in c)
 
-pub gcd_one : (m : ℕ) → IsGcd m 1 1
-gcd_one m = (one-dvd m, dvd_refl 1, λ e p q. q)
-
 pub least_is : (p : ℤ) → of_z w128 p ≡ 2 ^ 127 → FitsSigned w128 p → p ≡ negsuc largest
 least_is p e f = omega (arith, ints, e, f)
 
 pub least_is_outside : (p : ℤ) → of_z w128 p ≡ 2 ^ 127 → FitsSigned w128 p → fits_range (integer p) ≡ false
 least_is_outside p e f =
-    ap fits_range (integer_is p) ∙ outside_range p 1 (lit< tt) (gcd_one (unsigned_abs p)) (inl (omega (arith, ints, e, f)))
+    ap fits_range (sym (integer_ratio p)) ∙ outside_range p 1 (lit< tt) (gcd_one (unsigned_abs p)) (inl (omega (arith, ints, e, f)))
 
 pub not_least : (p : ℤ) → (of_z w128 p ≡ 2 ^ 127 → ⊥) → FitsSigned w128 p → unsigned_abs p < 2 ^ 127
 not_least p s f = omega (arith, ints, s, f)

@@ -8,7 +8,7 @@ use Rattle.std.proofs.lemmas.Int.{ints, by_lt_z}
 use Rattle.std.proofs.lemmas.Nat.Gcd.{dvd_refl, le_of_dvd, IsGcd-swap, IsGcd-from_sub, IsGcd-from_mod}
 use Rattle.std.proofs.Math.Nat.{div-div-eq-div-mul, div-one, pow-succ', mul-dvd-mul_left, mul_comm, mod-eq_of_lt}
 use Rattle.cip_frac.proofs.Divisors.{IsCoprime, divides_scaled, gcd-product, coprime-product}
-use Rattle.cip_frac.proofs.Fields.{gcd_one}
+use Rattle.cip_rational.proofs.Integers.{gcd_one}
 
 -- n without t factors of two: they are all there, and the rest is odd
 pub record IsStripped (n t : ℕ) : Type 0 where

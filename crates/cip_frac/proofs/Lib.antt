@@ -3,9 +3,11 @@ pub mod Comparison
 pub mod Divisors
 pub mod Fields
 pub mod Halves
+pub mod Outcomes
 pub mod Products
 pub mod Quotients
 pub mod SumSteps
 pub mod Sums
 pub mod TextParts
 pub mod WholeNumbers
+pub mod WholeSizes

@@ -8,11 +8,11 @@ use Rattle.std.proofs.Math.Nat.{div-mul_cancel, mul-pos, dvd-mul_right, le-mul_o
 use Rattle.cip_rational.specs.Rational.{ℚ, ◌*ℚ◌, ratio, numerator, denominator, is_ratio}
 use Rattle.cip_rational.specs.Rational.Ratio.{ratio-mul, ratio-cancel}
 use Rattle.cip_rational.specs.Range.{largest, product_overflows}
-use Rattle.cip_frac.specs.Terms.{AreLowest}
+use Rattle.cip_frac.specs.LowestTerms.{AreLowest}
 use Rattle.cip_frac.proofs.Casts.{kept}
 use Rattle.cip_frac.proofs.Divisors.{IsCoprime, coprime_from_divisors, coprime_products, coprime_rests, positive_from_IsGcd, gcd_below}
 use Rattle.cip_frac.proofs.Fields.{outside_range, inside_range}
-use Rattle.cip_frac.proofs.SumSteps.{read, exact, factor_some}
+use Rattle.cip_frac.proofs.SumSteps.{read, exact_quotient, factor_some}
 
 four_products : (p q a c : ℤ) (g h : ℕ) → p *ℤ pos g ≡ a → q *ℤ pos h ≡ c → (p *ℤ q) *ℤ pos (g * h) ≡ a *ℤ c
 four_products p q a c g h e f =
@@ -85,9 +85,9 @@ module _ (x y : ℚ) (a c : ℤ) (b d : ℕ) (ea : a ≡ numerator x) (eb : b �
     product_large s =
         rw (← product_ratio) (ap not (outside_range (p *ℤ q) (u * o) (mul-pos under_some over_some) product_coprime s))
 
-    pub product_fits : unsigned_abs (p *ℤ q) < 2 ^ 127 → u * o < 2 ^ 127 → product_overflows x y ≡ false
+    pub products_fit : unsigned_abs (p *ℤ q) < 2 ^ 127 → u * o < 2 ^ 127 → product_overflows x y ≡ false
     unfolding product_overflows
-    product_fits s t =
+    products_fit s t =
         rw (← product_ratio) (ap not (inside_range (p *ℤ q) (u * o) (mul-pos under_some over_some) product_coprime s t))
 
 -- ---- the steps of the code
@@ -132,12 +132,12 @@ module _ {x y : ℚ} {a c : ℤ} {b d g h : ℕ} (w : Parts x y a c b d g h) whe
     p_exact : p *ℤ pos g ≡ a
     p_exact =
         let e : p ≡ int_div a (pos g) = rw (kept a w.ha.over_small) at ep in
-        ap (λ k. k *ℤ pos g) e ∙ exact a g w.hg.0
+        ap (λ k. k *ℤ pos g) e ∙ exact_quotient a g w.hg.0
 
     q_exact : q *ℤ pos h ≡ c
     q_exact =
         let e : q ≡ int_div c (pos h) = rw (kept c w.hc.over_small) at eq in
-        ap (λ k. k *ℤ pos h) e ∙ exact c h w.hh.0
+        ap (λ k. k *ℤ pos h) e ∙ exact_quotient c h w.hh.0
 
     p_read : read p ≡ p
     p_read =
@@ -188,7 +188,7 @@ module _ {x y : ℚ} {a c : ℤ} {b d g h : ℕ} (w : Parts x y a c b d g h) whe
         n_read = ap read n_is ∙ kept (p *ℤ q) n_small
 
         pub all_fit : product_overflows x y ≡ false
-        all_fit = product_fits x y a c b d w.ea w.eb w.ha w.ec w.ed w.hc g h w.hg w.hh p q (b / h) (d / g) p_exact q_exact u_is o_is n_small m_small
+        all_fit = products_fit x y a c b d w.ea w.eb w.ha w.ec w.ed w.hc g h w.hg w.hh p q (b / h) (d / g) p_exact q_exact u_is o_is n_small m_small
 
         pub lowest : AreLowest (read n) m
         lowest =

@@ -6,14 +6,14 @@ use borrow.Author.Differences.{up, down, same_in, product_is, false_is_lt, Apart
 use Rattle.std.proofs.lemmas.Int.{ints, to_z-of_z}
 use Rattle.std.proofs.Math.Nat.{div-mul_cancel, one-mul}
 use Rattle.cip_rational.specs.Rational.{◌*ℚ◌, ratio, integer, inverse, numerator, is_ratio}
-use Rattle.cip_rational.specs.Rational.Ratio.{ratio-mul, ratio-cancel}
+use Rattle.cip_rational.specs.Rational.Ratio.{integer_ratio, ratio-mul, ratio-cancel}
 use Rattle.cip_rational.specs.Rational.Lowest.{numerator-integer, denominator-integer, inverse-pos, inverse-negsuc}
 use Rattle.cip_rational.specs.Range.{largest, fits_range}
 use Rattle.cip_frac.specs.Fault.{quotient_of}
-use Rattle.cip_frac.specs.Terms.{AreLowest}
+use Rattle.cip_frac.specs.LowestTerms.{AreLowest}
 use Rattle.cip_frac.proofs.Casts.{kept}
 use Rattle.cip_frac.proofs.Divisors.{IsCoprime, coprime_quotients, positive_from_IsGcd}
-use Rattle.cip_frac.proofs.Fields.{integer_is, outside_range}
+use Rattle.cip_frac.proofs.Fields.{outside_range}
 use Rattle.cip_frac.proofs.SumSteps.{read, factor_some}
 
 -- 1 or -1, by the sign of q
@@ -36,7 +36,7 @@ inverse_is (negsuc k) s =
 quotient_is : (p q : ℤ) → q ≢ pos 0 → 0 < unsigned_abs q → quotient_of p q ≡ ratio (p *ℤ sign q) (unsigned_abs q)
 unfolding quotient_of
 quotient_is p q s some =
-    ap (λ x. x *ℚ inverse (integer q)) (integer_is p) ∙ ap (λ x. ratio p 1 *ℚ x) (inverse_is q s)
+    ap (λ x. x *ℚ inverse (integer q)) (sym (integer_ratio p)) ∙ ap (λ x. ratio p 1 *ℚ x) (inverse_is q s)
     ∙ ratio-mul p (sign q) 1 (unsigned_abs q) (lit< tt) some ∙ ap (ratio (p *ℤ sign q)) (one-mul (unsigned_abs q))
 
 -- the numerator, by the two signs

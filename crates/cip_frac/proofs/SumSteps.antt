@@ -3,12 +3,13 @@ use Rattle.std.proofs.Common.{◌≡◌, ℕ, ◌*◌, ◌/◌, ◌<◌, ◌≤�
 use Rattle.std.specs.Int.{IsGcd, w128}
 use Prim.Native.Nat.{◌∣◌}
 use borrow.Author.Differences.{same_in, quot_is, product_is}
-use Rattle.std.proofs.lemmas.Int.{ints, unsigned_abs-mul}
-use Rattle.std.proofs.lemmas.Nat.Gcd.{dvd_trans, dvd_refl}
-use Rattle.std.proofs.Math.Nat.{div-mul_cancel, zero-div, mul-pos, le-mul_of_pos_right, one-dvd}
+use Rattle.std.proofs.lemmas.Int.{unsigned_abs-mul}
+use Rattle.std.proofs.lemmas.Nat.Gcd.{dvd_trans}
+use Rattle.std.proofs.Math.Nat.{div-mul_cancel, zero-div, mul-pos, le-mul_of_pos_right}
 use Rattle.cip_rational.specs.Rational.{ℚ, ◌+ℚ◌, ratio, numerator, denominator}
 use Rattle.cip_rational.specs.Range.{sum_overflows}
-use Rattle.cip_frac.specs.Terms.{AreLowest}
+use Rattle.cip_rational.proofs.Integers.{gcd_one, times_one}
+use Rattle.cip_frac.specs.LowestTerms.{AreLowest}
 use Rattle.cip_frac.proofs.Casts.{kept}
 use Rattle.cip_frac.proofs.Divisors.{gcd_below, positive_from_IsGcd}
 use Rattle.cip_frac.proofs.Sums.{first_large, second_large, total_large, common_large, none_large, some, some_rest, u_is, sum_coprime, sum_ratio}
@@ -33,9 +34,9 @@ pub known : {x y : ℚ} {a c : ℤ} {b d g o u : ℕ} → a ≡ numerator x → 
 known ea eb ha ec ed hc hg eo eu = record { ea = ea; eb = eb; ha = ha; ec = ec; ed = ed; hc = hc; hg = hg; eo = eo; eu = eu }
 
 -- a divisor comes out of both parts
-pub exact : (z : ℤ) (k : ℕ) → k ∣ unsigned_abs z → int_div z (pos k) *ℤ pos k ≡ z
-exact (pos n) k h = same_in _ _ (omega (arith, div-mul_cancel k h))
-exact (negsuc n) k h =
+pub exact_quotient : (z : ℤ) (k : ℕ) → k ∣ unsigned_abs z → int_div z (pos k) *ℤ pos k ≡ z
+exact_quotient (pos n) k h = same_in _ _ (omega (arith, div-mul_cancel k h))
+exact_quotient (negsuc n) k h =
     let e : suc n / k * k ≡ suc n = div-mul_cancel k h in
     let q = quot_is (negsuc n) k in
     same_in _ _ (omega (arith, e, zero-div k, ap (λ t. t * k) q.0, ap (λ t. t * k) q.1, product_is (int_div (negsuc n) (pos k)) (pos k)))
@@ -43,15 +44,6 @@ exact (negsuc n) k h =
 pub factor_some : (m r : ℕ) → 0 < m * r → 0 < m
 factor_some zero r h = absurd (omega arith)
 factor_some (suc m) r h = omega arith
-
-gcd_one : (m : ℕ) → IsGcd m 1 1
-gcd_one m = (one-dvd m, dvd_refl 1, λ e p q. q)
-
-pub times_one : (z : ℤ) → z *ℤ pos 1 ≡ z
-times_one z = omega (arith, ints)
-
-pub divisor_some : (b d g : ℕ) → 0 < d → IsGcd b d g → 0 < g
-divisor_some b d g p h = positive_from_IsGcd b d g p h
 
 module _ {x y : ℚ} {a c : ℤ} {b d g o u : ℕ} (w : Known x y a c b d g o u) where
   pub first_none : (unsigned_abs (read a) * o < 2 ^ 127 → ⊥) → sum_overflows x y ≡ true
@@ -165,7 +157,7 @@ module _ {x y : ℚ} {a c : ℤ} {b d g o u : ℕ} (w : Known x y a c b d g o u)
           over_exact : n *ℤ pos r ≡ a *ℤ pos o +ℤ c *ℤ pos u
           over_exact =
               let e : n ≡ int_div (a *ℤ pos o +ℤ c *ℤ pos u) (pos r) = rw total_is at en in
-              ap (λ k. k *ℤ pos r) e ∙ exact (a *ℤ pos o +ℤ c *ℤ pos u) r rest_gcd.0
+              ap (λ k. k *ℤ pos r) e ∙ exact_quotient (a *ℤ pos o +ℤ c *ℤ pos u) r rest_gcd.0
 
           under_exact : u * last * r ≡ u * d
           under_exact =

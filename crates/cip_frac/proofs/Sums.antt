@@ -11,7 +11,7 @@ use Rattle.cip_rational.specs.Gcd.{gcd, gcd_unique}
 use Rattle.cip_rational.specs.Rational.{ℚ, ◌+ℚ◌, ratio, numerator, denominator, is_ratio}
 use Rattle.cip_rational.specs.Rational.Ratio.{ratio-add, ratio-cancel}
 use Rattle.cip_rational.specs.Range.{largest, too_large, sum_overflows}
-use Rattle.cip_frac.specs.Terms.{AreLowest}
+use Rattle.cip_frac.specs.LowestTerms.{AreLowest}
 use Rattle.cip_frac.proofs.Divisors.{IsCoprime, divides_other, coprime_from_divisors, coprime-product, coprime_rests, gcd-product, positive_from_IsGcd}
 
 -- the magnitude of a sum is the sum or the difference of the magnitudes

@@ -4,7 +4,7 @@ use Rattle.std.specs.Fmt.{decimal, signed_decimal}
 use Rattle.std.proofs.lemmas.List.{drop-drop, append-nil}
 use Rattle.cip_rational.specs.Rational.{ℚ, numerator, denominator}
 use Rattle.cip_numerals.specs.NumberText.{integer_text, denominator_text, fraction_text, natural_text_decimal, integer_text_decimal}
-use Rattle.cip_frac.specs.Terms.{AreLowest}
+use Rattle.cip_frac.specs.LowestTerms.{AreLowest}
 use Rattle.cip_frac.proofs.Casts.{kept}
 use Rattle.cip_frac.proofs.SumSteps.{read}
 

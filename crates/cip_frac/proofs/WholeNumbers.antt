@@ -4,12 +4,13 @@ use Rattle.std.specs.Prelude.{MatchOption}
 use Rattle.std.proofs.lemmas.Int.{unsigned_abs-mul}
 use Rattle.cip_rational.specs.Rational.{ℚ, ◌+ℚ◌, ◌*ℚ◌, ratio, numerator, denominator}
 use Rattle.cip_rational.specs.Range.{sum_overflows, product_overflows}
-use Rattle.cip_frac.specs.Terms.{AreLowest}
+use Rattle.cip_rational.proofs.Integers.{gcd_one, times_one}
+use Rattle.cip_frac.specs.LowestTerms.{AreLowest}
 use Rattle.cip_frac.proofs.Casts.{kept}
-use Rattle.cip_frac.proofs.Fields.{gcd_one, AreLowest-whole}
+use Rattle.cip_frac.proofs.Fields.{AreLowest-whole}
 use Rattle.cip_frac.proofs.Sums.{total_large, none_large, sum_ratio}
-use Rattle.cip_frac.proofs.Products.{product_large, product_fits, product_ratio}
-use Rattle.cip_frac.proofs.SumSteps.{read, times_one}
+use Rattle.cip_frac.proofs.Products.{product_large, products_fit, product_ratio}
+use Rattle.cip_frac.proofs.SumSteps.{read}
 
 pub option_map : {V : Type 0} (o : Option V) {P P' : Type 0} {Q Q' : V → Type 0} → (P → P') → ((v : V) → Q v → Q' v) → MatchOption o P Q → MatchOption o P' Q'
 option_map None f g h = f h
@@ -78,6 +79,6 @@ module _ (x y : ℚ) (a c : ℤ) (b d : ℕ) (ea : a ≡ numerator x) (eb : b �
       fitting_product v h =
           let small : unsigned_abs (a *ℤ c) < 2 ^ 127 = rw (ka, kc) at h.0 in
           let value : v ≡ ratio (a *ℤ c) 1 = rw (ka, kc) at h.1 in (
-            product_fits x y a c 1 1 ea ea1 la ec ed1 lc 1 1 (gcd_one _) (gcd_one _) a c 1 1 (times_one a) (times_one c) refl refl small (lit< tt),
+            products_fit x y a c 1 1 ea ea1 la ec ed1 lc 1 1 (gcd_one _) (gcd_one _) a c 1 1 (times_one a) (times_one c) refl refl small (lit< tt),
             value ∙ product_ratio x y a c 1 1 ea ea1 la ec ed1 lc 1 1 (gcd_one _) (gcd_one _) a c 1 1 (times_one a) (times_one c) refl refl,
           )

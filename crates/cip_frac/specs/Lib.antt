@@ -1,3 +1,4 @@
 pub mod Fault
+pub mod LowestTerms
 pub mod Order
-pub mod Terms
+pub mod Outcomes

@@ -24,7 +24,7 @@ equal_from_same a b t = eq_of_compare (only_equal (compare_rational a b) t)
     only_equal Greater e = absurd (cc)
 
 -- two tests that hold together are the same
-both_ways : (s t : Bool) → (s ≡ true → t ≡ true) → (t ≡ true → s ≡ true) → s ≡ t
+pub both_ways : (s t : Bool) → (s ≡ true → t ≡ true) → (t ≡ true → s ≡ true) → s ≡ t
 both_ways true t f g = sym (f refl)
 both_ways false true f g = g refl
 both_ways false false f g = refl

@@ -33,13 +33,13 @@ impl Model for Frac {
 
     ghost coded = { coded_ℚ };
 
-    ghost use Rattle.cip_frac.specs.Terms.{rational_of, HasLowest, terms_of, gives_back};
+    ghost use Rattle.cip_frac.specs.LowestTerms.{rational_of, HasLowest, lowest_terms_of, gives_back};
 
     ghost view = { rational_of };
 
     ghost invariant = { HasLowest };
 
-    ghost inverse = { terms_of };
+    ghost inverse = { lowest_terms_of };
 
     ghost inverse_ok = { gives_back };
 }
@@ -69,7 +69,7 @@ impl From<i64> for Frac {
 }
 
 impl Frac {
-    ghost use Rattle.cip_frac.specs.Terms.{AreLowest};
+    ghost use Rattle.cip_frac.specs.LowestTerms.{AreLowest};
 
     /// The number 0.
     #[inline]
@@ -214,6 +214,25 @@ impl Frac {
         ensures { result ≡ ceil self }
     {
         -floor_part_of(-self.numerator, self.denominator)
+    }
+
+    /// The greatest whole number that is at most this one, as a fraction; always in range.
+    #[inline]
+    pub fn rounded_down(self) -> Frac
+        ensures { result ≡ integer (floor self) }
+    {
+        Frac {
+            numerator: floor_part_of(self.numerator, self.denominator),
+            denominator: 1,
+        }
+    }
+
+    /// The least whole number that is at least this one, as a fraction; always in range.
+    #[inline]
+    pub fn rounded_up(self) -> Frac
+        ensures { result ≡ integer (ceil self) }
+    {
+        self.neg().rounded_down().neg()
     }
 
     // 1 / self

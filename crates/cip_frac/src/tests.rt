@@ -27,6 +27,8 @@ fn from_two_integers(rt: HostRuntime) {
         let x = fraction(&rt, p, q);
         assert!(rt; x.floor() == low);
         assert!(rt; x.ceil() == high);
+        assert!(rt; x.rounded_down().numerator() == low && x.rounded_down().is_whole());
+        assert!(rt; x.rounded_up().numerator() == high && x.rounded_up().is_whole());
     }
     let x = fraction(&rt, -7, 2);
     assert!(rt; x.is_negative() && !x.is_positive() && !x.is_zero() && !x.is_whole());

@@ -2,12 +2,12 @@
 use Rattle.std.specs.Prelude.{◌≡◌, ◌≢◌, ℕ, ◌+◌, ◌<◌, ◌≤◌, List, length}
 use Rattle.cip_rational.specs.Rational.{zeroℚ}
 use Rattle.cip_problem.specs.Program.{Term}
-use Rattle.cip_problem.specs.Terms.{column_at, coefficient_at, AreTermsTo, IsAboveLast, IsNotAboveLast}
+use Rattle.cip_problem.specs.RowTerms.{column_at, coefficient_at, AreTermsTo, IsAboveLast, IsNotAboveLast}
 use Rattle.cip_lin.specs.declared.rows.RowFault.{RowFault}
 use Rattle.cip_lin.specs.declared.rows.RowFault.TheVariants.{NotRising, ZeroTerm, NoMemory}
 
 -- the term can stand after these
-pub record CanFollow (terms : List Term) (term : Term) : Type 0 where
+pub record CanStandAfter (terms : List Term) (term : Term) : Type 0 where
   pub above : IsAboveLast terms term.column
   pub nonzero : term.coefficient ≢ zeroℚ
 
@@ -16,7 +16,7 @@ abbrev pub IsAppendFault : List Term → Term → RowFault → Type 0
 IsAppendFault terms term (NotRising at) = (at ≡ length terms) × IsNotAboveLast terms term.column
 IsAppendFault terms term (ZeroTerm at) =
     (at ≡ length terms) × IsAboveLast terms term.column × (term.coefficient ≡ zeroℚ)
-IsAppendFault terms term NoMemory = CanFollow terms term
+IsAppendFault terms term NoMemory = CanStandAfter terms term
 
 -- the column at a place is not above the one before it
 pub record FallsBackAt (terms : List Term) (at : ℕ) : Type 0 where

@@ -1,3 +1,2 @@
-pub mod Small
 pub mod Faults
 pub mod Sums

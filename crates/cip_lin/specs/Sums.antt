@@ -1,33 +1,15 @@
--- Sums of products in the order in which they are formed, and the first operation that overflows. The module below has
--- the laws.
-pub mod Laws
+-- The activity of a row and its least activity in a box, summed up in the order of the terms: the value, or the first
+-- operation that overflows. The module below has the value of the activity.
+pub mod ActivityValue
 use Rattle.std.specs.Prelude.{ℕ, List, [], ◌∷◌, Option, None, Some, Result, Ok, Err, if◌then◌else◌}
-use Rattle.cip_rational.specs.Rational.{ℚ, ◌+ℚ◌, ◌*ℚ◌, zeroℚ, lt_test}
-use Rattle.cip_rational.specs.Range.{sum_overflows, product_overflows}
+use Rattle.cip_rational.specs.Rational.{ℚ, zeroℚ, lt_test}
 use Rattle.cip_frac.specs.declared.operations.Wide.{Wide}
-use Rattle.cip_frac.specs.declared.operations.Operation.TheVariants.{Sum, Product}
+use Rattle.cip_frac.specs.Outcomes.{and_then, product_added}
 use Rattle.cip_problem.specs.Program.{Term, Sides}
 use Rattle.cip_problem.specs.Activity.{value_at}
 use Rattle.cip_problem.specs.Box.{sides_at}
 use Rattle.cip_lin.specs.declared.outcomes.Least.{Least}
 use Rattle.cip_lin.specs.declared.outcomes.Least.TheVariants.{Value, NoBound, Wide as TooWide}
-
--- a + b, or that this sum overflows
-abbrev pub sum_outcome : ℚ → ℚ → Result ℚ Wide
-sum_outcome a b = if sum_overflows a b then Err (record { op = Sum; left = a; right = b }) else Ok (a +ℚ b)
-
--- a * b, or that this product overflows
-abbrev pub product_outcome : ℚ → ℚ → Result ℚ Wide
-product_outcome a b = if product_overflows a b then Err (record { op = Product; left = a; right = b }) else Ok (a *ℚ b)
-
--- what comes after an outcome: an overflow stays
-abbrev pub and_then : Result ℚ Wide → (ℚ → Result ℚ Wide) → Result ℚ Wide
-and_then (Ok q) next = next q
-and_then (Err wide) next = Err wide
-
--- sum + a * b, the product formed first
-abbrev pub product_added : ℚ → ℚ → ℚ → Result ℚ Wide
-product_added sum a b = and_then (product_outcome a b) (λ product. sum_outcome sum product)
 
 -- a sum with the products of the terms added, one after another
 abbrev pub activity_from : ℚ → List Term → List ℚ → Result ℚ Wide

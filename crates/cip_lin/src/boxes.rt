@@ -9,7 +9,9 @@ use std::marker::Model;
 /// The low and the high side of a column; a side that is not there is open.
 #[derive(Clone, Copy, Debug, PartialEq, Eq)]
 pub struct Sides {
+    /// The least value, itself allowed.
     pub low: Option<Frac>,
+    /// The greatest value, itself allowed.
     pub high: Option<Frac>,
 }
 
@@ -79,14 +81,14 @@ impl Sides {
         }
     }
 
-    /// Whether a value lies between the sides.
+    /// Whether a value lies between the sides, each of which is allowed itself.
     pub fn contains(self, value: Frac) -> bool
         ensures { result ≡ is_between self.low self.high value }
     {
         is_at_least(self.low, value) && is_at_most(self.high, value)
     }
 
-    /// Whether at least two whole numbers lie between the sides.
+    /// Whether at least two whole numbers lie between the sides, which they do where one is open.
     pub fn has_two_wholes(self) -> bool
         ensures { result ≡ two_wholes_between self.low self.high }
     {
@@ -146,7 +148,7 @@ impl Model for Bounds {
 }
 
 impl Bounds {
-    /// A box of so many columns without sides.
+    /// A box of so many columns without sides; `Err` where the memory for it was refused.
     pub fn new(alloc: Global, columns: usize) -> Result<Bounds, AllocError>
         ensures { IfOk result (λ bounds. bounds ≡ replicate columns no_sides) }
     {
@@ -168,7 +170,7 @@ impl Bounds {
         self.sides.is_empty()
     }
 
-    /// The sides of a column.
+    /// The sides of a column, by its number from 0.
     pub fn sides(&self, column: u32) -> Sides
         requires { column < length self.now }
         ensures { result ≡ sides_at self.now column }
@@ -183,7 +185,7 @@ impl Bounds {
         self.sides.as_slice()
     }
 
-    /// Sets the sides of a column.
+    /// Sets the sides of a column, by its number from 0.
     pub fn set_sides(&mut self, column: u32, sides: Sides)
         requires { column < length self.old }
         ensures { self.new ≡ slice_set self.old column sides }
@@ -191,7 +193,8 @@ impl Bounds {
         self.sides[column as usize] = sides;
     }
 
-    /// Adds a column at the end; an `Err` changes nothing.
+    /// Adds a column with these sides at the end. `Err` comes where a growth was refused, and changes
+    /// nothing.
     pub fn push(&mut self, sides: Sides) -> Result<(), AllocError>
         ensures ok { OnOk result (self.new ≡ self.old ++ sides ∷ []) }
         ensures err { OnErr result (self.new ≡ self.old) }
@@ -200,7 +203,7 @@ impl Bounds {
         Ok(())
     }
 
-    /// A box of its own with the same sides.
+    /// A box of its own with the same sides; `Err` where the memory for it was refused.
     pub fn copied(&self, alloc: Global) -> Result<Bounds, AllocError>
         ensures { IfOk result (λ copy. copy ≡ self.now) }
     {
@@ -217,7 +220,8 @@ impl Bounds {
         is_box_inside(self.sides.as_slice(), outer.sides.as_slice())
     }
 
-    /// Whether at least two whole numbers lie between the sides of a column.
+    /// Whether at least two whole numbers lie between the sides of a column, which they do where one
+    /// is open.
     pub fn has_two_wholes(&self, column: u32) -> bool
         requires { column < length self.now }
         ensures { let sides = sides_at self.now column in result ≡ two_wholes_between sides.low sides.high }

@@ -20,7 +20,9 @@ fn side_of_least(coef: Frac, sides: Sides) -> Option<Frac>
     }
 }
 
-/// A sum with the least product of a coefficient and a value between two sides added.
+/// A sum with the least product of a coefficient and a value between two sides added: `NoBound`
+/// exactly where the side at which it is least is open, `Wide` where it is there and the product or
+/// the sum overflows.
 pub fn add_least(sum: Frac, coef: Frac, sides: Sides) -> Least
     ensures { result ≡ least_added sum coef sides }
 {
@@ -36,8 +38,8 @@ pub fn add_least(sum: Frac, coef: Frac, sides: Sides) -> Least
     }
 }
 
-/// The least activity of a row in a box: the exact sum by rising column, or what the first column
-/// that has no least product answers. The box has each column of the row.
+/// The least activity of a row in a box: the exact sum by rising column, or `NoBound` or `Wide`,
+/// whichever the first column that has no least product answers. The box has each column of the row.
 pub fn least(row: &Row, bounds: &Bounds) -> Least
     requires { StandsBelow (length bounds.now) row.now.terms }
     ensures { result ≡ least_from zeroℚ row.now.terms bounds.now }

@@ -2,8 +2,8 @@
 ghost use Rattle.std.specs.Prelude.{◌≡◌, ◌++◌, ◌∷◌, [], length, MatchResult, IfOk};
 ghost use Rattle.cip_rational.specs.Rational.{zeroℚ};
 ghost use Rattle.cip_problem.specs.Activity.{StandsBelow, activity};
-ghost use Rattle.cip_problem.specs.Terms.{AreTerms};
-ghost use Rattle.cip_lin.specs.Faults.{CanFollow, IsAppendFault, IsBuildFault};
+ghost use Rattle.cip_problem.specs.RowTerms.{AreTerms, no_term};
+ghost use Rattle.cip_lin.specs.Faults.{CanStandAfter, IsAppendFault, IsBuildFault};
 ghost use Rattle.cip_lin.specs.Sums.{activity_from};
 
 use cip_frac::{Frac, Wide};
@@ -14,7 +14,9 @@ use std::marker::Model;
 /// One product of a linear sum: a column and the coefficient that stands on it.
 #[derive(Clone, Copy, Debug, PartialEq, Eq)]
 pub struct Term {
+    /// The number of the column, from 0.
     pub col: u32,
+    /// The coefficient; in a row it is not 0.
     pub coef: Frac,
 }
 
@@ -31,7 +33,10 @@ impl Model for Term {
     ghost inverse = { λ t. record { col = t.column; coef = t.coefficient } };
 }
 
+/// The term of column 0 with the coefficient 0, which stands in no row.
 impl Default for Term {
+    ghost is_default = { λ term. term ≡ no_term };
+
     fn default() -> Term {
         Term {
             col: 0,
@@ -40,7 +45,7 @@ impl Default for Term {
     }
 }
 
-/// Why a row was refused. `at` is the place of the term, from 0.
+/// Why a row or a term was refused. `at` is the place of the term in the row, from 0.
 #[derive(Clone, Copy, Debug, PartialEq, Eq)]
 pub enum RowFault {
     /// The column of the term is not above that of the term before it.
@@ -74,7 +79,7 @@ fn sum_of_products(terms: &[Term], point: &[Frac]) -> Result<Frac, Wide>
 
 impl Model for Row {
     ghost use Rattle.cip_problem.specs.Program as problem;
-    ghost use Rattle.cip_problem.specs.Terms.{AreTerms};
+    ghost use Rattle.cip_problem.specs.RowTerms.{AreTerms};
     ghost use Rattle.cip_problem.specs.Codes.{row_code};
 
     ghost Value = { problem.Row };
@@ -87,7 +92,7 @@ impl Model for Row {
 }
 
 impl Row {
-    /// A row without terms.
+    /// A row without terms between two sides, `None` for an open one.
     pub fn empty(alloc: Global, low: Option<Frac>, high: Option<Frac>) -> Row
         ensures { result ≡ record { terms = []; low = low; high = high } }
     {
@@ -98,7 +103,9 @@ impl Row {
         }
     }
 
-    /// The row of these terms, or the first term that cannot stand in one.
+    /// The row of these terms between two sides, `None` for an open one. `NotRising` and `ZeroTerm`
+    /// name the first term that cannot stand in a row, the former where both hold; `NoMemory` comes
+    /// where a growth was refused before it.
     pub fn build(
         alloc: Global,
         terms: &[Term],
@@ -116,10 +123,12 @@ impl Row {
         Ok(row)
     }
 
-    /// Puts a term at the end, where it can stand there; else the row is as before.
+    /// Puts a term at the end. `NotRising` comes exactly where its column is not above that of the
+    /// last term, `ZeroTerm` where it is and the coefficient is 0, `at` being the number of terms;
+    /// `NoMemory` only where the term could stand there. After an `Err` the row is as before.
     pub fn append(&mut self, term: Term) -> Result<(), RowFault>
         ensures { MatchResult result
-            (λ _. (self.new ≡ record self.old { terms = self.old.terms ++ term ∷ [] }) × CanFollow self.old.terms term)
+            (λ _. (self.new ≡ record self.old { terms = self.old.terms ++ term ∷ [] }) × CanStandAfter self.old.terms term)
             (λ fault. (self.new ≡ self.old) × IsAppendFault self.old.terms term fault) }
     {
         let at = self.terms.len();
@@ -137,7 +146,7 @@ impl Row {
         }
     }
 
-    /// Sets the high side.
+    /// Sets the high side, `None` for an open one.
     pub fn set_high(&mut self, high: Option<Frac>)
         ensures { self.new ≡ record self.old { high = high } }
     {
@@ -152,22 +161,23 @@ impl Row {
         self.terms.as_slice()
     }
 
-    /// The low side.
+    /// The low side, `None` where it is open.
     pub fn low(&self) -> Option<Frac>
         ensures { result ≡ self.now.low }
     {
         self.low
     }
 
-    /// The high side.
+    /// The high side, `None` where it is open.
     pub fn high(&self) -> Option<Frac>
         ensures { result ≡ self.now.high }
     {
         self.high
     }
 
-    /// The sum of the row's products at a point, by rising column, or the first operation of it
-    /// that overflows. The point has a value for each column of the row.
+    /// The sum of the row's products at a point, by rising column. `Wide` comes exactly where an
+    /// operation of it overflows, and names the first. The point has a value for each column of the
+    /// row.
     pub fn activity(&self, point: &[Frac]) -> Result<Frac, Wide>
         requires { StandsBelow (length point.now) self.now.terms }
         ensures steps { result ≡ activity_from zeroℚ self.now.terms point.now }

@@ -3,7 +3,6 @@ pub mod Inside
 pub mod Keys
 pub mod Least
 pub mod Meaning
-pub mod Names
 pub mod Programs
 pub mod Small
 pub mod Verdicts

@@ -1,6 +1,6 @@
 //! Names and their numbers.
 ghost use Rattle.std.specs.Prelude.{◌≡◌, ◌<◌, ◌++◌, ◌∷◌, ◌↔◌, [], Some, None, IsTrue, length, slice_get, IfSome, OnOk, OnErr};
-ghost use Rattle.cip_model.specs.Names.{number_of};
+ghost use Rattle.cip_problem.specs.Names.{number_of};
 
 use indexmap::IndexSet;
 use std::alloc::{AllocError, Global};

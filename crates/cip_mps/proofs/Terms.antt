@@ -5,7 +5,7 @@ use Rattle.cip_rational.specs.Rational.{zeroℚ}
 use Rattle.cip_rational.specs.Rational.Lowest.{integer_inj}
 use Rattle.cip_rational.specs.Rational.Rounding.{integer-zero}
 use Rattle.cip_problem.specs.Program.{Term, Row}
-use Rattle.cip_problem.specs.Terms.{column_at, IsAboveLast, IsNotAboveLast}
+use Rattle.cip_problem.specs.RowTerms.{column_at, IsAboveLast, IsNotAboveLast}
 use Rattle.cip_syntax.specs.ThinText.{rational}
 use Rattle.cip_reading.specs.Reading.{is_above_last, term_added}
 

@@ -1,7 +1,7 @@
 //! The lines of ROWS.
 ghost use Rattle.std.specs.Prelude.{◌≡◌, ◌<◌, vec_len, IfSome, OnOk, None, option_map};
 ghost use Rattle.std.specs.Bool.{OnTrue};
-ghost use Rattle.cip_model.specs.Names.{number_of};
+ghost use Rattle.cip_problem.specs.Names.{number_of};
 ghost use Rattle.cip_reading.specs.Reading as steps;
 ghost use Rattle.cip_mps.specs.Drafts.{reading, named_of, IsRowBelow};
 ghost use Rattle.cip_mps.specs.Refusals.{Gives};

@@ -3,10 +3,12 @@ pub mod Box
 pub mod BoxBound
 pub mod Codes
 pub mod Examples
+pub mod Limits
 pub mod Log
+pub mod Names
 pub mod Points
 pub mod Program
+pub mod RowTerms
 pub mod Statements
-pub mod Terms
 pub mod WellFormed
 pub mod Wholes

@@ -1,2 +1,5 @@
+pub mod Comparisons
+pub mod Integers
 pub mod LinearExamples
 pub mod Tried
+pub mod WithZero

@@ -201,13 +201,13 @@ AllWhole rest [] = Unit {0}
 AllWhole rest (q ∷ qs) = (rest q ≡ 0) × AllWhole rest qs
 
 -- the product of the denominators
-abbrev common : List ℚ → ℕ
-common [] = 1
-common (q ∷ qs) = denominator q * common qs
+abbrev common_denominator : List ℚ → ℕ
+common_denominator [] = 1
+common_denominator (q ∷ qs) = denominator q * common_denominator qs
 
-common-pos : (qs : List ℚ) → 0 < common qs
-common-pos [] = zero-lt-suc 0
-common-pos (q ∷ qs) = mul-pos (denominator-pos q) (common-pos qs)
+common_denominator-pos : (qs : List ℚ) → 0 < common_denominator qs
+common_denominator-pos [] = zero-lt-suc 0
+common_denominator-pos (q ∷ qs) = mul-pos (denominator-pos q) (common_denominator-pos qs)
 
 -- a multiple of the denominator makes a rational whole
 whole_at : (k : ℕ) (q : ℚ) → rest (whole (k * denominator q) 0 *ℚ q) ≡ 0
@@ -215,16 +215,16 @@ whole_at k q =
     let e : whole (k * denominator q) 0 ≡ whole k 0 *ℚ whole (denominator q) 0 = whole_same _ _ _ _ (omega arith) ∙ sym (whole_mul k 0 (denominator q) 0) in
     rw (e, *ℚ_assoc (whole k 0) (whole (denominator q) 0) q) (rest_zero _ (IsWhole-mul _ _ (IsWhole-whole k 0) (IsWhole-scaled q)))
 
-all_whole : (k : ℕ) (qs : List ℚ) → AllWhole (λ q. rest (whole (k * common qs) 0 *ℚ q)) qs
+all_whole : (k : ℕ) (qs : List ℚ) → AllWhole (λ q. rest (whole (k * common_denominator qs) 0 *ℚ q)) qs
 all_whole k [] = tt
 all_whole k (q ∷ qs) =
-    let e : k * (denominator q * common qs) ≡ k * common qs * denominator q = omega arith in
-    let f : k * denominator q * common qs ≡ k * (denominator q * common qs) = omega arith in
-    (rw e (whole_at (k * common qs) q), subst (λ (m : ℕ). AllWhole (λ q. rest (whole m 0 *ℚ q)) qs) f (all_whole (k * denominator q) qs))
+    let e : k * (denominator q * common_denominator qs) ≡ k * common_denominator qs * denominator q = omega arith in
+    let f : k * denominator q * common_denominator qs ≡ k * (denominator q * common_denominator qs) = omega arith in
+    (rw e (whole_at (k * common_denominator qs) q), subst (λ (m : ℕ). AllWhole (λ q. rest (whole m 0 *ℚ q)) qs) f (all_whole (k * denominator q) qs))
 
 module _ (atoms : List ℚ) where
   scale : Scale
-  scale = scale_at (1 * common atoms) (omega (arith, common-pos atoms))
+  scale = scale_at (1 * common_denominator atoms) (omega (arith, common_denominator-pos atoms))
 
   scale_whole : AllWhole scale.rest atoms
   unfolding scale scale_at rest_at scaled

@@ -1,5 +1,5 @@
 -- The operations on fractions, and that each gives the same at fractions of one value.
---     add, multiply, opposite, at_most       on fractions as they stand, with no reduction
+--     add, multiply, opposite, fraction_at_most       on fractions as they stand, with no reduction
 --     over, common, lowest_numerator, lowest_denominator      a fraction's lowest terms
 use lib.IntN.{ℤ, pos, negsuc}
 use native.Mathlib.Nat.{mul-sub, dvd-zero, le_of_mul-le-mul_right, mul-pos, mul-div_cancel', eq-zero-or-pos, eq_of_mul-eq-mul_left, mul-one}
@@ -34,8 +34,8 @@ abbrev pub opposite : Fraction → Fraction
 opposite x = record { up = x.down; down = x.up; den = x.den; positive = x.positive }
 
 -- x is at most y, by cross products
-abbrev pub at_most : Fraction → Fraction → Bool
-at_most x y = leb (x.up * y.den + y.down * x.den) (y.up * x.den + x.down * y.den)
+abbrev pub fraction_at_most : Fraction → Fraction → Bool
+fraction_at_most x y = leb (x.up * y.den + y.down * x.den) (y.up * x.den + x.down * y.den)
 
 pub add_left : (x y z : Fraction) → Same x y → of (add x z) ≡ of (add y z)
 add_left x y z r = same_equal _ _ (record { cross = omega (arith, ap (λ t. t * (z.den * z.den)) r.cross) })
@@ -62,13 +62,13 @@ same_test a b c d f g = go (leb a b) (leb c d) refl refl
     go true false p q = absurd (omega (arith, leb-true a b p, leb-false c d q))
     go false true p q = absurd (omega (arith, leb-false a b p, leb-true c d q))
 
-pub at_most_left : (x y z : Fraction) → Same x y → at_most x z ≡ at_most y z
+pub at_most_left : (x y z : Fraction) → Same x y → fraction_at_most x z ≡ fraction_at_most y z
 at_most_left x y z r =
     same_test _ _ _ _
     (λ h. le_of_mul-le-mul_right {k = x.den} (omega (arith, mul-le-mul_right y.den h, ap (λ t. t * z.den) r.cross)) x.positive)
     (λ h. le_of_mul-le-mul_right {k = y.den} (omega (arith, mul-le-mul_right x.den h, ap (λ t. t * z.den) r.cross)) y.positive)
 
-pub at_most_right : (z x y : Fraction) → Same x y → at_most z x ≡ at_most z y
+pub at_most_right : (z x y : Fraction) → Same x y → fraction_at_most z x ≡ fraction_at_most z y
 at_most_right z x y r =
     same_test _ _ _ _
     (λ h. le_of_mul-le-mul_right {k = x.den} (omega (arith, mul-le-mul_right y.den h, ap (λ t. t * z.den) r.cross)) x.positive)

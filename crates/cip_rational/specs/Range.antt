@@ -1,9 +1,8 @@
 -- Which rationals a pair of `i128` holds, and which operations leave that range.
 --     largest, magnitude, fits_range       the range: in lowest terms both numbers are at most `largest` in magnitude
 --     sum_overflows, difference_overflows, product_overflows, quotient_overflows      whether an operation leaves it
---     checked_sum, checked_product         the result, where the operation stays in the range
 pub mod Laws
-use Rattle.std.specs.Prelude.{ℕ, ◌*◌, ◌/◌, Bool, not, cond, ◌&&◌, ◌||◌, nat_lt, nat_le, ℤ, pos, ◌+ℤ◌, ◌*ℤ◌, unsigned_abs, Option, Some, None}
+use Rattle.std.specs.Prelude.{ℕ, ◌*◌, ◌/◌, Bool, not, ◌&&◌, ◌||◌, nat_lt, nat_le, ℤ, pos, ◌+ℤ◌, ◌*ℤ◌, unsigned_abs}
 use Rattle.cip_rational.specs.Gcd.{gcd}
 use Rattle.cip_rational.specs.Rational.{ℚ, ◌+ℚ◌, ◌*ℚ◌, negate, inverse, numerator, denominator}
 
@@ -48,11 +47,3 @@ product_overflows a b = not (fits_range (a *ℚ b))
 -- a quotient is the product with the inverse
 unfoldable pub quotient_overflows : ℚ → ℚ → Bool
 quotient_overflows a b = product_overflows a (inverse b)
-
--- the sum, or none where it overflows
-unfoldable pub checked_sum : ℚ → ℚ → Option ℚ
-checked_sum a b = cond (sum_overflows a b) None (Some (a +ℚ b))
-
--- the product, or none where it overflows
-unfoldable pub checked_product : ℚ → ℚ → Option ℚ
-checked_product a b = cond (product_overflows a b) None (Some (a *ℚ b))

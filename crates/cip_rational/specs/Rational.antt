@@ -24,7 +24,7 @@ use Rattle.std.proofs.Common.{◌≡◌, ℕ, zero, suc, ◌+◌, ◌-◌, ◌*�
 use Rattle.std.specs.Int.{int_div_euclid}
 use Rattle.std.specs.Coded.{Coded, code_by, coded×, coded_ℤ, coded_ℕ}
 use Rattle.cip_rational.specs.Fraction.{Fraction, Same, of, same_equal, ℚ_set, rational_rec, rational_rec₂, rational_ind}
-use Rattle.cip_rational.specs.OnFractions.{add, multiply, opposite, at_most, lowest_numerator, lowest_denominator, add_left, add_right, multiply_left, multiply_right, opposite_same, at_most_left, at_most_right, numerator_same, denominator_same, lowest-pos, lowest-same}
+use Rattle.cip_rational.specs.OnFractions.{add, multiply, opposite, fraction_at_most, lowest_numerator, lowest_denominator, add_left, add_right, multiply_left, multiply_right, opposite_same, at_most_left, at_most_right, numerator_same, denominator_same, lowest-pos, lowest-same}
 pub use Rattle.cip_rational.specs.Fraction.{ℚ}
 
 -- ---- numbers
@@ -93,7 +93,7 @@ inverse q = reciprocal (numerator q) (denominator q)
 
 -- whether a is at most b, by cross products
 pub le_test : ℚ → ℚ → Bool
-le_test = rational_rec₂ Bool-set at_most at_most_left at_most_right
+le_test = rational_rec₂ Bool-set fraction_at_most at_most_left at_most_right
 
 -- whether a is less than b: b is not at most a
 pub lt_test : ℚ → ℚ → Bool

@@ -61,6 +61,13 @@ ComparisonIsTotal = IsTotalOrder compare_rational
 abbrev pub SumsStayInRange : Type 0
 SumsStayInRange = (a b : ℚ) → sum_overflows a b ≡ false → fits_range (a +ℚ b) ≡ true
 
+-- a sum with 0 of a number in the range, and a product with 0, does not overflow
+pub record ZeroNeverOverflows : Type 0 where
+  pub sum_right : (a : ℚ) → fits_range a ≡ true → sum_overflows a zeroℚ ≡ false
+  pub sum_left : (a : ℚ) → fits_range a ≡ true → sum_overflows zeroℚ a ≡ false
+  pub product_right : (a : ℚ) → product_overflows a zeroℚ ≡ false
+  pub product_left : (a : ℚ) → product_overflows zeroℚ a ≡ false
+
 -- where each row times x is at most its bound, so is each combination of rows by numbers that are not negative
 abbrev pub CombinationsHold : Type 0
 CombinationsHold =

@@ -2,7 +2,7 @@
 // Each function here does nothing. Its contract is one of the main laws, so that the check proves it.
 #![tactic(auto)]
 
-ghost use Rattle.cip_rational.specs.Statements.{OrderedField, RatiosAreFractions, LowestTerms, Rounding, ComparisonIsTotal, SumsStayInRange, CombinationsHold, Values};
+ghost use Rattle.cip_rational.specs.Statements.{OrderedField, RatiosAreFractions, LowestTerms, Rounding, ComparisonIsTotal, SumsStayInRange, ZeroNeverOverflows, CombinationsHold, Values};
 
 /// The rational numbers are an ordered field: sums and products have the usual laws, each number but 0 has an inverse,
 /// and the order is total and kept by sums and by products with numbers that are not negative.
@@ -36,6 +36,11 @@ pub fn comparison_is_total()
 /// A sum that does not overflow has numerator and denominator of at most 2^127-1 in magnitude, in lowest terms.
 pub fn sums_stay_in_range()
     ensures { SumsStayInRange }
+{}
+
+/// A sum with 0 of a number in the range, and each product with 0, does not overflow.
+pub fn zero_never_overflows()
+    ensures { ZeroNeverOverflows }
 {}
 
 /// Where each row times x is at most its bound, the sum of the rows times multipliers that are not negative, times x,

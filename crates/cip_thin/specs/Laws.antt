@@ -10,7 +10,7 @@ use Rattle.cip_rational.specs.Rational.{ℚ, negate, integer}
 use Rattle.cip_rational.specs.Rational.Ring.{negate_negate}
 use Rattle.cip_rational.specs.Rational.Rounding.{integer-negate}
 use Rattle.cip_problem.specs.Program.{Term, Sides, Row, Program}
-use Rattle.cip_problem.specs.Terms.{AreTerms, column_at, no_term}
+use Rattle.cip_problem.specs.RowTerms.{AreTerms, column_at, no_term}
 use Rattle.cip_problem.specs.WellFormed.{columns}
 use Rattle.cip_problem.specs.Activity.{StandsBelow}
 use Rattle.cip_syntax.specs.ThinText.ThinProgram.{IsShort, HasThinSides, IsThinRow, IsThinProgram}

@@ -1,11 +1,11 @@
 -- What the tests of the range say, and the fraction that a sum forms.
 use native.Mathlib.Nat.{mul-pos, mul-div_cancel', div-le_self, eq-zero-or-pos}
 use borrow.Author.Differences.{up, down, product_is, sum_is_lem, same_in, abs_is, quot_is}
-use Rattle.std.proofs.Common.{◌≡◌, inl, inr, ℕ, ◌+◌, ◌*◌, ◌/◌, ◌<◌, ◌≤◌, Bool, true, false, not, cond, ◌&&◌, ◌||◌, nat_lt, nat_le, ℤ, pos, int_div, unsigned_abs, ◌+ℤ◌, ◌*ℤ◌, Some, None, refl, sym, ap, ap₂, ◌∙◌, arith, leb-true, le-leb, ltb-false, le-ltb, lit<, lit≤}
+use Rattle.std.proofs.Common.{◌≡◌, inl, inr, ℕ, ◌+◌, ◌*◌, ◌/◌, ◌<◌, ◌≤◌, Bool, true, false, not, ◌&&◌, ◌||◌, nat_lt, nat_le, ℤ, pos, int_div, unsigned_abs, ◌+ℤ◌, ◌*ℤ◌, refl, sym, ap, ap₂, ◌∙◌, arith, leb-true, le-leb, ltb-false, le-ltb, lit<, lit≤}
 use borrow.Author.Tests.{not-false}
 use Rattle.cip_rational.specs.Gcd.{gcd, gcd_lem, gcd-pos}
 use Rattle.cip_rational.specs.OnFractions.{parts_apart}
-use Rattle.cip_rational.specs.Range.{largest, magnitude, fits_range, too_large, raised, sum_overflows, product_overflows, checked_sum, checked_product}
+use Rattle.cip_rational.specs.Range.{largest, magnitude, fits_range, too_large, raised, sum_overflows, product_overflows}
 use Rattle.cip_rational.specs.Rational.{ℚ, ◌+ℚ◌, ◌*ℚ◌, negate, numerator, denominator, ratio, integer, zeroℚ, oneℚ, is_ratio}
 use Rattle.cip_rational.specs.Rational.Ratio.{ratio-add, ratio-cancel, integer_ratio}
 use Rattle.cip_rational.specs.Rational.Rounding.{integer-zero, integer-one}
@@ -155,21 +155,3 @@ product_fits a b e = not-false (fits_range (a *ℚ b)) e
 pub fits_product : (a b : ℚ) → fits_range (a *ℚ b) ≡ true → product_overflows a b ≡ false
 unfolding product_overflows
 fits_product a b e = ap not e
-
--- ---- what a checked operation gives
-
-pub checked_sum_some : (a b : ℚ) → sum_overflows a b ≡ false → checked_sum a b ≡ Some (a +ℚ b)
-unfolding checked_sum
-checked_sum_some a b e = ap (λ t. cond t None (Some (a +ℚ b))) e
-
-pub checked_sum_none : (a b : ℚ) → sum_overflows a b ≡ true → checked_sum a b ≡ None
-unfolding checked_sum
-checked_sum_none a b e = ap (λ t. cond t None (Some (a +ℚ b))) e
-
-pub checked_product_some : (a b : ℚ) → product_overflows a b ≡ false → checked_product a b ≡ Some (a *ℚ b)
-unfolding checked_product
-checked_product_some a b e = ap (λ t. cond t None (Some (a *ℚ b))) e
-
-pub checked_product_none : (a b : ℚ) → product_overflows a b ≡ true → checked_product a b ≡ None
-unfolding checked_product
-checked_product_none a b e = ap (λ t. cond t None (Some (a *ℚ b))) e

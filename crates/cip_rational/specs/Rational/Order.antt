@@ -4,7 +4,7 @@ use lib.Dec.{T_prop, not_T, T_not, nleb→lt}
 use native.Mathlib.Nat.{le_of_mul-le-mul_right, mul-le-mul_right}
 use Rattle.std.proofs.Common.{◌≡◌, ◌⊎◌, inl, inr, ◌+◌, ◌*◌, ◌<◌, ◌≤◌, Bool, true, false, not, T, leb→le, le→leb, true≢false, refl, sym, ◌∙◌, subst, arith}
 use Rattle.cip_rational.specs.Fraction.{Fraction, of, same_equal, ℚ_set, rational_ind, rational_ind₂, rational_ind₃}
-use Rattle.cip_rational.specs.OnFractions.{at_most}
+use Rattle.cip_rational.specs.OnFractions.{fraction_at_most}
 use Rattle.cip_rational.specs.Rational.{ℚ, le_test, lt_test, ◌≤ℚ◌, ◌<ℚ◌}
 use Rattle.cip_rational.specs.Rational.Ratio.{same_truth}
 
@@ -26,7 +26,7 @@ le_out x y h = leb→le (x.up * y.den + y.down * x.den) (y.up * x.den + x.down *
 
 pub lt_in : (x y : Fraction) → x.up * y.den + y.down * x.den < y.up * x.den + x.down * y.den → of x <ℚ of y
 unfolding lt_test le_test
-lt_in x y h = record { lt = not_T (at_most y x) (λ t. absurd (omega (arith, h, leb→le (y.up * x.den + x.down * y.den) (x.up * y.den + y.down * x.den) t))) }
+lt_in x y h = record { lt = not_T (fraction_at_most y x) (λ t. absurd (omega (arith, h, leb→le (y.up * x.den + x.down * y.den) (x.up * y.den + y.down * x.den) t))) }
 
 pub lt_out : (x y : Fraction) → of x <ℚ of y → x.up * y.den + y.down * x.den < y.up * x.den + x.down * y.den
 unfolding lt_test le_test

@@ -5,7 +5,7 @@ use native.Mathlib.Nat.{mul-pos}
 use borrow.Author.Differences.{up, down, sum_is_lem, neg_is, product_is, same_in, same_out, le_T, le_in, lt_T, lt_in, le_not}
 use Rattle.std.proofs.Common.{◌≡◌, ℕ, zero, suc, ◌+◌, ◌*◌, ◌<◌, Bool, true, false, T, ◌+ℤ◌, ◌*ℤ◌, ◌≤ℤ◌, ◌<ℤ◌, neg_ℤ, int_le, int_lt, refl, sym, ap, ◌∙◌, subst, arith, leb→le, le→leb}
 use Rattle.cip_rational.specs.Fraction.{Fraction, Same, of, same_equal}
-use Rattle.cip_rational.specs.OnFractions.{at_most}
+use Rattle.cip_rational.specs.OnFractions.{fraction_at_most}
 use Rattle.cip_rational.specs.Rational.{◌+ℚ◌, ◌*ℚ◌, negate, ratio, integer, whole, le_test, lt_test, ◌≤ℚ◌, ◌<ℚ◌, ratio_of}
 
 -- ---- equality
@@ -15,8 +15,8 @@ pub exact : (x y : Fraction) → of x ≡ of y → Same x y
 unfolding le_test
 exact x y e =
     let t : T (le_test (of x) (of x)) = le→leb (x.up * x.den + x.down * x.den) (x.up * x.den + x.down * x.den) (omega arith) in
-    let p : T (at_most x y) = subst (λ q. T (le_test (of x) q)) e t in
-    let r : T (at_most y x) = subst (λ q. T (le_test q (of x))) e t in
+    let p : T (fraction_at_most x y) = subst (λ q. T (le_test (of x) q)) e t in
+    let r : T (fraction_at_most y x) = subst (λ q. T (le_test q (of x))) e t in
     record { cross = omega (arith, leb→le _ _ p, leb→le _ _ r) }
 
 -- two tests that pass together are equal

@@ -21,7 +21,7 @@ use Rattle.cip_problem.specs.Program.{Term, Sides, Row, Program}
 use Rattle.cip_problem.specs.Activity.{activity, value_at}
 use Rattle.cip_problem.specs.Box.{Between, IsInBox}
 use Rattle.cip_problem.specs.Points.{IsFeasible, IsSatisfied, AreWhole, cost_of}
-use Rattle.cip_problem.specs.Terms.{AreTerms, column_at, coefficient_at}
+use Rattle.cip_problem.specs.RowTerms.{AreTerms, column_at, coefficient_at}
 use Rattle.cip_problem.specs.WellFormed.{IsWellFormed, columns}
 use Rattle.cip_problem.specs.Wholes.{HasWholeSides}
 use Rattle.cip_syntax.specs.ThinText.{Value, BoundLine, Contents, Coefficient, column_names, coefficients, limits_of, number, digits_at, number_or_zero, coefficient, limit_digits, limit, bound_digits, high_side, IsShortNumber, KeepsRules, rational, with_term, terms_from, row_of, sides_of, program_of, IsThin}

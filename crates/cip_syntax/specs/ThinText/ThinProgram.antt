@@ -3,7 +3,7 @@ use Rattle.std.specs.Prelude.{◌≡◌, ℕ, ◌<◌, ◌^◌, true, Option, No
 use Rattle.std.specs.List.{AllByRecursion}
 use Rattle.cip_rational.specs.Rational.{ℚ, negate, zeroℚ}
 use Rattle.cip_problem.specs.Program.{Sides, Row, Program}
-use Rattle.cip_problem.specs.Terms.{AreTerms}
+use Rattle.cip_problem.specs.RowTerms.{AreTerms}
 use Rattle.cip_problem.specs.WellFormed.{IsWellFormed}
 use Rattle.cip_problem.specs.Wholes.{HasWholeSides}
 use Rattle.cip_syntax.specs.ThinText.{AreDistinct, rational}

@@ -1,7 +1,7 @@
 use Rattle.std.proofs.Common.{◌≡◌, arith, subst, sym}
 use Rattle.std.specs.Int.{IsGcd}
 use Rattle.std.proofs.lemmas.Nat.Gcd.{IsGcd-swap, IsGcd-from_zero}
-use Rattle.cip_frac.proofs.Fields.{gcd_one}
+use Rattle.cip_rational.proofs.Integers.{gcd_one}
 use Rattle.cip_frac.proofs.gcd.short_gcd.Goals as goal
 
 pub returns-else-a-eq0 : goal.returns-else-a-eq0

@@ -1,14 +1,15 @@
 use Rattle.std.proofs.Common.{◌∙◌}
-use Rattle.cip_frac.proofs.SumSteps.{known, divisor_some, first_none, second_none, total_none, common_none, all_fit, short_lowest, short_ratio, rest_is_some, rest_small, last_lowest, last_ratio}
+use Rattle.cip_frac.proofs.Divisors.{positive_from_IsGcd}
+use Rattle.cip_frac.proofs.SumSteps.{known, first_none, second_none, total_none, common_none, all_fit, short_lowest, short_ratio, rest_is_some, rest_small, last_lowest, last_ratio}
 use Rattle.cip_frac.proofs.operations.fraction_sum.Goals as goal
 
 pub part_of-over-requires : goal.part_of-over-requires
 part_of-over-requires c =
-    divisor_some _ _ _ c.terms-c.ensures.lowest.positive c.gcd-g.ensures
+    positive_from_IsGcd _ _ _ c.terms-c.ensures.lowest.positive c.gcd-g.ensures
 
 pub part_of-under-requires : goal.part_of-under-requires
 part_of-under-requires c =
-    divisor_some _ _ _ c.terms-c.ensures.lowest.positive c.gcd-g.ensures
+    positive_from_IsGcd _ _ _ c.terms-c.ensures.lowest.positive c.gcd-g.ensures
 
 pub returns-in_default : goal.returns-in_default
 returns-in_default c =

@@ -3,7 +3,7 @@ use Rattle.cip_rational.specs.Rational.{ratio, negate}
 use Rattle.cip_rational.specs.Rational.Ratio.{ratio-negate}
 use Rattle.cip_frac.proofs.Casts.{negated}
 use Rattle.cip_frac.proofs.Fields.{AreLowest-neg}
-use Rattle.cip_frac.specs.Terms.{AreLowest}
+use Rattle.cip_frac.specs.LowestTerms.{AreLowest}
 use Rattle.std.proofs.Common.{subst}
 use Rattle.cip_frac.proofs.fraction.Frac.neg.Goals as goal
 

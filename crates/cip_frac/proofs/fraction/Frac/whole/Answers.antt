@@ -1,8 +1,9 @@
 use Rattle.std.proofs.Common.{ap, sym, subst, ◌∙◌, refl}
 use Rattle.cip_rational.specs.Rational.{ratio}
-use Rattle.cip_frac.specs.Terms.{AreLowest}
+use Rattle.cip_frac.specs.LowestTerms.{AreLowest}
 use Rattle.cip_frac.proofs.Casts.{kept}
-use Rattle.cip_frac.proofs.Fields.{AreLowest-whole, integer_is, least_is, least_is_outside, not_least}
+use Rattle.cip_rational.specs.Rational.Ratio.{integer_ratio}
+use Rattle.cip_frac.proofs.Fields.{AreLowest-whole, least_is, least_is_outside, not_least}
 use Rattle.cip_frac.proofs.fraction.Frac.whole.Goals as goal
 
 pub returns-then-p-eqminus170141183460469231731687303715884105728 : goal.returns-then-p-eqminus170141183460469231731687303715884105728
@@ -17,4 +18,4 @@ invariant_of-result c =
 pub returns : goal.returns
 returns c =
     let h = not_least c.args.p c.if-p-eqminus170141183460469231731687303715884105728.false c.ranges.p in
-    ap (λ z. ratio z 1) (kept c.args.p h) ∙ sym (integer_is c.args.p)
+    ap (λ z. ratio z 1) (kept c.args.p h) ∙ integer_ratio c.args.p

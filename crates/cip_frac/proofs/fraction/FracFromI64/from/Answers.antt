@@ -1,8 +1,9 @@
 use Rattle.std.proofs.Common.{ap, sym, subst, ◌∙◌}
 use Rattle.cip_rational.specs.Rational.{ratio}
-use Rattle.cip_frac.specs.Terms.{AreLowest}
+use Rattle.cip_frac.specs.LowestTerms.{AreLowest}
 use Rattle.cip_frac.proofs.Casts.{widened, widened_small}
-use Rattle.cip_frac.proofs.Fields.{AreLowest-whole, integer_is}
+use Rattle.cip_rational.specs.Rational.Ratio.{integer_ratio}
+use Rattle.cip_frac.proofs.Fields.{AreLowest-whole}
 use Rattle.cip_frac.proofs.fraction.FracFromI64.from.Goals as goal
 
 pub invariant_of-result : goal.invariant_of-result
@@ -10,4 +11,4 @@ invariant_of-result c =
     subst (λ n. AreLowest n 1) (sym (widened c.args.p c.ranges.p)) (AreLowest-whole c.args.p (widened_small c.args.p c.ranges.p))
 
 pub returns : goal.returns
-returns c = ap (λ n. ratio n 1) (widened c.args.p c.ranges.p) ∙ sym (integer_is c.args.p)
+returns c = ap (λ n. ratio n 1) (widened c.args.p c.ranges.p) ∙ integer_ratio c.args.p

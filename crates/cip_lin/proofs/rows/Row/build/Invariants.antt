@@ -1,5 +1,5 @@
 use Rattle.std.proofs.Common.{◌≡◌, take}
-use Rattle.cip_problem.specs.Terms.{AreTermsTo}
+use Rattle.cip_problem.specs.RowTerms.{AreTermsTo}
 use Rattle.cip_lin.proofs.rows.Row.build.Given as goal
 
 abbrev pub invariant-loop-term : goal.invariant-loop-term

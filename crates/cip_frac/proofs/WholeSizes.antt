@@ -1,22 +1,19 @@
 -- Sums and products of whole numbers that are small enough do not overflow.
 --     IsWithin n q         q is a whole number of size at most n
---     within_sum, within_product, within_added, within_activity
-use Rattle.std.specs.Prelude.{◌≡◌, ℕ, ◌+◌, ◌*◌, ◌/◌, suc, ◌≤◌, Bool, true, false, List, [], ◌∷◌, length, ℤ, pos, ◌+ℤ◌, ◌*ℤ◌, unsigned_abs, Result, Ok, Err, refl}
+--     within_sum, within_product, within_added, within_dot
+use Rattle.std.proofs.Common.{◌≡◌, ℕ, ◌+◌, ◌*◌, suc, ◌≤◌, false, List, [], ◌∷◌, length, ℤ, pos, ◌+ℤ◌, ◌*ℤ◌, Result, Ok, Err, refl, sym, ap₂, ◌∙◌, arith, lit≤, subst}
 use Rattle.std.specs.List.{AllByRecursion}
-use Rattle.std.proofs.Common.{sym, ap, ap₂, ◌∙◌, arith, lit≤, subst}
 use Rattle.std.proofs.lemmas.Int.{unsigned_abs-mul, ints}
 use Rattle.std.proofs.Math.Nat.{mul-le-mul}
-use native.Mathlib.Nat.{one-dvd}
-use Rattle.cip_rational.specs.Rational.{ℚ, ◌+ℚ◌, ◌*ℚ◌, integer, numerator, denominator, zeroℚ}
+use Rattle.cip_rational.specs.Rational.{ℚ, ◌+ℚ◌, ◌*ℚ◌, integer, denominator, zeroℚ}
 use Rattle.cip_rational.specs.Rational.Lowest.{numerator-integer, denominator-integer}
 use Rattle.cip_rational.specs.Rational.Rounding.{integer-add, integer-mul, integer-zero}
 use Rattle.cip_rational.specs.Gcd.{gcd, gcd_unique}
 use Rattle.cip_rational.specs.Range.{largest, magnitude, sum_overflows, product_overflows, raised}
-use Rattle.cip_rational.specs.Range.Laws.{SumFits, sum_in, fits_product, fits-integer}
+use Rattle.cip_rational.specs.Range.Laws.{least_common, sum_in, fits_product, fits-integer}
+use Rattle.cip_rational.proofs.Integers.{gcd_one, times_one}
 use Rattle.cip_frac.specs.declared.operations.Wide.{Wide}
-use Rattle.cip_problem.specs.Program.{Term}
-use Rattle.cip_problem.specs.Activity.{value_at}
-use Rattle.cip_lin.specs.Sums.{sum_outcome, product_outcome, and_then, product_added, activity_from}
+use Rattle.cip_frac.specs.Outcomes.{sum_outcome, and_then, product_added, dot_from}
 
 -- q is a whole number of size at most n
 pub record IsWithin (n : ℕ) (q : ℚ) : Type 0 where
@@ -24,27 +21,30 @@ pub record IsWithin (n : ℕ) (q : ℚ) : Type 0 where
   pub is_number : q ≡ integer number
   pub within : magnitude number ≤ n
 
+pub zero_within : (n : ℕ) → IsWithin n zeroℚ
+zero_within n = record { number = pos 0; is_number = sym integer-zero; within = omega arith }
+
+pub more_within : (m n : ℕ) (q : ℚ) → m ≤ n → IsWithin m q → IsWithin n q
+more_within m n q l h = record { number = h.number; is_number = h.is_number; within = omega (arith, h.within, l) }
+
 -- the sum of two integers is at most the sum of their sizes
 sum_size : (y z : ℤ) → magnitude (y +ℤ z) ≤ magnitude y + magnitude z
 sum_size y z = omega (arith, ints)
 
-one_gcd : gcd 1 1 ≡ 1
-one_gcd = gcd_unique 1 1 1 (one-dvd 1, one-dvd 1, λ d p q. q)
-
-times_one : (y : ℤ) → y *ℤ pos 1 ≡ y
-times_one y = omega (arith, ints)
+ones_gcd : gcd 1 1 ≡ 1
+ones_gcd = gcd_unique 1 1 1 (gcd_one 1)
 
 -- the numbers that a sum of two integers forms
 raised_integer : (y z : ℤ) → raised (gcd (denominator (integer y)) (denominator (integer z))) (integer y) (integer z) ≡ y
 raised_integer y z =
-    rw (numerator-integer y, denominator-integer y, denominator-integer z, one_gcd) (times_one y)
+    rw (numerator-integer y, denominator-integer y, denominator-integer z, ones_gcd) (times_one y)
 
 raised_back : (y z : ℤ) → raised (gcd (denominator (integer y)) (denominator (integer z))) (integer z) (integer y) ≡ z
 raised_back y z =
-    rw (numerator-integer z, denominator-integer y, denominator-integer z, one_gcd) (times_one z)
+    rw (numerator-integer z, denominator-integer y, denominator-integer z, ones_gcd) (times_one z)
 
-bottom_integer : (y z : ℤ) → denominator (integer y) / gcd (denominator (integer y)) (denominator (integer z)) * denominator (integer z) ≡ 1
-bottom_integer y z = rw (denominator-integer y, denominator-integer z, one_gcd) refl
+bottom_integer : (y z : ℤ) → least_common (integer y) (integer z) ≡ 1
+bottom_integer y z = rw (denominator-integer y, denominator-integer z, ones_gcd) refl
 
 -- a sum of integers of the range, whose sum is in the range
 integer_sum : (y z : ℤ) → magnitude y ≤ largest → magnitude z ≤ largest → magnitude (y +ℤ z) ≤ largest → sum_overflows (integer y) (integer z) ≡ false
@@ -77,7 +77,7 @@ within_product m n a b s t h =
       record { number = y *ℤ z; is_number = e; within = k },
     )
 
--- ---- sums of products
+-- ---- chains
 
 -- an outcome is a value of size at most n
 abbrev pub IsOkWithin : ℕ → Result ℚ Wide → Type 0
@@ -96,15 +96,13 @@ pub then_within : (n : ℕ) (r : Result ℚ Wide) (m : ℕ) (next : ℚ → Resu
 then_within n (Ok q) m next h f = f q h
 then_within n (Err wide) m next h f = absurd h
 
--- the sum of a row's products: k and, for each term, m times n
-abbrev pub TermsWithin : ℕ → ℕ → List Term → List ℚ → Type 0
-TermsWithin m n terms point = AllByRecursion (λ t. IsWithin m t.coefficient × IsWithin n (value_at point t.column)) terms
-
-pub within_activity : (k m n : ℕ) (sum : ℚ) (terms : List Term) (point : List ℚ) → IsWithin k sum → TermsWithin m n terms point → k + length terms * (m * n) ≤ largest → IsOkWithin (k + length terms * (m * n)) (activity_from sum terms point)
-within_activity k m n sum [] point r h l = subst (λ j. IsWithin j sum) (omega arith) r
-within_activity k m n sum (t ∷ ts) point r h l =
-    let e : k + m * n + length ts * (m * n) ≡ k + suc (length ts) * (m * n) = omega arith in
-    subst (λ j. IsOkWithin j (activity_from sum (t ∷ ts) point)) e
-    (then_within (k + m * n + length ts * (m * n)) (product_added sum t.coefficient (value_at point t.column)) (k + m * n) (λ more. activity_from more ts point)
-    (within_added k m n sum t.coefficient (value_at point t.column) r h.0.0 h.0.1 (omega (arith, l, e)))
-    (λ q w. within_activity (k + m * n) m n q ts point w h.1 (omega (arith, l, e))))
+-- the products of two lists: k and, for each of the first, m times n
+pub within_dot : (k m n : ℕ) (sum : ℚ) (us vs : List ℚ) → IsWithin k sum → AllByRecursion (IsWithin m) us → AllByRecursion (IsWithin n) vs → k + length us * (m * n) ≤ largest → IsOkWithin (k + length us * (m * n)) (dot_from sum us vs)
+within_dot k m n sum [] vs r s t l = subst (λ j. IsWithin j sum) (omega arith) r
+within_dot k m n sum (u ∷ us) [] r s t l = more_within k _ sum (omega arith) r
+within_dot k m n sum (u ∷ us) (v ∷ vs) r s t l =
+    let e : k + m * n + length us * (m * n) ≡ k + suc (length us) * (m * n) = omega arith in
+    subst (λ j. IsOkWithin j (dot_from sum (u ∷ us) (v ∷ vs))) e
+    (then_within (k + m * n + length us * (m * n)) (product_added sum u v) (k + m * n) (λ more. dot_from more us vs)
+    (within_added k m n sum u v r s.0 t.0 (omega (arith, l, e)))
+    (λ q w. within_dot (k + m * n) m n q us vs w s.1 t.1 (omega (arith, l, e))))

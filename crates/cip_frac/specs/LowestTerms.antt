@@ -21,9 +21,9 @@ abbrev pub HasLowest : Inside → Type 0
 HasLowest f = AreLowest f.numerator f.denominator
 
 -- the fields of a number
-abbrev pub terms_of : ℚ → Inside
-terms_of q = record { numerator = numerator q; denominator = denominator q }
+abbrev pub lowest_terms_of : ℚ → Inside
+lowest_terms_of q = record { numerator = numerator q; denominator = denominator q }
 
-pub gives_back : (f : Inside) → HasLowest f → terms_of (rational_of f) ≡ f
+pub gives_back : (f : Inside) → HasLowest f → lowest_terms_of (rational_of f) ≡ f
 gives_back f h =
     rw (numerator_lowest f.numerator f.denominator h.positive h.lowest, denominator_lowest f.numerator f.denominator h.positive h.lowest) refl

@@ -1,4 +1,4 @@
--- Names as a list of texts.
+-- Names, as lists of bytes, and their numbers.
 use Rattle.std.specs.Prelude.{ℕ, List, Option}
 use Rattle.std.specs.List.{position_from}
 use Rattle.std.specs.Str.{bytes_eq}
