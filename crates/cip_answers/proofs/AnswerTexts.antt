@@ -42,7 +42,8 @@ fraction_bytes [] plain = tt
 fraction_bytes (byte ∷ bytes) plain = (λ e. grind (arith, plain.0), fraction_bytes bytes plain.1)
 
 fraction_text-no_feed : (x : ℚ) → HasNoFeed (fraction_text x)
-fraction_text-no_feed x = fraction_bytes (fraction_text x) (recursion_from_All IsFractionByte (fraction_text x) (fraction_text_plain x))
+fraction_text-no_feed x =
+    fraction_bytes (fraction_text x) (recursion_from_All IsFractionByte (fraction_text x) (fraction_text_plain x))
 
 -- what comes before a line feed, and what comes after it
 parted : (xs ys us vs : List ℕ) → HasNoFeed xs → HasNoFeed ys → xs ++ 10 ∷ us ≡ ys ++ 10 ∷ vs → (xs ≡ ys) × (us ≡ vs)
@@ -64,9 +65,13 @@ line_then : (word figure rest : List ℕ) → line word figure ++ rest ≡ word 
 line_then word figure rest = simp append_assoc
 
 -- two lines of one word, each with more after it
-line_parted : (word figure other xs ys : List ℕ) → HasNoFeed figure → HasNoFeed other → line word figure ++ xs ≡ line word other ++ ys → (figure ≡ other) × (xs ≡ ys)
+line_parted :
+    (word figure other xs ys : List ℕ) → HasNoFeed figure → HasNoFeed other
+    → line word figure ++ xs ≡ line word other ++ ys → (figure ≡ other) × (xs ≡ ys)
 line_parted word figure other xs ys p q e =
-    let same : word ++ 32 ∷ (figure ++ 10 ∷ xs) ≡ word ++ 32 ∷ (other ++ 10 ∷ ys) = sym (line_then word figure xs) ∙ e ∙ line_then word other ys in
+    let left = line_then word figure xs in
+    let right = line_then word other ys in
+    let same : word ++ 32 ∷ (figure ++ 10 ∷ xs) ≡ word ++ 32 ∷ (other ++ 10 ∷ ys) = sym left ∙ e ∙ right in
     let blank = cancelled word (32 ∷ (figure ++ 10 ∷ xs)) (32 ∷ (other ++ 10 ∷ ys)) same in
     parted figure other xs ys p q (cc)
 
@@ -85,7 +90,8 @@ none_is_no_fraction [] plain e = cc
 none_is_no_fraction (byte ∷ bytes) plain e = let n : byte ≡ 110 = cc in grind (arith, plain.0, n)
 
 fraction_is_not_none : (x : ℚ) → fraction_text x ≢ codes "none"
-fraction_is_not_none x = none_is_no_fraction (fraction_text x) (recursion_from_All IsFractionByte (fraction_text x) (fraction_text_plain x))
+fraction_is_not_none x =
+    none_is_no_fraction (fraction_text x) (recursion_from_All IsFractionByte (fraction_text x) (fraction_text_plain x))
 
 figure_text_injective : (figure other : Option ℚ) → figure_text figure ≡ figure_text other → figure ≡ other
 figure_text_injective None None e = refl
@@ -112,7 +118,10 @@ status_word_injective NoMemory NoMemory e = refl
 -- ---- points
 
 -- the lines of two points with one value for each name, with the same after them
-point_lines_injective : (names : List (List ℕ)) (point other : List ℚ) (rest : List ℕ) → length point ≡ length names → length other ≡ length names → point_lines names point ++ rest ≡ point_lines names other ++ rest → point ≡ other
+point_lines_injective :
+    (names : List (List ℕ)) (point other : List ℚ) (rest : List ℕ)
+    → length point ≡ length names → length other ≡ length names
+    → point_lines names point ++ rest ≡ point_lines names other ++ rest → point ≡ other
 point_lines_injective [] [] [] rest p q e = refl
 point_lines_injective [] (value ∷ point) other rest p q e = absurd (cc)
 point_lines_injective [] [] (value ∷ other) rest p q e = absurd (cc)
@@ -121,25 +130,35 @@ point_lines_injective (name ∷ names) (value ∷ point) [] rest p q e = absurd 
 point_lines_injective (name ∷ names) (value ∷ point) (one ∷ other) rest p q e =
     let text = fraction_text value in
     let text' = fraction_text one in
-    let same = sym (append_assoc (line name text) (point_lines names point) rest) ∙ e ∙ append_assoc (line name text') (point_lines names other) rest in
+    let left = append_assoc (line name text) (point_lines names point) rest in
+    let right = append_assoc (line name text') (point_lines names other) rest in
+    let same = sym left ∙ e ∙ right in
     let parts = line_parted name text text' _ _ (fraction_text-no_feed value) (fraction_text-no_feed one) same in
     ap (λ x. x ∷ point) (fraction_text_injective value one parts.0)
     ∙ ap (λ xs. one ∷ xs) (point_lines_injective names point other rest (omega arith) (omega arith) parts.1)
 
 -- the cost tells whether there is a point
-held_injective : (names : List (List ℕ)) (held other : Option Held) (rest : List ℕ) → HaveValues names held → HaveValues names other → held_cost held ≡ held_cost other → held_lines names held ++ rest ≡ held_lines names other ++ rest → held ≡ other
+held_injective :
+    (names : List (List ℕ)) (held other : Option Held) (rest : List ℕ) → HaveValues names held → HaveValues names other
+    → held_cost held ≡ held_cost other → held_lines names held ++ rest ≡ held_lines names other ++ rest → held ≡ other
 held_injective names None None rest p q cost e = refl
 held_injective names None (Some other) rest p q cost e = absurd (cc)
 held_injective names (Some held) None rest p q cost e = absurd (cc)
 held_injective names (Some held) (Some other) rest p q cost e =
     let costs : held.cost ≡ other.cost = cc in
     let points = point_lines_injective names held.point other.point rest p q e in
-    ap (λ x. Some (record { cost = x; point = held.point })) costs ∙ ap (λ xs. Some (record { cost = other.cost; point = xs })) points
+    ap (λ x. Some (record { cost = x; point = held.point })) costs
+    ∙ ap (λ xs. Some (record { cost = other.cost; point = xs })) points
 
 -- ---- answers
 
 -- the text by its parts
-answer_parts : (names : List (List ℕ)) (figures : Figures) → answer_text names figures ≡ line (codes "status") (status_word figures.status) ++ (line (codes "cost") (figure_text (held_cost figures.held)) ++ (line (codes "bound") (figure_text figures.bound) ++ (held_lines names figures.held ++ end_line)))
+answer_parts :
+    (names : List (List ℕ)) (figures : Figures)
+    → answer_text names figures
+    ≡ line (codes "status") (status_word figures.status)
+    ++ (line (codes "cost") (figure_text (held_cost figures.held))
+    ++ (line (codes "bound") (figure_text figures.bound) ++ (held_lines names figures.held ++ end_line)))
 answer_parts names figures =
     let status = line (codes "status") (status_word figures.status) in
     let cost = line (codes "cost") (figure_text (held_cost figures.held)) in
@@ -148,18 +167,28 @@ answer_parts names figures =
     append_assoc (status ++ cost ++ bound) lines end_line ∙ append_assoc (status ++ cost) bound (lines ++ end_line)
     ∙ append_assoc status cost (bound ++ (lines ++ end_line))
 
-same_figures : (figures other : Figures) → figures.status ≡ other.status → figures.held ≡ other.held → figures.bound ≡ other.bound → figures ≡ other
+same_figures :
+    (figures other : Figures) → figures.status ≡ other.status → figures.held ≡ other.held
+    → figures.bound ≡ other.bound → figures ≡ other
 same_figures figures other status held bound =
     ap (λ x. record { status = x; held = figures.held; bound = figures.bound }) status
     ∙ ap (λ x. record { status = other.status; held = x; bound = figures.bound }) held
     ∙ ap (λ x. record { status = other.status; held = other.held; bound = x }) bound
 
-pub answer_text_injective : (names : List (List ℕ)) (figures other : Figures) → HaveValues names figures.held → HaveValues names other.held → answer_text names figures ≡ answer_text names other → figures ≡ other
+pub answer_text_injective :
+    (names : List (List ℕ)) (figures other : Figures) → HaveValues names figures.held → HaveValues names other.held
+    → answer_text names figures ≡ answer_text names other → figures ≡ other
 answer_text_injective names figures other p q e =
     let same = sym (answer_parts names figures) ∙ e ∙ answer_parts names other in
-    let status = line_parted (codes "status") _ _ _ _ (status_word-no_feed figures.status) (status_word-no_feed other.status) same in
-    let cost = line_parted (codes "cost") _ _ _ _ (figure_text-no_feed (held_cost figures.held)) (figure_text-no_feed (held_cost other.held)) status.1 in
-    let bound = line_parted (codes "bound") _ _ _ _ (figure_text-no_feed figures.bound) (figure_text-no_feed other.bound) cost.1 in
+    let word = status_word-no_feed figures.status in
+    let word' = status_word-no_feed other.status in
+    let status = line_parted (codes "status") _ _ _ _ word word' same in
+    let figure = figure_text-no_feed (held_cost figures.held) in
+    let figure' = figure_text-no_feed (held_cost other.held) in
+    let cost = line_parted (codes "cost") _ _ _ _ figure figure' status.1 in
+    let least = figure_text-no_feed figures.bound in
+    let least' = figure_text-no_feed other.bound in
+    let bound = line_parted (codes "bound") _ _ _ _ least least' cost.1 in
     same_figures figures other (status_word_injective figures.status other.status status.0)
     (held_injective names figures.held other.held end_line p q (figure_text_injective _ _ cost.0) bound.1)
     (figure_text_injective figures.bound other.bound bound.0)
@@ -167,9 +196,16 @@ answer_text_injective names figures other p q e =
 -- ---- the texts that have no figures
 
 -- an answer that begins with a line of status says that status, and goes on with the line of the cost
-status_first : (names : List (List ℕ)) (figures : Figures) (word rest : List ℕ) → has_feed word ≡ false → answer_text names figures ≡ line (codes "status") word ++ rest → (status_word figures.status ≡ word) × (line (codes "cost") (figure_text (held_cost figures.held)) ++ (line (codes "bound") (figure_text figures.bound) ++ (held_lines names figures.held ++ end_line)) ≡ rest)
+status_first :
+    (names : List (List ℕ)) (figures : Figures) (word rest : List ℕ) → has_feed word ≡ false
+    → answer_text names figures ≡ line (codes "status") word ++ rest
+    → (status_word figures.status ≡ word)
+    × (line (codes "cost") (figure_text (held_cost figures.held))
+    ++ (line (codes "bound") (figure_text figures.bound) ++ (held_lines names figures.held ++ end_line))
+    ≡ rest)
 status_first names figures word rest test e =
-    line_parted (codes "status") _ _ _ _ (status_word-no_feed figures.status) (HasNoFeed-from_test word test) (sym (answer_parts names figures) ∙ e)
+    line_parted (codes "status") _ _ _ _ (status_word-no_feed figures.status) (HasNoFeed-from_test word test)
+    (sym (answer_parts names figures) ∙ e)
 
 not_usage : (status : Status) → status_word status ≢ codes "usage"
 not_usage Optimal e = apart (codes "optimal") (codes "usage") refl refl e
@@ -187,16 +223,23 @@ not_refused NodeLimit e = apart (codes "nodelimit") (codes "refused") refl refl 
 not_refused NoMemory e = apart (codes "nomemory") (codes "refused") refl refl e
 
 pub answer_text-usage : (names : List (List ℕ)) (figures : Figures) → answer_text names figures ≢ usage_text
-answer_text-usage names figures e = not_usage figures.status (status_first names figures (codes "usage") end_line refl e).0
+answer_text-usage names figures e =
+    not_usage figures.status (status_first names figures (codes "usage") end_line refl e).0
 
 pub answer_text-read_fault : (names : List (List ℕ)) (figures : Figures) → answer_text names figures ≢ read_fault_text
-answer_text-read_fault names figures e = not_read_fault figures.status (status_first names figures (codes "readfault") end_line refl e).0
+answer_text-read_fault names figures e =
+    not_read_fault figures.status (status_first names figures (codes "readfault") end_line refl e).0
 
 -- it has a line of the cost
 pub answer_text-no_memory : (names : List (List ℕ)) (figures : Figures) → answer_text names figures ≢ no_memory_text
-answer_text-no_memory names figures e = let rest = (status_first names figures (codes "nomemory") end_line refl e).1 in cc
+answer_text-no_memory names figures e =
+    let rest = (status_first names figures (codes "nomemory") end_line refl e).1 in cc
 
-refusal_parts : (text number kind : List ℕ) → refusal_text text number kind ≡ line (codes "status") (codes "refused") ++ (line (codes "text") text ++ (line (codes "line") number ++ (line (codes "kind") kind ++ end_line)))
+refusal_parts :
+    (text number kind : List ℕ)
+    → refusal_text text number kind
+    ≡ line (codes "status") (codes "refused")
+    ++ (line (codes "text") text ++ (line (codes "line") number ++ (line (codes "kind") kind ++ end_line)))
 refusal_parts text number kind =
     let first = line (codes "text") text in
     let second = line (codes "line") number in
@@ -205,6 +248,9 @@ refusal_parts text number kind =
     append_assoc (status ++ first ++ second) third end_line ∙ append_assoc (status ++ first) second (third ++ end_line)
     ∙ append_assoc status first (second ++ (third ++ end_line))
 
-pub answer_text-refusal : (names : List (List ℕ)) (figures : Figures) (text number kind : List ℕ) → answer_text names figures ≢ refusal_text text number kind
+pub answer_text-refusal :
+    (names : List (List ℕ)) (figures : Figures) (text number kind : List ℕ)
+    → answer_text names figures ≢ refusal_text text number kind
 answer_text-refusal names figures text number kind e =
-    not_refused figures.status (status_first names figures (codes "refused") _ refl (e ∙ refusal_parts text number kind)).0
+    let first = status_first names figures (codes "refused") _ refl (e ∙ refusal_parts text number kind) in
+    not_refused figures.status first.0

@@ -1,6 +1,6 @@
 -- The definitions at values.
 use lib.Chars.{codes}
-use Rattle.std.proofs.Common.{◌≡◌, ◌≢◌, arith, [], ◌∷◌, ◌++◌, All, None, Some, refl, ap, ◌∙◌, zero-lt-suc}
+use Rattle.std.proofs.Common.{◌≡◌, ◌≢◌, arith, ℕ, List, [], ◌∷◌, ◌++◌, All, None, Some, refl, ap, ◌∙◌, zero-lt-suc}
 use Rattle.std.specs.Prelude.{AllPairs, ℤ, pos, negsuc}
 use Rattle.std.proofs.lemmas.List.Elements.{All-from_recursion}
 use Rattle.std.proofs.lemmas.List.Kept.{AllPairs-cons}
@@ -14,7 +14,9 @@ use Rattle.cip_answers.proofs.AnswerTexts.{apart}
 -- the text of a whole number
 integer_figure : (z : ℤ) → fraction_text (integer z) ≡ integer_text z ++ []
 unfolding fraction_text
-integer_figure z = ap (λ n. integer_text n ++ denominator_text (denominator (integer z))) (numerator-integer z) ∙ ap (λ d. integer_text z ++ denominator_text d) (denominator-integer z)
+integer_figure z =
+    ap (λ n. integer_text n ++ denominator_text (denominator (integer z))) (numerator-integer z)
+    ∙ ap (λ d. integer_text z ++ denominator_text d) (denominator-integer z)
 
 -- -2 / 4 is -1 / 2
 half_numerator : numerator (ratio (negsuc 1) 4) ≡ negsuc 0
@@ -28,12 +30,16 @@ half_denominator = denominator-ratio (negsuc 1) 4 (zero-lt-suc 3)
 half_figure : fraction_text (ratio (negsuc 1) 4) ≡ codes "-1/2"
 unfolding fraction_text
 half_figure =
-    ap (λ n. integer_text n ++ denominator_text (denominator (ratio (negsuc 1) 4))) half_numerator ∙ ap (λ d. integer_text (negsuc 0) ++ denominator_text d) half_denominator
+    ap (λ n. integer_text n ++ denominator_text (denominator (ratio (negsuc 1) 4))) half_numerator
+    ∙ ap (λ d. integer_text (negsuc 0) ++ denominator_text d) half_denominator
 
 pub optimal :
     answer_text (codes "a" ∷ codes "b" ∷ codes "c" ∷ []) (record {
       status = Optimal;
-      held = Some (record { cost = integer (pos 13); point = integer (pos 2) ∷ integer (pos 0) ∷ integer (pos 1) ∷ [] });
+      held = Some (record {
+        cost = integer (pos 13);
+        point = integer (pos 2) ∷ integer (pos 0) ∷ integer (pos 1) ∷ [];
+      });
       bound = Some (integer (pos 13));
     })
     ≡ codes "status optimal\ncost 13\nbound 13\na 2\nb 0\nc 1\nend\n"
@@ -45,7 +51,11 @@ pub no_point :
 no_point = simp integer_figure
 
 pub negative_ratio :
-    answer_text (codes "x" ∷ []) (record { status = Optimal; held = Some (record { cost = integer (negsuc 6); point = ratio (negsuc 1) 4 ∷ [] }); bound = None })
+    answer_text (codes "x" ∷ []) (record {
+      status = Optimal;
+      held = Some (record { cost = integer (negsuc 6); point = ratio (negsuc 1) 4 ∷ [] });
+      bound = None;
+    })
     ≡ codes "status optimal\ncost -7\nbound none\nx -1/2\nend\n"
 negative_ratio = simp (integer_figure, half_figure)
 
@@ -65,12 +75,20 @@ after_read_fault =
 
 after_no_memory : All (λ other. no_memory_text ≢ other) (not_thin_text ∷ [])
 after_no_memory =
-    All-from_recursion (λ other. no_memory_text ≢ other) (not_thin_text ∷ []) (apart no_memory_text not_thin_text refl refl, tt)
+    All-from_recursion (λ other. no_memory_text ≢ other) (not_thin_text ∷ []) (
+      apart no_memory_text not_thin_text refl refl,
+      tt,
+    )
+
+abbrev Differ : List ℕ → List ℕ → Type 0
+Differ text other = text ≢ other
 
 -- no two of the texts without figures are the same
-pub fixed_texts_differ : AllPairs (λ text other. text ≢ other) (usage_text ∷ read_fault_text ∷ no_memory_text ∷ not_thin_text ∷ [])
+pub fixed_texts_differ :
+    AllPairs (λ text other. text ≢ other) (usage_text ∷ read_fault_text ∷ no_memory_text ∷ not_thin_text ∷ [])
 fixed_texts_differ =
-    AllPairs-cons (λ text other. text ≢ other) usage_text (read_fault_text ∷ no_memory_text ∷ not_thin_text ∷ []) after_usage
-    (AllPairs-cons (λ text other. text ≢ other) read_fault_text (no_memory_text ∷ not_thin_text ∷ []) after_read_fault
-    (AllPairs-cons (λ text other. text ≢ other) no_memory_text (not_thin_text ∷ []) after_no_memory
-    (AllPairs-cons (λ text other. text ≢ other) not_thin_text [] (All-from_recursion (λ other. not_thin_text ≢ other) [] tt) (λ i j d below within. absurd (omega arith)))))
+    AllPairs-cons Differ usage_text (read_fault_text ∷ no_memory_text ∷ not_thin_text ∷ []) after_usage
+    (AllPairs-cons Differ read_fault_text (no_memory_text ∷ not_thin_text ∷ []) after_read_fault
+    (AllPairs-cons Differ no_memory_text (not_thin_text ∷ []) after_no_memory
+    (AllPairs-cons Differ not_thin_text [] (All-from_recursion (Differ not_thin_text) [] tt)
+    (λ i j d below within. absurd (omega arith)))))

@@ -14,5 +14,6 @@ is_option (byte ∷ bytes) = byte == 45
 
 -- the job of the words, where they are accepted: `solve` and the name of a text, which does not begin with `-`
 abbrev pub job_of : List (List ℕ) → Option Job
-job_of (command ∷ model ∷ []) = if bytes_eq command (codes "solve") && not (is_option model) then Some (Solve model) else None
+job_of (command ∷ model ∷ []) =
+    if bytes_eq command (codes "solve") && not (is_option model) then Some (Solve model) else None
 job_of words = None

@@ -91,7 +91,8 @@ no_memory_text = line (codes "status") (codes "nomemory") ++ end_line
 -- the text of a refusal: of which text, at which line, and the number and name of the kind
 abbrev pub refusal_text : List ℕ → List ℕ → List ℕ → List ℕ
 refusal_text text number kind =
-    line (codes "status") (codes "refused") ++ line (codes "text") text ++ line (codes "line") number ++ line (codes "kind") kind ++ end_line
+    line (codes "status") (codes "refused") ++ line (codes "text") text ++ line (codes "line") number
+    ++ line (codes "kind") kind ++ end_line
 
 -- what is said of a text that is not thin
 abbrev pub not_thin_text : List ℕ

@@ -23,7 +23,8 @@ pub record IsTruePoint (program : Program) (held : Held) : Type 0 where
 
 -- no feasible point is better than the printed bound
 abbrev pub IsTrueBound : Program → ℚ → Type 0
-IsTrueBound program bound = (point : List ℚ) → IsFeasible program point → ¬ IsBetter program.maximized (printed_cost program point) bound
+IsTrueBound program bound =
+    (point : List ℚ) → IsFeasible program point → ¬ IsBetter program.maximized (printed_cost program point) bound
 
 -- the printed bound is not better than the box bound
 abbrev pub IsAtMostBox : Program → ℚ → Type 0

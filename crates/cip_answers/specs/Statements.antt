@@ -9,22 +9,30 @@ use Rattle.cip_answers.specs.CommandLine.{Solve, job_of}
 -- two figures with one text, for one list of names, are the same
 abbrev pub AnswerTellsFigures : Type 0
 AnswerTellsFigures =
-    (names : List (List ℕ)) (figures other : Figures) → HaveValues names figures.held → HaveValues names other.held → answer_text names figures ≡ answer_text names other → figures ≡ other
+    (names : List (List ℕ)) (figures other : Figures)
+    → HaveValues names figures.held → HaveValues names other.held
+    → answer_text names figures ≡ answer_text names other → figures ≡ other
 
 -- the texts without figures are no answers, and differ from each other
 pub record FixedTextsStandApart : Type 0 where
   pub usage : (names : List (List ℕ)) (figures : Figures) → answer_text names figures ≢ usage_text
   pub read_fault : (names : List (List ℕ)) (figures : Figures) → answer_text names figures ≢ read_fault_text
   pub no_memory : (names : List (List ℕ)) (figures : Figures) → answer_text names figures ≢ no_memory_text
-  pub refusal : (names : List (List ℕ)) (figures : Figures) (text number kind : List ℕ) → answer_text names figures ≢ refusal_text text number kind
-  pub differ : AllPairs (λ text other. text ≢ other) (usage_text ∷ read_fault_text ∷ no_memory_text ∷ not_thin_text ∷ [])
+  pub refusal :
+      (names : List (List ℕ)) (figures : Figures) (text number kind : List ℕ)
+      → answer_text names figures ≢ refusal_text text number kind
+  pub differ :
+      AllPairs (λ text other. text ≢ other) (usage_text ∷ read_fault_text ∷ no_memory_text ∷ not_thin_text ∷ [])
 
 -- the definitions at values
 pub record Examples : Type 0 where
   pub optimal :
       answer_text (codes "a" ∷ codes "b" ∷ codes "c" ∷ []) (record {
         status = Optimal;
-        held = Some (record { cost = integer (pos 13); point = integer (pos 2) ∷ integer (pos 0) ∷ integer (pos 1) ∷ [] });
+        held = Some (record {
+          cost = integer (pos 13);
+          point = integer (pos 2) ∷ integer (pos 0) ∷ integer (pos 1) ∷ [];
+        });
         bound = Some (integer (pos 13));
       })
       ≡ codes "status optimal\ncost 13\nbound 13\na 2\nb 0\nc 1\nend\n"
@@ -32,7 +40,11 @@ pub record Examples : Type 0 where
       answer_text (codes "a" ∷ []) (record { status = NodeLimit; held = None; bound = Some (integer (pos 3)) })
       ≡ codes "status nodelimit\ncost none\nbound 3\nend\n"
   pub negative_ratio :
-      answer_text (codes "x" ∷ []) (record { status = Optimal; held = Some (record { cost = integer (negsuc 6); point = ratio (negsuc 1) 4 ∷ [] }); bound = None })
+      answer_text (codes "x" ∷ []) (record {
+        status = Optimal;
+        held = Some (record { cost = integer (negsuc 6); point = ratio (negsuc 1) 4 ∷ [] });
+        bound = None;
+      })
       ≡ codes "status optimal\ncost -7\nbound none\nx -1/2\nend\n"
   pub usage : usage_text ≡ codes "status usage\nend\n"
   pub not_thin : not_thin_text ≡ codes "status refused\ntext model\nline 1\nkind 21 OutOfProfile\nend\n"

@@ -27,27 +27,35 @@ has_first test (byte ∷ bytes) = cut (test byte) (slice_split test bytes)
     cut true pieces = record { first = []; others = pieces; are = refl }
     cut false pieces = onto pieces
 
-end_of_more : (piece : List ℕ) (pieces : List (List ℕ)) → HasFirst pieces → without_empty_end (piece ∷ pieces) ≡ piece ∷ without_empty_end pieces
+end_of_more :
+    (piece : List ℕ) (pieces : List (List ℕ)) → HasFirst pieces
+    → without_empty_end (piece ∷ pieces) ≡ piece ∷ without_empty_end pieces
 end_of_more piece pieces h = rw (h.are)
 
 pub lines_ended : (line rest : List ℕ) → HasNoLineFeed line → lines (line ++ 10 ∷ rest) ≡ line ∷ lines rest
 lines_ended line rest h =
-    ap without_empty_end (slice_split_at is_line_feed line 10 rest (All-from_recursion (λ byte. is_line_feed byte ≡ false) line h) refl)
+    let none = All-from_recursion (λ byte. is_line_feed byte ≡ false) line h in
+    ap without_empty_end (slice_split_at is_line_feed line 10 rest none refl)
     ∙ end_of_more line (slice_split is_line_feed rest) (has_first is_line_feed rest)
 
 pub lines_last : (byte : ℕ) (bytes : List ℕ) → HasNoLineFeed (byte ∷ bytes) → lines (byte ∷ bytes) ≡ (byte ∷ bytes) ∷ []
 lines_last byte bytes h =
-    ap without_empty_end (slice_split_none is_line_feed (byte ∷ bytes) (All-from_recursion (λ b. is_line_feed b ≡ false) (byte ∷ bytes) h))
+    let none = All-from_recursion (λ b. is_line_feed b ≡ false) (byte ∷ bytes) h in
+    ap without_empty_end (slice_split_none is_line_feed (byte ∷ bytes) none)
 
 -- ---- fields
 
 pub fields_blank : (byte : ℕ) (rest : List ℕ) → is_blank byte ≡ true → fields (byte ∷ rest) ≡ fields rest
 fields_blank byte rest e = ap (filter is_filled) (slice_split-cons_yes is_blank byte rest e)
 
-pub fields_word : (byte : ℕ) (word : List ℕ) (blank : ℕ) (rest : List ℕ) → HasNoBlank (byte ∷ word) → is_blank blank ≡ true → fields (byte ∷ word ++ blank ∷ rest) ≡ (byte ∷ word) ∷ fields rest
+pub fields_word :
+    (byte : ℕ) (word : List ℕ) (blank : ℕ) (rest : List ℕ) → HasNoBlank (byte ∷ word) → is_blank blank ≡ true
+    → fields (byte ∷ word ++ blank ∷ rest) ≡ (byte ∷ word) ∷ fields rest
 fields_word byte word blank rest h e =
-    ap (filter is_filled) (slice_split_at is_blank (byte ∷ word) blank rest (All-from_recursion (λ b. is_blank b ≡ false) (byte ∷ word) h) e)
+    let none = All-from_recursion (λ b. is_blank b ≡ false) (byte ∷ word) h in
+    ap (filter is_filled) (slice_split_at is_blank (byte ∷ word) blank rest none e)
 
 pub fields_last : (byte : ℕ) (word : List ℕ) → HasNoBlank (byte ∷ word) → fields (byte ∷ word) ≡ (byte ∷ word) ∷ []
 fields_last byte word h =
-    ap (filter is_filled) (slice_split_none is_blank (byte ∷ word) (All-from_recursion (λ b. is_blank b ≡ false) (byte ∷ word) h))
+    let none = All-from_recursion (λ b. is_blank b ≡ false) (byte ∷ word) h in
+    ap (filter is_filled) (slice_split_none is_blank (byte ∷ word) none)

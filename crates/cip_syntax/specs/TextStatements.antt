@@ -21,7 +21,9 @@ pub record FieldsAreWords : Type 0 where
   pub none : fields [] ≡ []
   pub blank : (byte : ℕ) (rest : List ℕ) → is_blank byte ≡ true → fields (byte ∷ rest) ≡ fields rest
   pub last : (byte : ℕ) (word : List ℕ) → HasNoBlank (byte ∷ word) → fields (byte ∷ word) ≡ (byte ∷ word) ∷ []
-  pub ended : (byte : ℕ) (word : List ℕ) (blank : ℕ) (rest : List ℕ) → HasNoBlank (byte ∷ word) → is_blank blank ≡ true → fields (byte ∷ word ++ blank ∷ rest) ≡ (byte ∷ word) ∷ fields rest
+  pub ended :
+      (byte : ℕ) (word : List ℕ) (blank : ℕ) (rest : List ℕ) → HasNoBlank (byte ∷ word) → is_blank blank ≡ true
+      → fields (byte ∷ word ++ blank ∷ rest) ≡ (byte ∷ word) ∷ fields rest
 
 -- a text has at most one program
 abbrev pub OneProgram : Type 0
@@ -37,8 +39,12 @@ ProgramsAreThin = (text : List ℕ) (program : Program) → IsThin text program 
 
 -- the point of zeros is feasible, and costs 0
 pub record ZerosAreFeasible : Type 0 where
-  pub feasible : (text : List ℕ) (program : Program) → IsThin text program → IsFeasible program (replicate (columns program) zeroℚ)
-  pub cost : (text : List ℕ) (program : Program) → IsThin text program → cost_of program (replicate (columns program) zeroℚ) ≡ zeroℚ
+  pub feasible :
+      (text : List ℕ) (program : Program) → IsThin text program
+      → IsFeasible program (replicate (columns program) zeroℚ)
+  pub cost :
+      (text : List ℕ) (program : Program) → IsThin text program
+      → cost_of program (replicate (columns program) zeroℚ) ≡ zeroℚ
 
 -- ---- examples
 
@@ -60,7 +66,9 @@ pub record RecordsAreRight : Type 0 where
   pub star : record_of 42 (codes " * x") ≡ Some (Entry (codes "*" ∷ codes "x" ∷ []))
   pub section_ : record_of 42 (codes "ROWS") ≡ Some (Section (codes "ROWS" ∷ []))
   pub words : record_of 42 (codes "NAME a b") ≡ Some (Section (codes "NAME" ∷ codes "a" ∷ codes "b" ∷ []))
-  pub of_text : records (codes "* x\nROWS\r\n\r\n N COST\n") ≡ Section (codes "ROWS" ∷ []) ∷ Entry (codes "N" ∷ codes "COST" ∷ []) ∷ []
+  pub of_text :
+      records (codes "* x\nROWS\r\n\r\n N COST\n")
+      ≡ Section (codes "ROWS" ∷ []) ∷ Entry (codes "N" ∷ codes "COST" ∷ []) ∷ []
 
 -- texts that are thin, with their programs
 pub record ThinTextsHavePrograms : Type 0 where
@@ -75,7 +83,8 @@ pub record RulesCount : Type 0 where
   pub kind_of_row : Tells with_rows (codes " L R1\n") (codes " G R1\n")
   pub row_twice : Tells with_rows (codes " L R1\n L R2\n") (codes " L R1\n L R1\n")
   pub row_as_objective : Tells with_rows (codes " L R1\n") (codes " L COST\n")
-  pub long_row : Tells with_rows (codes " L " ++ replicate 255 65 ++ 10 ∷ []) (codes " L " ++ replicate 256 65 ++ 10 ∷ [])
+  pub long_row :
+      Tells with_rows (codes " L " ++ replicate 255 65 ++ 10 ∷ []) (codes " L " ++ replicate 256 65 ++ 10 ∷ [])
   pub row_as_marker : Tells with_rows (codes " L MARKER\n") (codes " L 'MARKER'\n")
   pub unknown_row : Tells with_entries (codes " a COST 5 R1 2\n b R1 3\n") (codes " a COST 5 R2 2\n b R1 3\n")
   pub value_twice : Tells with_entries (codes " a COST 5 R1 2\n b R1 3\n") (codes " a R1 5 R1 2\n b R1 3\n")
@@ -90,6 +99,8 @@ pub record RulesCount : Type 0 where
   pub large_limit : Tells with_limits (codes " RHS R1 999999999\n") (codes " RHS R1 1000000000\n")
   pub missing_bound : Tells with_bounds (codes " UP B a 10\n UP B b 10\n") (codes " UP B a 10\n")
   pub bound_twice : Tells with_bounds (codes " UP B a 10\n UP B b 10\n") (codes " UP B a 10\n UP B b 10\n UP B b 10\n")
-  pub unknown_column : Tells with_bounds (codes " UP B a 10\n UP B b 10\n") (codes " UP B a 10\n UP B b 10\n UP B c 10\n")
-  pub large_bound : Tells with_bounds (codes " UP B a 10\n UP B b 999999999\n") (codes " UP B a 10\n UP B b 1000000000\n")
+  pub unknown_column :
+      Tells with_bounds (codes " UP B a 10\n UP B b 10\n") (codes " UP B a 10\n UP B b 10\n UP B c 10\n")
+  pub large_bound :
+      Tells with_bounds (codes " UP B a 10\n UP B b 999999999\n") (codes " UP B a 10\n UP B b 1000000000\n")
   pub two_bound_sets : Tells with_bounds (codes " UP B a 10\n UP B b 10\n") (codes " UP B a 10\n UP C b 10\n")
