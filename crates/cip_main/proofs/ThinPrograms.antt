@@ -17,7 +17,7 @@ use Rattle.cip_syntax.specs.ThinText.Laws.{thin_program, zeros_feasible}
 use Rattle.cip_thin.specs.Laws.{thin_fits}
 use Rattle.cip_model.specs.CanCheck.{CanCheck}
 use Rattle.cip_model.specs.Verdicts.{verdict_of}
-use Rattle.cip_model.specs.Meaning.Laws.{verdict_on_feasible}
+use Rattle.cip_model.specs.Meaning.Point.{verdict_on_feasible}
 use Rattle.cip_model.specs.declared.verdicts.Verdict.{Verdict}
 use Rattle.cip_model.specs.declared.verdicts.Verdict.TheVariants.{Feasible}
 use Rattle.cip_solve.specs.CanBound.{CanBound}
