@@ -3,7 +3,7 @@
 // Each function here does nothing. Its contract is one of the laws of the definitions, so that the check proves it.
 #![tactic(auto)]
 
-ghost use Rattle.cip_problem.specs.Examples.{Examples};
+ghost use Rattle.cip_problem.specs.Examples.{ProgramExamples};
 ghost use Rattle.cip_problem.specs.Statements.{HalvesCover, HalvesWithin, HalvesCount, BoxBoundHolds, InnerBoxes, SideTests, LogsAreShort};
 
 pub fn halves_cover()
@@ -35,5 +35,5 @@ pub fn logs_are_short()
 {}
 
 pub fn examples()
-    ensures { Examples }
+    ensures { ProgramExamples }
 {}
