@@ -17,7 +17,7 @@ use Rattle.cip_syntax.specs.ThinText.Laws.{thin_program, zeros_feasible}
 use Rattle.cip_thin.specs.Laws.{thin_fits}
 use Rattle.cip_model.specs.CanCheck.{CanCheck}
 use Rattle.cip_model.specs.Verdicts.{verdict_of}
-use Rattle.cip_model.specs.Meaning.Laws.{verdict_on_feasible}
+use Rattle.cip_model.specs.Meaning.Point.{verdict_on_feasible}
 use Rattle.cip_model.specs.declared.verdicts.Verdict.{Verdict}
 use Rattle.cip_model.specs.declared.verdicts.Verdict.TheVariants.{Feasible}
 use Rattle.cip_solve.specs.CanBound.{CanBound}
@@ -77,9 +77,9 @@ same_box (Some b) (Some least) e = ≤ℚ_of_eq (same e)
     same e = cc
 
 -- without a point, the box bound is a right one
-pub no_point_right : (program : Program) → HasThinText program → (bound : Option ℚ) → bound ≡ box_bound program program.bounds → IsRight program node_limit [] (record { ended = NoMemory; held = None; bound = bound })
+pub no_point_right : (program : Program) → HasThinText program → (bound : Option ℚ) → bound ≡ box_bound program program.bounds → IsRight program node_limit [] (record { ended = NoMemory; best = None; bound = bound })
 no_point_right program h bound e = record {
-  held = tt;
+  best = tt;
   bound = bound_holds program h bound e;
   box = same_box bound (box_bound program program.bounds) e;
   none = λ n. sym e ∙ n;
@@ -94,21 +94,21 @@ none_held program None e = refl
 none_held program (Some held) e = absurd (cc)
 
 -- an answer that holds a point lacks none
-pub some_held : (cost : ℚ) (answer : Answer) → HoldsAtMost cost answer → answer.held ≡ None → ⊥
-some_held cost answer h e = no_some (sym h.is_held ∙ e)
+pub some_held : (cost : ℚ) (answer : Answer) → HoldsAtMost cost answer → answer.best ≡ None → ⊥
+some_held cost answer h e = no_some (sym h.is_best ∙ e)
   where
     no_some : {held : Held} → Some held ≡ None → ⊥
     no_some e = cc
 
 -- what a search has answered has its figures told
-pub answers_of : (program : Program) (old new : List Log) (answer : Answer) (taken taken_after : Option (List ℕ)) (faults faults_after result : ℕ) → Searched program node_limit old new answer → Says taken taken_after faults faults_after (answer_text program.column_names (figures_of program answer)) (exit_status (figures_of program answer).status) result → (answer.held ≡ None → new ≡ old) → Answers program taken taken_after faults faults_after old new result
+pub answers_of : (program : Program) (old new : List Log) (answer : Answer) (taken taken_after : Option (List ℕ)) (faults faults_after result : ℕ) → Searched program node_limit old new answer → Says taken taken_after faults faults_after (answer_text program.column_names (figures_of program answer)) (exit_status (figures_of program answer).status) result → (answer.best ≡ None → new ≡ old) → Answers program taken taken_after faults faults_after old new result
 answers_of program old new answer taken taken_after faults faults_after result (inl s) told p = record {
   figures = figures_of program answer;
   entries = entries_of s.0;
   are_true = are_true program node_limit (entries_of s.0) answer s.2;
   told = told;
   logged = inl (s.0, s.1, refl);
-  point = λ e. p (none_held program answer.held e);
+  point = λ e. p (none_held program answer.best e);
 }
 answers_of program old new answer taken taken_after faults faults_after result (inr s) told p = record {
   figures = figures_of program answer;
@@ -116,13 +116,13 @@ answers_of program old new answer taken taken_after faults faults_after result (
   are_true = are_true program node_limit [] answer s.2;
   told = told;
   logged = inr (s.0, refl, ap status_of s.1);
-  point = λ e. p (none_held program answer.held e);
+  point = λ e. p (none_held program answer.best e);
 }
 
 -- the point of an answer has a value for each column
-pub answer_fits : (program : Program) (old new : List Log) (answer : Answer) → HasThinText program → Searched program node_limit old new answer → IfSome answer.held (λ h. length h.point.items ≡ columns program)
-answer_fits program old new answer t (inl s) = held_fits program t answer.held s.2.held
-answer_fits program old new answer t (inr s) = held_fits program t answer.held s.2.held
+pub answer_fits : (program : Program) (old new : List Log) (answer : Answer) → HasThinText program → Searched program node_limit old new answer → IfSome answer.best (λ h. length h.point.items ≡ columns program)
+answer_fits program old new answer t (inl s) = held_fits program t answer.best s.2.best
+answer_fits program old new answer t (inr s) = held_fits program t answer.best s.2.best
 
 -- the text that was read is the one that the store tells
 pub thin_told : (held : Option (List ℕ)) (program : Program) → IsRead held program → IfSome held (λ bytes. IsThin bytes program)

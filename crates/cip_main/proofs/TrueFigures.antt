@@ -16,7 +16,7 @@ use Rattle.cip_report.specs.declared.figures.Ended.TheVariants.{Optimal as Ended
 use Rattle.cip_report.specs.declared.figures.Held.{Held}
 use Rattle.cip_report.specs.declared.figures.Answer.{Answer}
 use Rattle.cip_report.specs.Answers.{status_of, printed_held, figures_of}
-use Rattle.cip_solve.specs.Right.{IsHeld, Agrees, IsSpent, IsRight}
+use Rattle.cip_solve.specs.Right.{IsHeld, Agrees, SpendsBudget, IsRight}
 
 back : {a b : ℚ} → negate a <ℚ negate b → b <ℚ a
 back {a} {b} h = subst (λ x. x <ℚ a) (negate_negate b) (subst (λ y. negate (negate b) <ℚ y) (negate_negate a) (negate_strict h))
@@ -59,7 +59,7 @@ is_limit EndedNoMemory e = absurd (cc)
 agree : (program : Program) (answer : Answer) → Agrees answer → Agree (figures_of program answer)
 agree program answer a = record {
   held = printed_held program a.held;
-  is_held = ap (option_map (printed_held program)) a.is_held;
+  is_held = ap (option_map (printed_held program)) a.is_best;
   bound = ap (option_map (printed program)) a.bound;
 }
 
@@ -68,21 +68,21 @@ costs_held : (program : Program) (held : Option Held) → IfSome held (IsHeld pr
 costs_held program None h = refl
 costs_held program (Some held) h = ap Some h.cost
 
-spent : (program : Program) (node_limit : ℕ) (log : List Entry) (answer : Answer) → IfSome answer.held (IsHeld program) → IsSpent program node_limit log answer → IsPrintedSpent program node_limit log (figures_of program answer)
-spent program node_limit log answer h s = record { full = s.full; matter = subst (HasOpenNode program log) (costs_held program answer.held h) s.matter }
+spent : (program : Program) (node_limit : ℕ) (log : List Entry) (answer : Answer) → IfSome answer.best (IsHeld program) → SpendsBudget program node_limit log answer → IsPrintedSpent program node_limit log (figures_of program answer)
+spent program node_limit log answer h s = record { full = s.full; matter = subst (HasOpenNode program log) (costs_held program answer.best h) s.matter }
 
-unspent : (program : Program) (node_limit : ℕ) (log : List Entry) (answer : Answer) → IfSome answer.held (IsHeld program) → IsPrintedSpent program node_limit log (figures_of program answer) → IsSpent program node_limit log answer
-unspent program node_limit log answer h s = record { full = s.full; matter = subst (HasOpenNode program log) (sym (costs_held program answer.held h)) s.matter }
+unspent : (program : Program) (node_limit : ℕ) (log : List Entry) (answer : Answer) → IfSome answer.best (IsHeld program) → IsPrintedSpent program node_limit log (figures_of program answer) → SpendsBudget program node_limit log answer
+unspent program node_limit log answer h s = record { full = s.full; matter = subst (HasOpenNode program log) (sym (costs_held program answer.best h)) s.matter }
 
 -- a right answer has true figures
 pub are_true : (program : Program) (node_limit : ℕ) (log : List Entry) (answer : Answer) → IsRight program node_limit log answer → AreTrue program node_limit log (figures_of program answer)
 are_true program node_limit log answer r = record {
-  point = true_point program answer.held r.held;
+  point = true_point program answer.best r.best;
   bound = true_bound program answer.bound r.bound;
   at_most_box = at_most_box program answer.bound r.box;
   no_bound = λ e. r.none (none_before program answer.bound e);
   agree = λ e. agree program answer (r.agree (is_optimal answer.ended e));
-  spent = λ e. spent program node_limit log answer r.held (r.spent (is_limit answer.ended e));
-  unspent = λ e s. r.unspent (is_optimal answer.ended e) (unspent program node_limit log answer r.held s);
+  spent = λ e. spent program node_limit log answer r.best (r.spent (is_limit answer.ended e));
+  unspent = λ e s. r.unspent (is_optimal answer.ended e) (unspent program node_limit log answer r.best s);
   logged = r.logged;
 }

@@ -85,7 +85,7 @@ fn no_point(program: &Program) -> Answer
 {
     Answer {
         ended: Ended::NoMemory,
-        held: None,
+        best: None,
         bound: root_bound(program),
     }
 }
@@ -94,7 +94,7 @@ fn no_point(program: &Program) -> Answer
 fn search(alloc: Global, program: &Program, logs: &mut Vec<Log>) -> Answer
     requires { HasThinText program.now }
     ensures searched { Searched program.now node_limit logs.old.items logs.new.items result }
-    ensures point { result.held ≡ None → logs.new.items ≡ logs.old.items }
+    ensures point { result.best ≡ None → logs.new.items ≡ logs.old.items }
 {
     match zeros(alloc, program) {
         Ok(held) => solve(alloc, program, held, NODE_LIMIT, logs),
@@ -104,7 +104,7 @@ fn search(alloc: Global, program: &Program, logs: &mut Vec<Log>) -> Answer
 
 /// Writes an answer; the status that goes with its end, or 5 where the sink failed.
 fn tell<K: Sink>(program: &Program, answer: &Answer, out: &mut K) -> u8
-    requires { IfSome answer.now.held (λ held. length held.point.items ≡ columns program.now) }
+    requires { IfSome answer.now.best (λ held. length held.point.items ≡ columns program.now) }
     ensures { let figures = figures_of program.now answer.now in
         Says (K.taken out.old) (K.taken out.new) (K.faults out.old) (K.faults out.new)
         (answer_text program.now.column_names figures) (exit_status figures.status) result }

@@ -4,5 +4,5 @@ pub mod Keys
 pub mod Least
 pub mod Meaning
 pub mod Programs
-pub mod Small
+pub mod SmallPrograms
 pub mod Verdicts

@@ -1,6 +1,6 @@
 -- What a verdict says of a program and a point, and what a bound says of a box. The modules below have the laws.
-pub mod Bound
-pub mod Laws
+pub mod BoxBound
+pub mod Point
 use Rattle.std.specs.Prelude.{◌≡◌, ℕ, ◌<◌, true, List, Option, None, Some, IsErr, slice_get, ⊤}
 use Rattle.cip_rational.specs.Rational.{ℚ, zeroℚ, IsWhole}
 use Rattle.cip_problem.specs.Program.{Row, Program}
@@ -8,10 +8,10 @@ use Rattle.cip_problem.specs.Activity.{activity, value_at}
 use Rattle.cip_problem.specs.Box.{Between, sides_at}
 use Rattle.cip_problem.specs.Points.{IsSatisfied, IsFeasible, cost_of}
 use Rattle.cip_problem.specs.WellFormed.{columns}
+use Rattle.cip_frac.specs.Outcomes.{dot_from}
 use Rattle.cip_lin.specs.Sums.{activity_from}
 use Rattle.cip_lin.specs.declared.outcomes.Least.{Least}
 use Rattle.cip_lin.specs.declared.outcomes.Least.TheVariants.{Value, NoBound, Wide as TooWide}
-use Rattle.cip_model.specs.Verdicts.{cost_from}
 use Rattle.cip_model.specs.declared.verdicts.Place.{Place}
 use Rattle.cip_model.specs.declared.verdicts.Place.TheVariants.{Row as AtRow, Cost}
 use Rattle.cip_model.specs.declared.verdicts.Verdict.{Verdict}
@@ -22,8 +22,8 @@ pub record IsOutside (program : Program) (point : List ℚ) (column : ℕ) : Typ
   pub is_column : column < columns program
   pub outside : ¬ Between (sides_at program.bounds column).low (sides_at program.bounds column).high (value_at point column)
 
--- a column is to be whole, and its value is not
-pub record IsSplit (program : Program) (point : List ℚ) (column : ℕ) : Type 0 where
+-- a column is to be whole, and its value is fractional
+pub record IsFractional (program : Program) (point : List ℚ) (column : ℕ) : Type 0 where
   pub integral : slice_get program.integral column ≡ Some true
   pub not_whole : ¬ IsWhole (value_at point column)
 
@@ -43,13 +43,13 @@ pub record RowOverflows (rows : List Row) (point : List ℚ) (number : ℕ) : Ty
 -- an operation overflows there, in the sum of a row or in that of the cost
 abbrev pub Overflows : Program → List ℚ → Place → Type 0
 Overflows program point (AtRow number) = RowOverflows program.rows point number
-Overflows program point Cost = IsErr (cost_from program.constant program.costs point)
+Overflows program point Cost = IsErr (dot_from program.constant program.costs point)
 
 -- what a verdict says
 abbrev pub VerdictHolds : Program → List ℚ → Verdict → Type 0
 VerdictHolds program point (Feasible cost) = IsFeasible program point × (cost ≡ cost_of program point)
 VerdictHolds program point (BreaksBound column) = IsOutside program point column
-VerdictHolds program point (BreaksWhole column) = IsSplit program point column
+VerdictHolds program point (BreaksWhole column) = IsFractional program point column
 VerdictHolds program point (BreaksRow number value) = IsBroken program.rows point number value
 VerdictHolds program point (Wide place) = Overflows program point place
 

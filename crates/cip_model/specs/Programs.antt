@@ -9,8 +9,8 @@ abbrev pub is_maximize : Sense → Bool
 is_maximize Minimize = false
 is_maximize Maximize = true
 
-abbrev pub program_of : Parts → Program
-program_of parts = record {
+abbrev pub program_from : Parts → Program
+program_from parts = record {
   column_names = parts.column_names;
   row_names = parts.row_names;
   rows = parts.rows.items;

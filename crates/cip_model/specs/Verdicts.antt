@@ -4,7 +4,8 @@ use Rattle.cip_rational.specs.Rational.{ℚ, zeroℚ, is_whole}
 use Rattle.cip_frac.specs.declared.operations.Wide.{Wide as Overflow}
 use Rattle.cip_problem.specs.Program.{Sides, Row, Program}
 use Rattle.cip_problem.specs.Box.{is_between}
-use Rattle.cip_lin.specs.Sums.{and_then, product_added, activity_from}
+use Rattle.cip_frac.specs.Outcomes.{dot_from}
+use Rattle.cip_lin.specs.Sums.{activity_from}
 use Rattle.cip_model.specs.declared.verdicts.Place.TheVariants.{Row as AtRow, Cost}
 use Rattle.cip_model.specs.declared.verdicts.Verdict.{Verdict}
 use Rattle.cip_model.specs.declared.verdicts.Verdict.TheVariants.{Feasible, BreaksBound, BreaksWhole, BreaksRow, Wide}
@@ -38,13 +39,6 @@ first_broken at [] point = None
 first_broken at (row ∷ rows) point =
     or_else (row_verdict at row (activity_from zeroℚ row.terms point)) (first_broken (at + 1) rows point)
 
--- a sum with the products of costs and values added, one after another
-abbrev pub cost_from : ℚ → List ℚ → List ℚ → Result ℚ Overflow
-cost_from sum [] point = Ok sum
-cost_from sum (cost ∷ costs) [] = Ok sum
-cost_from sum (cost ∷ costs) (value ∷ values) =
-    and_then (product_added sum cost value) (λ more. cost_from more costs values)
-
 abbrev pub cost_verdict : Result ℚ Overflow → Verdict
 cost_verdict (Ok cost) = Feasible cost
 cost_verdict (Err overflow) = Wide Cost
@@ -67,4 +61,4 @@ verdict_of program point =
     from_bounds (first_outside 0 program.bounds point)
     (from_wholes (first_not_whole 0 program.integral point)
     (from_rows (first_broken 0 program.rows point)
-    (cost_verdict (cost_from program.constant program.costs point))))
+    (cost_verdict (dot_from program.constant program.costs point))))

@@ -1,8 +1,10 @@
 //! The tests that a verdict is made of, each over lists by column or by row.
 ghost use Rattle.std.specs.Prelude.{◌≡◌, ◌≤◌, ◌&&◌, not, length, All};
 ghost use Rattle.cip_problem.specs.Activity.{StandsBelow};
-ghost use Rattle.cip_model.specs.Verdicts.{first_outside, first_not_whole, first_broken, row_verdict, cost_from};
+ghost use Rattle.cip_model.specs.Verdicts.{first_outside, first_not_whole, first_broken, row_verdict};
 ghost use Rattle.cip_model.specs.Least.{column_added, least_cost_from};
+ghost use Rattle.cip_frac.specs.Outcomes.{dot_from};
+ghost use Rattle.cip_problem.specs.Limits.{most_rows, most_columns};
 ghost use Rattle.cip_lin.specs.Sums.{activity_from};
 ghost use Rattle.cip_rational.specs.Rational.{zeroℚ, is_whole};
 
@@ -13,7 +15,7 @@ use cip_lin::{Least, Row, Sides, add_least};
 /// The first column whose value is outside its sides.
 pub(crate) fn outside(bounds: &[Sides], point: &[Frac]) -> Option<u32>
     requires same { length bounds.now ≡ length point.now }
-    requires few { length point.now ≤ 65536 }
+    requires few { length point.now ≤ most_columns }
     ensures { result ≡ first_outside 0 bounds.now point.now }
 {
     for at in 0..point.len() {
@@ -24,8 +26,8 @@ pub(crate) fn outside(bounds: &[Sides], point: &[Frac]) -> Option<u32>
     None
 }
 
-/// Whether a value that is to be whole is not.
-fn is_split(whole: bool, value: Frac) -> bool
+/// Whether a value that is to be whole is fractional.
+fn is_fractional(whole: bool, value: Frac) -> bool
     ensures { result ≡ (whole && not (is_whole value)) }
 {
     whole && !value.is_whole()
@@ -34,11 +36,11 @@ fn is_split(whole: bool, value: Frac) -> bool
 /// The first whole column whose value is not whole.
 pub(crate) fn not_whole(whole: &[bool], point: &[Frac]) -> Option<u32>
     requires same { length whole.now ≡ length point.now }
-    requires few { length point.now ≤ 65536 }
+    requires few { length point.now ≤ most_columns }
     ensures { result ≡ first_not_whole 0 whole.now point.now }
 {
     for at in 0..point.len() {
-        if is_split(whole[at], point[at]) {
+        if is_fractional(whole[at], point[at]) {
             return Some(at as u32);
         }
     }
@@ -68,7 +70,7 @@ fn broken(number: u32, row: &Row, point: &[Frac]) -> Option<Verdict>
 
 /// The first verdict on a row.
 pub(crate) fn broken_row(rows: &[Row], point: &[Frac]) -> Option<Verdict>
-    requires few { length rows.now ≤ 65536 }
+    requires few { length rows.now ≤ most_rows }
     requires stand { All (λ row. StandsBelow (length point.now) row.terms) rows.now }
     ensures { result ≡ first_broken 0 rows.now point.now }
 {
@@ -84,7 +86,7 @@ pub(crate) fn broken_row(rows: &[Row], point: &[Frac]) -> Option<Verdict>
 /// The cost of a point from a constant on, by rising column, or the first operation that overflows.
 pub(crate) fn cost(constant: Frac, costs: &[Frac], point: &[Frac]) -> Result<Frac, Wide>
     requires { length costs.now ≡ length point.now }
-    ensures { result ≡ cost_from constant costs.now point.now }
+    ensures { result ≡ dot_from constant costs.now point.now }
 {
     let mut sum = constant;
     for at in 0..costs.len() {

@@ -2,7 +2,7 @@
 ghost use Rattle.std.specs.Prelude.{◌≡◌, length};
 ghost use Rattle.cip_problem.specs.BoxBound.{box_bound};
 ghost use Rattle.cip_problem.specs.WellFormed.{IsWellFormed, columns};
-ghost use Rattle.cip_model.specs.Programs.{is_maximize, program_of};
+ghost use Rattle.cip_model.specs.Programs.{is_maximize, program_from};
 ghost use Rattle.cip_model.specs.Verdicts.{verdict_of};
 ghost use Rattle.cip_model.specs.Least.{least_cost_from};
 ghost use Rattle.cip_model.specs.Meaning.{VerdictHolds, BoundHolds};
@@ -40,8 +40,8 @@ impl Model for Program {
 impl Program {
     /// The program of these parts, whose lists fit together.
     pub fn new(parts: Parts) -> Program
-        requires { IsWellFormed (program_of parts) }
-        ensures { result ≡ program_of parts }
+        requires { IsWellFormed (program_from parts) }
+        ensures { result ≡ program_from parts }
     {
         Program { parts }
     }

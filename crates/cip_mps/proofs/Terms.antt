@@ -28,12 +28,6 @@ is_above_last_at (term ∷ other ∷ terms) column (suc last) e h = is_above_las
 pub is_above_last_no : (terms : List Term) (column : ℕ) → IsNotAboveLast terms column → is_above_last terms column ≡ false
 is_above_last_no terms column h = is_above_last_at terms column h.last h.is_last h.not_above
 
-pub rational_not_zero : (n : ℕ) → 0 < n → rational n ≢ zeroℚ
-rational_not_zero n some e =
-    let same : pos n ≡ pos 0 = integer_inj (pos n) (pos 0) (e ∙ sym integer-zero) in
-    let none : n ≡ 0 = cc in
-    omega arith
-
 -- a term that can stand at the end
 pub term_added_yes : (row : Row) (column n : ℕ) → 0 < n → IsAboveLast row.terms column → term_added row column n ≡ Some (record row { terms = row.terms ++ record { column = column; coefficient = rational n } ∷ [] })
 term_added_yes row column zero some h = absurd (omega arith)

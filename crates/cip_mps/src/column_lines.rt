@@ -14,10 +14,7 @@ use crate::row_lines::is_short_name;
 use crate::values::{is_at, value_of};
 use cip_frac::Frac;
 use cip_lin::{Row, RowFault, Term};
-
-const MOST_COLUMNS: usize = 65_536;
-
-const MOST_ENTRIES: u32 = 4_194_304;
+use cip_model::{MOST_COLUMNS, MOST_ENTRIES};
 
 /// Whether the second and the third word of a line end the columns.
 fn is_end_marker(row: &[u8], digits: &[u8]) -> bool
@@ -120,7 +117,7 @@ impl Draft {
         if number == 0 {
             return Ok(());
         }
-        if self.entries >= MOST_ENTRIES {
+        if self.entries as usize >= MOST_ENTRIES {
             return Err(Refusal::NotThin);
         }
         self.entries += 1;

@@ -11,11 +11,8 @@ use crate::draft::{Draft, NamedRow, RowMarks, Stage};
 use crate::refusal::Refusal;
 use cip_frac::Frac;
 use cip_lin::Row;
+use cip_model::{LONGEST_NAME, MOST_ROWS};
 use std::alloc::AllocError;
-
-const MOST_ROWS: usize = 65_536;
-
-const LONGEST_NAME: usize = 255;
 
 /// Whether a name is no longer than names may be.
 pub(crate) fn is_short_name(name: &[u8]) -> bool

@@ -18,12 +18,12 @@ use Rattle.cip_problem.specs.BoxBound.{least_cost, box_bound}
 use Rattle.cip_problem.specs.Wholes.{wholes_between, times, assignments, HasWhole}
 use Rattle.cip_problem.specs.WellFormed.{IsWellFormed}
 use Rattle.cip_problem.specs.Log.{high_half, root, CanSplit, IsLog, IsOpen}
-use Rattle.cip_problem.specs.Examples.{row_of, up_to_ten, example, point_of, closed, split_and_closed, low_node}
+use Rattle.cip_problem.specs.Examples.{row_at_most, up_to_ten, example, point_of, closed, split_and_closed, node_one}
 
 -- ---- the program
 
-three_terms : (x y z high : ℕ) → StandsBelow 3 (row_of x y z high).terms
-three_terms x y z high = All-from_recursion (λ t. t.column < 3) (row_of x y z high).terms (lit< tt, (lit< tt, (lit< tt, tt)))
+three_terms : (x y z high : ℕ) → StandsBelow 3 (row_at_most x y z high).terms
+three_terms x y z high = All-from_recursion (λ t. t.column < 3) (row_at_most x y z high).terms (lit< tt, (lit< tt, (lit< tt, tt)))
 
 pub well_formed : IsWellFormed example
 well_formed = record {
@@ -60,10 +60,10 @@ feasible = record {
 pub cost : cost_of example (point_of (whole 2 0) zeroℚ (whole 1 0)) ≡ whole 0 13
 cost = linear_same [] (λ s w. omega arith)
 
-pub printed_cost : printed example (cost_of example (point_of (whole 2 0) zeroℚ (whole 1 0))) ≡ whole 13 0
-printed_cost = ap negate cost ∙ whole_negate 0 13
+pub cost_printed : printed example (cost_of example (point_of (whole 2 0) zeroℚ (whole 1 0))) ≡ whole 13 0
+cost_printed = ap negate cost ∙ whole_negate 0 13
 
-pub row_activity : activity (row_of 2 3 1 5).terms (point_of (whole 2 0) zeroℚ (whole 2 0)) ≡ whole 6 0
+pub row_activity : activity (row_at_most 2 3 1 5).terms (point_of (whole 2 0) zeroℚ (whole 2 0)) ≡ whole 6 0
 row_activity = linear_same [] (λ s w. omega arith)
 
 pub row_broken : ¬ IsFeasible example (point_of (whole 2 0) zeroℚ (whole 2 0))
@@ -96,8 +96,8 @@ ceil_zero = ap ceil (sym (integer-pos 0)) ∙ ceil-integer (pos 0)
 eleven : wholes_between (Some (whole 0 0)) (Some (whole 10 0)) ≡ Some 11
 eleven = rw (floor_ten, ceil_zero) refl
 
-pub count_is : assignments example.integral example.bounds ≡ Some 1331
-count_is = ap (λ w. times w (times w (times w (Some 1)))) eleven
+pub count_as_tried : assignments example.integral example.bounds ≡ Some 1331
+count_as_tried = ap (λ w. times w (times w (times w (Some 1)))) eleven
 
 -- ---- logs
 
@@ -145,8 +145,8 @@ not_those (zero, h, k) = absurd (omega (arith, k))
 not_those (suc zero, h, k) = absurd (omega (arith, k))
 not_those (suc (suc j), h, k) = absurd (omega (arith, h))
 
-pub low_open : IsOpen example split_and_closed low_node
-low_open = record { given = refl; not_taken = not_those }
+pub half_open : IsOpen example split_and_closed node_one
+half_open = record { given = refl; not_taken = not_those }
 
 pub never_given : ¬ IsLog example (closed 7 ∷ [])
 never_given h = none-some _ h.0.given_before

@@ -10,8 +10,8 @@ use Rattle.cip_problem.specs.Wholes.{assignments}
 use Rattle.cip_problem.specs.Log.{Node, Entry, Split, Closed, low_half, IsLog, IsOpen}
 
 -- the row x a + y b + z c ≤ high
-abbrev pub row_of : ℕ → ℕ → ℕ → ℕ → Row
-row_of x y z high = record {
+abbrev pub row_at_most : ℕ → ℕ → ℕ → ℕ → Row
+row_at_most x y z high = record {
   terms =
       record { column = 0; coefficient = whole x 0 }
       ∷ record { column = 1; coefficient = whole y 0 }
@@ -29,7 +29,7 @@ abbrev pub example : Program
 example = record {
   column_names = (97 ∷ []) ∷ (98 ∷ []) ∷ (99 ∷ []) ∷ [];
   row_names = (114 ∷ []) ∷ (115 ∷ []) ∷ (116 ∷ []) ∷ [];
-  rows = row_of 2 3 1 5 ∷ row_of 4 1 2 11 ∷ row_of 3 4 2 8 ∷ [];
+  rows = row_at_most 2 3 1 5 ∷ row_at_most 4 1 2 11 ∷ row_at_most 3 4 2 8 ∷ [];
   costs = whole 0 5 ∷ whole 0 4 ∷ whole 0 3 ∷ [];
   constant = zeroℚ;
   maximized = true;
@@ -50,16 +50,16 @@ abbrev pub split_and_closed : List Entry
 split_and_closed = record { node = 0; bound = None; end = Split 0 (pos 5) 1 2 } ∷ closed 2 ∷ []
 
 -- node 1 of that log
-abbrev pub low_node : Node
-low_node = record { number = 1; box = low_half example.bounds 0 (pos 5); bound = None }
+abbrev pub node_one : Node
+node_one = record { number = 1; box = low_half example.bounds 0 (pos 5); bound = None }
 
 -- what holds of the program, of four points and of five lists of entries
-pub record Examples : Type 0 where
+pub record ProgramExamples : Type 0 where
   pub well_formed : IsWellFormed example
   pub feasible : IsFeasible example (point_of (whole 2 0) zeroℚ (whole 1 0))
   pub cost : cost_of example (point_of (whole 2 0) zeroℚ (whole 1 0)) ≡ whole 0 13
-  pub printed_cost : printed example (cost_of example (point_of (whole 2 0) zeroℚ (whole 1 0))) ≡ whole 13 0
-  pub row_activity : activity (row_of 2 3 1 5).terms (point_of (whole 2 0) zeroℚ (whole 2 0)) ≡ whole 6 0
+  pub cost_printed : printed example (cost_of example (point_of (whole 2 0) zeroℚ (whole 1 0))) ≡ whole 13 0
+  pub row_activity : activity (row_at_most 2 3 1 5).terms (point_of (whole 2 0) zeroℚ (whole 2 0)) ≡ whole 6 0
   pub row_broken : ¬ IsFeasible example (point_of (whole 2 0) zeroℚ (whole 2 0))
   pub not_whole : ¬ IsFeasible example (point_of (whole 2 0) zeroℚ (ratio (pos 1) 2))
   pub below_bound : ¬ IsFeasible example (point_of (whole 0 1) zeroℚ zeroℚ)
@@ -68,6 +68,6 @@ pub record Examples : Type 0 where
   pub nothing_done : IsLog example []
   pub root_closed : IsLog example (closed 0 ∷ [])
   pub root_split : IsLog example split_and_closed
-  pub low_open : IsOpen example split_and_closed low_node
+  pub half_open : IsOpen example split_and_closed node_one
   pub never_given : ¬ IsLog example (closed 7 ∷ [])
   pub taken_twice : ¬ IsLog example (closed 0 ∷ closed 0 ∷ [])

@@ -3,7 +3,7 @@
 // Each function here does nothing. Its contract is one of the laws of the definitions, so that the check proves it.
 #![tactic(auto)]
 
-ghost use Rattle.cip_problem.specs.Examples.{Examples};
+ghost use Rattle.cip_problem.specs.Examples.{ProgramExamples};
 ghost use Rattle.cip_problem.specs.Statements.{HalvesCover, HalvesWithin, HalvesCount, BoxBoundHolds, InnerBoxes, SideTests, LogsAreShort};
 
 /// A point of a box that has whole values in the whole columns lies in one of the halves of each split of such a
@@ -47,5 +47,5 @@ pub fn logs_are_short()
 /// A program of three columns is as worked out by hand: one of four points is feasible, at that cost, and three of five
 /// lists of entries are logs; the box bound, the number of whole assignments and a row's activity are those figures.
 pub fn examples()
-    ensures { Examples }
+    ensures { ProgramExamples }
 {}

@@ -19,6 +19,6 @@ printed_held program held = record { cost = printed program held.cost; point = h
 abbrev pub figures_of : Program → Answer → Figures
 figures_of program answer = record {
   status = status_of answer.ended;
-  held = option_map (printed_held program) answer.held;
+  held = option_map (printed_held program) answer.best;
   bound = option_map (printed program) answer.bound;
 }

@@ -48,6 +48,6 @@ pub struct Held {
 #[derive(Debug, Drop)]
 pub struct Answer {
     pub ended: Ended,
-    pub held: Option<Held>,
+    pub best: Option<Held>,
     pub bound: Option<Frac>,
 }

@@ -125,7 +125,7 @@ fn write_head<K: Sink>(
     ensures later { K.faults out.old ≤ K.faults out.new }
     ensures cause { OnErr result (Rose (K.faults out.old) (K.faults out.new)) }
 {
-    let cost = printed_cost(program, &answer.held);
+    let cost = printed_cost(program, &answer.best);
     let bound = printed_bound(program, answer.bound);
     write_line(out, buffer, b"status", answer.ended.word().as_bytes())?;
     write_figure(out, buffer, b"cost", cost)?;
@@ -158,20 +158,20 @@ fn write_answer<K: Sink>(
     program: &Program,
     answer: &Answer,
 ) -> Result<(), Failed>
-    requires { IfSome answer.now.held (λ held. length held.point.items ≡ columns program.now) }
+    requires { IfSome answer.now.best (λ held. length held.point.items ≡ columns program.now) }
     ensures taken { Writes result (K.taken out.old) (K.taken out.new)
         (buffer.old ++ answer_text program.now.column_names (figures_of program.now answer.now)) buffer.new }
     ensures later { K.faults out.old ≤ K.faults out.new }
     ensures cause { OnErr result (Rose (K.faults out.old) (K.faults out.new)) }
 {
     write_head(out, buffer, program, answer)?;
-    write_held(out, buffer, program, &answer.held)?;
+    write_held(out, buffer, program, &answer.best)?;
     buffer.write(out, b"end\n")
 }
 
 /// Writes the answer of a search. After an `Err` the sink took a part of it.
 pub fn report<K: Sink>(program: &Program, answer: &Answer, out: &mut K) -> Result<(), Failed>
-    requires fits { IfSome answer.now.held (λ held. length held.point.items ≡ columns program.now) }
+    requires fits { IfSome answer.now.best (λ held. length held.point.items ≡ columns program.now) }
     ensures taken { let text = answer_text program.now.column_names (figures_of program.now answer.now) in
         MatchResult result
         (λ _. K.taken out.new ≡ append_known (K.taken out.old) text)

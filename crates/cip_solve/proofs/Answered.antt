@@ -22,7 +22,7 @@ use Rattle.cip_solve.specs.Splits.{IsWholeRange}
 use Rattle.cip_solve.specs.Searching.{Searching}
 use Rattle.cip_solve.specs.Stacked.{nodes_at}
 use Rattle.cip_solve.specs.Start.{first_node}
-use Rattle.cip_solve.specs.Kept.{Kept, IsEnded, final_bound}
+use Rattle.cip_solve.specs.Kept.{Kept, SearchEnds, final_bound}
 use Rattle.cip_solve.specs.Right.{IsHeld, IsRight}
 use Rattle.cip_solve.specs.declared.stack.OpenNode.{OpenNode}
 use Rattle.cip_solve.proofs.Places.{kept_self, changed_root}
@@ -99,39 +99,39 @@ end_none : (bound least : Option ℚ) (cost : ℚ) (nodes : List OpenNode) → b
 end_none bound least cost [] e h = absurd (none-some cost (sym h))
 end_none bound least cost (n ∷ ns) e h = sym e ∙ h
 
-ended_as : (node_limit : ℕ) (log : List Entry) (bound : Option ℚ) (held : Held) (nodes : List OpenNode) (ended other : Ended) → ended ≡ other → IsEnded node_limit log bound held nodes ended → IsEnded node_limit log bound held nodes other
-ended_as node_limit log bound held nodes ended other e h = subst (IsEnded node_limit log bound held nodes) e h
+ended_as : (node_limit : ℕ) (log : List Entry) (bound : Option ℚ) (held : Held) (nodes : List OpenNode) (ended other : Ended) → ended ≡ other → SearchEnds node_limit log bound held nodes ended → SearchEnds node_limit log bound held nodes other
+ended_as node_limit log bound held nodes ended other e h = subst (SearchEnds node_limit log bound held nodes) e h
 
 -- nodes stand for as many nodes
-some_nodes : (own bounds : List Sides) (bound : Option ℚ) (nodes : List OpenNode) → nodes ≢ [] → nodes_at own bounds bound nodes ≢ []
-some_nodes own bounds bound [] h e = h refl
-some_nodes own bounds bound (n ∷ ns) h e = absurd (omega (arith, ap length e))
+some_nodes : (outer bounds : List Sides) (bound : Option ℚ) (nodes : List OpenNode) → nodes ≢ [] → nodes_at bounds outer bound nodes ≢ []
+some_nodes outer bounds bound [] h e = h refl
+some_nodes outer bounds bound (n ∷ ns) h e = absurd (omega (arith, ap length e))
 
 -- the answer of a search is right
-pub right_end : (program : Program) (node_limit : ℕ) (log : List Entry) (bound : Option ℚ) (held : Held) (ids : ℕ) (bounds : List Sides) (deepest : ℕ) (nodes : List OpenNode) (ended : Ended) → Kept program log bound held ids bounds deepest nodes → IsEnded node_limit log bound held nodes ended → IsRight program node_limit log (record { ended = ended; held = Some held; bound = final_bound bound held.cost nodes })
+pub right_end : (program : Program) (node_limit : ℕ) (log : List Entry) (bound : Option ℚ) (held : Held) (ids : ℕ) (bounds : List Sides) (deepest : ℕ) (nodes : List OpenNode) (ended : Ended) → Kept program log bound held ids bounds deepest nodes → SearchEnds node_limit log bound held nodes ended → IsRight program node_limit log (record { ended = ended; best = Some held; bound = final_bound bound held.cost nodes })
 right_end program node_limit log bound held ids bounds deepest nodes ended h k = record {
-  held = h.is_held;
+  best = h.is_held;
   bound = end_lower program log bound held ids bounds deepest nodes h;
   box = end_box program log bound held ids bounds deepest nodes h;
   none = λ e. end_none bound (box_bound program program.bounds) held.cost nodes h.root_bound e;
   agree = λ e. record {
     held = held;
-    is_held = refl;
+    is_best = refl;
     bound = ap (final_bound bound held.cost) (ended_as node_limit log bound held nodes ended Optimal e k);
   };
   spent = λ e.
       let spent = ended_as node_limit log bound held nodes ended NodeLimit e k in
       record {
         full = spent.0;
-        matter = open_at_limit program log bound held.cost ids (nodes_at program.bounds bounds bound nodes) h.searching (some_nodes program.bounds bounds bound nodes spent.1) spent.2;
+        matter = open_at_limit program log bound held.cost ids (nodes_at bounds program.bounds bound nodes) h.searching (some_nodes program.bounds bounds bound nodes spent.1) spent.2;
       };
   unspent = λ e spent.
       let none : nodes ≡ [] = ended_as node_limit log bound held nodes ended Optimal e k in
-      none_at_end program log bound held.cost ids (subst (λ t. Searching program log bound held.cost ids (nodes_at program.bounds bounds bound t)) none h.searching) spent.matter;
+      none_at_end program log bound held.cost ids (subst (λ t. Searching program log bound held.cost ids (nodes_at bounds program.bounds bound t)) none h.searching) spent.matter;
   logged = h.searching.logged;
 }
 
 -- so is that of a search without room for its first node
-pub right_before : (program : Program) (node_limit : ℕ) (bound : Option ℚ) (held : Held) → IsWellFormed program → bound ≡ box_bound program program.bounds → IsHeld program held → All HasWholeSides program.bounds → IsRight program node_limit [] (record { ended = NoMemory; held = Some held; bound = bound })
+pub right_before : (program : Program) (node_limit : ℕ) (bound : Option ℚ) (held : Held) → IsWellFormed program → bound ≡ box_bound program program.bounds → IsHeld program held → All HasWholeSides program.bounds → IsRight program node_limit [] (record { ended = NoMemory; best = Some held; bound = bound })
 right_before program node_limit bound held formed e is_held sides =
     right_end program node_limit [] bound held 1 program.bounds 0 (first_node program.bounds ∷ []) NoMemory (kept_start program bound held formed e is_held sides) tt

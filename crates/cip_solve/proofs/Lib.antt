@@ -1,5 +1,4 @@
 pub mod Answered
-pub mod Comparisons
 pub mod Ends
 pub mod Leaves
 pub mod Offers

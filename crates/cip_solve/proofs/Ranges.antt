@@ -1,20 +1,15 @@
 -- Sides that are whole numbers, and their halves.
 use borrow.Author.Differences.{le_out, same_in, lt-true, lt-false}
-use Rattle.std.proofs.Common.{◌≡◌, ℤ, pos, ◌+ℤ◌, ◌≤ℤ◌, true, false, int_lt, Some, refl, sym, ap, ◌∙◌, subst, arith}
+use Rattle.std.proofs.Common.{◌≡◌, pos, ◌+ℤ◌, ◌≤ℤ◌, true, false, int_lt, Some, refl, sym, ◌∙◌, subst, arith}
 use Rattle.std.specs.Prelude.{◌<ℤ◌}
 use Rattle.std.proofs.lemmas.Int.{ints}
-use Rattle.cip_rational.specs.Rational.{integer, numerator, floor}
-use Rattle.cip_rational.specs.Rational.Whole.{whole_is, IsWhole-integer}
+use Rattle.cip_rational.specs.Rational.{integer}
 use Rattle.cip_rational.specs.Rational.Rounding.{floor-integer, ceil-integer}
 use Rattle.cip_problem.specs.Program.{Sides}
 use Rattle.cip_problem.specs.Box.{two_wholes_between}
 use Rattle.cip_solve.specs.Splits.{IsWholeRange}
 use Rattle.cip_solve.specs.Splits.Halved.{AreHalves}
 use Rattle.cip_solve.specs.declared.splits.Halves.{Halves}
-
-pub numerator-integer : (z : ℤ) → numerator (integer z) ≡ z
-numerator-integer z =
-    sym (floor-integer (numerator (integer z))) ∙ ap floor (sym (whole_is (integer z) (IsWhole-integer z))) ∙ floor-integer z
 
 -- the test of two whole values compares whole sides
 two_test : (sides : Sides) (range : IsWholeRange sides) → two_wholes_between sides.low sides.high ≡ int_lt range.low range.high

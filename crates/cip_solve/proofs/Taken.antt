@@ -30,46 +30,46 @@ use Rattle.cip_solve.proofs.Steps.{closed_entry, split_entry, low_node, high_nod
 -- ---- the box of a node is entered
 
 -- the boxes of the other nodes stay
-others_stay : (own bounds : List Sides) (bound : Option ℚ) (column : ℕ) (sides : Sides) (nodes : List OpenNode) → length bounds ≡ length own → All (λ node. node.column ≤ column) nodes → nodes_at own (changed_box bounds own column sides) bound nodes ≡ nodes_at own bounds bound nodes
-others_stay own bounds bound column sides [] e h = refl
-others_stay own bounds bound column sides (n ∷ ns) e h =
-    let first : node_at own (changed_box bounds own column sides) bound n ≡ node_at own bounds bound n =
-    ap (λ t. record { number = n.id; box = t; bound = bound }) (changed_again bounds own n.column column n.sides sides e (All-head (λ node. node.column ≤ column) n ns h)) in
-    let rest = others_stay own bounds bound column sides ns e (All-tail (λ node. node.column ≤ column) n ns h) in
-    ap (λ t. t ∷ nodes_at own (changed_box bounds own column sides) bound ns) first ∙ ap (λ t. node_at own bounds bound n ∷ t) rest
+others_stay : (outer bounds : List Sides) (bound : Option ℚ) (column : ℕ) (sides : Sides) (nodes : List OpenNode) → length bounds ≡ length outer → All (λ node. node.column ≤ column) nodes → nodes_at (changed_box bounds outer column sides) outer bound nodes ≡ nodes_at bounds outer bound nodes
+others_stay outer bounds bound column sides [] e h = refl
+others_stay outer bounds bound column sides (n ∷ ns) e h =
+    let first : node_at (changed_box bounds outer column sides) outer bound n ≡ node_at bounds outer bound n =
+    ap (λ t. record { number = n.id; box = t; bound = bound }) (changed_again bounds outer n.column column n.sides sides e (All-head (λ node. node.column ≤ column) n ns h)) in
+    let rest = others_stay outer bounds bound column sides ns e (All-tail (λ node. node.column ≤ column) n ns h) in
+    ap (λ t. t ∷ nodes_at (changed_box bounds outer column sides) outer bound ns) first ∙ ap (λ t. node_at bounds outer bound n ∷ t) rest
 
 -- what is settled before a change stays so
-settled_before : (own bounds : List Sides) (column to : ℕ) (sides : Sides) → length bounds ≡ length own → to ≤ column → AllSettled bounds 0 to → AllSettled (changed_box bounds own column sides) 0 to
-settled_before own bounds column to sides e l h = λ k from below.
-    let same = changed_before bounds own k column sides e (omega (arith, below, l)) in
+settled_before : (outer bounds : List Sides) (column to : ℕ) (sides : Sides) → length bounds ≡ length outer → to ≤ column → AllSettled bounds 0 to → AllSettled (changed_box bounds outer column sides) 0 to
+settled_before outer bounds column to sides e l h = λ k from below.
+    let same = changed_before bounds outer k column sides e (omega (arith, below, l)) in
     rw same (h k from below)
 
 -- the other nodes beside the box entered
-entered : (own bounds : List Sides) (deepest : ℕ) (nodes : List OpenNode) (node : OpenNode) → Stacked own bounds deepest (nodes ++ node ∷ []) → Stacked own (changed_box bounds own node.column node.sides) node.column nodes × AllSettled (changed_box bounds own node.column node.sides) 0 node.column
-entered own bounds deepest nodes node h =
-    let long = kept_long deepest bounds own h.kept in
+entered : (outer bounds : List Sides) (deepest : ℕ) (nodes : List OpenNode) (node : OpenNode) → Stacked bounds outer deepest (nodes ++ node ∷ []) → Stacked (changed_box bounds outer node.column node.sides) outer node.column nodes × AllSettled (changed_box bounds outer node.column node.sides) 0 node.column
+entered outer bounds deepest nodes node h =
+    let long = kept_long deepest bounds outer h.kept in
     let rising = pairwise_pop (λ node later. node.column ≤ later.column) nodes node h.rising in
-    let reached = pop_all (λ node. 0 < node.column → node.column < length own) nodes node h.reached in
+    let reached = pop_all (λ node. 0 < node.column → node.column < length outer) nodes node h.reached in
     let settled = pop_all (λ node. AllSettled bounds 0 node.column) nodes node h.settled in (
       record {
-        kept = changed_kept bounds own node.column node.sides long;
+        kept = changed_kept bounds outer node.column node.sides long;
         reach = reached.1;
         rising = rising.0;
         reached = reached.0;
-        settled = λ k d l. settled_before own bounds node.column _ node.sides long (rising.1 k d l) (settled.0 k d l);
+        settled = λ k d l. settled_before outer bounds node.column _ node.sides long (rising.1 k d l) (settled.0 k d l);
       },
-      settled_before own bounds node.column node.column node.sides long (omega arith) settled.1,
+      settled_before outer bounds node.column node.column node.sides long (omega arith) settled.1,
     )
 
 -- ---- what is known of the box entered
 
 -- the node that is taken, and the others
-popped : (program : Program) (log : List Entry) (bound : Option ℚ) (cost : ℚ) (ids : ℕ) (own bounds : List Sides) (nodes : List OpenNode) (node : OpenNode) → Searching program log bound cost ids (nodes_at own bounds bound (nodes ++ node ∷ [])) → Searching program log bound cost ids (nodes_at own bounds bound nodes ++ node_at own bounds bound node ∷ [])
-popped program log bound cost ids own bounds nodes node h = subst (Searching program log bound cost ids) (map-append (node_at own bounds bound) nodes (node ∷ [])) h
+popped : (program : Program) (log : List Entry) (bound : Option ℚ) (cost : ℚ) (ids : ℕ) (outer bounds : List Sides) (nodes : List OpenNode) (node : OpenNode) → Searching program log bound cost ids (nodes_at bounds outer bound (nodes ++ node ∷ [])) → Searching program log bound cost ids (nodes_at bounds outer bound nodes ++ node_at bounds outer bound node ∷ [])
+popped program log bound cost ids outer bounds nodes node h = subst (Searching program log bound cost ids) (map-append (node_at bounds outer bound) nodes (node ∷ [])) h
 
 pub entered_inner : (program : Program) (log : List Entry) (bound : Option ℚ) (held : Held) (ids : ℕ) (bounds : List Sides) (deepest : ℕ) (nodes : List OpenNode) (node : OpenNode) (now : List Sides) → Kept program log bound held ids bounds deepest (nodes ++ node ∷ []) → now ≡ changed_box bounds program.bounds node.column node.sides → IsInner program now
 entered_inner program log bound held ids bounds deepest nodes node now h e =
-    let inners = pop_all (λ node. IsInner program node.box) (nodes_at program.bounds bounds bound nodes) (node_at program.bounds bounds bound node) (popped program log bound held.cost ids program.bounds bounds nodes node h.searching).inner in
+    let inners = pop_all (λ node. IsInner program node.box) (nodes_at bounds program.bounds bound nodes) (node_at bounds program.bounds bound node) (popped program log bound held.cost ids program.bounds bounds nodes node h.searching).inner in
     subst (IsInner program) (sym e) inners.1
 
 pub entered_long : (program : Program) (log : List Entry) (bound : Option ℚ) (held : Held) (ids : ℕ) (bounds : List Sides) (deepest : ℕ) (nodes : List OpenNode) (node : OpenNode) (now : List Sides) → Kept program log bound held ids bounds deepest (nodes ++ node ∷ []) → now ≡ changed_box bounds program.bounds node.column node.sides → length now ≡ columns program
@@ -106,12 +106,12 @@ closed_here program log bound held new ids bounds deepest nodes node h is_held l
     let rising = pairwise_pop (λ node later. node.column ≤ later.column) nodes node h.stacked.rising in
     let inside = entered program.bounds bounds deepest nodes node h.stacked in
     let inner = entered_inner program log bound held ids bounds deepest nodes node now h refl in
-    let top = node_at program.bounds bounds bound node in
+    let top = node_at bounds program.bounds bound node in
     let cheapest : (point : List ℚ) → IsFeasible program point → IsInBox now point → new.cost ≤ℚ cost_of program point =
     λ point f k.
     let corner = only_corner now point inner.ranges (all_settled now node.column inside.1 settled) k in
     rw corner (offered (subst (IsFeasible program) corner f)) in
-    let searching = closed_step program log bound held.cost new.cost ids (nodes_at program.bounds bounds bound nodes) top (popped program log bound held.cost ids program.bounds bounds nodes node h.searching) lower cheapest in
+    let searching = closed_step program log bound held.cost new.cost ids (nodes_at bounds program.bounds bound nodes) top (popped program log bound held.cost ids program.bounds bounds nodes node h.searching) lower cheapest in
     record {
       formed = h.formed;
       searching = subst (Searching program (log ++ closed_entry top bound ∷ []) bound new.cost ids) (sym (others_stay program.bounds bounds bound node.column node.sides nodes long rising.1)) searching;
@@ -140,9 +140,9 @@ abbrev pub high_open : ℕ → ℕ → Halves → OpenNode
 high_open ids column halves = record { id = ids + 1; column = column; sides = halves.high }
 
 -- two more nodes at a later column
-pushed : (own now : List Sides) (deepest : ℕ) (nodes : List OpenNode) (high low : OpenNode) → Stacked own now deepest nodes → high.column ≡ low.column → All (λ node. node.column ≤ low.column) nodes → low.column < length own → AllSettled now 0 low.column → Stacked own now deepest ((nodes ++ high ∷ []) ++ low ∷ [])
-pushed own now deepest nodes high low h e before within settled =
-    let P : OpenNode → Type 0 = λ node. 0 < node.column → node.column < length own in
+pushed : (outer now : List Sides) (deepest : ℕ) (nodes : List OpenNode) (high low : OpenNode) → Stacked now outer deepest nodes → high.column ≡ low.column → All (λ node. node.column ≤ low.column) nodes → low.column < length outer → AllSettled now 0 low.column → Stacked now outer deepest ((nodes ++ high ∷ []) ++ low ∷ [])
+pushed outer now deepest nodes high low h e before within settled =
+    let P : OpenNode → Type 0 = λ node. 0 < node.column → node.column < length outer in
     let Q : OpenNode → Type 0 = λ node. AllSettled now 0 node.column in
     record {
       kept = h.kept;
@@ -156,10 +156,10 @@ pushed own now deepest nodes high low h e before within settled =
     }
 
 -- the nodes after a split
-nodes_after : (own now : List Sides) (bound : Option ℚ) (nodes : List OpenNode) (high low : OpenNode) → nodes_at own now bound ((nodes ++ high ∷ []) ++ low ∷ []) ≡ (nodes_at own now bound nodes ++ node_at own now bound high ∷ []) ++ node_at own now bound low ∷ []
-nodes_after own now bound nodes high low =
-    map-append (node_at own now bound) (nodes ++ high ∷ []) (low ∷ [])
-    ∙ ap (λ t. t ++ node_at own now bound low ∷ []) (map-append (node_at own now bound) nodes (high ∷ []))
+nodes_after : (outer now : List Sides) (bound : Option ℚ) (nodes : List OpenNode) (high low : OpenNode) → nodes_at now outer bound ((nodes ++ high ∷ []) ++ low ∷ []) ≡ (nodes_at now outer bound nodes ++ node_at now outer bound high ∷ []) ++ node_at now outer bound low ∷ []
+nodes_after outer now bound nodes high low =
+    map-append (node_at now outer bound) (nodes ++ high ∷ []) (low ∷ [])
+    ∙ ap (λ t. t ++ node_at now outer bound low ∷ []) (map-append (node_at now outer bound) nodes (high ∷ []))
 
 -- all columns before the one that is split are settled
 first_settled : (box : List Sides) (from column : ℕ) → AllSettled box 0 from → AllSettled box from column → AllSettled box 0 column
@@ -170,34 +170,34 @@ first_settled box from column before after = λ k zero_le below. elim (split_at 
 
 split_here : (program : Program) (log : List Entry) (bound : Option ℚ) (held : Held) (ids : ℕ) (bounds : List Sides) (deepest : ℕ) (nodes : List OpenNode) (node : OpenNode) (column : ℕ) (halves : Halves) → Kept program log bound held ids bounds deepest (nodes ++ node ∷ []) → All (λ whole. whole ≡ true) program.integral → IsFirstOpen (changed_box bounds program.bounds node.column node.sides) node.column column → AreHalves (sides_at (changed_box bounds program.bounds node.column node.sides) column) halves → Kept program (log ++ record { node = node.id; bound = bound; end = Split column halves.at ids (ids + 1) } ∷ []) bound held (ids + 2) (changed_box bounds program.bounds node.column node.sides) node.column ((nodes ++ high_open ids column halves ∷ []) ++ low_open ids column halves ∷ [])
 split_here program log bound held ids bounds deepest nodes node column halves h whole first are =
-    let own = program.bounds in
-    let now = changed_box bounds own node.column node.sides in
+    let outer = program.bounds in
+    let now = changed_box bounds outer node.column node.sides in
     let low = low_open ids column halves in
     let high = high_open ids column halves in
-    let top = node_at own bounds bound node in
-    let long = kept_long deepest bounds own h.stacked.kept in
+    let top = node_at bounds outer bound node in
+    let long = kept_long deepest bounds outer h.stacked.kept in
     let now_long = entered_long program log bound held ids bounds deepest nodes node now h refl in
     let rising = pairwise_pop (λ node later. node.column ≤ later.column) nodes node h.stacked.rising in
-    let inside = entered own bounds deepest nodes node h.stacked in
+    let inside = entered outer bounds deepest nodes node h.stacked in
     let inner = entered_inner program log bound held ids bounds deepest nodes node now h refl in
     let parts = divides program.integral now column halves whole (h.formed.integral ∙ sym now_long) inner.ranges first.within are in
-    let past = kept_further node.column column now own first.reached inside.0.kept in
-    let low_is : node_at own now bound low ≡ low_node top bound column halves.at ids =
-    ap (λ t. record { number = ids; box = t; bound = bound }) (changed_set now own column halves.low past ∙ parts.is_low) in
-    let high_is : node_at own now bound high ≡ high_node top bound column halves.at ids =
-    ap (λ t. record { number = ids + 1; box = t; bound = bound }) (changed_set now own column halves.high past ∙ parts.is_high) in
-    let others = others_stay own bounds bound node.column node.sides nodes long rising.1 in
-    let same : nodes_at own now bound ((nodes ++ high ∷ []) ++ low ∷ []) ≡ (nodes_at own bounds bound nodes ++ high_node top bound column halves.at ids ∷ []) ++ low_node top bound column halves.at ids ∷ [] =
-    nodes_after own now bound nodes high low
-    ∙ ap (λ t. (t ++ node_at own now bound high ∷ []) ++ node_at own now bound low ∷ []) others
-    ∙ ap (λ t. (nodes_at own bounds bound nodes ++ t ∷ []) ++ node_at own now bound low ∷ []) high_is
-    ∙ ap (λ t. (nodes_at own bounds bound nodes ++ high_node top bound column halves.at ids ∷ []) ++ t ∷ []) low_is in
-    let searching = split_step program log bound held.cost ids (nodes_at own bounds bound nodes) top column halves.at (popped program log bound held.cost ids own bounds nodes node h.searching) parts.can parts.low_ranges parts.high_ranges in
+    let past = kept_further node.column column now outer first.reached inside.0.kept in
+    let low_is : node_at now outer bound low ≡ low_node top bound column halves.at ids =
+    ap (λ t. record { number = ids; box = t; bound = bound }) (changed_set now outer column halves.low past ∙ parts.is_low) in
+    let high_is : node_at now outer bound high ≡ high_node top bound column halves.at ids =
+    ap (λ t. record { number = ids + 1; box = t; bound = bound }) (changed_set now outer column halves.high past ∙ parts.is_high) in
+    let others = others_stay outer bounds bound node.column node.sides nodes long rising.1 in
+    let same : nodes_at now outer bound ((nodes ++ high ∷ []) ++ low ∷ []) ≡ (nodes_at bounds outer bound nodes ++ high_node top bound column halves.at ids ∷ []) ++ low_node top bound column halves.at ids ∷ [] =
+    nodes_after outer now bound nodes high low
+    ∙ ap (λ t. (t ++ node_at now outer bound high ∷ []) ++ node_at now outer bound low ∷ []) others
+    ∙ ap (λ t. (nodes_at bounds outer bound nodes ++ t ∷ []) ++ node_at now outer bound low ∷ []) high_is
+    ∙ ap (λ t. (nodes_at bounds outer bound nodes ++ high_node top bound column halves.at ids ∷ []) ++ t ∷ []) low_is in
+    let searching = split_step program log bound held.cost ids (nodes_at bounds outer bound nodes) top column halves.at (popped program log bound held.cost ids outer bounds nodes node h.searching) parts.can parts.low_ranges parts.high_ranges in
     record {
       formed = h.formed;
       searching = subst (Searching program (log ++ split_entry top bound column halves.at ids ∷ []) bound held.cost (ids + 2)) (sym same) searching;
       stacked =
-          pushed own now node.column nodes high low inside.0 refl
+          pushed outer now node.column nodes high low inside.0 refl
           (λ k d l. let b = rising.1 k d l in omega (arith, b, first.reached))
           (omega (arith, first.within, now_long, h.formed.bounds))
           (first_settled now node.column column inside.1 first.settled);
@@ -223,7 +223,7 @@ of_not false h = refl
 pub kept_cleared : (program : Program) (log : List Entry) (bound : Option ℚ) (held : Held) (ids : ℕ) (bounds : List Sides) (deepest : ℕ) (nodes : List OpenNode) → Kept program log bound held ids bounds deepest nodes → not (matters (Some held.cost) bound) ≡ true → Kept program log bound held ids bounds deepest []
 kept_cleared program log bound held ids bounds deepest nodes h m = record {
   formed = h.formed;
-  searching = cleared program log bound held.cost ids (nodes_at program.bounds bounds bound nodes) h.searching h.formed h.root_bound (of_not (matters (Some held.cost) bound) m);
+  searching = cleared program log bound held.cost ids (nodes_at bounds program.bounds bound nodes) h.searching h.formed h.root_bound (of_not (matters (Some held.cost) bound) m);
   stacked = record {
     kept = h.stacked.kept;
     reach = h.stacked.reach;

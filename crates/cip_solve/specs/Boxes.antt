@@ -6,7 +6,7 @@ use Rattle.cip_problem.specs.Box.{sides_at, two_wholes_between}
 
 -- the box with the sides of a first box before a column, these sides there, and those of a second box past it
 abbrev pub changed_box : List Sides → List Sides → ℕ → Sides → List Sides
-changed_box [] own column sides = []
+changed_box [] outer column sides = []
 changed_box (b ∷ bs) [] column sides = []
 changed_box (b ∷ bs) (o ∷ os) zero sides = sides ∷ os
 changed_box (b ∷ bs) (o ∷ os) (suc column) sides = b ∷ changed_box bs os column sides

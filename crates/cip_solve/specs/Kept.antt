@@ -17,17 +17,17 @@ use Rattle.cip_solve.specs.Right.{IsHeld}
 -- given are few
 pub record Kept (program : Program) (log : List Entry) (bound : Option ℚ) (held : Held) (ids : ℕ) (bounds : List Sides) (deepest : ℕ) (nodes : List OpenNode) : Type 0 where
   pub formed : IsWellFormed program
-  pub searching : Searching program log bound held.cost ids (nodes_at program.bounds bounds bound nodes)
-  pub stacked : Stacked program.bounds bounds deepest nodes
+  pub searching : Searching program log bound held.cost ids (nodes_at bounds program.bounds bound nodes)
+  pub stacked : Stacked bounds program.bounds deepest nodes
   pub root_bound : bound ≡ box_bound program program.bounds
   pub is_held : IsHeld program held
   pub counted : ids ≤ 1 + 2 * length log
 
 -- how a search ends: with no open node; with its budget spent and open nodes that matter; or without memory
-abbrev pub IsEnded : ℕ → List Entry → Option ℚ → Held → List OpenNode → Ended → Type 0
-IsEnded node_limit log bound held nodes Optimal = nodes ≡ []
-IsEnded node_limit log bound held nodes NodeLimit = (length log ≡ node_limit) × (nodes ≢ []) × (matters (Some held.cost) bound ≡ true)
-IsEnded node_limit log bound held nodes NoMemory = ⊤
+abbrev pub SearchEnds : ℕ → List Entry → Option ℚ → Held → List OpenNode → Ended → Type 0
+SearchEnds node_limit log bound held nodes Optimal = nodes ≡ []
+SearchEnds node_limit log bound held nodes NodeLimit = (length log ≡ node_limit) × (nodes ≢ []) × (matters (Some held.cost) bound ≡ true)
+SearchEnds node_limit log bound held nodes NoMemory = ⊤
 
 -- the bound at the end: the cost held where no node is open, and else that of the root
 abbrev pub final_bound : Option ℚ → ℚ → List OpenNode → Option ℚ

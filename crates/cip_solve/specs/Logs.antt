@@ -11,8 +11,8 @@ end_of (LoggedSplit column at low high) = Split column at low high
 end_of LoggedClosed = Closed
 end_of LoggedParked = Parked
 
-abbrev pub entry_of : Logged → Entry
-entry_of logged = record { node = logged.id; bound = logged.bound; end = end_of logged.end }
+abbrev pub logged_entry : Logged → Entry
+logged_entry logged = record { node = logged.id; bound = logged.bound; end = end_of logged.end }
 
 abbrev pub entries_of : Log → List Entry
-entries_of log = map entry_of log.taken.items
+entries_of log = map logged_entry log.taken.items

@@ -20,24 +20,24 @@ pub record IsHeld (program : Program) (held : Held) : Type 0 where
 -- cost and bound are equal
 pub record Agrees (answer : Answer) : Type 0 where
   pub held : Held
-  pub is_held : answer.held ≡ Some held
+  pub is_best : answer.best ≡ Some held
   pub bound : answer.bound ≡ Some held.cost
 
 -- the node budget is spent: the log has as many entries, and an open node matters
-pub record IsSpent (program : Program) (node_limit : ℕ) (log : List Entry) (answer : Answer) : Type 0 where
+pub record SpendsBudget (program : Program) (node_limit : ℕ) (log : List Entry) (answer : Answer) : Type 0 where
   pub full : length log ≡ node_limit
-  pub matter : HasOpenNode program log (option_map (λ held. held.cost) answer.held)
+  pub matter : HasOpenNode program log (option_map (λ held. held.cost) answer.best)
 
 -- an answer is right, beside the log of its search
 pub record IsRight (program : Program) (node_limit : ℕ) (log : List Entry) (answer : Answer) : Type 0 where
-  pub held : IfSome answer.held (IsHeld program)
+  pub best : IfSome answer.best (IsHeld program)
   -- no feasible point costs less than the bound, and the bound is never below the box bound
   pub bound : IfSome answer.bound (IsLowerBound program)
   pub box : IfSome answer.bound (λ bound. IfSome (box_bound program program.bounds) (λ least. least ≤ℚ bound))
   pub none : answer.bound ≡ None → box_bound program program.bounds ≡ None
   pub agree : answer.ended ≡ Optimal → Agrees answer
-  pub spent : answer.ended ≡ NodeLimit → IsSpent program node_limit log answer
-  pub unspent : answer.ended ≡ Optimal → ¬ IsSpent program node_limit log answer
+  pub spent : answer.ended ≡ NodeLimit → SpendsBudget program node_limit log answer
+  pub unspent : answer.ended ≡ Optimal → ¬ SpendsBudget program node_limit log answer
   pub logged : IsLog program log
 
 -- a search added its log, and its answer is right; where memory was refused before it had room for a log, none was added
@@ -49,5 +49,5 @@ Searched program node_limit old new answer =
 -- the answer holds a point that costs no more
 pub record HoldsAtMost (cost : ℚ) (answer : Answer) : Type 0 where
   pub held : Held
-  pub is_held : answer.held ≡ Some held
+  pub is_best : answer.best ≡ Some held
   pub no_dearer : held.cost ≤ℚ cost

@@ -1,6 +1,7 @@
 //! The box of the node in work, changed in place from node to node.
 ghost use Rattle.std.specs.Prelude.{◌≡◌, ℕ, ◌<◌, ◌≤◌, length, MatchOption};
 ghost use Rattle.cip_solve.specs.Boxes.{changed_box, KeptPast, AllSettled, IsFirstOpen, low_value, low_corner};
+ghost use Rattle.cip_problem.specs.Limits.{most_columns};
 ghost use Rattle.cip_problem.specs.Program as problem;
 
 use cip_frac::Frac;
@@ -14,15 +15,15 @@ pub(crate) struct Work {
 }
 
 /// Gives the columns past `column` the sides of a box that has those past `deepest` already.
-fn restore(bounds: &mut Bounds, own: &Bounds, column: u32, deepest: u32)
-    requires kept { KeptPast deepest bounds.old own.now }
-    requires reach { 0 < deepest → deepest < length own.now }
-    ensures kept { KeptPast column bounds.new own.now }
-    ensures same { (at : ℕ) (sides : problem.Sides) → at ≤ column → changed_box bounds.new own.now at sides ≡ changed_box bounds.old own.now at sides }
+fn restore(bounds: &mut Bounds, outer: &Bounds, column: u32, deepest: u32)
+    requires kept { KeptPast deepest bounds.old outer.now }
+    requires reach { 0 < deepest → deepest < length outer.now }
+    ensures kept { KeptPast column bounds.new outer.now }
+    ensures same { (at : ℕ) (sides : problem.Sides) → at ≤ column → changed_box bounds.new outer.now at sides ≡ changed_box bounds.old outer.now at sides }
 {
     let mut last = deepest;
     while column < last {
-        bounds.set_sides(last, own.sides(last));
+        bounds.set_sides(last, outer.sides(last));
         last -= 1;
     }
 }
@@ -30,13 +31,13 @@ fn restore(bounds: &mut Bounds, own: &Bounds, column: u32, deepest: u32)
 impl Work {
     /// Makes the box of a node the box in work: that of the box in work before a column, the node's
     /// sides there, and the sides of the program past it.
-    pub(crate) fn enter(&mut self, own: &Bounds, column: u32, sides: Sides)
-        requires kept { KeptPast self.old.deepest self.old.bounds own.now }
-        requires reach { 0 < self.old.deepest → self.old.deepest < length own.now }
-        ensures bounds { self.new.bounds ≡ changed_box self.old.bounds own.now column sides }
+    pub(crate) fn enter(&mut self, outer: &Bounds, column: u32, sides: Sides)
+        requires kept { KeptPast self.old.deepest self.old.bounds outer.now }
+        requires reach { 0 < self.old.deepest → self.old.deepest < length outer.now }
+        ensures bounds { self.new.bounds ≡ changed_box self.old.bounds outer.now column sides }
         ensures deepest { self.new.deepest ≡ column }
     {
-        restore(&mut self.bounds, own, column, self.deepest);
+        restore(&mut self.bounds, outer, column, self.deepest);
         self.deepest = column;
         // a program without columns has one node, whose box is empty
         if (column as usize) < self.bounds.len() {
@@ -47,7 +48,7 @@ impl Work {
 
 /// The first column from `from` on between whose sides lie two whole numbers.
 pub(crate) fn first_open_column(bounds: &Bounds, from: u32) -> Option<u32>
-    requires { length bounds.now ≤ 65536 }
+    requires { length bounds.now ≤ most_columns }
     ensures { MatchOption result (AllSettled bounds.now from (length bounds.now)) (IsFirstOpen bounds.now from) }
 {
     for column in from..bounds.len() as u32 {

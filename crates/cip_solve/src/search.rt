@@ -12,7 +12,7 @@ ghost use Rattle.cip_model.specs.Verdicts.{verdict_of};
 ghost use Rattle.cip_model.specs.declared.verdicts.Place.{Place};
 ghost use Rattle.cip_model.specs.declared.verdicts.Verdict.TheVariants.{Wide};
 ghost use Rattle.cip_solve.specs.Logs.{entries_of};
-ghost use Rattle.cip_solve.specs.Kept.{Kept, IsEnded, final_bound};
+ghost use Rattle.cip_solve.specs.Kept.{Kept, SearchEnds, final_bound};
 ghost use Rattle.cip_solve.specs.Start.{IsRoom};
 ghost use Rattle.cip_solve.specs.CanBound.{CanBound};
 ghost use Rattle.cip_solve.specs.Right.{IsHeld, Searched, HoldsAtMost};
@@ -138,7 +138,7 @@ impl Search {
         requires empty { entries_of log.old ≡ [] }
         requires kept { let s = self.old in Kept program.now (entries_of log.old) s.bound s.held s.stack.ids s.work.bounds s.work.deepest s.stack.nodes.items }
         ensures kept { let s = self.new in Kept program.now (entries_of log.new) s.bound s.held s.stack.ids s.work.bounds s.work.deepest s.stack.nodes.items }
-        ensures ended { let s = self.new in IsEnded node_limit (entries_of log.new) s.bound s.held s.stack.nodes.items result }
+        ensures ended { let s = self.new in SearchEnds node_limit (entries_of log.new) s.bound s.held s.stack.nodes.items result }
         ensures lower { self.new.held.cost ≤ℚ self.old.held.cost }
     {
         for _ in 0..node_limit {
@@ -158,7 +158,7 @@ impl Search {
 
     /// The figures at the end: where no node is open, the bound is the cost held.
     fn answer(self, ended: Ended) -> Answer
-        ensures { result ≡ record { ended = ended; held = Some self.held; bound = final_bound self.bound self.held.cost self.stack.nodes.items } }
+        ensures { result ≡ record { ended = ended; best = Some self.held; bound = final_bound self.bound self.held.cost self.stack.nodes.items } }
     {
         let Search {
             held,
@@ -173,7 +173,7 @@ impl Search {
         };
         Answer {
             ended,
-            held: Some(held),
+            best: Some(held),
             bound,
         }
     }
@@ -225,7 +225,9 @@ impl Room {
     }
 }
 
-/// The bound of the root: the least cost in the program's box, where it has one.
+/// The bound of the root in the minimised form: the least cost in the program's box with rows and
+/// whole columns left aside. `None` comes exactly where a column with a cost has an open side there,
+/// or a sum overflows.
 pub fn root_bound(program: &Program) -> Option<Frac>
     ensures value { CanBound program.now → result ≡ box_bound program.now program.now.bounds }
     ensures wide { ¬ CanBound program.now → result ≡ None }
@@ -236,8 +238,12 @@ pub fn root_bound(program: &Program) -> Option<Frac>
     }
 }
 
-/// Searches a program within a budget of nodes, from a feasible point on, and adds what it did to
-/// `logs`.
+/// Searches a program whose columns are all whole, between whole sides, within a budget of at least
+/// one node, from a feasible point on, and adds one log of what it did to `logs`. The answer holds a
+/// point that costs no more, and no feasible point costs less than the bound. It ends `Optimal` with
+/// cost and bound equal, `NodeLimit` only where the log has as many entries as the budget and an open
+/// node matters, which is never so where it ends `Optimal`, and `NoMemory` where a growth was
+/// refused. Then, and only then, there may be no log.
 pub fn solve(
     alloc: Global,
     program: &Program,
@@ -258,7 +264,7 @@ pub fn solve(
     let Ok(room) = Room::new(alloc, program, logs) else {
         return Answer {
             ended: Ended::NoMemory,
-            held: Some(held),
+            best: Some(held),
             bound,
         };
     };

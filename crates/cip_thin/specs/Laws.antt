@@ -14,8 +14,8 @@ use Rattle.cip_problem.specs.RowTerms.{AreTerms, column_at, no_term}
 use Rattle.cip_problem.specs.WellFormed.{columns}
 use Rattle.cip_problem.specs.Activity.{StandsBelow}
 use Rattle.cip_syntax.specs.ThinText.ThinProgram.{IsShort, HasThinSides, IsThinRow, IsThinProgram}
-use Rattle.cip_lin.specs.Small.{IsWithin}
-use Rattle.cip_model.specs.Small.{few, HasSmallSides, HasSmallTerms, IsSmall, small_can_check, small_box_bound}
+use Rattle.cip_frac.proofs.WholeSizes.{IsWithin}
+use Rattle.cip_model.specs.SmallPrograms.{few, HasSmallSides, HasSmallTerms, IsSmall, small_can_check, small_box_bound}
 use Rattle.cip_thin.specs.Statements.{NoOverflow}
 
 short_within : (value : ℚ) → IsShort value → IsWithin few value

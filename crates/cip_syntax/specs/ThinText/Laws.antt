@@ -3,7 +3,7 @@
 --     rational_nonneg        a natural number is at least 0
 --     thin_program           what the program of a thin text is like
 --     zeros_feasible, zeros_cost     the point of zeros is feasible, at cost 0
-use Rattle.std.proofs.Common.{add-one, ◌≡◌, ◌≢◌, ℕ, zero, suc, ◌+◌, ◌-◌, ◌^◌, ◌<◌, ◌≤◌, Bool, true, false, pos, List, [], ◌∷◌, length, map, replicate, Option, None, Some, refl, sym, ◌∙◌, subst, arith, lit≤}
+use Rattle.std.proofs.Common.{add-one, ◌≡◌, ◌≢◌, ℕ, zero, suc, ◌+◌, ◌-◌, ◌^◌, ◌<◌, ◌≤◌, Bool, true, false, pos, List, [], ◌∷◌, length, map, replicate, Option, None, Some, refl, sym, subst, arith, lit≤}
 use Rattle.std.specs.Prelude.{⊤, All, IfSome, ◌&&◌, if◌then◌else◌}
 use Rattle.std.specs.Str.{bytes_eq}
 use Rattle.std.specs.List.{AllByRecursion}
@@ -14,9 +14,10 @@ use Rattle.std.proofs.lemmas.List.Elements.{All-from_recursion}
 use Rattle.cip_rational.specs.Rational.{ℚ, ◌≤ℚ◌, negate, zeroℚ}
 use Rattle.cip_rational.specs.Rational.Order.{≤ℚ_refl}
 use Rattle.cip_rational.specs.Rational.Monotone.{whole_le}
-use Rattle.cip_rational.specs.Rational.Ring.{zero_is, negate_negate, +ℚ-zero, *ℚ-zero, same_whole}
+use Rattle.cip_rational.specs.Rational.Ring.{zero_is, negate_negate, +ℚ-zero, *ℚ-zero}
 use Rattle.cip_rational.specs.Rational.Whole.{integer-pos, IsWhole-integer, IsWhole-zero}
 use Rattle.cip_rational.specs.Sums.{dot}
+use Rattle.cip_rational.proofs.Integers.{integer_not_zero}
 use Rattle.cip_problem.specs.Program.{Term, Sides, Row, Program}
 use Rattle.cip_problem.specs.Activity.{activity, value_at}
 use Rattle.cip_problem.specs.Box.{Between, IsInBox}
@@ -82,9 +83,6 @@ high_side_below c rules column = number_or_zero_below _ (bound_digits_short c.bo
 pub rational_nonneg : (n : ℕ) → zeroℚ ≤ℚ rational n
 rational_nonneg n = rw (integer-pos n, zero_is) (whole_le 0 0 n 0 (omega arith))
 
-pub rational_not_zero : (n : ℕ) → 0 < n → rational n ≢ zeroℚ
-rational_not_zero n h e = let p = same_whole n 0 0 0 (sym (integer-pos n) ∙ e ∙ zero_is) in omega arith
-
 rational_short : (n : ℕ) → n < 10 ^ 9 → IsShort (rational n)
 rational_short n h = record { number = n; below = h; is_number = refl }
 
@@ -110,7 +108,7 @@ from_earlier low from to (term ∷ terms) h k =
 with_term_of : (at to n : ℕ) (terms : List Term) → at < to → n < 10 ^ 9 → AreTermsOf (at + 1) to terms → AreTermsOf at to (with_term at n terms)
 with_term_of at to zero terms h b k = from_earlier at (at + 1) to terms (omega arith) k
 with_term_of at to (suc n) terms h b k =
-    (record { from_on = omega arith; below = h; nonzero = rational_not_zero (suc n) (omega arith); short = rational_short (suc n) b }, k)
+    (record { from_on = omega arith; below = h; nonzero = integer_not_zero (suc n) (omega arith); short = rational_short (suc n) b }, k)
 
 terms_of : (c : Contents) → KeepsRules c → (at to : ℕ) (names : List (List ℕ)) (row : List ℕ) → at + length names ≤ to → AreTermsOf at to (terms_from c at names row)
 terms_of c rules at to [] row h = tt

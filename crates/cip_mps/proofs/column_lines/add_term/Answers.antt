@@ -1,5 +1,6 @@
 use Rattle.std.proofs.Common.{◌∙◌, sym, arith}
-use Rattle.cip_mps.proofs.Terms.{term_added_yes, term_added_no, rational_not_zero}
+use Rattle.cip_rational.proofs.Integers.{integer_not_zero}
+use Rattle.cip_mps.proofs.Terms.{term_added_yes, term_added_no}
 use Rattle.cip_mps.proofs.column_lines.add_term.Goals as goal
 
 pub returns-in-Ok-clause-gives : goal.returns-in-Ok-clause-gives
@@ -15,4 +16,4 @@ returns-in-Err-NotRising-clause-gives c =
 pub returns-in-Err-ZeroTerm-clause-gives : goal.returns-in-Err-ZeroTerm-clause-gives
 returns-in-Err-ZeroTerm-clause-gives c =
     let fault = rw c.in-Err-ZeroTerm.field-0-is at c.in-Err-ZeroTerm.ensures in
-    absurd (rational_not_zero c.args.number (omega arith) (sym c.value_of.ensures ∙ fault.1.2))
+    absurd (integer_not_zero c.args.number (omega arith) (sym c.value_of.ensures ∙ fault.1.2))

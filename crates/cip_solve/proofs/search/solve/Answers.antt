@@ -27,8 +27,8 @@ returns-clause-searched c =
     )
 
 pub returns-in_default-clause-no_dearer : goal.returns-in_default-clause-no_dearer
-returns-in_default-clause-no_dearer c = record { held = c.args.held; is_held = refl; no_dearer = ≤ℚ_refl c.args.held.cost }
+returns-in_default-clause-no_dearer c = record { held = c.args.held; is_best = refl; no_dearer = ≤ℚ_refl c.args.held.cost }
 
 pub returns-clause-no_dearer : goal.returns-clause-no_dearer
 returns-clause-no_dearer c =
-    record { held = c.explore-ended.new.self.held; is_held = ap (λ a. a.held) c.answer.ensures; no_dearer = c.explore-ended.ensures.lower }
+    record { held = c.explore-ended.new.self.held; is_best = ap (λ a. a.best) c.answer.ensures; no_dearer = c.explore-ended.ensures.lower }

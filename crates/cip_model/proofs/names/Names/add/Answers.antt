@@ -2,7 +2,7 @@ use Rattle.std.proofs.Common.{◌≡◌, false, ◌∷◌, [], sym, ◌∙◌}
 use Rattle.std.proofs.lemmas.List.{map-append}
 use Rattle.std.specs.List.{list_any}
 use Rattle.std.specs.Str.{bytes_eq}
-use Rattle.cip_model.proofs.Numbers.{list_any-none, position_from-map}
+use Rattle.cip_model.proofs.NamePlaces.{list_any-none, position_from-map}
 use Rattle.cip_model.proofs.names.Names.add.Goals as goal
 
 pub returns-clause-ok : goal.returns-clause-ok

@@ -1,6 +1,6 @@
 use Rattle.std.proofs.Common.{◌∙◌}
 use Rattle.std.specs.Str.{bytes_eq}
-use Rattle.cip_model.proofs.Numbers.{position-map}
+use Rattle.cip_model.proofs.NamePlaces.{position-map}
 use Rattle.cip_model.proofs.names.Names.find.Goals as goal
 
 pub returns-clause-number : goal.returns-clause-number

@@ -13,24 +13,24 @@ use Rattle.cip_solve.proofs.search.Search.take.Goals as goal
 
 pub first_open_column-requires : goal.first_open_column-requires
 first_open_column-requires c =
-    let e : c.enter.new.self.bounds ≡ changed_box c.args.self.now.work.bounds c.args.program.now.bounds c.args.node.column c.args.node.sides = c.enter.ensures.bounds ∙ ap (λ own. changed_box c.args.self.now.work.bounds own c.args.node.column c.args.node.sides) c.bounds.ensures.bounds in
+    let e : c.enter.new.self.bounds ≡ changed_box c.args.self.now.work.bounds c.args.program.now.bounds c.args.node.column c.args.node.sides = c.enter.ensures.bounds ∙ ap (λ outer. changed_box c.args.self.now.work.bounds outer c.args.node.column c.args.node.sides) c.bounds.ensures.bounds in
     let long : length c.enter.new.self.bounds ≡ columns c.args.program.now = entered_long _ _ _ _ _ _ _ _ c.args.node _ c.requires.kept e in
     omega (arith, long, c.bounds.ensures.formed.few_columns)
 
 pub split_sides-halves-requires-clause-range : goal.split_sides-halves-requires-clause-range
 split_sides-halves-requires-clause-range c =
-    let e : c.enter.new.self.bounds ≡ changed_box c.args.self.now.work.bounds c.args.program.now.bounds c.args.node.column c.args.node.sides = c.enter.ensures.bounds ∙ ap (λ own. changed_box c.args.self.now.work.bounds own c.args.node.column c.args.node.sides) c.bounds.ensures.bounds in
+    let e : c.enter.new.self.bounds ≡ changed_box c.args.self.now.work.bounds c.args.program.now.bounds c.args.node.column c.args.node.sides = c.enter.ensures.bounds ∙ ap (λ outer. changed_box c.args.self.now.work.bounds outer c.args.node.column c.args.node.sides) c.bounds.ensures.bounds in
     let inner : IsInner c.args.program.now c.enter.new.self.bounds = entered_inner _ _ _ _ _ _ _ _ c.args.node _ c.requires.kept e in
     subst IsWholeRange (sym c.sides.ensures) (inner.ranges c.in-Some.column no_sides c.in-Some.ensures.within)
 
 pub corner-requires : goal.corner-requires
 corner-requires c =
-    let e : c.enter.new.self.bounds ≡ changed_box c.args.self.now.work.bounds c.args.program.now.bounds c.args.node.column c.args.node.sides = c.enter.ensures.bounds ∙ ap (λ own. changed_box c.args.self.now.work.bounds own c.args.node.column c.args.node.sides) c.bounds.ensures.bounds in
+    let e : c.enter.new.self.bounds ≡ changed_box c.args.self.now.work.bounds c.args.program.now.bounds c.args.node.column c.args.node.sides = c.enter.ensures.bounds ∙ ap (λ outer. changed_box c.args.self.now.work.bounds outer c.args.node.column c.args.node.sides) c.bounds.ensures.bounds in
     ap length c.as_slice.ensures ∙ entered_long _ _ _ _ _ _ _ _ c.args.node _ c.requires.kept e ∙ sym c.requires.long
 
 pub offer-requires-clause-narrow : goal.offer-requires-clause-narrow
 offer-requires-clause-narrow c = λ place wide.
-    let e : c.enter.new.self.bounds ≡ changed_box c.args.self.now.work.bounds c.args.program.now.bounds c.args.node.column c.args.node.sides = c.enter.ensures.bounds ∙ ap (λ own. changed_box c.args.self.now.work.bounds own c.args.node.column c.args.node.sides) c.bounds.ensures.bounds in
+    let e : c.enter.new.self.bounds ≡ changed_box c.args.self.now.work.bounds c.args.program.now.bounds c.args.node.column c.args.node.sides = c.enter.ensures.bounds ∙ ap (λ outer. changed_box c.args.self.now.work.bounds outer c.args.node.column c.args.node.sides) c.bounds.ensures.bounds in
     let at : c.corner.new.point ≡ low_corner c.enter.new.self.bounds = c.corner.ensures ∙ ap low_corner c.as_slice.ensures in
     corner_narrow c.args.program.now c.enter.new.self.bounds place c.bounds.ensures.formed
     (entered_inner _ _ _ _ _ _ _ _ c.args.node _ c.requires.kept e)
@@ -40,14 +40,14 @@ offer-requires-clause-narrow c = λ place wide.
 
 pub returns-in-Some-clause-kept : goal.returns-in-Some-clause-kept
 returns-in-Some-clause-kept c =
-    let e : c.enter.new.self.bounds ≡ changed_box c.args.self.now.work.bounds c.args.program.now.bounds c.args.node.column c.args.node.sides = c.enter.ensures.bounds ∙ ap (λ own. changed_box c.args.self.now.work.bounds own c.args.node.column c.args.node.sides) c.bounds.ensures.bounds in
+    let e : c.enter.new.self.bounds ≡ changed_box c.args.self.now.work.bounds c.args.program.now.bounds c.args.node.column c.args.node.sides = c.enter.ensures.bounds ∙ ap (λ outer. changed_box c.args.self.now.work.bounds outer c.args.node.column c.args.node.sides) c.bounds.ensures.bounds in
     rw (c.add.ensures, c.split-end.ensures.end, c.split-end.ensures.ids, c.split-end.ensures.nodes, c.enter.ensures.deepest)
     (kept_split _ _ _ _ _ _ _ _ c.args.node c.enter.new.self.bounds c.in-Some.column c.split_sides-halves.result c.requires.kept e c.requires.whole c.in-Some.ensures
     (subst (λ sides. AreHalves sides c.split_sides-halves.result) c.sides.ensures c.split_sides-halves.ensures))
 
 pub returns-in-None-clause-kept : goal.returns-in-None-clause-kept
 returns-in-None-clause-kept c =
-    let e : c.enter.new.self.bounds ≡ changed_box c.args.self.now.work.bounds c.args.program.now.bounds c.args.node.column c.args.node.sides = c.enter.ensures.bounds ∙ ap (λ own. changed_box c.args.self.now.work.bounds own c.args.node.column c.args.node.sides) c.bounds.ensures.bounds in
+    let e : c.enter.new.self.bounds ≡ changed_box c.args.self.now.work.bounds c.args.program.now.bounds c.args.node.column c.args.node.sides = c.enter.ensures.bounds ∙ ap (λ outer. changed_box c.args.self.now.work.bounds outer c.args.node.column c.args.node.sides) c.bounds.ensures.bounds in
     let at : c.corner.new.point ≡ low_corner c.enter.new.self.bounds = c.corner.ensures ∙ ap low_corner c.as_slice.ensures in
     rw (c.add-in-None.ensures, c.enter.ensures.deepest)
     (kept_closed _ _ _ _ c.offer.new.held _ _ _ _ c.args.node c.enter.new.self.bounds c.requires.kept e c.offer.ensures.held c.offer.ensures.lower

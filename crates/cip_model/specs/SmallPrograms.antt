@@ -1,10 +1,10 @@
 -- Programs with small whole numbers: no sum of a check or of the box bound overflows.
 --     IsSmall program, small_can_check, small_least_cost
-use Rattle.std.specs.Prelude.{◌≡◌, ◌≢◌, ⊤, IfSome, ◌≤ℤ◌, ℕ, zero, suc, ◌+◌, ◌*◌, ◌^◌, ◌≤◌, Bool, true, false, List, [], ◌∷◌, length, ℤ, pos, negsuc, Option, None, Some, Result, Ok, Err, refl, if◌then◌else◌}
-use Rattle.std.specs.List.{AllByRecursion, AllZip}
-use Rattle.std.proofs.Common.{sym, ap, ◌∙◌, arith, lit≤, subst}
+use Rattle.std.specs.Prelude.{◌≡◌, ◌≢◌, ⊤, IfSome, ◌≤ℤ◌, ℕ, zero, suc, ◌+◌, ◌*◌, ◌^◌, ◌≤◌, Bool, true, false, List, [], ◌∷◌, length, ℤ, pos, Option, None, Some, Result, Ok, Err, if◌then◌else◌}
+use Rattle.std.specs.List.{AllByRecursion}
+use Rattle.std.proofs.Common.{sym, arith, subst}
 use Rattle.std.proofs.lemmas.Int.{ints}
-use Rattle.cip_rational.specs.Rational.{ℚ, ◌≤ℚ◌, zeroℚ, integer, numerator, IsWhole, lt_test, le_test}
+use Rattle.cip_rational.specs.Rational.{ℚ, ◌≤ℚ◌, zeroℚ, integer, numerator, IsWhole, lt_test}
 use Rattle.cip_rational.specs.Rational.Whole.{whole_is}
 use Rattle.cip_rational.specs.Rational.Rounding.{le_integer, integer-zero}
 use Rattle.cip_rational.specs.Range.{largest, magnitude}
@@ -14,15 +14,17 @@ use Rattle.cip_problem.specs.Program.{Term, Sides, Row, Program}
 use Rattle.cip_problem.specs.Activity.{value_at}
 use Rattle.cip_problem.specs.Box.{Between, IsInBox, is_between}
 use Rattle.cip_problem.specs.Points.{AreWhole}
-use Rattle.cip_lin.specs.Small.{IsWithin, IsOkWithin, TermsWithin, then_within, within_activity, within_added}
-use Rattle.cip_lin.specs.Sums.{and_then, product_added, activity_from, least_added, least_then, least_at, least_side, least_of}
+use Rattle.cip_problem.specs.Limits.{most_columns}
+use Rattle.cip_frac.specs.Outcomes.{product_added}
+use Rattle.cip_frac.proofs.WholeSizes.{IsWithin, IsOkWithin, zero_within, more_within, within_added, within_dot}
+use Rattle.cip_lin.proofs.ActivitySizes.{TermsWithin, within_activity}
+use Rattle.cip_lin.specs.Sums.{activity_from, least_added, least_then, least_of}
 use Rattle.cip_lin.specs.declared.outcomes.Least.{Least}
 use Rattle.cip_lin.specs.declared.outcomes.Least.TheVariants.{Value, NoBound, Wide as TooWide}
 use Rattle.cip_model.specs.declared.verdicts.Place.{Place}
-use Rattle.cip_model.specs.declared.verdicts.Place.TheVariants.{Row as AtRow, Cost}
 use Rattle.cip_model.specs.declared.verdicts.Verdict.{Verdict}
 use Rattle.cip_model.specs.declared.verdicts.Verdict.TheVariants.{Feasible, BreaksBound, BreaksWhole, BreaksRow, Wide}
-use Rattle.cip_model.specs.Verdicts.{verdict_of, first_outside, first_not_whole, first_broken, row_verdict, cost_from, cost_verdict, or_else, from_rows, from_wholes, from_bounds}
+use Rattle.cip_model.specs.Verdicts.{verdict_of, first_outside, first_not_whole, first_broken, row_verdict, cost_verdict, or_else, from_rows, from_wholes, from_bounds}
 use Rattle.cip_model.specs.Least.{column_added, least_cost_from}
 use Rattle.cip_model.specs.CanCheck.{CanCheck}
 
@@ -37,9 +39,9 @@ pub record HasSmallSides (sides : Sides) : Type 0 where
   pub high : sides.high ≡ Some side
   pub within : IsWithin few side
 
--- a row has at most 65,536 terms, of small whole coefficients
+-- a row has no more terms than a program columns, of small whole coefficients
 pub record HasSmallTerms (row : Row) : Type 0 where
-  pub short : length row.terms ≤ 65536
+  pub short : length row.terms ≤ most_columns
   pub coefficients : AllByRecursion (λ t. IsWithin few t.coefficient) row.terms
 
 -- all numbers of a program are whole and small
@@ -47,14 +49,11 @@ pub record IsSmall (program : Program) : Type 0 where
   pub rows : AllByRecursion HasSmallTerms program.rows
   pub costs : AllByRecursion (IsWithin few) program.costs
   pub constant : program.constant ≡ zeroℚ
-  pub columns : length program.costs ≤ 65536
+  pub columns : length program.costs ≤ most_columns
   pub bounds : AllByRecursion HasSmallSides program.bounds
   pub whole : AllByRecursion (λ whole. whole ≡ true) program.integral
 
 -- ---- the values of a point
-
-zero_within : (n : ℕ) → IsWithin n zeroℚ
-zero_within n = record { number = pos 0; is_number = sym integer-zero; within = omega arith }
 
 magnitude_le : (y z : ℤ) (n : ℕ) → pos 0 ≤ℤ y → y ≤ℤ z → magnitude z ≤ n → magnitude y ≤ n
 magnitude_le y z n p q h = omega (arith, ints, p, q, h)
@@ -115,21 +114,11 @@ either_not_wide (Some v) b p q = p
 rows_not_wide : (at : ℕ) (rows : List Row) (point : List ℚ) → AllByRecursion HasSmallTerms rows → AllByRecursion (IsWithin few) point → IsNoneWide (first_broken at rows point)
 rows_not_wide at [] point s h = tt
 rows_not_wide at (row ∷ rows) point s h =
-    let short : length row.terms ≤ 65536 = s.0.short in
+    let short : length row.terms ≤ most_columns = s.0.short in
     either_not_wide (row_verdict at row (activity_from zeroℚ row.terms point)) (first_broken (at + 1) rows point)
     (row_not_wide (0 + length row.terms * (few * few)) at row (activity_from zeroℚ row.terms point)
     (within_activity 0 few few zeroℚ row.terms point (zero_within 0) (terms_within row.terms point s.0.coefficients h) (omega (arith, short))))
     (rows_not_wide (at + 1) rows point s.1 h)
-
-cost_within : (k : ℕ) (sum : ℚ) (costs point : List ℚ) → IsWithin k sum → AllByRecursion (IsWithin few) costs → AllByRecursion (IsWithin few) point → k + length costs * (few * few) ≤ largest → IsOkWithin (k + length costs * (few * few)) (cost_from sum costs point)
-cost_within k sum [] point r c h l = subst (λ j. IsWithin j sum) (omega arith) r
-cost_within k sum (cost ∷ costs) [] r c h l = record { number = r.number; is_number = r.is_number; within = omega (arith, r.within) }
-cost_within k sum (cost ∷ costs) (value ∷ values) r c h l =
-    let e : k + few * few + length costs * (few * few) ≡ k + suc (length costs) * (few * few) = omega arith in
-    subst (λ j. IsOkWithin j (cost_from sum (cost ∷ costs) (value ∷ values))) e
-    (then_within (k + few * few + length costs * (few * few)) (product_added sum cost value) (k + few * few) (λ more. cost_from more costs values)
-    (within_added k few few sum cost value r c.0 h.0 (omega (arith, l, e)))
-    (λ q w. cost_within (k + few * few) q costs values w c.1 h.1 (omega (arith, l, e))))
 
 cost_not_wide : (n : ℕ) (r : Result ℚ Overflow) → IsOkWithin n r → IsNotWide (cost_verdict r)
 cost_not_wide n (Ok q) h = tt
@@ -154,12 +143,12 @@ is_wide v place h e = subst IsNotWide e h
 pub small_can_check : (program : Program) → IsSmall program → CanCheck program
 small_can_check program s point place b w =
     let values : AllByRecursion (IsWithin few) point = values_within program.bounds program.integral point s.bounds s.whole b w in
-    let columns : length program.costs ≤ 65536 = s.columns in
+    let columns : length program.costs ≤ most_columns = s.columns in
     is_wide (verdict_of program point) place
     (not_wide_bounds (first_outside 0 program.bounds point) _
     (not_wide_wholes (first_not_whole 0 program.integral point) _
     (not_wide_rows (first_broken 0 program.rows point) _ (rows_not_wide 0 program.rows point s.rows values)
-    (cost_not_wide _ _ (cost_within 0 program.constant program.costs point (subst (IsWithin 0) (sym s.constant) (zero_within 0)) s.costs values (omega (arith, columns)))))))
+    (cost_not_wide _ _ (within_dot 0 few few program.constant program.costs point (subst (IsWithin 0) (sym s.constant) (zero_within 0)) s.costs values (omega (arith, columns)))))))
 
 -- ---- the box bound
 
@@ -171,9 +160,6 @@ IsValueWithin n TooWide = ⊥
 of_ok : (n : ℕ) (r : Result ℚ Overflow) → IsOkWithin n r → IsValueWithin n (least_of r)
 of_ok n (Ok q) h = h
 of_ok n (Err wide) h = h
-
-more_within : (m n : ℕ) (q : ℚ) → m ≤ n → IsWithin m q → IsWithin n q
-more_within m n q l h = record { number = h.number; is_number = h.is_number; within = omega (arith, h.within, l) }
 
 side_is : (cost : ℚ) (sides : Sides) (s : HasSmallSides sides) (b : Bool) → (side : ℚ) × ((if b then sides.high else sides.low) ≡ Some side) × IsWithin few side
 side_is cost sides s true = (s.side, s.high, s.within)
@@ -192,10 +178,10 @@ column_within : (k : ℕ) (sum cost : ℚ) (sides : Sides) → IsWithin k sum �
 column_within k sum cost sides r c s l =
     by_cost (k + few * few) sum (least_added sum cost sides) (same_rational cost zeroℚ) (more_within k (k + few * few) sum (omega arith) r) (least_added_within k sum cost sides r c s l)
 
-then_value : (n : ℕ) (r : Least) (m : ℕ) (next : ℚ → Least) → IsValueWithin m r → ((q : ℚ) → IsWithin m q → IsValueWithin n (next q)) → IsValueWithin n (least_then r next)
-then_value n (Value q) m next h f = f q h
-then_value n NoBound m next h f = absurd h
-then_value n TooWide m next h f = absurd h
+then_least : (n : ℕ) (r : Least) (m : ℕ) (next : ℚ → Least) → IsValueWithin m r → ((q : ℚ) → IsWithin m q → IsValueWithin n (next q)) → IsValueWithin n (least_then r next)
+then_least n (Value q) m next h f = f q h
+then_least n NoBound m next h f = absurd h
+then_least n TooWide m next h f = absurd h
 
 least_within_from : (k : ℕ) (sum : ℚ) (costs : List ℚ) (box : List Sides) → IsWithin k sum → AllByRecursion (IsWithin few) costs → AllByRecursion HasSmallSides box → k + length costs * (few * few) ≤ largest → IsValueWithin (k + length costs * (few * few)) (least_cost_from sum costs box)
 least_within_from k sum [] box r c s l = subst (λ j. IsWithin j sum) (omega arith) r
@@ -203,7 +189,7 @@ least_within_from k sum (cost ∷ costs) [] r c s l = more_within k _ sum (omega
 least_within_from k sum (cost ∷ costs) (sides ∷ others) r c s l =
     let e : k + few * few + length costs * (few * few) ≡ k + suc (length costs) * (few * few) = omega arith in
     subst (λ j. IsValueWithin j (least_cost_from sum (cost ∷ costs) (sides ∷ others))) e
-    (then_value (k + few * few + length costs * (few * few)) (column_added sum cost sides) (k + few * few) (λ more. least_cost_from more costs others)
+    (then_least (k + few * few + length costs * (few * few)) (column_added sum cost sides) (k + few * few) (λ more. least_cost_from more costs others)
     (column_within k sum cost sides r c.0 s.0 (omega (arith, l, e)))
     (λ q w. least_within_from (k + few * few) q costs others w c.1 s.1 (omega (arith, l, e))))
 
@@ -213,5 +199,5 @@ not_wide_least n r h e = subst (IsValueWithin n) e h
 -- the box bound does not overflow
 pub small_box_bound : (program : Program) → IsSmall program → least_cost_from program.constant program.costs program.bounds ≢ TooWide
 small_box_bound program s =
-    let columns : length program.costs ≤ 65536 = s.columns in
+    let columns : length program.costs ≤ most_columns = s.columns in
     not_wide_least _ _ (least_within_from 0 program.constant program.costs program.bounds (subst (IsWithin 0) (sym s.constant) (zero_within 0)) s.costs s.bounds (omega (arith, columns)))

@@ -10,8 +10,9 @@ use Rattle.cip_problem.specs.BoxBound as problem
 use Rattle.cip_problem.specs.BoxBound.{sum_if_both, product_at, least_costs}
 use Rattle.cip_lin.specs.declared.outcomes.Least.{Least}
 use Rattle.cip_lin.specs.declared.outcomes.Least.TheVariants.{Value, NoBound, Wide as TooWide}
-use Rattle.cip_lin.specs.Sums.{product_added, least_of, least_at, least_then}
-use Rattle.cip_lin.specs.Sums.Laws.{added_value}
+use Rattle.cip_frac.specs.Outcomes.{product_added}
+use Rattle.cip_frac.proofs.Outcomes.{product_added-value}
+use Rattle.cip_lin.specs.Sums.{least_of, least_at, least_then}
 use Rattle.cip_model.specs.Least.{column_added, least_cost_from}
 use Rattle.cip_model.specs.Meaning.{BoundHolds}
 
@@ -22,7 +23,7 @@ outcome_holds (Err wide) q e = tt
 -- a sum with the product at a side added
 at_side : (sum cost : ℚ) (side : Option ℚ) → BoundHolds (sum_if_both (Some sum) (product_at cost side)) (least_at sum cost side)
 at_side sum cost None = refl
-at_side sum cost (Some side) = outcome_holds (product_added sum cost side) (sum +ℚ cost *ℚ side) (added_value sum cost side)
+at_side sum cost (Some side) = outcome_holds (product_added sum cost side) (sum +ℚ cost *ℚ side) (product_added-value sum cost side)
 
 -- a sum with the least cost of a column added
 column_cases : (sum cost : ℚ) (sides : Sides) (same negative positive : Bool) → same_rational cost zeroℚ ≡ same → lt_test cost zeroℚ ≡ negative → lt_test zeroℚ cost ≡ positive → BoundHolds (sum_if_both (Some sum) (cond negative (product_at cost sides.high) (cond positive (product_at cost sides.low) (Some zeroℚ)))) (cond same (Value sum) (least_at sum cost (cond negative sides.high sides.low)))

@@ -1,10 +1,8 @@
 -- The verdict on a point holds, and every verdict but that a sum overflows settles whether the point is feasible.
-use Rattle.std.proofs.Common.{◌≡◌, ◌⊎◌, inl, inr, ℕ, suc, ◌+◌, ◌<◌, Bool, true, false, cond, not, ◌&&◌, List, [], ◌∷◌, Option, None, Some, Result, Ok, Err, IfOk, length, slice_get, refl, sym, ap, ◌∙◌, subst, arith, true≢false}
+use Rattle.std.proofs.Common.{◌≡◌, ◌⊎◌, inl, inr, ℕ, suc, ◌+◌, ◌<◌, Bool, true, false, cond, not, ◌&&◌, List, [], ◌∷◌, Option, None, Some, Result, Ok, Err, length, slice_get, refl, sym, ap, ◌∙◌, subst, arith, true≢false}
 use Rattle.std.specs.List.{AllByRecursion}
-use Rattle.cip_rational.specs.Rational.{ℚ, ◌+ℚ◌, ◌*ℚ◌, zeroℚ, IsWhole, is_whole}
-use Rattle.cip_rational.specs.Rational.Ring.{+ℚ_assoc, +ℚ-zero}
+use Rattle.cip_rational.specs.Rational.{ℚ, zeroℚ, IsWhole, is_whole}
 use Rattle.cip_rational.specs.Rational.Whole.{IsWhole_of_test, test_of_IsWhole}
-use Rattle.cip_rational.specs.Sums.{dot}
 use Rattle.cip_frac.specs.declared.operations.Wide.{Wide as Overflow}
 use Rattle.cip_problem.specs.Program.{Sides, Row, Program}
 use Rattle.cip_problem.specs.Activity.{activity, value_at}
@@ -13,14 +11,16 @@ use Rattle.cip_problem.specs.Box.Laws.{between_of_test, not_between_of_test}
 use Rattle.cip_problem.specs.Points.{IsSatisfied, AreWhole, IsFeasible, cost_of}
 use Rattle.cip_problem.specs.Points.Laws.{IsInBox-long, in_box_at, whole_at, satisfied_at}
 use Rattle.cip_problem.specs.WellFormed.{IsWellFormed, columns}
-use Rattle.cip_lin.specs.Sums.{product_added, activity_from}
-use Rattle.cip_lin.specs.Sums.Laws.{then_value, added_value, activity_from-zero}
+use Rattle.cip_frac.specs.Outcomes.{dot_from}
+use Rattle.cip_frac.proofs.Outcomes.{dot_from-value}
+use Rattle.cip_lin.specs.Sums.{activity_from}
+use Rattle.cip_lin.specs.Sums.ActivityValue.{activity_from-zero}
 use Rattle.cip_model.specs.declared.verdicts.Place.{Place}
 use Rattle.cip_model.specs.declared.verdicts.Place.TheVariants.{Row as AtRow, Cost}
 use Rattle.cip_model.specs.declared.verdicts.Verdict.{Verdict}
 use Rattle.cip_model.specs.declared.verdicts.Verdict.TheVariants.{Feasible, BreaksBound, BreaksWhole, BreaksRow, Wide}
-use Rattle.cip_model.specs.Verdicts.{first_outside, first_not_whole, row_verdict, or_else, first_broken, cost_from, cost_verdict, from_rows, from_wholes, from_bounds, verdict_of}
-use Rattle.cip_model.specs.Meaning.{IsOutside, IsSplit, IsBroken, RowOverflows, VerdictHolds}
+use Rattle.cip_model.specs.Verdicts.{first_outside, first_not_whole, row_verdict, or_else, first_broken, cost_verdict, from_rows, from_wholes, from_bounds, verdict_of}
+use Rattle.cip_model.specs.Meaning.{IsOutside, IsFractional, IsBroken, RowOverflows, VerdictHolds}
 
 -- ---- bounds
 
@@ -51,28 +51,28 @@ first_outside_holds at (s ∷ ss) (v ∷ vs) e =
 -- ---- whole columns
 
 -- a place, counted from `at`, that is to have a whole value and has not
-record SplitFrom (at : ℕ) (integral : List Bool) (point : List ℚ) (column : ℕ) : Type 0 where
+record FractionalFrom (at : ℕ) (integral : List Bool) (point : List ℚ) (column : ℕ) : Type 0 where
   pub place : ℕ
   pub is : column ≡ at + place
   pub integral_there : slice_get integral place ≡ Some true
   pub not_whole : ¬ IsWhole (value_at point place)
 
 -- where there is no first place that is to be whole and is not, each is
-abbrev FirstSplitSays : ℕ → List Bool → List ℚ → Option ℕ → Type 0
-FirstSplitSays at integral point None = AreWhole integral point
-FirstSplitSays at integral point (Some column) = SplitFrom at integral point column
+abbrev FirstFractionalSays : ℕ → List Bool → List ℚ → Option ℕ → Type 0
+FirstFractionalSays at integral point None = AreWhole integral point
+FirstFractionalSays at integral point (Some column) = FractionalFrom at integral point column
 
 not_IsWhole_of_test : (v : ℚ) → is_whole v ≡ false → ¬ IsWhole v
 not_IsWhole_of_test v e h = true≢false (sym (test_of_IsWhole v h) ∙ e)
 
-wholes_cons : (at : ℕ) (w : Bool) (integral : List Bool) (v : ℚ) (point : List ℚ) (rest : Option ℕ) (t : Bool) → is_whole v ≡ t → FirstSplitSays (at + 1) integral point rest → FirstSplitSays at (w ∷ integral) (v ∷ point) (cond (w && not t) (Some at) rest)
+wholes_cons : (at : ℕ) (w : Bool) (integral : List Bool) (v : ℚ) (point : List ℚ) (rest : Option ℕ) (t : Bool) → is_whole v ≡ t → FirstFractionalSays (at + 1) integral point rest → FirstFractionalSays at (w ∷ integral) (v ∷ point) (cond (w && not t) (Some at) rest)
 wholes_cons at false integral v point None t e h = (λ f. absurd (true≢false (sym f)), h)
 wholes_cons at false integral v point (Some column) t e h = record { place = suc h.place; is = omega (arith, h.is); integral_there = h.integral_there; not_whole = h.not_whole }
 wholes_cons at true integral v point None true e h = (λ _. IsWhole_of_test v e, h)
 wholes_cons at true integral v point (Some column) true e h = record { place = suc h.place; is = omega (arith, h.is); integral_there = h.integral_there; not_whole = h.not_whole }
 wholes_cons at true integral v point rest false e h = record { place = 0; is = omega arith; integral_there = refl; not_whole = not_IsWhole_of_test v e }
 
-first_not_whole_holds : (at : ℕ) (integral : List Bool) (point : List ℚ) → length integral ≡ length point → FirstSplitSays at integral point (first_not_whole at integral point)
+first_not_whole_holds : (at : ℕ) (integral : List Bool) (point : List ℚ) → length integral ≡ length point → FirstFractionalSays at integral point (first_not_whole at integral point)
 first_not_whole_holds at [] [] e = tt
 first_not_whole_holds at [] (v ∷ vs) e = absurd (omega (arith, e))
 first_not_whole_holds at (w ∷ ws) [] e = absurd (omega (arith, e))
@@ -127,21 +127,11 @@ first_broken_holds at [] point = tt
 first_broken_holds at (row ∷ rows) point =
     rows_cons at row rows point (first_broken (at + 1) rows point) (activity_from zeroℚ row.terms point) refl (first_broken_holds (at + 1) rows point)
 
--- ---- the cost
-
-cost_from-value : (sum : ℚ) (costs point : List ℚ) → IfOk (cost_from sum costs point) (λ v. v ≡ sum +ℚ dot costs point)
-cost_from-value sum [] point = sym (+ℚ-zero sum)
-cost_from-value sum (c ∷ cs) [] = sym (+ℚ-zero sum)
-cost_from-value sum (c ∷ cs) (v ∷ vs) =
-    then_value (product_added sum c v) (λ more. cost_from more cs vs) (sum +ℚ c *ℚ v) (sum +ℚ (c *ℚ v +ℚ dot cs vs))
-    (added_value sum c v)
-    (rw (← +ℚ_assoc sum (c *ℚ v) (dot cs vs)) (cost_from-value (sum +ℚ c *ℚ v) cs vs))
-
 -- ---- the verdict
 
 module _ (program : Program) (point : List ℚ) where
-  cost_case : (sum : Result ℚ Overflow) → cost_from program.constant program.costs point ≡ sum → IsFeasible program point → VerdictHolds program point (cost_verdict sum)
-  cost_case (Ok cost) e h = (h, rw e at (cost_from-value program.constant program.costs point))
+  cost_case : (sum : Result ℚ Overflow) → dot_from program.constant program.costs point ≡ sum → IsFeasible program point → VerdictHolds program point (cost_verdict sum)
+  cost_case (Ok cost) e h = (h, rw e at (dot_from-value program.constant program.costs point))
   cost_case (Err overflow) e h = rw e refl
 
   rows_case : (first : Option Verdict) (next : Verdict) → FirstBrokenSays 0 program.rows point first → (AllByRecursion (λ row. IsSatisfied row point) program.rows → VerdictHolds program point next) → VerdictHolds program point (from_rows first next)
@@ -153,11 +143,11 @@ module _ (program : Program) (point : List ℚ) where
   rows_case (Some (Wide Cost)) next h f = absurd h
   rows_case (Some (Wide (AtRow number))) next h f = subst (λ n. RowOverflows program.rows point n) (omega (arith, h.1)) h.2
 
-  wholes_case : (first : Option ℕ) (next : Verdict) → FirstSplitSays 0 program.integral point first → (AreWhole program.integral point → VerdictHolds program point next) → VerdictHolds program point (from_wholes first next)
+  wholes_case : (first : Option ℕ) (next : Verdict) → FirstFractionalSays 0 program.integral point first → (AreWhole program.integral point → VerdictHolds program point next) → VerdictHolds program point (from_wholes first next)
   wholes_case None next h f = f h
   wholes_case (Some column) next h f =
       let e : h.place ≡ column = omega (arith, h.is) in
-      subst (λ n. IsSplit program point n) e (record { integral = h.integral_there; not_whole = h.not_whole })
+      subst (λ n. IsFractional program point n) e (record { integral = h.integral_there; not_whole = h.not_whole })
 
   bounds_case : IsWellFormed program → (first : Option ℕ) (next : Verdict) → FirstOutsideSays 0 program.bounds point first → (IsInBox program.bounds point → VerdictHolds program point next) → VerdictHolds program point (from_bounds first next)
   bounds_case formed None next h f = f h
@@ -171,27 +161,27 @@ module _ (program : Program) (point : List ℚ) where
       bounds_case formed (first_outside 0 program.bounds point) _ (first_outside_holds 0 program.bounds point (formed.bounds ∙ sym long))
       (λ within. wholes_case (first_not_whole 0 program.integral point) _ (first_not_whole_holds 0 program.integral point (formed.integral ∙ sym long))
       (λ wholes. rows_case (first_broken 0 program.rows point) _ (first_broken_holds 0 program.rows point)
-      (λ rows. cost_case (cost_from program.constant program.costs point) refl (record { within = within; whole = wholes; rows = rows }))))
+      (λ rows. cost_case (dot_from program.constant program.costs point) refl (record { within = within; whole = wholes; rows = rows }))))
 
   pub verdict_is_right : (verdict : Verdict) → verdict ≡ verdict_of program point → IsWellFormed program → length point ≡ columns program → VerdictHolds program point verdict
   verdict_is_right verdict e formed long = rw e (verdict_holds formed long)
 
   -- ---- what callers may conclude
 
-  pub outside_is_infeasible : (column : ℕ) → IsOutside program point column → ¬ IsFeasible program point
+  outside_is_infeasible : (column : ℕ) → IsOutside program point column → ¬ IsFeasible program point
   outside_is_infeasible column h k = h.outside (in_box_at program.bounds point column k.within)
 
-  pub split_is_infeasible : (column : ℕ) → IsSplit program point column → ¬ IsFeasible program point
-  split_is_infeasible column h k = h.not_whole (whole_at program.integral point column k.whole h.integral)
+  fractional_is_infeasible : (column : ℕ) → IsFractional program point column → ¬ IsFeasible program point
+  fractional_is_infeasible column h k = h.not_whole (whole_at program.integral point column k.whole h.integral)
 
-  pub broken_is_infeasible : (number : ℕ) (value : ℚ) → IsBroken program.rows point number value → ¬ IsFeasible program point
+  broken_is_infeasible : (number : ℕ) (value : ℚ) → IsBroken program.rows point number value → ¬ IsFeasible program point
   broken_is_infeasible number value h k = h.broken (satisfied_at program.rows point number h.row k.rows h.is_row)
 
   -- a feasible point is found to be feasible, at its cost, or a sum overflows
   pub feasible_or_wide : (verdict : Verdict) → VerdictHolds program point verdict → IsFeasible program point → (verdict ≡ Feasible (cost_of program point)) ⊎ ((place : Place) × (verdict ≡ Wide place))
   feasible_or_wide (Feasible cost) h k = inl (ap Feasible h.1)
   feasible_or_wide (BreaksBound column) h k = absurd (outside_is_infeasible column h k)
-  feasible_or_wide (BreaksWhole column) h k = absurd (split_is_infeasible column h k)
+  feasible_or_wide (BreaksWhole column) h k = absurd (fractional_is_infeasible column h k)
   feasible_or_wide (BreaksRow number value) h k = absurd (broken_is_infeasible number value h k)
   feasible_or_wide (Wide place) h k = inr (place, refl)
 
