@@ -4,7 +4,7 @@ use Rattle.std.proofs.Common.{sym, ap, ap₂, ◌∙◌, subst, arith}
 use Rattle.std.proofs.lemmas.List.{drop-drop, drop_all, length-append, length-take-le, take-append-drop, append-nil}
 use Rattle.std.proofs.Math.Seq.{take-add}
 use Rattle.cip_io.specs.Store.{Pulls, Comes}
-use Rattle.cip_main.specs.Pulling.{IsPulled, most_pulled, IsWhole}
+use Rattle.cip_main.specs.Pulling.{IsPulled, most_pulled, IsAllPulled}
 
 -- nothing was pulled yet
 pub pulled_none : (held left : Option (List ℕ)) → left ≡ held → IsPulled held left []
@@ -34,7 +34,7 @@ pulled_all (Some text) left left' before after bytes p h =
     sym (take-append-drop (length bytes) text) ∙ ap₂ (λ u v. u ++ v) p.front empty ∙ append-nil bytes
 
 -- then it was pulled whole, where it is not too long
-pub whole_at_end : (held left left' : Option (List ℕ)) (before after bytes : List ℕ) → IsPulled held left bytes → Pulls left left' before after 0 → length bytes ≤ most_pulled → IsWhole held left'
+pub whole_at_end : (held left left' : Option (List ℕ)) (before after bytes : List ℕ) → IsPulled held left bytes → Pulls left left' before after 0 → length bytes ≤ most_pulled → IsAllPulled held left'
 whole_at_end None left left' before after bytes p h l = h.left ∙ ap (option_map (drop 0)) p.rest
 whole_at_end (Some text) left left' before after bytes p h l =
     let all : text ≡ bytes = pulled_all (Some text) left left' before after bytes p h in
@@ -43,7 +43,7 @@ whole_at_end (Some text) left left' before after bytes p h l =
     h.left ∙ ap (option_map (drop 0)) p.rest ∙ ap Some (drop_all (length bytes) text size' ∙ sym (drop_all most_pulled text size))
 
 -- or where one byte too many was pulled
-pub whole_at_limit : (held left : Option (List ℕ)) (bytes : List ℕ) → IsPulled held left bytes → length bytes ≡ most_pulled → IsWhole held left
+pub whole_at_limit : (held left : Option (List ℕ)) (bytes : List ℕ) → IsPulled held left bytes → length bytes ≡ most_pulled → IsAllPulled held left
 whole_at_limit held left bytes p e = p.rest ∙ ap (λ k. option_map (drop k) held) e
 
 -- a text of which so many bytes were pulled is as long

@@ -4,13 +4,14 @@ use Rattle.std.proofs.Common.{ap, ◌∙◌, subst, arith}
 use Rattle.std.proofs.lemmas.List.{length-append, length-take-le, append-nil}
 use Rattle.cip_io.specs.Faults.{Rose}
 use Rattle.cip_io.specs.Store.{Pulls}
+use Rattle.cip_problem.specs.Limits.{longest_text}
 use Rattle.cip_problem.specs.Program.{Program}
 use Rattle.cip_syntax.specs.ThinText.{IsThin}
 use Rattle.cip_reading.specs.Reading.Texts.{read}
 use Rattle.cip_reading.specs.Reading.Laws.{read_thin, refused}
 use Rattle.cip_mps.specs.HasRead.{HasRead}
 use Rattle.cip_mps.specs.declared.reader.Reader.{Reader}
-use Rattle.cip_main.specs.Pulling.{IsPulled, IsRead, ReadCause, most_pulled, IsWhole, IsWholeUnless, IsReading, IsEnded, ReadsPiece, IsAllRead, IsTooLong, Reads, PieceCause, EndCause}
+use Rattle.cip_main.specs.Pulling.{IsPulled, IsRead, ReadCause, most_pulled, IsAllPulled, IsAllPulledUnless, IsReading, IsEnded, ReadsPiece, IsAllRead, IsTooLong, Reads, PieceCause, EndCause}
 use Rattle.cip_main.specs.declared.reader.ReadFault.{ReadFault}
 use Rattle.cip_main.specs.declared.reader.ReadFault.TheVariants.{Store, NotThin, NoMemory}
 use Rattle.cip_main.proofs.Pulled.{pulled_none, pulled_more, pulled_all, whole_at_end, whole_at_limit, pulled_length}
@@ -44,7 +45,7 @@ reads_piece old reader held left left' before after pulled n r l h q = record {
 }
 
 -- the text has ended
-pub all_read : (reader : Reader) (held left : Option (List ℕ)) (pulled : ℕ) → pulled ≤ 67108864 → IsEnded reader held left pulled → IsAllRead reader held left
+pub all_read : (reader : Reader) (held left : Option (List ℕ)) (pulled : ℕ) → pulled ≤ longest_text → IsEnded reader held left pulled → IsAllRead reader held left
 all_read reader held left pulled l e = record {
   bytes = e.bytes;
   has_read = e.has_read;
@@ -81,7 +82,7 @@ finished reader held left faults faults_after (Err Store) a m = absurd m
 finished reader held left faults faults_after (Err NotThin) a m = not_thin_all held a.bytes a.all m
 finished reader held left faults faults_after (Err NoMemory) a m = tt
 
-pub finished_whole : (held left : Option (List ℕ)) (result : Result Program ReadFault) → IsWhole held left → MatchResult result (λ _. IsWhole held left) (IsWholeUnless held left)
+pub finished_whole : (held left : Option (List ℕ)) (result : Result Program ReadFault) → IsAllPulled held left → MatchResult result (λ _. IsAllPulled held left) (IsAllPulledUnless held left)
 finished_whole held left (Ok program) w = w
 finished_whole held left (Err Store) w = tt
 finished_whole held left (Err NotThin) w = w
@@ -90,14 +91,14 @@ finished_whole held left (Err NoMemory) w = tt
 -- a text that is too long is not thin
 pub long_not_thin : (held left : Option (List ℕ)) → IsTooLong held left → IfSome held (λ text. (program : Program) → ¬ IsThin text program)
 long_not_thin None left l = tt
-long_not_thin (Some text) left l = λ program thin. let short : length text ≤ 67108864 = thin.short in let long : 67108865 ≤ length text = l.long in omega (arith, short, long)
+long_not_thin (Some text) left l = λ program thin. let short : length text ≤ longest_text = thin.short in let long : most_pulled ≤ length text = l.long in omega (arith, short, long)
 
 pub piece_cause : (held : Option (List ℕ)) (old now new : ℕ) (fault : ReadFault) → old ≤ now → PieceCause now new fault → ReadCause held old new fault
 piece_cause held old now new Store l h = rose_later old now new l h
 piece_cause held old now new NotThin l h = absurd h
 piece_cause held old now new NoMemory l h = tt
 
-pub piece_whole : (held left : Option (List ℕ)) (old new : ℕ) (fault : ReadFault) → PieceCause old new fault → IsWholeUnless held left fault
+pub piece_whole : (held left : Option (List ℕ)) (old new : ℕ) (fault : ReadFault) → PieceCause old new fault → IsAllPulledUnless held left fault
 piece_whole held left old new Store h = tt
 piece_whole held left old new NotThin h = absurd h
 piece_whole held left old new NoMemory h = tt

@@ -1,6 +1,7 @@
 -- Reading the program of a text that is pulled from a store.
 use Rattle.std.specs.Prelude.{◌≡◌, ℕ, ◌+◌, ◌≤◌, Bool, true, false, List, Option, None, IfSome, option_map, take, drop, length, ⊤}
 use Rattle.cip_io.specs.Faults.{Rose}
+use Rattle.cip_problem.specs.Limits.{longest_text}
 use Rattle.cip_problem.specs.Program.{Program}
 use Rattle.cip_syntax.specs.ThinText.{IsThin}
 use Rattle.cip_reading.specs.Reading.Texts.{read}
@@ -28,17 +29,17 @@ ReadCause held faults faults_after NoMemory = ⊤
 
 -- the most bytes that are pulled of a text: one more than a text may have
 abbrev pub most_pulled : ℕ
-most_pulled = 67108865
+most_pulled = longest_text + 1
 
 -- a text was pulled to its end, or to the first byte too many
-abbrev pub IsWhole : (held left : Option (List ℕ)) → Type 0
-IsWhole held left = left ≡ option_map (drop most_pulled) held
+abbrev pub IsAllPulled : (held left : Option (List ℕ)) → Type 0
+IsAllPulled held left = left ≡ option_map (drop most_pulled) held
 
 -- the same, unless the store failed or memory was refused
-abbrev pub IsWholeUnless : (held left : Option (List ℕ)) → ReadFault → Type 0
-IsWholeUnless held left Store = ⊤
-IsWholeUnless held left NotThin = IsWhole held left
-IsWholeUnless held left NoMemory = ⊤
+abbrev pub IsAllPulledUnless : (held left : Option (List ℕ)) → ReadFault → Type 0
+IsAllPulledUnless held left Store = ⊤
+IsAllPulledUnless held left NotThin = IsAllPulled held left
+IsAllPulledUnless held left NoMemory = ⊤
 
 -- while a text is pulled: the reader has read the bytes that were pulled, and there are so many
 pub record IsReading (reader : Reader) (held left : Option (List ℕ)) (pulled : ℕ) : Type 0 where
@@ -53,7 +54,7 @@ pub record IsEnded (reader : Reader) (held left : Option (List ℕ)) (pulled : �
   pub has_read : HasRead reader bytes
   pub all : IfSome held (λ text. text ≡ bytes)
   pub size : length bytes ≡ pulled
-  pub whole : pulled ≤ most_pulled → IsWhole held left
+  pub whole : pulled ≤ most_pulled → IsAllPulled held left
 
 -- a further piece of this many bytes was read; none says that the text has ended
 pub record ReadsPiece (reader : Reader) (held left : Option (List ℕ)) (pulled count : ℕ) : Type 0 where
@@ -65,13 +66,13 @@ pub record IsAllRead (reader : Reader) (held left : Option (List ℕ)) : Type 0 
   pub bytes : List ℕ
   pub has_read : HasRead reader bytes
   pub all : IfSome held (λ text. text ≡ bytes)
-  pub short : length bytes ≤ 67108864
-  pub whole : IsWhole held left
+  pub short : length bytes ≤ longest_text
+  pub whole : IsAllPulled held left
 
 -- the text is too long
 pub record IsTooLong (held left : Option (List ℕ)) : Type 0 where
   pub long : IfSome held (λ text. most_pulled ≤ length text)
-  pub whole : IsWhole held left
+  pub whole : IsAllPulled held left
 
 -- the text was pulled: it has ended, or is too long
 abbrev pub Reads : Reader → (held left : Option (List ℕ)) → (ended : Bool) → Type 0

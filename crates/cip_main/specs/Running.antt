@@ -9,7 +9,7 @@ use Rattle.cip_syntax.specs.ThinText.{IsThin}
 use Rattle.cip_solve.specs.declared.logs.Log.{Log}
 use Rattle.cip_solve.specs.Logs.{entries_of}
 use Rattle.cip_main.specs.Answering.{node_limit, Answers}
-use Rattle.cip_main.specs.Pulling.{IsWhole}
+use Rattle.cip_main.specs.Pulling.{IsAllPulled}
 use Rattle.cip_main.specs.Saying.{Says}
 
 -- a store as it tells itself at a moment: the texts of its names, what is left of the current one, how many faults
@@ -61,7 +61,7 @@ Tells call text status =
 
 -- the text was pulled to its end, or to the first byte too many
 abbrev pub IsPulledWhole : Call → Option (List ℕ) → Type 0
-IsPulledWhole call text = IsWhole text call.store_after.left
+IsPulledWhole call text = IsAllPulled text call.store_after.left
 
 -- the words are not accepted: nothing is pulled
 pub record IsUsage (call : Call) : Type 0 where

@@ -2,15 +2,13 @@
 ghost use Rattle.std.specs.Prelude.{◌≡◌, ◌<◌, ◌≤◌, ℕ, List, Option, Some, MatchResult, IfOk, length, ⊤};
 ghost use Rattle.cip_reading.specs.Reading.Texts.{read};
 ghost use Rattle.cip_mps.specs.HasRead.{HasRead};
-ghost use Rattle.cip_main.specs.Pulling.{IsRead, ReadCause, IsWhole, IsWholeUnless, IsReading, ReadsPiece, Reads, PieceCause, EndCause};
+ghost use Rattle.cip_main.specs.Pulling.{IsRead, ReadCause, IsAllPulled, IsAllPulledUnless, IsReading, ReadsPiece, Reads, PieceCause, EndCause};
+ghost use Rattle.cip_main.specs.declared.reader.TheConstants.{PIECE};
 
 use cip_io::{Failed, Store};
-use cip_model::Program;
+use cip_model::{LONGEST_TEXT, Program};
 use cip_mps::{Reader, Refusal};
 use std::alloc::{AllocError, Global};
-
-/// The most bytes that a text has.
-const MOST_BYTES: usize = 67_108_864;
 
 /// The most bytes that are pulled at once.
 const PIECE: usize = 65_536;
@@ -86,15 +84,15 @@ fn read_pieces<S: Store>(
     reader: &mut Reader,
     buffer: &mut [u8],
 ) -> Result<bool, ReadFault>
-    requires { length buffer.old ≡ 65536 }
+    requires { length buffer.old ≡ PIECE }
     ensures read { (held : Option (List ℕ)) → IsReading reader.old held (S.left store.old) 0
         → MatchResult result (Reads reader.new held (S.left store.new)) (λ _. ⊤) }
     ensures later { S.faults store.old ≤ S.faults store.new }
     ensures cause { MatchResult result (λ _. ⊤) (PieceCause (S.faults store.old) (S.faults store.new)) }
 {
     let mut pulled = 0usize;
-    while pulled <= MOST_BYTES {
-        let room = PIECE.min(MOST_BYTES + 1 - pulled);
+    while pulled <= LONGEST_TEXT {
+        let room = PIECE.min(LONGEST_TEXT + 1 - pulled);
         let count = read_piece(store, reader, &mut buffer[..room])?;
         if count == 0 {
             return Ok(true);
@@ -110,11 +108,11 @@ fn read_text<S: Store>(
     mut reader: Reader,
     buffer: &mut [u8],
 ) -> Result<Program, ReadFault>
-    requires { length buffer.old ≡ 65536 }
+    requires { length buffer.old ≡ PIECE }
     ensures read { (held : Option (List ℕ)) → IsReading reader held (S.left store.old) 0
         → MatchResult result (IsRead held) (ReadCause held (S.faults store.old) (S.faults store.new)) }
     ensures whole { (held : Option (List ℕ)) → IsReading reader held (S.left store.old) 0
-        → MatchResult result (λ _. IsWhole held (S.left store.new)) (IsWholeUnless held (S.left store.new)) }
+        → MatchResult result (λ _. IsAllPulled held (S.left store.new)) (IsAllPulledUnless held (S.left store.new)) }
     ensures later { S.faults store.old ≤ S.faults store.new }
 {
     match read_pieces(store, &mut reader, buffer) {
@@ -134,8 +132,8 @@ pub(crate) fn read_program<S: Store>(
         (IsRead (S.holds store.old name.now))
         (ReadCause (S.holds store.old name.now) (S.faults store.old) (S.faults store.new)) }
     ensures whole { MatchResult result
-        (λ _. IsWhole (S.holds store.old name.now) (S.left store.new))
-        (IsWholeUnless (S.holds store.old name.now) (S.left store.new)) }
+        (λ _. IsAllPulled (S.holds store.old name.now) (S.left store.new))
+        (IsAllPulledUnless (S.holds store.old name.now) (S.left store.new)) }
 {
     let mut buffer = vec![in alloc; 0u8; PIECE]?;
     store.choose(name)?;

@@ -1,9 +1,6 @@
 -- A further term of a row.
-use Rattle.std.proofs.Common.{◌≡◌, ◌≢◌, ℕ, zero, suc, ◌+◌, ◌<◌, ◌≤◌, true, false, List, [], ◌∷◌, ◌++◌, length, None, Some, pos, sym, ◌∙◌, refl, arith}
+use Rattle.std.proofs.Common.{◌≡◌, ℕ, zero, suc, ◌+◌, ◌<◌, ◌≤◌, true, false, List, [], ◌∷◌, ◌++◌, length, None, Some, refl, arith}
 use Rattle.std.proofs.lemmas.Bool.Decides.{nat_tests}
-use Rattle.cip_rational.specs.Rational.{zeroℚ}
-use Rattle.cip_rational.specs.Rational.Lowest.{integer_inj}
-use Rattle.cip_rational.specs.Rational.Rounding.{integer-zero}
 use Rattle.cip_problem.specs.Program.{Term, Row}
 use Rattle.cip_problem.specs.RowTerms.{column_at, IsAboveLast, IsNotAboveLast}
 use Rattle.cip_syntax.specs.ThinText.{rational}

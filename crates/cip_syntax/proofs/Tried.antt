@@ -3,6 +3,7 @@ use lib.Chars.{codes}
 use Rattle.std.proofs.Common.{arith, replicate, ◌≡◌, ℕ, List, [], ◌∷◌, ◌++◌, length, None, Some, refl, pos, neg_ℤ, ◌≤◌, ◌⊎◌, inl, inr, true, false, lit≤, ap, sym, ◌∙◌}
 use Rattle.cip_rational.specs.Rational.{negate, integer}
 use Rattle.cip_rational.specs.Rational.Ratio.{ratio-negate, integer_ratio}
+use Rattle.cip_problem.specs.Limits.{longest_text}
 use Rattle.cip_syntax.specs.Lines.{Record, Section, Entry, records}
 use Rattle.cip_syntax.specs.ThinText.{ValueLine, BoundLine, Contents, row_record, records_of, program_of, IsThin}
 use Rattle.cip_syntax.specs.ThinText.Rules.{keeps_rules, rules_kept, ends_at_marker, marker_ends, not_thin, not_thin_without_end}
@@ -65,7 +66,7 @@ chvatal_is_thin = record {
 }
 
 -- a text with the records of contents that keep the rules
-has_program : (text : List ℕ) (c : Contents) (rest : List Record) → records text ≡ records_of c ++ rest → keeps_rules c ≡ true → length text ≤ 67108864 → HasProgram text
+has_program : (text : List ℕ) (c : Contents) (rest : List Record) → records text ≡ records_of c ++ rest → keeps_rules c ≡ true → length text ≤ longest_text → HasProgram text
 has_program text c rest e rules short = (
   program_of c,
   record { contents = c; rest = rest; short = short; are_records = e; rules = rules_kept c rules; is_program = refl },
@@ -131,7 +132,7 @@ contents_with rows entries limits bounds = record {
   bounds = bounds;
 }
 
-tells : (text : List ℕ → List ℕ) (thin other : List ℕ) (c d : Contents) → records (text thin) ≡ records_of c ++ [] → keeps_rules c ≡ true → length (text thin) ≤ 67108864 → records (text other) ≡ records_of d ++ [] → ends_at_marker d ≡ true → keeps_rules d ≡ false → Tells text thin other
+tells : (text : List ℕ → List ℕ) (thin other : List ℕ) (c d : Contents) → records (text thin) ≡ records_of c ++ [] → keeps_rules c ≡ true → length (text thin) ≤ longest_text → records (text other) ≡ records_of d ++ [] → ends_at_marker d ≡ true → keeps_rules d ≡ false → Tells text thin other
 tells text thin other c d e k short f m b = (has_program (text thin) c [] e k short, not_thin (text other) d [] f (marker_ends d m) b)
 
 abbrev tiny : Contents

@@ -10,6 +10,7 @@ use Rattle.std.specs.List.{AllByRecursion, flat_map, filter}
 use Rattle.std.specs.Str.{bytes_eq}
 use Rattle.std.specs.Int.Digits.{number_from_digits}
 use Rattle.cip_rational.specs.Rational.{ℚ, negate, integer, zeroℚ}
+use Rattle.cip_problem.specs.Limits.{most_rows, most_columns, most_entries, longest_name, longest_text}
 use Rattle.cip_problem.specs.Program.{Term, Sides, Row, Program}
 use Rattle.cip_syntax.specs.Lines.{Record, Section, Entry, records}
 
@@ -184,7 +185,7 @@ abbrev pub entry_count : Contents → ℕ
 entry_count c = length (filter is_not_zero (coefficients c))
 
 abbrev pub HasShortName : List ℕ → Type 0
-HasShortName name = length name ≤ 255
+HasShortName name = length name ≤ longest_name
 
 -- the rules of a thin text
 pub record KeepsRules (c : Contents) : Type 0 where
@@ -209,10 +210,10 @@ pub record KeepsRules (c : Contents) : Type 0 where
   pub entries_digits : AllByRecursion (λ entry. IsShortNumber entry.value.digits) (coefficients c)
   pub limits_digits : AllByRecursion (λ value. IsShortNumber value.digits) (limits_of c)
   pub bounds_digits : AllByRecursion (λ line. IsShortNumber line.digits) c.bounds
-  -- at most 65,536 rows and columns, 4,194,304 values that are not 0, and names of 255 bytes
-  pub few_rows : length c.rows ≤ 65536
-  pub few_columns : length (column_names c) ≤ 65536
-  pub few_entries : entry_count c ≤ 4194304
+  -- rows and columns, values that are not 0, and the names' bytes keep the limits
+  pub few_rows : length c.rows ≤ most_rows
+  pub few_columns : length (column_names c) ≤ most_columns
+  pub few_entries : entry_count c ≤ most_entries
   pub short_row_names : AllByRecursion HasShortName (c.objective ∷ c.rows)
   pub short_column_names : AllByRecursion HasShortName (column_names c)
 
@@ -255,7 +256,7 @@ program_of c = record {
 pub record IsThin (text : List ℕ) (program : Program) : Type 0 where
   pub contents : Contents
   pub rest : List Record
-  pub short : length text ≤ 67108864
+  pub short : length text ≤ longest_text
   pub are_records : records text ≡ records_of contents ++ rest
   pub rules : KeepsRules contents
   pub is_program : program ≡ program_of contents

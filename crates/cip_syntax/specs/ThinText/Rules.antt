@@ -8,6 +8,7 @@ use Rattle.std.proofs.lemmas.Slice.Eq.{bytes_eq-Decides}
 use Rattle.std.proofs.lemmas.Bool.Decides.{Decides-and, Decides-or, Decides-not, Decides-like, not_from_Decides, nat_tests}
 use Rattle.std.proofs.lemmas.Bool.{leb-true}
 use lib.Chars.{codes}
+use Rattle.cip_problem.specs.Limits.{most_rows, most_columns, most_entries, longest_name}
 use Rattle.cip_problem.specs.Program.{Program}
 use Rattle.cip_syntax.specs.Lines.{Record, Section, Entry, records}
 use Rattle.cip_syntax.specs.ThinText.{Contents, Coefficient, column_names, coefficients, limits_of, IsShortNumber, IsIn, AreDistinct, AreOne, NamesOther, NoTwoValues, entry_count, HasShortName, KeepsRules, records_of, IsThin}
@@ -83,7 +84,7 @@ Decides-is_short_number digits =
     (Decides-and _ _ (Decides-leb 1 (length digits)) (Decides-and _ _ (Decides-leb (length digits) 9) (Decides-all is_digit (λ byte. (48 ≤ byte) × (byte ≤ 57)) Decides-is_digit digits)))
 
 abbrev pub has_short_name : List ℕ → Bool
-has_short_name name = leb (length name) 255
+has_short_name name = leb (length name) longest_name
 
 -- ---- the test of the rules
 
@@ -104,9 +105,9 @@ keeps_rules c =
     && (all_pass (λ entry. is_short_number entry.value.digits) (coefficients c)
     && (all_pass (λ value. is_short_number value.digits) (limits_of c)
     && (all_pass (λ line. is_short_number line.digits) c.bounds
-    && (leb (length c.rows) 65536
-    && (leb (length (column_names c)) 65536
-    && (leb (entry_count c) 4194304
+    && (leb (length c.rows) most_rows
+    && (leb (length (column_names c)) most_columns
+    && (leb (entry_count c) most_entries
     && (all_pass has_short_name (c.objective ∷ c.rows)
     && all_pass has_short_name (column_names c)))))))))))))))))))
 
@@ -151,11 +152,11 @@ Decides-keeps_rules c =
     (Decides-and _ _ (Decides-all _ (λ entry. IsShortNumber entry.value.digits) (λ entry. Decides-is_short_number entry.value.digits) (coefficients c))
     (Decides-and _ _ (Decides-all _ (λ value. IsShortNumber value.digits) (λ value. Decides-is_short_number value.digits) (limits_of c))
     (Decides-and _ _ (Decides-all _ (λ line. IsShortNumber line.digits) (λ line. Decides-is_short_number line.digits) c.bounds)
-    (Decides-and _ _ (Decides-leb (length c.rows) 65536)
-    (Decides-and _ _ (Decides-leb (length (column_names c)) 65536)
-    (Decides-and _ _ (Decides-leb (entry_count c) 4194304)
-    (Decides-and _ _ (Decides-all has_short_name HasShortName (λ name. Decides-leb (length name) 255) (c.objective ∷ c.rows))
-    (Decides-all has_short_name HasShortName (λ name. Decides-leb (length name) 255) (column_names c)))))))))))))))))))))
+    (Decides-and _ _ (Decides-leb (length c.rows) most_rows)
+    (Decides-and _ _ (Decides-leb (length (column_names c)) most_columns)
+    (Decides-and _ _ (Decides-leb (entry_count c) most_entries)
+    (Decides-and _ _ (Decides-all has_short_name HasShortName (λ name. Decides-leb (length name) longest_name) (c.objective ∷ c.rows))
+    (Decides-all has_short_name HasShortName (λ name. Decides-leb (length name) longest_name) (column_names c)))))))))))))))))))))
 
 pub rules_kept : (c : Contents) → keeps_rules c ≡ true → KeepsRules c
 rules_kept c = (Decides-keeps_rules c).0

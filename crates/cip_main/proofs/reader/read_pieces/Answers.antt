@@ -1,5 +1,7 @@
 use Rattle.std.proofs.Common.{◌≡◌, ◌≤◌, ◌+◌, ◌-◌, length, take, drop, min, rules, arith, length-append, length-drop, length-take, ◌∙◌}
+use Rattle.cip_problem.specs.Limits.{longest_text}
 use Rattle.cip_main.specs.Pulling.{most_pulled}
+use Rattle.cip_main.specs.declared.reader.TheConstants.{PIECE}
 use Rattle.cip_main.proofs.Readings.{all_read, too_long}
 use Rattle.cip_main.proofs.reader.read_pieces.Goals as goal
 
@@ -10,7 +12,7 @@ pub loop-pulled-preserved : goal.loop-pulled-preserved
 loop-pulled-preserved g c =
     let so_far = c.loop-pulled.invariant in
     let room = c.min-room.result in
-    let here : room ≡ min 65536 (67108864 + 1 - c.loop-pulled.pulled) = search rules in
+    let here : room ≡ min PIECE (longest_text + 1 - c.loop-pulled.pulled) = search rules in
     let front : length (take room c.loop-pulled.buffer) ≡ min room (length c.loop-pulled.buffer) = length-take room c.loop-pulled.buffer in
     let back : length (drop room c.loop-pulled.buffer) ≡ length c.loop-pulled.buffer - room = length-drop room c.loop-pulled.buffer in
     let within : c.in_ok-count.count ≤ length (take room c.loop-pulled.buffer) = c.in_ok-count.ensures.within in
@@ -25,7 +27,7 @@ loop-pulled-preserved g c =
 pub returns-then-count-eq0 : goal.returns-then-count-eq0
 returns-then-count-eq0 g c =
     let so_far = c.loop-pulled.invariant in
-    let within : c.loop-pulled.pulled ≤ 67108864 = omega (arith, c.loop-pulled-test.true) in
+    let within : c.loop-pulled.pulled ≤ longest_text = omega (arith, c.loop-pulled-test.true) in
     record {
       read = λ held r. all_read c.read_piece.new.reader held _ c.loop-pulled.pulled within ((c.in_ok-count.ensures.read held c.loop-pulled.pulled (so_far.reading held r)).end c.if-count-eq0.true);
       later = omega (arith, so_far.later, c.in_ok-count.ensures.later);

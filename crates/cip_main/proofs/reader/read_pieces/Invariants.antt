@@ -1,14 +1,15 @@
 use Rattle.std.proofs.Common.{◌≡◌, ◌≤◌, ◌-◌, length, List, Option, ℕ}
-use Rattle.cip_main.specs.Pulling.{IsReading}
+use Rattle.cip_main.specs.Pulling.{most_pulled, IsReading}
+use Rattle.cip_main.specs.declared.reader.TheConstants.{PIECE}
 use Rattle.cip_main.proofs.reader.read_pieces.Given as goal
 
 abbrev pub invariant-loop-pulled : goal.invariant-loop-pulled
 invariant-loop-pulled g l = record {
-  in_range : l.pulled ≤ 67108865;
-  size : length l.buffer ≡ 65536;
+  in_range : l.pulled ≤ most_pulled;
+  size : length l.buffer ≡ PIECE;
   reading : (held : Option (List ℕ)) → IsReading l.fn.reader held (g.S.Store.left l.fn.store) 0 → IsReading l.reader held (g.S.Store.left l.store) l.pulled;
   later : g.S.Store.faults l.fn.store ≤ g.S.Store.faults l.store;
 }
 
 abbrev pub decreases-loop-pulled : goal.decreases-loop-pulled
-decreases-loop-pulled g l = 67108865 - l.pulled
+decreases-loop-pulled g l = most_pulled - l.pulled
