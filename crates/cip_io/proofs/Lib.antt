@@ -1,3 +1,2 @@
 pub mod FilesLemmas
-pub mod PullLemmas
 pub mod PushLemmas

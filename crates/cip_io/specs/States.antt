@@ -1,7 +1,7 @@
 -- What the stores and the sink in memory are to their callers.
 use Rattle.std.specs.Prelude.{ℕ, ◌-◌, List, [], ◌∷◌, ◌++◌, length, Bool, not, ◌&&◌, ◌==◌, is_some}
 use Rattle.std.specs.List.{list_any}
-use Rattle.cip_io.specs.Faults.{raised}
+use Rattle.cip_io.specs.Faults.{next_count}
 use Rattle.cip_io.specs.Texts.{held}
 
 -- names with their texts, the newest first; what is left of the current text; the most bytes of one pull
@@ -34,7 +34,7 @@ new_store greatest_piece = record { texts = no_texts greatest_piece; failing = [
 
 -- the next call is one of those that fail
 abbrev pub is_due : StoreState → Bool
-is_due store = list_any (λ call. call == raised store.calls) store.failing
+is_due store = list_any (λ call. call == next_count store.calls) store.failing
 
 -- the next call, if it is a `choose`, finds its name and doesn't fail
 abbrev pub can_choose : StoreState → List ℕ → Bool
@@ -42,11 +42,11 @@ can_choose store name = not (is_due store) && is_some (held store.texts.files na
 
 -- after a call that failed
 abbrev pub after_fault : StoreState → StoreState
-after_fault store = record store { calls = raised store.calls; faults = raised store.faults }
+after_fault store = record store { calls = next_count store.calls; faults = next_count store.faults }
 
 -- after a call that left this of the current text
 abbrev pub after_call : StoreState → List ℕ → StoreState
-after_call store text = record store { texts = with_left store.texts text; calls = raised store.calls }
+after_call store text = record store { texts = with_left store.texts text; calls = next_count store.calls }
 
 -- bytes taken, how many it takes in all, how often it was full
 pub record SinkState : Type 0 where
@@ -65,4 +65,4 @@ abbrev pub after_push : SinkState → List ℕ → SinkState
 after_push sink bytes = record sink { taken = sink.taken ++ bytes }
 
 abbrev pub after_refusal : SinkState → SinkState
-after_refusal sink = record sink { faults = raised sink.faults }
+after_refusal sink = record sink { faults = next_count sink.faults }

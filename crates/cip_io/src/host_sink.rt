@@ -1,19 +1,23 @@
-// The standard output of the system.
-ghost use Rattle.std.specs.Prelude.{◌≡◌, ◌<◌, ◌≤◌, length, IfOk, None, OnOk, OnErr};
-ghost use Rattle.cip_io.specs.Faults.{raised};
+//! The standard output of the system.
+ghost use Rattle.std.specs.Prelude.{◌≡◌, ◌<◌, ◌≤◌, length, IfOk, OnOk, OnErr};
+ghost use Rattle.std.specs.Io.KnownBytes.{WriteAppends};
+ghost use Rattle.cip_io.specs.Faults.{next_count};
+ghost use Rattle.cip_io.specs.Sink.{counting_sink};
 
 use crate::{Failed, Sink};
+use std::io;
+use std::io::{Printer, Write};
 use std::marker::Model;
 
-/// The standard output, with no buffer: what a call took is written when it returns, and a full or closed output is
-/// an `Err` of that call. It tells nothing of the bytes.
+/// A writer, as the standard output, with no buffer: what a call took is written when it returns, and a full or closed
+/// output is an `Err` of that call. It tells nothing of the bytes.
 #[derive(Drop)]
-pub struct HostSink<R: Print> {
-    runtime: R,
+pub struct HostSink<W: Write> {
+    writer: W,
     faults: u64,
 }
 
-impl<R: Print> Model for HostSink<R> {
+impl<W: Write> Model for HostSink<W> {
     ghost use Rattle.std.specs.Prelude.{ℕ};
 
     ghost Value = { ℕ };
@@ -21,33 +25,51 @@ impl<R: Print> Model for HostSink<R> {
     ghost view = { λ s. s.faults };
 }
 
-impl<R: Print> HostSink<R> {
-    pub fn new(runtime: R) -> Self
+impl<'a, R: Print> HostSink<Printer<'a, R>> {
+    /// The standard output, with no fault yet.
+    pub fn new(runtime: &'a R) -> Self
         ensures { result ≡ 0 }
     {
-        HostSink { runtime, faults: 0 }
+        HostSink::over(io::writer(runtime))
     }
 }
 
-impl<R: Print> Sink for HostSink<R> {
-    ghost taken = { λ _. None };
+impl<W: Write> HostSink<W> {
+    /// This writer, with no fault yet.
+    pub(crate) fn over(writer: W) -> Self
+        ensures { result ≡ 0 }
+    {
+        HostSink { writer, faults: 0 }
+    }
+}
 
-    ghost faults = { λ s. s };
+impl<W: Write> Sink for HostSink<W> {
+    ghost tells = { λ s. counting_sink s };
 
     fn push(&mut self, piece: &[u8]) -> Result<usize, Failed>
         requires { 0 < length piece.now }
         ensures some { IfOk result (λ n. 0 < n) }
         ensures within { IfOk result (λ n. n ≤ length piece.now) }
         ensures ok { OnOk result (self.new ≡ self.old) }
-        ensures err { OnErr result (self.new ≡ raised self.old) }
-        ensures later { self.old ≤ self.new }
+        ensures err { OnErr result (self.new ≡ next_count self.old) }
     {
-        match self.runtime.write_some(piece) {
-            Ok(count) if count > 0 => Ok(count),
-            _ => {
-                self.faults = self.faults.saturating_add(1);
-                Err(Failed)
-            }
+        write_once(&mut self.writer, &mut self.faults, piece)
+    }
+}
+
+/// Writes once. Where nothing was written, a fault is counted.
+fn write_once<W: Write>(writer: &mut W, faults: &mut u64, piece: &[u8]) -> Result<usize, Failed>
+    ensures some { IfOk result (λ n. 0 < n) }
+    ensures within { IfOk result (λ n. n ≤ length piece.now) }
+    ensures bytes { WriteAppends (W.contents writer.old) (W.contents writer.new) result piece.now }
+    ensures ok { OnOk result (faults.new ≡ faults.old) }
+    ensures err { OnErr result (faults.new ≡ next_count faults.old) }
+{
+    match writer.write(piece) {
+        Ok(count) if count > 0 => Ok(count),
+        _ => {
+            *faults = faults.saturating_add(1);
+            Err(Failed)
         }
     }
 }

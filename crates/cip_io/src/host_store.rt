@@ -1,6 +1,8 @@
-// The files of the system.
-ghost use Rattle.std.specs.Prelude.{◌≡◌, ◌<◌, ◌≤◌, length, IfOk, None, is_err, OnOk, OnErr};
-ghost use Rattle.cip_io.specs.Faults.{raised};
+//! The files of the system.
+ghost use Rattle.std.specs.Prelude.{◌≡◌, ◌<◌, ◌≤◌, length, IfOk, OnOk, OnErr, MatchResult, Some, is_ok};
+ghost use Rattle.std.specs.Io.KnownBytes.{ReadConsumes};
+ghost use Rattle.cip_io.specs.Faults.{next_count};
+ghost use Rattle.cip_io.specs.Store.{counting_store, left_in};
 
 use crate::{Failed, Store};
 use std::fs::OpenFile;
@@ -27,6 +29,7 @@ impl<R: Files> Model for HostStore<R> {
 }
 
 impl<R: Files> HostStore<R> {
+    /// The files of this system, of which none is open, and no fault yet.
     pub fn new(runtime: R) -> Self
         ensures { result ≡ 0 }
     {
@@ -39,46 +42,27 @@ impl<R: Files> HostStore<R> {
 }
 
 impl<R: Files> Store for HostStore<R> {
-    ghost holds = { λ _ _. None };
-
-    ghost left = { λ _. None };
-
-    ghost faults = { λ s. s };
+    ghost tells = { λ s. counting_store s };
 
     fn choose(&mut self, name: &str) -> Result<(), Failed>
         ensures ok { OnOk result (self.new ≡ self.old) }
-        ensures err { OnErr result (self.new ≡ raised self.old) }
-        ensures later { self.old ≤ self.new }
+        ensures err { OnErr result (self.new ≡ next_count self.old) }
     {
-        match open_file(&self.runtime, name) {
-            Ok(file) => {
-                self.file = Some(file);
-                Ok(())
-            }
-            Err(_) => {
-                self.faults = self.faults.saturating_add(1);
-                Err(Failed)
-            }
-        }
+        let opened = open_file(&self.runtime, name);
+        keep(&mut self.file, &mut self.faults, opened)
     }
 
     fn pull(&mut self, into: &mut [u8]) -> Result<usize, Failed>
         requires { 0 < length into.old }
         ensures within { IfOk result (λ n. n ≤ length into.old) }
         ensures ok { OnOk result (self.new ≡ self.old) }
-        ensures err { OnErr result (self.new ≡ raised self.old) }
-        ensures later { self.old ≤ self.new }
+        ensures err { OnErr result (self.new ≡ next_count self.old) }
     {
-        match read_some(&mut self.file, into) {
-            Ok(count) => Ok(count),
-            Err(_) => {
-                self.faults = self.faults.saturating_add(1);
-                Err(Failed)
-            }
-        }
+        read_once(&mut self.file, &mut self.faults, into)
     }
 }
 
+/// Opens a file that is no directory.
 fn open_file<R: Files>(runtime: &R, name: &str) -> io::Result<R::File> {
     let file = fs::open(runtime, name)?;
     if file.metadata()?.is_dir() {
@@ -87,12 +71,48 @@ fn open_file<R: Files>(runtime: &R, name: &str) -> io::Result<R::File> {
     Ok(file)
 }
 
-// With no file there is nothing to read.
-fn read_some<F: Read>(file: &mut Option<F>, into: &mut [u8]) -> io::Result<usize>
-    ensures { IfOk result (λ n. n ≤ length into.old) }
+/// Makes an opened file the current one. Where none was opened, a fault is counted and the current one stays.
+pub(crate) fn keep<F: Drop>(
+    file: &mut Option<F>,
+    faults: &mut u64,
+    opened: io::Result<F>,
+) -> Result<(), Failed>
+    ensures file { MatchResult opened (λ f. file.new ≡ Some f) (λ _. file.new ≡ file.old) }
+    ensures ok { OnOk result (faults.new ≡ faults.old) }
+    ensures err { OnErr result (faults.new ≡ next_count faults.old) }
+    ensures when { is_ok result ≡ is_ok opened }
 {
-    match file {
-        Some(file) => file.read(into),
-        None => Ok(0),
+    match opened {
+        Ok(opened) => {
+            *file = Some(opened);
+            Ok(())
+        }
+        Err(_) => {
+            *faults = faults.saturating_add(1);
+            Err(Failed)
+        }
+    }
+}
+
+/// Reads once; with no file there is nothing to read. Where the read failed, a fault is counted.
+pub(crate) fn read_once<F: Read>(
+    file: &mut Option<F>,
+    faults: &mut u64,
+    into: &mut [u8],
+) -> Result<usize, Failed>
+    ensures within { IfOk result (λ n. n ≤ length into.old) }
+    ensures bytes { ReadConsumes (left_in F.remaining file.old) (left_in F.remaining file.new) result into.new }
+    ensures ok { OnOk result (faults.new ≡ faults.old) }
+    ensures err { OnErr result (faults.new ≡ next_count faults.old) }
+{
+    let Some(file) = file else {
+        return Ok(0);
+    };
+    match file.read(into) {
+        Ok(count) => Ok(count),
+        Err(_) => {
+            *faults = faults.saturating_add(1);
+            Err(Failed)
+        }
     }
 }

@@ -1,6 +1,6 @@
 //! The outside, as a program sees it: stores, from which named texts are pulled, and sinks, to which bytes are
-//! pushed. Each counts its faults, and a call answers `Failed` only where the count rose in that call or stands
-//! at its last value. So a caller above can tell whether an answer is short because the outside failed.
+//! pushed. Each counts its faults. A call answers `Failed` only where the count rose in that call or stands at its
+//! last value, and an `Ok` leaves the count as it was. So a caller above can tell whether the outside failed.
 #![tactic(auto)]
 
 mod host_sink;
@@ -18,7 +18,7 @@ pub use memory_sink::MemorySink;
 pub use memory_store::MemoryStore;
 pub use sink::{Sink, push_all};
 pub use sound_store::SoundStore;
-pub use store::{PullError, Store, fill, pull_all};
+pub use store::Store;
 
 /// The outside failed: a fault was counted.
 #[derive(Debug, Clone, Copy, PartialEq, Eq)]

@@ -1,4 +1,4 @@
-// A sink in memory, with a fixed room.
+//! A sink in memory, with a fixed room.
 ghost use Rattle.std.specs.Prelude.{◌≡◌, ◌<◌, ◌≤◌, ◌==◌, min, length, take, IfOk, OnErr, Some, is_err};
 ghost use Rattle.cip_io.specs.States.{new_sink, free_room, after_push, after_refusal};
 
@@ -6,7 +6,7 @@ use crate::{Failed, Sink};
 use std::alloc::{AllocError, Global};
 use std::marker::Model;
 
-/// Takes as many bytes as its room, which is taken at the start. Where only a part fits, it takes that part, and
+/// TakesAll as many bytes as its room, which is taken at the start. Where only a part fits, it takes that part, and
 /// where nothing fits, it fails.
 #[derive(Drop)]
 pub struct MemorySink {
@@ -27,6 +27,7 @@ impl Model for MemorySink {
 }
 
 impl MemorySink {
+    /// No byte yet, and room for so many bytes; an `Err` where memory is refused for them.
     pub fn new(alloc: Global, room: usize) -> Result<Self, AllocError>
         ensures { IfOk result (λ sink. sink ≡ new_sink room) }
     {
@@ -46,9 +47,7 @@ impl MemorySink {
 }
 
 impl Sink for MemorySink {
-    ghost taken = { λ s. Some s.taken };
-
-    ghost faults = { λ s. s.faults };
+    ghost tells = { λ s. record { taken = Some s.taken; faults = s.faults } };
 
     fn push(&mut self, piece: &[u8]) -> Result<usize, Failed>
         requires { 0 < length piece.now }

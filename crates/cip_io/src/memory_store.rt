@@ -1,7 +1,7 @@
-// Texts in memory, of which chosen calls fail.
+//! Texts in memory, of which chosen calls fail.
 ghost use Rattle.std.specs.Prelude.{◌≡◌, ◌<◌, ◌≤◌, [], ◌∷◌, ◌++◌, min, length, drop, OnOk, OnErr, IfOk, Some, is_ok, is_err};
 ghost use Rattle.cip_io.specs.Texts.{held, held_or_empty};
-ghost use Rattle.cip_io.specs.Store.{Pulls};
+ghost use Rattle.cip_io.specs.Store.{Comes};
 ghost use Rattle.cip_io.specs.States.{new_store, with_text, is_due, can_choose, after_fault, after_call};
 
 use crate::shelf::Shelf;
@@ -28,6 +28,7 @@ impl Model for MemoryStore {
 }
 
 impl MemoryStore {
+    /// No text yet, and no call that fails. One pull gives at most `greatest_piece` bytes.
     pub fn new(alloc: Global, greatest_piece: usize) -> Self
         requires { 0 < greatest_piece }
         ensures { result ≡ new_store greatest_piece }
@@ -41,7 +42,7 @@ impl MemoryStore {
     }
 
     /// Adds a text under a name. It takes the place of an older one of that name, but what is left of the current text
-    /// stays.
+    /// stays. An `Err`, where memory is refused, changes nothing.
     pub fn add(&mut self, name: &str, bytes: &[u8]) -> Result<(), AllocError>
         ensures ok { OnOk result (self.new ≡ record self.old { texts = with_text self.old.texts name.now bytes.now }) }
         ensures err { OnErr result (self.new ≡ self.old) }
@@ -49,7 +50,7 @@ impl MemoryStore {
         self.shelf.add(name, bytes)
     }
 
-    /// Lets the call of this number fail.
+    /// Lets the call of this number fail. An `Err`, where memory is refused, changes nothing.
     pub fn fail_at(&mut self, call: u64) -> Result<(), AllocError>
         ensures ok { OnOk result (self.new ≡ record self.old { failing = self.old.failing ++ call ∷ [] }) }
         ensures err { OnErr result (self.new ≡ self.old) }
@@ -60,11 +61,11 @@ impl MemoryStore {
 }
 
 impl Store for MemoryStore {
-    ghost holds = { λ s name. held s.texts.files name };
-
-    ghost left = { λ s. Some s.texts.left };
-
-    ghost faults = { λ s. s.faults };
+    ghost tells = { λ s. record {
+      holds = λ name. held s.texts.files name;
+      left = Some s.texts.left;
+      faults = s.faults;
+    } };
 
     fn choose(&mut self, name: &str) -> Result<(), Failed>
         ensures when { is_ok result ≡ can_choose self.old name.now }
@@ -83,8 +84,9 @@ impl Store for MemoryStore {
     fn pull(&mut self, into: &mut [u8]) -> Result<usize, Failed>
         requires { 0 < length into.old }
         ensures when { is_err result ≡ is_due self.old }
-        ensures count { IfOk result (λ n. n ≡ min (min self.old.texts.greatest_piece (length into.old)) (length self.old.texts.left)) }
-        ensures pulls { IfOk result (λ n. Pulls (Some self.old.texts.left) (Some self.new.texts.left) into.old into.new n) }
+        ensures count { let room = min self.old.texts.greatest_piece (length into.old) in
+            IfOk result (λ n. n ≡ min room (length self.old.texts.left)) }
+        ensures comes { IfOk result (λ n. Comes self.old.texts.left into.old into.new n) }
         ensures ok { IfOk result (λ n. self.new ≡ after_call self.old (drop n self.old.texts.left)) }
         ensures err { OnErr result (self.new ≡ after_fault self.old) }
         ensures later { self.old.faults ≤ self.new.faults }

@@ -1,20 +1,21 @@
-// Names with their texts, and a place in one of them.
+//! Names with their texts, and a place in one of them.
 ghost use Rattle.std.specs.Prelude.{◌≡◌, ◌<◌, ◌≤◌, ◌+◌, ◌^◌, [], min, length, take, drop, ◌++◌, OnOk, OnErr, MatchOption, MatchBool, Some, None};
 ghost use Rattle.cip_io.specs.Texts.{held, text_at};
 ghost use Rattle.cip_io.specs.Shelf.{named};
-ghost use Rattle.cip_io.specs.Store.{Pulls};
+ghost use Rattle.cip_io.specs.Store.{Comes};
 ghost use Rattle.cip_io.specs.States.{no_texts, with_text, with_left};
 
 use std::alloc::{AllocError, Global};
 use std::marker::Model;
 
+/// A text under its name.
 #[derive(Drop)]
 struct File {
     name: String,
     text: Vec<u8>,
 }
 
-// The newest file stands first. The current text is that of the file `chosen`, and empty past the last file.
+/// The newest file stands first. The current text is that of the file `chosen`, and empty past the last file.
 #[derive(Drop)]
 pub(crate) struct Shelf {
     alloc: Global,
@@ -44,6 +45,7 @@ impl Model for Shelf {
 }
 
 impl Shelf {
+    /// No text yet. One pull gives at most `greatest_piece` bytes.
     pub(crate) fn new(alloc: Global, greatest_piece: usize) -> Self
         requires { 0 < greatest_piece }
         ensures { result ≡ no_texts greatest_piece }
@@ -57,6 +59,7 @@ impl Shelf {
         }
     }
 
+    /// Adds a text in front of the others; an `Err` changes nothing.
     pub(crate) fn add(&mut self, name: &str, text: &[u8]) -> Result<(), AllocError>
         ensures ok { OnOk result (self.new ≡ with_text self.old name.now text.now) }
         ensures err { OnErr result (self.new ≡ self.old) }
@@ -70,7 +73,7 @@ impl Shelf {
         Ok(())
     }
 
-    // Whether the name is there.
+    /// Makes the text of a name the current one; false where the name isn't there, and then nothing changes.
     pub(crate) fn choose(&mut self, name: &str) -> bool
         ensures { MatchBool result
             ((held self.old.files name.now ≡ Some self.new.left) × (self.new ≡ with_left self.old self.new.left))
@@ -86,7 +89,7 @@ impl Shelf {
         }
     }
 
-    // Makes the current text empty.
+    /// Makes the current text empty.
     pub(crate) fn choose_none(&mut self)
         ensures { self.new ≡ with_left self.old [] }
     {
@@ -94,11 +97,12 @@ impl Shelf {
         self.at = 0;
     }
 
+    /// Gives the next bytes of the current text, and says how many.
     pub(crate) fn pull(&mut self, into: &mut [u8]) -> usize
         requires { 0 < length into.old }
         ensures count { result ≡ min (min self.old.greatest_piece (length into.old)) (length self.old.left) }
         ensures state { self.new ≡ with_left self.old (drop result self.old.left) }
-        ensures pulls { Pulls (Some self.old.left) (Some self.new.left) into.old into.new result }
+        ensures comes { Comes self.old.left into.old into.new result }
     {
         let count = give(
             rest_of(&self.files, self.chosen, self.at),
@@ -110,6 +114,7 @@ impl Shelf {
     }
 }
 
+/// The first file of this name.
 fn find_file(files: &[File], name: &str) -> Option<usize>
     ensures { MatchOption result
         (held (named files.now) name.now ≡ None)
@@ -123,6 +128,7 @@ fn find_file(files: &[File], name: &str) -> Option<usize>
     None
 }
 
+/// The text of a file from a place on; past the last file it is empty.
 fn rest_of(files: &[File], chosen: usize, at: usize) -> &[u8]
     requires { at ≤ length (text_at (named files.now) chosen) }
     ensures value { result.now ≡ drop at (text_at (named files.now) chosen) }
@@ -135,12 +141,12 @@ fn rest_of(files: &[File], chosen: usize, at: usize) -> &[u8]
     }
 }
 
-// Copies the next bytes, no more than a piece has.
+/// Copies the next bytes, no more than a piece has.
 fn give(rest: &[u8], greatest_piece: usize, into: &mut [u8]) -> usize
     requires piece { 0 < greatest_piece }
     requires room { 0 < length into.old }
     ensures count { result ≡ min (min greatest_piece (length into.old)) (length rest.now) }
-    ensures pulls { Pulls (Some rest.now) (Some (drop result rest.now)) into.old into.new result }
+    ensures comes { Comes rest.now into.old into.new result }
 {
     let count = greatest_piece.min(into.len()).min(rest.len());
     into[..count].copy_from_slice(&rest[..count]);

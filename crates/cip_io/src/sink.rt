@@ -1,36 +1,30 @@
-// What bytes are written to, in pieces.
-ghost use Rattle.std.specs.Prelude.{◌≡◌, ◌<◌, ◌≤◌, ℕ, List, Option, length, OnErr, MatchResult};
-ghost use Rattle.std.specs.Io.KnownBytes.{append_known};
-ghost use Rattle.cip_io.specs.Faults.{Rose};
-ghost use Rattle.cip_io.specs.Sink.{Pushes, PushesPart};
+//! What bytes are written to, in pieces.
+ghost use Rattle.std.specs.Prelude.{◌≡◌, ◌<◌, length, MatchResult};
+ghost use Rattle.cip_io.specs.Faults.{CountsFaults};
+ghost use Rattle.cip_io.specs.Sink.{SinkTells, TakesAll, Pushes, PushesPart};
 
 use crate::Failed;
 
-/// Takes bytes, in order.
+/// TakesAll bytes, in order.
 pub trait Sink {
-    /// The bytes taken so far, where they are told.
-    ghost taken: { Self → Option (List ℕ) };
+    /// The bytes taken so far, where they are told, and how many faults there were. The count never falls.
+    ghost tells: { Self → SinkTells };
 
-    /// How many faults there were. The count never falls.
-    ghost faults: { Self → ℕ };
-
-    /// Takes one or more bytes from the front of the piece, and says how many. An `Err` changes nothing but the count.
+    /// TakesAll one or more bytes from the front of the piece, and says how many. An `Err` changes nothing but the count.
     fn push(&mut self, piece: &[u8]) -> Result<usize, Failed>
         requires { 0 < length piece.now }
         ensures taken { MatchResult result
-            (λ n. Pushes (taken self.old) (taken self.new) piece.now n)
-            (λ _. taken self.new ≡ taken self.old) }
-        ensures later { faults self.old ≤ faults self.new }
-        ensures cause { OnErr result (Rose (faults self.old) (faults self.new)) };
+            (λ n. Pushes (tells self.old) (tells self.new) piece.now n)
+            (λ _. (tells self.new).taken ≡ (tells self.old).taken) }
+        ensures faults { CountsFaults result (tells self.old).faults (tells self.new).faults };
 }
 
-/// Pushes a whole piece. After an `Err` a part of it is taken.
+/// Pushes a whole piece. After an `Err`, which comes with the first call of the sink that fails, a part of it is taken.
 pub fn push_all<K: Sink>(out: &mut K, piece: &[u8]) -> Result<(), Failed>
     ensures taken { MatchResult result
-        (λ _. K.taken out.new ≡ append_known (K.taken out.old) piece.now)
-        (λ _. PushesPart (K.taken out.old) (K.taken out.new) piece.now) }
-    ensures later { K.faults out.old ≤ K.faults out.new }
-    ensures cause { OnErr result (Rose (K.faults out.old) (K.faults out.new)) }
+        (λ _. TakesAll (K.tells out.old) (K.tells out.new) piece.now)
+        (λ _. PushesPart (K.tells out.old) (K.tells out.new) piece.now) }
+    ensures faults { CountsFaults result (K.tells out.old).faults (K.tells out.new).faults }
 {
     let mut done = 0;
     while done < piece.len() {

@@ -1,7 +1,7 @@
-// Texts in memory, where no call fails.
+//! Texts in memory, where no call fails.
 ghost use Rattle.std.specs.Prelude.{◌≡◌, ◌<◌, min, length, drop, OnOk, OnErr, IsOk, IfOk, IsOkAnd, Some};
 ghost use Rattle.cip_io.specs.Texts.{held_or_empty};
-ghost use Rattle.cip_io.specs.Store.{Pulls};
+ghost use Rattle.cip_io.specs.Store.{Comes};
 ghost use Rattle.cip_io.specs.States.{no_texts, with_text, with_left};
 
 use crate::shelf::Shelf;
@@ -25,6 +25,7 @@ impl Model for SoundStore {
 }
 
 impl SoundStore {
+    /// No text yet. One pull gives at most `greatest_piece` bytes.
     pub fn new(alloc: Global, greatest_piece: usize) -> Self
         requires { 0 < greatest_piece }
         ensures { result ≡ no_texts greatest_piece }
@@ -35,7 +36,7 @@ impl SoundStore {
     }
 
     /// Adds a text under a name. It takes the place of an older one of that name, but what is left of the current text
-    /// stays.
+    /// stays. An `Err`, where memory is refused, changes nothing.
     pub fn add(&mut self, name: &str, bytes: &[u8]) -> Result<(), AllocError>
         ensures ok { OnOk result (self.new ≡ with_text self.old name.now bytes.now) }
         ensures err { OnErr result (self.new ≡ self.old) }
@@ -45,11 +46,11 @@ impl SoundStore {
 }
 
 impl Store for SoundStore {
-    ghost holds = { λ s name. Some (held_or_empty s.files name) };
-
-    ghost left = { λ s. Some s.left };
-
-    ghost faults = { λ _. 0 };
+    ghost tells = { λ s. record {
+      holds = λ name. Some (held_or_empty s.files name);
+      left = Some s.left;
+      faults = 0;
+    } };
 
     fn choose(&mut self, name: &str) -> Result<(), Failed>
         ensures sound { IsOk result }
@@ -64,8 +65,9 @@ impl Store for SoundStore {
     fn pull(&mut self, into: &mut [u8]) -> Result<usize, Failed>
         requires { 0 < length into.old }
         ensures sound { IsOk result }
-        ensures count { IfOk result (λ n. n ≡ min (min self.old.greatest_piece (length into.old)) (length self.old.left)) }
-        ensures pulls { IfOk result (λ n. Pulls (Some self.old.left) (Some self.new.left) into.old into.new n) }
+        ensures count { let room = min self.old.greatest_piece (length into.old) in
+            IfOk result (λ n. n ≡ min room (length self.old.left)) }
+        ensures comes { IfOk result (λ n. Comes self.old.left into.old into.new n) }
         ensures state { IfOk result (λ n. self.new ≡ with_left self.old (drop n self.old.left)) }
     {
         Ok(self.shelf.pull(into))

@@ -1,12 +1,14 @@
-// What no clause says: that calls succeed, and what the system answers.
+//! What no clause says: that calls succeed, and what the system answers.
+use crate::host_store::read_once;
 use crate::*;
 use std::alloc::{AllocError, Global};
 use std::test::Fail;
-use std::{fs, process};
+use std::{fs, io, process};
 
 const TEXT: &[u8] = b"0123456789";
 
-// What the calls of a store answer: the sizes of the pieces up to the text's end, a 99 for an `Err`, and all the bytes.
+/// What the calls of a store answer: the sizes of the pieces up to the text's end, a 99 for an `Err`, and all the
+/// bytes.
 fn pieces<S: Store>(
     alloc: Global,
     store: &mut S,
@@ -29,6 +31,7 @@ fn pieces<S: Store>(
     Ok(sizes)
 }
 
+/// A store with an older and a newer text under one name, of which the third call fails.
 fn store_of(alloc: Global, greatest_piece: usize) -> Result<MemoryStore, AllocError> {
     let mut store = MemoryStore::new(alloc, greatest_piece.max(1));
     store.add("model", b"older")?;
@@ -57,24 +60,22 @@ fn a_text_comes_in_pieces(rt: HostRuntime) -> Result<(), Fail> {
 }
 
 #[test]
-fn a_buffer_is_filled(rt: HostRuntime) -> Result<(), Fail> {
+fn a_sound_store_gives_its_texts(rt: HostRuntime) -> Result<(), Fail> {
     let alloc = rt.alloc();
     let mut store = SoundStore::new(alloc, 4);
     store.add("model", TEXT)?;
     store.choose("model")?;
-    let mut buffer = [0; 7];
-    assert_eq!(rt; fill(&mut store, &mut buffer)?, 7);
-    assert_eq!(rt; buffer.as_slice(), b"0123456".as_slice());
-    assert_eq!(rt; fill(&mut store, &mut buffer)?, 3);
-    assert_eq!(rt; buffer.as_slice(), b"7893456".as_slice());
-    store.choose("model")?;
-    assert_eq!(rt; store.pull(&mut buffer)?, 4);
+    let mut bytes = Vec::new(alloc);
     assert_eq!(rt;
-        pull_all(alloc, &mut store)?.as_slice(),
-        b"456789".as_slice()
+        pieces(alloc, &mut store, &mut bytes)?.as_slice(),
+        [4, 4, 2, 0].as_slice()
     );
+    assert_eq!(rt; bytes.as_slice(), TEXT);
     store.choose("absent")?;
-    assert_eq!(rt; store.pull(&mut buffer)?, 0);
+    assert_eq!(rt;
+        pieces(alloc, &mut store, &mut bytes)?.as_slice(),
+        [0].as_slice()
+    );
     Ok(())
 }
 
@@ -111,5 +112,111 @@ fn a_file_is_read(rt: HostRuntime) -> Result<(), Fail> {
 fn the_output_takes_a_piece(rt: HostRuntime) -> Result<(), Fail> {
     let mut sink = HostSink::new(&rt);
     push_all(&mut sink, b"a piece\n")?;
+    Ok(())
+}
+
+/// A reader of the text in pieces of four bytes, of which one read fails.
+#[derive(Drop)]
+struct FalteringReader {
+    at: usize,
+    calls: usize,
+    failing: usize,
+}
+
+impl io::Read for FalteringReader {
+    fn read(&mut self, buf: &mut [u8]) -> io::Result<usize> {
+        self.calls = self.calls.saturating_add(1);
+        if self.calls == self.failing {
+            return Err(io::Error::from(io::ErrorKind::TimedOut));
+        }
+        let rest = TEXT.get(self.at..).unwrap_or(&[]);
+        let count = buf.len().min(rest.len()).min(4);
+        buf[..count].copy_from_slice(&rest[..count]);
+        self.at = self.at.saturating_add(count);
+        Ok(count)
+    }
+}
+
+#[test]
+fn a_read_fails_in_mid_file(rt: HostRuntime) -> Result<(), Fail> {
+    let cases = [
+        (0, [4, 4, 2, 0, 0].as_slice()),
+        (1, [99, 4, 4, 2, 0].as_slice()),
+        (3, [4, 4, 99, 2, 0].as_slice()),
+        (4, [4, 4, 2, 99, 0].as_slice()),
+    ];
+    for (failing, answers) in cases {
+        let mut file = Some(FalteringReader {
+            at: 0,
+            calls: 0,
+            failing,
+        });
+        let mut faults = 0;
+        let mut bytes = Vec::new(rt.alloc());
+        let mut buffer = [0; 6];
+        for answer in answers {
+            match read_once(&mut file, &mut faults, &mut buffer) {
+                Ok(count) => {
+                    assert_eq!(rt; count, *answer, "failing {failing}");
+                    bytes.extend_from_slice(&buffer[..count])?;
+                }
+                Err(Failed) => assert_eq!(rt; 99, *answer, "failing {failing}"),
+            }
+        }
+        assert_eq!(rt; bytes.as_slice(), TEXT);
+        assert_eq!(rt; faults, failing.min(1) as u64);
+    }
+    Ok(())
+}
+
+/// A writer that takes three bytes at once, and one call fails or takes nothing.
+#[derive(Drop)]
+struct FalteringWriter {
+    taken: Vec<u8>,
+    calls: usize,
+    failing: usize,
+    fails: bool,
+}
+
+impl io::Write for FalteringWriter {
+    fn write(&mut self, buf: &[u8]) -> io::Result<usize> {
+        self.calls = self.calls.saturating_add(1);
+        if self.calls == self.failing {
+            return if self.fails {
+                Err(io::Error::from(io::ErrorKind::BrokenPipe))
+            } else {
+                Ok(0)
+            };
+        }
+        let count = buf.len().min(3);
+        self.taken.extend_from_slice(&buf[..count])?;
+        Ok(count)
+    }
+
+    fn flush(&mut self) -> io::Result<()> {
+        Ok(())
+    }
+}
+
+#[test]
+fn a_write_is_short_or_takes_nothing(rt: HostRuntime) -> Result<(), Fail> {
+    for (failing, fails) in [(0, true), (1, false), (2, true), (3, false), (4, true)] {
+        let mut writer = FalteringWriter {
+            taken: Vec::new(rt.alloc()),
+            calls: 0,
+            failing,
+            fails,
+        };
+        let pushed = push_all(&mut HostSink::over(&mut writer), TEXT);
+        assert_eq!(rt; pushed.is_err(), failing > 0, "failing {failing}");
+        let count = if failing > 0 { 3 * (failing - 1) } else { 10 };
+        assert_eq!(rt;
+            writer.taken.as_slice(),
+            &TEXT[..count],
+            "failing {failing}"
+        );
+        push_all(&mut HostSink::over(&mut writer), &TEXT[count..])?;
+        assert_eq!(rt; writer.taken.as_slice(), TEXT, "failing {failing}");
+    }
     Ok(())
 }

@@ -7,66 +7,86 @@ use Rattle.cip_answers.specs.Headline.{IsSpent}
 use Rattle.cip_solve.specs.Budgets.{budget_suffices}
 use Rattle.cip_problem.specs.Wholes.{assignments}
 use Rattle.cip_answers.specs.CommandLine.{Job, Solve}
-use Rattle.cip_answers.specs.Figures.{Status, Optimal, NodeLimit, NoMemory, exit_status, answer_text}
+use Rattle.cip_answers.specs.Figures.{Status, Optimal, NodeLimit, NoMemory as LacksMemory, exit_status}
 use Rattle.cip_syntax.specs.ThinText.{IsThin}
 use Rattle.cip_syntax.specs.ThinText.Parts.{one_program}
+use Rattle.cip_main.specs.declared.plain.Plain.{Plain}
+use Rattle.cip_main.specs.declared.plain.Plain.TheVariants.{Usage, ReadFault, Refused, NoMemory}
 use Rattle.cip_main.specs.Answering.{node_limit, IsLogged}
-use Rattle.cip_main.specs.Running.{Call, Tells, IsPulledWhole, IsUsage, IsReadFault, IsRefused, IsNoMemory, IsAnswered, Ran, refuses_words, fails_to_read, refuses_text, lacks_memory, gives_answer, IsStatus, optimal, usage, read_fault, refused, write_fault, no_memory, spent, TellsTruth, Headline, UsageClause, ReadFaultClause, RefusedClause, WriteFaultClause, SpentLog, NodeLimitClause, MemoryClause, Runs, Asks}
+use Rattle.cip_main.specs.Plain.{plain_status}
+use Rattle.cip_main.specs.Pulling.{IsAllPulled}
+use Rattle.cip_main.specs.Running.{Call, IsStoreSound, IsSinkSound, IsUsage, IsReadFault, IsRefused, IsNoMemory, IsUnread, IsAnswered, Ran, refuses_words, gives_plain, gives_figures, IsStatus, optimal, usage, read_fault, refused, write_fault, no_memory, spent, TellsTruth, Headline, UsageClause, ReadFaultClause, RefusedClause, WriteFaultClause, SpentLog, NodeLimitClause, MemoryClause, Runs, Asks}
+use Rattle.cip_main.specs.Saying.{Says}
+use Rattle.cip_main.proofs.PlainAnswers.{own_status, not_zero, not_five, not_ten, figures_plain}
 
--- the status is this one, or 5 after a fault of the sink
+-- ---- the status of a call
+
+-- the status is this one, and no call of the sink has failed; or it is 5 after a fault of the sink
 record StatusIs (call : Call) (status : ℕ) : Type 0 where
-  either : (call.status ≡ status) ⊎ ((call.status ≡ 5) × Rose call.sink.faults call.sink_after.faults)
+  either : ((call.status ≡ status) × IsSinkSound call) ⊎ ((call.status ≡ 5) × Rose call.sink.faults call.sink_after.faults)
 
-status_is : (call : Call) (text : List ℕ) (status : ℕ) → Tells call text status → StatusIs call status
-status_is call text status (inl h) = record { either = inl h.exit }
-status_is call text status (inr h) = record { either = inr (h.exit, h.cause) }
+said : (call : Call) (text : List ℕ) (status : ℕ) → Says call.sink call.sink_after text status call.status → StatusIs call status
+said call text status (inl h) = record { either = inl (h.exit, h.sound) }
+said call text status (inr h) = record { either = inr (h.exit, h.cause) }
+
+said_usage : (call : Call) → IsUsage call → StatusIs call (plain_status Usage)
+said_usage call u = said call _ (plain_status Usage) u.tells
+
+said_plain : (call : Call) (text : Option (List ℕ)) (answer : Plain) → IsUnread call text answer → StatusIs call (plain_status answer)
+said_plain call text Usage m = absurd m
+said_plain call text ReadFault m = said call _ (plain_status ReadFault) m.tells
+said_plain call text Refused m = said call _ (plain_status Refused) m.tells
+said_plain call text NoMemory m = said call _ (plain_status NoMemory) m.tells
+
+said_figures : (call : Call) (text : Option (List ℕ)) (a : IsAnswered call text) → StatusIs call (exit_status a.answers.figures.status)
+said_figures call text a = said call _ (exit_status a.answers.figures.status) a.answers.told
+
+-- a status that is not 5 is the answer's own
+own : (call : Call) (status n : ℕ) → StatusIs call status → call.status ≡ n → ¬ (n ≡ 5) → status ≡ n
+own call status n s e not_5 = elim s.either [ inl h ↦ sym h.0 ∙ e | inr h ↦ absurd (not_5 (sym e ∙ h.0)) ]
+
+figures_not_five : (status : Status) → ¬ (exit_status status ≡ 5)
+figures_not_five Optimal h = omega (arith, h)
+figures_not_five NodeLimit h = omega (arith, h)
+figures_not_five LacksMemory h = omega (arith, h)
 
 status_of : (call : Call) (status : ℕ) → IsStatus status → StatusIs call status → IsStatus call.status
-status_of call status i s = elim s.either [ inl e ↦ subst IsStatus (sym e) i | inr h ↦ subst IsStatus (sym h.0) write_fault ]
+status_of call status i s = elim s.either [ inl h ↦ subst IsStatus (sym h.0) i | inr h ↦ subst IsStatus (sym h.0) write_fault ]
+
+plain_is : (answer : Plain) → IsStatus (plain_status answer)
+plain_is Usage = usage
+plain_is ReadFault = read_fault
+plain_is Refused = refused
+plain_is NoMemory = no_memory
 
 exit_is : (status : Status) → IsStatus (exit_status status)
 exit_is Optimal = optimal
 exit_is NodeLimit = spent
-exit_is NoMemory = no_memory
+exit_is LacksMemory = no_memory
 
 pub statuses : (call : Call) → Ran call → IsStatus call.status
-statuses call (refuses_words u) = status_of call 2 usage (status_is call _ 2 u.tells)
-statuses call (fails_to_read model job r) = status_of call 3 read_fault (status_is call _ 3 r.tells)
-statuses call (refuses_text model job r) = status_of call 4 refused (status_is call _ 4 r.tells)
-statuses call (lacks_memory model job m) = status_of call 6 no_memory (status_is call _ 6 m.tells)
-statuses call (gives_answer model job a) = status_of call (exit_status a.answers.figures.status) (exit_is a.answers.figures.status) (status_is call _ (exit_status a.answers.figures.status) a.answers.told)
+statuses call (refuses_words u) = status_of call _ usage (said_usage call u)
+statuses call (gives_plain model job answer m) = status_of call _ (plain_is answer) (said_plain call _ answer m)
+statuses call (gives_figures model job a) = status_of call _ (exit_is a.answers.figures.status) (said_figures call _ a)
 
--- a status that is not the one of the case, nor 5
-other : (call : Call) (status n : ℕ) → StatusIs call status → call.status ≡ n → ¬ (status ≡ n) → ¬ (5 ≡ n) → ⊥
-other call status n s e p q = elim s.either [ inl h ↦ p (sym h ∙ e) | inr h ↦ q (sym h.0 ∙ e) ]
+-- ---- what a call does that has the status of an answer without figures
 
-exit_not : (status : Status) (n : ℕ) → ¬ (0 ≡ n) → ¬ (6 ≡ n) → ¬ (10 ≡ n) → ¬ (exit_status status ≡ n)
-exit_not Optimal n p q r = p
-exit_not NodeLimit n p q r = r
-exit_not NoMemory n p q r = q
+data Gave (call : Call) (answer : Plain) : Type 0 where
+  words : IsUsage call → answer ≡ Usage → Gave call answer
+  plain : (model : List ℕ) → call.job ≡ Some (Solve model) → IsUnread call (call.store.holds model) answer → Gave call answer
+  figures : (model : List ℕ) → call.job ≡ Some (Solve model) → IsAnswered call (call.store.holds model) → answer ≡ NoMemory → Gave call answer
 
-answer_not : (call : Call) (text : Option (List ℕ)) (n : ℕ) → IsAnswered call text → call.status ≡ n → ¬ (0 ≡ n) → ¬ (6 ≡ n) → ¬ (10 ≡ n) → ¬ (5 ≡ n) → ⊥
-answer_not call text n a e p q r s = other call (exit_status a.answers.figures.status) n (status_is call _ _ a.answers.told) e (exit_not a.answers.figures.status n p q r) s
+gave : (call : Call) → Ran call → (answer : Plain) → call.status ≡ plain_status answer → Gave call answer
+gave call (refuses_words u) answer e =
+    words u (sym (own_status Usage answer (own call _ (plain_status answer) (said_usage call u) e (not_five answer))))
+gave call (gives_plain model job other m) answer e =
+    let same : other ≡ answer = own_status other answer (own call _ (plain_status answer) (said_plain call _ other m) e (not_five answer)) in
+    plain model job (subst (IsUnread call (call.store.holds model)) same m)
+gave call (gives_figures model job a) answer e =
+    figures model job a (figures_plain a.answers.figures.status answer (own call _ (plain_status answer) (said_figures call _ a) e (not_five answer)))
 
 some_job : {model : List ℕ} {job : Option Job} → job ≡ Some (Solve model) → job ≡ None → ⊥
 some_job h e = cc
-
-pub usage_clause : (call : Call) → Ran call → UsageClause call
-usage_clause call r = record { only = only r; always = always r }
-  where
-    only : Ran call → call.status ≡ 2 → call.job ≡ None
-    only (refuses_words u) e = u.no_job
-    only (fails_to_read model job r) e = absurd (other call 3 2 (status_is call _ 3 r.tells) e (λ h. omega (arith, h)) (λ h. omega (arith, h)))
-    only (refuses_text model job r) e = absurd (other call 4 2 (status_is call _ 4 r.tells) e (λ h. omega (arith, h)) (λ h. omega (arith, h)))
-    only (lacks_memory model job r) e = absurd (other call 6 2 (status_is call _ 6 r.tells) e (λ h. omega (arith, h)) (λ h. omega (arith, h)))
-    only (gives_answer model job a) e = absurd (answer_not call _ 2 a e (λ h. omega (arith, h)) (λ h. omega (arith, h)) (λ h. omega (arith, h)) (λ h. omega (arith, h)))
-
-    always : Ran call → call.job ≡ None → IsUsage call
-    always (refuses_words u) e = u
-    always (fails_to_read model job r) e = absurd (some_job job e)
-    always (refuses_text model job r) e = absurd (some_job job e)
-    always (lacks_memory model job r) e = absurd (some_job job e)
-    always (gives_answer model job a) e = absurd (some_job job e)
 
 -- the texts that two readings of the words point to are one
 same_text : (call : Call) (model other : List ℕ) (text : Option (List ℕ)) → call.job ≡ Some (Solve model) → call.job ≡ Some (Solve other) → call.store.holds other ≡ text → call.store.holds model ≡ text
@@ -75,111 +95,129 @@ same_text call model other text p q h = let e : model ≡ other = same_model (sy
     same_model : {m n : List ℕ} → Some (Solve m) ≡ Some (Solve n) → m ≡ n
     same_model e = cc
 
+-- ---- the clauses
+
+pub usage_clause : (call : Call) → Ran call → UsageClause call
+usage_clause call r = record { only = λ e. only (gave call r Usage e); always = always r }
+  where
+    only : Gave call Usage → call.job ≡ None
+    only (words u e) = u.no_job
+    only (plain model job m) = absurd m
+    only (figures model job a e) = absurd (cc)
+
+    always : Ran call → call.job ≡ None → IsUsage call
+    always (refuses_words u) e = u
+    always (gives_plain model job answer m) e = absurd (some_job job e)
+    always (gives_figures model job a) e = absurd (some_job job e)
+
+-- the answers without figures for a text
+unread : (call : Call) (text : Option (List ℕ)) (answer : Plain) → IsUnread call text answer → IsRefused call text ⊎ (IsReadFault call ⊎ IsNoMemory call)
+unread call text Usage m = absurd m
+unread call text ReadFault m = inr (inl m)
+unread call text Refused m = inl m
+unread call text NoMemory m = inr (inr m)
+
 pub headline : (call : Call) → Ran call → Headline call
 headline call (refuses_words u) text program asks = absurd (some_job asks.job u.no_job)
-headline call (fails_to_read model job r) text program asks = inr (inl r)
-headline call (lacks_memory model job r) text program asks = inr (inr r)
-headline call (refuses_text model job r) text program asks =
-    let e : call.store.holds model ≡ Some text = same_text call model asks.model (Some text) job asks.job asks.held in
-    absurd (subst (λ o. IfSome o (λ bytes. (program : Program) → ¬ IsThin bytes program)) e r.not_thin program asks.thin)
-headline call (gives_answer model job a) text program asks =
+headline call (gives_plain model job answer m) text program asks = elim (unread call _ answer m) [
+  | inl r ↦
+      let e : call.store.holds model ≡ Some text = same_text call model asks.model (Some text) job asks.job asks.held in
+      absurd (subst (λ o. IfSome o (λ bytes. (program : Program) → ¬ IsThin bytes program)) e r.not_thin program asks.thin)
+  | inr h ↦ inr h
+]
+headline call (gives_figures model job a) text program asks =
     let e : call.store.holds model ≡ Some text = same_text call model asks.model (Some text) job asks.job asks.held in
     let thin : IsThin text a.program = subst (λ o. IfSome o (λ bytes. IsThin bytes a.program)) e a.thin in
     let p : a.program ≡ program = one_program text a.program program thin asks.thin in
     inl (subst (TellsTruth call) p a.answers)
 
 pub read_fault_clause : (call : Call) → Ran call → ReadFaultClause call
-read_fault_clause call r = record { rose = rose r; whole = whole r }
+read_fault_clause call r = record { rose = λ e. rose (gave call r ReadFault e); sound = sound r; whole = whole r }
   where
-    rose : Ran call → call.status ≡ 3 → Rose call.store.faults call.store_after.faults
-    rose (refuses_words u) e = absurd (other call 2 3 (status_is call _ 2 u.tells) e (λ h. omega (arith, h)) (λ h. omega (arith, h)))
-    rose (fails_to_read model job r) e = r.rose
-    rose (refuses_text model job r) e = absurd (other call 4 3 (status_is call _ 4 r.tells) e (λ h. omega (arith, h)) (λ h. omega (arith, h)))
-    rose (lacks_memory model job r) e = absurd (other call 6 3 (status_is call _ 6 r.tells) e (λ h. omega (arith, h)) (λ h. omega (arith, h)))
-    rose (gives_answer model job a) e = absurd (answer_not call _ 3 a e (λ h. omega (arith, h)) (λ h. omega (arith, h)) (λ h. omega (arith, h)) (λ h. omega (arith, h)))
+    rose : Gave call ReadFault → Rose call.store.faults call.store_after.faults
+    rose (words u e) = absurd (cc)
+    rose (plain model job m) = m.rose
+    rose (figures model job a e) = absurd (cc)
 
-    not_ended : (n : ℕ) → StatusIs call n → ¬ (n ≡ 0) → ¬ (n ≡ 4) → ¬ (n ≡ 10) → (call.status ≡ 0) ⊎ ((call.status ≡ 4) ⊎ (call.status ≡ 10)) → ⊥
-    not_ended n s p q t (inl e) = other call n 0 s e p (λ h. omega (arith, h))
-    not_ended n s p q t (inr (inl e)) = other call n 4 s e q (λ h. omega (arith, h))
-    not_ended n s p q t (inr (inr e)) = other call n 10 s e t (λ h. omega (arith, h))
+    sound_unread : (text : Option (List ℕ)) (answer : Plain) → IsUnread call text answer → ¬ (call.status ≡ 3) → ¬ (call.status ≡ 5) → IsStoreSound call
+    sound_unread text Usage m not_3 not_5 = absurd m
+    sound_unread text ReadFault m not_3 not_5 = elim (said_plain call text ReadFault m).either [ inl h ↦ absurd (not_3 h.0) | inr h ↦ absurd (not_5 h.0) ]
+    sound_unread text Refused m not_3 not_5 = m.sound
+    sound_unread text NoMemory m not_3 not_5 = m.sound
 
-    whole : Ran call → (model : List ℕ) → call.job ≡ Some (Solve model) → (call.status ≡ 0) ⊎ ((call.status ≡ 4) ⊎ (call.status ≡ 10)) → IsPulledWhole call (call.store.holds model)
-    whole (refuses_words u) other_model q e = absurd (some_job q u.no_job)
-    whole (fails_to_read model job r) other_model q e = absurd (not_ended 3 (status_is call _ 3 r.tells) (λ h. omega (arith, h)) (λ h. omega (arith, h)) (λ h. omega (arith, h)) e)
-    whole (refuses_text model job r) other_model q e = subst (IsPulledWhole call) (same_text call model other_model (call.store.holds other_model) job q refl) r.pulled
-    whole (lacks_memory model job r) other_model q e = absurd (not_ended 6 (status_is call _ 6 r.tells) (λ h. omega (arith, h)) (λ h. omega (arith, h)) (λ h. omega (arith, h)) e)
-    whole (gives_answer model job a) other_model q e = subst (IsPulledWhole call) (same_text call model other_model (call.store.holds other_model) job q refl) a.pulled
+    sound : Ran call → ¬ (call.status ≡ 3) → ¬ (call.status ≡ 5) → IsStoreSound call
+    sound (refuses_words u) not_3 not_5 = ap (λ store. store.faults) u.untouched
+    sound (gives_plain model job answer m) not_3 not_5 = sound_unread _ answer m not_3 not_5
+    sound (gives_figures model job a) not_3 not_5 = a.sound
+
+    is_refused : (answer : Plain) → StatusIs call (plain_status answer) → (call.status ≡ 0) ⊎ ((call.status ≡ 4) ⊎ (call.status ≡ 10)) → answer ≡ Refused
+    is_refused answer s (inl e) = absurd (not_zero answer (own call _ 0 s e (λ h. omega (arith, h))))
+    is_refused answer s (inr (inl e)) = own_status answer Refused (own call _ 4 s e (λ h. omega (arith, h)))
+    is_refused answer s (inr (inr e)) = absurd (not_ten answer (own call _ 10 s e (λ h. omega (arith, h))))
+
+    all_pulled : (model other : List ℕ) → call.job ≡ Some (Solve model) → call.job ≡ Some (Solve other) → IsAllPulled (call.store.holds model) call.store_after → IsAllPulled (call.store.holds other) call.store_after
+    all_pulled model other p q = subst (λ text. IsAllPulled text call.store_after) (same_text call model other (call.store.holds other) p q refl)
+
+    whole : Ran call → (model : List ℕ) → call.job ≡ Some (Solve model) → (call.status ≡ 0) ⊎ ((call.status ≡ 4) ⊎ (call.status ≡ 10)) → IsAllPulled (call.store.holds model) call.store_after
+    whole (refuses_words u) other q e = absurd (some_job q u.no_job)
+    whole (gives_plain model job answer m) other q e =
+        let r : IsRefused call (call.store.holds model) = subst (IsUnread call (call.store.holds model)) (is_refused answer (said_plain call _ answer m) e) m in
+        all_pulled model other job q r.pulled
+    whole (gives_figures model job a) other q e = all_pulled model other job q a.pulled
 
 pub refused_clause : (call : Call) → Ran call → RefusedClause call
-refused_clause call r = record { only = only r; always = always r }
+refused_clause call r = record { only = λ model text q held e. only model text q held (gave call r Refused e); always = always r }
   where
-    only : Ran call → (model text : List ℕ) → call.job ≡ Some (Solve model) → call.store.holds model ≡ Some text → call.status ≡ 4 → (program : Program) → ¬ IsThin text program
-    only (refuses_words u) model text q held e = absurd (some_job q u.no_job)
-    only (fails_to_read m job r) model text q held e = absurd (other call 3 4 (status_is call _ 3 r.tells) e (λ h. omega (arith, h)) (λ h. omega (arith, h)))
-    only (refuses_text m job r) model text q held e = subst (λ o. IfSome o (λ bytes. (program : Program) → ¬ IsThin bytes program)) (same_text call m model (Some text) job q held) r.not_thin
-    only (lacks_memory m job r) model text q held e = absurd (other call 6 4 (status_is call _ 6 r.tells) e (λ h. omega (arith, h)) (λ h. omega (arith, h)))
-    only (gives_answer m job a) model text q held e = absurd (answer_not call _ 4 a e (λ h. omega (arith, h)) (λ h. omega (arith, h)) (λ h. omega (arith, h)) (λ h. omega (arith, h)))
+    only : (model text : List ℕ) → call.job ≡ Some (Solve model) → call.store.holds model ≡ Some text → Gave call Refused → (program : Program) → ¬ IsThin text program
+    only model text q held (words u e) = absurd (some_job q u.no_job)
+    only model text q held (plain m job r) = subst (λ o. IfSome o (λ bytes. (program : Program) → ¬ IsThin bytes program)) (same_text call m model (Some text) job q held) r.not_thin
+    only model text q held (figures m job a e) = absurd (cc)
 
     always : Ran call → (model text : List ℕ) → call.job ≡ Some (Solve model) → call.store.holds model ≡ Some text → ((program : Program) → ¬ IsThin text program) → IsRefused call (Some text) ⊎ (IsReadFault call ⊎ IsNoMemory call)
     always (refuses_words u) model text q held n = absurd (some_job q u.no_job)
-    always (fails_to_read m job r) model text q held n = inr (inl r)
-    always (refuses_text m job r) model text q held n = inl (subst (IsRefused call) (same_text call m model (Some text) job q held) r)
-    always (lacks_memory m job r) model text q held n = inr (inr r)
-    always (gives_answer m job a) model text q held n =
+    always (gives_plain m job answer r) model text q held n =
+        subst (λ o. IsRefused call o ⊎ (IsReadFault call ⊎ IsNoMemory call)) (same_text call m model (Some text) job q held) (unread call _ answer r)
+    always (gives_figures m job a) model text q held n =
         absurd (n a.program (subst (λ o. IfSome o (λ bytes. IsThin bytes a.program)) (same_text call m model (Some text) job q held) a.thin))
 
-fault_of : (call : Call) (status : ℕ) → StatusIs call status → ¬ (status ≡ 5) → WriteFaultClause call
-fault_of call status s n e = elim s.either [ inl h ↦ absurd (n (sym h ∙ e)) | inr h ↦ h.1 ]
-
-exit_not_five : (status : Status) → ¬ (exit_status status ≡ 5)
-exit_not_five Optimal h = omega (arith, h)
-exit_not_five NodeLimit h = omega (arith, h)
-exit_not_five NoMemory h = omega (arith, h)
+write_fault_of : (call : Call) (status : ℕ) → StatusIs call status → ¬ (status ≡ 5) → WriteFaultClause call
+write_fault_of call status s n = record {
+  rose = λ e. elim s.either [ inl h ↦ absurd (n (sym h.0 ∙ e)) | inr h ↦ h.1 ];
+  sound = λ not_5. elim s.either [ inl h ↦ h.1 | inr h ↦ absurd (not_5 h.0) ];
+}
 
 pub write_fault_clause : (call : Call) → Ran call → WriteFaultClause call
-write_fault_clause call (refuses_words u) = fault_of call 2 (status_is call _ 2 u.tells) (λ h. omega (arith, h))
-write_fault_clause call (fails_to_read model job r) = fault_of call 3 (status_is call _ 3 r.tells) (λ h. omega (arith, h))
-write_fault_clause call (refuses_text model job r) = fault_of call 4 (status_is call _ 4 r.tells) (λ h. omega (arith, h))
-write_fault_clause call (lacks_memory model job r) = fault_of call 6 (status_is call _ 6 r.tells) (λ h. omega (arith, h))
-write_fault_clause call (gives_answer model job a) = fault_of call (exit_status a.answers.figures.status) (status_is call _ _ a.answers.told) (exit_not_five a.answers.figures.status)
+write_fault_clause call (refuses_words u) = write_fault_of call _ (said_usage call u) (not_five Usage)
+write_fault_clause call (gives_plain model job answer m) = write_fault_of call _ (said_plain call _ answer m) (not_five answer)
+write_fault_clause call (gives_figures model job a) = write_fault_of call _ (said_figures call _ a) (figures_not_five a.answers.figures.status)
 
 is_spent : (status : Status) → exit_status status ≡ 10 → status ≡ NodeLimit
 is_spent Optimal h = absurd (omega (arith, h))
 is_spent NodeLimit h = refl
-is_spent NoMemory h = absurd (omega (arith, h))
+is_spent LacksMemory h = absurd (omega (arith, h))
 
-not_spent : NodeLimit ≡ NoMemory → ⊥
+not_spent : NodeLimit ≡ LacksMemory → ⊥
 not_spent e = cc
 
+ten_five : ◌≡◌ {A = ℕ} 10 5 → ⊥
+ten_five h = omega (arith, h)
+
 pub spent_log : (call : Call) → Ran call → call.status ≡ 10 → SpentLog call
-spent_log call (refuses_words u) e = absurd (other call 2 10 (status_is call _ 2 u.tells) e (λ h. omega (arith, h)) (λ h. omega (arith, h)))
-spent_log call (fails_to_read model job r) e = absurd (other call 3 10 (status_is call _ 3 r.tells) e (λ h. omega (arith, h)) (λ h. omega (arith, h)))
-spent_log call (refuses_text model job r) e = absurd (other call 4 10 (status_is call _ 4 r.tells) e (λ h. omega (arith, h)) (λ h. omega (arith, h)))
-spent_log call (lacks_memory model job r) e = absurd (other call 6 10 (status_is call _ 6 r.tells) e (λ h. omega (arith, h)) (λ h. omega (arith, h)))
-spent_log call (gives_answer model job a) e = by_log a.answers.logged
+spent_log call (refuses_words u) e = absurd (not_ten Usage (own call _ 10 (said_usage call u) e ten_five))
+spent_log call (gives_plain model job answer m) e = absurd (not_ten answer (own call _ 10 (said_plain call _ answer m) e ten_five))
+spent_log call (gives_figures model job a) e = by_log a.answers.logged
   where
-    s : StatusIs call (exit_status a.answers.figures.status)
-    s = status_is call (answer_text a.program.column_names a.answers.figures) (exit_status a.answers.figures.status) a.answers.told
-
-    five : ◌≡◌ {A = ℕ} 5 10 → ⊥
-    five h = omega (arith, h)
-
     limit : a.answers.figures.status ≡ NodeLimit
-    limit = elim s.either [ inl h ↦ is_spent a.answers.figures.status (sym h ∙ e) | inr h ↦ absurd (five (sym h.0 ∙ e)) ]
+    limit = is_spent a.answers.figures.status (own call _ 10 (said_figures call _ a) e ten_five)
 
     by_log : IsLogged call.logs call.logs_after a.answers.entries a.answers.figures.status → SpentLog call
     by_log (inl l) = record { log = l.0; added = l.1; full = subst (λ es. length es ≡ node_limit) l.2 (a.answers.are_true.spent limit).full }
     by_log (inr l) = absurd (not_spent (sym limit ∙ l.2))
 
 no_node_limit : (call : Call) (program : Program) (n : ℕ) → assignments program.integral program.bounds ≡ Some n → max 1 (2 * n - 1) ≤ node_limit → TellsTruth call program → call.status ≡ 10 → ⊥
-no_node_limit call program n e l t ten = elim (status_is call _ _ t.told).either [
-  | inl h ↦ not_long (t.are_true.spent (is_spent t.figures.status (sym h ∙ ten)))
-  | inr h ↦ five (sym h.0 ∙ ten)
-]
+no_node_limit call program n e l t ten =
+    not_long (t.are_true.spent (is_spent t.figures.status (own call _ 10 (said call _ (exit_status t.figures.status) t.told) ten ten_five)))
   where
-    five : ◌≡◌ {A = ℕ} 5 10 → ⊥
-    five h = omega (arith, h)
-
     not_long : IsSpent program node_limit t.entries t.figures → ⊥
     not_long s =
         let short : length t.entries < max 1 (2 * n - 1) = budget_suffices program t.entries _ n t.are_true.logged s.matter e in
@@ -189,19 +227,20 @@ no_node_limit call program n e l t ten = elim (status_is call _ _ t.told).either
 ample : (call : Call) → Ran call → (text : List ℕ) (program : Program) (n : ℕ) → Asks call text program → assignments program.integral program.bounds ≡ Some n → max 1 (2 * n - 1) ≤ node_limit → ¬ (call.status ≡ 10)
 ample call r text program n asks e l ten = elim (headline call r text program asks) [
   | inl t ↦ no_node_limit call program n e l t ten
-  | inr (inl f) ↦ other call 3 10 (status_is call _ 3 f.tells) ten (λ h. omega (arith, h)) (λ h. omega (arith, h))
-  | inr (inr m) ↦ other call 6 10 (status_is call _ 6 m.tells) ten (λ h. omega (arith, h)) (λ h. omega (arith, h))
+  | inr (inl f) ↦ not_ten ReadFault (own call _ 10 (said_plain call (Some text) ReadFault f) ten ten_five)
+  | inr (inr m) ↦ not_ten NoMemory (own call _ 10 (said_plain call (Some text) NoMemory m) ten ten_five)
 ]
 
 pub node_limit_clause : (call : Call) → Ran call → NodeLimitClause call
 node_limit_clause call r = record { spent = spent_log call r; ample = ample call r }
 
 pub memory_clause : (call : Call) → Ran call → MemoryClause call
-memory_clause call (refuses_words u) e = absurd (other call 2 6 (status_is call _ 2 u.tells) e (λ h. omega (arith, h)) (λ h. omega (arith, h)))
-memory_clause call (fails_to_read model job r) e = absurd (other call 3 6 (status_is call _ 3 r.tells) e (λ h. omega (arith, h)) (λ h. omega (arith, h)))
-memory_clause call (refuses_text model job r) e = absurd (other call 4 6 (status_is call _ 4 r.tells) e (λ h. omega (arith, h)) (λ h. omega (arith, h)))
-memory_clause call (lacks_memory model job r) e = inl r
-memory_clause call (gives_answer model job a) e = inr (model, job, a)
+memory_clause call r e = by (gave call r NoMemory e)
+  where
+    by : Gave call NoMemory → IsNoMemory call ⊎ ((model : List ℕ) × (call.job ≡ Some (Solve model)) × IsAnswered call (call.store.holds model))
+    by (words u e) = absurd (cc)
+    by (plain model job m) = inl m
+    by (figures model job a e) = inr (model, job, a)
 
 -- all of them
 pub runs : (call : Call) → Ran call → Runs call

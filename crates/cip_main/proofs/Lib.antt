@@ -1,4 +1,5 @@
 pub mod Clauses
+pub mod PlainAnswers
 pub mod Pulled
 pub mod Readings
 pub mod ThinPrograms

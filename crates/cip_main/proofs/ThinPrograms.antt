@@ -4,6 +4,7 @@ use Rattle.std.proofs.Common.{sym, ap, ◌∙◌, subst, inl, inr}
 use Rattle.std.proofs.lemmas.List.Elements.{All-from_recursion}
 use Rattle.cip_rational.specs.Rational.{ℚ, ◌≤ℚ◌, zeroℚ}
 use Rattle.cip_rational.specs.Rational.Order.{≤ℚ_of_eq}
+use Rattle.cip_io.specs.Sink.{SinkTells}
 use Rattle.cip_problem.specs.Program.{Program}
 use Rattle.cip_problem.specs.Points.{IsFeasible, IsLowerBound}
 use Rattle.cip_problem.specs.BoxBound.{box_bound}
@@ -101,8 +102,8 @@ some_held cost answer h e = no_some (sym h.is_best ∙ e)
     no_some e = cc
 
 -- what a search has answered has its figures told
-pub answers_of : (program : Program) (old new : List Log) (answer : Answer) (taken taken_after : Option (List ℕ)) (faults faults_after result : ℕ) → Searched program node_limit old new answer → Says taken taken_after faults faults_after (answer_text program.column_names (figures_of program answer)) (exit_status (figures_of program answer).status) result → (answer.best ≡ None → new ≡ old) → Answers program taken taken_after faults faults_after old new result
-answers_of program old new answer taken taken_after faults faults_after result (inl s) told p = record {
+pub answers_of : (program : Program) (old new : List Log) (answer : Answer) (sink sink_after : SinkTells) (result : ℕ) → Searched program node_limit old new answer → Says sink sink_after (answer_text program.column_names (figures_of program answer)) (exit_status (figures_of program answer).status) result → (answer.best ≡ None → new ≡ old) → Answers program sink sink_after old new result
+answers_of program old new answer sink sink_after result (inl s) told p = record {
   figures = figures_of program answer;
   entries = entries_of s.0;
   are_true = are_true program node_limit (entries_of s.0) answer s.2;
@@ -110,7 +111,7 @@ answers_of program old new answer taken taken_after faults faults_after result (
   logged = inl (s.0, s.1, refl);
   point = λ e. p (none_held program answer.best e);
 }
-answers_of program old new answer taken taken_after faults faults_after result (inr s) told p = record {
+answers_of program old new answer sink sink_after result (inr s) told p = record {
   figures = figures_of program answer;
   entries = [];
   are_true = are_true program node_limit [] answer s.2;
@@ -125,9 +126,9 @@ answer_fits program old new answer t (inl s) = held_fits program t answer.best s
 answer_fits program old new answer t (inr s) = held_fits program t answer.best s.2.best
 
 -- the text that was read is the one that the store tells
-pub thin_told : (held : Option (List ℕ)) (program : Program) → IsRead held program → IfSome held (λ bytes. IsThin bytes program)
+pub thin_told : (text : Option (List ℕ)) (program : Program) → IsRead text program → IfSome text (λ bytes. IsThin bytes program)
 thin_told None program r = tt
 thin_told (Some bytes) program r = subst (λ t. IsThin t program) (sym r.told) r.thin
 
-pub has_text : (held : Option (List ℕ)) (program : Program) → IsRead held program → HasThinText program
-has_text held program r = record { text = r.text; thin = r.thin }
+pub has_text : (text : Option (List ℕ)) (program : Program) → IsRead text program → HasThinText program
+has_text text program r = record { text = r.bytes; thin = r.thin }

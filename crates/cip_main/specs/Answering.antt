@@ -1,5 +1,6 @@
 -- Answers with figures: what the sink was told of a program, and the log that was added.
-use Rattle.std.specs.Prelude.{◌≡◌, ◌⊎◌, ◌++◌, ◌∷◌, [], ℕ, List, Option, None}
+use Rattle.std.specs.Prelude.{◌≡◌, ◌⊎◌, ◌++◌, ◌∷◌, [], ℕ, List, None}
+use Rattle.cip_io.specs.Sink.{SinkTells}
 use Rattle.cip_problem.specs.Program.{Program}
 use Rattle.cip_problem.specs.Log.{Entry}
 use Rattle.cip_answers.specs.Figures.{Status, NoMemory, Figures, exit_status, answer_text}
@@ -18,18 +19,20 @@ pub record HasThinText (program : Program) : Type 0 where
   pub text : List ℕ
   pub thin : IsThin text program
 
--- these entries are those of the one log that was added; there is none where memory was refused before the search
+-- one log was added, and these entries are its; or none was added, there are no entries, and the status is want of
+-- memory
 abbrev pub IsLogged : (logs logs_after : List Log) → List Entry → Status → Type 0
 IsLogged logs logs_after entries status =
     ((log : Log) × (logs_after ≡ logs ++ log ∷ []) × (entries ≡ entries_of log))
     ⊎ ((logs_after ≡ logs) × (entries ≡ []) × (status ≡ NoMemory))
 
--- there are figures that are true of the program beside the log that was added, and the sink was told them
-pub record Answers (program : Program) (taken taken_after : Option (List ℕ)) (faults faults_after : ℕ) (logs logs_after : List Log) (result : ℕ) : Type 0 where
+-- there are figures that are true of the program beside the log that was added, if one was, and the sink was told them
+pub record Answers
+    (program : Program) (sink sink_after : SinkTells) (logs logs_after : List Log) (result : ℕ) : Type 0 where
   pub figures : Figures
   pub entries : List Entry
   pub are_true : AreTrue program node_limit entries figures
-  pub told : Says taken taken_after faults faults_after (answer_text program.column_names figures) (exit_status figures.status) result
+  pub told : Says sink sink_after (answer_text program.column_names figures) (exit_status figures.status) result
   pub logged : IsLogged logs logs_after entries figures.status
-  -- a point is left out only where memory was refused before the search
+  -- a point is left out only where no log was added
   pub point : figures.held ≡ None → logs_after ≡ logs

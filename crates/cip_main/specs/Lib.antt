@@ -1,4 +1,5 @@
 pub mod Answering
+pub mod Plain
 pub mod Pulling
 pub mod Running
 pub mod Saying

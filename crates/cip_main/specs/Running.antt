@@ -1,27 +1,21 @@
 -- What a call of `run` does: by the words, what the store tells, what the sink took, and the logs.
-use Rattle.std.specs.Prelude.{◌≢◌, ◌*◌, ◌-◌, ◌≤◌, max, ◌≡◌, ◌⊎◌, ◌++◌, ◌∷◌, [], ℕ, List, Option, None, Some, IfSome, length}
+use Rattle.std.specs.Prelude.{◌≡◌, ◌≢◌, ◌⊎◌, ℕ, ◌*◌, ◌-◌, ◌≤◌, max, List, [], ◌∷◌, ◌++◌, length}
+use Rattle.std.specs.Prelude.{Option, None, Some, IfSome}
 use Rattle.cip_io.specs.Faults.{Rose}
+use Rattle.cip_io.specs.Store.{StoreTells}
+use Rattle.cip_io.specs.Sink.{SinkTells}
 use Rattle.cip_problem.specs.Program.{Program}
 use Rattle.cip_problem.specs.Wholes.{assignments}
 use Rattle.cip_answers.specs.CommandLine.{Job, Solve}
-use Rattle.cip_answers.specs.Figures.{usage_text, read_fault_text, no_memory_text, not_thin_text}
 use Rattle.cip_syntax.specs.ThinText.{IsThin}
 use Rattle.cip_solve.specs.declared.logs.Log.{Log}
 use Rattle.cip_solve.specs.Logs.{entries_of}
+use Rattle.cip_main.specs.declared.plain.Plain.{Plain}
+use Rattle.cip_main.specs.declared.plain.Plain.TheVariants.{Usage, ReadFault, Refused, NoMemory}
 use Rattle.cip_main.specs.Answering.{node_limit, Answers}
-use Rattle.cip_main.specs.Pulling.{IsAllPulled}
+use Rattle.cip_main.specs.Plain.{plain_text, plain_status}
+use Rattle.cip_main.specs.Pulling.{IsAllPulled, IsNotThin}
 use Rattle.cip_main.specs.Saying.{Says}
-
--- a store as it tells itself at a moment: the texts of its names, what is left of the current one, how many faults
-pub record StoreTells : Type 0 where
-  pub holds : List ℕ → Option (List ℕ)
-  pub left : Option (List ℕ)
-  pub faults : ℕ
-
--- a sink as it tells itself at a moment: the bytes taken, how many faults
-pub record SinkTells : Type 0 where
-  pub taken : Option (List ℕ)
-  pub faults : ℕ
 
 -- a call: the job that its words mean, if they are accepted; store, sink and logs before and after it; its status
 pub record Call : Type 0 where
@@ -35,7 +29,8 @@ pub record Call : Type 0 where
   pub status : ℕ
 
 -- a call, from what the store and the sink told before and after it
-abbrev pub call_of : Option Job → (store store_after : StoreTells) → (sink sink_after : SinkTells) → (logs logs_after : List Log) → (status : ℕ) → Call
+abbrev pub call_of : Option Job → (store store_after : StoreTells) → (sink sink_after : SinkTells)
+    → (logs logs_after : List Log) → (status : ℕ) → Call
 call_of job store store_after sink sink_after logs logs_after status = record {
   job = job;
   store = store;
@@ -47,67 +42,71 @@ call_of job store store_after sink sink_after logs logs_after status = record {
   status = status;
 }
 
-abbrev pub store_tells : (List ℕ → Option (List ℕ)) → Option (List ℕ) → ℕ → StoreTells
-store_tells holds left faults = record { holds = holds; left = left; faults = faults }
+-- the sink took exactly the text of this answer, and the status is the answer's; or the sink failed, the status is 5,
+-- and it took a front part of the text
+abbrev pub TellsPlain : Call → Plain → Type 0
+TellsPlain call answer = Says call.sink call.sink_after (plain_text answer) (plain_status answer) call.status
 
-abbrev pub sink_tells : Option (List ℕ) → ℕ → SinkTells
-sink_tells taken faults = record { taken = taken; faults = faults }
+-- no call of the store has failed, unless its count of faults stands at its last value
+abbrev pub IsStoreSound : Call → Type 0
+IsStoreSound call = call.store_after.faults ≡ call.store.faults
 
--- the sink took exactly this text, and the status is this one; or the sink failed, the status is 5, and it took a
--- front part of the text
-abbrev pub Tells : Call → (text : List ℕ) → (status : ℕ) → Type 0
-Tells call text status =
-    Says call.sink.taken call.sink_after.taken call.sink.faults call.sink_after.faults text status call.status
-
--- the text was pulled to its end, or to the first byte too many
-abbrev pub IsPulledWhole : Call → Option (List ℕ) → Type 0
-IsPulledWhole call text = IsAllPulled text call.store_after.left
+-- no call of the sink has failed, unless its count of faults stands at its last value
+abbrev pub IsSinkSound : Call → Type 0
+IsSinkSound call = call.sink_after.faults ≡ call.sink.faults
 
 -- the words are not accepted: nothing is pulled
 pub record IsUsage (call : Call) : Type 0 where
   pub no_job : call.job ≡ None
-  pub tells : Tells call usage_text 2
-  pub untouched : call.store_after.left ≡ call.store.left
-  pub no_fault : call.store_after.faults ≡ call.store.faults
+  pub tells : TellsPlain call Usage
+  pub untouched : call.store_after ≡ call.store
   pub no_search : call.logs_after ≡ call.logs
 
 -- the store failed
 pub record IsReadFault (call : Call) : Type 0 where
-  pub tells : Tells call read_fault_text 3
+  pub tells : TellsPlain call ReadFault
   pub rose : Rose call.store.faults call.store_after.faults
   pub no_search : call.logs_after ≡ call.logs
 
 -- the text is not thin
 pub record IsRefused (call : Call) (text : Option (List ℕ)) : Type 0 where
-  pub tells : Tells call not_thin_text 4
-  pub not_thin : IfSome text (λ bytes. (program : Program) → ¬ IsThin bytes program)
-  pub pulled : IsPulledWhole call text
+  pub tells : TellsPlain call Refused
+  pub not_thin : IsNotThin text
+  pub pulled : IsAllPulled text call.store_after
+  pub sound : IsStoreSound call
   pub no_search : call.logs_after ≡ call.logs
 
 -- want of memory is answered, without figures; nothing ties this answer to a refused growth, or to a moment of the call
 pub record IsNoMemory (call : Call) : Type 0 where
-  pub tells : Tells call no_memory_text 6
+  pub tells : TellsPlain call NoMemory
+  pub sound : IsStoreSound call
   pub no_search : call.logs_after ≡ call.logs
+
+-- the words are accepted, and an answer without figures is given for the text; usage is not one of these
+abbrev pub IsUnread : Call → (text : Option (List ℕ)) → Plain → Type 0
+IsUnread call text Usage = ⊥
+IsUnread call text ReadFault = IsReadFault call
+IsUnread call text Refused = IsRefused call text
+IsUnread call text NoMemory = IsNoMemory call
 
 -- true figures of the program were told to the sink
 abbrev pub TellsTruth : Call → Program → Type 0
-TellsTruth call program =
-    Answers program call.sink.taken call.sink_after.taken call.sink.faults call.sink_after.faults call.logs call.logs_after call.status
+TellsTruth call program = Answers program call.sink call.sink_after call.logs call.logs_after call.status
 
 -- an answer with figures of the program of the text
 pub record IsAnswered (call : Call) (text : Option (List ℕ)) : Type 0 where
   pub program : Program
   pub thin : IfSome text (λ bytes. IsThin bytes program)
   pub answers : TellsTruth call program
-  pub pulled : IsPulledWhole call text
+  pub pulled : IsAllPulled text call.store_after
+  pub sound : IsStoreSound call
 
 -- what a call does
 pub data Ran (call : Call) : Type 0 where
   refuses_words : IsUsage call → Ran call
-  fails_to_read : (model : List ℕ) → call.job ≡ Some (Solve model) → IsReadFault call → Ran call
-  refuses_text : (model : List ℕ) → call.job ≡ Some (Solve model) → IsRefused call (call.store.holds model) → Ran call
-  lacks_memory : (model : List ℕ) → call.job ≡ Some (Solve model) → IsNoMemory call → Ran call
-  gives_answer : (model : List ℕ) → call.job ≡ Some (Solve model) → IsAnswered call (call.store.holds model) → Ran call
+  gives_plain : (model : List ℕ) → call.job ≡ Some (Solve model)
+      → (answer : Plain) → IsUnread call (call.store.holds model) answer → Ran call
+  gives_figures : (model : List ℕ) → call.job ≡ Some (Solve model) → IsAnswered call (call.store.holds model) → Ran call
 
 -- ---- what follows, each by its name
 
@@ -140,12 +139,14 @@ pub record UsageClause (call : Call) : Type 0 where
   pub only : call.status ≡ 2 → call.job ≡ None
   pub always : call.job ≡ None → IsUsage call
 
--- status 3 comes only where the store's count of faults rose, or stands at its end; where the status is 0, 4 or 10 the
--- text was pulled whole
+-- status 3 comes only where the store's count of faults rose, or stands at its last value; with every other status but
+-- 5 the count is as it was, and with 0, 4 and 10 the text was pulled whole
 pub record ReadFaultClause (call : Call) : Type 0 where
   pub rose : call.status ≡ 3 → Rose call.store.faults call.store_after.faults
+  pub sound : call.status ≢ 3 → call.status ≢ 5 → IsStoreSound call
   pub whole : (model : List ℕ) → call.job ≡ Some (Solve model)
-      → (call.status ≡ 0) ⊎ ((call.status ≡ 4) ⊎ (call.status ≡ 10)) → IsPulledWhole call (call.store.holds model)
+      → (call.status ≡ 0) ⊎ ((call.status ≡ 4) ⊎ (call.status ≡ 10))
+      → IsAllPulled (call.store.holds model) call.store_after
 
 -- status 4 comes only where the text is not thin; where it isn't, the status is 4, or 3, 5 or 6 in its place
 pub record RefusedClause (call : Call) : Type 0 where
@@ -155,9 +156,11 @@ pub record RefusedClause (call : Call) : Type 0 where
       → ((program : Program) → ¬ IsThin text program)
       → IsRefused call (Some text) ⊎ (IsReadFault call ⊎ IsNoMemory call)
 
--- status 5 comes only where the sink's count of faults rose, or stands at its end
-abbrev pub WriteFaultClause : Call → Type 0
-WriteFaultClause call = call.status ≡ 5 → Rose call.sink.faults call.sink_after.faults
+-- status 5 comes only where the sink's count of faults rose, or stands at its last value; with every other status the
+-- count is as it was
+pub record WriteFaultClause (call : Call) : Type 0 where
+  pub rose : call.status ≡ 5 → Rose call.sink.faults call.sink_after.faults
+  pub sound : call.status ≢ 5 → IsSinkSound call
 
 -- status 10 comes only after a search of as many nodes as the budget has; that an open node matters then, and only
 -- then, is said with the figures
@@ -175,7 +178,8 @@ pub record NodeLimitClause (call : Call) : Type 0 where
 -- status 6 comes without figures, or with figures that are as true as in any other answer
 abbrev pub MemoryClause : Call → Type 0
 MemoryClause call =
-    call.status ≡ 6 → IsNoMemory call ⊎ ((model : List ℕ) × (call.job ≡ Some (Solve model)) × IsAnswered call (call.store.holds model))
+    call.status ≡ 6
+    → IsNoMemory call ⊎ ((model : List ℕ) × (call.job ≡ Some (Solve model)) × IsAnswered call (call.store.holds model))
 
 -- what holds of every call, part by part
 pub record Runs (call : Call) : Type 0 where

@@ -1,6 +1,7 @@
 //! `run`, all that the program `cip` does: words in, bytes out.
 #![tactic(auto)]
 
+mod plain;
 mod reader;
 mod running;
 mod words;

@@ -1,16 +1,18 @@
 //! The whole way from the words and the store to the sink.
-ghost use Rattle.std.specs.Prelude.{◌≡◌, ◌≤◌, [], None, IfOk, IfSome, length};
+ghost use Rattle.std.specs.Prelude.{◌≡◌, [], None, IfOk, IfSome, length};
 ghost use Rattle.cip_problem.specs.WellFormed.{columns};
-ghost use Rattle.cip_answers.specs.Figures.{usage_text, read_fault_text, not_thin_text, no_memory_text, answer_text, exit_status};
+ghost use Rattle.cip_answers.specs.Figures.{usage_text, no_memory_text, answer_text, exit_status};
 ghost use Rattle.cip_report.specs.Answers.{figures_of};
 ghost use Rattle.cip_report.specs.declared.figures.Ended.TheVariants.{NoMemory};
 ghost use Rattle.cip_solve.specs.Right.{IsHeld, IsRight, Searched};
 ghost use Rattle.cip_main.specs.Answering.{node_limit, HasThinText, Answers};
 ghost use Rattle.cip_answers.specs.CommandLine.{job_of};
-ghost use Rattle.cip_main.specs.Running.{Runs, call_of, store_tells, sink_tells};
+ghost use Rattle.cip_main.specs.Running.{Runs, call_of};
+ghost use Rattle.cip_main.specs.Plain.{plain_text, plain_status};
 ghost use Rattle.cip_main.specs.Saying.{Says};
 
-use crate::reader::{ReadFault, read_program};
+use crate::plain::Plain;
+use crate::reader::read_program;
 use crate::words::Words;
 use cip_frac::Frac;
 use cip_io::{Failed, Sink, Store, push_all};
@@ -22,14 +24,6 @@ use std::alloc::{AllocError, Global};
 /// The nodes that a search may take.
 const NODE_LIMIT: usize = 1_000_000;
 
-const USAGE: &[u8] = b"status usage\nend\n";
-
-const READ_FAULT: &[u8] = b"status readfault\nend\n";
-
-const REFUSED: &[u8] = b"status refused\ntext model\nline 1\nkind 21 OutOfProfile\nend\n";
-
-const NO_MEMORY: &[u8] = b"status nomemory\nend\n";
-
 /// Does all that the program does, and answers its exit status:
 ///
 /// - 0: an optimal point was printed;
@@ -40,7 +34,7 @@ const NO_MEMORY: &[u8] = b"status nomemory\nend\n";
 /// - 6: a growth was refused;
 /// - 10: the node budget, 1,000,000, is spent.
 ///
-/// A search adds one log to `logs`.
+/// A search adds one log to `logs`, or none where memory was refused before it had room for one.
 pub fn run<S: Store, K: Sink>(
     alloc: Global,
     words: &Words,
@@ -48,20 +42,15 @@ pub fn run<S: Store, K: Sink>(
     out: &mut K,
     logs: &mut Vec<Log>,
 ) -> u8
-    ensures { Runs (call_of (job_of words.now)
-        (store_tells (S.holds store.old) (S.left store.old) (S.faults store.old))
-        (store_tells (S.holds store.new) (S.left store.new) (S.faults store.new))
-        (sink_tells (K.taken out.old) (K.faults out.old)) (sink_tells (K.taken out.new) (K.faults out.new))
-        logs.old.items logs.new.items result) }
+    ensures { Runs (call_of (job_of words.now) (S.tells store.old) (S.tells store.new)
+        (K.tells out.old) (K.tells out.new) logs.old.items logs.new.items result) }
 {
     let Some(name) = words.model() else {
-        return say(out, USAGE, 2);
+        return say(out, Plain::Usage);
     };
     match read_program(alloc, store, name) {
         Ok(program) => solve_and_report(alloc, &program, out, logs),
-        Err(ReadFault::Store) => say(out, READ_FAULT, 3),
-        Err(ReadFault::NotThin) => say(out, REFUSED, 4),
-        Err(ReadFault::NoMemory) => say(out, NO_MEMORY, 6),
+        Err(answer) => say(out, answer),
     }
 }
 
@@ -106,7 +95,7 @@ fn search(alloc: Global, program: &Program, logs: &mut Vec<Log>) -> Answer
 fn tell<K: Sink>(program: &Program, answer: &Answer, out: &mut K) -> u8
     requires { IfSome answer.now.best (λ held. length held.point.items ≡ columns program.now) }
     ensures { let figures = figures_of program.now answer.now in
-        Says (K.taken out.old) (K.taken out.new) (K.faults out.old) (K.faults out.new)
+        Says (K.tells out.old) (K.tells out.new)
         (answer_text program.now.column_names figures) (exit_status figures.status) result }
 {
     match report(program, answer, out) {
@@ -123,36 +112,32 @@ fn solve_and_report<K: Sink>(
     logs: &mut Vec<Log>,
 ) -> u8
     requires { HasThinText program.now }
-    ensures { Answers program.now (K.taken out.old) (K.taken out.new) (K.faults out.old) (K.faults out.new)
-        logs.old.items logs.new.items result }
+    ensures { Answers program.now (K.tells out.old) (K.tells out.new) logs.old.items logs.new.items result }
 {
     let answer = search(alloc, program, logs);
     tell(program, &answer, out)
 }
 
-/// Writes a fixed answer; its status, or 5 where the sink failed.
-fn say<K: Sink>(out: &mut K, text: &[u8], status: u8) -> u8
-    ensures said { Says (K.taken out.old) (K.taken out.new) (K.faults out.old) (K.faults out.new) text.now status result }
-    ensures later { K.faults out.old ≤ K.faults out.new }
+/// Writes an answer without figures; its status, or 5 where the sink failed.
+fn say<K: Sink>(out: &mut K, answer: Plain) -> u8
+    ensures { Says (K.tells out.old) (K.tells out.new) (plain_text answer) (plain_status answer) result }
 {
-    match push_all(out, text) {
-        Ok(()) => status,
+    match push_all(out, answer.text()) {
+        Ok(()) => answer.status(),
         Err(Failed) => 5,
     }
 }
 
-/// Says that a growth was refused before there was a program to speak of.
+/// Says that a growth was refused before there was a program to speak of: status 6, or 5 where the sink failed.
 pub fn say_no_memory<K: Sink>(out: &mut K) -> u8
-    ensures said { Says (K.taken out.old) (K.taken out.new) (K.faults out.old) (K.faults out.new) no_memory_text 6 result }
-    ensures later { K.faults out.old ≤ K.faults out.new }
+    ensures { Says (K.tells out.old) (K.tells out.new) no_memory_text 6 result }
 {
-    say(out, NO_MEMORY, 6)
+    say(out, Plain::NoMemory)
 }
 
-/// Says that the words are not accepted.
+/// Says that the words are not accepted: status 2, or 5 where the sink failed.
 pub fn say_usage<K: Sink>(out: &mut K) -> u8
-    ensures said { Says (K.taken out.old) (K.taken out.new) (K.faults out.old) (K.faults out.new) usage_text 2 result }
-    ensures later { K.faults out.old ≤ K.faults out.new }
+    ensures { Says (K.tells out.old) (K.tells out.new) usage_text 2 result }
 {
-    say(out, USAGE, 2)
+    say(out, Plain::Usage)
 }

@@ -4,7 +4,7 @@ use Rattle.std.specs.Prelude.{Option, Result, IsErr, OnOk, MatchResult, slice_ge
 use Rattle.std.specs.Io.KnownBytes.{append_known}
 use Rattle.std.proofs.Math.Seq.{take-append-add}
 use Rattle.std.proofs.lemmas.List.{take-append-le}
-use Rattle.cip_io.specs.Sink.{PushesPart}
+use Rattle.cip_io.specs.Sink.{SinkTells, TakesAll, PushesPart}
 use Rattle.cip_rational.specs.Rational.{ℚ}
 use Rattle.cip_numerals.specs.NumberText.{fraction_text}
 use Rattle.cip_answers.specs.Figures.{line, point_lines}
@@ -16,16 +16,16 @@ append_known-append None xs ys = refl
 append_known-append (Some bytes) xs ys = rw append_assoc refl
 
 -- a text, and then one more, both written
-pub Passes-more : (old mid new : Option (List ℕ)) (text held more buffered : List ℕ) → Passes old mid text held → Passes mid new (held ++ more) buffered → Passes old new (text ++ more) buffered
+pub Passes-more : (old mid new : SinkTells) (text held more buffered : List ℕ) → Passes old mid text held → Passes mid new (held ++ more) buffered → Passes old new (text ++ more) buffered
 Passes-more old mid new text held more buffered first next = record {
   handed = first.handed ++ next.handed;
-  taken = rw (next.taken, first.taken) (append_known-append old first.handed next.handed);
+  taken = rw (next.taken, first.taken) (append_known-append old.taken first.handed next.handed);
   whole =
       ap (λ front. front ++ more) first.whole ∙ append_assoc first.handed held more
       ∙ ap (λ rest. first.handed ++ rest) next.whole ∙ sym (append_assoc first.handed next.handed buffered);
 }
 
-PushesPart-more : (old mid new : Option (List ℕ)) (text held more : List ℕ) → Passes old mid text held → PushesPart mid new (held ++ more) → PushesPart old new (text ++ more)
+PushesPart-more : (old mid new : SinkTells) (text held more : List ℕ) → Passes old mid text held → PushesPart mid new (held ++ more) → PushesPart old new (text ++ more)
 PushesPart-more old mid new text held more first next =
     let whole : text ++ more ≡ first.handed ++ (held ++ more) = rw (first.whole, append_assoc) refl in
     let seam : take (length first.handed + next.count) (first.handed ++ (held ++ more)) ≡ first.handed ++ take next.count (held ++ more) =
@@ -34,10 +34,10 @@ PushesPart-more old mid new text held more first next =
     record {
       count = length first.handed + next.count;
       short = omega (arith, ap length whole, length-append first.handed (held ++ more));
-      taken = rw (next.taken, first.taken, whole, seam) (append_known-append old first.handed (take next.count (held ++ more)));
+      taken = rw (next.taken, first.taken, whole, seam) (append_known-append old.taken first.handed (take next.count (held ++ more)));
     }
 
-PushesPart-front : (old new : Option (List ℕ)) (text rest : List ℕ) → PushesPart old new text → PushesPart old new (text ++ rest)
+PushesPart-front : (old new : SinkTells) (text rest : List ℕ) → PushesPart old new text → PushesPart old new (text ++ rest)
 PushesPart-front old new text rest part =
     let short = part.short in
     let within : part.count ≤ length text = omega arith in
@@ -48,27 +48,27 @@ PushesPart-front old new text rest part =
     }
 
 -- a text, and then one more
-pub Writes-more : {T E : Type 0} (result : Result T E) (old mid new : Option (List ℕ)) (text held more buffered : List ℕ) → Passes old mid text held → Writes result mid new (held ++ more) buffered → Writes result old new (text ++ more) buffered
+pub Writes-more : {T E : Type 0} (result : Result T E) (old mid new : SinkTells) (text held more buffered : List ℕ) → Passes old mid text held → Writes result mid new (held ++ more) buffered → Writes result old new (text ++ more) buffered
 Writes-more (Ok x) old mid new text held more buffered first next = Passes-more old mid new text held more buffered first next
 Writes-more (Err e) old mid new text held more buffered first next = PushesPart-more old mid new text held more first next
 
 -- a text whose front failed
-pub Writes-err : {T E : Type 0} (result : Result T E) (old new : Option (List ℕ)) (text rest buffered : List ℕ) → IsErr result → PushesPart old new text → Writes result old new (text ++ rest) buffered
+pub Writes-err : {T E : Type 0} (result : Result T E) (old new : SinkTells) (text rest buffered : List ℕ) → IsErr result → PushesPart old new text → Writes result old new (text ++ rest) buffered
 Writes-err (Ok x) old new text rest buffered failed part = absurd (cc)
 Writes-err (Err e) old new text rest buffered failed part = PushesPart-front old new text rest part
 
 -- a text, and then one more that failed
-pub Writes-more_err : {T E : Type 0} (result : Result T E) (old mid new : Option (List ℕ)) (text held more rest buffered : List ℕ) → IsErr result → Passes old mid text held → PushesPart mid new (held ++ more) → Writes result old new (text ++ more ++ rest) buffered
+pub Writes-more_err : {T E : Type 0} (result : Result T E) (old mid new : SinkTells) (text held more rest buffered : List ℕ) → IsErr result → Passes old mid text held → PushesPart mid new (held ++ more) → Writes result old new (text ++ more ++ rest) buffered
 Writes-more_err result old mid new text held more rest buffered failed first next =
     Writes-err result old new (text ++ more) rest buffered failed (PushesPart-more old mid new text held more first next)
 
 -- a text that was handed on whole, and then bytes that were pushed
-pub Writes-pushed : {T E : Type 0} (result : Result T E) (old mid new : Option (List ℕ)) (text held bytes buffered : List ℕ) → Passes old mid text held → held ≡ [] → buffered ≡ [] → MatchResult result (λ _. new ≡ append_known mid bytes) (λ _. PushesPart mid new bytes) → Writes result old new (text ++ bytes) buffered
+pub Writes-pushed : {T E : Type 0} (result : Result T E) (old mid new : SinkTells) (text held bytes buffered : List ℕ) → Passes old mid text held → held ≡ [] → buffered ≡ [] → MatchResult result (λ _. TakesAll mid new bytes) (λ _. PushesPart mid new bytes) → Writes result old new (text ++ bytes) buffered
 Writes-pushed (Ok x) old mid new text held bytes buffered first none empty pushed =
     let handed : text ≡ first.handed = rw (first.whole, none) (append-nil first.handed) in
     record {
       handed = text ++ bytes;
-      taken = rw (pushed, first.taken, handed) (append_known-append old first.handed bytes);
+      taken = rw (pushed, first.taken, handed) (append_known-append old.taken first.handed bytes);
       whole = rw empty (sym (append-nil (text ++ bytes)));
     }
 Writes-pushed (Err e) old mid new text held bytes buffered first none empty pushed =
@@ -83,29 +83,29 @@ pub three_parts : (front first second third : List ℕ) → front ++ (first ++ s
 three_parts front first second third = simp append_assoc
 
 -- of three texts the first failed
-pub first_of_three : {T E : Type 0} (result : Result T E) (old new : Option (List ℕ)) (front first second third buffered : List ℕ) → IsErr result → PushesPart old new (front ++ first) → Writes result old new (front ++ (first ++ second ++ third)) buffered
+pub first_of_three : {T E : Type 0} (result : Result T E) (old new : SinkTells) (front first second third buffered : List ℕ) → IsErr result → PushesPart old new (front ++ first) → Writes result old new (front ++ (first ++ second ++ third)) buffered
 first_of_three result old new front first second third buffered failed part =
     subst (λ text. Writes result old new text buffered) (sym (three_parts front first second third))
     (subst (λ text. Writes result old new text buffered) (sym (append_assoc (front ++ first) second third))
     (Writes-err result old new (front ++ first) (second ++ third) buffered failed part))
 
 -- the second failed
-pub second_of_three : {T E : Type 0} (result : Result T E) (old mid new : Option (List ℕ)) (front first second third held buffered : List ℕ) → IsErr result → Passes old mid (front ++ first) held → PushesPart mid new (held ++ second) → Writes result old new (front ++ (first ++ second ++ third)) buffered
+pub second_of_three : {T E : Type 0} (result : Result T E) (old mid new : SinkTells) (front first second third held buffered : List ℕ) → IsErr result → Passes old mid (front ++ first) held → PushesPart mid new (held ++ second) → Writes result old new (front ++ (first ++ second ++ third)) buffered
 second_of_three result old mid new front first second third held buffered failed done part =
     subst (λ text. Writes result old new text buffered) (sym (three_parts front first second third))
     (Writes-more_err result old mid new (front ++ first) held second third buffered failed done part)
 
 -- the third came last
-pub third_of_three : {T E : Type 0} (result : Result T E) (old mid next new : Option (List ℕ)) (front first second third held kept buffered : List ℕ) → Passes old mid (front ++ first) held → Passes mid next (held ++ second) kept → Writes result next new (kept ++ third) buffered → Writes result old new (front ++ (first ++ second ++ third)) buffered
+pub third_of_three : {T E : Type 0} (result : Result T E) (old mid next new : SinkTells) (front first second third held kept buffered : List ℕ) → Passes old mid (front ++ first) held → Passes mid next (held ++ second) kept → Writes result next new (kept ++ third) buffered → Writes result old new (front ++ (first ++ second ++ third)) buffered
 third_of_three result old mid next new front first second third held kept buffered done more last =
     subst (λ text. Writes result old new text buffered) (sym (three_parts front first second third))
     (Writes-more result old next new (front ++ first ++ second) kept third buffered (Passes-more old mid next (front ++ first) held second kept done more) last)
 
 -- what was buffered is handed on
-pub Writes-flushed : {T E : Type 0} (result : Result T E) (old mid new : Option (List ℕ)) (text held buffered : List ℕ) → Passes old mid text held → Writes result mid new held buffered → OnOk result (buffered ≡ []) → MatchResult result (λ _. new ≡ append_known old text) (λ _. PushesPart old new text)
+pub Writes-flushed : {T E : Type 0} (result : Result T E) (old mid new : SinkTells) (text held buffered : List ℕ) → Passes old mid text held → Writes result mid new held buffered → OnOk result (buffered ≡ []) → MatchResult result (λ _. TakesAll old new text) (λ _. PushesPart old new text)
 Writes-flushed (Ok x) old mid new text held buffered first last empty =
     let handed : held ≡ last.handed = rw (last.whole, empty) (append-nil last.handed) in
-    rw (last.taken, first.taken, first.whole, handed) (append_known-append old first.handed last.handed)
+    rw (last.taken, first.taken, first.whole, handed) (append_known-append old.taken first.handed last.handed)
 Writes-flushed (Err e) old mid new text held buffered first part empty =
     let part_more : PushesPart mid new (held ++ []) = subst (λ text. PushesPart mid new text) (sym (append-nil held)) part in
     subst (λ text. PushesPart old new text) (append-nil text) (PushesPart-more old mid new text held [] first part_more)

@@ -1,7 +1,7 @@
 //! Bytes on their way to a sink.
-ghost use Rattle.std.specs.Prelude.{◌≡◌, ◌≤◌, ◌++◌, [], OnOk, OnErr};
+ghost use Rattle.std.specs.Prelude.{◌≡◌, ◌++◌, [], OnOk};
 ghost use Rattle.std.specs.Bool.{OnTrue, OnFalse};
-ghost use Rattle.cip_io.specs.Faults.{Rose};
+ghost use Rattle.cip_io.specs.Faults.{CountsFaults};
 ghost use Rattle.cip_report.specs.Writing.{Writes};
 
 use cip_io::{Failed, Sink, push_all};
@@ -68,10 +68,9 @@ impl Buffer {
 
     /// Hands on the bytes held.
     pub(crate) fn flush<K: Sink>(&mut self, out: &mut K) -> Result<(), Failed>
-        ensures taken { Writes result (K.taken out.old) (K.taken out.new) self.old self.new }
+        ensures taken { Writes result (K.tells out.old) (K.tells out.new) self.old self.new }
         ensures empty { OnOk result (self.new ≡ []) }
-        ensures later { K.faults out.old ≤ K.faults out.new }
-        ensures cause { OnErr result (Rose (K.faults out.old) (K.faults out.new)) }
+        ensures faults { CountsFaults result (K.tells out.old).faults (K.tells out.new).faults }
     {
         push_all(out, self.held())?;
         self.clear();
@@ -80,9 +79,8 @@ impl Buffer {
 
     /// Hands on the bytes held and then these, which are held where they fit.
     pub(crate) fn write<K: Sink>(&mut self, out: &mut K, bytes: &[u8]) -> Result<(), Failed>
-        ensures taken { Writes result (K.taken out.old) (K.taken out.new) (self.old ++ bytes.now) self.new }
-        ensures later { K.faults out.old ≤ K.faults out.new }
-        ensures cause { OnErr result (Rose (K.faults out.old) (K.faults out.new)) }
+        ensures taken { Writes result (K.tells out.old) (K.tells out.new) (self.old ++ bytes.now) self.new }
+        ensures faults { CountsFaults result (K.tells out.old).faults (K.tells out.new).faults }
     {
         if self.put(bytes) {
             return Ok(());

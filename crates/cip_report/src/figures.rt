@@ -8,8 +8,11 @@ use cip_frac::Frac;
 /// How a search ended.
 #[derive(Clone, Copy, Debug, PartialEq, Eq)]
 pub enum Ended {
+    /// No feasible point is better than the one held.
     Optimal,
+    /// The node budget is spent, and an open node matters.
     NodeLimit,
+    /// Want of memory.
     NoMemory,
 }
 
@@ -40,14 +43,19 @@ impl Ended {
 /// A feasible point and its cost in the minimised form.
 #[derive(Debug, Drop)]
 pub struct Held {
+    /// The cost of the point in the minimised form.
     pub cost: Frac,
+    /// The value of each column, in their order.
     pub point: Vec<Frac>,
 }
 
 /// What is printed of a search. Cost and bound are those of the minimised form.
 #[derive(Debug, Drop)]
 pub struct Answer {
+    /// How the search ended.
     pub ended: Ended,
+    /// The best point found, if there is one.
     pub best: Option<Held>,
+    /// What no feasible point costs less than, if there is such a bound.
     pub bound: Option<Frac>,
 }

@@ -1,8 +1,7 @@
 //! Answers as bytes, written to a sink from a fixed buffer.
-ghost use Rattle.std.specs.Prelude.{◌≡◌, ◌≤◌, ◌++◌, length, option_map, IfSome, MatchResult, OnErr};
-ghost use Rattle.std.specs.Io.KnownBytes.{append_known};
-ghost use Rattle.cip_io.specs.Faults.{Rose};
-ghost use Rattle.cip_io.specs.Sink.{PushesPart};
+ghost use Rattle.std.specs.Prelude.{◌≡◌, ◌++◌, length, option_map, IfSome, MatchResult};
+ghost use Rattle.cip_io.specs.Faults.{CountsFaults};
+ghost use Rattle.cip_io.specs.Sink.{TakesAll, PushesPart};
 ghost use Rattle.cip_numerals.specs.NumberText.{fraction_text};
 ghost use Rattle.cip_problem.specs.WellFormed.{columns};
 ghost use Rattle.cip_problem.specs.Points.{printed};
@@ -23,9 +22,9 @@ fn write_line<K: Sink>(
     word: &[u8],
     figure: &[u8],
 ) -> Result<(), Failed>
-    ensures taken { Writes result (K.taken out.old) (K.taken out.new) (buffer.old ++ line word.now figure.now) buffer.new }
-    ensures later { K.faults out.old ≤ K.faults out.new }
-    ensures cause { OnErr result (Rose (K.faults out.old) (K.faults out.new)) }
+    ensures taken { Writes result (K.tells out.old) (K.tells out.new)
+        (buffer.old ++ line word.now figure.now) buffer.new }
+    ensures faults { CountsFaults result (K.tells out.old).faults (K.tells out.new).faults }
 {
     buffer.write(out, word)?;
     buffer.write(out, b" ")?;
@@ -40,9 +39,9 @@ fn write_number<K: Sink>(
     word: &[u8],
     value: Frac,
 ) -> Result<(), Failed>
-    ensures taken { Writes result (K.taken out.old) (K.taken out.new) (buffer.old ++ line word.now (fraction_text value)) buffer.new }
-    ensures later { K.faults out.old ≤ K.faults out.new }
-    ensures cause { OnErr result (Rose (K.faults out.old) (K.faults out.new)) }
+    ensures taken { Writes result (K.tells out.old) (K.tells out.new)
+        (buffer.old ++ line word.now (fraction_text value)) buffer.new }
+    ensures faults { CountsFaults result (K.tells out.old).faults (K.tells out.new).faults }
 {
     let mut text = [0u8; 84];
     let length = value.write_into(&mut text);
@@ -56,9 +55,9 @@ fn write_figure<K: Sink>(
     word: &[u8],
     value: Option<Frac>,
 ) -> Result<(), Failed>
-    ensures taken { Writes result (K.taken out.old) (K.taken out.new) (buffer.old ++ line word.now (figure_text value)) buffer.new }
-    ensures later { K.faults out.old ≤ K.faults out.new }
-    ensures cause { OnErr result (Rose (K.faults out.old) (K.faults out.new)) }
+    ensures taken { Writes result (K.tells out.old) (K.tells out.new)
+        (buffer.old ++ line word.now (figure_text value)) buffer.new }
+    ensures faults { CountsFaults result (K.tells out.old).faults (K.tells out.new).faults }
 {
     match value {
         Some(value) => write_number(out, buffer, word, value),
@@ -74,9 +73,9 @@ fn write_point<K: Sink>(
     point: &[Frac],
 ) -> Result<(), Failed>
     requires { length point.now ≡ length names.now }
-    ensures taken { Writes result (K.taken out.old) (K.taken out.new) (buffer.old ++ point_lines names.now point.now) buffer.new }
-    ensures later { K.faults out.old ≤ K.faults out.new }
-    ensures cause { OnErr result (Rose (K.faults out.old) (K.faults out.new)) }
+    ensures taken { Writes result (K.tells out.old) (K.tells out.new)
+        (buffer.old ++ point_lines names.now point.now) buffer.new }
+    ensures faults { CountsFaults result (K.tells out.old).faults (K.tells out.new).faults }
 {
     for number in 0..point.len() {
         write_number(out, buffer, names.name(number), point[number])?;
@@ -121,9 +120,9 @@ fn write_head<K: Sink>(
     program: &Program,
     answer: &Answer,
 ) -> Result<(), Failed>
-    ensures taken { Writes result (K.taken out.old) (K.taken out.new) (buffer.old ++ head_text (figures_of program.now answer.now)) buffer.new }
-    ensures later { K.faults out.old ≤ K.faults out.new }
-    ensures cause { OnErr result (Rose (K.faults out.old) (K.faults out.new)) }
+    ensures taken { Writes result (K.tells out.old) (K.tells out.new)
+        (buffer.old ++ head_text (figures_of program.now answer.now)) buffer.new }
+    ensures faults { CountsFaults result (K.tells out.old).faults (K.tells out.new).faults }
 {
     let cost = printed_cost(program, &answer.best);
     let bound = printed_bound(program, answer.bound);
@@ -140,10 +139,10 @@ fn write_held<K: Sink>(
     held: &Option<Held>,
 ) -> Result<(), Failed>
     requires { IfSome held.now (λ held. length held.point.items ≡ columns program.now) }
-    ensures taken { Writes result (K.taken out.old) (K.taken out.new)
-        (buffer.old ++ held_lines program.now.column_names (option_map (printed_held program.now) held.now)) buffer.new }
-    ensures later { K.faults out.old ≤ K.faults out.new }
-    ensures cause { OnErr result (Rose (K.faults out.old) (K.faults out.new)) }
+    ensures taken { Writes result (K.tells out.old) (K.tells out.new)
+        (buffer.old ++ held_lines program.now.column_names (option_map (printed_held program.now) held.now))
+        buffer.new }
+    ensures faults { CountsFaults result (K.tells out.old).faults (K.tells out.new).faults }
 {
     match held {
         Some(held) => write_point(out, buffer, program.column_names(), held.point.as_slice()),
@@ -159,10 +158,9 @@ fn write_answer<K: Sink>(
     answer: &Answer,
 ) -> Result<(), Failed>
     requires { IfSome answer.now.best (λ held. length held.point.items ≡ columns program.now) }
-    ensures taken { Writes result (K.taken out.old) (K.taken out.new)
+    ensures taken { Writes result (K.tells out.old) (K.tells out.new)
         (buffer.old ++ answer_text program.now.column_names (figures_of program.now answer.now)) buffer.new }
-    ensures later { K.faults out.old ≤ K.faults out.new }
-    ensures cause { OnErr result (Rose (K.faults out.old) (K.faults out.new)) }
+    ensures faults { CountsFaults result (K.tells out.old).faults (K.tells out.new).faults }
 {
     write_head(out, buffer, program, answer)?;
     write_held(out, buffer, program, &answer.best)?;
@@ -174,10 +172,9 @@ pub fn report<K: Sink>(program: &Program, answer: &Answer, out: &mut K) -> Resul
     requires fits { IfSome answer.now.best (λ held. length held.point.items ≡ columns program.now) }
     ensures taken { let text = answer_text program.now.column_names (figures_of program.now answer.now) in
         MatchResult result
-        (λ _. K.taken out.new ≡ append_known (K.taken out.old) text)
-        (λ _. PushesPart (K.taken out.old) (K.taken out.new) text) }
-    ensures later { K.faults out.old ≤ K.faults out.new }
-    ensures cause { OnErr result (Rose (K.faults out.old) (K.faults out.new)) }
+        (λ _. TakesAll (K.tells out.old) (K.tells out.new) text)
+        (λ _. PushesPart (K.tells out.old) (K.tells out.new) text) }
+    ensures faults { CountsFaults result (K.tells out.old).faults (K.tells out.new).faults }
 {
     let mut buffer = Buffer::new();
     write_answer(out, &mut buffer, program, answer)?;

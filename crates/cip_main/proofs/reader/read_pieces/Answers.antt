@@ -1,12 +1,15 @@
 use Rattle.std.proofs.Common.{◌≡◌, ◌≤◌, ◌+◌, ◌-◌, length, take, drop, min, rules, arith, length-append, length-drop, length-take, ◌∙◌}
 use Rattle.cip_problem.specs.Limits.{longest_text}
 use Rattle.cip_main.specs.Pulling.{most_pulled}
-use Rattle.cip_main.specs.declared.reader.TheConstants.{PIECE}
-use Rattle.cip_main.proofs.Readings.{all_read, too_long}
+use Rattle.cip_main.proofs.Readings.{reading_none, all_read, too_long}
 use Rattle.cip_main.proofs.reader.read_pieces.Goals as goal
 
 pub loop-pulled-init : goal.loop-pulled-init
-loop-pulled-init g c = record { in_range = omega arith; size = c.requires; reading = λ held r. r; later = omega arith }
+loop-pulled-init g c = record {
+  in_range = omega arith;
+  size = c.requires.room;
+  reading = reading_none c.args.reader.now (g.S.Store.tells c.args.store.now) c.requires.fresh;
+}
 
 pub loop-pulled-preserved : goal.loop-pulled-preserved
 loop-pulled-preserved g c =
@@ -20,26 +23,18 @@ loop-pulled-preserved g c =
     record {
       in_range = omega (arith, so_far.in_range, so_far.size, here, front, within);
       size = length-append c.read_piece.new.buffer (drop room c.loop-pulled.buffer) ∙ omega (arith, so_far.size, here, front, back, kept);
-      reading = λ held r. (c.in_ok-count.ensures.read held c.loop-pulled.pulled (so_far.reading held r)).reading;
-      later = omega (arith, so_far.later, c.in_ok-count.ensures.later);
+      reading = (c.in_ok-count.ensures.read (g.S.Store.tells c.args.store.now) c.loop-pulled.pulled so_far.reading).reading;
     }
 
 pub returns-then-count-eq0 : goal.returns-then-count-eq0
 returns-then-count-eq0 g c =
     let so_far = c.loop-pulled.invariant in
     let within : c.loop-pulled.pulled ≤ longest_text = omega (arith, c.loop-pulled-test.true) in
-    record {
-      read = λ held r. all_read c.read_piece.new.reader held _ c.loop-pulled.pulled within ((c.in_ok-count.ensures.read held c.loop-pulled.pulled (so_far.reading held r)).end c.if-count-eq0.true);
-      later = omega (arith, so_far.later, c.in_ok-count.ensures.later);
-      cause = tt;
-    }
+    all_read c.read_piece.new.reader (g.S.Store.tells c.args.store.now) _ c.loop-pulled.pulled c.in_ok-count.count within c.if-count-eq0.true
+    (c.in_ok-count.ensures.read (g.S.Store.tells c.args.store.now) c.loop-pulled.pulled so_far.reading)
 
 pub returns : goal.returns
 returns g c =
     let so_far = c.loop-pulled.invariant in
     let all : c.loop-pulled.pulled ≡ most_pulled = omega (arith, so_far.in_range, c.loop-pulled-test.false) in
-    record {
-      read = λ held r. too_long c.loop-pulled.reader held _ c.loop-pulled.pulled all (so_far.reading held r);
-      later = so_far.later;
-      cause = tt;
-    }
+    too_long c.loop-pulled.reader (g.S.Store.tells c.args.store.now) _ c.loop-pulled.pulled all so_far.reading

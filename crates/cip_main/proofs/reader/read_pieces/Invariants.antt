@@ -1,4 +1,4 @@
-use Rattle.std.proofs.Common.{◌≡◌, ◌≤◌, ◌-◌, length, List, Option, ℕ}
+use Rattle.std.proofs.Common.{◌≡◌, ◌≤◌, ◌-◌, length}
 use Rattle.cip_main.specs.Pulling.{most_pulled, IsReading}
 use Rattle.cip_main.specs.declared.reader.TheConstants.{PIECE}
 use Rattle.cip_main.proofs.reader.read_pieces.Given as goal
@@ -7,8 +7,7 @@ abbrev pub invariant-loop-pulled : goal.invariant-loop-pulled
 invariant-loop-pulled g l = record {
   in_range : l.pulled ≤ most_pulled;
   size : length l.buffer ≡ PIECE;
-  reading : (held : Option (List ℕ)) → IsReading l.fn.reader held (g.S.Store.left l.fn.store) 0 → IsReading l.reader held (g.S.Store.left l.store) l.pulled;
-  later : g.S.Store.faults l.fn.store ≤ g.S.Store.faults l.store;
+  reading : IsReading l.reader (g.S.Store.tells l.fn.store) (g.S.Store.tells l.store) l.pulled;
 }
 
 abbrev pub decreases-loop-pulled : goal.decreases-loop-pulled

@@ -5,4 +5,4 @@ pub tell-requires : goal.tell-requires
 tell-requires g c = answer_fits c.args.program.now _ _ c.search-answer.result c.requires c.search-answer.ensures.searched
 
 pub returns : goal.returns
-returns g c = answers_of c.args.program.now _ _ c.search-answer.result _ _ _ _ _ c.search-answer.ensures.searched c.tell.ensures c.search-answer.ensures.point
+returns g c = answers_of c.args.program.now _ _ c.search-answer.result _ _ _ c.search-answer.ensures.searched c.tell.ensures c.search-answer.ensures.point

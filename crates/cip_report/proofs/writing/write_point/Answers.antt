@@ -1,4 +1,4 @@
-use Rattle.std.proofs.Common.{take, arith, append_assoc, add-one}
+use Rattle.std.proofs.Common.{◌∙◌, take, append_assoc, add-one}
 use Rattle.cip_numerals.specs.NumberText.{fraction_text}
 use Rattle.cip_answers.specs.Figures.{line, point_lines}
 use Rattle.cip_report.proofs.WritingLemmas.{point_parts, point_lines-more, second_of_three, Passes-more}
@@ -16,5 +16,5 @@ loop-number-preserved g c =
     let more = point_lines-more c.args.names.now c.args.point.now c.loop-number.number c.name.result.now c.index-point-number.result c.loop-number-test.true c.name.ensures c.index-point-number.is in
     let texts = append_assoc c.args.buffer.now (point_lines (take c.loop-number.number c.args.names.now) (take c.loop-number.number c.args.point.now)) (line c.name.result.now (fraction_text c.index-point-number.result)) in (
       rw (add-one, more, ← texts) (Passes-more _ _ _ _ _ _ _ old.0 c.in_ok-write_number.ensures.taken),
-      omega (arith, old.1, c.in_ok-write_number.ensures.later),
+      c.in_ok-write_number.ensures.faults.0 ∙ old.1,
     )
