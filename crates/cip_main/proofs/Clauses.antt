@@ -11,13 +11,13 @@ use Rattle.cip_syntax.specs.Figures.{Status, Optimal, NodeLimit, NoMemory, exit_
 use Rattle.cip_syntax.specs.ThinText.{IsThin}
 use Rattle.cip_syntax.specs.ThinText.Parts.{one_program}
 use Rattle.cip_main.specs.Answering.{node_limit, IsLogged}
-use Rattle.cip_main.specs.Running.{Call, Tells, IsPulledWhole, IsUsage, IsReadFault, IsRefused, IsNoMemory, IsAnswered, Ran, refuses_words, fails_to_read, refuses_text, lacks_memory, gives_answer, IsStatus, optimal, usage, read_fault, refused, write_fault, no_memory, spent, TellsTruth, Headline, UsageClause, ReadFaultClause, RefusedClause, WriteFaultClause, SpentLog, NodeLimitClause, MemoryClause, Runs, Asks}
+use Rattle.cip_main.specs.Running.{Call, TellsText, IsPulledWhole, IsUsage, IsReadFault, IsRefused, IsNoMemory, IsAnswered, Ran, refuses_words, fails_to_read, refuses_text, lacks_memory, gives_answer, IsStatus, optimal, usage, read_fault, refused, write_fault, no_memory, spent, TellsTruth, Headline, UsageClause, ReadFaultClause, RefusedClause, WriteFaultClause, SpentLog, NodeLimitClause, MemoryClause, Runs, Asks}
 
 -- the status is this one, or 5 after a fault of the sink
 record StatusIs (call : Call) (status : ℕ) : Type 0 where
   either : (call.status ≡ status) ⊎ ((call.status ≡ 5) × Rose call.sink.faults call.sink_after.faults)
 
-status_is : (call : Call) (text : List ℕ) (status : ℕ) → Tells call text status → StatusIs call status
+status_is : (call : Call) (text : List ℕ) (status : ℕ) → TellsText call text status → StatusIs call status
 status_is call text status (inl h) = record { either = inl h.exit }
 status_is call text status (inr h) = record { either = inr (h.exit, h.cause) }
 

@@ -55,8 +55,8 @@ sink_tells taken faults = record { taken = taken; faults = faults }
 
 -- the sink took exactly this text, and the status is this one; or the sink failed, the status is 5, and it took a
 -- front part of the text
-abbrev pub Tells : Call → (text : List ℕ) → (status : ℕ) → Type 0
-Tells call text status =
+abbrev pub TellsText : Call → (text : List ℕ) → (status : ℕ) → Type 0
+TellsText call text status =
     Says call.sink.taken call.sink_after.taken call.sink.faults call.sink_after.faults text status call.status
 
 -- the text was pulled to its end, or to the first byte too many
@@ -66,27 +66,27 @@ IsPulledWhole call text = IsAllPulled text call.store_after.left
 -- the words are not accepted: nothing is pulled
 pub record IsUsage (call : Call) : Type 0 where
   pub no_job : call.job ≡ None
-  pub tells : Tells call usage_text 2
+  pub tells : TellsText call usage_text 2
   pub untouched : call.store_after.left ≡ call.store.left
   pub no_fault : call.store_after.faults ≡ call.store.faults
   pub no_search : call.logs_after ≡ call.logs
 
 -- the store failed
 pub record IsReadFault (call : Call) : Type 0 where
-  pub tells : Tells call read_fault_text 3
+  pub tells : TellsText call read_fault_text 3
   pub rose : Rose call.store.faults call.store_after.faults
   pub no_search : call.logs_after ≡ call.logs
 
 -- the text is not thin
 pub record IsRefused (call : Call) (text : Option (List ℕ)) : Type 0 where
-  pub tells : Tells call not_thin_text 4
+  pub tells : TellsText call not_thin_text 4
   pub not_thin : IfSome text (λ bytes. (program : Program) → ¬ IsThin bytes program)
   pub pulled : IsPulledWhole call text
   pub no_search : call.logs_after ≡ call.logs
 
 -- want of memory is answered, without figures; nothing ties this answer to a refused growth, or to a moment of the call
 pub record IsNoMemory (call : Call) : Type 0 where
-  pub tells : Tells call no_memory_text 6
+  pub tells : TellsText call no_memory_text 6
   pub no_search : call.logs_after ≡ call.logs
 
 -- true figures of the program were told to the sink
