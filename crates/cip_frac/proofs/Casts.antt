@@ -1,9 +1,9 @@
 -- Short products and quotients: what the code computes over 64 bits is the number meant.
-use Rattle.std.proofs.Common.{◌≡◌, ℕ, ◌*◌, ◌<◌, ◌≤◌, ◌^◌, ◌*ℤ◌, ℤ, pos, unsigned_abs, neg_ℤ, negsuc, ◌/◌, ◌-ℤ◌, FitsSigned, to_z, of_z, arith, ap, lit<, sym, ◌∙◌}
-use Rattle.std.specs.Int.{w64, w128, int_div_euclid}
+use Rattle.std.proofs.Common.{◌≡◌, ℕ, ◌*◌, ◌<◌, ◌≤◌, ◌^◌, ◌*ℤ◌, ℤ, pos, unsigned_abs, neg_ℤ, ◌-ℤ◌, FitsSigned, to_z, of_z, arith, ap, lit<, sym, ◌∙◌}
+use Rattle.std.specs.Int.{w64, w128}
 use Rattle.std.specs.Prelude.{int_div}
 use Rattle.std.proofs.lemmas.Int.{ints, fits_signed_mul, to_z-of_z, fits_signed_from_abs, quot_is, quot_fits}
-use Rattle.std.proofs.Math.Nat.{mul-le-mul, div-one, div-le_self}
+use Rattle.std.proofs.Math.Nat.{mul-le-mul}
 
 bounded_square : (m n : ℕ) → m < 2 ^ 63 → n < 2 ^ 63 → m * n < 2 ^ 127
 bounded_square m n p q = let a : m ≤ 2 ^ 63 = omega arith in let b : n ≤ 2 ^ 63 = omega arith in let h : m * n ≤ 2 ^ 63 * 2 ^ 63 = mul-le-mul a b in omega arith
@@ -34,14 +34,6 @@ quotient_is_short a g fa p some small =
 
 pub negated : (n : ℤ) → unsigned_abs n < 2 ^ 127 → to_z w128 (of_z w128 (pos 0 -ℤ to_z w128 (of_z w128 n))) ≡ neg_ℤ n
 negated n h = omega (arith, ints)
-
-pub floor-one : (a : ℤ) → a ≡ int_div_euclid a (pos 1)
-floor-one (pos n) = ap pos (sym (div-one n))
-floor-one (negsuc n) = ap negsuc (sym (div-one n))
-
-pub floor_no_greater : (a : ℤ) (g : ℕ) → 0 < g → unsigned_abs (int_div_euclid a (pos g)) ≤ unsigned_abs a
-floor_no_greater (pos n) g some = let e : n / g ≤ n = div-le_self n g in omega arith
-floor_no_greater (negsuc n) g some = let e : n / g ≤ n = div-le_self n g in omega arith
 
 pub kept : (n : ℤ) → unsigned_abs n < 2 ^ 127 → to_z w128 (of_z w128 n) ≡ n
 kept n h = omega (arith, ints)

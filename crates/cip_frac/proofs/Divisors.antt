@@ -3,7 +3,7 @@ use Rattle.std.proofs.Common.{◌≡◌, ℕ, zero, suc, ◌+◌, ◌*◌, ◌/�
 use Rattle.std.specs.Int.{IsGcd}
 use Prim.Native.Nat.{◌∣◌}
 use Rattle.std.proofs.lemmas.Nat.Gcd.{dvd_refl, dvd-zero, dvd_trans, IsGcd-swap, le_of_dvd}
-use Rattle.std.proofs.Math.Nat.{dvd-mul_left, dvd-mul_left_of_dvd, dvd-mul_right_of_dvd, mul-dvd-mul_left, mul-dvd-mul_right, dvd_of_mul-dvd-mul_right, dvd-add_iff_left, dvd-add_iff_right, dvd-mod_iff, mul_comm, mul-one, one-mul, one-dvd, div-mul_cancel, div-add-mod}
+use Rattle.std.proofs.Math.Nat.{dvd-mul_left, dvd-mul_left_of_dvd, dvd-mul_right_of_dvd, mul-dvd-mul_left, mul-dvd-mul_right, dvd_of_mul-dvd-mul_right, dvd-add_iff_right, dvd-mod_iff, mul_comm, mul-one, one-mul, one-dvd, div-mul_cancel, div-add-mod}
 
 -- a and b have no common divisor but 1
 abbrev pub IsCoprime : ℕ → ℕ → Type 0
@@ -76,15 +76,6 @@ gcd-product t m g r h k = (
   dvd-mul_left_of_dvd r k.1 m,
   λ e p q.
       k.2 e p (divides_other e m g (coprime_from_divisors t m e m h p (dvd_refl m)) q),
-)
-
--- a sum, one of whose parts a number divides, shares with that number what the other part does
-pub coprime-sum : (s u m : ℕ) → m ∣ u → IsCoprime s m → IsCoprime (s + u) m
-coprime-sum s u m p h = (
-  one-dvd (s + u),
-  one-dvd m,
-  λ e q r.
-      h.2 e ((dvd-add_iff_left e (dvd_trans e r p)).1 q) r,
 )
 
 pub positive_from_IsGcd : (a b g : ℕ) → 0 < b → IsGcd a b g → 0 < g

@@ -6,8 +6,8 @@ pub mod Halves
 pub mod Outcomes
 pub mod Products
 pub mod Quotients
+pub mod SumParts
 pub mod SumSteps
-pub mod Sums
 pub mod TextParts
 pub mod WholeNumbers
 pub mod WholeSizes

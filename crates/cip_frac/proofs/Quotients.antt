@@ -9,7 +9,7 @@ use Rattle.cip_rational.specs.Rational.{◌*ℚ◌, ratio, integer, inverse, num
 use Rattle.cip_rational.specs.Rational.Ratio.{integer_ratio, ratio-mul, ratio-cancel}
 use Rattle.cip_rational.specs.Rational.Lowest.{numerator-integer, denominator-integer, inverse-pos, inverse-negsuc}
 use Rattle.cip_rational.specs.Range.{largest, fits_range}
-use Rattle.cip_frac.specs.Fault.{quotient_of}
+use Rattle.cip_frac.specs.FractionFault.{quotient_of}
 use Rattle.cip_frac.specs.LowestTerms.{AreLowest}
 use Rattle.cip_frac.proofs.Casts.{kept}
 use Rattle.cip_frac.proofs.Divisors.{IsCoprime, coprime_quotients, positive_from_IsGcd}

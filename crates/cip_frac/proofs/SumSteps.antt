@@ -12,7 +12,7 @@ use Rattle.cip_rational.proofs.Integers.{gcd_one, times_one}
 use Rattle.cip_frac.specs.LowestTerms.{AreLowest}
 use Rattle.cip_frac.proofs.Casts.{kept}
 use Rattle.cip_frac.proofs.Divisors.{gcd_below, positive_from_IsGcd}
-use Rattle.cip_frac.proofs.Sums.{first_large, second_large, total_large, common_large, none_large, some, some_rest, u_is, sum_coprime, sum_ratio}
+use Rattle.cip_frac.proofs.SumParts.{first_large, second_large, total_large, common_large, none_large, some, some_rest, u_is, sum_coprime, sum_ratio}
 
 -- z, to its bits and back
 abbrev pub read : ℤ → ℤ

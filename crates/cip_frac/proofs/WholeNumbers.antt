@@ -8,7 +8,7 @@ use Rattle.cip_rational.proofs.Integers.{gcd_one, times_one}
 use Rattle.cip_frac.specs.LowestTerms.{AreLowest}
 use Rattle.cip_frac.proofs.Casts.{kept}
 use Rattle.cip_frac.proofs.Fields.{AreLowest-whole}
-use Rattle.cip_frac.proofs.Sums.{total_large, none_large, sum_ratio}
+use Rattle.cip_frac.proofs.SumParts.{total_large, none_large, sum_ratio}
 use Rattle.cip_frac.proofs.Products.{product_large, products_fit, product_ratio}
 use Rattle.cip_frac.proofs.SumSteps.{read}
 
@@ -19,9 +19,6 @@ option_map (Some v) f g h = g v h
 -- a whole number that is below 2 ^ 127 is what the code makes of it
 pub made_lowest : (z r : ℤ) → (unsigned_abs z < 2 ^ 127) × (r ≡ z) → AreLowest (read r) 1
 made_lowest z r h = let e : read r ≡ z = ap read h.1 ∙ kept z h.0 in rw e (AreLowest-whole z h.0)
-
-pub made_ratio : (z r : ℤ) → (unsigned_abs z < 2 ^ 127) × (r ≡ z) → ratio (read r) 1 ≡ ratio z 1
-made_ratio z r h = ap (λ n. ratio n 1) (ap read h.1 ∙ kept z h.0)
 
 -- the same for a product
 pub made_product : (z w r : ℤ) → (unsigned_abs z * unsigned_abs w < 2 ^ 127) × (r ≡ z *ℤ w) → AreLowest (read r) 1

@@ -10,7 +10,7 @@ use Rattle.cip_rational.specs.Rational.Lowest.{numerator-integer, denominator-in
 use Rattle.cip_rational.specs.Rational.Rounding.{integer-add, integer-mul, integer-zero}
 use Rattle.cip_rational.specs.Gcd.{gcd, gcd_unique}
 use Rattle.cip_rational.specs.Range.{largest, magnitude, sum_overflows, product_overflows, raised}
-use Rattle.cip_rational.specs.Range.Laws.{least_common, sum_in, fits_product, fits-integer}
+use Rattle.cip_rational.specs.Range.InRange.{least_common, sum_in, fits_product, fits-integer}
 use Rattle.cip_rational.proofs.Integers.{gcd_one, times_one}
 use Rattle.cip_frac.specs.declared.operations.Wide.{Wide}
 use Rattle.cip_frac.specs.Outcomes.{sum_outcome, and_then, product_added, dot_from}

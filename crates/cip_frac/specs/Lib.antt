@@ -1,4 +1,4 @@
-pub mod Fault
+pub mod FractionFault
 pub mod LowestTerms
 pub mod Order
 pub mod Outcomes

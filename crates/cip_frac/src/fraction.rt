@@ -3,7 +3,7 @@ ghost use Rattle.std.specs.Prelude.{◌≡◌, ◌≢◌, ℕ, ℤ, ◌<◌, ◌
 ghost use Rattle.std.specs.Int.{IsGcd};
 ghost use Rattle.cip_rational.specs.Rational.{ℚ, ◌<ℚ◌, negate, inverse, absolute, integer, ratio, zeroℚ, oneℚ, numerator, denominator, IsWhole, floor, ceil};
 ghost use Rattle.cip_rational.specs.Range.{largest, magnitude, fits_range};
-ghost use Rattle.cip_frac.specs.Fault.{quotient_of, IsFaultOf};
+ghost use Rattle.cip_frac.specs.FractionFault.{quotient_of, IsFaultOf};
 
 use crate::bounded::{LARGEST, floor_part_of};
 use crate::gcd::gcd;

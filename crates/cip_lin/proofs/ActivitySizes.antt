@@ -7,7 +7,7 @@ use Rattle.cip_frac.specs.Outcomes.{product_added}
 use Rattle.cip_frac.proofs.WholeSizes.{IsWithin, IsOkWithin, within_added, then_within}
 use Rattle.cip_problem.specs.Program.{Term}
 use Rattle.cip_problem.specs.Activity.{value_at}
-use Rattle.cip_lin.specs.Sums.{activity_from}
+use Rattle.cip_lin.specs.RowSums.{activity_from}
 
 -- coefficients of size at most m stand on values of size at most n
 abbrev pub TermsWithin : ℕ → ℕ → List Term → List ℚ → Type 0

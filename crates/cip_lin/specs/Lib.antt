@@ -1,2 +1,2 @@
-pub mod Faults
-pub mod Sums
+pub mod RowFaults
+pub mod RowSums

@@ -2,7 +2,7 @@
 ghost use Rattle.std.specs.Prelude.{◌≡◌, length};
 ghost use Rattle.cip_rational.specs.Rational.{zeroℚ};
 ghost use Rattle.cip_problem.specs.Activity.{StandsBelow};
-ghost use Rattle.cip_lin.specs.Sums.{least_side, least_added, least_from};
+ghost use Rattle.cip_lin.specs.RowSums.{least_side, least_added, least_from};
 
 use crate::boxes::{Bounds, Sides};
 use crate::outcomes::Least;

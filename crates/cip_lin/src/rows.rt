@@ -3,8 +3,8 @@ ghost use Rattle.std.specs.Prelude.{◌≡◌, ◌++◌, ◌∷◌, [], length, 
 ghost use Rattle.cip_rational.specs.Rational.{zeroℚ};
 ghost use Rattle.cip_problem.specs.Activity.{StandsBelow, activity};
 ghost use Rattle.cip_problem.specs.RowTerms.{AreTerms, no_term};
-ghost use Rattle.cip_lin.specs.Faults.{CanStandAfter, IsAppendFault, IsBuildFault};
-ghost use Rattle.cip_lin.specs.Sums.{activity_from};
+ghost use Rattle.cip_lin.specs.RowFaults.{CanStandAfter, IsAppendFault, IsBuildFault};
+ghost use Rattle.cip_lin.specs.RowSums.{activity_from};
 
 use cip_frac::{Frac, Wide};
 use smallvec::SmallVec;

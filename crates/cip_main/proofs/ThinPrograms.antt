@@ -8,8 +8,8 @@ use Rattle.cip_io.specs.Sink.{SinkTells}
 use Rattle.cip_problem.specs.Program.{Program}
 use Rattle.cip_problem.specs.Points.{IsFeasible, IsLowerBound}
 use Rattle.cip_problem.specs.BoxBound.{box_bound}
-use Rattle.cip_problem.specs.BoxBound.Laws.{root_bound_holds}
-use Rattle.cip_problem.specs.Points.Laws.{IsInBox-long}
+use Rattle.cip_problem.specs.BoxBound.BelowCosts.{root_bound_holds}
+use Rattle.cip_problem.specs.Points.AtPlaces.{IsInBox-long}
 use Rattle.cip_problem.specs.WellFormed.{columns}
 use Rattle.cip_problem.specs.Wholes.{HasWholeSides}
 use Rattle.cip_syntax.specs.ThinText.{IsThin}

@@ -5,7 +5,7 @@ use Rattle.cip_frac.specs.Order.{same_rational}
 use Rattle.cip_problem.specs.Program.{Sides}
 use Rattle.cip_lin.specs.declared.outcomes.Least.{Least}
 use Rattle.cip_lin.specs.declared.outcomes.Least.TheVariants.{Value}
-use Rattle.cip_lin.specs.Sums.{least_added, least_then}
+use Rattle.cip_lin.specs.RowSums.{least_added, least_then}
 
 -- a column without a cost adds nothing, whatever its sides
 abbrev pub column_added : ℚ → ℚ → Sides → Least

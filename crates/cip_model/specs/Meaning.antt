@@ -9,7 +9,7 @@ use Rattle.cip_problem.specs.Box.{Between, sides_at}
 use Rattle.cip_problem.specs.Points.{IsSatisfied, IsFeasible, cost_of}
 use Rattle.cip_problem.specs.WellFormed.{columns}
 use Rattle.cip_frac.specs.Outcomes.{dot_from}
-use Rattle.cip_lin.specs.Sums.{activity_from}
+use Rattle.cip_lin.specs.RowSums.{activity_from}
 use Rattle.cip_lin.specs.declared.outcomes.Least.{Least}
 use Rattle.cip_lin.specs.declared.outcomes.Least.TheVariants.{Value, NoBound, Wide as TooWide}
 use Rattle.cip_model.specs.declared.verdicts.Place.{Place}

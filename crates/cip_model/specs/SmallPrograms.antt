@@ -18,7 +18,7 @@ use Rattle.cip_problem.specs.Limits.{most_columns}
 use Rattle.cip_frac.specs.Outcomes.{product_added}
 use Rattle.cip_frac.proofs.WholeSizes.{IsWithin, IsOkWithin, zero_within, more_within, within_added, within_dot}
 use Rattle.cip_lin.proofs.ActivitySizes.{TermsWithin, within_activity}
-use Rattle.cip_lin.specs.Sums.{activity_from, least_added, least_then, least_of}
+use Rattle.cip_lin.specs.RowSums.{activity_from, least_added, least_then, least_of}
 use Rattle.cip_lin.specs.declared.outcomes.Least.{Least}
 use Rattle.cip_lin.specs.declared.outcomes.Least.TheVariants.{Value, NoBound, Wide as TooWide}
 use Rattle.cip_model.specs.declared.verdicts.Place.{Place}

@@ -5,7 +5,7 @@ use Rattle.cip_frac.specs.declared.operations.Wide.{Wide as Overflow}
 use Rattle.cip_problem.specs.Program.{Sides, Row, Program}
 use Rattle.cip_problem.specs.Box.{is_between}
 use Rattle.cip_frac.specs.Outcomes.{dot_from}
-use Rattle.cip_lin.specs.Sums.{activity_from}
+use Rattle.cip_lin.specs.RowSums.{activity_from}
 use Rattle.cip_model.specs.declared.verdicts.Place.TheVariants.{Row as AtRow, Cost}
 use Rattle.cip_model.specs.declared.verdicts.Verdict.{Verdict}
 use Rattle.cip_model.specs.declared.verdicts.Verdict.TheVariants.{Feasible, BreaksBound, BreaksWhole, BreaksRow, Wide}

@@ -5,7 +5,7 @@ ghost use Rattle.cip_model.specs.Verdicts.{first_outside, first_not_whole, first
 ghost use Rattle.cip_model.specs.Least.{column_added, least_cost_from};
 ghost use Rattle.cip_frac.specs.Outcomes.{dot_from};
 ghost use Rattle.cip_problem.specs.Limits.{most_rows, most_columns};
-ghost use Rattle.cip_lin.specs.Sums.{activity_from};
+ghost use Rattle.cip_lin.specs.RowSums.{activity_from};
 ghost use Rattle.cip_rational.specs.Rational.{zeroℚ, is_whole};
 
 use crate::verdicts::{Place, Verdict};

@@ -8,9 +8,7 @@ mod parts;
 mod programs;
 mod verdicts;
 
-pub use limits::{
-    LONGEST_NAME, LONGEST_TEXT, MOST_COLUMNS, MOST_ENTRIES, MOST_ROWS, limits_agree,
-};
+pub use limits::{LONGEST_NAME, LONGEST_TEXT, MOST_COLUMNS, MOST_ENTRIES, MOST_ROWS, limits_agree};
 pub use names::Names;
 pub use parts::{Parts, Sense};
 pub use programs::Program;

@@ -49,7 +49,7 @@ impl Names {
         self.keys.is_empty()
     }
 
-    /// The number of a name.
+    /// The number of a name, from 0, or `None` where it is not there.
     pub fn find(&self, name: &[u8]) -> Option<usize>
         ensures number { result ≡ number_of self.now name.now }
         ensures within { IfSome result (λ number. number < length self.now) }
@@ -57,7 +57,7 @@ impl Names {
         self.keys.get_index_of(name)
     }
 
-    /// The name of this number.
+    /// The name of this number, which is below their number.
     pub fn name(&self, number: usize) -> &[u8]
         requires { number < length self.now }
         ensures { slice_get self.now number ≡ Some result.now }
@@ -65,7 +65,8 @@ impl Names {
         self.keys.as_slice()[number].as_slice()
     }
 
-    /// Puts a name that is not there yet at the end; an `Err` changes nothing.
+    /// Puts a name that is not there yet at the end. `Err` comes where a growth was refused, and
+    /// changes nothing.
     pub fn add(&mut self, name: Vec<u8>) -> Result<(), AllocError>
         requires { number_of self.old name.items ≡ None }
         ensures ok { OnOk result (self.new ≡ self.old ++ name.items ∷ []) }

@@ -6,7 +6,9 @@ use cip_lin::{Bounds, Row};
 /// Which way the cost is to go.
 #[derive(Clone, Copy, Debug, PartialEq, Eq)]
 pub enum Sense {
+    /// As low as can be.
     Minimize,
+    /// As high as can be; the minimised form has the negated cost.
     Maximize,
 }
 
@@ -14,12 +16,20 @@ pub enum Sense {
 /// minimised form; `whole` says of each column whether it takes whole values only.
 #[derive(Debug, Drop)]
 pub struct Parts {
+    /// The names of the columns, at most `MOST_COLUMNS`.
     pub column_names: Names,
+    /// The names of the rows, at most `MOST_ROWS`.
     pub row_names: Names,
+    /// The rows, each over columns of the program.
     pub rows: Vec<Row>,
+    /// The cost of each column.
     pub costs: Vec<Frac>,
+    /// What is added to the sum of the costs.
     pub constant: Frac,
+    /// Which way the cost goes in the text.
     pub sense: Sense,
+    /// Whether each column takes whole values only.
     pub whole: Vec<bool>,
+    /// The sides of each column.
     pub bounds: Bounds,
 }

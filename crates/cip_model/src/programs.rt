@@ -15,8 +15,8 @@ use cip_frac::Frac;
 use cip_lin::{Bounds, Least, Row};
 use std::marker::Model;
 
-/// A program: rows and columns by number, at most 65,536 of each. Costs and the constant are those
-/// of the minimised form.
+/// A program: rows and columns by number from 0, at most `MOST_ROWS` and `MOST_COLUMNS`. Costs and
+/// the constant are those of the minimised form.
 #[derive(Debug, Drop)]
 pub struct Program {
     parts: Parts,
@@ -46,7 +46,7 @@ impl Program {
         Program { parts }
     }
 
-    /// The number of columns.
+    /// The number of columns, at most `MOST_COLUMNS`.
     pub fn columns(&self) -> usize
         ensures count { result ≡ columns self.now }
         ensures formed { IsWellFormed self.now }
@@ -70,7 +70,7 @@ impl Program {
         &self.parts.row_names
     }
 
-    /// The rows.
+    /// The rows by number, at most `MOST_ROWS`.
     pub fn rows(&self) -> &[Row]
         ensures rows { result.now ≡ self.now.rows }
         ensures formed { IsWellFormed self.now }
@@ -93,7 +93,7 @@ impl Program {
         self.parts.constant
     }
 
-    /// Which way the cost is to go.
+    /// Which way the cost is to go in the text.
     pub fn sense(&self) -> Sense
         ensures { is_maximize result ≡ self.now.maximized }
     {
@@ -138,7 +138,9 @@ impl Program {
         }
     }
 
-    /// The constant and the least cost of each column in a box, by rising column.
+    /// The constant and the least cost of each column in a box, by rising column, in the minimised
+    /// form: `NoBound` or `Wide`, whichever the first column that has no least cost answers. A column
+    /// without a cost adds nothing. The box has a column for each of the program.
     pub fn box_bound(&self, bounds: &Bounds) -> Least
         requires { length bounds.now ≡ columns self.now }
         ensures steps { result ≡ least_cost_from self.now.constant self.now.costs bounds.now }

@@ -4,7 +4,9 @@ use cip_frac::Frac;
 /// Where an operation overflows: in the sum of a row, or in that of the cost.
 #[derive(Clone, Copy, Debug, PartialEq, Eq)]
 pub enum Place {
+    /// The row of this number, from 0.
     Row(u32),
+    /// The cost.
     Cost,
 }
 
@@ -14,12 +16,12 @@ pub enum Place {
 pub enum Verdict {
     /// The point is feasible, at this cost of the minimised form.
     Feasible(Frac),
-    /// The value of this column is outside its sides.
+    /// The value of this column, by its number from 0, is the first outside its sides.
     BreaksBound { col: u32 },
-    /// This whole column has a value that is not whole.
+    /// This whole column, by its number from 0, is the first with a fractional value.
     BreaksWhole { col: u32 },
-    /// The activity of this row, `value`, is outside its sides.
+    /// The activity of this row, by its number from 0, is `value` and outside its sides.
     BreaksRow { row: u32, value: Frac },
-    /// A sum overflows.
+    /// The sum of this place overflows: it settles nothing of the point.
     Wide { place: Place },
 }

@@ -37,8 +37,8 @@ fraction_text x = integer_text (numerator x) ++ denominator_text (denominator x)
 -- ---- what a text gives back
 
 -- the number of a text of digits
-number_of : List ℕ → ℕ
-number_of text = number_from_digits 10 (map (λ c. c - 48) text)
+natural_of : List ℕ → ℕ
+natural_of text = number_from_digits 10 (map (λ c. c - 48) text)
 
 back : (ds : List ℕ) → map (λ c. c - 48) (map (λ d. 48 + d) ds) ≡ ds
 back [] = refl
@@ -46,13 +46,13 @@ back (d ∷ ds) =
     let e : 48 + d - 48 ≡ d = omega arith in
     ap (λ n. n ∷ map (λ c. c - 48) (map (λ d. 48 + d) ds)) e ∙ ap (λ l. d ∷ l) (back ds)
 
-number_of_text : (n : ℕ) → number_of (natural_text n) ≡ n
-unfolding number_of
-number_of_text zero = refl
-number_of_text (suc n) = ap (number_from_digits 10) (back (digits_of 10 (suc n))) ∙ number_digits_of 10 (suc n) (lit≤ tt)
+natural_of_text : (n : ℕ) → natural_of (natural_text n) ≡ n
+unfolding natural_of
+natural_of_text zero = refl
+natural_of_text (suc n) = ap (number_from_digits 10) (back (digits_of 10 (suc n))) ∙ number_digits_of 10 (suc n) (lit≤ tt)
 
 pub natural_text_injective : (m n : ℕ) → natural_text m ≡ natural_text n → m ≡ n
-natural_text_injective m n e = sym (number_of_text m) ∙ ap number_of e ∙ number_of_text n
+natural_text_injective m n e = sym (natural_of_text m) ∙ ap natural_of e ∙ natural_of_text n
 
 -- ---- the bytes
 

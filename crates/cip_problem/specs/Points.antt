@@ -1,6 +1,6 @@
 -- Points of a program: which are feasible, and what they cost (constraint integer programs; Achterberg 2007).
 -- A point is a list of one value for each column. The module below has the laws.
-pub mod Laws
+pub mod AtPlaces
 use Rattle.std.specs.Prelude.{◌≡◌, Bool, true, List, if◌then◌else◌}
 use Rattle.std.specs.List.{AllZip, AllByRecursion}
 use Rattle.cip_rational.specs.Rational.{ℚ, ◌+ℚ◌, ◌≤ℚ◌, ◌<ℚ◌, negate, IsWhole}
@@ -31,16 +31,6 @@ cost_of program point = program.constant +ℚ dot program.costs point
 abbrev pub printed : Program → ℚ → ℚ
 printed program figure = if program.maximized then negate figure else figure
 
--- no point is feasible
-abbrev pub IsInfeasible : Program → Type 0
-IsInfeasible program = (point : List ℚ) → ¬ IsFeasible program point
-
 -- no feasible point costs less than b
 abbrev pub IsLowerBound : Program → ℚ → Type 0
 IsLowerBound program b = (point : List ℚ) → IsFeasible program point → b ≤ℚ cost_of program point
-
--- some feasible point costs less than b
-pub record HasBelow (program : Program) (b : ℚ) : Type 0 where
-  pub point : List ℚ
-  pub feasible : IsFeasible program point
-  pub cheaper : cost_of program point <ℚ b

@@ -1,28 +1,12 @@
 -- The definitions tried on values.
 use Rattle.std.proofs.Common.{◌≡◌, ℕ, ◌+◌, ◌-◌, ◌*◌, ◌/◌, ◌^◌, Bool, true, false, not, ◌&&◌, ◌||◌, nat_lt, nat_le, ◌+ℤ◌, ◌*ℤ◌, lit<, ℤ, pos, negsuc, refl, sym, ap, ◌∙◌, zero-lt-suc}
 use Rattle.cip_rational.specs.Gcd.{gcd}
-use Rattle.cip_rational.specs.Rational.{ℚ, ◌+ℚ◌, ◌*ℚ◌, ratio, integer, numerator, denominator, floor, ceil}
+use Rattle.cip_rational.specs.Rational.{ℚ, ◌*ℚ◌, ratio, integer, numerator, denominator, floor, ceil}
 use Rattle.cip_rational.specs.Rational.Lowest.{numerator-ratio, denominator-ratio, numerator-integer, denominator-integer}
 use Rattle.cip_rational.specs.Rational.Whole.{floor-ratio, ceil-ratio}
 use Rattle.cip_rational.specs.Range.{largest, magnitude, too_large, fits_range, sum_overflows, product_overflows}
-use Rattle.cip_rational.specs.Rational.Ratio.{ratio-add, ratio-mul, ratio_same, integer_ratio}
+use Rattle.cip_rational.specs.Rational.Ratio.{ratio-mul, ratio_same, integer_ratio}
 use Rattle.cip_rational.specs.Rational.Rounding.{integer-mul}
-
-largest_is : largest + 1 ≡ 2 ^ 127
-largest_is = refl
-
-gcd_value : gcd (2 ^ 64) 48 ≡ 16
-unfolding gcd
-gcd_value = refl
-
--- 6 / 4 is 3 / 2, and -6 / 4 is -3 / 2
-reduced : (numerator (ratio (pos 6) 4) ≡ pos 3) × (denominator (ratio (pos 6) 4) ≡ 2)
-unfolding gcd
-reduced = (numerator-ratio (pos 6) 4 (zero-lt-suc 3), denominator-ratio (pos 6) 4 (zero-lt-suc 3))
-
-reduced_negative : (numerator (ratio (negsuc 5) 4) ≡ negsuc 2) × (denominator (ratio (negsuc 5) 4) ≡ 2)
-unfolding gcd
-reduced_negative = (numerator-ratio (negsuc 5) 4 (zero-lt-suc 3), denominator-ratio (negsuc 5) 4 (zero-lt-suc 3))
 
 -- -1 / 2 lies between -1 and 0
 pub floor_half : floor (ratio (negsuc 0) 2) ≡ negsuc 0
@@ -53,9 +37,9 @@ unfolding gcd
 whole_sum_fits = sum_formed _ _ (pos (2 ^ 126)) (pos (2 ^ 126 - 1)) 1 1 (numerator-integer _) (denominator-integer _) (numerator-integer _) (denominator-integer _)
 
 -- (2 ^ 127 - 1) / 2 twice: the sum is whole, and overflows before it is reduced
-pub halves : sum_overflows (ratio (pos largest) 2) (ratio (pos largest) 2) ≡ true
+pub large_halves : sum_overflows (ratio (pos largest) 2) (ratio (pos largest) 2) ≡ true
 unfolding gcd
-halves =
+large_halves =
     let n : numerator (ratio (pos largest) 2) ≡ pos largest = numerator-ratio (pos largest) 2 (zero-lt-suc 1) in
     let d : denominator (ratio (pos largest) 2) ≡ 2 = denominator-ratio (pos largest) 2 (zero-lt-suc 1) in
     sum_formed _ _ (pos largest) (pos largest) 2 2 n d n d
@@ -75,9 +59,6 @@ small_sum =
     sum_formed _ _ (pos 1) (pos 1) 2 3
     (numerator-ratio (pos 1) 2 (lit< tt)) (denominator-ratio (pos 1) 2 (lit< tt))
     (numerator-ratio (pos 1) 3 (lit< tt)) (denominator-ratio (pos 1) 3 (lit< tt))
-
-small_sum_value : ratio (pos 1) 2 +ℚ ratio (pos 1) 3 ≡ ratio (pos 5) 6
-small_sum_value = ratio-add (pos 1) (pos 1) 2 3 (lit< tt) (lit< tt)
 
 -- ---- products
 

@@ -9,7 +9,7 @@ use Rattle.cip_rational.specs.Rational.Ring.{*ℚ-zero, zero-*ℚ}
 use Rattle.cip_rational.specs.Rational.Rounding.{integer-zero}
 use Rattle.cip_rational.specs.Rational.Lowest.{numerator-integer, denominator-integer}
 use Rattle.cip_rational.specs.Range.{fits_range, raised, sum_overflows, product_overflows}
-use Rattle.cip_rational.specs.Range.Laws.{fits_out, fits-zero, least_common, sum_in, fits_product}
+use Rattle.cip_rational.specs.Range.InRange.{fits_out, fits-zero, least_common, sum_in, fits_product}
 use Rattle.cip_rational.proofs.Integers.{gcd_one, times_one}
 
 numerator_zero : numerator zeroℚ ≡ pos 0

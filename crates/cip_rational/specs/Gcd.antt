@@ -1,8 +1,8 @@
 -- The greatest common divisor, by Euclid's steps.
 use Rattle.std.proofs.Common.{◌≡◌, ℕ, zero, suc, ◌*◌, ◌/◌, ◌%◌, ◌<◌, ◌≤◌, refl, sym, ap, ◌∙◌, mul_comm, subst, arith, mod-lt, zero-lt-suc}
 use Rattle.std.specs.Int.{IsGcd, ◌∣◌}
-use Rattle.std.proofs.lemmas.Nat.Gcd.{IsGcd-from_zero, IsGcd-from_mod, IsGcd-swap, same_from_IsGcd, dvd_antisymm, dvd_trans}
-use native.Mathlib.Nat.{dvd-one, mul-one, dvd-mul_left, dvd-mul_right, dvd_of_mul-dvd-mul_left, mul-dvd-mul_left, mul-div_cancel', pos_of_dvd_of_pos, eq_of_mul-eq-mul_left}
+use Rattle.std.proofs.lemmas.Nat.Gcd.{IsGcd-from_zero, IsGcd-from_mod, same_from_IsGcd, dvd_antisymm}
+use native.Mathlib.Nat.{mul-one, dvd-mul_left, dvd-mul_right, dvd_of_mul-dvd-mul_left, mul-dvd-mul_left, mul-div_cancel', pos_of_dvd_of_pos, eq_of_mul-eq-mul_left}
 
 -- what Euclid's algorithm comes to from a and b in that many steps
 abbrev euclid : ℕ → ℕ → ℕ → ℕ
@@ -28,9 +28,6 @@ gcd_lem a b = euclid_lem b a b (omega arith)
 -- whatever is a greatest common divisor is this one
 pub gcd_unique : (a b g : ℕ) → IsGcd a b g → gcd a b ≡ g
 gcd_unique a b g h = same_from_IsGcd a b (gcd a b) g (gcd_lem a b) h
-
-pub gcd_comm : (a b : ℕ) → gcd a b ≡ gcd b a
-gcd_comm a b = gcd_unique a b (gcd b a) (IsGcd-swap b a (gcd b a) (gcd_lem b a))
 
 pub gcd-pos : (a b : ℕ) → 0 < b → 0 < gcd a b
 gcd-pos a b h = pos_of_dvd_of_pos (gcd_lem a b).1 h
@@ -60,11 +57,3 @@ dvd_of_coprime g b c p e h =
     let m : gcd (c * g) (c * b) ≡ c = gcd-mul c g b p ∙ ap (λ t. c * t) e ∙ mul-one c in
     let h' : g ∣ c * b = subst (λ t. g ∣ t) (mul_comm b c) h in
     subst (λ t. g ∣ t) m ((gcd_lem (c * g) (c * b)).2 g (dvd-mul_left g c) h')
-
--- what has nothing in common with either factor has nothing in common with their product
-pub coprime-mul : (a b c : ℕ) → 0 < c → gcd a b ≡ 1 → gcd a c ≡ 1 → gcd a (b * c) ≡ 1
-coprime-mul a b c p e f =
-    let g : IsGcd a (b * c) (gcd a (b * c)) = gcd_lem a (b * c) in
-    let k : gcd (gcd a (b * c)) b ≡ 1 = dvd-one.0 (subst (λ t. gcd (gcd a (b * c)) b ∣ t) e ((gcd_lem a b).2 _ (dvd_trans _ (gcd_lem (gcd a (b * c)) b).0 g.0) (gcd_lem (gcd a (b * c)) b).1)) in
-    let d : gcd a (b * c) ∣ c = dvd_of_coprime (gcd a (b * c)) b c p k g.1 in
-    dvd-one.0 (subst (λ t. gcd a (b * c) ∣ t) f ((gcd_lem a c).2 _ g.0 d))

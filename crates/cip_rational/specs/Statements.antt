@@ -78,7 +78,7 @@ CombinationsHold =
 pub record Values : Type 0 where
   pub whole_sum : sum_overflows (integer (pos (2 ^ 126))) (integer (pos (2 ^ 126))) ≡ true
   pub whole_sum_fits : sum_overflows (integer (pos (2 ^ 126))) (integer (pos (2 ^ 126 - 1))) ≡ false
-  pub halves : sum_overflows (ratio (pos largest) 2) (ratio (pos largest) 2) ≡ true
+  pub large_halves : sum_overflows (ratio (pos largest) 2) (ratio (pos largest) 2) ≡ true
   pub denominators : sum_overflows (ratio (pos 1) (2 ^ 64)) (ratio (pos 1) (2 ^ 64 + 1)) ≡ true
   pub small_sum : sum_overflows (ratio (pos 1) 2) (ratio (pos 1) 3) ≡ false
   pub cancelled : product_overflows (ratio (pos largest) 2) (ratio (pos 2) largest) ≡ false

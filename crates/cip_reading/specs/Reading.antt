@@ -20,6 +20,7 @@ use Rattle.std.specs.Prelude.{ℕ, zero, suc, ◌+◌, ◌-◌, ◌==◌, Bool, 
 use Rattle.std.specs.List.{position_from, list_all}
 use Rattle.std.specs.Str.{bytes_eq}
 use Rattle.cip_rational.specs.Rational.{ℚ, negate, zeroℚ}
+use Rattle.cip_problem.specs.Names.{number_of}
 use Rattle.cip_problem.specs.Program.{Term, Sides, Row, Program}
 use Rattle.cip_syntax.specs.Lines.{Record, Section, Entry, records, record_of, is_filled}
 use Rattle.cip_syntax.specs.ThinText.{number, rational}
@@ -82,10 +83,6 @@ start = record {
 abbrev pub bind : {A B : Type 0} → Option A → (A → Option B) → Option B
 bind None next = None
 bind (Some a) next = next a
-
--- the number of a name: its first place in the list
-abbrev pub number_of : List (List ℕ) → List ℕ → Option ℕ
-number_of names name = position_from (bytes_eq name) 0 names
 
 abbrev pub is_digit : ℕ → Bool
 is_digit byte = nat_le 48 byte && nat_le byte 57

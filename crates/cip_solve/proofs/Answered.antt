@@ -10,7 +10,7 @@ use Rattle.cip_problem.specs.Program.{Sides, Program}
 use Rattle.cip_problem.specs.WellFormed.{IsWellFormed}
 use Rattle.cip_problem.specs.Box.{Between, IsInBox}
 use Rattle.cip_problem.specs.BoxBound.{box_bound}
-use Rattle.cip_problem.specs.BoxBound.Laws.{root_bound_holds}
+use Rattle.cip_problem.specs.BoxBound.BelowCosts.{root_bound_holds}
 use Rattle.cip_problem.specs.Points.{IsLowerBound}
 use Rattle.cip_problem.specs.Wholes.{IsWholeSide, HasWholeSides}
 use Rattle.cip_problem.specs.Log.{Entry, root}

@@ -6,7 +6,7 @@ use Rattle.cip_rational.specs.Rational.Order.{≤ℚ_trans, not_le_of_lt, le_of_
 use Rattle.cip_problem.specs.Program.{Program}
 use Rattle.cip_problem.specs.WellFormed.{IsWellFormed}
 use Rattle.cip_problem.specs.BoxBound.{box_bound}
-use Rattle.cip_problem.specs.BoxBound.Laws.{root_bound_holds}
+use Rattle.cip_problem.specs.BoxBound.BelowCosts.{root_bound_holds}
 use Rattle.cip_problem.specs.Points.{IsFeasible, cost_of, IsLowerBound}
 use Rattle.cip_problem.specs.Log.{Entry, Node, root, node_of, IsOpen, HasOpenNode, matters}
 use Rattle.cip_solve.specs.Splits.{IsWholeRange}

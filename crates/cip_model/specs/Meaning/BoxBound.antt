@@ -12,7 +12,7 @@ use Rattle.cip_lin.specs.declared.outcomes.Least.{Least}
 use Rattle.cip_lin.specs.declared.outcomes.Least.TheVariants.{Value, NoBound, Wide as TooWide}
 use Rattle.cip_frac.specs.Outcomes.{product_added}
 use Rattle.cip_frac.proofs.Outcomes.{product_added-value}
-use Rattle.cip_lin.specs.Sums.{least_of, least_at, least_then}
+use Rattle.cip_lin.specs.RowSums.{least_of, least_at, least_then}
 use Rattle.cip_model.specs.Least.{column_added, least_cost_from}
 use Rattle.cip_model.specs.Meaning.{BoundHolds}
 

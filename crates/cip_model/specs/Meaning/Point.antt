@@ -7,14 +7,14 @@ use Rattle.cip_frac.specs.declared.operations.Wide.{Wide as Overflow}
 use Rattle.cip_problem.specs.Program.{Sides, Row, Program}
 use Rattle.cip_problem.specs.Activity.{activity, value_at}
 use Rattle.cip_problem.specs.Box.{Between, IsInBox, sides_at, is_between}
-use Rattle.cip_problem.specs.Box.Laws.{between_of_test, not_between_of_test}
+use Rattle.cip_problem.specs.Box.SideTests.{between_of_test, not_between_of_test}
 use Rattle.cip_problem.specs.Points.{IsSatisfied, AreWhole, IsFeasible, cost_of}
-use Rattle.cip_problem.specs.Points.Laws.{IsInBox-long, in_box_at, whole_at, satisfied_at}
+use Rattle.cip_problem.specs.Points.AtPlaces.{IsInBox-long, in_box_at, whole_at, satisfied_at}
 use Rattle.cip_problem.specs.WellFormed.{IsWellFormed, columns}
 use Rattle.cip_frac.specs.Outcomes.{dot_from}
 use Rattle.cip_frac.proofs.Outcomes.{dot_from-value}
-use Rattle.cip_lin.specs.Sums.{activity_from}
-use Rattle.cip_lin.specs.Sums.ActivityValue.{activity_from-zero}
+use Rattle.cip_lin.specs.RowSums.{activity_from}
+use Rattle.cip_lin.specs.RowSums.ActivityValue.{activity_from-zero}
 use Rattle.cip_model.specs.declared.verdicts.Place.{Place}
 use Rattle.cip_model.specs.declared.verdicts.Place.TheVariants.{Row as AtRow, Cost}
 use Rattle.cip_model.specs.declared.verdicts.Verdict.{Verdict}

@@ -10,7 +10,7 @@ use Rattle.cip_problem.specs.Program.{Sides}
 use Rattle.cip_problem.specs.Box.{Between, IsInBox}
 use Rattle.cip_problem.specs.Points.{AreWhole}
 use Rattle.cip_problem.specs.Wholes.{wholes_between, assignments, plus, AtMost, HasWhole, AllHaveWholes}
-use Rattle.cip_problem.specs.Wholes.Laws.{times_more, more_times, split_wholes}
+use Rattle.cip_problem.specs.Wholes.Counts.{times_more, more_times, split_wholes}
 use Rattle.cip_problem.specs.Log.{low_half, high_half, CanSplit}
 
 -- a whole value is at most a whole number, or at least the next one

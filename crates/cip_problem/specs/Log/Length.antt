@@ -6,7 +6,7 @@ use Rattle.std.proofs.lemmas.Option.{none-some, same_Some}
 use Rattle.cip_rational.specs.Rational.{ℚ}
 use Rattle.cip_problem.specs.Program.{Program}
 use Rattle.cip_problem.specs.Wholes.{assignments, plus, AtMost}
-use Rattle.cip_problem.specs.Wholes.Laws.{IsPositive, assignments_positive}
+use Rattle.cip_problem.specs.Wholes.Counts.{IsPositive, assignments_positive}
 use Rattle.cip_problem.specs.Log.{End, Split, Closed, Parked, Entry, Node, root, low_half, high_half, node_of, halves, nodes_of, IsRightEnd, AllFollow, IsLog}
 use Rattle.cip_problem.specs.Log.Halves.{halves_count}
 

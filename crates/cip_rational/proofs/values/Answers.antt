@@ -5,7 +5,7 @@ pub returns : goal.returns
 returns c = record {
   whole_sum = tried.whole_sum;
   whole_sum_fits = tried.whole_sum_fits;
-  halves = tried.halves;
+  large_halves = tried.large_halves;
   denominators = tried.denominators;
   small_sum = tried.small_sum;
   cancelled = tried.cancelled;

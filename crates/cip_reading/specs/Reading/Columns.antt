@@ -10,7 +10,8 @@ use Rattle.cip_rational.specs.Rational.{negate, zeroℚ}
 use Rattle.cip_rational.specs.Rational.Ring.{negate_zero, zero_is}
 use Rattle.cip_rational.specs.Rational.Whole.{integer-pos}
 use Rattle.cip_syntax.specs.ThinText.{BoundLine, number_or_zero, digits_at, bound_digits, IsIn, AreDistinct, HasShortName, rational, with_term}
-use Rattle.cip_reading.specs.Reading.{Stage, Reading, number_of, no_column, column_added, column_found, column_taken}
+use Rattle.cip_problem.specs.Names.{number_of}
+use Rattle.cip_reading.specs.Reading.{Stage, Reading, no_column, column_added, column_found, column_taken}
 use Rattle.cip_reading.specs.Reading.Names.{names_cases, IsLast, IsPlace, number_cases, number_at, IsNumbered, IsNowhere, place_in, map_same, distinct_push, distinct_back, all_in, all_weaker, with_last, with_last_same, with_last_other, with_last_is, with_last_keeps, with_last_push_all, with_last_distinct, with_last_length, with_last_all, last_in}
 use Rattle.cip_reading.specs.Reading.Takes.{Takes, Taken, Refused, takes_like, takes_at, takes_test, leb_decides}
 use Rattle.cip_reading.specs.Reading.Facts.{Facts, Keeps, reading_of, row_read, mark_read, column_read, high_read, terms_of, last_valued, new_column_none, terms_push, last_push}

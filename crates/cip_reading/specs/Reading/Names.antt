@@ -7,7 +7,7 @@ use Rattle.std.proofs.lemmas.List.{map-append, length-map, set_at, get_or_at}
 use Rattle.std.proofs.lemmas.Slice.Eq.{bytes_eq-Decides}
 use Rattle.std.proofs.lemmas.Bool.{false_from_ne_true}
 use Rattle.cip_syntax.specs.ThinText.{IsIn, AreDistinct, not_again, without_repeats}
-use Rattle.cip_reading.specs.Reading.{number_of}
+use Rattle.cip_problem.specs.Names.{number_of}
 
 -- ---- equality of names
 

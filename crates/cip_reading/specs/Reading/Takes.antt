@@ -6,7 +6,8 @@ use Rattle.std.proofs.lemmas.Bool.{leb-true, le-leb}
 use Rattle.std.proofs.lemmas.Bool.Decides.{Decides-and, Decides-not, Decides-like}
 use Rattle.std.proofs.lemmas.Slice.Eq.{bytes_eq-Decides}
 use Rattle.cip_syntax.specs.ThinText.{IsShortNumber, IsIn, number}
-use Rattle.cip_reading.specs.Reading.{bind, is_digit, short_number, number_of, is_row_name}
+use Rattle.cip_problem.specs.Names.{number_of}
+use Rattle.cip_reading.specs.Reading.{bind, is_digit, short_number, is_row_name}
 use Rattle.cip_reading.specs.Reading.Names.{number_cases, IsNumbered, IsNowhere, IsPlace, place_in}
 
 -- a step goes on to the state `next` where the rule is kept, and refuses elsewhere

@@ -1,6 +1,6 @@
 use Rattle.std.proofs.Common.{◌≡◌, drop}
 use Rattle.cip_rational.specs.Rational.{zeroℚ}
-use Rattle.cip_lin.specs.Sums.{least_from}
+use Rattle.cip_lin.specs.RowSums.{least_from}
 use Rattle.cip_lin.proofs.extremes.least_sum.Given as goal
 
 abbrev pub invariant-loop-term : goal.invariant-loop-term

@@ -1,6 +1,6 @@
 use Rattle.std.proofs.Common.{◌≡◌, drop}
 use Rattle.cip_rational.specs.Rational.{zeroℚ}
-use Rattle.cip_lin.specs.Sums.{activity_from}
+use Rattle.cip_lin.specs.RowSums.{activity_from}
 use Rattle.cip_lin.proofs.rows.sum_of_products.Given as goal
 
 abbrev pub invariant-loop-term : goal.invariant-loop-term

@@ -6,7 +6,7 @@ use Rattle.cip_problem.specs.Program.{Term}
 use Rattle.cip_problem.specs.Activity.{activity, value_at}
 use Rattle.cip_frac.specs.Outcomes.{product_added}
 use Rattle.cip_frac.proofs.Outcomes.{then_value, product_added-value}
-use Rattle.cip_lin.specs.Sums.{activity_from}
+use Rattle.cip_lin.specs.RowSums.{activity_from}
 
 -- a sum with the products of a row added
 pub activity_from-value : (sum : ℚ) (terms : List Term) (point : List ℚ) → IfOk (activity_from sum terms point) (λ v. v ≡ sum +ℚ activity terms point)

@@ -2,14 +2,13 @@
 use native.Mathlib.Nat.{mul-pos, mul-div_cancel', div-le_self, eq-zero-or-pos}
 use borrow.Author.Differences.{up, down, product_is, sum_is_lem, same_in, abs_is, quot_is}
 use Rattle.std.proofs.Common.{◌≡◌, inl, inr, ℕ, ◌+◌, ◌*◌, ◌/◌, ◌<◌, ◌≤◌, Bool, true, false, not, ◌&&◌, ◌||◌, nat_lt, nat_le, ℤ, pos, int_div, unsigned_abs, ◌+ℤ◌, ◌*ℤ◌, refl, sym, ap, ap₂, ◌∙◌, arith, leb-true, le-leb, ltb-false, le-ltb, lit<, lit≤}
-use borrow.Author.Tests.{not-false}
 use Rattle.cip_rational.specs.Gcd.{gcd, gcd_lem, gcd-pos}
 use Rattle.cip_rational.specs.OnFractions.{parts_apart}
 use Rattle.cip_rational.specs.Range.{largest, magnitude, fits_range, too_large, raised, sum_overflows, product_overflows}
-use Rattle.cip_rational.specs.Rational.{ℚ, ◌+ℚ◌, ◌*ℚ◌, negate, numerator, denominator, ratio, integer, zeroℚ, oneℚ, is_ratio}
+use Rattle.cip_rational.specs.Rational.{ℚ, ◌+ℚ◌, ◌*ℚ◌, numerator, denominator, ratio, integer, zeroℚ, is_ratio}
 use Rattle.cip_rational.specs.Rational.Ratio.{ratio-add, ratio-cancel, integer_ratio}
-use Rattle.cip_rational.specs.Rational.Rounding.{integer-zero, integer-one}
-use Rattle.cip_rational.specs.Rational.Lowest.{denominator-pos, numerator-ratio, denominator-ratio, numerator-negate, denominator-negate, unsigned_abs-neg}
+use Rattle.cip_rational.specs.Rational.Rounding.{integer-zero}
+use Rattle.cip_rational.specs.Rational.Lowest.{denominator-pos, numerator-ratio, denominator-ratio}
 
 -- ---- the range
 
@@ -43,11 +42,6 @@ pub fits_in : (q : ℚ) → Fits q → fits_range q ≡ true
 unfolding fits_range
 fits_in q f = ap₂ (λ s t. s && t) (le-leb (magnitude (numerator q)) largest f.top) (le-leb (denominator q) largest f.bottom)
 
-pub fits-negate : (q : ℚ) → fits_range (negate q) ≡ fits_range q
-unfolding fits_range
-fits-negate q =
-    ap₂ (λ m d. nat_le m largest && nat_le d largest) (ap unsigned_abs (numerator-negate q) ∙ unsigned_abs-neg (numerator q)) (denominator-negate q)
-
 -- lowest terms are no larger than the terms
 pub lowest-le : (z : ℤ) (d : ℕ) → 0 < d → (magnitude (numerator (ratio z d)) ≤ magnitude z) × (denominator (ratio z d) ≤ d)
 lowest-le z d h =
@@ -65,9 +59,6 @@ fits-integer z h = ap fits_range (sym (integer_ratio z)) ∙ fits_in _ (fits-rat
 
 pub fits-zero : fits_range zeroℚ ≡ true
 fits-zero = ap fits_range (sym integer-zero) ∙ fits-integer (pos 0) (lit≤ tt)
-
-pub fits-one : fits_range oneℚ ≡ true
-fits-one = ap fits_range (sym integer-one) ∙ fits-integer (pos 1) (lit≤ tt)
 
 -- ---- sums
 
@@ -147,10 +138,6 @@ sum_fits a b e =
     ap fits_range (sum_raised a b) ∙ fits_in _ (fits-ratio _ (least_common a b) (least_common_pos a b) f.total f.bottom)
 
 -- ---- products
-
-pub product_fits : (a b : ℚ) → product_overflows a b ≡ false → fits_range (a *ℚ b) ≡ true
-unfolding product_overflows
-product_fits a b e = not-false (fits_range (a *ℚ b)) e
 
 pub fits_product : (a b : ℚ) → fits_range (a *ℚ b) ≡ true → product_overflows a b ≡ false
 unfolding product_overflows

@@ -13,9 +13,6 @@ use Rattle.cip_problem.specs.Points.{IsSatisfied, AreWhole}
 pub IsInBox-long : (box : List Sides) (point : List ℚ) → IsInBox box point → length point ≡ length box
 IsInBox-long box point h = AllZip-long _ box point h
 
-pub AreWhole-long : (integral : List Bool) (point : List ℚ) → AreWhole integral point → length point ≡ length integral
-AreWhole-long integral point h = AllZip-long _ integral point h
-
 -- the value of a column lies between its sides
 pub in_box_at : (box : List Sides) (point : List ℚ) (column : ℕ) → IsInBox box point → Between (sides_at box column).low (sides_at box column).high (value_at point column)
 in_box_at [] point column h = record { above = tt; below = tt }
