@@ -9,7 +9,8 @@ use Rattle.std.proofs.lemmas.Bool.{eqb-false, false≢true}
 use Rattle.std.specs.Str.{bytes_eq}
 use lib.Chars.{codes}
 use Rattle.cip_rational.specs.Rational.{ℚ}
-use Rattle.cip_numerals.specs.NumberText.{fraction_text, fraction_text_plain, fraction_text_injective, IsFractionByte}
+use Rattle.cip_numerals.specs.NumberText.{fraction_text}
+use Rattle.cip_numerals.proofs.NumberText.{fraction_text_plain, fraction_text_injective, IsFractionByte}
 use Rattle.cip_answers.specs.Figures.{Status, Optimal, NodeLimit, NoMemory, Held, Figures, HaveValues, status_word, line, end_line, figure_text, point_lines, held_cost, held_lines, answer_text, usage_text, read_fault_text, no_memory_text, refusal_text}
 
 -- texts that the test tells apart

@@ -6,7 +6,7 @@ use Rattle.std.proofs.lemmas.List.Elements.{All-from_recursion}
 use Rattle.std.proofs.lemmas.List.Kept.{AllPairs-cons}
 use Rattle.cip_rational.specs.Gcd.{gcd}
 use Rattle.cip_rational.specs.Rational.{integer, ratio, numerator, denominator}
-use Rattle.cip_rational.specs.Rational.Lowest.{numerator-integer, denominator-integer, numerator-ratio, denominator-ratio}
+use Rattle.cip_rational.proofs.Rational.Lowest.{numerator-integer, denominator-integer, numerator-ratio, denominator-ratio}
 use Rattle.cip_numerals.specs.NumberText.{integer_text, denominator_text, fraction_text}
 use Rattle.cip_answers.specs.Figures.{Optimal, NodeLimit, answer_text, usage_text, read_fault_text, no_memory_text, not_thin_text}
 use Rattle.cip_answers.proofs.AnswerTexts.{apart}

@@ -7,10 +7,10 @@ use Rattle.std.proofs.Math.Nat.{one-dvd}
 use borrow.Author.Differences.{true_is_lt, true_is_le, false_is_le, false_is_lt, Apart-out}
 use Rattle.std.proofs.lemmas.Bool.Decides.{nat_tests}
 use Rattle.cip_rational.specs.Rational.{ℚ, ratio, integer, negate, inverse, absolute, numerator, denominator, IsWhole, zeroℚ, oneℚ, ◌<ℚ◌, le_test, is_ratio, floor, ceil}
-use Rattle.cip_rational.specs.Rational.Ratio.{integer_ratio, ratio_same, ratio-lt, lt-ratio, ratio-le_test}
-use Rattle.cip_rational.specs.Rational.Lowest.{numerator_lowest, denominator_lowest, inverse-pos, inverse-negsuc, unsigned_abs-neg}
-use Rattle.cip_rational.specs.Rational.Whole.{is_whole-denominator, denominator-is_whole, floor-ratio, ceil-ratio}
-use Rattle.cip_rational.specs.Rational.Rounding.{integer-zero, integer-one}
+use Rattle.cip_rational.proofs.Rational.Ratio.{integer_ratio, ratio_same, ratio-lt, lt-ratio, ratio-le_test}
+use Rattle.cip_rational.proofs.Rational.Lowest.{numerator_lowest, denominator_lowest, inverse-pos, inverse-negsuc, unsigned_abs-neg}
+use Rattle.cip_rational.proofs.Rational.Whole.{is_whole-denominator, denominator-is_whole, floor-ratio, ceil-ratio}
+use Rattle.cip_rational.proofs.Rational.Rounding.{integer-zero, integer-one}
 use Rattle.cip_rational.specs.Range.{fits_range, largest}
 use Rattle.cip_rational.proofs.Integers.{gcd_one}
 use Rattle.cip_frac.specs.LowestTerms.{AreLowest}

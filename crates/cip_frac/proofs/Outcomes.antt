@@ -1,7 +1,7 @@
 -- What chains of sums and products come to, where no operation overflows.
 use Rattle.std.proofs.Common.{◌≡◌, List, [], ◌∷◌, Result, Ok, Err, IfOk, Bool, true, false, cond, refl, sym}
 use Rattle.cip_rational.specs.Rational.{ℚ, ◌+ℚ◌, ◌*ℚ◌}
-use Rattle.cip_rational.specs.Rational.Ring.{+ℚ_assoc, +ℚ-zero}
+use Rattle.cip_rational.proofs.Rational.Ring.{+ℚ_assoc, +ℚ-zero}
 use Rattle.cip_rational.specs.Range.{sum_overflows, product_overflows}
 use Rattle.cip_rational.specs.Sums.{dot}
 use Rattle.cip_frac.specs.declared.operations.Wide.{Wide}

@@ -6,7 +6,7 @@ use borrow.Author.Differences.{up, down, same_in, product_is}
 use Rattle.std.proofs.lemmas.Int.{unsigned_abs-mul}
 use Rattle.std.proofs.Math.Nat.{div-mul_cancel, mul-pos, dvd-mul_right, le-mul_of_pos_right}
 use Rattle.cip_rational.specs.Rational.{ℚ, ◌*ℚ◌, ratio, numerator, denominator, is_ratio}
-use Rattle.cip_rational.specs.Rational.Ratio.{ratio-mul, ratio-cancel}
+use Rattle.cip_rational.proofs.Rational.Ratio.{ratio-mul, ratio-cancel}
 use Rattle.cip_rational.specs.Range.{largest, product_overflows}
 use Rattle.cip_frac.specs.LowestTerms.{AreLowest}
 use Rattle.cip_frac.proofs.Casts.{kept}

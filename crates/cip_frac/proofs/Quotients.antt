@@ -6,8 +6,8 @@ use borrow.Author.Differences.{up, down, same_in, product_is, false_is_lt, Apart
 use Rattle.std.proofs.lemmas.Int.{ints, to_z-of_z}
 use Rattle.std.proofs.Math.Nat.{div-mul_cancel, one-mul}
 use Rattle.cip_rational.specs.Rational.{◌*ℚ◌, ratio, integer, inverse, numerator, is_ratio}
-use Rattle.cip_rational.specs.Rational.Ratio.{integer_ratio, ratio-mul, ratio-cancel}
-use Rattle.cip_rational.specs.Rational.Lowest.{numerator-integer, denominator-integer, inverse-pos, inverse-negsuc}
+use Rattle.cip_rational.proofs.Rational.Ratio.{integer_ratio, ratio-mul, ratio-cancel}
+use Rattle.cip_rational.proofs.Rational.Lowest.{numerator-integer, denominator-integer, inverse-pos, inverse-negsuc}
 use Rattle.cip_rational.specs.Range.{largest, fits_range}
 use Rattle.cip_frac.specs.FractionFault.{quotient_of}
 use Rattle.cip_frac.specs.LowestTerms.{AreLowest}

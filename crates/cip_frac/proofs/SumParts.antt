@@ -7,9 +7,10 @@ use Rattle.std.proofs.lemmas.Int.{ints, unsigned_abs-mul, by_lt_z}
 use Rattle.std.proofs.lemmas.Bool.Decides.{nat_tests}
 use Rattle.std.proofs.lemmas.Nat.Gcd.{dvd_refl, IsGcd-swap}
 use Rattle.std.proofs.Math.Nat.{dvd-mul_right, dvd-mul_left_of_dvd, dvd-add, dvd-add_iff_left, dvd-add_iff_right, one-dvd, mul-pos, div-mul_cancel}
-use Rattle.cip_rational.specs.Gcd.{gcd, gcd_unique}
+use Rattle.cip_rational.specs.Gcd.{gcd}
+use Rattle.cip_rational.proofs.Gcd.{gcd_unique}
 use Rattle.cip_rational.specs.Rational.{ℚ, ◌+ℚ◌, ratio, numerator, denominator, is_ratio}
-use Rattle.cip_rational.specs.Rational.Ratio.{ratio-add, ratio-cancel}
+use Rattle.cip_rational.proofs.Rational.Ratio.{ratio-add, ratio-cancel}
 use Rattle.cip_rational.specs.Range.{largest, too_large, sum_overflows}
 use Rattle.cip_frac.specs.LowestTerms.{AreLowest}
 use Rattle.cip_frac.proofs.Divisors.{IsCoprime, divides_other, coprime_from_divisors, coprime-product, coprime_rests, gcd-product, positive_from_IsGcd}

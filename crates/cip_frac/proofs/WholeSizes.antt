@@ -6,11 +6,12 @@ use Rattle.std.specs.List.{AllByRecursion}
 use Rattle.std.proofs.lemmas.Int.{unsigned_abs-mul, ints}
 use Rattle.std.proofs.Math.Nat.{mul-le-mul}
 use Rattle.cip_rational.specs.Rational.{ℚ, ◌+ℚ◌, ◌*ℚ◌, integer, denominator, zeroℚ}
-use Rattle.cip_rational.specs.Rational.Lowest.{numerator-integer, denominator-integer}
-use Rattle.cip_rational.specs.Rational.Rounding.{integer-add, integer-mul, integer-zero}
-use Rattle.cip_rational.specs.Gcd.{gcd, gcd_unique}
+use Rattle.cip_rational.proofs.Rational.Lowest.{numerator-integer, denominator-integer}
+use Rattle.cip_rational.proofs.Rational.Rounding.{integer-add, integer-mul, integer-zero}
+use Rattle.cip_rational.specs.Gcd.{gcd}
+use Rattle.cip_rational.proofs.Gcd.{gcd_unique}
 use Rattle.cip_rational.specs.Range.{largest, magnitude, sum_overflows, product_overflows, raised}
-use Rattle.cip_rational.specs.Range.InRange.{least_common, sum_in, fits_product, fits-integer}
+use Rattle.cip_rational.proofs.Range.InRange.{least_common, sum_in, fits_product, fits-integer}
 use Rattle.cip_rational.proofs.Integers.{gcd_one, times_one}
 use Rattle.cip_frac.specs.declared.operations.Wide.{Wide}
 use Rattle.cip_frac.specs.Outcomes.{sum_outcome, and_then, product_added, dot_from}

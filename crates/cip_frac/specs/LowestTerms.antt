@@ -2,7 +2,7 @@
 use Rattle.std.specs.Prelude.{◌≡◌, ℕ, ℤ, ◌<◌, ◌^◌, unsigned_abs, refl}
 use Rattle.std.specs.Int.{IsGcd}
 use Rattle.cip_rational.specs.Rational.{ℚ, ratio, numerator, denominator}
-use Rattle.cip_rational.specs.Rational.Lowest.{numerator_lowest, denominator_lowest}
+use Rattle.cip_rational.proofs.Rational.Lowest.{numerator_lowest, denominator_lowest}
 use Rattle.cip_frac.specs.declared.fraction.Frac.TheInside.{Inside}
 
 -- n / d is in lowest terms, and both are below 2^127 in magnitude

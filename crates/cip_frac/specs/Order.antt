@@ -6,7 +6,7 @@ use Rattle.std.proofs.Common.{ap, sym, Less, Equal, Greater, Ordering, is_eq}
 use Rattle.std.specs.Cmp.{IsEquivalence, IsPartialEquivalence, IsPartialOrder, partial_equiv_from_equiv, partial_order_from_total}
 use Rattle.std.specs.Ordering.{eq_by_cmp, as_partial_cmp}
 use Rattle.cip_rational.specs.Rational.{ℚ, compare_rational}
-use Rattle.cip_rational.specs.Rational.Compare.{compare_equal, eq_of_compare, compare_total}
+use Rattle.cip_rational.proofs.Rational.Compare.{compare_equal, eq_of_compare, compare_total}
 
 -- whether two rationals are the same
 abbrev pub same_rational : ℚ → ℚ → Bool

@@ -10,7 +10,7 @@ pub trait Sink {
     /// The bytes taken so far, where they are told, and how many faults there were. The count never falls.
     ghost tells: { Self → SinkTells };
 
-    /// TakesAll one or more bytes from the front of the piece, and says how many. An `Err` changes nothing but the count.
+    /// Takes one or more bytes from the front of the piece, and says how many. An `Err` changes nothing but the count.
     fn push(&mut self, piece: &[u8]) -> Result<usize, Failed>
         requires { 0 < length piece.now }
         ensures taken { MatchResult result

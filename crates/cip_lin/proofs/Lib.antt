@@ -1,1 +1,2 @@
 pub mod ActivitySizes
+pub mod RowSums

@@ -4,12 +4,12 @@ use Rattle.std.proofs.Common.{sym, ap, ◌∙◌, subst, inl, inr, arith}
 use Rattle.cip_io.specs.Faults.{Rose}
 use Rattle.cip_problem.specs.Program.{Program}
 use Rattle.cip_answers.specs.Headline.{IsSpent}
-use Rattle.cip_solve.specs.Budgets.{budget_suffices}
+use Rattle.cip_solve.proofs.BudgetsLaws.{budget_suffices}
 use Rattle.cip_problem.specs.Wholes.{assignments}
 use Rattle.cip_answers.specs.CommandLine.{Job, Solve}
 use Rattle.cip_answers.specs.Figures.{Status, Optimal, NodeLimit, NoMemory as LacksMemory, exit_status}
 use Rattle.cip_syntax.specs.ThinText.{IsThin}
-use Rattle.cip_syntax.specs.ThinText.Parts.{one_program}
+use Rattle.cip_syntax.proofs.ThinText.Parts.{one_program}
 use Rattle.cip_main.specs.declared.plain.Plain.{Plain}
 use Rattle.cip_main.specs.declared.plain.Plain.TheVariants.{Usage, ReadFault, Refused, NoMemory}
 use Rattle.cip_main.specs.Answering.{node_limit, IsLogged}

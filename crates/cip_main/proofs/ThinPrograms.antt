@@ -3,22 +3,22 @@ use Rattle.std.specs.Prelude.{◌≡◌, ℕ, true, List, [], Option, None, Some
 use Rattle.std.proofs.Common.{sym, ap, ◌∙◌, subst, inl, inr}
 use Rattle.std.proofs.lemmas.List.Elements.{All-from_recursion}
 use Rattle.cip_rational.specs.Rational.{ℚ, ◌≤ℚ◌, zeroℚ}
-use Rattle.cip_rational.specs.Rational.Order.{≤ℚ_of_eq}
+use Rattle.cip_rational.proofs.Rational.Order.{≤ℚ_of_eq}
 use Rattle.cip_io.specs.Sink.{SinkTells}
 use Rattle.cip_problem.specs.Program.{Program}
 use Rattle.cip_problem.specs.Points.{IsFeasible, IsLowerBound}
 use Rattle.cip_problem.specs.BoxBound.{box_bound}
-use Rattle.cip_problem.specs.BoxBound.BelowCosts.{root_bound_holds}
-use Rattle.cip_problem.specs.Points.AtPlaces.{IsInBox-long}
+use Rattle.cip_problem.proofs.BoxBound.BelowCosts.{root_bound_holds}
+use Rattle.cip_problem.proofs.Points.AtPlaces.{IsInBox-long}
 use Rattle.cip_problem.specs.WellFormed.{columns}
 use Rattle.cip_problem.specs.Wholes.{HasWholeSides}
 use Rattle.cip_syntax.specs.ThinText.{IsThin}
 use Rattle.cip_syntax.specs.ThinText.ThinProgram.{IsThinProgram}
-use Rattle.cip_syntax.specs.ThinText.Laws.{thin_program, zeros_feasible}
+use Rattle.cip_syntax.proofs.ThinText.Laws.{thin_program, zeros_feasible}
 use Rattle.cip_thin.specs.Laws.{thin_fits}
 use Rattle.cip_model.specs.CanCheck.{CanCheck}
 use Rattle.cip_model.specs.Verdicts.{verdict_of}
-use Rattle.cip_model.specs.Meaning.Point.{verdict_on_feasible}
+use Rattle.cip_model.proofs.Meaning.Point.{verdict_on_feasible}
 use Rattle.cip_model.specs.declared.verdicts.Verdict.{Verdict}
 use Rattle.cip_model.specs.declared.verdicts.Verdict.TheVariants.{Feasible}
 use Rattle.cip_solve.specs.CanBound.{CanBound}

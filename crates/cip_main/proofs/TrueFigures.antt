@@ -2,9 +2,9 @@
 use Rattle.std.specs.Prelude.{◌≡◌, ℕ, Bool, true, false, List, Option, None, Some, IfSome, option_map, refl, if◌then◌else◌}
 use Rattle.std.proofs.Common.{sym, ap, subst}
 use Rattle.cip_rational.specs.Rational.{ℚ, ◌≤ℚ◌, ◌<ℚ◌, negate}
-use Rattle.cip_rational.specs.Rational.Order.{not_le_of_lt}
-use Rattle.cip_rational.specs.Rational.Ring.{negate_negate}
-use Rattle.cip_rational.specs.Rational.Monotone.{negate_strict}
+use Rattle.cip_rational.proofs.Rational.Order.{not_le_of_lt}
+use Rattle.cip_rational.proofs.Rational.Ring.{negate_negate}
+use Rattle.cip_rational.proofs.Rational.Monotone.{negate_strict}
 use Rattle.cip_problem.specs.Program.{Program}
 use Rattle.cip_problem.specs.Points.{cost_of, printed, IsLowerBound}
 use Rattle.cip_problem.specs.BoxBound.{box_bound}

@@ -1,6 +1,5 @@
 -- Reading the program of a text that is pulled from a store.
-use Rattle.std.specs.Prelude.{◌≡◌, ⊤, ℕ, ◌+◌, ◌≤◌, Bool, true, false, List, take, drop, length}
-use Rattle.std.specs.Prelude.{Option, None, IfSome, option_map}
+use Rattle.std.specs.Prelude.{◌≡◌, ⊤, ℕ, ◌+◌, ◌≤◌, Bool, true, false, List, take, drop, length, Option, None, IfSome, option_map}
 use Rattle.cip_io.specs.Faults.{Rose}
 use Rattle.cip_io.specs.Store.{StoreTells}
 use Rattle.cip_problem.specs.Limits.{longest_text}

@@ -4,5 +4,4 @@ pub mod Keys
 pub mod Least
 pub mod Meaning
 pub mod Programs
-pub mod SmallPrograms
 pub mod Verdicts

@@ -1,6 +1,4 @@
 -- What a verdict says of a program and a point, and what a bound says of a box. The modules below have the laws.
-pub mod BoxBound
-pub mod Point
 use Rattle.std.specs.Prelude.{◌≡◌, ℕ, ◌<◌, true, List, Option, None, Some, IsErr, slice_get, ⊤}
 use Rattle.cip_rational.specs.Rational.{ℚ, zeroℚ, IsWhole}
 use Rattle.cip_problem.specs.Program.{Row, Program}

@@ -4,13 +4,13 @@ use Rattle.std.proofs.lemmas.List.Elements.{All-from_recursion}
 use Rattle.std.proofs.lemmas.Option.{none-some}
 use Rattle.cip_rational.specs.Gcd.{gcd}
 use Rattle.cip_rational.specs.Rational.{whole, ratio, zeroℚ, negate, floor, ceil, denominator, ◌*ℚ◌, ◌≤ℚ◌, ◌<ℚ◌}
-use Rattle.cip_rational.specs.Rational.Lowest.{denominator-ratio}
-use Rattle.cip_rational.specs.Rational.Ring.{zero_is, whole_negate}
-use Rattle.cip_rational.specs.Rational.Order.{test_of_lt}
-use Rattle.cip_rational.specs.Rational.Monotone.{whole_le, le_whole, whole_lt}
-use Rattle.cip_rational.specs.Rational.Whole.{IsWhole-whole, IsWhole-zero, is_whole-denominator, integer-pos}
-use Rattle.cip_rational.specs.Rational.Rounding.{floor-integer, ceil-integer}
-use Rattle.cip_rational.specs.Linear.{linear_le, linear_same}
+use Rattle.cip_rational.proofs.Rational.Lowest.{denominator-ratio}
+use Rattle.cip_rational.proofs.Rational.Ring.{zero_is, whole_negate}
+use Rattle.cip_rational.proofs.Rational.Order.{test_of_lt}
+use Rattle.cip_rational.proofs.Rational.Monotone.{whole_le, le_whole, whole_lt}
+use Rattle.cip_rational.proofs.Rational.Whole.{IsWhole-whole, IsWhole-zero, is_whole-denominator, integer-pos}
+use Rattle.cip_rational.proofs.Rational.Rounding.{floor-integer, ceil-integer}
+use Rattle.cip_rational.proofs.Linear.{linear_le, linear_same}
 use Rattle.cip_problem.specs.Activity.{activity, StandsBelow}
 use Rattle.cip_problem.specs.Box.{Between}
 use Rattle.cip_problem.specs.Points.{IsFeasible, cost_of, printed}

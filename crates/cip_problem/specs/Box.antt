@@ -1,5 +1,4 @@
 -- Boxes: the low and the high side of each column. The module below has the laws.
-pub mod SideTests
 use Rattle.std.specs.Prelude.{◌≡◌, ℕ, Bool, true, false, ◌&&◌, List, [], ◌∷◌, Option, None, Some, IfSome, slice_index_or, int_lt}
 use Rattle.std.specs.List.{AllZip}
 use Rattle.cip_rational.specs.Rational.{ℚ, ◌≤ℚ◌, le_test, floor, ceil}

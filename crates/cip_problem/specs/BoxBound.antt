@@ -1,7 +1,6 @@
 -- The least cost in a box, with rows and whole columns left aside. The module below has its laws.
-pub mod BelowCosts
 use Rattle.std.specs.Prelude.{List, [], ◌∷◌, Option, None, Some, if◌then◌else◌}
-use Rattle.cip_rational.specs.Rational.{ℚ, ◌+ℚ◌, ◌*ℚ◌, zeroℚ, le_test, lt_test}
+use Rattle.cip_rational.specs.Rational.{ℚ, ◌+ℚ◌, ◌*ℚ◌, zeroℚ, lt_test}
 use Rattle.cip_problem.specs.Program.{Sides, Program}
 
 -- a sum, where both of its parts have a value

@@ -1,9 +1,7 @@
 -- What a search did: the nodes that it took and ended, in that order. A node is a box with a bound.
 -- Node 0 has the program's box; a split of a node gives two new nodes, whose boxes are its box with one whole
 -- column at most a whole number, and at least the next one. The modules below have the laws.
-pub mod Halves
-pub mod Length
-use Rattle.std.specs.Prelude.{◌≡◌, ◌≢◌, ℕ, ◌+◌, ◌==◌, ◌<◌, ℤ, pos, ◌+ℤ◌, Bool, true, false, List, [], ◌∷◌, ◌++◌, map, Option, None, Some, if◌then◌else◌, slice_set, slice_get, length, ⊤}
+use Rattle.std.specs.Prelude.{◌≡◌, ◌≢◌, ℕ, ◌==◌, ℤ, pos, ◌+ℤ◌, Bool, true, List, [], ◌∷◌, ◌++◌, map, Option, None, Some, if◌then◌else◌, slice_set, slice_get, ⊤}
 use Rattle.std.specs.List.{Contains}
 use Rattle.cip_rational.specs.Rational.{ℚ, integer, lt_test}
 use Rattle.cip_problem.specs.Program.{Sides, Program}

@@ -1,9 +1,8 @@
 -- Points of a program: which are feasible, and what they cost (constraint integer programs; Achterberg 2007).
 -- A point is a list of one value for each column. The module below has the laws.
-pub mod AtPlaces
 use Rattle.std.specs.Prelude.{◌≡◌, Bool, true, List, if◌then◌else◌}
 use Rattle.std.specs.List.{AllZip, AllByRecursion}
-use Rattle.cip_rational.specs.Rational.{ℚ, ◌+ℚ◌, ◌≤ℚ◌, ◌<ℚ◌, negate, IsWhole}
+use Rattle.cip_rational.specs.Rational.{ℚ, ◌+ℚ◌, ◌≤ℚ◌, negate, IsWhole}
 use Rattle.cip_rational.specs.Sums.{dot}
 use Rattle.cip_problem.specs.Program.{Row, Program}
 use Rattle.cip_problem.specs.Activity.{activity}

@@ -1,6 +1,5 @@
 -- How many whole assignments a box has: choices of one whole value between the sides for each whole column.
 -- The module below has the laws.
-pub mod Counts
 use Rattle.std.specs.Prelude.{◌≡◌, ◌≢◌, ℕ, zero, suc, ◌+◌, ◌*◌, ◌≤◌, ℤ, pos, negsuc, ◌+ℤ◌, ◌-ℤ◌, Bool, true, false, List, [], ◌∷◌, Option, None, Some, ⊤}
 use Rattle.std.specs.List.{AllZip}
 use Rattle.cip_rational.specs.Rational.{ℚ, integer, IsWhole, floor, ceil}

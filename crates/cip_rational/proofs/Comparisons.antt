@@ -2,7 +2,7 @@
 use Rattle.std.proofs.Common.{◌≡◌, Bool, true, false, cond, not, ◌&&◌, refl, sym, is_le, is_lt, is_eq, Less, Equal, Greater}
 use Rattle.std.specs.Ordering.{eq_by_cmp}
 use Rattle.cip_rational.specs.Rational.{ℚ, compare_rational, le_test, lt_test}
-use Rattle.cip_rational.specs.Rational.Order.{≤ℚ_of_lt, lt_of_test, test_of_le, le_test_of_lt, le_of_lt_test, lt_test_of_le}
+use Rattle.cip_rational.proofs.Rational.Order.{≤ℚ_of_lt, lt_of_test, test_of_le, le_test_of_lt, le_of_lt_test, lt_test_of_le}
 
 le_cases : (a b : ℚ) (s t : Bool) → lt_test a b ≡ s → lt_test b a ≡ t → is_le (cond s Less (cond t Greater Equal)) ≡ le_test a b
 le_cases a b true t h k = sym (test_of_le (≤ℚ_of_lt (lt_of_test h)))

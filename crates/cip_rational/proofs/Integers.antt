@@ -5,8 +5,8 @@ use Rattle.std.proofs.lemmas.Int.{ints}
 use Rattle.std.proofs.lemmas.Nat.Gcd.{dvd_refl}
 use Rattle.std.proofs.Math.Nat.{one-dvd}
 use Rattle.cip_rational.specs.Rational.{integer, zeroℚ}
-use Rattle.cip_rational.specs.Rational.Lowest.{integer_inj}
-use Rattle.cip_rational.specs.Rational.Rounding.{integer-zero}
+use Rattle.cip_rational.proofs.Rational.Lowest.{integer_inj}
+use Rattle.cip_rational.proofs.Rational.Rounding.{integer-zero}
 
 -- 1 has no divisor but itself
 pub gcd_one : (m : ℕ) → IsGcd m 1 1

@@ -1,5 +1,12 @@
 pub mod Comparisons
+pub mod Fraction
+pub mod Gcd
 pub mod Integers
+pub mod Linear
 pub mod LinearExamples
+pub mod OnFractions
+pub mod Range
+pub mod Rational
+pub mod Sums
 pub mod Tried
 pub mod WithZero

@@ -1,9 +1,9 @@
 -- Linear arithmetic over ℚ, tried on the forms that proofs meet.
 use Rattle.std.proofs.Common.{◌≡◌, ◌∙◌, ◌⊎◌, [], ◌∷◌, arith}
 use Rattle.cip_rational.specs.Rational.{ℚ, ◌+ℚ◌, ◌-ℚ◌, ◌*ℚ◌, negate, whole, zeroℚ, oneℚ, ◌≤ℚ◌, ◌<ℚ◌}
-use Rattle.cip_rational.specs.Rational.Monotone.{*ℚ_mono}
-use Rattle.cip_rational.specs.Rational.Ring.{*ℚ_comm, ring_laws}
-use Rattle.cip_rational.specs.Linear.{linear_le, linear_lt, linear_same, linear_absurd}
+use Rattle.cip_rational.proofs.Rational.Monotone.{*ℚ_mono}
+use Rattle.cip_rational.proofs.Rational.Ring.{*ℚ_comm, ring_laws}
+use Rattle.cip_rational.proofs.Linear.{linear_le, linear_lt, linear_same, linear_absurd}
 
 chain : (a b c d : ℚ) → a +ℚ b ≤ℚ c → d ≤ℚ b → a +ℚ d ≤ℚ c
 chain a b c d h k = linear_le (a ∷ b ∷ c ∷ d ∷ []) (λ s w. omega (arith, s.le_out))

@@ -2,11 +2,11 @@
 use Rattle.std.proofs.Common.{◌≡◌, ℕ, ◌+◌, ◌-◌, ◌*◌, ◌/◌, ◌^◌, Bool, true, false, not, ◌&&◌, ◌||◌, nat_lt, nat_le, ◌+ℤ◌, ◌*ℤ◌, lit<, ℤ, pos, negsuc, refl, sym, ap, ◌∙◌, zero-lt-suc}
 use Rattle.cip_rational.specs.Gcd.{gcd}
 use Rattle.cip_rational.specs.Rational.{ℚ, ◌*ℚ◌, ratio, integer, numerator, denominator, floor, ceil}
-use Rattle.cip_rational.specs.Rational.Lowest.{numerator-ratio, denominator-ratio, numerator-integer, denominator-integer}
-use Rattle.cip_rational.specs.Rational.Whole.{floor-ratio, ceil-ratio}
+use Rattle.cip_rational.proofs.Rational.Lowest.{numerator-ratio, denominator-ratio, numerator-integer, denominator-integer}
+use Rattle.cip_rational.proofs.Rational.Whole.{floor-ratio, ceil-ratio}
 use Rattle.cip_rational.specs.Range.{largest, magnitude, too_large, fits_range, sum_overflows, product_overflows}
-use Rattle.cip_rational.specs.Rational.Ratio.{ratio-mul, ratio_same, integer_ratio}
-use Rattle.cip_rational.specs.Rational.Rounding.{integer-mul}
+use Rattle.cip_rational.proofs.Rational.Ratio.{ratio-mul, ratio_same, integer_ratio}
+use Rattle.cip_rational.proofs.Rational.Rounding.{integer-mul}
 
 -- -1 / 2 lies between -1 and 0
 pub floor_half : floor (ratio (negsuc 0) 2) ≡ negsuc 0

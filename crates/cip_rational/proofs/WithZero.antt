@@ -3,13 +3,14 @@ use Rattle.std.proofs.Common.{◌≡◌, ℕ, ◌/◌, false, true, ℤ, pos, �
 use Rattle.std.proofs.lemmas.Int.{ints}
 use Rattle.std.proofs.lemmas.Nat.Gcd.{IsGcd-swap}
 use Rattle.std.proofs.Math.Nat.{div-one}
-use Rattle.cip_rational.specs.Gcd.{gcd, gcd_unique}
+use Rattle.cip_rational.specs.Gcd.{gcd}
+use Rattle.cip_rational.proofs.Gcd.{gcd_unique}
 use Rattle.cip_rational.specs.Rational.{ℚ, zeroℚ, numerator, denominator}
-use Rattle.cip_rational.specs.Rational.Ring.{*ℚ-zero, zero-*ℚ}
-use Rattle.cip_rational.specs.Rational.Rounding.{integer-zero}
-use Rattle.cip_rational.specs.Rational.Lowest.{numerator-integer, denominator-integer}
+use Rattle.cip_rational.proofs.Rational.Ring.{*ℚ-zero, zero-*ℚ}
+use Rattle.cip_rational.proofs.Rational.Rounding.{integer-zero}
+use Rattle.cip_rational.proofs.Rational.Lowest.{numerator-integer, denominator-integer}
 use Rattle.cip_rational.specs.Range.{fits_range, raised, sum_overflows, product_overflows}
-use Rattle.cip_rational.specs.Range.InRange.{fits_out, fits-zero, least_common, sum_in, fits_product}
+use Rattle.cip_rational.proofs.Range.InRange.{fits_out, fits-zero, least_common, sum_in, fits_product}
 use Rattle.cip_rational.proofs.Integers.{gcd_one, times_one}
 
 numerator_zero : numerator zeroℚ ≡ pos 0

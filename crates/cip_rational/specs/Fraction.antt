@@ -5,7 +5,7 @@
 --     rational_rec, rational_rec₂       a function out of ℚ, from one on fractions that gives the same at one value
 --     rational_ind, rational_ind₂, rational_ind₃      what is true of all fractions is true of all rationals
 use mathlib.Core.Path.{◌≡◌, fun_ext}
-use mathlib.Core.HLevel.{is_prop→PathP, →_set, Π_prop}
+use mathlib.Core.HLevel.{is_prop→PathP, →_set}
 use mathlib.Core.HubSpoke.{Sp, hub_spoke→set, set_hub, prop_spoke, rec_hub, rec_spoke}
 use Rattle.std.specs.Prelude.{ℕ, ◌+◌, ◌*◌, ◌<◌}
 
@@ -64,11 +64,3 @@ module _ {B : Type 0} (set : IsSet B) where
       (λ x y e. fun_ext (rational_ind
       (λ q. rational_rec set (f x) (right x) q ≡ rational_rec set (f y) (right y) q)
       (λ q. set _ _) (λ z. left x y z e)))
-
-pub rational_ind₂ : (P : ℚ → ℚ → Type 0) → ((p q : ℚ) → IsProp (P p q)) → ((x y : Fraction) → P (of x) (of y)) → (p q : ℚ) → P p q
-rational_ind₂ P prop h p q =
-    rational_ind (λ p. (q : ℚ) → P p q) (λ p. Π_prop (λ q. prop p q)) (λ x. rational_ind (P (of x)) (prop (of x)) (h x)) p q
-
-pub rational_ind₃ : (P : ℚ → ℚ → ℚ → Type 0) → ((p q r : ℚ) → IsProp (P p q r)) → ((x y z : Fraction) → P (of x) (of y) (of z)) → (p q r : ℚ) → P p q r
-rational_ind₃ P prop h p q r =
-    rational_ind₂ (λ p q. (r : ℚ) → P p q r) (λ p q. Π_prop (λ r. prop p q r)) (λ x y. rational_ind (P (of x) (of y)) (prop (of x) (of y)) (h x y)) p q r

@@ -1,8 +1,8 @@
 -- The greatest common divisor, by Euclid's steps.
-use Rattle.std.proofs.Common.{◌≡◌, ℕ, zero, suc, ◌*◌, ◌/◌, ◌%◌, ◌<◌, ◌≤◌, refl, sym, ap, ◌∙◌, mul_comm, subst, arith, mod-lt, zero-lt-suc}
+use Rattle.std.proofs.Common.{◌≡◌, ℕ, zero, suc, ◌*◌, ◌/◌, ◌%◌, ◌<◌, ◌≤◌, refl, sym, ap, subst, arith, mod-lt, zero-lt-suc}
 use Rattle.std.specs.Int.{IsGcd, ◌∣◌}
-use Rattle.std.proofs.lemmas.Nat.Gcd.{IsGcd-from_zero, IsGcd-from_mod, same_from_IsGcd, dvd_antisymm}
-use native.Mathlib.Nat.{mul-one, dvd-mul_left, dvd-mul_right, dvd_of_mul-dvd-mul_left, mul-dvd-mul_left, mul-div_cancel', pos_of_dvd_of_pos, eq_of_mul-eq-mul_left}
+use Rattle.std.proofs.lemmas.Nat.Gcd.{IsGcd-from_zero, IsGcd-from_mod, dvd_antisymm}
+use native.Mathlib.Nat.{dvd-mul_right, dvd_of_mul-dvd-mul_left, mul-dvd-mul_left, mul-div_cancel', pos_of_dvd_of_pos, eq_of_mul-eq-mul_left}
 
 -- what Euclid's algorithm comes to from a and b in that many steps
 abbrev euclid : ℕ → ℕ → ℕ → ℕ
@@ -25,10 +25,6 @@ pub gcd_lem : (a b : ℕ) → IsGcd a b (gcd a b)
 unfolding gcd
 gcd_lem a b = euclid_lem b a b (omega arith)
 
--- whatever is a greatest common divisor is this one
-pub gcd_unique : (a b g : ℕ) → IsGcd a b g → gcd a b ≡ g
-gcd_unique a b g h = same_from_IsGcd a b (gcd a b) g (gcd_lem a b) h
-
 pub gcd-pos : (a b : ℕ) → 0 < b → 0 < gcd a b
 gcd-pos a b h = pos_of_dvd_of_pos (gcd_lem a b).1 h
 
@@ -50,10 +46,3 @@ quotients_same a b d e g h p r s i j =
     let x : g * (a / g) ≡ a = mul-div_cancel' g i in
     let y : h * (b / h) ≡ b = mul-div_cancel' h j in
     eq_of_mul-eq-mul_left (g * e) p (a / g) (b / h) (omega (arith, ap (λ t. t * e) x, ap (λ t. t * d) y, ap (λ t. t * (b / h)) r))
-
--- a number that has nothing in common with one factor of a product divides the other, if it divides the product
-pub dvd_of_coprime : (g b c : ℕ) → 0 < c → gcd g b ≡ 1 → g ∣ b * c → g ∣ c
-dvd_of_coprime g b c p e h =
-    let m : gcd (c * g) (c * b) ≡ c = gcd-mul c g b p ∙ ap (λ t. c * t) e ∙ mul-one c in
-    let h' : g ∣ c * b = subst (λ t. g ∣ t) (mul_comm b c) h in
-    subst (λ t. g ∣ t) m ((gcd_lem (c * g) (c * b)).2 g (dvd-mul_left g c) h')

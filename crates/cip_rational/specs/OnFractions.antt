@@ -2,9 +2,9 @@
 --     add, multiply, opposite, fraction_at_most       on fractions as they stand, with no reduction
 --     over, common, lowest_numerator, lowest_denominator      a fraction's lowest terms
 use lib.IntN.{ℤ, pos, negsuc}
-use native.Mathlib.Nat.{mul-sub, dvd-zero, le_of_mul-le-mul_right, mul-pos, mul-div_cancel', eq-zero-or-pos, eq_of_mul-eq-mul_left, mul-one}
+use native.Mathlib.Nat.{mul-sub, dvd-zero, le_of_mul-le-mul_right, mul-pos, mul-div_cancel', eq-zero-or-pos}
 use borrow.Author.Differences.{up, down, sum_is_lem, neg_is, abs_is, quot_is, same_in}
-use Rattle.std.proofs.Common.{◌≡◌, ℕ, ◌+◌, ◌-◌, ◌*◌, ◌/◌, ◌<◌, ◌≤◌, min, Bool, true, false, leb, ◌-ℤ◌, neg_ℤ, unsigned_abs, int_div, refl, sym, ap, ap₂, ◌∙◌, arith, mul-le-mul_right, leb-true, leb-false, inl, inr}
+use Rattle.std.proofs.Common.{◌≡◌, ℕ, ◌+◌, ◌-◌, ◌*◌, ◌/◌, ◌<◌, ◌≤◌, min, Bool, true, false, leb, ◌-ℤ◌, neg_ℤ, unsigned_abs, int_div, refl, sym, ap, ◌∙◌, arith, mul-le-mul_right, leb-true, leb-false, inl, inr}
 use Rattle.std.specs.Int.{◌∣◌}
 use Rattle.cip_rational.specs.Gcd.{gcd, gcd_lem, gcd-pos, gcd-mul, quotients_same}
 use Rattle.cip_rational.specs.Fraction.{Fraction, Same, of, same_equal}
@@ -174,15 +174,3 @@ lowest-same x =
     let e = lowest-exact x in
     let p : x.up + down (over x) ≡ x.down + up (over x) = omega (arith, over_is x) in
     record { cross = omega (arith, ap (λ t. lowest_denominator x * t) p, ap (λ t. t * lowest_denominator x) e.0, ap (λ t. t * lowest_denominator x) e.1, ap (λ t. up (lowest_numerator x) * t) e.2, ap (λ t. down (lowest_numerator x) * t) e.2) }
-
--- lowest terms have nothing in common
-pub lowest-coprime : (x : Fraction) → gcd (unsigned_abs (lowest_numerator x)) (lowest_denominator x) ≡ 1
-lowest-coprime x =
-    let e = lowest-exact x in
-    let n = lowest_numerator x in
-    let a : unsigned_abs (over x) ≡ up (over x) + down (over x) = omega (arith, abs_is (over x), parts_apart (over x)) in
-    let b : unsigned_abs n ≡ up n + down n = omega (arith, abs_is n, parts_apart n) in
-    let c : common x * unsigned_abs n ≡ unsigned_abs (over x) = omega (arith, a, ap (λ t. common x * t) b, e.0, e.1) in
-    let f = gcd-mul (common x) (unsigned_abs n) (lowest_denominator x) (common-pos x) in
-    let g : common x ≡ common x * gcd (unsigned_abs n) (lowest_denominator x) = ap₂ gcd (sym c) (sym e.2) ∙ f in
-    eq_of_mul-eq-mul_left (common x) (common-pos x) _ _ (sym g ∙ sym (mul-one (common x)))

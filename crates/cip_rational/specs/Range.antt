@@ -1,10 +1,9 @@
 -- Which rationals a pair of `i128` holds, and which operations leave that range.
 --     largest, magnitude, fits_range       the range: in lowest terms both numbers are at most `largest` in magnitude
 --     sum_overflows, difference_overflows, product_overflows, quotient_overflows      whether an operation leaves it
-pub mod InRange
 use Rattle.std.specs.Prelude.{ℕ, ◌*◌, ◌/◌, Bool, not, ◌&&◌, ◌||◌, nat_lt, nat_le, ℤ, pos, ◌+ℤ◌, ◌*ℤ◌, unsigned_abs}
 use Rattle.cip_rational.specs.Gcd.{gcd}
-use Rattle.cip_rational.specs.Rational.{ℚ, ◌+ℚ◌, ◌*ℚ◌, negate, inverse, numerator, denominator}
+use Rattle.cip_rational.specs.Rational.{ℚ, ◌*ℚ◌, negate, inverse, numerator, denominator}
 
 -- 2 ^ 127 - 1, the greatest `i128`
 abbrev pub largest : ℕ

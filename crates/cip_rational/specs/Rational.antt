@@ -5,59 +5,48 @@
 --     numerator, denominator       in lowest terms, the denominator positive
 --     IsWhole, is_whole, floor, ceil       whole numbers, and those next to a rational
 -- The modules below this one have the laws.
-pub mod Compare
-pub mod Extremes
-pub mod Inverse
-pub mod Lowest
-pub mod Ratio
-pub mod Monotone
-pub mod Order
-pub mod Ring
-pub mod Rounding
-pub mod Truncated
-pub mod Whole
 use lib.IntN.{ℤ_set}
 use mathlib.Core.Bool.{Bool-set}
 use native.Mathlib.Nat.{ℕ_set}
 use borrow.Author.Differences.{up, down}
-use Rattle.std.proofs.Common.{◌≡◌, ℕ, zero, suc, ◌+◌, ◌-◌, ◌*◌, ◌/◌, ◌<◌, ◌≤◌, Bool, true, false, not, cond, T, ◌==◌, ℤ, pos, negsuc, neg_ℤ, int_div, Ordering, Less, Equal, Greater, refl, sym, ◌∙◌, arith, zero-lt-suc}
+use Rattle.std.proofs.Common.{◌≡◌, ℕ, zero, suc, ◌<◌, Bool, not, cond, T, ◌==◌, ℤ, pos, negsuc, neg_ℤ, Ordering, Less, Equal, Greater, refl, ◌∙◌, arith, zero-lt-suc}
 use Rattle.std.specs.Int.{int_div_euclid}
 use Rattle.std.specs.Coded.{Coded, code_by, coded×, coded_ℤ, coded_ℕ}
-use Rattle.cip_rational.specs.Fraction.{Fraction, Same, of, same_equal, ℚ_set, rational_rec, rational_rec₂, rational_ind}
+use Rattle.cip_rational.specs.Fraction.{of, same_equal, ℚ_set, rational_rec, rational_rec₂, rational_ind}
 use Rattle.cip_rational.specs.OnFractions.{add, multiply, opposite, fraction_at_most, lowest_numerator, lowest_denominator, add_left, add_right, multiply_left, multiply_right, opposite_same, at_most_left, at_most_right, numerator_same, denominator_same, lowest-pos, lowest-same}
 pub use Rattle.cip_rational.specs.Fraction.{ℚ}
 
 -- ---- numbers
 
 -- m - n
-pub whole : ℕ → ℕ → ℚ
+unfoldable pub whole : ℕ → ℕ → ℚ
 whole m n = of (record { up = m; down = n; den = 1; positive = zero-lt-suc 0 })
 
 -- z / d, and 0 where d is 0
-pub ratio : ℤ → ℕ → ℚ
+unfoldable pub ratio : ℤ → ℕ → ℚ
 ratio z zero = whole 0 0
 ratio z (suc n) = of (record { up = up z; down = down z; den = suc n; positive = zero-lt-suc n })
 
 -- z itself
-pub integer : ℤ → ℚ
+unfoldable pub integer : ℤ → ℚ
 integer z = ratio z 1
 
 -- 0
-pub zeroℚ : ℚ
+unfoldable pub zeroℚ : ℚ
 zeroℚ = whole 0 0
 
 -- 1
-pub oneℚ : ℚ
+unfoldable pub oneℚ : ℚ
 oneℚ = whole 1 0
 
 -- ---- lowest terms
 
 -- the numerator in lowest terms, which has the number's sign
-pub numerator : ℚ → ℤ
+unfoldable pub numerator : ℚ → ℤ
 numerator = rational_rec ℤ_set lowest_numerator numerator_same
 
 -- the denominator in lowest terms, which is positive
-pub denominator : ℚ → ℕ
+unfoldable pub denominator : ℚ → ℕ
 denominator = rational_rec ℕ_set lowest_denominator denominator_same
 
 -- ---- operations
@@ -65,38 +54,38 @@ denominator = rational_rec ℕ_set lowest_denominator denominator_same
 infixl 6 ◌+ℚ◌ ◌-ℚ◌
 infixl 7 ◌*ℚ◌
 -- the sum, of fractions at the product of their denominators
-pub ◌+ℚ◌ : ℚ → ℚ → ℚ
+unfoldable pub ◌+ℚ◌ : ℚ → ℚ → ℚ
 ◌+ℚ◌ = rational_rec₂ ℚ_set (λ x y. of (add x y)) add_left add_right
 
 -- the product, numerators and denominators apart
-pub ◌*ℚ◌ : ℚ → ℚ → ℚ
+unfoldable pub ◌*ℚ◌ : ℚ → ℚ → ℚ
 ◌*ℚ◌ = rational_rec₂ ℚ_set (λ x y. of (multiply x y)) multiply_left multiply_right
 
 -- the number with the other sign
-pub negate : ℚ → ℚ
+unfoldable pub negate : ℚ → ℚ
 negate = rational_rec ℚ_set (λ x. of (opposite x)) opposite_same
 
 -- a and the negative of b
-pub ◌-ℚ◌ : ℚ → ℚ → ℚ
+unfoldable pub ◌-ℚ◌ : ℚ → ℚ → ℚ
 a -ℚ b = a +ℚ negate b
 
 -- d / z, and 0 where z is 0
-abbrev reciprocal : ℤ → ℕ → ℚ
+abbrev pub reciprocal : ℤ → ℕ → ℚ
 reciprocal (pos n) d = ratio (pos d) n
 reciprocal (negsuc n) d = ratio (neg_ℤ (pos d)) (suc n)
 
 -- 1 / q, and 0 where q is 0
-pub inverse : ℚ → ℚ
+unfoldable pub inverse : ℚ → ℚ
 inverse q = reciprocal (numerator q) (denominator q)
 
 -- ---- the order
 
 -- whether a is at most b, by cross products
-pub le_test : ℚ → ℚ → Bool
+unfoldable pub le_test : ℚ → ℚ → Bool
 le_test = rational_rec₂ Bool-set fraction_at_most at_most_left at_most_right
 
 -- whether a is less than b: b is not at most a
-pub lt_test : ℚ → ℚ → Bool
+unfoldable pub lt_test : ℚ → ℚ → Bool
 lt_test a b = not (le_test b a)
 
 infix 4 ◌≤ℚ◌ ◌<ℚ◌
@@ -111,14 +100,6 @@ pub record ◌<ℚ◌ (a b : ℚ) : Type 0 where
 -- what `cmp` answers
 unfoldable pub compare_rational : ℚ → ℚ → Ordering
 compare_rational a b = cond (lt_test a b) Less (cond (lt_test b a) Greater Equal)
-
--- the lesser of two
-unfoldable pub minimum : ℚ → ℚ → ℚ
-minimum a b = cond (le_test a b) a b
-
--- the greater of two
-unfoldable pub maximum : ℚ → ℚ → ℚ
-maximum a b = cond (le_test a b) b a
 
 -- how far a number is from 0
 unfoldable pub absolute : ℚ → ℚ

@@ -3,14 +3,14 @@ use Rattle.std.proofs.Common.{◌≡◌, ◌≢◌, ℕ, ◌<◌, ◌≤◌, Lis
 use Rattle.std.proofs.lemmas.List.Elements.{All-nil, All-cons, All-head, All-tail}
 use Rattle.std.proofs.lemmas.Option.{none-some}
 use Rattle.cip_rational.specs.Rational.{ℚ, integer, numerator, ◌≤ℚ◌}
-use Rattle.cip_rational.specs.Rational.Order.{≤ℚ_refl, ≤ℚ_trans}
-use Rattle.cip_rational.specs.Rational.Whole.{whole_is}
-use Rattle.cip_rational.specs.Rational.Rounding.{le_integer}
+use Rattle.cip_rational.proofs.Rational.Order.{≤ℚ_refl, ≤ℚ_trans}
+use Rattle.cip_rational.proofs.Rational.Whole.{whole_is}
+use Rattle.cip_rational.proofs.Rational.Rounding.{le_integer}
 use Rattle.cip_problem.specs.Program.{Sides, Program}
 use Rattle.cip_problem.specs.WellFormed.{IsWellFormed}
 use Rattle.cip_problem.specs.Box.{Between, IsInBox}
 use Rattle.cip_problem.specs.BoxBound.{box_bound}
-use Rattle.cip_problem.specs.BoxBound.BelowCosts.{root_bound_holds}
+use Rattle.cip_problem.proofs.BoxBound.BelowCosts.{root_bound_holds}
 use Rattle.cip_problem.specs.Points.{IsLowerBound}
 use Rattle.cip_problem.specs.Wholes.{IsWholeSide, HasWholeSides}
 use Rattle.cip_problem.specs.Log.{Entry, root}

@@ -2,16 +2,16 @@
 use Rattle.std.proofs.Common.{◌≡◌, ◌≢◌, inl, inr, ℕ, true, false, List, [], ◌∷◌, Option, None, Some, All, refl, sym, ap, ◌∙◌, subst, arith, true≢false}
 use Rattle.std.proofs.lemmas.List.Elements.{All-nil, All-cons, All-head}
 use Rattle.cip_rational.specs.Rational.{ℚ, ◌≤ℚ◌}
-use Rattle.cip_rational.specs.Rational.Order.{≤ℚ_trans, not_le_of_lt, le_of_not_lt, le_of_lt_test}
+use Rattle.cip_rational.proofs.Rational.Order.{≤ℚ_trans, not_le_of_lt, le_of_not_lt, le_of_lt_test}
 use Rattle.cip_problem.specs.Program.{Program}
 use Rattle.cip_problem.specs.WellFormed.{IsWellFormed}
 use Rattle.cip_problem.specs.BoxBound.{box_bound}
-use Rattle.cip_problem.specs.BoxBound.BelowCosts.{root_bound_holds}
+use Rattle.cip_problem.proofs.BoxBound.BelowCosts.{root_bound_holds}
 use Rattle.cip_problem.specs.Points.{IsFeasible, cost_of, IsLowerBound}
 use Rattle.cip_problem.specs.Log.{Entry, Node, root, node_of, IsOpen, HasOpenNode, matters}
 use Rattle.cip_solve.specs.Splits.{IsWholeRange}
 use Rattle.cip_solve.specs.Searching.{IsInner, Searching}
-use Rattle.cip_solve.specs.OneMore.{contains_cons, node_of_here, node_of_later, node_of_among}
+use Rattle.cip_solve.proofs.OneMore.{contains_cons, node_of_here, node_of_later, node_of_among}
 
 -- ---- the start
 

@@ -3,9 +3,9 @@ use Rattle.std.proofs.Common.{◌≡◌, ℕ, zero, suc, ◌<◌, Bool, true, Li
 use Rattle.std.proofs.lemmas.List.Elements.{All-head, All-tail, All-set}
 use Rattle.std.proofs.lemmas.Option.{slice_get-get_or}
 use Rattle.cip_rational.specs.Rational.{ℚ, integer, ◌≤ℚ◌, IsWhole}
-use Rattle.cip_rational.specs.Rational.Order.{≤ℚ_refl, ≤ℚ_antisymm}
-use Rattle.cip_rational.specs.Rational.Whole.{IsWhole-integer}
-use Rattle.cip_rational.specs.Rational.Rounding.{integer_le}
+use Rattle.cip_rational.proofs.Rational.Order.{≤ℚ_refl, ≤ℚ_antisymm}
+use Rattle.cip_rational.proofs.Rational.Whole.{IsWhole-integer}
+use Rattle.cip_rational.proofs.Rational.Rounding.{integer_le}
 use Rattle.cip_problem.specs.Program.{Sides}
 use Rattle.cip_problem.specs.Box.{Between, IsInBox, sides_at}
 use Rattle.cip_problem.specs.Points.{AreWhole}

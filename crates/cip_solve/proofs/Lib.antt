@@ -1,7 +1,9 @@
 pub mod Answered
+pub mod BudgetsLaws
 pub mod Ends
 pub mod Leaves
 pub mod Offers
+pub mod OneMore
 pub mod Places
 pub mod Ranges
 pub mod Steps

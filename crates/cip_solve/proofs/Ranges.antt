@@ -4,7 +4,7 @@ use Rattle.std.proofs.Common.{◌≡◌, pos, ◌+ℤ◌, ◌≤ℤ◌, true, fa
 use Rattle.std.specs.Prelude.{◌<ℤ◌}
 use Rattle.std.proofs.lemmas.Int.{ints}
 use Rattle.cip_rational.specs.Rational.{integer}
-use Rattle.cip_rational.specs.Rational.Rounding.{floor-integer, ceil-integer}
+use Rattle.cip_rational.proofs.Rational.Rounding.{floor-integer, ceil-integer}
 use Rattle.cip_problem.specs.Program.{Sides}
 use Rattle.cip_problem.specs.Box.{two_wholes_between}
 use Rattle.cip_solve.specs.Splits.{IsWholeRange}

@@ -4,15 +4,15 @@ use Rattle.std.proofs.lemmas.List.{append-nil}
 use Rattle.std.proofs.lemmas.List.Elements.{All-push, Contains-append_left, Contains-push, Contains-push_cases}
 use Rattle.std.proofs.lemmas.Option.{none-some, same_Some}
 use Rattle.cip_rational.specs.Rational.{ℚ, ◌≤ℚ◌}
-use Rattle.cip_rational.specs.Rational.Order.{<ℚ_of_lt_of_le, not_le_of_lt, lt_of_test, test_of_lt}
+use Rattle.cip_rational.proofs.Rational.Order.{<ℚ_of_lt_of_le, not_le_of_lt, lt_of_test, test_of_lt}
 use Rattle.cip_problem.specs.Program.{Program}
 use Rattle.cip_problem.specs.Box.{IsInBox}
 use Rattle.cip_problem.specs.Points.{IsFeasible, cost_of}
 use Rattle.cip_problem.specs.Log.{Split, Closed, Entry, Node, root, node_of, halves, nodes_of, low_half, high_half, CanSplit, IsLog, IsOpen, matters}
-use Rattle.cip_problem.specs.Log.Halves.{halves_cover, low_half_within, high_half_within}
+use Rattle.cip_problem.proofs.Log.Halves.{halves_cover, low_half_within, high_half_within}
 use Rattle.cip_solve.specs.Splits.{IsWholeRange}
 use Rattle.cip_solve.specs.Searching.{given_by, IsInOne, IsInner, Searching}
-use Rattle.cip_solve.specs.OneMore.{pop_all, pairwise_pop, pairwise_push, contains_cons, none_or_some, node_of_kept, node_of_new, node_of_here, node_of_later, node_of_among, given_more, follow_more, taken_more, taken_before, taken_last, taken_given}
+use Rattle.cip_solve.proofs.OneMore.{pop_all, pairwise_pop, pairwise_push, contains_cons, none_or_some, node_of_kept, node_of_new, node_of_here, node_of_later, node_of_among, given_more, follow_more, taken_more, taken_before, taken_last, taken_given}
 
 -- ---- points in one of the nodes
 

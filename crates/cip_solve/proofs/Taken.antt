@@ -21,7 +21,7 @@ use Rattle.cip_solve.specs.Kept.{Kept}
 use Rattle.cip_solve.specs.Right.{IsHeld}
 use Rattle.cip_solve.specs.declared.stack.OpenNode.{OpenNode}
 use Rattle.cip_solve.specs.declared.splits.Halves.{Halves}
-use Rattle.cip_solve.specs.OneMore.{pop_all, pairwise_pop, pairwise_push}
+use Rattle.cip_solve.proofs.OneMore.{pop_all, pairwise_pop, pairwise_push}
 use Rattle.cip_solve.proofs.Places.{kept_long, kept_further, changed_set, changed_kept, changed_again, changed_before}
 use Rattle.cip_solve.proofs.Leaves.{only_corner, corner_within, corner_whole, divides}
 use Rattle.cip_solve.proofs.Ends.{cleared}

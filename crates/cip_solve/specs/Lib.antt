@@ -3,7 +3,6 @@ pub mod Budgets
 pub mod CanBound
 pub mod Kept
 pub mod Logs
-pub mod OneMore
 pub mod Right
 pub mod Searching
 pub mod Splits

@@ -1,2 +1,3 @@
-pub mod Cuts
 mod Tried
+pub mod Cuts
+pub mod ThinText

@@ -2,12 +2,12 @@
 use lib.Chars.{codes}
 use Rattle.std.proofs.Common.{arith, replicate, ◌≡◌, ℕ, List, [], ◌∷◌, ◌++◌, length, None, Some, refl, pos, neg_ℤ, ◌≤◌, ◌⊎◌, inl, inr, true, false, lit≤, ap, sym, ◌∙◌}
 use Rattle.cip_rational.specs.Rational.{negate, integer}
-use Rattle.cip_rational.specs.Rational.Ratio.{ratio-negate, integer_ratio}
+use Rattle.cip_rational.proofs.Rational.Ratio.{ratio-negate, integer_ratio}
 use Rattle.cip_problem.specs.Limits.{longest_text}
 use Rattle.cip_syntax.specs.Lines.{Record, Section, Entry, records}
 use Rattle.cip_syntax.specs.ThinText.{ValueLine, BoundLine, Contents, row_record, records_of, program_of, IsThin}
-use Rattle.cip_syntax.specs.ThinText.Rules.{keeps_rules, rules_kept, ends_at_marker, marker_ends, not_thin, not_thin_without_end}
-use Rattle.cip_syntax.specs.ThinText.Parts.{says_max, row_first}
+use Rattle.cip_syntax.proofs.ThinText.Rules.{keeps_rules, rules_kept, ends_at_marker, marker_ends, not_thin, not_thin_without_end}
+use Rattle.cip_syntax.proofs.ThinText.Parts.{says_max, row_first}
 use Rattle.cip_problem.specs.WellFormed.{no_program}
 use Rattle.cip_syntax.specs.TextExamples.{chvatal_text, chvatal, loose_text, loose, empty_text, HasProgram, with_sense, with_end, with_rows, with_entries, with_limits, with_bounds, with_column, Tells}
 

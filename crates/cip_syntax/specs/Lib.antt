@@ -1,4 +1,4 @@
 pub mod Lines
-pub mod ThinText
 pub mod TextExamples
 pub mod TextStatements
+pub mod ThinText

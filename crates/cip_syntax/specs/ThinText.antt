@@ -1,8 +1,5 @@
 -- The thin form of free MPS: which texts have it, and which program such a text has. The records of a thin text, up
 -- to ENDATA, are those of its contents; the rules are on the contents, by look-ups of names.
-pub mod Laws
-pub mod Parts
-pub mod Rules
 pub mod ThinProgram
 use lib.Chars.{codes}
 use Rattle.std.specs.Prelude.{◌≡◌, ◌≢◌, ◌⊎◌, ⊤, nat_lt, ℕ, zero, suc, ◌+◌, ◌-◌, ◌≤◌, Bool, true, ◌&&◌, List, [], ◌∷◌, ◌++◌, length, map, pos, Option, None, Some, if◌then◌else◌}

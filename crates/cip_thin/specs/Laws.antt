@@ -7,15 +7,15 @@ use Rattle.std.proofs.Common.{sym, ap, ◌∙◌, arith, subst, neg_ℤ}
 use Rattle.std.proofs.lemmas.Int.{ints}
 use Rattle.std.proofs.lemmas.List.Elements.{recursion_from_All}
 use Rattle.cip_rational.specs.Rational.{ℚ, negate, integer}
-use Rattle.cip_rational.specs.Rational.Ring.{negate_negate}
-use Rattle.cip_rational.specs.Rational.Rounding.{integer-negate}
+use Rattle.cip_rational.proofs.Rational.Ring.{negate_negate}
+use Rattle.cip_rational.proofs.Rational.Rounding.{integer-negate}
 use Rattle.cip_problem.specs.Program.{Term, Sides, Row, Program}
 use Rattle.cip_problem.specs.RowTerms.{AreTerms, column_at, no_term}
 use Rattle.cip_problem.specs.WellFormed.{columns}
 use Rattle.cip_problem.specs.Activity.{StandsBelow}
 use Rattle.cip_syntax.specs.ThinText.ThinProgram.{IsShort, HasThinSides, IsThinRow, IsThinProgram}
 use Rattle.cip_frac.proofs.WholeSizes.{IsWithin}
-use Rattle.cip_model.specs.SmallPrograms.{few, HasSmallSides, HasSmallTerms, IsSmall, small_can_check, small_box_bound}
+use Rattle.cip_model.proofs.SmallPrograms.{few, HasSmallSides, HasSmallTerms, IsSmall, small_can_check, small_box_bound}
 use Rattle.cip_thin.specs.Statements.{NoOverflow}
 
 short_within : (value : ℚ) → IsShort value → IsWithin few value

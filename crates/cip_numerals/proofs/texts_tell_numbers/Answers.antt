@@ -1,4 +1,4 @@
-use Rattle.cip_numerals.specs.NumberText.{fraction_text_injective}
+use Rattle.cip_numerals.proofs.NumberText.{fraction_text_injective}
 use Rattle.cip_numerals.proofs.texts_tell_numbers.Goals as goal
 
 pub returns : goal.returns

@@ -1,4 +1,4 @@
-use Rattle.cip_problem.specs.BoxBound.BelowCosts.{box_bound_holds, root_bound_holds}
+use Rattle.cip_problem.proofs.BoxBound.BelowCosts.{box_bound_holds, root_bound_holds}
 use Rattle.cip_problem.proofs.box_bound_holds.Goals as goal
 
 pub returns : goal.returns

@@ -1,4 +1,4 @@
-use Rattle.cip_problem.specs.Log.Halves as halves
+use Rattle.cip_problem.proofs.Log.Halves as halves
 use Rattle.cip_problem.proofs.halves_cover.Goals as goal
 
 pub returns : goal.returns

@@ -1,4 +1,4 @@
-use Rattle.cip_problem.specs.Log.Length.{log_is_short}
+use Rattle.cip_problem.proofs.Log.Length.{log_is_short}
 use Rattle.cip_problem.proofs.logs_are_short.Goals as goal
 
 pub returns : goal.returns

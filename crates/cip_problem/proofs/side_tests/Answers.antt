@@ -1,5 +1,5 @@
-use Rattle.cip_problem.specs.Box.SideTests.{between_of_test, test_of_between, one_value}
-use Rattle.cip_problem.specs.Wholes.Counts.{two_wholes_of_test, same_whole_of_test}
+use Rattle.cip_problem.proofs.Box.SideTests.{between_of_test, test_of_between, one_value}
+use Rattle.cip_problem.proofs.Wholes.Counts.{two_wholes_of_test, same_whole_of_test}
 use Rattle.cip_problem.proofs.side_tests.Goals as goal
 
 pub returns : goal.returns

@@ -1,4 +1,4 @@
-use Rattle.cip_rational.specs.Sums.{combine_holds}
+use Rattle.cip_rational.proofs.Sums.{combine_holds}
 use Rattle.cip_rational.proofs.combinations_hold.Goals as goal
 
 pub returns : goal.returns

@@ -1,4 +1,4 @@
-use Rattle.cip_rational.specs.Rational.Compare.{compare_total}
+use Rattle.cip_rational.proofs.Rational.Compare.{compare_total}
 use Rattle.cip_rational.proofs.comparison_is_total.Goals as goal
 
 pub returns : goal.returns

@@ -1,5 +1,5 @@
 use Rattle.cip_rational.specs.Rational.{is_ratio}
-use Rattle.cip_rational.specs.Rational.Lowest.{denominator-pos, IsGcd-lowest_terms, numerator_lowest, denominator_lowest}
+use Rattle.cip_rational.proofs.Rational.Lowest.{denominator-pos, IsGcd-lowest_terms, numerator_lowest, denominator_lowest}
 use Rattle.cip_rational.proofs.lowest_terms.Goals as goal
 
 pub returns : goal.returns

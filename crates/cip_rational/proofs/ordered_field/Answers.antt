@@ -1,7 +1,7 @@
-use Rattle.cip_rational.specs.Rational.Ring.{+ℚ_comm, +ℚ_assoc, +ℚ-zero, +ℚ-negate, *ℚ_comm, *ℚ_assoc, *ℚ-one, *ℚ-add, one_is_not_zero}
-use Rattle.cip_rational.specs.Rational.Order.{≤ℚ_total, ≤ℚ_trans, ≤ℚ_antisymm, ≤ℚ_refl, not_le_of_lt, lt_of_not_le}
-use Rattle.cip_rational.specs.Rational.Monotone.{+ℚ_mono, *ℚ_nonneg}
-use Rattle.cip_rational.specs.Rational.Inverse.{*ℚ-inverse}
+use Rattle.cip_rational.proofs.Rational.Ring.{+ℚ_comm, +ℚ_assoc, +ℚ-zero, +ℚ-negate, *ℚ_comm, *ℚ_assoc, *ℚ-one, *ℚ-add, one_is_not_zero}
+use Rattle.cip_rational.proofs.Rational.Order.{≤ℚ_total, ≤ℚ_trans, ≤ℚ_antisymm, ≤ℚ_refl, not_le_of_lt, lt_of_not_le}
+use Rattle.cip_rational.proofs.Rational.Monotone.{+ℚ_mono, *ℚ_nonneg}
+use Rattle.cip_rational.proofs.Rational.Inverse.{*ℚ-inverse}
 use Rattle.cip_rational.proofs.ordered_field.Goals as goal
 
 pub returns : goal.returns

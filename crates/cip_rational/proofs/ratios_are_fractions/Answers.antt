@@ -1,4 +1,4 @@
-use Rattle.cip_rational.specs.Rational.Ratio.{ratio-add, ratio-mul, le-ratio, ratio-le, same_ratio, ratio_same}
+use Rattle.cip_rational.proofs.Rational.Ratio.{ratio-add, ratio-mul, le-ratio, ratio-le, same_ratio, ratio_same}
 use Rattle.cip_rational.proofs.ratios_are_fractions.Goals as goal
 
 pub returns : goal.returns

@@ -1,4 +1,4 @@
-use Rattle.cip_rational.specs.Rational.Rounding.{floor_le, floor_greatest, le_ceil, ceil_least, whole_gap}
+use Rattle.cip_rational.proofs.Rational.Rounding.{floor_le, floor_greatest, le_ceil, ceil_least, whole_gap}
 use Rattle.cip_rational.proofs.rounding.Goals as goal
 
 pub returns : goal.returns

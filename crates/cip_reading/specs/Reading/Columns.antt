@@ -7,8 +7,8 @@ use Rattle.std.proofs.lemmas.Bool.{eqb-true, eqb-false}
 use Rattle.std.proofs.lemmas.Bool.Decides.{Decides-and, Decides-ltb}
 use Rattle.std.proofs.lemmas.List.{length-append, length-map, append-nil, map-append}
 use Rattle.cip_rational.specs.Rational.{negate, zeroℚ}
-use Rattle.cip_rational.specs.Rational.Ring.{negate_zero, zero_is}
-use Rattle.cip_rational.specs.Rational.Whole.{integer-pos}
+use Rattle.cip_rational.proofs.Rational.Ring.{negate_zero, zero_is}
+use Rattle.cip_rational.proofs.Rational.Whole.{integer-pos}
 use Rattle.cip_syntax.specs.ThinText.{BoundLine, number_or_zero, digits_at, bound_digits, IsIn, AreDistinct, HasShortName, rational, with_term}
 use Rattle.cip_problem.specs.Names.{number_of}
 use Rattle.cip_reading.specs.Reading.{Stage, Reading, no_column, column_added, column_found, column_taken}

@@ -1,5 +1,5 @@
 use Rattle.cip_thin.specs.Laws.{thin_fits}
-use Rattle.cip_syntax.specs.ThinText.Laws.{thin_program}
+use Rattle.cip_syntax.proofs.ThinText.Laws.{thin_program}
 use Rattle.cip_thin.proofs.thin_programs_fit.Goals as goal
 
 pub returns : goal.returns

@@ -1,4 +1,4 @@
-use Rattle.cip_solve.specs.Budgets.{budget_suffices}
+use Rattle.cip_solve.proofs.BudgetsLaws.{budget_suffices}
 use Rattle.cip_solve.proofs.budgets.budgets_suffice.Goals as goal
 
 pub returns : goal.returns

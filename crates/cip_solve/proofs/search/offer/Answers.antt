@@ -1,7 +1,7 @@
 use Rattle.std.proofs.Common.{◌∙◌, sym}
 use Rattle.cip_rational.specs.Rational.{◌≤ℚ◌}
-use Rattle.cip_rational.specs.Rational.Order.{≤ℚ_refl, ≤ℚ_of_eq, ≤ℚ_of_lt, lt_of_test, le_of_lt_test}
-use Rattle.cip_problem.specs.Points.AtPlaces.{IsInBox-long}
+use Rattle.cip_rational.proofs.Rational.Order.{≤ℚ_refl, ≤ℚ_of_eq, ≤ℚ_of_lt, lt_of_test, le_of_lt_test}
+use Rattle.cip_problem.proofs.Points.AtPlaces.{IsInBox-long}
 use Rattle.cip_rational.proofs.Comparisons.{is_lt-compare}
 use Rattle.cip_solve.proofs.Offers.{feasible_cost}
 use Rattle.cip_solve.proofs.search.offer.Goals as goal

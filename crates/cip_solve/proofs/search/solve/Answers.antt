@@ -1,6 +1,6 @@
 use Rattle.std.proofs.Common.{◌≡◌, ◌++◌, ◌∷◌, [], inl, inr, arith, refl, ap}
 use Rattle.std.proofs.lemmas.Grind.{common_steps}
-use Rattle.cip_rational.specs.Rational.Order.{≤ℚ_refl}
+use Rattle.cip_rational.proofs.Rational.Order.{≤ℚ_refl}
 use Rattle.cip_problem.specs.BoxBound.{box_bound}
 use Rattle.cip_solve.proofs.Answered.{kept_start, right_before, right_end}
 use Rattle.cip_solve.proofs.search.solve.Goals as goal

@@ -3,7 +3,7 @@ use Rattle.std.specs.Prelude.{◌<ℤ◌}
 use Rattle.std.proofs.lemmas.Int.{ints}
 use Rattle.std.proofs.lemmas.Option.{same_Some}
 use Rattle.cip_rational.specs.Rational.{integer, numerator}
-use Rattle.cip_rational.specs.Rational.Lowest.{numerator-integer}
+use Rattle.cip_rational.proofs.Rational.Lowest.{numerator-integer}
 use Rattle.cip_solve.proofs.Ranges.{range_apart, are_halves}
 use Rattle.cip_solve.proofs.splits.split_sides.Goals as goal
 

@@ -1,4 +1,4 @@
-use Rattle.cip_syntax.specs.ThinText.Laws.{number_below}
+use Rattle.cip_syntax.proofs.ThinText.Laws.{number_below}
 use Rattle.cip_syntax.proofs.texts.numbers_are_short.Goals as goal
 
 pub returns : goal.returns

@@ -1,4 +1,4 @@
-use Rattle.cip_syntax.specs.ThinText.Parts.{one_program}
+use Rattle.cip_syntax.proofs.ThinText.Parts.{one_program}
 use Rattle.cip_syntax.proofs.texts.one_program.Goals as goal
 
 pub returns : goal.returns

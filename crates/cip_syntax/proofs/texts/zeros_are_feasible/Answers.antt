@@ -1,4 +1,4 @@
-use Rattle.cip_syntax.specs.ThinText.Laws.{thin_program, zeros_feasible, zeros_cost}
+use Rattle.cip_syntax.proofs.ThinText.Laws.{thin_program, zeros_feasible, zeros_cost}
 use Rattle.cip_syntax.proofs.texts.zeros_are_feasible.Goals as goal
 
 pub returns : goal.returns

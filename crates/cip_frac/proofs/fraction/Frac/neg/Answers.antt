@@ -1,6 +1,6 @@
 use Rattle.std.proofs.Common.{ap, sym, ◌∙◌}
 use Rattle.cip_rational.specs.Rational.{ratio, negate}
-use Rattle.cip_rational.specs.Rational.Ratio.{ratio-negate}
+use Rattle.cip_rational.proofs.Rational.Ratio.{ratio-negate}
 use Rattle.cip_frac.proofs.Casts.{negated}
 use Rattle.cip_frac.proofs.Fields.{AreLowest-neg}
 use Rattle.cip_frac.specs.LowestTerms.{AreLowest}

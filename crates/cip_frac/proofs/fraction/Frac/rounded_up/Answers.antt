@@ -1,6 +1,6 @@
 use Rattle.std.proofs.Common.{sym, ap, ◌∙◌}
 use Rattle.cip_rational.specs.Rational.{negate, integer, floor, ceil}
-use Rattle.cip_rational.specs.Rational.Rounding.{integer-negate}
+use Rattle.cip_rational.proofs.Rational.Rounding.{integer-negate}
 use Rattle.cip_frac.proofs.fraction.Frac.rounded_up.Goals as goal
 
 pub returns : goal.returns

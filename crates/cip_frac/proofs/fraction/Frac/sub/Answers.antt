@@ -1,6 +1,6 @@
 use Rattle.std.proofs.Common.{ap, sym, ◌∙◌, refl}
 use Rattle.cip_rational.specs.Rational.{◌+ℚ◌}
-use Rattle.cip_rational.specs.Rational.Ring.{sub_is}
+use Rattle.cip_rational.proofs.Rational.Ring.{sub_is}
 use Rattle.cip_rational.specs.Range.{sum_overflows, difference_overflows}
 use Rattle.cip_frac.proofs.fraction.Frac.sub.Goals as goal
 

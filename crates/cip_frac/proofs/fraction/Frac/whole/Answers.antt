@@ -2,7 +2,7 @@ use Rattle.std.proofs.Common.{ap, sym, subst, ◌∙◌, refl}
 use Rattle.cip_rational.specs.Rational.{ratio}
 use Rattle.cip_frac.specs.LowestTerms.{AreLowest}
 use Rattle.cip_frac.proofs.Casts.{kept}
-use Rattle.cip_rational.specs.Rational.Ratio.{integer_ratio}
+use Rattle.cip_rational.proofs.Rational.Ratio.{integer_ratio}
 use Rattle.cip_frac.proofs.Fields.{AreLowest-whole, least_is, least_is_outside, not_least}
 use Rattle.cip_frac.proofs.fraction.Frac.whole.Goals as goal
 

@@ -2,7 +2,7 @@ use Rattle.std.proofs.Common.{ap, sym, subst, ◌∙◌}
 use Rattle.cip_rational.specs.Rational.{ratio}
 use Rattle.cip_frac.specs.LowestTerms.{AreLowest}
 use Rattle.cip_frac.proofs.Casts.{widened, widened_small}
-use Rattle.cip_rational.specs.Rational.Ratio.{integer_ratio}
+use Rattle.cip_rational.proofs.Rational.Ratio.{integer_ratio}
 use Rattle.cip_frac.proofs.Fields.{AreLowest-whole}
 use Rattle.cip_frac.proofs.fraction.FracFromI64.from.Goals as goal
 

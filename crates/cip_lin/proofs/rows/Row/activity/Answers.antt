@@ -1,4 +1,4 @@
-use Rattle.cip_lin.specs.RowSums.ActivityValue.{activity_from-zero}
+use Rattle.cip_lin.proofs.RowSums.ActivityValue.{activity_from-zero}
 use Rattle.cip_lin.proofs.rows.Row.activity.Goals as goal
 
 pub returns-clause-value : goal.returns-clause-value

@@ -1,5 +1,5 @@
 use Rattle.std.proofs.Common.{rules}
-use Rattle.cip_model.specs.Meaning.BoxBound.{bound_is_right}
+use Rattle.cip_model.proofs.Meaning.BoxBound.{bound_is_right}
 use Rattle.cip_model.proofs.programs.Program.box_bound.Goals as goal
 
 pub returns-clause-meaning : goal.returns-clause-meaning

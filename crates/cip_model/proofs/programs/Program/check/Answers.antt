@@ -1,7 +1,7 @@
 use Rattle.std.proofs.Common.{rules, subst}
 use Rattle.cip_problem.specs.WellFormed.{IsWellFormed}
 use Rattle.cip_model.specs.declared.verdicts.Verdict.TheVariants.{Feasible, BreaksBound, BreaksWhole}
-use Rattle.cip_model.specs.Meaning.Point.{verdict_is_right}
+use Rattle.cip_model.proofs.Meaning.Point.{verdict_is_right}
 use Rattle.cip_model.proofs.programs.Program.check.Goals as goal
 
 pub returns-in-Some-clause-meaning : goal.returns-in-Some-clause-meaning

@@ -1,6 +1,6 @@
 use Rattle.std.proofs.Common.{◌≡◌, ◌∙◌, ◌+◌, false, Result, Ok, Err, sym, ap, rules}
 use Rattle.std.specs.Prelude.{OnOk, is_err}
-use Rattle.cip_rational.specs.Rational.Order.{≤ℚ_refl, ≤ℚ_trans}
+use Rattle.cip_rational.proofs.Rational.Order.{≤ℚ_refl, ≤ℚ_trans}
 use Rattle.cip_solve.proofs.search.Search.explore.Goals as goal
 
 -- what is said of an Ok holds where there is no Err

@@ -1,5 +1,5 @@
 use Rattle.std.proofs.Common.{◌∙◌, sym}
-use Rattle.cip_rational.specs.Rational.Order.{≤ℚ_refl}
+use Rattle.cip_rational.proofs.Rational.Order.{≤ℚ_refl}
 use Rattle.cip_solve.proofs.Taken.{kept_cleared}
 use Rattle.cip_solve.proofs.search.Search.step.Goals as goal
 

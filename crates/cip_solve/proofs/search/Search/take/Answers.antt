@@ -1,5 +1,5 @@
 use Rattle.std.proofs.Common.{◌≡◌, ◌∙◌, length, sym, ap, subst, arith}
-use Rattle.cip_rational.specs.Rational.Order.{≤ℚ_refl}
+use Rattle.cip_rational.proofs.Rational.Order.{≤ℚ_refl}
 use Rattle.cip_problem.specs.Box.{no_sides}
 use Rattle.cip_problem.specs.WellFormed.{columns}
 use Rattle.cip_model.specs.Verdicts.{verdict_of}

@@ -1,0 +1,3 @@
+-- Lemmas on `RowSums`.
+pub mod ActivityValue
+use Rattle.std.specs.Prelude.{[]}

@@ -1,0 +1,3 @@
+-- Lemmas on `Meaning`.
+pub mod BoxBound
+pub mod Point

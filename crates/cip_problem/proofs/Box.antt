@@ -1,0 +1,3 @@
+-- Lemmas on `Box`.
+pub mod SideTests
+use Rattle.std.specs.Prelude.{[]}

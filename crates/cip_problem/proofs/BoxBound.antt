@@ -1,0 +1,3 @@
+-- Lemmas on `BoxBound`.
+pub mod BelowCosts
+use Rattle.std.specs.Prelude.{[]}

@@ -1,0 +1,2 @@
+-- Lemmas on `Points`.
+pub mod AtPlaces

@@ -1,0 +1,3 @@
+-- Lemmas on `Wholes`.
+pub mod Counts
+use Rattle.std.specs.Prelude.{[]}

@@ -1,0 +1,3 @@
+-- Lemmas on `Range`.
+pub mod InRange
+use Rattle.std.specs.Prelude.{◌||◌}
