@@ -1,6 +1,7 @@
 use Rattle.std.proofs.Common.{◌≡◌, ◌≤◌, ◌+◌, ◌-◌, length, take, drop, min, rules, arith, length-append, length-drop, length-take, ◌∙◌}
 use Rattle.cip_problem.specs.Limits.{longest_text}
 use Rattle.cip_main.specs.Pulling.{most_pulled}
+use Rattle.cip_main.specs.declared.reader.TheConstants.{PIECE}
 use Rattle.cip_main.proofs.Readings.{reading_none, all_read, too_long}
 use Rattle.cip_main.proofs.reader.read_pieces.Goals as goal
 
