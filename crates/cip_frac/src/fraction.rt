@@ -235,9 +235,9 @@ impl Frac {
         self.neg().rounded_down().neg()
     }
 
-    // 1 / self
+    /// 1 over the number, which must not be 0; always in range.
     #[inline]
-    pub(crate) fn reciprocal(self) -> Frac
+    pub fn reciprocal(self) -> Frac
         requires { self ≢ zeroℚ }
         ensures { result ≡ inverse self }
     {

@@ -2,11 +2,13 @@
 #![tactic(auto)]
 
 mod boxes;
+mod combos;
 mod extremes;
 mod outcomes;
 mod rows;
 
 pub use boxes::{Bounds, Sides};
+pub use combos::{ColumnMultiple, Combo, RowId, RowMultiple};
 pub use extremes::{add_least, least};
 pub use outcomes::Least;
 pub use rows::{Row, RowFault, Term};

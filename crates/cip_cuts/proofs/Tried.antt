@@ -1,0 +1,63 @@
+-- The definitions tried on rows that were worked out by hand.
+use Rattle.std.proofs.Common.{◌≡◌, ◌≢◌, pos, negsuc, true, false, [], ◌∷◌, Some, refl, sym, ap, ◌∙◌, subst, arith, true≢false, lit<}
+use Rattle.cip_rational.specs.Gcd.{gcd}
+use Rattle.cip_rational.specs.Rational.{ℚ, whole, integer, ratio, zeroℚ, IsWhole, ceil, denominator}
+use Rattle.cip_rational.proofs.Rational.Ring.{zero_is, same_whole}
+use Rattle.cip_rational.proofs.Rational.Whole.{IsWhole-whole, IsWhole-zero, is_whole-denominator, floor-ratio, ceil-ratio}
+use Rattle.cip_rational.proofs.Rational.Lowest.{denominator-ratio}
+use Rattle.cip_rational.proofs.Rational.Order.{test_of_le, le_test_of_lt, ≤ℚ_refl}
+use Rattle.cip_rational.proofs.Linear.{linear_le, linear_lt}
+use Rattle.cip_linear.specs.Aggregate.{Inequality, aggregate}
+use Rattle.cip_linear.specs.Examples.{half, half_row}
+use Rattle.cip_linear.proofs.Tried.{half_row_is}
+use Rattle.cip_cuts.specs.Cuts.{CanRoundAt, CanRound, rounded, rounded_sides, is_zero, terms_from}
+
+at_whole_column : (d : ℚ) → IsWhole d → CanRoundAt true d
+at_whole_column d w = record { coefficient_whole = w; column_whole = λ _. refl }
+
+pub can_round : CanRound (true ∷ true ∷ []) (aggregate 2 half_row).coefficients
+can_round =
+    subst (λ (row : Inequality). CanRound (true ∷ true ∷ []) row.coefficients) (sym half_row_is)
+    (at_whole_column (whole 0 1) (IsWhole-whole 0 1), (at_whole_column (whole 0 1) (IsWhole-whole 0 1), tt))
+
+ceil_three_halves : ceil (ratio (negsuc 2) 2) ≡ negsuc 0
+ceil_three_halves = ceil-ratio (negsuc 2) 2 (lit< tt)
+
+pub rounded_row : rounded (aggregate 2 half_row) ≡ record { coefficients = whole 0 1 ∷ whole 0 1 ∷ []; least = integer (negsuc 0) }
+rounded_row = ap rounded half_row_is ∙ rw ceil_three_halves refl
+
+one_is_not_zero : whole 0 1 ≢ zeroℚ
+one_is_not_zero e = absurd (omega (arith, same_whole 0 1 0 0 (e ∙ zero_is)))
+
+pub continuous : ¬ CanRound (true ∷ false ∷ []) (aggregate 2 half_row).coefficients
+continuous h =
+    let k = subst (λ (row : Inequality). CanRound (true ∷ false ∷ []) row.coefficients) half_row_is h in
+    true≢false (sym (k.1.0.column_whole one_is_not_zero))
+
+half_denominator : denominator half ≡ 2
+unfolding gcd
+half_denominator = denominator-ratio (pos 1) 2 (lit< tt)
+
+pub fractional : ¬ CanRound (true ∷ []) (half ∷ [])
+fractional h =
+    let e = is_whole-denominator half h.0.coefficient_whole in
+    absurd (omega (arith, e, half_denominator))
+
+pub continuous_zero : CanRound (true ∷ false ∷ []) (whole 0 1 ∷ zeroℚ ∷ [])
+continuous_zero =
+    (at_whole_column (whole 0 1) (IsWhole-whole 0 1), (record { coefficient_whole = IsWhole-zero; column_whole = λ n. absurd (n refl) }, tt))
+
+pub inward : rounded_sides (record { low = Some half; high = Some half }) ≡ record { low = Some (integer (pos 1)); high = Some (integer (pos 0)) }
+inward = rw (ceil-ratio (pos 1) 2 (lit< tt), floor-ratio (pos 1) 2 (lit< tt)) refl
+
+zero_test : is_zero zeroℚ ≡ true
+zero_test = rw (test_of_le (≤ℚ_refl zeroℚ)) refl
+
+minus_one_test : is_zero (whole 0 1) ≡ false
+minus_one_test = rw (test_of_le {a = whole 0 1} {b = zeroℚ} (linear_le [] (λ s w. omega arith)), le_test_of_lt {a = zeroℚ} {b = whole 0 1} (linear_lt [] (λ s w. omega arith))) refl
+
+two_test : is_zero (whole 2 0) ≡ false
+two_test = rw (le_test_of_lt {a = whole 2 0} {b = zeroℚ} (linear_lt [] (λ s w. omega arith))) refl
+
+pub terms : terms_from 0 (whole 0 1 ∷ zeroℚ ∷ whole 2 0 ∷ []) ≡ record { column = 0; coefficient = whole 0 1 } ∷ record { column = 2; coefficient = whole 2 0 } ∷ []
+terms = rw (minus_one_test, zero_test, two_test) refl

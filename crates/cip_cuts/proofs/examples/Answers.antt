@@ -1,0 +1,13 @@
+use Rattle.cip_cuts.proofs.Tried as tried
+use Rattle.cip_cuts.proofs.examples.Goals as goal
+
+pub returns : goal.returns
+returns c = record {
+  can_round = tried.can_round;
+  rounded_row = tried.rounded_row;
+  continuous = tried.continuous;
+  fractional = tried.fractional;
+  continuous_zero = tried.continuous_zero;
+  inward = tried.inward;
+  terms = tried.terms;
+}

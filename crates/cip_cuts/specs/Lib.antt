@@ -1,0 +1,6 @@
+pub mod Cover
+pub mod Cuts
+pub mod Examples
+pub mod Improving
+pub mod Reduced
+pub mod Statements

@@ -1,0 +1,10 @@
+pub mod First
+pub mod Forms
+pub mod Kept
+pub mod Overflow
+pub mod Programs
+pub mod States
+pub mod Tables
+pub mod Tried
+pub mod Values
+pub mod Zeros

@@ -1,0 +1,9 @@
+pub mod Dictionary
+pub mod Examples
+pub mod Exchange
+pub mod FirstState
+pub mod MoveOperations
+pub mod Operations
+pub mod ProgramState
+pub mod Statements
+pub mod Tables

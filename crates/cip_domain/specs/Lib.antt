@@ -1,0 +1,4 @@
+pub mod Changes
+pub mod Domain
+pub mod Narrowing
+pub mod Trail

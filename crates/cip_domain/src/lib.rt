@@ -1,0 +1,23 @@
+//! A box that is changed side by side, and put back to what it was at a mark.
+#![tactic(auto)]
+
+ghost use Rattle.cip_domain.specs.Narrowing.{ChangesAreMet, OrderIsFree};
+
+mod changes;
+mod stores;
+
+pub use changes::{Change, Side};
+pub use stores::{DomainStore, Mark, Tightened};
+
+#[cfg(test)]
+mod tests;
+
+/// A point lies in a box after changes exactly where it lies in the box and each change allows it.
+pub fn changes_are_met()
+    ensures { ChangesAreMet }
+{}
+
+/// Changes give the same box in whatever order they are made: each side is the strongest that they name.
+pub fn order_is_free()
+    ensures { OrderIsFree }
+{}

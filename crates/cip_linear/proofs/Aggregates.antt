@@ -1,0 +1,128 @@
+-- The aggregated row holds where its parts do; it is the one that is computed.
+use mathlib.Core.Path.{fun_ext}
+use Rattle.std.proofs.Common.{◌≡◌, ℕ, zero, suc, ◌<◌, ◌==◌, cond, List, [], ◌∷◌, length, refl, sym, ap, ap₂, ◌∙◌, arith}
+use Rattle.std.specs.List.{AllByRecursion}
+use Rattle.std.proofs.Math.Dec.{eqb-suc-zero, eqb-zero-suc, eqb-suc-suc}
+use Rattle.std.proofs.lemmas.List.Elements.{recursion_from_All}
+use Rattle.cip_rational.specs.Rational.{ℚ, ◌+ℚ◌, ◌*ℚ◌, zeroℚ, oneℚ, ◌≤ℚ◌}
+use Rattle.cip_rational.specs.Sums.{dot}
+use Rattle.cip_rational.proofs.Rational.Ring.{+ℚ-zero, zero-+ℚ, zero-*ℚ, *ℚ-zero, *ℚ-one, *ℚ_assoc}
+use Rattle.cip_rational.proofs.Rational.Order.{≤ℚ_refl}
+use Rattle.cip_rational.proofs.Rational.Monotone.{+ℚ_mono}
+use Rattle.cip_rational.proofs.Linear.{linear_same}
+use Rattle.cip_problem.specs.Program.{Term}
+use Rattle.cip_problem.specs.Activity.{activity, value_at, StandsBelow}
+use Rattle.cip_linear.specs.Aggregate.{Part, AllKept, Inequality, Holds, total_activity, total_side, IsAggregate, table, coefficient_on, combined, aggregate}
+
+-- ---- the sum of parts that hold
+
+pub total_holds : (parts : List Part) (point : List ℚ) → AllKept parts point → total_side parts ≤ℚ total_activity parts point
+total_holds [] point h = ≤ℚ_refl zeroℚ
+total_holds (p ∷ ps) point h = +ℚ_mono h.0 (total_holds ps point h.1)
+
+pub aggregate_holds : (columns : ℕ) (parts : List Part) (row : Inequality) (point : List ℚ) → IsAggregate columns parts row → AllKept parts point → Holds row point
+aggregate_holds columns parts row point h k = rw (h.least, h.form point) (total_holds parts point k)
+
+-- ---- tables
+
+pub length-table : (n : ℕ) (f : ℕ → ℚ) → length (table n f) ≡ n
+length-table zero f = refl
+length-table (suc n) f = ap suc (length-table n (λ k. f (suc k)))
+
+pub table_zeros : (n : ℕ) (f : ℕ → ℚ) (xs : List ℚ) → ((k : ℕ) → f k ≡ zeroℚ) → dot (table n f) xs ≡ zeroℚ
+table_zeros zero f xs e = refl
+table_zeros (suc n) f [] e = refl
+table_zeros (suc n) f (x ∷ xs) e = rw (e 0, zero-*ℚ x, table_zeros n (λ k. f (suc k)) xs (λ k. e (suc k))) (zero-+ℚ zeroℚ)
+
+pub table_sum : (n : ℕ) (f g : ℕ → ℚ) (c : ℚ) (xs : List ℚ) → dot (table n (λ k. c *ℚ f k +ℚ g k)) xs ≡ c *ℚ dot (table n f) xs +ℚ dot (table n g) xs
+table_sum zero f g c xs = sym (+ℚ-zero (c *ℚ zeroℚ) ∙ *ℚ-zero c)
+table_sum (suc n) f g c [] = sym (+ℚ-zero (c *ℚ zeroℚ) ∙ *ℚ-zero c)
+table_sum (suc n) f g c (x ∷ xs) =
+    let e = table_sum n (λ k. f (suc k)) (λ k. g (suc k)) c xs in
+    let a : (c *ℚ f 0) *ℚ x ≡ c *ℚ (f 0 *ℚ x) = *ℚ_assoc c (f 0) x in
+    linear_same
+    ((c *ℚ f 0 *ℚ x) ∷ (g 0 *ℚ x) ∷ (c *ℚ (f 0 *ℚ x)) ∷ (c *ℚ dot (table n (λ k. f (suc k))) xs) ∷ dot (table n (λ k. g (suc k))) xs ∷ dot (table n (λ k. c *ℚ f (suc k) +ℚ g (suc k))) xs ∷ [])
+    (λ s w. let m = s.products tt in omega (arith, s.same_out))
+
+pub table_add : (n : ℕ) (f g : ℕ → ℚ) (xs : List ℚ) → dot (table n (λ k. f k +ℚ g k)) xs ≡ dot (table n f) xs +ℚ dot (table n g) xs
+table_add zero f g xs = sym (+ℚ-zero zeroℚ)
+table_add (suc n) f g [] = sym (+ℚ-zero zeroℚ)
+table_add (suc n) f g (x ∷ xs) =
+    let e = table_add n (λ k. f (suc k)) (λ k. g (suc k)) xs in
+    linear_same
+    ((f 0 *ℚ x) ∷ (g 0 *ℚ x) ∷ dot (table n (λ k. f (suc k))) xs ∷ dot (table n (λ k. g (suc k))) xs ∷ dot (table n (λ k. f (suc k) +ℚ g (suc k))) xs ∷ [])
+    (λ s w. let m = s.products tt in omega (arith, s.same_out))
+
+-- ---- the coefficients of a sum of terms
+
+-- a number on one column, and 0 on the others
+abbrev at_column : ℕ → ℚ → ℕ → ℚ
+at_column column c k = cond (column == k) c zeroℚ
+
+table_at : (n column : ℕ) (c : ℚ) (xs : List ℚ) → column < n → dot (table n (at_column column c)) xs ≡ c *ℚ value_at xs column
+table_at zero column c xs h = absurd (omega arith)
+table_at (suc n) column c [] h = sym (*ℚ-zero c)
+table_at (suc n) zero c (x ∷ xs) h =
+    rw (table_zeros n (λ k. cond (0 == suc k) c zeroℚ) xs (λ k. ap (λ b. cond b c zeroℚ) (eqb-zero-suc k))) (+ℚ-zero (c *ℚ x))
+table_at (suc n) (suc column) c (x ∷ xs) h =
+    let e : (λ (k : ℕ). cond (suc column == suc k) c zeroℚ) ≡ at_column column c = fun_ext (λ k. ap (λ b. cond b c zeroℚ) (eqb-suc-suc column k)) in
+    rw (eqb-suc-zero column, zero-*ℚ x, ap (λ f. dot (table n f) xs) e, table_at n column c xs (omega arith)) (zero-+ℚ (c *ℚ value_at xs column))
+
+terms_form : (n : ℕ) (terms : List Term) (xs : List ℚ) → AllByRecursion (λ t. t.column < n) terms → dot (table n (coefficient_on terms)) xs ≡ activity terms xs
+terms_form n [] xs h = table_zeros n (λ k. zeroℚ) xs (λ k. refl)
+terms_form n (t ∷ ts) xs h =
+    table_add n (at_column t.column t.coefficient) (coefficient_on ts) xs ∙ ap₂ (λ u v. u +ℚ v) (table_at n t.column t.coefficient xs h.0) (terms_form n ts xs h.1)
+
+pub parts_form : (n : ℕ) (parts : List Part) (xs : List ℚ) → AllByRecursion (λ part. StandsBelow n part.terms) parts → dot (table n (combined parts)) xs ≡ total_activity parts xs
+parts_form n [] xs h = table_zeros n (λ k. zeroℚ) xs (λ k. refl)
+parts_form n (p ∷ ps) xs h =
+    table_sum n (coefficient_on p.terms) (combined ps) p.factor xs ∙ ap₂ (λ u v. p.factor *ℚ u +ℚ v) (terms_form n p.terms xs (recursion_from_All _ p.terms h.0)) (parts_form n ps xs h.1)
+
+pub aggregate_is : (columns : ℕ) (parts : List Part) → AllByRecursion (λ part. StandsBelow columns part.terms) parts → IsAggregate columns parts (aggregate columns parts)
+aggregate_is columns parts h = record {
+  long = length-table columns (combined parts);
+  form = λ point. parts_form columns parts point h;
+  least = refl;
+}
+
+-- ---- a linear form has one list of coefficients
+
+abbrev zeros : List ℚ → List ℚ
+zeros [] = []
+zeros (x ∷ xs) = zeroℚ ∷ zeros xs
+
+length-zeros : (xs : List ℚ) → length (zeros xs) ≡ length xs
+length-zeros [] = refl
+length-zeros (x ∷ xs) = ap suc (length-zeros xs)
+
+dot-zeros : (xs ys : List ℚ) → dot xs (zeros ys) ≡ zeroℚ
+dot-zeros [] ys = refl
+dot-zeros (x ∷ xs) [] = refl
+dot-zeros (x ∷ xs) (y ∷ ys) = rw (*ℚ-zero x, dot-zeros xs ys) (zero-+ℚ zeroℚ)
+
+first_value : (a : ℚ) (av : List ℚ) (ys : List ℚ) → dot (a ∷ av) (oneℚ ∷ zeros ys) ≡ a
+first_value a av ys = rw (*ℚ-one a, dot-zeros av ys) (+ℚ-zero a)
+
+rest_value : (a : ℚ) (av : List ℚ) (ys : List ℚ) → dot (a ∷ av) (zeroℚ ∷ ys) ≡ dot av ys
+rest_value a av ys = rw (*ℚ-zero a) (zero-+ℚ (dot av ys))
+
+-- two lists of one length that give the same sums at each list of that length are the same
+pub same_form : (av bv : List ℚ) → length av ≡ length bv → ((xs : List ℚ) → length xs ≡ length av → dot av xs ≡ dot bv xs) → av ≡ bv
+same_form [] [] e h = refl
+same_form [] (b ∷ bv) e h = absurd (omega (arith, e))
+same_form (a ∷ av) [] e h = absurd (omega (arith, e))
+same_form (a ∷ av) (b ∷ bv) e h =
+    ap₂ (λ x xs. x ∷ xs)
+    (sym (first_value a av av) ∙ h (oneℚ ∷ zeros av) (ap suc (length-zeros av)) ∙ first_value b bv av)
+    (same_form av bv (omega (arith, e)) (λ xs l. sym (rest_value a av xs) ∙ h (zeroℚ ∷ xs) (ap suc l) ∙ rest_value b bv xs))
+
+abbrev inequality : List ℚ → ℚ → Inequality
+inequality coefficients least = record { coefficients = coefficients; least = least }
+
+pub inequality_same : (first second : Inequality) → first.coefficients ≡ second.coefficients → first.least ≡ second.least → first ≡ second
+inequality_same first second e f = ap₂ inequality e f
+
+pub aggregate_unique : (columns : ℕ) (parts : List Part) (first second : Inequality) → IsAggregate columns parts first → IsAggregate columns parts second → first ≡ second
+aggregate_unique columns parts first second h k =
+    let c : first.coefficients ≡ second.coefficients = same_form first.coefficients second.coefficients (h.long ∙ sym k.long) (λ xs l. h.form xs ∙ sym (k.form xs)) in
+    inequality_same first second c (h.least ∙ sym k.least)

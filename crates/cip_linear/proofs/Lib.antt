@@ -1,0 +1,6 @@
+pub mod Aggregates
+pub mod Bounds
+pub mod Certificates
+pub mod Parts
+pub mod Rays
+pub mod Tried

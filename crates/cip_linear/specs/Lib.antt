@@ -1,0 +1,5 @@
+pub mod Aggregate
+pub mod Examples
+pub mod LinearProgram
+pub mod Multipliers
+pub mod Statements

@@ -1,0 +1,11 @@
+use Rattle.cip_number_text.specs.Numeral.{numeral_of}
+use Rattle.cip_mps_rules.specs.MpsOutcome.{outcome_of}
+use Rattle.cip_mps_rules.proofs.Tried as tried
+use Rattle.cip_mps_rules.proofs.text_examples.texts_have_programs.Goals as goal
+
+pub returns : goal.returns
+unfolding numeral_of outcome_of
+returns c = record {
+  three_columns = tried.three_columns_is;
+  loose = tried.loose_is;
+}

@@ -1,0 +1,9 @@
+pub mod MpsBounds
+pub mod MpsExamples
+pub mod MpsFacts
+pub mod MpsOutcome
+pub mod MpsProgram
+pub mod MpsRules
+pub mod MpsSayings
+pub mod MpsStatements
+pub mod MpsWords

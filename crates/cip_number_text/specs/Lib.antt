@@ -1,0 +1,4 @@
+pub mod FractionText
+pub mod Numeral
+pub mod NumeralExamples
+pub mod NumeralStatements
