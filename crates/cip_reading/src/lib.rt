@@ -4,18 +4,22 @@
 
 ghost use Rattle.cip_reading.specs.Statements.{OnlyThinTextsAreRead, ThinTextsAreRead, BytesAreReadAsLines, ProgramsReadAreWellFormed};
 
+/// A text that the steps read is thin, and the program that they give is its program.
 pub fn only_thin_texts_are_read()
     ensures { OnlyThinTextsAreRead }
 {}
 
+/// The steps read each thin text as its program.
 pub fn thin_texts_are_read()
     ensures { ThinTextsAreRead }
 {}
 
+/// A text that comes byte after byte is read as its lines are.
 pub fn bytes_are_read_as_lines()
     ensures { BytesAreReadAsLines }
 {}
 
+/// What the steps give is a well-formed program.
 pub fn programs_read_are_well_formed()
     ensures { ProgramsReadAreWellFormed }
 {}

@@ -4,6 +4,7 @@
 
 ghost use Rattle.cip_thin.specs.Statements.{ThinProgramsFit};
 
+/// No sum over the program of a thin text overflows, neither in a check of a whole point nor in the box bound.
 pub fn thin_programs_fit()
     ensures { ThinProgramsFit }
 {}
