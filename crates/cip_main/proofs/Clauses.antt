@@ -42,8 +42,8 @@ said_figures : (call : Call) (text : Option (List ℕ)) (a : IsAnswered call tex
 said_figures call text a = said call _ (exit_status a.answers.figures.status) a.answers.told
 
 -- a status that is not 5 is the answer's own
-own : (call : Call) (status n : ℕ) → StatusIs call status → call.status ≡ n → ¬ (n ≡ 5) → status ≡ n
-own call status n s e not_5 = elim s.either [ inl h ↦ sym h.0 ∙ e | inr h ↦ absurd (not_5 (sym e ∙ h.0)) ]
+own_answer : (call : Call) (status n : ℕ) → StatusIs call status → call.status ≡ n → ¬ (n ≡ 5) → status ≡ n
+own_answer call status n s e not_5 = elim s.either [ inl h ↦ sym h.0 ∙ e | inr h ↦ absurd (not_5 (sym e ∙ h.0)) ]
 
 figures_not_five : (status : Status) → ¬ (exit_status status ≡ 5)
 figures_not_five Optimal h = omega (arith, h)
@@ -78,12 +78,12 @@ data Gave (call : Call) (answer : Plain) : Type 0 where
 
 gave : (call : Call) → Ran call → (answer : Plain) → call.status ≡ plain_status answer → Gave call answer
 gave call (refuses_words u) answer e =
-    words u (sym (own_status Usage answer (own call _ (plain_status answer) (said_usage call u) e (not_five answer))))
+    words u (sym (own_status Usage answer (own_answer call _ (plain_status answer) (said_usage call u) e (not_five answer))))
 gave call (gives_plain model job other m) answer e =
-    let same : other ≡ answer = own_status other answer (own call _ (plain_status answer) (said_plain call _ other m) e (not_five answer)) in
+    let same : other ≡ answer = own_status other answer (own_answer call _ (plain_status answer) (said_plain call _ other m) e (not_five answer)) in
     plain model job (subst (IsUnread call (call.store.holds model)) same m)
 gave call (gives_figures model job a) answer e =
-    figures model job a (figures_plain a.answers.figures.status answer (own call _ (plain_status answer) (said_figures call _ a) e (not_five answer)))
+    figures model job a (figures_plain a.answers.figures.status answer (own_answer call _ (plain_status answer) (said_figures call _ a) e (not_five answer)))
 
 some_job : {model : List ℕ} {job : Option Job} → job ≡ Some (Solve model) → job ≡ None → ⊥
 some_job h e = cc
@@ -151,9 +151,9 @@ read_fault_clause call r = record { rose = λ e. rose (gave call r ReadFault e);
     sound (gives_figures model job a) not_3 not_5 = a.sound
 
     is_refused : (answer : Plain) → StatusIs call (plain_status answer) → (call.status ≡ 0) ⊎ ((call.status ≡ 4) ⊎ (call.status ≡ 10)) → answer ≡ Refused
-    is_refused answer s (inl e) = absurd (not_zero answer (own call _ 0 s e (λ h. omega (arith, h))))
-    is_refused answer s (inr (inl e)) = own_status answer Refused (own call _ 4 s e (λ h. omega (arith, h)))
-    is_refused answer s (inr (inr e)) = absurd (not_ten answer (own call _ 10 s e (λ h. omega (arith, h))))
+    is_refused answer s (inl e) = absurd (not_zero answer (own_answer call _ 0 s e (λ h. omega (arith, h))))
+    is_refused answer s (inr (inl e)) = own_status answer Refused (own_answer call _ 4 s e (λ h. omega (arith, h)))
+    is_refused answer s (inr (inr e)) = absurd (not_ten answer (own_answer call _ 10 s e (λ h. omega (arith, h))))
 
     all_pulled : (model other : List ℕ) → call.job ≡ Some (Solve model) → call.job ≡ Some (Solve other) → IsAllPulled (call.store.holds model) call.store_after → IsAllPulled (call.store.holds other) call.store_after
     all_pulled model other p q = subst (λ text. IsAllPulled text call.store_after) (same_text call model other (call.store.holds other) p q refl)
@@ -203,12 +203,12 @@ ten_five : ◌≡◌ {A = ℕ} 10 5 → ⊥
 ten_five h = omega (arith, h)
 
 pub spent_log : (call : Call) → Ran call → call.status ≡ 10 → SpentLog call
-spent_log call (refuses_words u) e = absurd (not_ten Usage (own call _ 10 (said_usage call u) e ten_five))
-spent_log call (gives_plain model job answer m) e = absurd (not_ten answer (own call _ 10 (said_plain call _ answer m) e ten_five))
+spent_log call (refuses_words u) e = absurd (not_ten Usage (own_answer call _ 10 (said_usage call u) e ten_five))
+spent_log call (gives_plain model job answer m) e = absurd (not_ten answer (own_answer call _ 10 (said_plain call _ answer m) e ten_five))
 spent_log call (gives_figures model job a) e = by_log a.answers.logged
   where
     limit : a.answers.figures.status ≡ NodeLimit
-    limit = is_spent a.answers.figures.status (own call _ 10 (said_figures call _ a) e ten_five)
+    limit = is_spent a.answers.figures.status (own_answer call _ 10 (said_figures call _ a) e ten_five)
 
     by_log : IsLogged call.logs call.logs_after a.answers.entries a.answers.figures.status → SpentLog call
     by_log (inl l) = record { log = l.0; added = l.1; full = subst (λ es. length es ≡ node_limit) l.2 (a.answers.are_true.spent limit).full }
@@ -216,7 +216,7 @@ spent_log call (gives_figures model job a) e = by_log a.answers.logged
 
 no_node_limit : (call : Call) (program : Program) (n : ℕ) → assignments program.integral program.bounds ≡ Some n → max 1 (2 * n - 1) ≤ node_limit → TellsTruth call program → call.status ≡ 10 → ⊥
 no_node_limit call program n e l t ten =
-    not_long (t.are_true.spent (is_spent t.figures.status (own call _ 10 (said call _ (exit_status t.figures.status) t.told) ten ten_five)))
+    not_long (t.are_true.spent (is_spent t.figures.status (own_answer call _ 10 (said call _ (exit_status t.figures.status) t.told) ten ten_five)))
   where
     not_long : IsSpent program node_limit t.entries t.figures → ⊥
     not_long s =
@@ -227,8 +227,8 @@ no_node_limit call program n e l t ten =
 ample : (call : Call) → Ran call → (text : List ℕ) (program : Program) (n : ℕ) → Asks call text program → assignments program.integral program.bounds ≡ Some n → max 1 (2 * n - 1) ≤ node_limit → ¬ (call.status ≡ 10)
 ample call r text program n asks e l ten = elim (headline call r text program asks) [
   | inl t ↦ no_node_limit call program n e l t ten
-  | inr (inl f) ↦ not_ten ReadFault (own call _ 10 (said_plain call (Some text) ReadFault f) ten ten_five)
-  | inr (inr m) ↦ not_ten NoMemory (own call _ 10 (said_plain call (Some text) NoMemory m) ten ten_five)
+  | inr (inl f) ↦ not_ten ReadFault (own_answer call _ 10 (said_plain call (Some text) ReadFault f) ten ten_five)
+  | inr (inr m) ↦ not_ten NoMemory (own_answer call _ 10 (said_plain call (Some text) NoMemory m) ten ten_five)
 ]
 
 pub node_limit_clause : (call : Call) → Ran call → NodeLimitClause call

@@ -10,7 +10,7 @@ use Rattle.cip_reading.specs.Reading.Texts.{read}
 use Rattle.cip_reading.specs.Reading.Laws.{read_thin, refused}
 use Rattle.cip_mps.specs.HasRead.{HasRead}
 use Rattle.cip_mps.specs.declared.reader.Reader.{Reader}
-use Rattle.cip_main.specs.Pulling.{IsPulled, IsNotThin, Reads, Refuses, ReadCause, most_pulled, IsReading, IsReadToEnd, ReadsPiece, IsAllRead, IsTooLong, EndsOrNot, PieceCause, EndCause}
+use Rattle.cip_main.specs.Pulling.{IsPulled, IsNotThin, Reads, Refuses, ReadCause, most_pulled, IsReading, IsReadToEnd, ReadsPiece, IsAllRead, IsTooLong, EndsOrNot, EndCause}
 use Rattle.cip_main.specs.Running.{Call, TellsPlain, IsUnread}
 use Rattle.cip_main.specs.declared.plain.Plain.{Plain}
 use Rattle.cip_main.specs.declared.plain.Plain.TheVariants.{Usage, ReadFault, Refused, NoMemory}
@@ -67,13 +67,6 @@ too_long reader chosen now pulled e r = record {
   sound = r.is_pulled.sound;
 }
 
--- a cause is one also of the calls before that didn't fail
-pub cause_later : (old now new : StoreTells) (answer : Plain) → now.faults ≡ old.faults → PieceCause now new answer → PieceCause old new answer
-cause_later old now new Usage same h = absurd h
-cause_later old now new ReadFault same h = subst (λ count. Rose count new.faults) same h
-cause_later old now new Refused same h = absurd h
-cause_later old now new NoMemory same h = h ∙ same
-
 -- ---- the end of a text
 
 not_thin_all : (text : Option (List ℕ)) (bytes : List ℕ) → IfSome text (λ all. all ≡ bytes) → read bytes ≡ None → IsNotThin text
@@ -99,13 +92,6 @@ long_not_thin (Some all) l = λ program thin. let short : length all ≤ longest
 -- a text that is too long is not thin
 pub refuses_long : (chosen now : StoreTells) → IsTooLong chosen now → Refuses chosen.left chosen now
 refuses_long chosen now l = record { not_thin = long_not_thin chosen.left l.long; pulled = l.whole; sound = l.sound }
-
--- what stopped the pulling is why there is no program
-pub piece_cause : (text : Option (List ℕ)) (old new : StoreTells) (answer : Plain) → PieceCause old new answer → ReadCause text old new answer
-piece_cause text old new Usage h = absurd h
-piece_cause text old new ReadFault h = h
-piece_cause text old new Refused h = absurd h
-piece_cause text old new NoMemory h = h
 
 pub is_all_read : (reader : Reader) (chosen now : StoreTells) (b : Bool) → b ≡ true → EndsOrNot reader chosen now b → IsAllRead reader chosen now
 is_all_read reader chosen now b e h = subst (EndsOrNot reader chosen now) e h
