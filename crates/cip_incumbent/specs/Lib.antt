@@ -1,0 +1,2 @@
+pub mod HeldPoint
+pub mod Inside
