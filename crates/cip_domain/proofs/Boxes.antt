@@ -11,8 +11,8 @@ use Rattle.cip_problem.specs.Program.{Sides}
 use Rattle.cip_problem.specs.Box.{no_sides, sides_at, Between, IsInBox, low_inside, high_inside}
 use Rattle.cip_problem.specs.Activity.{value_at}
 use Rattle.cip_problem.proofs.Box.SideTests.{low_inside_holds, high_inside_holds}
-use Rattle.cip_domain.specs.declared.changes.Side.{Side}
-use Rattle.cip_domain.specs.declared.changes.Side.TheVariants.{Low, High}
+use Rattle.cip_lin.specs.declared.sides.Side.{Side}
+use Rattle.cip_lin.specs.declared.sides.Side.TheVariants.{Low, High}
 use Rattle.cip_domain.specs.Changes.{Change, with_side, is_as_strong, tightened_sides, tightened, narrowed}
 use Rattle.cip_domain.specs.Narrowing.{IsOnSide, Meets}
 

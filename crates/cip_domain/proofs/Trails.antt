@@ -4,8 +4,8 @@ use Rattle.std.proofs.lemmas.List.{get_or-set_same, set-set, set-get_or, length_
 use Rattle.cip_rational.specs.Rational.{ℚ}
 use Rattle.cip_problem.specs.Program.{Sides}
 use Rattle.cip_problem.specs.Box.{no_sides, sides_at}
-use Rattle.cip_domain.specs.declared.changes.Side.{Side}
-use Rattle.cip_domain.specs.declared.changes.Side.TheVariants.{Low, High}
+use Rattle.cip_lin.specs.declared.sides.Side.{Side}
+use Rattle.cip_lin.specs.declared.sides.Side.TheVariants.{Low, High}
 use Rattle.cip_domain.specs.declared.stores.Saved.{Saved}
 use Rattle.cip_domain.specs.Changes.{side_of, with_side}
 use Rattle.cip_domain.specs.Domain.{Domain}

@@ -4,8 +4,8 @@ use Rattle.std.specs.Coded.{Coded, code_by, coded×, coded_ℕ, coded_bool}
 use Rattle.cip_rational.specs.Rational.{ℚ, coded_ℚ}
 use Rattle.cip_problem.specs.Program.{Sides}
 use Rattle.cip_problem.specs.Box.{sides_at, low_inside, high_inside, is_between}
-use Rattle.cip_domain.specs.declared.changes.Side.{Side}
-use Rattle.cip_domain.specs.declared.changes.Side.TheVariants.{Low, High}
+use Rattle.cip_lin.specs.declared.sides.Side.{Side}
+use Rattle.cip_lin.specs.declared.sides.Side.TheVariants.{Low, High}
 
 -- a value for one side of a column
 pub record Change : Type 0 where

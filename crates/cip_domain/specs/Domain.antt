@@ -5,7 +5,7 @@ use Rattle.cip_rational.specs.Rational.{ℚ}
 use Rattle.cip_problem.specs.Program.{Sides}
 use Rattle.cip_problem.specs.Codes.{box_code}
 use Rattle.cip_problem.specs.Box.{sides_at}
-use Rattle.cip_domain.specs.declared.changes.Side.{Side}
+use Rattle.cip_lin.specs.declared.sides.Side.{Side}
 use Rattle.cip_domain.specs.declared.stores.Tightened.{Tightened}
 use Rattle.cip_domain.specs.declared.stores.Tightened.TheVariants.{Yes, Same, Empty}
 use Rattle.cip_domain.specs.Changes.{with_side, is_as_strong, would_cross}

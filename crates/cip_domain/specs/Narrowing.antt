@@ -5,8 +5,8 @@ use Rattle.cip_rational.specs.Rational.{ℚ, ◌≤ℚ◌}
 use Rattle.cip_problem.specs.Program.{Sides}
 use Rattle.cip_problem.specs.Activity.{value_at}
 use Rattle.cip_problem.specs.Box.{IsInBox}
-use Rattle.cip_domain.specs.declared.changes.Side.{Side}
-use Rattle.cip_domain.specs.declared.changes.Side.TheVariants.{Low, High}
+use Rattle.cip_lin.specs.declared.sides.Side.{Side}
+use Rattle.cip_lin.specs.declared.sides.Side.TheVariants.{Low, High}
 use Rattle.cip_domain.specs.Changes.{Change, narrowed}
 
 -- a value is on the inner side of another

@@ -4,17 +4,8 @@ ghost use Rattle.cip_problem.specs.Box.{low_inside, high_inside};
 ghost use Rattle.cip_domain.specs.Changes.{side_of, with_side, is_as_strong, would_cross};
 
 use cip_frac::Frac;
-use cip_lin::Sides;
+use cip_lin::{Side, Sides};
 use std::marker::Model;
-
-/// One of the two sides of a column.
-#[derive(Clone, Copy, Debug, PartialEq, Eq)]
-pub enum Side {
-    /// The least value.
-    Low,
-    /// The greatest value.
-    High,
-}
 
 /// A value for one side of a column; it counts where the side is weaker or open.
 #[derive(Clone, Copy, Debug, PartialEq, Eq)]

@@ -6,7 +6,8 @@ ghost use Rattle.cip_domain.specs.Narrowing.{ChangesAreMet, OrderIsFree};
 mod changes;
 mod stores;
 
-pub use changes::{Change, Side};
+pub use changes::Change;
+pub use cip_lin::Side;
 pub use stores::{DomainStore, Mark, Tightened};
 
 #[cfg(test)]

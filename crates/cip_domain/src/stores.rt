@@ -5,9 +5,9 @@ ghost use Rattle.cip_domain.specs.Changes.{tightened};
 ghost use Rattle.cip_domain.specs.Domain.{tightening, after_tightening, boxes};
 ghost use Rattle.cip_domain.specs.declared.stores.Tightened.TheVariants.{Empty};
 
-use crate::changes::{Side, crosses, is_strong, side_at, with_value};
+use crate::changes::{crosses, is_strong, side_at, with_value};
 use cip_frac::Frac;
-use cip_lin::Bounds;
+use cip_lin::{Bounds, Side};
 use std::alloc::{AllocError, Global};
 use std::marker::Model;
 

@@ -2,7 +2,7 @@ ghost use Rattle.std.specs.Prelude.{◌≤◌, length};
 
 use super::*;
 use cip_frac::Frac;
-use cip_lin::{Bounds, Sides};
+use cip_lin::{Bounds, Side, Sides};
 use std::process::Abort;
 use std::test::Fail;
 

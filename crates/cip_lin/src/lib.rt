@@ -6,12 +6,14 @@ mod combos;
 mod extremes;
 mod outcomes;
 mod rows;
+mod sides;
 
 pub use boxes::{Bounds, Sides};
 pub use combos::{ColumnMultiple, Combo, RowId, RowMultiple};
 pub use extremes::{add_least, least};
 pub use outcomes::Least;
 pub use rows::{Row, RowFault, Term};
+pub use sides::Side;
 
 #[cfg(test)]
 mod tests;

@@ -68,7 +68,7 @@ length-only zero cost = refl
 length-only (suc column) cost = ap suc (length-only column cost)
 
 -- a quotient by a number below 0 turns the order
-divide_negative : (b d v : ℚ) → d <ℚ zeroℚ → b ≤ℚ d *ℚ v → v ≤ℚ b *ℚ inverse d
+pub divide_negative : (b d v : ℚ) → d <ℚ zeroℚ → b ≤ℚ d *ℚ v → v ≤ℚ b *ℚ inverse d
 divide_negative b d v h k =
     let p : zeroℚ <ℚ negate d = linear_lt (d ∷ []) (λ s w. omega (arith, s.lt_out)) in
     let e = negate-*ℚ d v in

@@ -1,0 +1,6 @@
+pub mod Cleared
+pub mod Meaning
+pub mod Pools
+pub mod Steps
+pub mod Sums
+pub mod Values

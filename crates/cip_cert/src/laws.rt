@@ -1,0 +1,14 @@
+//! Laws of the checks: each function does nothing, and its contract is a law.
+ghost use Rattle.cip_cert.specs.Statements.{AggregatesAreSums, BoundsAreThose};
+
+/// The row of a combination that is accepted is the sum of parts, each of which holds at every point of the box at
+/// which the rows hold.
+pub fn aggregates_are_sums()
+    ensures { AggregatesAreSums }
+{}
+
+/// The bounds that a check computes from a row are its bounds in the box at costs, at costs 0, and at its coefficient
+/// on one column.
+pub fn bounds_are_those()
+    ensures { BoundsAreThose }
+{}

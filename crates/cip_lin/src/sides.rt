@@ -1,0 +1,10 @@
+//! Which side of a column.
+
+/// A side of a column.
+#[derive(Clone, Copy, Debug, PartialEq, Eq)]
+pub enum Side {
+    /// The low side.
+    Low,
+    /// The high side.
+    High,
+}
