@@ -1,10 +1,13 @@
 -- Sums and products of whole numbers, whose denominators are 1.
-use Rattle.std.proofs.Common.{◌≡◌, ℕ, ◌*◌, ◌<◌, ◌^◌, ℤ, pos, ◌+ℤ◌, ◌*ℤ◌, unsigned_abs, true, false, sym, ap, subst, ◌∙◌, refl, arith, lit<, inl, Option, Some, None}
+use Rattle.std.proofs.Common.{◌≡◌, ℕ, ◌*◌, ◌<◌, ◌^◌, ℤ, pos, ◌+ℤ◌, ◌*ℤ◌, unsigned_abs, true, false, sym, ap, subst, ◌∙◌, refl, arith, lit<, inl, Bool, cond, Option, Some, None, Ok, Err}
 use Rattle.std.specs.Prelude.{MatchOption}
 use Rattle.std.proofs.lemmas.Int.{unsigned_abs-mul}
 use Rattle.cip_rational.specs.Rational.{ℚ, ◌+ℚ◌, ◌*ℚ◌, ratio, numerator, denominator}
 use Rattle.cip_rational.specs.Range.{sum_overflows, product_overflows}
 use Rattle.cip_rational.proofs.Integers.{gcd_one, times_one}
+use Rattle.cip_rational.proofs.Rational.Lowest.{numerator_lowest, denominator_lowest}
+use Rattle.cip_frac.specs.declared.operations.Wide.{Wide}
+use Rattle.cip_frac.specs.Outcomes.{sum_outcome, product_outcome, and_then, product_added}
 use Rattle.cip_frac.specs.LowestTerms.{AreLowest}
 use Rattle.cip_frac.proofs.Casts.{kept}
 use Rattle.cip_frac.proofs.Fields.{AreLowest-whole}
@@ -79,3 +82,20 @@ module _ (x y : ℚ) (a c : ℤ) (b d : ℕ) (ea : a ≡ numerator x) (eb : b �
             products_fit x y a c 1 1 ea ea1 la ec ed1 lc 1 1 (gcd_one _) (gcd_one _) a c 1 1 (times_one a) (times_one c) refl refl small (lit< tt),
             value ∙ product_ratio x y a c 1 1 ea ea1 la ec ed1 lc 1 1 (gcd_one _) (gcd_one _) a c 1 1 (times_one a) (times_one c) refl refl,
           )
+
+taken : (overflows : Bool) (wide : Wide) (q v : ℚ) → (overflows ≡ false) × (v ≡ q) → cond overflows (Err wide) (Ok q) ≡ Ok v
+taken overflows wide q v h = rw (h.0, h.1) refl
+
+-- a sum with the product of two whole numbers added
+module _ (s x y : ℚ) (n a c : ℤ) (m b d : ℕ) (en : n ≡ numerator s) (em : m ≡ denominator s) (hn : AreLowest n m) (ea : a ≡ numerator x) (eb : b ≡ denominator x) (ha : AreLowest a b) (ec : c ≡ numerator y) (ed : d ≡ denominator y) (hc : AreLowest c d) (one_m : m ≡ 1) (one_b : b ≡ 1) (one_d : d ≡ 1) where
+  pub short_step_is : (t : ℤ) (v : ℚ) → (unsigned_abs (read a *ℤ read c) < 2 ^ 127) × (unsigned_abs (read n +ℤ read a *ℤ read c) < 2 ^ 127) × (t ≡ read n +ℤ read a *ℤ read c) → v ≡ ratio (read t) 1 → product_added s x y ≡ Ok v
+  short_step_is t v h ev =
+      let p : (product_overflows x y ≡ false) × (ratio (read a *ℤ read c) 1 ≡ x *ℚ y) = whole_product_is x y a c b d ea eb ha ec ed hc one_b one_d (Some (ratio (read a *ℤ read c) 1)) (h.0, refl) in
+      let l : AreLowest (read a *ℤ read c) 1 = AreLowest-whole (read a *ℤ read c) h.0 in
+      let k : read (read a *ℤ read c) ≡ read a *ℤ read c = kept (read a *ℤ read c) h.0 in
+      let kt : read t ≡ read n +ℤ read a *ℤ read c = ap read h.2 ∙ kept (read n +ℤ read a *ℤ read c) h.1 in
+      let q : (sum_overflows s (ratio (read a *ℤ read c) 1) ≡ false) × (v ≡ s +ℚ ratio (read a *ℤ read c) 1) =
+      whole_sum_is s (ratio (read a *ℤ read c) 1) n (read a *ℤ read c) m 1 en em hn (sym (numerator_lowest (read a *ℤ read c) 1 l.positive l.lowest)) (sym (denominator_lowest (read a *ℤ read c) 1 l.positive l.lowest)) l one_m refl (Some v) (rw k h.1, rw k (ev ∙ ap (λ z. ratio z 1) kt)) in
+      let e1 : product_outcome x y ≡ Ok (ratio (read a *ℤ read c) 1) = taken (product_overflows x y) _ (x *ℚ y) (ratio (read a *ℤ read c) 1) p in
+      let e2 : sum_outcome s (ratio (read a *ℤ read c) 1) ≡ Ok v = taken (sum_overflows s (ratio (read a *ℤ read c) 1)) _ (s +ℚ ratio (read a *ℤ read c) 1) v q in
+      ap (λ o. and_then o (λ w. sum_outcome s w)) e1 ∙ e2

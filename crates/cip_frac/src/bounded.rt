@@ -1,7 +1,7 @@
 // Arithmetic on integers below 2^127 in magnitude, so that -2^127 is left out.
 //
 // Each function first takes the short way for operands of 64 bits.
-ghost use Rattle.std.specs.Prelude.{◌≡◌, ℕ, ◌+◌, ◌*◌, ◌/◌, ◌<◌, ◌≤◌, ◌^◌, ◌↔◌, IsTrue, pos, ◌+ℤ◌, ◌*ℤ◌, unsigned_abs, int_div, SomeIff};
+ghost use Rattle.std.specs.Prelude.{◌≡◌, ℕ, ◌+◌, ◌*◌, ◌/◌, ◌<◌, ◌≤◌, ◌^◌, ◌↔◌, IsTrue, pos, ◌+ℤ◌, ◌*ℤ◌, unsigned_abs, int_div, SomeIff, IfSome};
 ghost use Rattle.std.specs.Int.{int_div_euclid};
 
 const SHORT: u128 = 0x1_0000_0000_0000_0000;
@@ -39,6 +39,19 @@ pub(crate) fn bounded_product(a: i128, b: i128) -> Option<i128>
     match a.checked_mul(b) {
         Some(product) if product != i128::MIN => Some(product),
         _ => None,
+    }
+}
+
+// n + a * c, of integers below 2^63 in magnitude.
+#[inline]
+pub(crate) fn short_total(n: i128, a: i128, c: i128) -> Option<i128>
+    ensures { IfSome result (λ total. (unsigned_abs (a *ℤ c) < 2 ^ 127)
+        × (unsigned_abs (n +ℤ a *ℤ c) < 2 ^ 127) × (total ≡ n +ℤ a *ℤ c)) }
+{
+    if is_short(a) && is_short(c) && is_short(n) {
+        Some(n + a * c)
+    } else {
+        None
     }
 }
 

@@ -4,6 +4,7 @@
 mod bounded;
 mod fraction;
 mod gcd;
+mod in_place;
 mod operations;
 mod order;
 #[cfg(test)]

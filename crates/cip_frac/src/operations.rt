@@ -135,7 +135,7 @@ fn whole_product(a: i128, c: i128) -> Option<Frac>
 }
 
 #[inline]
-fn sum(left: Frac, right: Frac) -> Option<Frac>
+pub(crate) fn sum(left: Frac, right: Frac) -> Option<Frac>
     ensures { MatchOption result (sum_overflows left right ≡ true)
         (λ value. (sum_overflows left right ≡ false) × (value ≡ left +ℚ right)) }
 {
@@ -148,7 +148,7 @@ fn sum(left: Frac, right: Frac) -> Option<Frac>
 }
 
 #[inline]
-fn product(left: Frac, right: Frac) -> Option<Frac>
+pub(crate) fn product(left: Frac, right: Frac) -> Option<Frac>
     ensures { MatchOption result (product_overflows left right ≡ true)
         (λ value. (product_overflows left right ≡ false) × (value ≡ left *ℚ right)) }
 {

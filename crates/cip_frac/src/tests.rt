@@ -64,6 +64,30 @@ fn operations(rt: HostRuntime) {
 }
 
 #[test]
+fn in_place(rt: HostRuntime) {
+    for (start, left, right, want) in [
+        ((1, 1), (2, 1), (-3, 1), Some((-5, 1))),
+        ((1, 2), (1, 3), (3, 4), Some((3, 4))),
+        ((1, 1), (SHORT, 1), (3, 1), Some((3 * SHORT + 1, 1))),
+        ((GREATEST, 1), (1, 1), (1, 1), None),
+        ((-1, 1), (GREATEST, 1), (2, 1), None),
+    ] {
+        let first = fraction(&rt, start.0, start.1);
+        let x = fraction(&rt, left.0, left.1);
+        let y = fraction(&rt, right.0, right.1);
+        let mut sum = first;
+        let is_written = sum.add_product(&x, &y);
+        match want {
+            Some(terms) => assert!(rt; is_written && (sum.numerator(), sum.denominator()) == terms),
+            None => assert!(rt; !is_written && sum == first && first.plus_product(x, y).is_err()),
+        }
+    }
+    let mut x = fraction(&rt, 2, 3);
+    assert!(rt; x.mul_assign(fraction(&rt, 3, 4)) && x == fraction(&rt, 1, 2));
+    assert!(rt; x.add_assign(fraction(&rt, 1, 2)) && x == Frac::one());
+}
+
+#[test]
 fn texts(rt: HostRuntime) {
     for (p, q, want) in [(-3, 7, "-3/7"), (5, 1, "5"), (0, 9, "0")] {
         let mut buffer = [0u8; 84];

@@ -171,6 +171,7 @@ impl Bounds {
     }
 
     /// The sides of a column, by its number from 0.
+    #[inline]
     pub fn sides(&self, column: u32) -> Sides
         requires { column < length self.now }
         ensures { result ≡ sides_at self.now column }

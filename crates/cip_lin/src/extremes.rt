@@ -10,6 +10,7 @@ use crate::rows::{Row, Term};
 use cip_frac::Frac;
 
 /// The side at which a product with this coefficient is least.
+#[inline]
 fn side_of_least(coef: Frac, sides: Sides) -> Option<Frac>
     ensures { result ≡ least_side coef sides }
 {
@@ -23,18 +24,18 @@ fn side_of_least(coef: Frac, sides: Sides) -> Option<Frac>
 /// A sum with the least product of a coefficient and a value between two sides added: `NoBound`
 /// exactly where the side at which it is least is open, `Wide` where it is there and the product or
 /// the sum overflows.
+#[inline]
 pub fn add_least(sum: Frac, coef: Frac, sides: Sides) -> Least
     ensures { result ≡ least_added sum coef sides }
 {
     let Some(side) = side_of_least(coef, sides) else {
         return Least::NoBound;
     };
-    let Ok(product) = coef.mul(side) else {
-        return Least::Wide;
-    };
-    match sum.add(product) {
-        Ok(value) => Least::Value(value),
-        Err(_) => Least::Wide,
+    let mut total = sum;
+    if total.add_product(&coef, &side) {
+        Least::Value(total)
+    } else {
+        Least::Wide
     }
 }
 

@@ -71,8 +71,10 @@ fn sum_of_products(terms: &[Term], point: &[Frac]) -> Result<Frac, Wide>
 {
     let mut sum = Frac::zero();
     for term in terms {
-        let product = term.coef.mul(point[term.col as usize])?;
-        sum = sum.add(product)?;
+        let value = &point[term.col as usize];
+        if !sum.add_product(&term.coef, value) {
+            return sum.plus_product(term.coef, *value);
+        }
     }
     Ok(sum)
 }

@@ -1,0 +1,10 @@
+use Rattle.cip_frac.proofs.WholeNumbers.{made_lowest, short_step_is}
+use Rattle.cip_frac.proofs.in_place.short_step.Goals as goal
+
+pub of_lowest-requires : goal.of_lowest-requires
+of_lowest-requires c = made_lowest _ _ (c.in-Some.ensures.1, c.in-Some.ensures.2)
+
+pub returns-in-Some : goal.returns-in-Some
+returns-in-Some c =
+    short_step_is c.args.start c.args.left.now c.args.right.now _ _ _ _ _ _ c.terms-n.ensures.over c.terms-n.ensures.under c.terms-n.ensures.lowest c.terms-a.ensures.over c.terms-a.ensures.under c.terms-a.ensures.lowest c.terms-c.ensures.over c.terms-c.ensures.under c.terms-c.ensures.lowest
+    c.if-m-eq1.true c.if-b-eq1.true c.if-d-eq1.true c.in-Some.total c.of_lowest.result c.in-Some.ensures c.of_lowest.ensures
