@@ -90,13 +90,15 @@ pub(crate) fn cost(constant: Frac, costs: &[Frac], point: &[Frac]) -> Result<Fra
 {
     let mut sum = constant;
     for at in 0..costs.len() {
-        let product = costs[at].mul(point[at])?;
-        sum = sum.add(product)?;
+        if !sum.add_product(&costs[at], &point[at]) {
+            return sum.plus_product(costs[at], point[at]);
+        }
     }
     Ok(sum)
 }
 
 /// A sum with the least cost of a column added.
+#[inline]
 fn add_column(sum: Frac, cost: Frac, sides: Sides) -> Least
     ensures { result ≡ column_added sum cost sides }
 {
