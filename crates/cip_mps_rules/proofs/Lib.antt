@@ -1,6 +1,6 @@
 pub mod MpsNames
 pub mod Quiet
-mod Coefficients
+pub mod Coefficients
 mod Few
-mod Outcomes
+pub mod Outcomes
 mod Tried

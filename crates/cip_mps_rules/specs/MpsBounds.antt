@@ -80,5 +80,6 @@ bounds_of facts column = settled (fold (bounded_by column.name) (unbounded colum
 abbrev pub all_bounds : Facts → List Bounded
 all_bounds facts = map (bounds_of facts) facts.columns
 
+-- low and high
 abbrev pub column_sides : Bounded → Sides
 column_sides b = record { low = b.low; high = b.high }

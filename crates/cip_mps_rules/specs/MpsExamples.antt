@@ -155,6 +155,7 @@ pub record EachKindIsFound : Type 0 where
 
 -- ---- readings: sections and lines
 
+-- sections, senses, comments and blanks
 pub record SectionsAreRead : Type 0 where
   -- sections may be missing until ENDATA, and one is out of order only behind one of a higher rank
   pub columns_first : IsFaulty (codes "COLUMNS\nROWS\n") 2 2
@@ -180,6 +181,7 @@ pub record SectionsAreRead : Type 0 where
 
 -- ---- readings: rows and columns
 
+-- markers, columns and their numbers
 pub record ColumnsAreRead : Type 0 where
   pub marker_row : IsFaulty (with_rows (codes " L 'MARKER'\n L MARKER\nCOLUMNS\n x MARKER 5\n x 'MARKER' 5\n")) 9 15
   pub plain_marker : IsFaulty (with_rows (codes "COLUMNS\n x MARKER INTORG\n x MARKER 'INTEND'\n")) 8 17
@@ -204,6 +206,7 @@ facts_in text = fold facts_with no_facts (map (λ now. now.saying) (sayings_of t
 abbrev pub sides_in : List ℕ → List Sides
 sides_in text = map column_sides (all_bounds (facts_in text))
 
+-- whether the columns of a text are whole
 abbrev pub wholes_in : List ℕ → List Bool
 wholes_in text = map (λ b. b.whole) (all_bounds (facts_in text))
 
@@ -211,9 +214,11 @@ wholes_in text = map (λ b. b.whole) (all_bounds (facts_in text))
 abbrev pub bounded : List ℕ → List ℕ
 bounded lines = with_columns (codes "BOUNDS\n" ++ lines)
 
+-- the sides of one column
 abbrev pub both : Option ℚ → Option ℚ → List Sides
 both low high = record { low = low; high = high } ∷ []
 
+-- the types of bounds, their sets and their faults
 pub record BoundsAreRead : Type 0 where
   pub none : sides_in (bounded []) ≡ both (Some zeroℚ) (Some oneℚ)
   pub high : sides_in (bounded (codes " UP B a 7\n")) ≡ both (Some zeroℚ) (Some (integral 7))
@@ -269,6 +274,7 @@ sides_of_four low1 high1 low2 high2 low3 high3 =
 abbrev pub large_value : List Value
 large_value = record { row = codes "R2"; number = Exact false 85070591730234615865843651857942052864 1 } ∷ []
 
+-- the types of rows, with their values in RHS and in RANGES
 pub record SidesAreRead : Type 0 where
   pub plain :
       row_sides_in (four_rows (codes "RHS\n R1 1 R2 2\n R3 3\n"))

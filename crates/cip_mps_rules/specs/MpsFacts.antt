@@ -39,6 +39,7 @@ pub record Facts : Type 0 where
   pub ranges : List Value
   pub bounds : List GivenBound
 
+-- before the first line nothing has been said
 abbrev pub no_facts : Facts
 no_facts = record {
   parts = [];
@@ -53,10 +54,12 @@ no_facts = record {
 
 -- ---- what one line says
 
+-- the section that a line opens
 abbrev pub parts_in : Saying → List Part
 parts_in (Opens part words) = part ∷ []
 parts_in other = []
 
+-- a sense, where the word is one
 abbrev pub sense_if : Option Bool → List Bool
 sense_if None = []
 sense_if (Some maximized) = maximized ∷ []
@@ -67,46 +70,57 @@ sense_words_in (Opens Sense (word ∷ words)) = word ∷ []
 sense_words_in (SenseLine word) = word ∷ []
 sense_words_in other = []
 
+-- the sense of the first of these words
 abbrev pub senses_from : List (List ℕ) → List Bool
 senses_from [] = []
 senses_from (word ∷ words) = sense_if (sense_of word)
 
+-- the sense that a line says
 abbrev pub senses_in : Saying → List Bool
 senses_in saying = senses_from (sense_words_in saying)
 
+-- the row of a line of ROWS, where its type is one of the four
 abbrev pub rows_in : Saying → List GivenRow
 rows_in (RowLine (Some kind) name) = record { kind = kind; name = name } ∷ []
 rows_in other = []
 
+-- the column of a line of COLUMNS
 abbrev pub columns_in : Saying → List GivenColumn
 columns_in (ColumnLine column whole values) = record { name = column; whole = whole } ∷ []
 columns_in other = []
 
+-- the numbers of a line of COLUMNS
 abbrev pub coefficients_in : Saying → List Coefficient
 coefficients_in (ColumnLine column whole values) =
     map (λ value. record { column = column; row = value.row; number = value.number }) values
 coefficients_in other = []
 
+-- the values of a line of RHS
 abbrev pub right_sides_in : Saying → List Value
 right_sides_in (RightSideLine set_name values) = values
 right_sides_in other = []
 
+-- the values of a line of RANGES
 abbrev pub ranges_in : Saying → List Value
 ranges_in (RangeLine set_name values) = values
 ranges_in other = []
 
+-- the bound of a line of BOUNDS
 abbrev pub bounds_in : Saying → List GivenBound
 bounds_in (BoundLine kind set_name column value) = record { kind = kind; column = column; value = value } ∷ []
 bounds_in other = []
 
 -- ---- one line more
 
+-- the names of the rows, those of type N among them
 abbrev pub row_names : Facts → List (List ℕ)
 row_names facts = map (λ row. row.name) facts.rows
 
+-- the names of columns
 abbrev pub names_of : List GivenColumn → List (List ℕ)
 names_of columns = map (λ column. column.name) columns
 
+-- the names of the columns
 abbrev pub column_names : Facts → List (List ℕ)
 column_names facts = names_of facts.columns
 

@@ -43,6 +43,7 @@ too_long last (Means program) = Faulty last 18
 too_long last (Faulty line kind) =
     if nat_lt line last || (line == last && nat_lt kind 18) then Faulty line kind else Faulty last 18
 
+-- what a text comes to of which this start is looked at
 abbrev pub outcome_of_start : List ℕ → Outcome
 outcome_of_start start = too_long (length (lines start)) (outcome_of_lines start)
 

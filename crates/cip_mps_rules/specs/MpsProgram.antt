@@ -39,6 +39,7 @@ coefficient facts row column = number_or_zero (number_at facts.coefficients row 
 
 -- ---- rows
 
+-- a row of type N
 abbrev pub is_free : RowKind → Bool
 is_free Free = true
 is_free other = false
@@ -47,6 +48,7 @@ is_free other = false
 abbrev pub has_sides : GivenRow → Bool
 has_sides row = not (is_free row.kind)
 
+-- those rows in the order of the text
 abbrev pub constraints : Facts → List GivenRow
 constraints facts = filter has_sides facts.rows
 
@@ -97,18 +99,22 @@ sides_of kind right_side (Some range) = ranged (moves_low kind range) right_side
 abbrev pub right_side : List Value → List ℕ → ℚ
 right_side values row = number_or_zero (first_value values row)
 
+-- the sides of a row that was given
 abbrev pub row_sides : Facts → GivenRow → Sides
 row_sides facts row = sides_of row.kind (right_side facts.right_sides row.name) (first_value facts.ranges row.name)
 
+-- a row with these terms and sides
 abbrev pub row_with : List Term → Sides → Row
 row_with terms sides = record { terms = terms; low = sides.low; high = sides.high }
 
+-- the row of the program
 abbrev pub row_of : Facts → GivenRow → Row
 row_of facts row =
     row_with (terms_of (column_names facts) facts.coefficients row.name) (row_sides facts row)
 
 -- ---- the objective
 
+-- the first of a list, and a default where it is empty
 abbrev pub first_or : {X : Type 0} → X → List X → X
 first_or default [] = default
 first_or default (x ∷ xs) = x
@@ -117,6 +123,7 @@ first_or default (x ∷ xs) = x
 abbrev pub free_names : Facts → List (List ℕ)
 free_names facts = map (λ row. row.name) (filter (λ row. is_free row.kind) facts.rows)
 
+-- the name of the objective
 abbrev pub objective : Facts → List ℕ
 objective facts = first_or [] (free_names facts)
 
@@ -138,6 +145,7 @@ constant_of facts = minimized facts (negate (right_side facts.right_sides (objec
 
 -- ---- the program
 
+-- the program of all that the lines have said
 abbrev pub program_of : Facts → Program
 program_of facts = record {
   column_names = column_names facts;

@@ -20,6 +20,7 @@ pub record Rule : Type 0 where
   pub kind : ℕ
   pub broken : Bool
 
+-- the rule of a kind
 abbrev pub rule : ℕ → Bool → Rule
 rule kind broken = record { kind = kind; broken = broken }
 
@@ -59,6 +60,7 @@ row_in (row ∷ rows) name = if bytes_eq name row.name then Some row else row_in
 
 -- ---- sections: kinds 1 to 4
 
+-- a section line whose word is no section
 abbrev pub is_unknown_section : Saying → Bool
 is_unknown_section UnknownSection = true
 is_unknown_section other = false
@@ -73,10 +75,12 @@ is_out_of_order opened (Opens part words) = list_any (stands_behind part) opened
 is_out_of_order opened Misplaced = true
 is_out_of_order opened other = false
 
+-- the line ENDATA
 abbrev pub is_end : Saying → Bool
 is_end (Opens End words) = true
 is_end other = false
 
+-- a section that was opened
 abbrev pub is_opened : List Part → Part → Bool
 is_opened opened part = list_any (λ before. part_number before == part_number part) opened
 
@@ -90,6 +94,7 @@ has_many_words Title words = false
 has_many_words Sense words = nat_lt 1 (length words)
 has_many_words other words = nat_lt 0 (length words)
 
+-- a wrong number of words or fields
 abbrev pub is_miscounted : Saying → Bool
 is_miscounted (Opens part words) = has_many_words part words
 is_miscounted Miscounted = true
@@ -109,6 +114,7 @@ side_overflows kind right_side (Some range) =
     && (if moves_low kind range then difference_overflows right_side (number (unsigned range))
     else sum_overflows right_side (number (unsigned range)))
 
+-- a row with such a side
 abbrev pub row_overflows : (right_sides ranges : List Value) → Option GivenRow → Bool
 row_overflows right_sides ranges None = false
 row_overflows right_sides ranges (Some row) =
@@ -126,13 +132,16 @@ has_wide_side facts now =
 
 -- ---- names: kinds 8 to 12
 
+-- a value for a row that wasn't given
 abbrev pub names_unknown_row : (rows : List (List ℕ)) → Saying → Bool
 names_unknown_row rows now = list_any (λ value. not (is_in rows value.row)) (values_in now)
 
+-- a bound of a column that wasn't given
 abbrev pub names_unknown_column : (columns : List (List ℕ)) → Saying → Bool
 names_unknown_column columns (BoundLine kind set_name column value) = not (is_in columns column)
 names_unknown_column columns other = false
 
+-- a row that was given before
 abbrev pub repeats_row : (rows : List (List ℕ)) → Saying → Bool
 repeats_row rows (RowLine kind name) = is_in rows name
 repeats_row rows other = false
@@ -173,14 +182,17 @@ splits_column columns other = false
 
 -- ---- words: kinds 13 to 15
 
+-- a row whose type isn't one of the four
 abbrev pub has_bad_row_type : Saying → Bool
 has_bad_row_type (RowLine None name) = true
 has_bad_row_type other = false
 
+-- a bound whose type isn't one of the ten
 abbrev pub has_bad_bound_type : Saying → Bool
 has_bad_bound_type BadBound = true
 has_bad_bound_type other = false
 
+-- a marker that neither begins nor ends whole columns
 abbrev pub is_bad_marker : Saying → Bool
 is_bad_marker BadMarker = true
 is_bad_marker other = false
@@ -208,7 +220,9 @@ entry_count entries = length (filter (λ entry. not (is_zero entry.number)) entr
 
 -- a number too many; those that are 0 aren't counted
 abbrev pub is_entry_too_many : ℕ → Saying → Bool
-is_entry_too_many count now = nat_lt most_entries (count + entry_count (coefficients_in now))
+is_entry_too_many count (ColumnLine column whole values) =
+    nat_lt most_entries (count + entry_count (coefficients_in (ColumnLine column whole values)))
+is_entry_too_many count other = false
 
 -- the line exceeds a limit, behind so many rows that aren't of type N, these columns, and so many entries
 abbrev pub is_too_many : (rows : ℕ) (columns : List (List ℕ)) (entries : ℕ) → Saying → Bool
@@ -223,6 +237,7 @@ has_long_name other = false
 
 -- ---- the profile: kinds 20 and 21
 
+-- a row that was given with type N
 abbrev pub is_free_row : Option GivenRow → Bool
 is_free_row None = false
 is_free_row (Some row) = is_free row.kind
@@ -246,6 +261,7 @@ is_no_bound WholeHigh value = is_huge value && is_negative value
 is_no_bound Fixed value = is_huge value
 is_no_bound other value = false
 
+-- a bound of type SC
 abbrev pub is_semicontinuous : BoundKind → Bool
 is_semicontinuous SemiContinuous = true
 is_semicontinuous other = false
@@ -269,6 +285,7 @@ has_unbounded_column bounds now = is_end now && list_any is_unbounded bounds
 abbrev pub kinds_of : Facts → List RowKind
 kinds_of facts = map (λ row. row.kind) facts.rows
 
+-- the rules of all kinds on one line, kind 21 in two parts
 abbrev pub rules : Facts → Saying → List Rule
 rules facts now =
     rule 1 (is_unknown_section now)

@@ -44,10 +44,12 @@ pub record Place : Type 0 where
 
 -- ---- section lines
 
+-- a section line with this section, if there is one
 abbrev pub opening : Option Part → List (List ℕ) → Saying
 opening None words = UnknownSection
 opening (Some part) words = Opens part words
 
+-- what the words of a section line say
 abbrev pub section_said : List (List ℕ) → Saying
 section_said [] = UnknownSection
 section_said (word ∷ words) = opening (section_of word) words
@@ -66,12 +68,15 @@ row_said words = Miscounted
 
 -- ---- lines of COLUMNS
 
+-- a row and the number that a text says for it
 abbrev pub value_said : (row text : List ℕ) → Value
 value_said row text = record { row = row; number = numeral_of text }
 
+-- the one value of a line
 abbrev pub one_value : (row text : List ℕ) → List Value
 one_value row text = value_said row text ∷ []
 
+-- the two values of a line
 abbrev pub two_values : (row text other_row other_text : List ℕ) → List Value
 two_values row text other_row other_text = value_said row text ∷ value_said other_row other_text ∷ []
 
@@ -80,6 +85,7 @@ abbrev pub is_marker : (second third : List ℕ) → Bool
 is_marker second third =
     bytes_eq second (codes "'MARKER'") || (bytes_eq second (codes "MARKER") && is_some (marker_of third))
 
+-- a marker whose third field means this
 abbrev pub marker_said : Option Bool → Saying
 marker_said None = BadMarker
 marker_said (Some begins) = Marker begins
@@ -110,6 +116,7 @@ right_side_said first (set_name ∷ row ∷ text ∷ other_row ∷ other_text �
     of_set first set_name (RightSideLine set_name (two_values row text other_row other_text))
 right_side_said first words = Miscounted
 
+-- a line of RANGES has the same form
 abbrev pub range_said : Option (List ℕ) → List (List ℕ) → Saying
 range_said first (row ∷ text ∷ []) = of_set first [] (RangeLine [] (one_value row text))
 range_said first (set_name ∷ row ∷ text ∷ []) = of_set first set_name (RangeLine set_name (one_value row text))
@@ -140,11 +147,13 @@ plain_bound first kind (set_name ∷ column ∷ text ∷ []) =
     of_set first set_name (BoundLine kind set_name column no_value)
 plain_bound first kind words = Miscounted
 
+-- a bound of this type, if it is one
 abbrev pub typed_bound : Option (List ℕ) → Option BoundKind → List (List ℕ) → Saying
 typed_bound first None words = BadBound
 typed_bound first (Some kind) words =
     if has_value kind then valued_bound first kind words else plain_bound first kind words
 
+-- a line of BOUNDS
 abbrev pub bound_said : Option (List ℕ) → List (List ℕ) → Saying
 bound_said first [] = Miscounted
 bound_said first (kind ∷ words) = typed_bound first (bound_kind_of kind) words
@@ -174,6 +183,7 @@ said place (Entry words) = fields_said place.part place words
 abbrev pub no_place : Place
 no_place = record { part = NoPart; sensed = false; whole = false; set_name = None }
 
+-- there is a word
 abbrev pub has_words : List (List ℕ) → Bool
 has_words [] = false
 has_words (word ∷ words) = true

@@ -44,6 +44,7 @@ pub data Part : Type 0 where
   Bounds : Part
   End : Part
 
+-- the eight words of sections
 abbrev pub section_words : List (Word Part)
 section_words =
     record { text = codes "NAME"; meaning = Title } ∷ record { text = codes "OBJSENSE"; meaning = Sense }
@@ -81,6 +82,7 @@ part_number End = 8
 
 -- ---- senses
 
+-- the four words of senses
 abbrev pub sense_words : List (Word Bool)
 sense_words =
     record { text = codes "min"; meaning = false } ∷ record { text = codes "max"; meaning = true }
@@ -99,6 +101,7 @@ pub data RowKind : Type 0 where
   AtLeast : RowKind
   EqualTo : RowKind
 
+-- the four types of rows
 abbrev pub row_words : List (Word RowKind)
 row_words =
     record { text = codes "N"; meaning = Free } ∷ record { text = codes "L"; meaning = AtMost }
@@ -110,6 +113,7 @@ row_kind_of word = meaning_in row_words word
 
 -- ---- markers
 
+-- the words of markers, with quotes or without
 abbrev pub marker_words : List (Word Bool)
 marker_words =
     record { text = codes "INTORG"; meaning = true } ∷ record { text = codes "'INTORG'"; meaning = true }
@@ -134,6 +138,7 @@ pub data BoundKind : Type 0 where
   Binary : BoundKind
   SemiContinuous : BoundKind
 
+-- the ten types of bounds
 abbrev pub bound_words : List (Word BoundKind)
 bound_words =
     record { text = codes "LO"; meaning = Low } ∷ record { text = codes "UP"; meaning = High }
@@ -167,14 +172,17 @@ is_negative (Exact negative size below) = negative
 is_negative (Huge negative) = negative
 is_negative other = false
 
+-- a text that says no number
 abbrev pub is_no_number : Numeral → Bool
 is_no_number NotANumber = true
 is_no_number other = false
 
+-- a number above 2^127-1 in size
 abbrev pub is_huge : Numeral → Bool
 is_huge (Huge negative) = true
 is_huge other = false
 
+-- a number that needs too many digits
 abbrev pub is_too_fine : Numeral → Bool
 is_too_fine TooFine = true
 is_too_fine other = false
@@ -183,6 +191,7 @@ is_too_fine other = false
 abbrev pub infinity_words : List (List ℕ)
 infinity_words = codes "inf" ∷ codes "infinity" ∷ []
 
+-- a text that says infinity
 abbrev pub is_infinity : List ℕ → Bool
 is_infinity text = is_in infinity_words (str_to_ascii_lowercase (without_sign text))
 

@@ -107,10 +107,11 @@ zeros_at_end digits = suffix_len is_zero_digit digits
 abbrev pub size_of : List ℕ → ℕ
 size_of digits = digits_value (take (length digits - zeros_at_end digits) digits)
 
--- the exponent where it is not negative, and else 0; and what it is below 0
+-- the exponent where it is not negative, and else 0
 abbrev pub exponent_up : List ℕ → ℕ
 exponent_up body = if is_minus (exponent body) then 0 else digits_value (without_sign (exponent body))
 
+-- how far the exponent is below 0, and else 0
 abbrev pub exponent_down : List ℕ → ℕ
 exponent_down body = if is_minus (exponent body) then digits_value (without_sign (exponent body)) else 0
 

@@ -1,0 +1,6 @@
+pub mod MpsLineTests
+pub mod MpsSoundState
+pub mod MpsState
+pub mod MpsStepStatements
+pub mod MpsSteps
+pub mod MpsStream
