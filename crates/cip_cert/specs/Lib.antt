@@ -1,8 +1,8 @@
 pub mod Checks
 pub mod Follows
-pub mod Inside
 pub mod Lent
 pub mod Pool
-pub mod Reduced
+pub mod Reductions
+pub mod SparseRows
 pub mod Statements
 pub mod Touched

@@ -2,7 +2,7 @@
 ghost use Rattle.std.specs.Prelude.{◌≡◌, ◌≤◌, ◌<◌, length, slice_index_or, false, Ok, Err, IsOk, IfOk, OnOk, MatchResult};
 ghost use Rattle.cip_cert.specs.Lent.{lent_of, Fits, multiples_of};
 ghost use Rattle.cip_cert.specs.Checks.{derived, lower_bound_of, emptied};
-ghost use Rattle.cip_cert.specs.Reduced.{reduced, SideFollows};
+ghost use Rattle.cip_cert.specs.Reductions.{reduced, SideFollows};
 ghost use Rattle.cip_cert.specs.Follows.{RowFollows, BoundFollows, EmptinessFollows};
 
 use crate::checks::{derive_row, empties_row, lower_bound_row};

@@ -12,6 +12,10 @@ pub enum Place {
 
 /// Why a combination doesn't prove what it is given for. The variants stand in the order in which they are looked for:
 /// `TooLong` first, then entry by entry, then column by column, and then what it comes to.
+///
+/// An entry adds its terms by rising column, the product of factor and coefficient and then the sum, and its side's
+/// product last. A bound starts at the right side and adds the columns' least rests by rising column. A single bound is
+/// divided by its coefficient after all columns. The first of these operations that overflows is named.
 #[derive(Clone, Copy, Debug, PartialEq, Eq)]
 pub enum CutFault {
     /// There are more than 4,096 entries.
@@ -28,10 +32,10 @@ pub enum CutFault {
     NoSide { place: Place },
     /// A product, sum, difference or quotient overflows.
     Wide { place: Place },
-    /// A coefficient isn't 0, and isn't whole or stands on a column that isn't whole.
+    /// With rounding, a coefficient isn't 0, and isn't whole or stands on a column that isn't whole.
     NotWhole { column: usize },
     /// With costs 0 the bound isn't above 0.
     NotPositive { value: Frac },
-    /// The side that is implied, if there is one, is weaker.
+    /// The side that is implied is weaker, or none is, as the coefficient is 0 or has the other sign.
     NotImplied { implied: Option<Frac> },
 }

@@ -1,4 +1,8 @@
 //! Exact checks of combinations of rows and bounds: cuts, bounds, emptiness and single bounds.
+//!
+//! No check takes memory. One that isn't given costs takes time in the terms that its combination adds up, and in
+//! sorting the columns that they touch, and none in the other columns; at costs it passes over all columns once, and so
+//! it does for each row of the pool, whose scope is compared with the box.
 #![tactic(auto)]
 
 mod aggregate;

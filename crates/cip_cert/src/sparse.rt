@@ -25,7 +25,7 @@ impl Model for SparseRow {
 
     ghost coded = { touched_code };
 
-    ghost use Rattle.cip_cert.specs.Inside.{shown, IsSound};
+    ghost use Rattle.cip_cert.specs.SparseRows.{shown, IsSound};
 
     ghost view = { shown };
 

@@ -1,0 +1,98 @@
+-- What has been taken over is in shape again, and is the state after the exchange.
+use Rattle.std.proofs.Common.{◌≡◌, ℕ, ◌<◌, ◌==◌, Bool, true, false, cond, not, is_some, List, length, get_or, set, Option, None, Some, refl, sym, ap, ◌∙◌, inl, inr, arith, length-set}
+use Rattle.std.proofs.lemmas.Bool.{eq-eqb, ne_eqb, cases_eq, true≢false}
+use Rattle.std.proofs.lemmas.List.{get_or-set_same, get_or-set_other}
+use Rattle.cip_rational.specs.Rational.{ℚ}
+use Rattle.cip_problem.specs.Program.{Sides}
+use Rattle.cip_dictionary.specs.Dictionary.{Dictionary, is_basic}
+use Rattle.cip_dictionary.specs.Exchange.{exchanged, CanExchange}
+use Rattle.cip_dictionary.specs.declared.moves.Stand.{Stand}
+use Rattle.cip_dictionary.proofs.Kept.{exchanges_keep}
+use Rattle.cip_dict.specs.declared.lists.Lists.{Lists}
+use Rattle.cip_dict.specs.declared.lists.Room.{Room}
+use Rattle.cip_dict.specs.Lists.{basic_in}
+use Rattle.cip_dict.specs.Row.{row_in, row_length, HasRows, HasRowsAfter}
+use Rattle.cip_dict.specs.State.{state, HasRoom, IsShaped}
+use Rattle.cip_dict.specs.Written.{entered_form, IsPlanned, IsTakenOver}
+use Rattle.cip_dict.proofs.Exchanged.{rows_after, stands_after}
+
+-- rows of the right lengths before have the right lengths after i has left and j entered
+pub entered_long : (standing : List (Option Stand)) (i j : ℕ) (rows final : List (List ℚ)) (new : List ℚ) → HasRows standing rows → length new ≡ length standing → j < length standing → basic_in standing j ≡ false → length final ≡ length standing → ((v : ℕ) → v < length standing → row_in final v ≡ entered_form i j rows new v) → HasRowsAfter standing i j final
+entered_long standing i j rows final new h n lj nonbasic long at = record {
+  each_one = long;
+  long = λ v l. ap length (at v l) ∙ elim (cases_eq v i) [
+    | inl e ↦ ap (λ t. length (cond t (row_in rows j) (cond (v == j) new (row_in rows v)))) (eq-eqb v i e)
+        ∙ h.long j lj ∙ ap (λ t. cond t (length standing) 0) nonbasic
+        ∙ sym (ap (λ t. cond t 0 (cond (v == j) (length standing) (row_length standing v))) (eq-eqb v i e))
+    | inr ni ↦ ap (λ t. length (cond t (row_in rows j) (cond (v == j) new (row_in rows v)))) (ne_eqb v i ni)
+        ∙ elim (cases_eq v j) [
+          | inl e ↦ ap (λ t. length (cond t new (row_in rows v))) (eq-eqb v j e) ∙ n ∙ sym (ap (λ t. cond t (length standing) (row_length standing v)) (eq-eqb v j e))
+          | inr nj ↦ ap (λ t. length (cond t new (row_in rows v))) (ne_eqb v j nj) ∙ h.long v l ∙ sym (ap (λ t. cond t (length standing) (row_length standing v)) (ne_eqb v j nj))
+        ]
+        ∙ sym (ap (λ t. cond t 0 (cond (v == j) (length standing) (row_length standing v))) (ne_eqb v i ni))
+  ];
+}
+
+-- where variables stand after it
+module _ (standing : List (Option Stand)) (i j : ℕ) (to : Stand) (li : i < length standing) (lj : j < length standing) (ne : ¬ (i ≡ j)) where
+  later : List (Option Stand)
+  later = set (set standing i (Some to)) j None
+
+  later_long : length later ≡ length standing
+  unfolding later
+  later_long = length-set (set standing i (Some to)) j None ∙ length-set standing i (Some to)
+
+  later_basic : (v : ℕ) → v < length standing → basic_in later v ≡ cond (v == i) false (cond (v == j) true (basic_in standing v))
+  unfolding later
+  later_basic v l =
+      elim (cases_eq v i) [
+        | inl e ↦ (let other : ¬ (v ≡ j) = λ (e' : v ≡ j). ne (sym e ∙ e') in
+            ap (λ s. not (is_some s)) (get_or-set_other (set standing i (Some to)) j v None None other ∙ ap (λ u. get_or (set standing i (Some to)) u None) e ∙ get_or-set_same standing i (Some to) None li)
+            ∙ sym (ap (λ t. cond t false (cond (v == j) true (basic_in standing v))) (eq-eqb v i e)))
+        | inr ni ↦ elim (cases_eq v j) [
+          | inl e ↦ ap (λ s. not (is_some s)) (ap (λ u. get_or (set (set standing i (Some to)) j None) u None) e ∙ get_or-set_same (set standing i (Some to)) j None None (omega (arith, lj, length-set standing i (Some to))))
+              ∙ sym (ap (λ t. cond t false (cond (v == j) true (basic_in standing v))) (ne_eqb v i ni) ∙ ap (λ t. cond t true (basic_in standing v)) (eq-eqb v j e))
+          | inr nj ↦ ap (λ s. not (is_some s)) (get_or-set_other (set standing i (Some to)) j v None None nj ∙ get_or-set_other standing i v (Some to) None ni)
+              ∙ sym (ap (λ t. cond t false (cond (v == j) true (basic_in standing v))) (ne_eqb v i ni) ∙ ap (λ t. cond t true (basic_in standing v)) (ne_eqb v j nj))
+        ]
+      ]
+
+  by_tests : (n : ℕ) (a b c : Bool) → cond (cond a false (cond b true c)) n 0 ≡ cond a 0 (cond b n (cond c n 0))
+  by_tests n true b c = refl
+  by_tests n false true c = refl
+  by_tests n false false c = refl
+
+  has_rows_after : (rows : List (List ℚ)) → HasRowsAfter standing i j rows → HasRows later rows
+  has_rows_after rows h = record {
+    each_one = h.each_one ∙ sym later_long;
+    long = λ v l.
+        let l' : v < length standing = omega (arith, l, later_long) in
+        h.long v l' ∙ sym (ap (λ t. cond t (length later) 0) (later_basic v l') ∙ ap (λ n. cond (cond (v == i) false (cond (v == j) true (basic_in standing v))) n 0) later_long ∙ by_tests (length standing) (v == i) (v == j) (basic_in standing v));
+  }
+
+pub taken_over : (sides : List Sides) (standing : List (Option Stand)) (lists : Lists) (old room : Room) (i j : ℕ) (to : Stand) (cost : ℚ) (later : List (Option Stand)) (new : Lists) (rest : Room) → IsShaped sides standing lists old → HasRoom standing room → CanExchange (state sides standing lists) i j to → IsPlanned (state sides standing lists) i j to room cost → IsTakenOver standing i j to cost lists room later new rest → (state sides later new ≡ exchanged (state sides standing lists) i j to) × IsShaped sides later new rest
+unfolding exchanged later
+taken_over sides standing lists old room i j to cost later new rest s r h p t =
+    let d : Dictionary = state sides standing lists in
+    let m : length standing ≡ length sides = sym s.sides_long in
+    let li : i < length standing = omega (arith, h.leaving, m) in
+    let lj : j < length standing = omega (arith, h.entering, m) in
+    let ne : ¬ (i ≡ j) = λ (e : i ≡ j). true≢false (sym h.basic ∙ ap (is_basic d) e ∙ h.nonbasic) in
+    let stands = t.stands ∙ stands_after d i j to s.consistent h m s.lists_long.rows in
+    let rows = rows_after d i j to s.consistent h m s.lists_long.rows room.rows.items p.rows room.entering _ new.rows.items p.entering refl (t.long.each_one ∙ m) (λ v l. t.rows v (omega (arith, l, m))) in
+    let costs = t.costs ∙ p.costs in
+    let values = t.values ∙ p.values in
+    let cost_is = t.cost_is ∙ p.cost_is in
+    let same : state sides later new ≡ exchanged d i j to = λ k. record { sides = sides; standing = stands k; rows = rows k; costs = costs k; values = values k; cost = cost_is k } in
+    let long : length later ≡ length standing = ap length t.stands ∙ later_long standing i j to li lj ne in
+    let has_rows : HasRows later new.rows.items = rw t.stands (has_rows_after standing i j to li lj ne new.rows.items t.long) in
+    let rest_rows : HasRows later rest.rows.items = rw t.stands (has_rows_after standing i j to li lj ne rest.rows.items t.rest_long) in (
+      same,
+      record {
+        few = rw long s.few;
+        sides_long = s.sides_long ∙ sym long;
+        lists_long = record { rows = has_rows; costs = ap length t.costs ∙ r.costs ∙ sym long; values = ap length t.values ∙ r.values ∙ sym long };
+        room_long = record { entering = t.rest_entering ∙ sym long; rows = rest_rows; costs = ap length t.rest_costs ∙ s.lists_long.costs ∙ sym long; values = ap length t.rest_values ∙ s.lists_long.values ∙ sym long };
+        consistent = rw same (exchanges_keep d i j to s.consistent h).consistent;
+      },
+    )

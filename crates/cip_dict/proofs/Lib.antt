@@ -1,0 +1,12 @@
+pub mod After
+pub mod Begun
+pub mod Chains
+pub mod Exchanged
+pub mod Flipped
+pub mod Formed
+pub mod Grown
+pub mod LeastBasic
+pub mod Loops
+pub mod Puts
+pub mod RowLists
+pub mod Unchanged

@@ -1,0 +1,7 @@
+use Rattle.std.proofs.Common.{◌≡◌}
+use Rattle.cip_dictionary.specs.Tables.{table}
+use Rattle.cip_dict.specs.FirstLists.{column_value}
+use Rattle.cip_dict.proofs.first.column_values.Given as goal
+
+abbrev pub invariant-loop-k : goal.invariant-loop-k
+invariant-loop-k l = l.values.items ≡ table l.k (column_value l.columns)

@@ -1,0 +1,35 @@
+use Rattle.std.proofs.Common.{◌≡◌, ◌∙◌, ap, length, [], ◌∷◌}
+use Rattle.cip_problem.specs.Activity.{value_at}
+use Rattle.cip_problem.specs.Box.{sides_at}
+use Rattle.cip_dictionary.specs.Dictionary.{stand, standing_value}
+use Rattle.cip_dictionary.specs.Exchange.{way, other_stand}
+use Rattle.cip_dictionary.specs.Tables.{least}
+use Rattle.cip_dictionary.specs.Operations.{placed, Difference, value_place}
+use Rattle.cip_dictionary.specs.MoveOperations.{first_line, flip_operations}
+use Rattle.cip_dict.specs.Lists.{basic_in}
+use Rattle.cip_dict.specs.State.{state}
+use Rattle.cip_dict.specs.Written.{MovesWritten, flips_operations}
+use Rattle.cip_dict.proofs.Chains.{then_rest_as}
+use Rattle.cip_dict.proofs.Flipped.{arrive, difference_fits, flip_split, flip_planned}
+use Rattle.cip_dict.proofs.flip.plan_flip.Goals as goal
+
+pub write_flips-requires-clause-arrives : goal.write_flips-requires-clause-arrives
+write_flips-requires-clause-arrives c =
+    let v : c.number-value.result ≡ value_at c.args.lists.now.values.items c.args.j = rw c.as_slice.ensures.value at c.number-value.ensures in
+    arrive c.side_of-side.result (value_at c.args.lists.now.values.items c.args.j) c.in-Ok.t (rw v at c.in-Ok.ensures.1)
+
+pub returns-in-Ok-clause-written : goal.returns-in-Ok-clause-written
+returns-in-Ok-clause-written c =
+    let v : c.number-value.result ≡ value_at c.args.lists.now.values.items c.args.j = rw c.as_slice.ensures.value at c.number-value.ensures in
+    let side : c.side_of-side.result ≡ standing_value (sides_at c.args.sides.now c.args.j) (other_stand (stand (state c.args.sides.now c.args.standing.now c.args.lists.now) c.args.j)) = c.side_of-side.ensures ∙ ap (standing_value (sides_at c.args.sides.now c.args.j)) c.other_at-other.ensures in
+    let fits = rw (side, v) at c.in-Ok.ensures.0 in
+    let t : c.in-Ok.t ≡ way (state c.args.sides.now c.args.standing.now c.args.lists.now) c.args.j = rw (side, v) at c.in-Ok.ensures.1 in
+    let last = rw t at c.write_flips.ensures.written in
+    let place = value_place (first_line (least (length c.args.standing.now) (basic_in c.args.standing.now))) in
+    let from = standing_value (sides_at c.args.sides.now c.args.j) (other_stand (stand (state c.args.sides.now c.args.standing.now c.args.lists.now) c.args.j)) in
+    then_rest_as (flip_operations (state c.args.sides.now c.args.standing.now c.args.lists.now) c.args.j) (placed place (Difference from (value_at c.args.lists.now.values.items c.args.j)) ∷ []) (flips_operations c.args.standing.now c.args.j (way (state c.args.sides.now c.args.standing.now c.args.lists.now) c.args.j) c.args.lists.now) c.write_flips.result
+    (λ cost. MovesWritten c.args.standing.now c.args.j (way (state c.args.sides.now c.args.standing.now c.args.lists.now) c.args.j) c.args.lists.now c.args.room.now c.write_flips.new.room cost)
+    _
+    (flip_split c.args.sides.now c.args.standing.now c.args.lists.now c.args.j c.requires.sides_long)
+    (difference_fits place from (value_at c.args.lists.now.values.items c.args.j) fits) last
+    (λ cost p. flip_planned c.args.sides.now c.args.standing.now c.args.lists.now c.args.j c.args.room.now c.write_flips.new.room cost c.requires.sides_long p)

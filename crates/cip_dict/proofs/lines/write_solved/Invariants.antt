@@ -1,0 +1,16 @@
+use Rattle.std.proofs.Common.{◌≡◌, ℕ, ◌<◌, None, get_or}
+use Rattle.cip_rational.specs.Rational.{zeroℚ}
+use Rattle.cip_problem.specs.Activity.{value_at}
+use Rattle.cip_dictionary.specs.Tables.{each}
+use Rattle.cip_dictionary.specs.Operations.{first_overflow}
+use Rattle.cip_dictionary.specs.Exchange.{solved}
+use Rattle.cip_dictionary.specs.MoveOperations.{solved_operations}
+use Rattle.cip_dictionary.specs.declared.places.Line.TheVariants.{Row}
+use Rattle.cip_dict.specs.Lists.{basic_in}
+use Rattle.cip_dict.proofs.lines.write_solved.Given as goal
+
+abbrev pub invariant-loop-k : goal.invariant-loop-k
+invariant-loop-k l = record {
+  fits : first_overflow (each l.k (solved_operations (Row l.j) (basic_in l.standing) l.i l.j l.q (value_at l.row))) ≡ None;
+  written : (k : ℕ) → k < l.k → get_or l.out k zeroℚ ≡ solved (basic_in l.standing) l.i l.j l.q (value_at l.row) k;
+}

@@ -1,0 +1,28 @@
+use Rattle.std.proofs.Common.{arith, length, ◌<◌, ◌≡◌, [], get_or, ◌∙◌, ap, sym}
+use Rattle.std.proofs.lemmas.List.{get_or-set_other}
+use Rattle.cip_dictionary.proofs.Overflow.{first_more, first_at}
+use Rattle.cip_dict.specs.Row.{row_in}
+use Rattle.cip_dict.proofs.Loops.{written_more, loop_end}
+use Rattle.cip_dict.proofs.RowLists.{row_read, HasRows-set}
+use Rattle.cip_dict.proofs.rows.write_rows.Goals as goal
+
+pub returns-in-Err-clause-written : goal.returns-in-Err-clause-written
+returns-in-Err-clause-written c =
+    let r : c.index-rows-v.result ≡ row_in c.args.rows.now c.loop-v.v = row_read c.args.rows.now c.loop-v.v c.index-rows-v.result (omega (arith, c.requires.rows_long.each_one)) c.index-rows-v.is in
+    first_at (length c.args.standing.now) c.loop-v.v _ c.in-Err.fault.place c.loop-v-test.true c.loop-v.invariant.fits (rw r at c.in-Err.ensures.written)
+
+pub loop-v-preserved : goal.loop-v-preserved
+loop-v-preserved c =
+    let r : c.index-rows-v.result ≡ row_in c.args.rows.now c.loop-v.v = row_read c.args.rows.now c.loop-v.v c.index-rows-v.result (omega (arith, c.requires.rows_long.each_one)) c.index-rows-v.is in
+    let within : c.loop-v.v < length c.loop-v.out = omega (arith, c.loop-v.invariant.long.each_one) in
+    let here : c.index-out-v.result ≡ row_in c.loop-v.out c.loop-v.v = row_read c.loop-v.out c.loop-v.v c.index-out-v.result within c.index-out-v.is in
+    let o : get_or c.loop-v.out c.loop-v.v c.index-out-v.result ≡ row_in c.args.out.now c.loop-v.v = sym c.index-out-v.is ∙ here ∙ c.loop-v.invariant.rest c.loop-v.v (omega arith) in
+    record {
+      fits = first_more c.loop-v.v _ c.loop-v.invariant.fits (rw r at c.in-Ok.ensures.written.0);
+      written = written_more _ c.loop-v.out c.loop-v.v c.write_row.new.out [] within c.loop-v.invariant.written (rw (r, o) at c.in-Ok.ensures.written.1);
+      rest = λ m l. get_or-set_other c.loop-v.out c.loop-v.v m c.write_row.new.out [] (λ (e : m ≡ c.loop-v.v). omega (arith, l, e)) ∙ c.loop-v.invariant.rest m (omega (arith, l));
+      long = HasRows-set c.args.standing.now c.loop-v.out c.loop-v.v c.write_row.new.out c.loop-v.invariant.long (c.in-Ok.ensures.long ∙ ap length (sym c.index-out-v.is ∙ here)) within;
+    }
+
+pub returns-clause-written : goal.returns-clause-written
+returns-clause-written c = loop_end (length c.args.standing.now) c.loop-v.v _ _ c.loop-v.out [] (omega arith) (omega arith) (c.loop-v.invariant.long.each_one) c.loop-v.invariant.fits c.loop-v.invariant.written

@@ -1,0 +1,185 @@
+//! Dictionaries: the states of the simplex method, and the moves from one to the next.
+ghost use Rattle.std.specs.Prelude.{◌≡◌, ◌+◌, ◌<◌, ◌^◌, length, true, Some, None, MatchResult};
+ghost use Rattle.cip_problem.specs.Box.{sides_at};
+ghost use Rattle.cip_dictionary.specs.Dictionary as def;
+ghost use Rattle.cip_dictionary.specs.Exchange.{CanExchange, exchanged, CanFlip, flipped};
+ghost use Rattle.cip_dictionary.specs.FirstState.{first, first_operations};
+ghost use Rattle.cip_dict.specs.Entries.{AreWithin, system_in, IsFirstFault};
+ghost use Rattle.cip_dictionary.specs.Operations.{first_overflow};
+ghost use Rattle.cip_dictionary.specs.MoveOperations.{exchange_operations, flip_operations};
+
+use crate::exchange::{plan, take_over};
+use crate::fault::{FirstFault, OutOfRange};
+use crate::first::{all_sides, lists_for, room_for, stands};
+use crate::flip::{plan_flip, take_flip};
+use crate::lists::{Lists, Room};
+use cip_dictionary::Stand;
+use cip_frac::Frac;
+use cip_lin::Sides;
+use std::alloc::Global;
+use std::marker::Model;
+
+/// A state of the simplex method. Variables go by number, columns first, then rows; a row of the dictionary is named
+/// by its basic variable.
+#[derive(Debug, Drop)]
+pub struct Dict {
+    pub(crate) sides: Vec<Sides>,
+    pub(crate) standing: Vec<Option<Stand>>,
+    pub(crate) lists: Lists,
+    pub(crate) room: Room,
+}
+
+impl Model for Dict {
+    ghost use Rattle.cip_dictionary.specs.Dictionary.{Dictionary};
+    ghost use Rattle.cip_dict.specs.DictionaryCode.{dictionary_code};
+
+    ghost Value = { Dictionary };
+
+    ghost coded = { dictionary_code };
+
+    ghost use Rattle.cip_dict.specs.State.{state, IsShaped};
+
+    ghost view = { λ d. state d.sides.items d.standing.items d.lists };
+
+    ghost invariant = { λ d. IsShaped d.sides.items d.standing.items d.lists d.room };
+}
+
+impl Dict {
+    /// The first state of a linear program: each row is basic, and each column stands at its low side, else at its high
+    /// side, else at 0. An entry is a row, a column and the coefficient there; of two that name the same, the last
+    /// counts. Sides and costs go by the numbers of rows and columns. `OutOfRange` comes exactly where an operation
+    /// leaves the range, and names the place of the first; `NoMemory` where a growth was refused.
+    pub fn first(
+        alloc: Global,
+        entries: &[(u32, u32, Frac)],
+        row_sides: &[Sides],
+        column_sides: &[Sides],
+        costs: &[Frac],
+    ) -> Result<Dict, FirstFault>
+        requires few { length column_sides.now + length row_sides.now < 2 ^ 32 }
+        requires within { AreWithin (length row_sides.now) (length column_sides.now) entries.now }
+        requires costs_long { length costs.now ≡ length column_sides.now }
+        ensures { let p = system_in entries.now row_sides.now column_sides.now costs.now in
+            MatchResult result
+            (λ dict. (first_overflow (first_operations p) ≡ None) × (dict ≡ first p))
+            (IsFirstFault p) }
+    {
+        let n = column_sides.len() + row_sides.len();
+        let places = stands(alloc, column_sides, n)?;
+        let standing = places.as_slice();
+        let found = match lists_for(alloc, standing, entries, row_sides, column_sides, costs) {
+            Ok(found) => found,
+            Err(fault) => return Err(fault),
+        };
+        let room = room_for(alloc, standing)?;
+        let sides = all_sides(alloc, column_sides, row_sides)?;
+        Ok(Dict {
+            sides,
+            standing: places,
+            lists: found,
+            room,
+        })
+    }
+
+    /// The number of variables. And the state is consistent: rows stand on nonbasic variables alone, and the values are
+    /// those of the rows and of the places where the nonbasic variables stand.
+    pub fn len(&self) -> usize
+        ensures variables { result ≡ def.size self.now }
+        ensures consistent { def.IsConsistent self.now }
+    {
+        self.sides.len()
+    }
+
+    /// The entry of the basic variable i on the variable j; 0 where j is basic.
+    pub fn entry(&self, i: u32, j: u32) -> Frac
+        requires within { i < def.size self.now }
+        requires basic { def.is_basic self.now i ≡ true }
+        requires on { j < def.size self.now }
+        ensures { result ≡ def.entry self.now i j }
+    {
+        self.lists.rows[i as usize].entry(j)
+    }
+
+    /// The value of a variable.
+    pub fn value(&self, v: u32) -> Frac
+        requires { v < def.size self.now }
+        ensures { result ≡ def.value self.now v }
+    {
+        self.lists.values[v as usize]
+    }
+
+    /// The entry of the cost on a variable; 0 where that is basic.
+    pub fn cost_entry(&self, v: u32) -> Frac
+        requires { v < def.size self.now }
+        ensures { result ≡ def.cost_entry self.now v }
+    {
+        self.lists.costs[v as usize]
+    }
+
+    /// The cost.
+    pub fn cost(&self) -> Frac
+        ensures { result ≡ self.now.cost }
+    {
+        self.lists.cost
+    }
+
+    /// The sides of a variable.
+    pub fn sides(&self, v: u32) -> Sides
+        requires { v < def.size self.now }
+        ensures { result ≡ sides_at self.now.sides v }
+    {
+        self.sides[v as usize]
+    }
+
+    /// Where a variable stands; none where it is basic.
+    pub fn stand(&self, v: u32) -> Option<Stand>
+        requires { v < def.size self.now }
+        ensures { result ≡ def.stand self.now v }
+    {
+        self.standing[v as usize]
+    }
+
+    /// Exchanges the basic variable i, which leaves to `stand`, and the nonbasic j, which enters. The entry of i on j
+    /// isn't 0, and i has the side of `stand`, or none for `Zero`. `OutOfRange` comes exactly where an operation of the
+    /// exchange leaves the range, and names the place of the first; then the state is as before.
+    pub fn exchange(&mut self, i: u32, j: u32, stand: Stand) -> Result<(), OutOfRange>
+        requires { CanExchange self.old i j stand }
+        ensures { MatchResult result
+            (λ _. (first_overflow (exchange_operations self.old i j stand) ≡ None)
+            × (self.new ≡ exchanged self.old i j stand))
+            (λ fault. (first_overflow (exchange_operations self.old i j stand) ≡ Some fault.place)
+            × (self.new ≡ self.old)) }
+    {
+        let sides = self.sides.as_slice();
+        let standing = self.standing.as_slice();
+        match plan(sides, standing, &self.lists, i, j, stand, &mut self.room) {
+            Ok(cost) => {
+                let lists = &mut self.lists;
+                take_over(&mut self.standing, i, j, stand, cost, lists, &mut self.room);
+                Ok(())
+            }
+            Err(fault) => Err(fault),
+        }
+    }
+
+    /// Takes the nonbasic variable j, which has two sides, from the one where it stands to the other. `OutOfRange` comes
+    /// exactly where an operation of the flip leaves the range, and names the place of the first; then the state is as
+    /// before.
+    pub fn flip(&mut self, j: u32) -> Result<(), OutOfRange>
+        requires { CanFlip self.old j }
+        ensures { MatchResult result
+            (λ _. (first_overflow (flip_operations self.old j) ≡ None) × (self.new ≡ flipped self.old j))
+            (λ fault. (first_overflow (flip_operations self.old j) ≡ Some fault.place)
+            × (self.new ≡ self.old)) }
+    {
+        let sides = self.sides.as_slice();
+        let standing = self.standing.as_slice();
+        match plan_flip(sides, standing, &self.lists, j, &mut self.room) {
+            Ok(cost) => {
+                take_flip(&mut self.standing, j, cost, &mut self.lists, &mut self.room);
+                Ok(())
+            }
+            Err(fault) => Err(fault),
+        }
+    }
+}

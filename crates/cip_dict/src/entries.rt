@@ -1,0 +1,144 @@
+//! Single entries and values of a dictionary, each formed at its place.
+ghost use Rattle.std.specs.Prelude.{◌≡◌, ◌∷◌, [], Some, None, MatchResult};
+ghost use Rattle.cip_rational.specs.Rational.{◌+ℚ◌, ◌-ℚ◌, ◌*ℚ◌};
+ghost use Rattle.cip_rational.specs.Range.{difference_overflows};
+ghost use Rattle.cip_dictionary.specs.Operations.{first_overflow, is_zero, product_at, sum_at, Difference, Product, Sum, placed};
+ghost use Rattle.cip_dictionary.specs.Exchange.{solved_at, substituted_at, moved_at};
+ghost use Rattle.cip_dictionary.specs.MoveOperations.{solved_operations_at, substituted_operations_at, moved_operations_at};
+
+use crate::fault::OutOfRange;
+use cip_dictionary::Place;
+use cip_frac::Frac;
+
+/// Whether a number is 0.
+pub(crate) fn vanishes(a: Frac) -> bool
+    ensures { result ≡ is_zero a }
+{
+    a.is_zero()
+}
+
+/// The product a * b, for which nothing is formed where a factor is 0.
+#[tactic(auto, using(crate::proofs::Formed::entry_laws))]
+pub(crate) fn product(place: Place, a: Frac, b: Frac) -> Result<Frac, OutOfRange>
+    ensures { MatchResult result
+        (λ v. (first_overflow (product_at place a b) ≡ None) × (v ≡ a *ℚ b))
+        (λ fault. first_overflow (product_at place a b) ≡ Some fault.place) }
+{
+    if vanishes(a) || vanishes(b) {
+        return Ok(Frac::zero());
+    }
+    match a.mul(b) {
+        Ok(value) => Ok(value),
+        Err(_) => Err(OutOfRange { place }),
+    }
+}
+
+/// The sum c + a * b, the product formed first; where a factor is 0 nothing is formed.
+#[tactic(auto, using(crate::proofs::Formed::entry_laws))]
+pub(crate) fn sum(place: Place, c: Frac, a: Frac, b: Frac) -> Result<Frac, OutOfRange>
+    ensures { MatchResult result
+        (λ v. (first_overflow (sum_at place c a b) ≡ None) × (v ≡ c +ℚ a *ℚ b))
+        (λ fault. first_overflow (sum_at place c a b) ≡ Some fault.place) }
+{
+    if vanishes(a) || vanishes(b) {
+        return Ok(c);
+    }
+    let Ok(product) = a.mul(b) else {
+        return Err(OutOfRange { place });
+    };
+    match c.add(product) {
+        Ok(value) => Ok(value),
+        Err(_) => Err(OutOfRange { place }),
+    }
+}
+
+/// An entry of the row of the variable that enters: q on the variable that leaves, nothing on one that is absent, and
+/// else that of the row which leaves, negated and times q.
+pub(crate) fn solved_entry(
+    place: Place,
+    leaving: bool,
+    absent: bool,
+    q: Frac,
+    a: Frac,
+) -> Result<Frac, OutOfRange>
+    ensures { MatchResult result
+        (λ v. (first_overflow (solved_operations_at place leaving absent q a) ≡ None)
+        × (v ≡ solved_at leaving absent q a))
+        (λ fault. first_overflow (solved_operations_at place leaving absent q a) ≡ Some fault.place) }
+{
+    if leaving {
+        Ok(q)
+    } else if absent {
+        Ok(Frac::zero())
+    } else {
+        product(place, a.neg(), q)
+    }
+}
+
+/// An entry a of another row, which has b on the variable that enters, in whose row c stands at that place.
+pub(crate) fn substituted_entry(
+    place: Place,
+    leaving: bool,
+    absent: bool,
+    q: Frac,
+    a: Frac,
+    b: Frac,
+    c: Frac,
+) -> Result<Frac, OutOfRange>
+    ensures { MatchResult result
+        (λ v. (first_overflow (substituted_operations_at place leaving absent q a b c) ≡ None)
+        × (v ≡ substituted_at leaving absent q a b c))
+        (λ fault. first_overflow (substituted_operations_at place leaving absent q a b c) ≡ Some fault.place) }
+{
+    if leaving {
+        product(place, b, q)
+    } else if absent {
+        Ok(Frac::zero())
+    } else {
+        sum(place, a, b, c)
+    }
+}
+
+/// The value v of a variable after a move by t: its own, if it is the one that moves, or that of a basic variable with
+/// the entry a on it.
+pub(crate) fn moved_value(
+    place: Place,
+    moves: bool,
+    basic: bool,
+    t: Frac,
+    v: Frac,
+    a: Frac,
+) -> Result<Frac, OutOfRange>
+    ensures { MatchResult result
+        (λ w. (first_overflow (moved_operations_at place moves basic t v a) ≡ None)
+        × (w ≡ moved_at moves basic t v a))
+        (λ fault. first_overflow (moved_operations_at place moves basic t v a) ≡ Some fault.place) }
+{
+    if moves {
+        match v.add(t) {
+            Ok(value) => Ok(value),
+            Err(_) => Err(OutOfRange { place }),
+        }
+    } else if basic {
+        sum(place, v, a, t)
+    } else {
+        Ok(v)
+    }
+}
+
+/// How far a value is from a side, and the product of that with q: by how much the variable that enters moves.
+pub(crate) fn step_to(place: Place, side: Frac, v: Frac, q: Frac) -> Result<Frac, OutOfRange>
+    ensures { let operations =
+        placed place (Difference side v) ∷ placed place (Product (side -ℚ v) q) ∷ [] in
+        MatchResult result
+        (λ t. (first_overflow operations ≡ None) × (t ≡ (side -ℚ v) *ℚ q))
+        (λ fault. first_overflow operations ≡ Some fault.place) }
+{
+    let Ok(distance) = side.sub(v) else {
+        return Err(OutOfRange { place });
+    };
+    match distance.mul(q) {
+        Ok(value) => Ok(value),
+        Err(_) => Err(OutOfRange { place }),
+    }
+}

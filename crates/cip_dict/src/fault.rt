@@ -1,0 +1,30 @@
+//! Why a state can't be formed.
+use cip_dictionary::Place;
+use std::alloc::AllocError;
+
+/// The first operation of a move that leaves the range of fractions.
+#[derive(Clone, Copy, Debug, PartialEq, Eq)]
+pub struct OutOfRange {
+    /// Where it is formed.
+    pub place: Place,
+}
+
+/// Why there is no first state.
+#[derive(Clone, Copy, Debug, PartialEq, Eq)]
+pub enum FirstFault {
+    /// The first operation that leaves the range of fractions is formed there.
+    OutOfRange { place: Place },
+    /// A growth was refused.
+    NoMemory,
+}
+
+impl From<AllocError> for FirstFault {
+    ghost use Rattle.std.specs.Prelude.{◌≡◌};
+    ghost use Rattle.cip_dict.specs.declared.fault.FirstFault.{FirstFault};
+
+    ghost from_gives = { λ _ fault. fault ≡ FirstFault.NoMemory };
+
+    fn from(_error: AllocError) -> FirstFault {
+        FirstFault::NoMemory
+    }
+}

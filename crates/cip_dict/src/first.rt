@@ -1,0 +1,400 @@
+//! The first state of a linear program.
+ghost use Rattle.std.specs.Prelude.{◌≡◌, ℕ, ◌+◌, ◌-◌, ◌<◌, ◌≤◌, ◌^◌, ◌++◌, [], length, Some, None, MatchResult, IfOk, replicate, slice_set, slice_index_or, if◌then◌else◌};
+ghost use Rattle.cip_rational.specs.Rational.{zeroℚ, ◌+ℚ◌, ◌*ℚ◌};
+ghost use Rattle.cip_problem.specs.Activity.{value_at};
+ghost use Rattle.cip_problem.specs.Box.{sides_at};
+ghost use Rattle.cip_dictionary.specs.Tables.{table, each, form};
+ghost use Rattle.cip_dictionary.specs.Dictionary.{standing_value};
+ghost use Rattle.cip_dictionary.specs.FirstState.{first, first_stand, form_operations, first_operations};
+ghost use Rattle.cip_dictionary.specs.Operations.{first_overflow, value_place, sum_at};
+ghost use Rattle.cip_dict.specs.Lists.{basic_in};
+ghost use Rattle.cip_dict.specs.Row.{row_in, row_length, HasRows};
+ghost use Rattle.cip_dict.specs.Entries.{entry_from, AreWithin, system_in, IsRowFault, IsFirstFault};
+ghost use Rattle.cip_dict.specs.FirstLists.{stand_in, cost_in, column_value, row_form, row_operations, row_of_entries, column_values_of, value_operations_at, value_operations};
+ghost use Rattle.cip_dict.specs.State.{state, HasLists, HasRoom};
+
+use crate::entries::sum;
+use crate::exchange::value_at_stand;
+use crate::fault::{FirstFault, OutOfRange};
+use crate::forms::Form;
+use crate::lines::is_basic;
+use crate::lists::{Lists, Room};
+use crate::values::value_of;
+use cip_dictionary::{Line, Stand};
+use cip_frac::Frac;
+use cip_lin::Sides;
+use std::alloc::{AllocError, Global};
+
+/// Where a column with these sides stands at first.
+fn stand_first(sides: Sides) -> Stand
+    ensures { result ≡ first_stand sides }
+{
+    match (sides.low, sides.high) {
+        (Some(_), _) => Stand::Low,
+        (None, Some(_)) => Stand::High,
+        (None, None) => Stand::Zero,
+    }
+}
+
+/// Where variable v stands at first: a column at a side or at 0; a row is basic.
+fn stand_of(columns: &[Sides], v: usize) -> Option<Stand>
+    ensures { result ≡ stand_in columns.now v }
+{
+    if v < columns.len() {
+        Some(stand_first(columns[v]))
+    } else {
+        None
+    }
+}
+
+/// Where all n variables stand at first; `Err` where the memory was refused.
+pub(crate) fn stands(
+    alloc: Global,
+    columns: &[Sides],
+    n: usize,
+) -> Result<Vec<Option<Stand>>, AllocError>
+    ensures { IfOk result (λ standing. standing.items ≡ table n (stand_in columns.now)) }
+{
+    let mut standing = Vec::new(alloc);
+    for v in 0..n {
+        standing.push(stand_of(columns, v))?;
+    }
+    Ok(standing)
+}
+
+/// A row of zeros for a basic variable, and none for another; `Err` where the memory was refused.
+fn empty_row(alloc: Global, standing: &[Option<Stand>], v: usize) -> Result<Form, AllocError>
+    requires { v < length standing.now }
+    ensures { IfOk result (λ form. form ≡ replicate (row_length standing.now v) zeroℚ) }
+{
+    if is_basic(standing, v) {
+        Form::zeros(alloc, standing.len())
+    } else {
+        Ok(Form::none(alloc))
+    }
+}
+
+/// A row of zeros for each basic variable, and none for the others; `Err` where the memory was refused.
+fn empty_rows(alloc: Global, standing: &[Option<Stand>]) -> Result<Vec<Form>, AllocError>
+    ensures { IfOk result (λ rows. rows.items
+        ≡ table (length standing.now) (λ v. replicate (row_length standing.now v) zeroℚ)) }
+{
+    let mut rows = Vec::new(alloc);
+    for v in 0..standing.len() {
+        let row = empty_row(alloc, standing, v)?;
+        rows.push(row)?;
+    }
+    Ok(rows)
+}
+
+/// So many zeros; `Err` where the memory was refused.
+fn zeros(alloc: Global, n: usize) -> Result<Vec<Frac>, AllocError>
+    ensures { IfOk result (λ numbers. numbers.items ≡ replicate n zeroℚ) }
+{
+    let numbers = vec![in alloc; Frac::zero(); n]?;
+    Ok(numbers)
+}
+
+/// Puts an entry into its row, which is that of the variable past the columns by its number.
+fn put_entry(columns: usize, entry: (u32, u32, Frac), rows: &mut [Form])
+    requires row { columns + entry.0 < length rows.old }
+    requires column { entry.1 < length (row_in rows.old (columns + entry.0)) }
+    ensures { rows.new ≡ slice_set rows.old (columns + entry.0)
+        (slice_set (row_in rows.old (columns + entry.0)) entry.1 entry.2) }
+{
+    let row = &mut rows[columns + entry.0 as usize];
+    row.entries[entry.1 as usize] = entry.2;
+}
+
+/// The cost of variable k: that of a column, and 0 for a row.
+fn cost_of(costs: &[Frac], k: usize) -> Frac
+    ensures { result ≡ cost_in costs.now k }
+{
+    if k < costs.len() {
+        costs[k]
+    } else {
+        Frac::zero()
+    }
+}
+
+/// The costs of all n variables; `Err` where the memory was refused.
+fn all_costs(alloc: Global, costs: &[Frac], n: usize) -> Result<Vec<Frac>, AllocError>
+    ensures { IfOk result (λ all. all.items ≡ table n (cost_in costs.now)) }
+{
+    let mut all = Vec::new(alloc);
+    for k in 0..n {
+        all.push(cost_of(costs, k))?;
+    }
+    Ok(all)
+}
+
+/// A sum with the product of a row's entry on variable k and its value.
+fn form_step(
+    line: Line,
+    total: Frac,
+    row: &[Frac],
+    values: &[Frac],
+    k: usize,
+) -> Result<Frac, OutOfRange>
+    requires row_long { k < length row.now }
+    requires values_long { k < length values.now }
+    ensures { let operations = sum_at (value_place line) total (value_at row.now k) (value_at values.now k) in
+        MatchResult result
+        (λ v. (first_overflow operations ≡ None) × (v ≡ total +ℚ value_at row.now k *ℚ value_at values.now k))
+        (λ fault. first_overflow operations ≡ Some fault.place) }
+{
+    sum(value_of(line), total, row[k], values[k])
+}
+
+/// The value of a form on the first n variables, the products added one after another.
+fn form_value(line: Line, n: usize, row: &[Frac], values: &[Frac]) -> Result<Frac, OutOfRange>
+    requires row_long { n ≤ length row.now }
+    requires values_long { n ≤ length values.now }
+    ensures { let operations = form_operations line n (value_at row.now) (value_at values.now) in
+        MatchResult result
+        (λ v. (first_overflow operations ≡ None) × (v ≡ form n (value_at row.now) (value_at values.now)))
+        (λ fault. first_overflow operations ≡ Some fault.place) }
+{
+    let mut total = Frac::zero();
+    for k in 0..n {
+        match form_step(line, total, row, values, k) {
+            Ok(value) => total = value,
+            Err(fault) => return Err(fault),
+        }
+    }
+    Ok(total)
+}
+
+/// Puts all entries into their rows, which are those of the variables past the columns by their numbers. The last that
+/// names a row and a column counts.
+fn put_entries(columns: usize, entries: &[(u32, u32, Frac)], rows: &mut [Form], m: usize)
+    requires count { columns + m ≡ length rows.old }
+    requires within { AreWithin m columns entries.now }
+    requires long { (v : ℕ) → columns ≤ v → v < length rows.old → columns ≤ length (row_in rows.old v) }
+    ensures put { (v k : ℕ) → columns ≤ v → v < length rows.old → value_at (row_in rows.new v) k
+        ≡ entry_from (value_at (row_in rows.old v) k) entries.now (v - columns) k }
+    ensures rest { (v : ℕ) → v < columns → row_in rows.new v ≡ row_in rows.old v }
+    ensures count { length rows.new ≡ length rows.old }
+    ensures long { (v : ℕ) → length (row_in rows.new v) ≡ length (row_in rows.old v) }
+{
+    for entry in entries {
+        put_entry(columns, *entry, rows);
+    }
+}
+
+/// The value of column k at first.
+fn column_at(columns: &[Sides], k: usize) -> Frac
+    requires { k < length columns.now }
+    ensures { result ≡ column_value columns.now k }
+{
+    value_at_stand(columns[k], stand_first(columns[k]))
+}
+
+/// The values of the columns at first; `Err` where the memory was refused.
+fn column_values(alloc: Global, columns: &[Sides]) -> Result<Vec<Frac>, AllocError>
+    ensures { IfOk result (λ values. values.items ≡ table (length columns.now) (column_value columns.now)) }
+{
+    let mut values = Vec::new(alloc);
+    for k in 0..columns.len() {
+        values.push(column_at(columns, k))?;
+    }
+    Ok(values)
+}
+
+/// The row of a variable.
+fn row_at(rows: &[Form], v: usize) -> &[Frac]
+    requires { v < length rows.now }
+    ensures { result.now ≡ row_in rows.now v }
+{
+    rows[v].as_slice()
+}
+
+/// The value of row r at first, where the columns have these values.
+fn row_value(columns: usize, r: usize, rows: &[Form], at: &[Frac]) -> Result<Frac, OutOfRange>
+    requires few { columns + r < 2 ^ 32 }
+    requires within { columns + r < length rows.now }
+    requires row_long { columns ≤ length (row_in rows.now (columns + r)) }
+    requires at_long { columns ≤ length at.now }
+    ensures { let operations = row_operations columns rows.now at.now r in
+        MatchResult result
+        (λ v. (first_overflow operations ≡ None) × (v ≡ row_form columns rows.now at.now r))
+        (λ fault. first_overflow operations ≡ Some fault.place) }
+{
+    let line = Line::Row((columns + r) as u32);
+    form_value(line, columns, row_at(rows, columns + r), at)
+}
+
+/// Puts the values of the m rows, by rising number, at the end; the columns have the values `at`.
+fn row_values(
+    columns: usize,
+    m: usize,
+    rows: &[Form],
+    at: &[Frac],
+    values: &mut Vec<Frac>,
+) -> Result<(), FirstFault>
+    requires few { columns + m < 2 ^ 32 }
+    requires count { length rows.now ≡ columns + m }
+    requires long { (r : ℕ) → r < m → columns ≤ length (row_in rows.now (columns + r)) }
+    requires at_long { columns ≤ length at.now }
+    ensures { let operations = each m (row_operations columns rows.now at.now) in
+        MatchResult result
+        (λ _. (first_overflow operations ≡ None)
+        × (values.new.items ≡ values.old.items ++ table m (row_form columns rows.now at.now)))
+        (IsRowFault operations) }
+{
+    for r in 0..m {
+        let value = match row_value(columns, r, rows, at) {
+            Ok(value) => value,
+            Err(fault) => return Err(FirstFault::OutOfRange { place: fault.place }),
+        };
+        match values.push(value) {
+            Ok(()) => (),
+            Err(_) => return Err(FirstFault::NoMemory),
+        }
+    }
+    Ok(())
+}
+
+/// The rows of all variables at first; `Err` where the memory was refused.
+fn filled_rows(
+    alloc: Global,
+    standing: &[Option<Stand>],
+    columns: &[Sides],
+    entries: &[(u32, u32, Frac)],
+    m: usize,
+) -> Result<Vec<Form>, AllocError>
+    requires few { length columns.now + m < 2 ^ 32 }
+    requires stands { standing.now ≡ table (length columns.now + m) (stand_in columns.now) }
+    requires within { AreWithin m (length columns.now) entries.now }
+    ensures { IfOk result (λ rows. rows.items
+        ≡ table (length columns.now + m) (row_of_entries (length columns.now) m entries.now)) }
+{
+    let mut rows = empty_rows(alloc, standing)?;
+    put_entries(columns.len(), entries, rows.as_mut_slice(), m);
+    Ok(rows)
+}
+
+/// Puts the values of the m rows at the end, and answers the cost; the columns have the values `at`.
+fn rows_and_cost(
+    columns: usize,
+    m: usize,
+    rows: &[Form],
+    costs: &[Frac],
+    at: &[Frac],
+    values: &mut Vec<Frac>,
+) -> Result<Frac, FirstFault>
+    requires few { columns + m < 2 ^ 32 }
+    requires count { length rows.now ≡ columns + m }
+    requires long { (r : ℕ) → r < m → columns ≤ length (row_in rows.now (columns + r)) }
+    requires costs_long { columns ≤ length costs.now }
+    requires at_long { columns ≤ length at.now }
+    ensures { let operations = value_operations_at columns m rows.now costs.now at.now in
+        MatchResult result
+        (λ cost. (first_overflow operations ≡ None)
+        × (values.new.items ≡ values.old.items ++ table m (row_form columns rows.now at.now))
+        × (cost ≡ form columns (value_at costs.now) (value_at at.now)))
+        (IsRowFault operations) }
+{
+    match row_values(columns, m, rows, at, values) {
+        Ok(()) => (),
+        Err(fault) => return Err(fault),
+    }
+    match form_value(Line::Cost, columns, costs, at) {
+        Ok(cost) => Ok(cost),
+        Err(fault) => Err(FirstFault::OutOfRange { place: fault.place }),
+    }
+}
+
+/// All values at first, and the cost: those of the columns, of the rows and of the cost, in this order.
+fn all_values(
+    alloc: Global,
+    columns: &[Sides],
+    m: usize,
+    rows: &[Form],
+    costs: &[Frac],
+) -> Result<(Vec<Frac>, Frac), FirstFault>
+    requires few { length columns.now + m < 2 ^ 32 }
+    requires count { length rows.now ≡ length columns.now + m }
+    requires long { (r : ℕ) → r < m → length columns.now ≤ length (row_in rows.now (length columns.now + r)) }
+    requires costs_long { length columns.now ≤ length costs.now }
+    ensures { MatchResult result
+        (λ all. (first_overflow (value_operations columns.now m rows.now costs.now) ≡ None)
+        × (all.0.items ≡ table (length columns.now) (column_value columns.now)
+        ++ table m (row_form (length columns.now) rows.now (column_values_of columns.now)))
+        × (all.1 ≡ form (length columns.now) (value_at costs.now) (value_at (column_values_of columns.now))))
+        (IsRowFault (value_operations columns.now m rows.now costs.now)) }
+{
+    let at = column_values(alloc, columns)?;
+    let begun = at.as_slice();
+    let mut values = Vec::from_slice(alloc, begun)?;
+    match rows_and_cost(columns.len(), m, rows, costs, begun, &mut values) {
+        Ok(cost) => Ok((values, cost)),
+        Err(fault) => Err(fault),
+    }
+}
+
+/// The sides of the columns and, after them, of the rows; `Err` where the memory was refused.
+pub(crate) fn all_sides(
+    alloc: Global,
+    columns: &[Sides],
+    rows: &[Sides],
+) -> Result<Vec<Sides>, AllocError>
+    ensures { IfOk result (λ sides. sides.items ≡ columns.now ++ rows.now) }
+{
+    let mut sides = Vec::from_slice(alloc, columns)?;
+    sides.extend_from_slice(rows)?;
+    Ok(sides)
+}
+
+/// Room for what a move writes; `Err` where the memory was refused.
+pub(crate) fn room_for(alloc: Global, standing: &[Option<Stand>]) -> Result<Room, AllocError>
+    ensures { IfOk result (λ room. HasRoom standing.now room) }
+{
+    let entering = Form::zeros(alloc, standing.len())?;
+    let rows = empty_rows(alloc, standing)?;
+    let costs = zeros(alloc, standing.len())?;
+    let values = zeros(alloc, standing.len())?;
+    Ok(Room {
+        entering,
+        rows,
+        costs,
+        values,
+    })
+}
+
+/// The lists of the first state of a linear program, where all stand as they do at first.
+pub(crate) fn lists_for(
+    alloc: Global,
+    standing: &[Option<Stand>],
+    entries: &[(u32, u32, Frac)],
+    row_sides: &[Sides],
+    column_sides: &[Sides],
+    costs: &[Frac],
+) -> Result<Lists, FirstFault>
+    requires few { length column_sides.now + length row_sides.now < 2 ^ 32 }
+    requires stands { standing.now
+        ≡ table (length column_sides.now + length row_sides.now) (stand_in column_sides.now) }
+    requires within { AreWithin (length row_sides.now) (length column_sides.now) entries.now }
+    requires costs_long { length costs.now ≡ length column_sides.now }
+    ensures { let p = system_in entries.now row_sides.now column_sides.now costs.now in
+        MatchResult result
+        (λ lists. (first_overflow (first_operations p) ≡ None)
+        × (state (column_sides.now ++ row_sides.now) standing.now lists ≡ first p)
+        × HasLists standing.now lists)
+        (IsFirstFault p) }
+{
+    let m = row_sides.len();
+    let rows = filled_rows(alloc, standing, column_sides, entries, m)?;
+    let all = all_costs(alloc, costs, standing.len())?;
+    let lines = rows.as_slice();
+    let own = all.as_slice();
+    match all_values(alloc, column_sides, m, lines, own) {
+        Ok((values, cost)) => Ok(Lists {
+            rows,
+            costs: all,
+            values,
+            cost,
+        }),
+        Err(fault) => Err(fault),
+    }
+}

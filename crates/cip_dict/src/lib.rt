@@ -1,0 +1,18 @@
+//! Dictionaries of the simplex method over exact fractions.
+#![tactic(auto)]
+
+mod dict;
+mod entries;
+mod exchange;
+mod fault;
+mod first;
+mod flip;
+mod forms;
+mod lines;
+mod lists;
+mod rows;
+mod values;
+
+pub use cip_dictionary::{Line, Move, Place, Stand};
+pub use dict::Dict;
+pub use fault::{FirstFault, OutOfRange};

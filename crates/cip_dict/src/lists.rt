@@ -1,0 +1,25 @@
+//! The lists of a dictionary that a move writes, and room for what it writes.
+use crate::forms::Form;
+use cip_frac::Frac;
+
+/// What a move writes of a dictionary: the rows of the basic variables and of the cost, and the values.
+#[derive(Debug, Drop)]
+pub(crate) struct Lists {
+    /// The row of each variable; none where it isn't basic.
+    pub(crate) rows: Vec<Form>,
+    /// The row of the cost.
+    pub(crate) costs: Vec<Frac>,
+    /// The value of each variable.
+    pub(crate) values: Vec<Frac>,
+    /// The cost.
+    pub(crate) cost: Frac,
+}
+
+/// Room for the lists that a move writes, and for the row of the variable that enters.
+#[derive(Debug, Drop)]
+pub(crate) struct Room {
+    pub(crate) entering: Form,
+    pub(crate) rows: Vec<Form>,
+    pub(crate) costs: Vec<Frac>,
+    pub(crate) values: Vec<Frac>,
+}

@@ -1,0 +1,133 @@
+//! The rows of basic variables in an exchange.
+ghost use Rattle.std.specs.Prelude.{◌≡◌, ℕ, ◌<◌, ◌^◌, true, [], length, Some, None, MatchResult, slice_index_or, if◌then◌else◌};
+ghost use Rattle.cip_problem.specs.Activity.{value_at};
+ghost use Rattle.cip_dictionary.specs.Tables.{table, each};
+ghost use Rattle.cip_dictionary.specs.Operations.{first_overflow};
+ghost use Rattle.cip_dictionary.specs.Exchange.{substituted};
+ghost use Rattle.cip_dict.specs.Lists.{basic_in};
+ghost use Rattle.cip_dict.specs.Row.{form_changes, form_operations_in, written_form, taken_form, row_in, HasRows};
+
+use crate::entries::vanishes;
+use crate::fault::OutOfRange;
+use crate::forms::Form;
+use crate::lines::{is_basic, write_substituted};
+use cip_dictionary::{Line, Stand};
+use cip_frac::Frac;
+
+/// Whether the row of variable v changes when i leaves and j enters: it is basic, stays so, and has an entry on j.
+fn is_changed(standing: &[Option<Stand>], i: u32, j: u32, v: usize, row: &Form) -> bool
+    requires within { v < length standing.now }
+    requires entering { j < length standing.now }
+    requires long { basic_in standing.now v ≡ true → length row.now ≡ length standing.now }
+    ensures { result ≡ form_changes standing.now i j v row.now }
+{
+    is_basic(standing, v) && v != i as usize && !vanishes(row.entry(j))
+}
+
+/// Writes the row of variable v, where it changes; `new` is the row of the variable j that enters, and i leaves.
+fn write_row(
+    standing: &[Option<Stand>],
+    i: u32,
+    j: u32,
+    q: Frac,
+    new: &[Frac],
+    v: usize,
+    row: &Form,
+    out: &mut Form,
+) -> Result<(), OutOfRange>
+    requires few { length standing.now < 2 ^ 32 }
+    requires within { v < length standing.now }
+    requires entering { j < length standing.now }
+    requires new_long { length new.now ≡ length standing.now }
+    requires row_long { basic_in standing.now v ≡ true → length row.now ≡ length standing.now }
+    requires out_long { basic_in standing.now v ≡ true → length out.old ≡ length standing.now }
+    ensures written { MatchResult result
+        (λ _. (first_overflow (form_operations_in standing.now i j q (value_at new.now) v row.now) ≡ None)
+        × (out.new ≡ written_form standing.now i j q (value_at new.now) v row.now out.old))
+        (λ fault. first_overflow (form_operations_in standing.now i j q (value_at new.now) v row.now) ≡ Some fault.place) }
+    ensures long { length out.new ≡ length out.old }
+{
+    if is_changed(standing, i, j, v, row) {
+        let line = Line::Row(v as u32);
+        write_substituted(
+            line,
+            standing,
+            i,
+            j,
+            q,
+            new,
+            row.as_slice(),
+            out.entries.as_mut_slice(),
+        )
+    } else {
+        Ok(())
+    }
+}
+
+/// Writes the rows that change; `new` is the row of the variable j that enters, and i leaves. Rows that don't change
+/// are left alone, and all keep their lengths.
+pub(crate) fn write_rows(
+    standing: &[Option<Stand>],
+    i: u32,
+    j: u32,
+    q: Frac,
+    new: &[Frac],
+    rows: &[Form],
+    out: &mut [Form],
+) -> Result<(), OutOfRange>
+    requires few { length standing.now < 2 ^ 32 }
+    requires entering { j < length standing.now }
+    requires new_long { length new.now ≡ length standing.now }
+    requires rows_long { HasRows standing.now rows.now }
+    requires out_long { HasRows standing.now out.old }
+    ensures written { let operations =
+        each (length standing.now)
+        (λ v. form_operations_in standing.now i j q (value_at new.now) v (row_in rows.now v)) in
+        MatchResult result
+        (λ _. (first_overflow operations ≡ None)
+        × (out.new ≡ table (length standing.now)
+        (λ v. written_form standing.now i j q (value_at new.now) v (row_in rows.now v) (row_in out.old v))))
+        (λ fault. first_overflow operations ≡ Some fault.place) }
+    ensures long { HasRows standing.now out.new }
+{
+    for v in 0..standing.len() {
+        match write_row(standing, i, j, q, new, v, &rows[v], &mut out[v]) {
+            Ok(()) => (),
+            Err(fault) => return Err(fault),
+        }
+    }
+    Ok(())
+}
+
+/// Takes the row of v from another list, where it changes, and gives the old one for it.
+fn take_row(standing: &[Option<Stand>], i: u32, j: u32, v: usize, row: &mut Form, other: &mut Form)
+    requires within { v < length standing.now }
+    requires entering { j < length standing.now }
+    requires long { basic_in standing.now v ≡ true → length row.old ≡ length standing.now }
+    ensures taken { row.new ≡ (if form_changes standing.now i j v row.old then other.old else row.old) }
+    ensures given { other.new ≡ (if form_changes standing.now i j v row.old then row.old else other.old) }
+{
+    if is_changed(standing, i, j, v, row) {
+        std::mem::swap(row, other);
+    }
+}
+
+/// Takes the rows that change from another list, and gives the old ones for them.
+pub(crate) fn take_rows(
+    standing: &[Option<Stand>],
+    i: u32,
+    j: u32,
+    rows: &mut [Form],
+    other: &mut [Form],
+)
+    requires entering { j < length standing.now }
+    requires rows_long { HasRows standing.now rows.old }
+    requires other_long { HasRows standing.now other.old }
+    ensures taken { rows.new ≡ table (length standing.now) (taken_form standing.now i j rows.old other.old) }
+    ensures rows_long { HasRows standing.now rows.new }
+    ensures other_long { HasRows standing.now other.new }
+{
+    for v in 0..standing.len() {
+        take_row(standing, i, j, v, &mut rows[v], &mut other[v]);
+    }
+}

@@ -1,0 +1,164 @@
+//! The values of a dictionary after a variable has moved.
+ghost use Rattle.std.specs.Prelude.{◌≡◌, ◌<◌, ◌^◌, true, false, length, Some, None, MatchResult};
+ghost use Rattle.cip_rational.specs.Rational.{◌+ℚ◌};
+ghost use Rattle.cip_problem.specs.Activity.{value_at};
+ghost use Rattle.cip_dictionary.specs.Tables.{table, each};
+ghost use Rattle.cip_dictionary.specs.Operations.{first_overflow};
+ghost use Rattle.cip_dict.specs.Lists.{basic_in, entry_in};
+ghost use Rattle.cip_dict.specs.Row.{HasRows};
+ghost use Rattle.cip_dict.specs.Values.{moved_in, moved_operations_in, flipped_operations_in};
+
+use crate::entries::{moved_value, sum};
+use crate::fault::OutOfRange;
+use crate::forms::Form;
+use crate::lines::is_basic;
+use cip_dictionary::{Line, Place, Stand};
+use cip_frac::Frac;
+
+/// The place of the value of a line.
+pub(crate) fn value_of(line: Line) -> Place
+    ensures { result ≡ record { line = line; variable = None } }
+{
+    Place {
+        line,
+        variable: None,
+    }
+}
+
+/// The entry of a variable's row on j; 0 where it has none.
+fn entry_or_zero(standing: &[Option<Stand>], v: usize, row: &Form, j: u32) -> Frac
+    requires within { v < length standing.now }
+    requires entering { j < length standing.now }
+    requires long { basic_in standing.now v ≡ true → length row.now ≡ length standing.now }
+    ensures { basic_in standing.now v ≡ true → result ≡ value_at row.now j }
+{
+    if is_basic(standing, v) {
+        row.entry(j)
+    } else {
+        Frac::zero()
+    }
+}
+
+/// The value of variable v after j, which isn't basic, has moved by t.
+fn moved_on(
+    standing: &[Option<Stand>],
+    rows: &[Form],
+    j: u32,
+    t: Frac,
+    values: &[Frac],
+    v: usize,
+) -> Result<Frac, OutOfRange>
+    requires few { length standing.now < 2 ^ 32 }
+    requires entering { j < length standing.now }
+    requires within { v < length standing.now }
+    requires rows_long { HasRows standing.now rows.now }
+    requires values_long { length values.now ≡ length standing.now }
+    ensures { MatchResult result
+        (λ w. (first_overflow (moved_operations_in standing.now rows.now j t values.now v) ≡ None)
+        × (w ≡ moved_in standing.now rows.now j t values.now v))
+        (λ fault. first_overflow (moved_operations_in standing.now rows.now j t values.now v) ≡ Some fault.place) }
+{
+    let entry = entry_or_zero(standing, v, &rows[v], j);
+    let place = value_of(Line::Row(v as u32));
+    moved_value(
+        place,
+        v == j as usize,
+        is_basic(standing, v),
+        t,
+        values[v],
+        entry,
+    )
+}
+
+/// Writes the values after j, which enters, has moved by t.
+pub(crate) fn write_moved(
+    standing: &[Option<Stand>],
+    rows: &[Form],
+    j: u32,
+    t: Frac,
+    values: &[Frac],
+    out: &mut [Frac],
+) -> Result<(), OutOfRange>
+    requires few { length standing.now < 2 ^ 32 }
+    requires entering { j < length standing.now }
+    requires rows_long { HasRows standing.now rows.now }
+    requires values_long { length values.now ≡ length standing.now }
+    requires out_long { length out.old ≡ length standing.now }
+    ensures { let operations =
+        each (length standing.now) (moved_operations_in standing.now rows.now j t values.now) in
+        MatchResult result
+        (λ _. (first_overflow operations ≡ None)
+        × (out.new ≡ table (length standing.now) (moved_in standing.now rows.now j t values.now)))
+        (λ fault. first_overflow operations ≡ Some fault.place) }
+{
+    for v in 0..standing.len() {
+        match moved_on(standing, rows, j, t, values, v) {
+            Ok(value) => out[v] = value,
+            Err(fault) => return Err(fault),
+        }
+    }
+    Ok(())
+}
+
+/// The value of variable v after j, which isn't basic, has flipped by t to a side, for which nothing is formed.
+fn flipped_on(
+    standing: &[Option<Stand>],
+    rows: &[Form],
+    j: u32,
+    t: Frac,
+    side: Frac,
+    values: &[Frac],
+    v: usize,
+) -> Result<Frac, OutOfRange>
+    requires few { length standing.now < 2 ^ 32 }
+    requires flips { j < length standing.now }
+    requires nonbasic { basic_in standing.now j ≡ false }
+    requires arrives { side ≡ value_at values.now j +ℚ t }
+    requires within { v < length standing.now }
+    requires rows_long { HasRows standing.now rows.now }
+    requires values_long { length values.now ≡ length standing.now }
+    ensures { MatchResult result
+        (λ w. (first_overflow (flipped_operations_in standing.now rows.now j t values.now v) ≡ None)
+        × (w ≡ moved_in standing.now rows.now j t values.now v))
+        (λ fault. first_overflow (flipped_operations_in standing.now rows.now j t values.now v) ≡ Some fault.place) }
+{
+    if v == j as usize {
+        return Ok(side);
+    }
+    let entry = entry_or_zero(standing, v, &rows[v], j);
+    let place = value_of(Line::Row(v as u32));
+    moved_value(place, false, is_basic(standing, v), t, values[v], entry)
+}
+
+/// Writes the values after j, which isn't basic, has flipped by t to a side.
+pub(crate) fn write_flipped(
+    standing: &[Option<Stand>],
+    rows: &[Form],
+    j: u32,
+    t: Frac,
+    side: Frac,
+    values: &[Frac],
+    out: &mut [Frac],
+) -> Result<(), OutOfRange>
+    requires few { length standing.now < 2 ^ 32 }
+    requires flips { j < length standing.now }
+    requires nonbasic { basic_in standing.now j ≡ false }
+    requires arrives { side ≡ value_at values.now j +ℚ t }
+    requires rows_long { HasRows standing.now rows.now }
+    requires values_long { length values.now ≡ length standing.now }
+    requires out_long { length out.old ≡ length standing.now }
+    ensures { let operations =
+        each (length standing.now) (flipped_operations_in standing.now rows.now j t values.now) in
+        MatchResult result
+        (λ _. (first_overflow operations ≡ None)
+        × (out.new ≡ table (length standing.now) (moved_in standing.now rows.now j t values.now)))
+        (λ fault. first_overflow operations ≡ Some fault.place) }
+{
+    for v in 0..standing.len() {
+        match flipped_on(standing, rows, j, t, side, values, v) {
+            Ok(value) => out[v] = value,
+            Err(fault) => return Err(fault),
+        }
+    }
+    Ok(())
+}

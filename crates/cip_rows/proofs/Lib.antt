@@ -1,0 +1,4 @@
+pub mod BuiltTerms
+pub mod IndexedRows
+pub mod KeptRows
+pub mod SameRows

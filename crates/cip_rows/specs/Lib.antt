@@ -1,0 +1,5 @@
+pub mod Adding
+pub mod Mixed
+pub mod PoolCodes
+pub mod RowIndex
+pub mod RowPools

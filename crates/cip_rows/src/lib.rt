@@ -1,0 +1,13 @@
+//! The pool of rows: rows that are kept with the boxes in which they are valid.
+#![tactic(auto)]
+
+mod built;
+mod fingerprints;
+mod index;
+mod limits;
+mod pools;
+mod usable;
+
+pub use limits::{KEPT_POOL_ROWS, MOST_IDS, MOST_POOL_ROWS, limits_agree};
+pub use pools::{Added, RowPool};
+pub use usable::Usable;

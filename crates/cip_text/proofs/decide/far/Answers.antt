@@ -1,0 +1,20 @@
+use Rattle.std.proofs.Common.{◌≡◌, ◌+◌, ◌<◌, ◌++◌, ◌^◌, length, sym, subst, arith, cond}
+use Rattle.cip_number_text.specs.Numeral.{Huge, TooFine, scaled, size_of, zeros_at_end}
+use Rattle.cip_text.proofs.Decided.{far_down, far_up}
+use Rattle.cip_text.proofs.decide.far.Goals as goal
+
+pub returns-then-is_down : goal.returns-then-is_down
+returns-then-is_down c = λ amount big.
+    let n = c.args.negative in let xs = c.args.whole.now in let ys = c.args.decimals.now in
+    let some : c.zeros_at_both_ends-zeros.result < length c.args.whole.now + length c.args.decimals.now = omega (arith, c.if-zeros-whole.false, c.zeros_at_both_ends-zeros.ensures.within) in
+    let short : length c.args.whole.now + length c.args.decimals.now < 2 ^ 64 = omega arith in
+    subst (λ b. TooFine ≡ scaled n (size_of (xs ++ ys)) (cond b 0 amount + zeros_at_end (xs ++ ys)) (cond b amount 0 + length ys)) (sym c.if-is_down.true)
+    (far_down n xs ys c.zeros_at_both_ends-zeros.result c.requires.are_digits c.zeros_at_both_ends-zeros.ensures.value some amount short big)
+
+pub returns-else-is_down : goal.returns-else-is_down
+returns-else-is_down c = λ amount big.
+    let n = c.args.negative in let xs = c.args.whole.now in let ys = c.args.decimals.now in
+    let some : c.zeros_at_both_ends-zeros.result < length c.args.whole.now + length c.args.decimals.now = omega (arith, c.if-zeros-whole.false, c.zeros_at_both_ends-zeros.ensures.within) in
+    let short : length c.args.whole.now + length c.args.decimals.now < 2 ^ 64 = omega arith in
+    subst (λ b. Huge n ≡ scaled n (size_of (xs ++ ys)) (cond b 0 amount + zeros_at_end (xs ++ ys)) (cond b amount 0 + length ys)) (sym c.if-is_down.false)
+    (far_up n xs ys c.zeros_at_both_ends-zeros.result c.requires.are_digits c.zeros_at_both_ends-zeros.ensures.value some amount short big)

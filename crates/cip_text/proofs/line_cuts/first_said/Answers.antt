@@ -1,0 +1,20 @@
+use Rattle.std.proofs.Common.{◌<◌, length, sym, ◌∙◌, arith}
+use Rattle.cip_text.specs.TextLines.{content_of}
+use Rattle.cip_text.proofs.Cuts.{filled, behind_shorter, silent_line, said_line_at}
+use Rattle.cip_text.proofs.line_cuts.first_said.Goals as goal
+
+pub returns-in-Some-clause-says : goal.returns-in-Some-clause-says
+returns-in-Some-clause-says c =
+    sym c.loop-rest.invariant.same
+    ∙ said_line_at c.args.comment c.loop-rest.number c.in-Some.found.number c.loop-rest.rest.now c.cut.result.0.now c.cut.result.1.now (content_of c.in-Some.found)
+    (filled c.loop-rest.rest.now (sym c.loop-rest-test.ensures)) c.cut.ensures.before c.cut.ensures.after c.in-Some.ensures.says c.in-Some.ensures.is_number
+
+pub loop-rest-preserved : goal.loop-rest-preserved
+loop-rest-preserved c =
+    let some : 0 < length c.loop-rest.rest.now = filled c.loop-rest.rest.now (sym c.loop-rest-test.ensures) in
+    record {
+      counted = omega (arith, behind_shorter c.loop-rest.rest.now c.cut.result.1.now some c.cut.ensures.after, c.loop-rest.invariant.counted);
+      same =
+          sym (silent_line c.args.comment c.loop-rest.number c.loop-rest.rest.now c.cut.result.0.now c.cut.result.1.now some c.cut.ensures.before c.cut.ensures.after (sym c.in_default.ensures.says))
+          ∙ c.loop-rest.invariant.same;
+    }

@@ -1,0 +1,10 @@
+use Rattle.std.proofs.Common.{ap, ◌∙◌, ◌==◌, ltb, length, arith}
+use Rattle.cip_text.proofs.Places.{found, place_within}
+use Rattle.cip_text.proofs.parts.cut.Goals as goal
+
+pub cut_at-requires : goal.cut_at-requires
+cut_at-requires c = omega (arith, c.first_place-place.ensures, place_within (λ byte. byte == c.args.wanted) c.args.bytes.now)
+
+pub returns-clause-found : goal.returns-clause-found
+returns-clause-found c =
+    ap (λ n. ltb n (length c.args.bytes.now)) c.first_place-place.ensures ∙ found (λ byte. byte == c.args.wanted) c.args.bytes.now

@@ -1,0 +1,20 @@
+//! Texts: lines and their fields, number texts and texts of fractions.
+#![tactic(auto)]
+
+mod decide;
+mod digits;
+mod fraction_text;
+mod laws;
+mod line_cuts;
+mod number_text;
+mod parts;
+mod reading;
+#[cfg(test)]
+mod tests;
+mod text_lines;
+
+pub use fraction_text::fraction;
+pub use laws::star_begins_comments;
+pub use line_cuts::lines;
+pub use number_text::{NumberFault, number};
+pub use text_lines::{Fields, Lines, TextLine};
