@@ -1,7 +1,7 @@
 //! Changes of one side of one column.
 ghost use Rattle.std.specs.Prelude.{◌≡◌};
 ghost use Rattle.cip_problem.specs.Box.{low_inside, high_inside};
-ghost use Rattle.cip_domain.specs.Changes.{side_of, with_side, is_as_strong, would_cross};
+ghost use Rattle.cip_domain.specs.Changes.{side_of, with_side, is_as_strong, would_cross, tightened_sides};
 
 use cip_frac::Frac;
 use cip_lin::{Side, Sides};
@@ -28,6 +28,19 @@ impl Model for Change {
     ghost view = { λ c. record { column = c.col; side = c.side; value = c.value } };
 
     ghost inverse = { λ c. record { col = c.column; side = c.side; value = c.value } };
+}
+
+impl Change {
+    /// The sides of its column after the change: it counts where it is stronger.
+    pub fn narrow(self, sides: Sides) -> Sides
+        ensures { result ≡ tightened_sides sides self.side self.value }
+    {
+        if is_strong(sides, self.side, self.value) {
+            sides
+        } else {
+            with_value(sides, self.side, Some(self.value))
+        }
+    }
 }
 
 /// A side of a column, `None` where it is open.

@@ -1,0 +1,62 @@
+-- Open nodes are closed by their bounds.
+use Rattle.std.proofs.Common.{sum_by, ◌≡◌, ℕ, ◌+◌, ◌≤◌, Bool, true, false, cond, List, [], ◌∷◌, map, length, count_by, filter, All, refl, sym, ap, ◌∙◌, subst, arith}
+use Rattle.std.specs.List.Sorted.{IsPermutation}
+use Rattle.std.proofs.lemmas.List.Elements.{All-head, All-tail, All-filter}
+use Rattle.std.proofs.lemmas.List.Sums.{sum_by-cons, length-filter, count_by-le-length}
+use Rattle.std.proofs.lemmas.List.Sorted.{All-permutation, IsPermutation-map, IsPermutation-refl, length_permutation, sum_by-IsPermutation}
+use Rattle.cip_rational.specs.Rational.{ℚ}
+use Rattle.cip_problem.specs.Program.{Sides}
+use Rattle.cip_problem.specs.Log.{Node}
+use Rattle.cip_tree.specs.declared.kept.Stage.{Stage}
+use Rattle.cip_tree.specs.declared.kept.Stage.TheVariants.{Open, Parked}
+use Rattle.cip_tree.specs.declared.queue.OpenNode.{OpenNode}
+use Rattle.cip_tree.specs.Slots.{Slots}
+use Rattle.cip_tree.specs.Queue.{is_below}
+use Rattle.cip_tree.specs.Moves.{is_cheaper}
+use Rattle.cip_tree.specs.Inside.{node_at, nodes_at, StandsAs, is_at, IsInOrder}
+use Rattle.cip_tree.proofs.Keeping.{one_if}
+
+shown_step : (f : OpenNode → Node) (x : OpenNode) (a : List Node) (b : List OpenNode) (t : Bool) → a ≡ map f b → cond t (f x ∷ a) a ≡ map f (cond t (x ∷ b) b)
+shown_step f x a b true e = ap (λ l. f x ∷ l) e
+shown_step f x a b false e = e
+
+-- the cheaper ones of the nodes shown are those of the cheaper ones
+shown_filter : (box : List Sides) (slots : Slots) (cost : ℚ) (nodes : List OpenNode) → filter (is_cheaper cost) (nodes_at box slots nodes) ≡ nodes_at box slots (filter (is_below cost) nodes)
+shown_filter box slots cost [] = refl
+shown_filter box slots cost (x ∷ xs) = shown_step (node_at box slots) x _ _ (is_below cost x) (shown_filter box slots cost xs)
+
+pub closed_nodes : (box : List Sides) (slots : Slots) (cost : ℚ) (old new : List OpenNode) → IsPermutation (filter (is_below cost) old) new → IsPermutation (filter (is_cheaper cost) (nodes_at box slots old)) (nodes_at box slots new)
+closed_nodes box slots cost old new p = subst (λ l. IsPermutation l (nodes_at box slots new)) (sym (shown_filter box slots cost old)) (IsPermutation-map (node_at box slots) (filter (is_below cost) old) new p)
+
+keep_step : (x : OpenNode) (a b : List OpenNode) (t : Bool) → t ≡ true → a ≡ b → cond t (x ∷ a) a ≡ x ∷ b
+keep_step x a b true e f = ap (λ l. x ∷ l) f
+keep_step x a b false e f = absurd (let g : false ≡ true = e in cc)
+
+all_stay : (cost : ℚ) (nodes : List OpenNode) → All (λ node. is_below cost node ≡ true) nodes → filter (is_below cost) nodes ≡ nodes
+all_stay cost [] h = refl
+all_stay cost (x ∷ xs) h = keep_step x _ xs (is_below cost x) (All-head (λ node. is_below cost node ≡ true) x xs h) (all_stay cost xs (All-tail (λ node. is_below cost node ≡ true) x xs h))
+
+-- where each is cheaper, none is closed
+pub none_closed : (cost : ℚ) (nodes : List OpenNode) → All (λ node. is_below cost node ≡ true) nodes → IsPermutation (filter (is_below cost) nodes) nodes
+none_closed cost nodes h = subst (λ l. IsPermutation l nodes) (sym (all_stay cost nodes h)) (IsPermutation-refl nodes)
+
+count_step : (f : OpenNode → ℕ) (x : OpenNode) (a b : List OpenNode) (t : Bool) → sum_by f a ≤ sum_by f b → sum_by f (cond t (x ∷ a) a) ≤ f x + sum_by f b
+count_step f x a b true h = omega (arith, sum_by-cons f x a, h)
+count_step f x a b false h = omega (arith, h)
+
+fewer : (place : ℕ) (cost : ℚ) (nodes : List OpenNode) → count_by (is_at place) (filter (is_below cost) nodes) ≤ count_by (is_at place) nodes
+fewer place cost [] = omega arith
+fewer place cost (x ∷ xs) = omega (arith, count_step (λ e. one_if (is_at place e)) x (filter (is_below cost) xs) xs (is_below cost x) (fewer place cost xs), sum_by-cons (λ e. one_if (is_at place e)) x xs)
+
+pub closed_order : (slots : Slots) (cost : ℚ) (old new p : List OpenNode) (ids work : ℕ) → IsPermutation (filter (is_below cost) old) new → IsInOrder slots old p ids work → IsInOrder slots new p ids work
+closed_order slots cost old new p ids work perm o = record {
+  kept = o.kept;
+  given = o.given;
+  waiting = All-permutation (StandsAs Open slots) (filter (is_below cost) old) new perm (All-filter (is_below cost) (StandsAs Open slots) old o.waiting);
+  once = λ place. omega (arith, o.once place, fewer place cost old, sum_by-IsPermutation (λ e. one_if (is_at place e)) (filter (is_below cost) old) new perm);
+  aside = o.aside;
+  work = o.work;
+}
+
+pub closed_length : (cost : ℚ) (old new : List OpenNode) → IsPermutation (filter (is_below cost) old) new → length new ≤ length old
+closed_length cost old new perm = omega (arith, length_permutation (filter (is_below cost) old) new perm, length-filter (is_below cost) old, count_by-le-length (is_below cost) old)

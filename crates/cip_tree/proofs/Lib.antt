@@ -1,0 +1,10 @@
+pub mod Closing
+pub mod Halving
+pub mod Keeping
+pub mod Links
+pub mod Orders
+pub mod Parted
+pub mod Paths
+pub mod Queues
+pub mod Restaged
+pub mod Starts

@@ -1,0 +1,385 @@
+-- Trees stay in order from call to call.
+use Rattle.std.proofs.Common.{◌≡◌, ◌≢◌, ◌⊎◌, inl, inr, ℕ, ◌+◌, ◌-◌, ◌<◌, ◌≤◌, Bool, true, false, List, [], ◌∷◌, ◌++◌, map, reverse, length, count_by, Option, None, Some, IfSome, All, refl, sym, ap, ◌∙◌, subst, arith, get_or}
+use Rattle.std.specs.List.Sorted.{IsPermutation}
+use Rattle.std.proofs.lemmas.Option.{none-some, same_Some}
+use Rattle.std.proofs.lemmas.List.Elements.{All-cons, All-tail, All-head, All-push, All-map}
+use Rattle.std.proofs.lemmas.List.{map-append, length-map, get_or-map}
+use Rattle.std.proofs.lemmas.List.Sums.{get_or-le-sum_by}
+use Rattle.std.specs.Prelude.{MatchOption, Contains, ◌==◌}
+use Rattle.std.proofs.lemmas.List.Sorted.{All-permutation, IsPermutation-map, length_permutation}
+use Rattle.cip_rational.specs.Rational.{ℚ}
+use Rattle.cip_problem.specs.Program.{Sides}
+use Rattle.cip_problem.specs.Log.{Node, Entry}
+use Rattle.cip_tree.specs.declared.kept.Origin.{Origin}
+use Rattle.cip_tree.specs.Bounds.{IsBoundAtMost}
+use Rattle.cip_tree.specs.Queue.{IsFirst, IsLeast}
+use Rattle.cip_tree.specs.Moves.{IsBefore, IsLeastBound}
+use Rattle.cip_domain.specs.Changes.{Change, narrowed}
+use Rattle.cip_tree.specs.declared.kept.Stage.{Stage}
+use Rattle.cip_tree.specs.declared.kept.Stage.TheVariants.{Open, Taken, Parked, Ended}
+use Rattle.cip_tree.specs.declared.queue.OpenNode.{OpenNode}
+use Rattle.cip_tree.specs.Nodes.{Base, TakenNode, Nodes, base_at, base_changes, node_changes, box_of, shown, IsTaken}
+use Rattle.cip_tree.specs.Slots.{Slot, Slots, slot_at, above, changes_at, slot_changes, origin_is, comes_from, HasParent, IsIdle, IsKeptBut, IsKept, IsRestaged, IsReleased}
+use Rattle.cip_tree.specs.Inside.{node_at, nodes_at, base_if, base_of, bases, is_taken, is_at_work, StandsAs, is_at, IsInOrder}
+use Rattle.cip_tree.proofs.Keeping.{one_if, count_changed, sum_changed, sum_same, slot_within, none_or_slot, same_slot}
+use Rattle.cip_tree.proofs.Paths.{KeepsPaths, same_base, bases_at, IsInWork, in_work, nodes_same, stage_apart, stand_still, changes_still, first_apart, added_apart}
+use Rattle.cip_tree.proofs.Restaged.{kept_new, given_new, keeps, above_here, changes_here, base_others, work_count}
+
+pub taken_not_ended : (s : Stage) → s ≡ Taken → s ≢ Ended
+taken_not_ended s e f = let g : Taken ≡ Ended = sym e ∙ f in cc
+
+pub taken_not_open : (s : Stage) → s ≡ Taken → s ≢ Open
+taken_not_open s e f = let g : Taken ≡ Open = sym e ∙ f in cc
+
+pub taken_not_parked : (s : Stage) → s ≡ Taken → s ≢ Parked
+taken_not_parked s e f = let g : Taken ≡ Parked = sym e ∙ f in cc
+
+pub open_not_ended : (s : Stage) → s ≡ Open → s ≢ Ended
+open_not_ended s e f = let g : Open ≡ Ended = sym e ∙ f in cc
+
+pub open_not_parked : (s : Stage) → s ≡ Open → s ≢ Parked
+open_not_parked s e f = let g : Open ≡ Parked = sym e ∙ f in cc
+
+open_is_not : Open ≢ Ended
+open_is_not e = cc
+
+taken_is_not : Taken ≢ Ended
+taken_is_not e = cc
+
+parked_is_not : Parked ≢ Ended
+parked_is_not e = cc
+
+-- ---- a node in work is open again
+
+module _ (box : List Sides) (old new : Slots) (n : ℕ) (had notes : List Change) (q more p : List OpenNode) (ids work id : ℕ) (bound : Option ℚ) (base : Base) (o : IsInOrder old q p ids work) (w : get_or (bases old) n None ≡ Some base) (number : base.number ≡ id) where
+  slot_here : IsInWork old n base
+  slot_here = in_work old n base w
+
+  module _ (h : IsRestaged old new n had notes Open) (perm : let e : OpenNode = record { bound = bound; id = id; place = n } in IsPermutation (e ∷ q) more) where
+    back_taken : h.slot.stage ≡ Taken
+    back_taken = ap (λ (s : Slot). s.stage) (same_slot old n h.slot slot_here.slot h.was slot_here.found) ∙ slot_here.taken
+
+    back_number : h.slot.number ≡ id
+    back_number = ap (λ (s : Slot). s.number) (same_slot old n h.slot slot_here.slot h.was slot_here.found) ∙ slot_here.number ∙ number
+
+    q_apart : All (λ e. e.place ≢ n) q
+    q_apart = stage_apart Open old n h.slot q h.was (taken_not_open h.slot.stage back_taken) o.waiting
+
+    p_apart : All (λ e. e.place ≢ n) p
+    p_apart = stage_apart Parked old n h.slot p h.was (taken_not_parked h.slot.stage back_taken) o.aside
+
+    q_stands : All (StandsAs Open new) q
+    q_stands = stand_still Open old new n q (λ k s d e f. h.others k d ∙ e) q_apart o.waiting
+
+    p_stands : All (StandsAs Parked new) p
+    p_stands = stand_still Parked old new n p (λ k s d e f. h.others k d ∙ e) p_apart o.aside
+
+    live : h.slot.stage ≢ Ended
+    live = taken_not_ended h.slot.stage back_taken
+
+    keeps_here : KeepsPaths old new (λ k. k ≢ n)
+    keeps_here = keeps old new n had notes Open h o.kept live open_is_not
+
+    pub back_order : IsInOrder new more p ids (work - 1)
+    back_order = record {
+      kept = kept_new old new n had notes Open h o.kept live open_is_not;
+      given = given_new old new n had notes Open h o.kept live open_is_not ids o.given;
+      waiting = All-permutation (StandsAs Open new) ((let e : OpenNode = record { bound = bound; id = id; place = n } in e) ∷ q) more perm (All-cons (StandsAs Open new) _ q (record { slot = record h.slot { notes = notes; stage = Open }; found = h.now; number = back_number; stage_is = refl }) q_stands);
+      once = added_apart (record { bound = bound; id = id; place = n }) q more o.once q_apart perm;
+      aside = p_stands;
+      work = omega (arith, o.work, work_count old new n had notes Open h o.kept live open_is_not, ap (λ s. one_if (is_taken s)) back_taken);
+    }
+
+    pub back_some : 1 ≤ work
+    back_some = omega (arith, o.work, work_count old new n had notes Open h o.kept live open_is_not, ap (λ s. one_if (is_taken s)) back_taken)
+
+    pub back_parked : nodes_at box new p ≡ nodes_at box old p
+    back_parked = nodes_same box old new p (changes_still Parked old new (λ k. k ≢ n) p keeps_here p_apart p_stands)
+
+    back_changes : changes_at new n ≡ reverse notes ++ base.changes
+    back_changes =
+        changes_here old new n had notes Open h o.kept live open_is_not
+        ∙ ap (λ (s : Slot). reverse notes ++ above s.number old s.origin) (same_slot old n h.slot slot_here.slot h.was slot_here.found)
+        ∙ ap (λ r. reverse notes ++ r) slot_here.changes
+
+    pub back_nodes : let node : Node = record { number = id; box = narrowed box (reverse notes ++ base.changes); bound = bound } in IsPermutation (node ∷ nodes_at box old q) (nodes_at box new more)
+    back_nodes =
+        let e : OpenNode = record { bound = bound; id = id; place = n } in
+        let mapped : IsPermutation (node_at box new e ∷ nodes_at box new q) (nodes_at box new more) = IsPermutation-map (node_at box new) (e ∷ q) more perm in
+        subst (λ t. IsPermutation ((let node : Node = record { number = id; box = narrowed box t; bound = bound } in node) ∷ nodes_at box old q) (nodes_at box new more)) back_changes
+        (subst (λ t. IsPermutation (node_at box new e ∷ t) (nodes_at box new more)) (nodes_same box old new q (changes_still Open old new (λ k. k ≢ n) q keeps_here q_apart q_stands)) mapped)
+
+    pub back_gone : get_or (bases new) n None ≡ None
+    back_gone = bases_at new n ∙ ap (base_of new) h.now
+
+    pub back_others : (k : ℕ) → k ≢ n → get_or (bases new) k None ≡ get_or (bases old) k None
+    back_others k d = bases_at new k ∙ base_others old new n had notes Open h o.kept live open_is_not k d ∙ sym (bases_at old k)
+
+  -- ---- a node in work is put aside
+
+  module _ (h : IsRestaged old new n had notes Parked) where
+    aside_taken : h.slot.stage ≡ Taken
+    aside_taken = ap (λ (s : Slot). s.stage) (same_slot old n h.slot slot_here.slot h.was slot_here.found) ∙ slot_here.taken
+
+    aside_number : h.slot.number ≡ id
+    aside_number = ap (λ (s : Slot). s.number) (same_slot old n h.slot slot_here.slot h.was slot_here.found) ∙ slot_here.number ∙ number
+
+    aq_apart : All (λ e. e.place ≢ n) q
+    aq_apart = stage_apart Open old n h.slot q h.was (taken_not_open h.slot.stage aside_taken) o.waiting
+
+    ap_apart : All (λ e. e.place ≢ n) p
+    ap_apart = stage_apart Parked old n h.slot p h.was (taken_not_parked h.slot.stage aside_taken) o.aside
+
+    aq_stands : All (StandsAs Open new) q
+    aq_stands = stand_still Open old new n q (λ k s d e f. h.others k d ∙ e) aq_apart o.waiting
+
+    ap_stands : All (StandsAs Parked new) p
+    ap_stands = stand_still Parked old new n p (λ k s d e f. h.others k d ∙ e) ap_apart o.aside
+
+    aside_live : h.slot.stage ≢ Ended
+    aside_live = taken_not_ended h.slot.stage aside_taken
+
+    aside_keeps : KeepsPaths old new (λ k. k ≢ n)
+    aside_keeps = keeps old new n had notes Parked h o.kept aside_live parked_is_not
+
+    abbrev node_here : OpenNode
+    node_here = record { bound = bound; id = id; place = n }
+
+    pub aside_order : IsInOrder new q (p ++ node_here ∷ []) ids (work - 1)
+    aside_order = record {
+      kept = kept_new old new n had notes Parked h o.kept aside_live parked_is_not;
+      given = given_new old new n had notes Parked h o.kept aside_live parked_is_not ids o.given;
+      waiting = aq_stands;
+      once = o.once;
+      aside = All-push (StandsAs Parked new) p node_here ap_stands (record { slot = record h.slot { notes = notes; stage = Parked }; found = h.now; number = aside_number; stage_is = refl });
+      work = omega (arith, o.work, work_count old new n had notes Parked h o.kept aside_live parked_is_not, ap (λ s. one_if (is_taken s)) aside_taken);
+    }
+
+    pub aside_some : 1 ≤ work
+    aside_some = omega (arith, o.work, work_count old new n had notes Parked h o.kept aside_live parked_is_not, ap (λ s. one_if (is_taken s)) aside_taken)
+
+    pub aside_open : nodes_at box new q ≡ nodes_at box old q
+    aside_open = nodes_same box old new q (changes_still Open old new (λ k. k ≢ n) q aside_keeps aq_apart aq_stands)
+
+    aside_changes : changes_at new n ≡ reverse notes ++ base.changes
+    aside_changes =
+        changes_here old new n had notes Parked h o.kept aside_live parked_is_not
+        ∙ ap (λ (s : Slot). reverse notes ++ above s.number old s.origin) (same_slot old n h.slot slot_here.slot h.was slot_here.found)
+        ∙ ap (λ r. reverse notes ++ r) slot_here.changes
+
+    pub aside_parked : let node : Node = record { number = id; box = narrowed box (reverse notes ++ base.changes); bound = bound } in nodes_at box new (p ++ node_here ∷ []) ≡ nodes_at box old p ++ node ∷ []
+    aside_parked =
+        map-append (node_at box new) p (node_here ∷ [])
+        ∙ ap (λ t. t ++ node_at box new node_here ∷ []) (nodes_same box old new p (changes_still Parked old new (λ k. k ≢ n) p aside_keeps ap_apart ap_stands))
+        ∙ ap (λ t. nodes_at box old p ++ (let node : Node = record { number = id; box = narrowed box t; bound = bound } in node) ∷ []) aside_changes
+
+    pub aside_gone : get_or (bases new) n None ≡ None
+    aside_gone = bases_at new n ∙ ap (base_of new) h.now
+
+    pub aside_others : (k : ℕ) → k ≢ n → get_or (bases new) k None ≡ get_or (bases old) k None
+    aside_others k d = bases_at new k ∙ base_others old new n had notes Parked h o.kept aside_live parked_is_not k d ∙ sym (bases_at old k)
+
+-- ---- a node in work is let go
+
+origin_apart : (old : Slots) (n : ℕ) (slot : Slot) → IsKept old → slot_at old n ≡ Some slot → slot.stage ≢ Ended → (s : Slot) (o : Option Origin) → IfSome o (HasParent old s) → origin_is n o ≡ false
+origin_apart old n slot kept e live s None p = refl
+origin_apart old n slot kept e live s (Some o) p = unlike o.parent n (λ same. live (ap (λ (t : Slot). t.stage) (same_slot old n slot p.parent e (ap (slot_at old) (sym same) ∙ p.found)) ∙ p.ended))
+  where
+    unlike : (a b : ℕ) → a ≢ b → (a == b) ≡ false
+    unlike a b d = grind arith
+
+-- a node that has not ended has none below it
+pub live_is_idle : (old : Slots) (n : ℕ) (slot : Slot) → IsKept old → slot_at old n ≡ Some slot → slot.stage ≢ Ended → IsIdle old n
+live_is_idle old n slot kept e live =
+    let none : (k : ℕ) → one_if (comes_from n (slot_at old k)) ≡ 0 = λ k. elim (none_or_slot (slot_at old k)) [
+      | inl f ↦ ap (λ o. one_if (comes_from n o)) f
+      | inr (s, f) ↦ ap (λ o. one_if (comes_from n o)) f ∙ ap one_if (origin_apart old n slot kept e live s s.origin (kept.parents k s f))
+    ] in
+    record {
+      slot = slot;
+      found = e;
+      none_below = kept.counts n slot e ∙ sym (sum_same (λ o. one_if (comes_from n o)) None refl old [] (λ k. sym (none k)));
+    }
+
+module _ (old new : Slots) (n : ℕ) (r : IsReleased old new n) (kept : IsKept new) where
+  abbrev Anywhere : ℕ → Type 0
+  Anywhere k = Unit {0}
+
+  pub released_keeps : KeepsPaths old new Anywhere
+  released_keeps = record {
+    same = λ k s d e. r.left k s e;
+    up = λ k s o d e f. let p : HasParent new s o = subst (λ x. IfSome x (HasParent new s)) f (kept.parents k s e) in (tt, (p.parent, p.found));
+  }
+
+  gone_by_stage : (k : ℕ) (t : Slot) → k ≢ n → slot_at old k ≡ Some t → slot_at new k ≡ None → (stage : Stage) → t.stage ≡ stage → stage ≡ Ended
+  gone_by_stage k t d e f Open s = absurd (none-some t (sym f ∙ r.live k t d e (λ x. let g : Open ≡ Ended = sym s ∙ x in cc)))
+  gone_by_stage k t d e f Taken s = absurd (none-some t (sym f ∙ r.live k t d e (λ x. let g : Taken ≡ Ended = sym s ∙ x in cc)))
+  gone_by_stage k t d e f Parked s = absurd (none-some t (sym f ∙ r.live k t d e (λ x. let g : Parked ≡ Ended = sym s ∙ x in cc)))
+  gone_by_stage k t d e f Ended s = refl
+
+  gone_base : (k : ℕ) → k ≢ n → slot_at new k ≡ None → (b : Option Slot) → slot_at old k ≡ b → (base_of old b ≡ None) × (is_at_work b ≡ false)
+  gone_base k d e None f = (refl, refl)
+  gone_base k d e (Some t) f =
+      let ended : t.stage ≡ Ended = gone_by_stage k t d f e t.stage refl in
+      (ap (λ x. base_if x (record { number = t.number; changes = above t.number old t.origin })) ended, ap is_taken ended)
+
+  pub released_others : (k : ℕ) → k ≢ n → get_or (bases new) k None ≡ get_or (bases old) k None
+  released_others k d = bases_at new k ∙ elim (none_or_slot (slot_at new k)) [
+    | inl e ↦ ap (base_of new) e ∙ sym (gone_base k d e (slot_at old k) refl).0
+    | inr (s, e) ↦ same_base old new Anywhere released_keeps k s tt e
+  ] ∙ sym (bases_at old k)
+
+  pub released_gone : get_or (bases new) n None ≡ None
+  released_gone = bases_at new n ∙ ap (base_of new) r.gone
+
+  work_same : (k : ℕ) → k ≢ n → one_if (is_at_work (slot_at new k)) ≡ one_if (is_at_work (slot_at old k))
+  work_same k d = elim (none_or_slot (slot_at new k)) [
+    | inl e ↦ ap (λ o. one_if (is_at_work o)) e ∙ sym (ap one_if (gone_base k d e (slot_at old k) refl).1)
+    | inr (s, e) ↦ ap (λ o. one_if (is_at_work o)) e ∙ sym (ap (λ o. one_if (is_at_work o)) (r.left k s e).1)
+  ]
+
+  pub released_work : count_by is_at_work new + one_if (is_at_work (slot_at old n)) ≡ count_by is_at_work old
+  released_work =
+      omega (arith, sum_changed (λ o. one_if (is_at_work o)) None refl old new n work_same, ap (λ o. one_if (is_at_work o)) r.gone)
+
+  pub released_given : (ids : ℕ) → ((k : ℕ) (s : Slot) → slot_at old k ≡ Some s → s.number < ids) → (k : ℕ) (s : Slot) → slot_at new k ≡ Some s → s.number < ids
+  released_given ids g k s e = let w = r.left k s e in g k (record s { below = w.0 }) w.1
+
+  pub released_nodes : (box : List Sides) (stage : Stage) (nodes : List OpenNode) → All (StandsAs stage new) nodes → nodes_at box new nodes ≡ nodes_at box old nodes
+  released_nodes box stage nodes h = nodes_same box old new nodes (changes_still stage old new Anywhere nodes released_keeps (λ k d l. tt) h)
+
+module _ (box : List Sides) (old new : Slots) (n : ℕ) (q p : List OpenNode) (ids work : ℕ) (base : Base) (o : IsInOrder old q p ids work) (w : get_or (bases old) n None ≡ Some base) where
+  pub taken_is_idle : IsIdle old n
+  taken_is_idle = let s = in_work old n base w in live_is_idle old n s.slot o.kept s.found (taken_not_ended s.slot.stage s.taken)
+
+  pub taken_some : 1 ≤ work
+  taken_some =
+      let s = in_work old n base w in
+      omega (arith, o.work, get_or-le-sum_by (λ x. one_if (is_at_work x)) old n None (slot_within old n s.slot s.found), ap (λ x. one_if (is_at_work x)) s.found, ap (λ x. one_if (is_taken x)) s.taken)
+
+  pub taken_kept : (slot : Slot) × (slot_at old n ≡ Some slot)
+  taken_kept = let s = in_work old n base w in (s.slot, s.found)
+
+  module _ (r : IsReleased old new n) (kept : IsKept new) where
+    closed_waiting : All (StandsAs Open new) q
+    closed_waiting =
+        let s = in_work old n base w in
+        stand_still Open old new n q (λ k t d e f. r.live k t d e (open_not_ended t.stage f)) (stage_apart Open old n s.slot q s.found (taken_not_open s.slot.stage s.taken) o.waiting) o.waiting
+
+    closed_aside : All (StandsAs Parked new) p
+    closed_aside =
+        let s = in_work old n base w in
+        stand_still Parked old new n p (λ k t d e f. r.live k t d e (λ x. let g : Parked ≡ Ended = sym f ∙ x in cc)) (stage_apart Parked old n s.slot p s.found (taken_not_parked s.slot.stage s.taken) o.aside) o.aside
+
+    pub closed_order : IsInOrder new q p ids (work - 1)
+    closed_order =
+        let s = in_work old n base w in
+        record {
+          kept = kept;
+          given = released_given old new n r kept ids o.given;
+          waiting = closed_waiting;
+          once = o.once;
+          aside = closed_aside;
+          work = omega (arith, o.work, released_work old new n r kept, ap (λ x. one_if (is_at_work x)) s.found, ap (λ x. one_if (is_taken x)) s.taken);
+        }
+
+    pub closed_open : nodes_at box new q ≡ nodes_at box old q
+    closed_open = released_nodes old new n r kept box Open q closed_waiting
+
+    pub closed_parked : nodes_at box new p ≡ nodes_at box old p
+    closed_parked = released_nodes old new n r kept box Parked p closed_aside
+
+-- ---- the first node is taken
+
+module _ (box : List Sides) (old new : Slots) (e : OpenNode) (had none : List Change) (q rest p : List OpenNode) (ids work : ℕ) (o : IsInOrder old q p ids work) (perm : IsPermutation q (e ∷ rest)) where
+  first_stands : StandsAs Open old e
+  first_stands = All-head (StandsAs Open old) e rest (All-permutation (StandsAs Open old) q (e ∷ rest) perm o.waiting)
+
+  pub first_kept : (slot : Slot) × (slot_at old e.place ≡ Some slot)
+  first_kept = (first_stands.slot, first_stands.found)
+
+  module _ (h : IsRestaged old new e.place had none Taken) (empty : none ≡ []) where
+    first_slot : first_stands.slot ≡ h.slot
+    first_slot = same_slot old e.place first_stands.slot h.slot first_stands.found h.was
+
+    first_open : h.slot.stage ≡ Open
+    first_open = sym (ap (λ (s : Slot). s.stage) first_slot) ∙ first_stands.stage_is
+
+    first_live : h.slot.stage ≢ Ended
+    first_live = open_not_ended h.slot.stage first_open
+
+    rest_apart : All (λ x. x.place ≢ e.place) rest
+    rest_apart = (first_apart e q rest o.once perm).1
+
+    aside_apart : All (λ x. x.place ≢ e.place) p
+    aside_apart = stage_apart Parked old e.place h.slot p h.was (open_not_parked h.slot.stage first_open) o.aside
+
+    first_keeps : KeepsPaths old new (λ k. k ≢ e.place)
+    first_keeps = keeps old new e.place had none Taken h o.kept first_live taken_is_not
+
+    rest_stands : All (StandsAs Open new) rest
+    rest_stands = stand_still Open old new e.place rest (λ k s d f g. h.others k d ∙ f) rest_apart (All-tail (StandsAs Open old) e rest (All-permutation (StandsAs Open old) q (e ∷ rest) perm o.waiting))
+
+    aside_stands : All (StandsAs Parked new) p
+    aside_stands = stand_still Parked old new e.place p (λ k s d f g. h.others k d ∙ f) aside_apart o.aside
+
+    pub first_order : IsInOrder new rest p ids (work + 1)
+    first_order = record {
+      kept = kept_new old new e.place had none Taken h o.kept first_live taken_is_not;
+      given = given_new old new e.place had none Taken h o.kept first_live taken_is_not ids o.given;
+      waiting = rest_stands;
+      once = (first_apart e q rest o.once perm).0;
+      aside = aside_stands;
+      work = omega (arith, o.work, work_count old new e.place had none Taken h o.kept first_live taken_is_not, ap (λ s. one_if (is_taken s)) first_open);
+    }
+
+    pub first_parked : nodes_at box new p ≡ nodes_at box old p
+    first_parked = nodes_same box old new p (changes_still Parked old new (λ k. k ≢ e.place) p first_keeps aside_apart aside_stands)
+
+    pub first_base : Base
+    first_base = record { number = h.slot.number; changes = above h.slot.number new h.slot.origin }
+
+    pub first_found : get_or (bases new) e.place None ≡ Some (record { number = h.slot.number; changes = above h.slot.number new h.slot.origin })
+    first_found = bases_at new e.place ∙ ap (base_of new) h.now
+
+    pub first_number : h.slot.number ≡ e.id
+    first_number = sym (ap (λ (s : Slot). s.number) first_slot) ∙ first_stands.number
+
+    pub first_fresh : get_or (bases old) e.place None ≡ None
+    first_fresh = bases_at old e.place ∙ ap (base_of old) h.was ∙ ap (λ s. base_if s (record { number = h.slot.number; changes = above h.slot.number old h.slot.origin })) first_open
+
+    pub first_others : (k : ℕ) → k ≢ e.place → get_or (bases new) k None ≡ get_or (bases old) k None
+    first_others k d = bases_at new k ∙ base_others old new e.place had none Taken h o.kept first_live taken_is_not k d ∙ sym (bases_at old k)
+
+    first_changes : changes_at old e.place ≡ reverse had ++ above h.slot.number new h.slot.origin
+    first_changes =
+        ap (slot_changes old) h.was
+        ∙ ap (λ t. reverse t ++ above h.slot.number old h.slot.origin) (sym h.had_is)
+        ∙ ap (λ t. reverse had ++ t) (sym (above_here old new e.place had none Taken h o.kept first_live taken_is_not h.slot.number))
+
+    pub first_nodes : let node : Node = record { number = e.id; box = narrowed box (reverse had ++ above h.slot.number new h.slot.origin); bound = e.bound } in IsPermutation (nodes_at box old q) (node ∷ nodes_at box new rest)
+    first_nodes =
+        let mapped : IsPermutation (nodes_at box old q) (node_at box old e ∷ nodes_at box old rest) = IsPermutation-map (node_at box old) q (e ∷ rest) perm in
+        subst (λ t. IsPermutation (nodes_at box old q) ((let node : Node = record { number = e.id; box = narrowed box t; bound = e.bound } in node) ∷ nodes_at box new rest)) first_changes
+        (subst (λ t. IsPermutation (nodes_at box old q) (node_at box old e ∷ t)) (sym (nodes_same box old new rest (changes_still Open old new (λ k. k ≢ e.place) rest first_keeps rest_apart rest_stands))) mapped)
+
+    pub first_before : IsFirst e rest → (b : List Sides) → let node : Node = record { number = e.id; box = b; bound = e.bound } in All (IsBefore node) (nodes_at box new rest)
+    first_before first b = All-map (IsBefore (let node : Node = record { number = e.id; box = b; bound = e.bound } in node)) (node_at box new) rest (λ k d l. let f = first k d l in record { bounds = f.bounds; numbers = f.ids })
+
+-- ---- the least bound
+
+contains_map : {X Y : Type 0} (f : X → Y) (xs : List X) (x : X) → Contains xs x → Contains (map f xs) (f x)
+contains_map f xs x h = (h.0, omega (arith, h.1, length-map xs f), get_or-map f xs h.0 x (f x) h.1 ∙ ap f h.2)
+
+pub least_shown : (box : List Sides) (slots : Slots) (nodes : List OpenNode) (r : Option (Option ℚ)) → MatchOption r (nodes ≡ []) (λ bound. IsLeast bound nodes) → MatchOption r (nodes_at box slots nodes ≡ []) (λ bound. IsLeastBound bound (nodes_at box slots nodes))
+least_shown box slots nodes None h = ap (nodes_at box slots) h
+least_shown box slots nodes (Some bound) h = record {
+  node = node_at box slots h.node;
+  among = contains_map (node_at box slots) nodes h.node h.among;
+  is = h.is;
+  least = All-map (λ other. IsBoundAtMost bound other.bound) (node_at box slots) nodes h.least;
+}
+
+-- trees of equal parts are equal
+pub nodes_equal : (root : Node) (integral : List Bool) (a b p r : List Node) (t : List (Option Base)) (ids : ℕ) (k l : List Entry) → a ≡ b → p ≡ r → k ≡ l → let x : Nodes = record { root = root; integral = integral; open_ = a; parked = p; taken = t; ids = ids; log = k } in let y : Nodes = record { root = root; integral = integral; open_ = b; parked = r; taken = t; ids = ids; log = l } in x ≡ y
+nodes_equal root integral a b p r t ids k l e f g = cc

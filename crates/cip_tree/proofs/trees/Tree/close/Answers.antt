@@ -1,0 +1,53 @@
+use Rattle.std.proofs.Common.{◌≡◌, ◌∷◌, ◌++◌, [], Some, None, map, reverse, get_or, sym, ap, ◌∙◌, subst, refl, arith, length}
+use Rattle.std.specs.List.Sorted.{IsPermutation}
+use Rattle.std.proofs.lemmas.List.{map-append}
+use Rattle.std.proofs.lemmas.List.Sorted.{length_permutation}
+use Rattle.cip_problem.specs.Log.{Node}
+use Rattle.cip_domain.specs.Changes.{narrowed}
+use Rattle.cip_tree.specs.Entries.{entry_of}
+use Rattle.cip_tree.specs.Nodes.{Nodes, TakenNode, base_at, base_changes, shown}
+use Rattle.cip_tree.specs.Inside.{bases, nodes_at}
+use Rattle.cip_tree.proofs.Orders.{taken_is_idle, taken_some, closed_order, closed_open, closed_parked, released_gone, released_others, nodes_equal}
+use Rattle.cip_tree.proofs.trees.Tree.close.Goals as goal
+
+pub release-requires-clause-idle : goal.release-requires-clause-idle
+release-requires-clause-idle c =
+    let w : get_or (bases c.self.inside.kept.slots) c.node.inside.place None ≡ Some c.requires.base = ap (λ (t : Nodes). base_at t c.node.inside.place) c.self.view_is ∙ ap (λ (x : TakenNode). base_at c.args.self.now x.place) c.node.view_is ∙ c.requires.found in
+    taken_is_idle c.self.inside.root c.self.inside.kept.slots c.self.inside.kept.slots c.node.inside.place c.self.inside.queue.nodes c.self.inside.parked.items c.self.inside.ids c.self.inside.in_work c.requires.base c.self.invariant.0 w
+
+pub overflow_sub-self : goal.overflow_sub-self
+overflow_sub-self c =
+    let w : get_or (bases c.self.inside.kept.slots) c.node.inside.place None ≡ Some c.requires.base = ap (λ (t : Nodes). base_at t c.node.inside.place) c.self.view_is ∙ ap (λ (x : TakenNode). base_at c.args.self.now x.place) c.node.view_is ∙ c.requires.found in
+    taken_some c.self.inside.root c.self.inside.kept.slots c.self.inside.kept.slots c.node.inside.place c.self.inside.queue.nodes c.self.inside.parked.items c.self.inside.ids c.self.inside.in_work c.requires.base c.self.invariant.0 w
+
+pub push_reserved-requires : goal.push_reserved-requires
+push_reserved-requires c =
+    let w : get_or (bases c.self.inside.kept.slots) c.node.inside.place None ≡ Some c.requires.base = ap (λ (t : Nodes). base_at t c.node.inside.place) c.self.view_is ∙ ap (λ (x : TakenNode). base_at c.args.self.now x.place) c.node.view_is ∙ c.requires.found in
+    let some = taken_some c.self.inside.root c.self.inside.kept.slots c.self.inside.kept.slots c.node.inside.place c.self.inside.queue.nodes c.self.inside.parked.items c.self.inside.ids c.self.inside.in_work c.requires.base c.self.invariant.0 w in
+    omega (arith, some, c.self.invariant.1.log)
+
+pub invariant_of-self : goal.invariant_of-self
+invariant_of-self c =
+    let w : get_or (bases c.self.inside.kept.slots) c.node.inside.place None ≡ Some c.requires.base = ap (λ (t : Nodes). base_at t c.node.inside.place) c.self.view_is ∙ ap (λ (x : TakenNode). base_at c.args.self.now x.place) c.node.view_is ∙ c.requires.found in
+    let some = taken_some c.self.inside.root c.self.inside.kept.slots c.self.inside.kept.slots c.node.inside.place c.self.inside.queue.nodes c.self.inside.parked.items c.self.inside.ids c.self.inside.in_work c.requires.base c.self.invariant.0 w in
+    let room = c.self.invariant.1 in (
+      closed_order c.self.inside.root c.self.inside.kept.slots c.release.new.kept.slots c.node.inside.place c.self.inside.queue.nodes c.self.inside.parked.items c.self.inside.ids c.self.inside.in_work c.requires.base c.self.invariant.0 w c.release.ensures.slots c.release.ensures.kept,
+      record {
+        queue = omega (arith, room.queue);
+        parked = omega (arith, room.parked);
+        log = omega (arith, room.log, some, c.push_reserved.ensures.len, c.push_reserved.ensures.capacity);
+      },
+    )
+
+pub returns-clause-taken : goal.returns-clause-taken
+returns-clause-taken c =
+    let gone = released_gone c.self.inside.kept.slots c.release.new.kept.slots c.node.inside.place c.release.ensures.slots c.release.ensures.kept in
+    let others = released_others c.self.inside.kept.slots c.release.new.kept.slots c.node.inside.place c.release.ensures.slots c.release.ensures.kept in
+    rw (← c.self.view_is, ← c.node.view_is) (record { gone = gone; others = others })
+
+pub returns-clause-rest : goal.returns-clause-rest
+returns-clause-rest c =
+    let w : get_or (bases c.self.inside.kept.slots) c.node.inside.place None ≡ Some c.requires.base = ap (λ (t : Nodes). base_at t c.node.inside.place) c.self.view_is ∙ ap (λ (x : TakenNode). base_at c.args.self.now x.place) c.node.view_is ∙ c.requires.found in
+    let log = ap (λ l. map entry_of l) c.push_reserved.ensures.items ∙ map-append entry_of c.self.inside.log.items _ in
+    rw (← c.self.view_is, ← c.node.view_is)
+    (nodes_equal _ _ _ _ _ _ _ _ _ _ (closed_open c.self.inside.root c.self.inside.kept.slots c.release.new.kept.slots c.node.inside.place c.self.inside.queue.nodes c.self.inside.parked.items c.self.inside.ids c.self.inside.in_work c.requires.base c.self.invariant.0 w c.release.ensures.slots c.release.ensures.kept) (closed_parked c.self.inside.root c.self.inside.kept.slots c.release.new.kept.slots c.node.inside.place c.self.inside.queue.nodes c.self.inside.parked.items c.self.inside.ids c.self.inside.in_work c.requires.base c.self.invariant.0 w c.release.ensures.slots c.release.ensures.kept) log)

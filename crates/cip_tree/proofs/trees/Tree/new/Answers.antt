@@ -1,0 +1,38 @@
+use Rattle.std.proofs.Common.{◌≡◌, ◌∷◌, [], ℕ, List, rules, ap, sym, ◌∙◌, subst, refl, arith, length, vec_len}
+use Rattle.cip_problem.specs.Log.{Node}
+use Rattle.cip_domain.specs.Changes.{narrowed}
+use Rattle.cip_tree.specs.declared.queue.OpenNode.{OpenNode}
+use Rattle.cip_tree.specs.Slots.{slot_at}
+use Rattle.cip_tree.specs.Inside.{IsInOrder, nodes_at}
+use Rattle.cip_tree.proofs.Starts.{root_order, root_nodes, root_bases}
+use Rattle.cip_tree.proofs.trees.Tree.new.Goals as goal
+
+pub invariant_of-result : goal.invariant_of-result
+invariant_of-result c =
+    let id : c.first_node.result.id ≡ 0 = ap (λ (e : OpenNode). e.id) c.first_node.ensures in
+    let place : c.first_node.result.place ≡ c.in_ok-kept.field-0.place = cc (ap (λ (e : OpenNode). e.place) c.first_node.ensures, c.in_ok-kept.place-is) in
+    let one = ap (λ (l : List OpenNode). length l) c.in_ok-queue.ensures in (
+      subst (λ q. IsInOrder c.in_ok-kept.field-0.kept.slots q c.in_ok-parked.parked.items 1 0) (sym c.in_ok-queue.ensures)
+          (subst (λ p. IsInOrder c.in_ok-kept.field-0.kept.slots (c.first_node.result ∷ []) p 1 0) (sym c.in_ok-parked.ensures.items)
+          (root_order c.in_ok-kept.field-0.kept.slots c.in_ok-kept.field-0.place c.in_ok-kept.ensures.0 c.in_ok-kept.ensures.1 c.first_node.result id place)),
+      record {
+        queue = omega arith;
+        parked = omega (arith, one, c.in_ok-parked.ensures.len, c.in_ok-parked.ensures.exact);
+        log = omega (arith, one, c.in_ok-log.ensures.len, c.in_ok-log.ensures.exact);
+      },
+    )
+
+pub returns : goal.returns
+returns c =
+    let place : c.first_node.result.place ≡ c.in_ok-kept.field-0.place = cc (ap (λ (e : OpenNode). e.place) c.first_node.ensures, c.in_ok-kept.place-is) in
+    let shown = ap (nodes_at c.args.root c.in_ok-kept.field-0.kept.slots) c.in_ok-queue.ensures ∙ root_nodes c.in_ok-kept.field-0.kept.slots c.in_ok-kept.field-0.place c.in_ok-kept.ensures.0 c.in_ok-kept.ensures.1 c.args.root c.first_node.result place in
+    let same = ap (λ (e : OpenNode). (let n : Node = record { number = e.id; box = c.args.root; bound = e.bound } in n) ∷ []) c.first_node.ensures in
+    record {
+      open_ = shown ∙ same;
+      root = refl;
+      integral_is = search rules;
+      parked = ap (nodes_at c.args.root c.in_ok-kept.field-0.kept.slots) c.in_ok-parked.ensures.items;
+      taken = root_bases c.in_ok-kept.field-0.kept.slots c.in_ok-kept.field-0.place c.in_ok-kept.ensures.0 c.in_ok-kept.ensures.1;
+      ids = refl;
+      log = search rules;
+    }

@@ -1,0 +1,43 @@
+use Rattle.std.proofs.Common.{◌≡◌, ◌∷◌, ◌++◌, [], Some, None, reverse, get_or, sym, ap, ◌∙◌, subst, refl, arith, length}
+use Rattle.std.specs.List.Sorted.{IsPermutation}
+use Rattle.std.proofs.lemmas.List.{map-append}
+use Rattle.std.proofs.lemmas.List.Sorted.{length_permutation}
+use Rattle.cip_problem.specs.Log.{Node}
+use Rattle.cip_domain.specs.Changes.{narrowed}
+use Rattle.cip_tree.specs.Entries.{entry_of}
+use Rattle.cip_tree.specs.Nodes.{Nodes, TakenNode, base_at, base_changes, shown}
+use Rattle.cip_tree.specs.Inside.{bases, nodes_at}
+use Rattle.cip_tree.proofs.Orders.{first_kept, first_order, first_parked, first_base, first_found, first_number, first_fresh, first_others, first_nodes, first_before, nodes_equal}
+use Rattle.cip_tree.proofs.trees.Tree.next.Goals as goal
+
+pub restage-notes-requires : goal.restage-notes-requires
+restage-notes-requires c =
+    let k = first_kept c.self.inside.root c.self.inside.kept.slots c.self.inside.kept.slots c.in_ok-first.first [] [] c.self.inside.queue.nodes c.pop.new.self.nodes c.self.inside.parked.items c.self.inside.ids c.self.inside.in_work c.self.invariant.0 c.in_ok-first.ensures.0 in
+    rw (k.1) refl
+
+pub invariant_of-self-2 : goal.invariant_of-self-2
+invariant_of-self-2 c =
+    let room = c.self.invariant.1 in
+    let shorter = length_permutation _ _ c.in_ok-first.ensures.0 in (
+      first_order c.self.inside.root c.self.inside.kept.slots c.restage-notes.new.kept.slots c.in_ok-first.first c.restage-notes.result.items c.new-none.result.items c.self.inside.queue.nodes c.pop.new.self.nodes c.self.inside.parked.items c.self.inside.ids c.self.inside.in_work c.self.invariant.0 c.in_ok-first.ensures.0 c.restage-notes.ensures.slots c.new-none.ensures.items,
+      record {
+        queue = omega (arith, room.queue, c.in_ok-first.ensures.2);
+        parked = omega (arith, room.parked, shorter);
+        log = omega (arith, room.log, shorter);
+      },
+    )
+
+pub returns : goal.returns
+returns c =
+    let found = first_found c.self.inside.root c.self.inside.kept.slots c.restage-notes.new.kept.slots c.in_ok-first.first c.restage-notes.result.items c.new-none.result.items c.self.inside.queue.nodes c.pop.new.self.nodes c.self.inside.parked.items c.self.inside.ids c.self.inside.in_work c.self.invariant.0 c.in_ok-first.ensures.0 c.restage-notes.ensures.slots c.new-none.ensures.items in
+    let nodes = first_nodes c.self.inside.root c.self.inside.kept.slots c.restage-notes.new.kept.slots c.in_ok-first.first c.restage-notes.result.items c.new-none.result.items c.self.inside.queue.nodes c.pop.new.self.nodes c.self.inside.parked.items c.self.inside.ids c.self.inside.in_work c.self.invariant.0 c.in_ok-first.ensures.0 c.restage-notes.ensures.slots c.new-none.ensures.items in
+    let shown_nodes = subst (λ b. IsPermutation (nodes_at c.self.inside.root c.self.inside.kept.slots c.self.inside.queue.nodes) ((let node : Node = record { number = c.in_ok-first.first.id; box = narrowed c.self.inside.root (reverse c.restage-notes.result.items ++ base_changes b); bound = c.in_ok-first.first.bound } in node) ∷ nodes_at c.self.inside.root c.restage-notes.new.kept.slots c.pop.new.self.nodes)) (sym found) nodes in
+    rw (← c.self.view_is)
+    (record {
+      nodes = shown_nodes;
+      first = first_before c.self.inside.root c.self.inside.kept.slots c.restage-notes.new.kept.slots c.in_ok-first.first c.restage-notes.result.items c.new-none.result.items c.self.inside.queue.nodes c.pop.new.self.nodes c.self.inside.parked.items c.self.inside.ids c.self.inside.in_work c.self.invariant.0 c.in_ok-first.ensures.0 c.restage-notes.ensures.slots c.new-none.ensures.items c.in_ok-first.ensures.1 _;
+      taken = record { base = _; found = found; same = first_number c.self.inside.root c.self.inside.kept.slots c.restage-notes.new.kept.slots c.in_ok-first.first c.restage-notes.result.items c.new-none.result.items c.self.inside.queue.nodes c.pop.new.self.nodes c.self.inside.parked.items c.self.inside.ids c.self.inside.in_work c.self.invariant.0 c.in_ok-first.ensures.0 c.restage-notes.ensures.slots c.new-none.ensures.items };
+      fresh = first_fresh c.self.inside.root c.self.inside.kept.slots c.restage-notes.new.kept.slots c.in_ok-first.first c.restage-notes.result.items c.new-none.result.items c.self.inside.queue.nodes c.pop.new.self.nodes c.self.inside.parked.items c.self.inside.ids c.self.inside.in_work c.self.invariant.0 c.in_ok-first.ensures.0 c.restage-notes.ensures.slots c.new-none.ensures.items;
+      others = first_others c.self.inside.root c.self.inside.kept.slots c.restage-notes.new.kept.slots c.in_ok-first.first c.restage-notes.result.items c.new-none.result.items c.self.inside.queue.nodes c.pop.new.self.nodes c.self.inside.parked.items c.self.inside.ids c.self.inside.in_work c.self.invariant.0 c.in_ok-first.ensures.0 c.restage-notes.ensures.slots c.new-none.ensures.items;
+      rest = nodes_equal _ _ _ _ _ _ _ _ _ _ refl (first_parked c.self.inside.root c.self.inside.kept.slots c.restage-notes.new.kept.slots c.in_ok-first.first c.restage-notes.result.items c.new-none.result.items c.self.inside.queue.nodes c.pop.new.self.nodes c.self.inside.parked.items c.self.inside.ids c.self.inside.in_work c.self.invariant.0 c.in_ok-first.ensures.0 c.restage-notes.ensures.slots c.new-none.ensures.items) refl;
+    })

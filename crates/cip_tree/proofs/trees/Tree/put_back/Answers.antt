@@ -1,0 +1,47 @@
+use Rattle.std.proofs.Common.{◌≡◌, ◌∷◌, ◌++◌, Some, None, reverse, get_or, sym, ap, ◌∙◌, subst, refl, arith, length}
+use Rattle.std.specs.List.Sorted.{IsPermutation}
+use Rattle.std.proofs.lemmas.List.Sorted.{length_permutation}
+use Rattle.cip_problem.specs.Log.{Node}
+use Rattle.cip_domain.specs.Changes.{narrowed}
+use Rattle.cip_tree.specs.Nodes.{Nodes, TakenNode, base_at, base_changes, shown}
+use Rattle.cip_tree.specs.Inside.{bases, nodes_at}
+use Rattle.cip_tree.proofs.Orders.{back_order, back_some, back_parked, back_nodes, back_gone, back_others, nodes_equal}
+use Rattle.cip_tree.proofs.trees.Tree.put_back.Goals as goal
+
+pub invariant_of-self : goal.invariant_of-self
+invariant_of-self c =
+    let w : get_or (bases c.self.inside.kept.slots) c.node.inside.place None ≡ Some c.requires.base = ap (λ (t : Nodes). base_at t c.node.inside.place) c.self.view_is ∙ ap (λ (x : TakenNode). base_at c.args.self.now x.place) c.node.view_is ∙ c.requires.found in
+    let number = c.requires.same ∙ sym (ap (λ (x : TakenNode). x.number) c.node.view_is) in
+    let room = c.self.invariant.1 in
+    let some = back_some c.self.inside.root c.self.inside.kept.slots c.restage.new.kept.slots c.node.inside.place _ _ c.self.inside.queue.nodes c.push.new.self.nodes c.self.inside.parked.items c.self.inside.ids c.self.inside.in_work c.node.inside.id c.node.inside.bound c.requires.base c.self.invariant.0 w number c.restage.ensures.slots c.push.ensures.nodes in
+    let longer = length_permutation _ _ c.push.ensures.nodes in (
+      back_order c.self.inside.root c.self.inside.kept.slots c.restage.new.kept.slots c.node.inside.place _ _ c.self.inside.queue.nodes c.push.new.self.nodes c.self.inside.parked.items c.self.inside.ids c.self.inside.in_work c.node.inside.id c.node.inside.bound c.requires.base c.self.invariant.0 w number c.restage.ensures.slots c.push.ensures.nodes,
+      record {
+        queue = omega (arith, room.queue, c.push.ensures.room);
+        parked = omega (arith, room.parked, some, longer);
+        log = omega (arith, room.log, some, longer);
+      },
+    )
+
+pub returns-clause-nodes : goal.returns-clause-nodes
+returns-clause-nodes c =
+    let w : get_or (bases c.self.inside.kept.slots) c.node.inside.place None ≡ Some c.requires.base = ap (λ (t : Nodes). base_at t c.node.inside.place) c.self.view_is ∙ ap (λ (x : TakenNode). base_at c.args.self.now x.place) c.node.view_is ∙ c.requires.found in
+    let number = c.requires.same ∙ sym (ap (λ (x : TakenNode). x.number) c.node.view_is) in
+    let nodes = back_nodes c.self.inside.root c.self.inside.kept.slots c.restage.new.kept.slots c.node.inside.place _ _ c.self.inside.queue.nodes c.push.new.self.nodes c.self.inside.parked.items c.self.inside.ids c.self.inside.in_work c.node.inside.id c.node.inside.bound c.requires.base c.self.invariant.0 w number c.restage.ensures.slots c.push.ensures.nodes in
+    rw (← c.self.view_is, ← c.node.view_is)
+    (subst (λ b. IsPermutation ((let node : Node = record { number = c.node.inside.id; box = narrowed c.self.inside.root (reverse c.node.inside.notes.items ++ base_changes b); bound = c.node.inside.bound } in node) ∷ nodes_at c.self.inside.root c.self.inside.kept.slots c.self.inside.queue.nodes) (nodes_at c.self.inside.root c.restage.new.kept.slots c.push.new.self.nodes)) (sym w) nodes)
+
+pub returns-clause-taken : goal.returns-clause-taken
+returns-clause-taken c =
+    let w : get_or (bases c.self.inside.kept.slots) c.node.inside.place None ≡ Some c.requires.base = ap (λ (t : Nodes). base_at t c.node.inside.place) c.self.view_is ∙ ap (λ (x : TakenNode). base_at c.args.self.now x.place) c.node.view_is ∙ c.requires.found in
+    let number = c.requires.same ∙ sym (ap (λ (x : TakenNode). x.number) c.node.view_is) in
+    let gone = back_gone c.self.inside.root c.self.inside.kept.slots c.restage.new.kept.slots c.node.inside.place _ _ c.self.inside.queue.nodes c.push.new.self.nodes c.self.inside.parked.items c.self.inside.ids c.self.inside.in_work c.node.inside.id c.node.inside.bound c.requires.base c.self.invariant.0 w number c.restage.ensures.slots c.push.ensures.nodes in
+    let others = back_others c.self.inside.root c.self.inside.kept.slots c.restage.new.kept.slots c.node.inside.place _ _ c.self.inside.queue.nodes c.push.new.self.nodes c.self.inside.parked.items c.self.inside.ids c.self.inside.in_work c.node.inside.id c.node.inside.bound c.requires.base c.self.invariant.0 w number c.restage.ensures.slots c.push.ensures.nodes in
+    rw (← c.self.view_is, ← c.node.view_is) (record { gone = gone; others = others })
+
+pub returns-clause-rest : goal.returns-clause-rest
+returns-clause-rest c =
+    let w : get_or (bases c.self.inside.kept.slots) c.node.inside.place None ≡ Some c.requires.base = ap (λ (t : Nodes). base_at t c.node.inside.place) c.self.view_is ∙ ap (λ (x : TakenNode). base_at c.args.self.now x.place) c.node.view_is ∙ c.requires.found in
+    let number = c.requires.same ∙ sym (ap (λ (x : TakenNode). x.number) c.node.view_is) in
+    let parked = back_parked c.self.inside.root c.self.inside.kept.slots c.restage.new.kept.slots c.node.inside.place _ _ c.self.inside.queue.nodes c.push.new.self.nodes c.self.inside.parked.items c.self.inside.ids c.self.inside.in_work c.node.inside.id c.node.inside.bound c.requires.base c.self.invariant.0 w number c.restage.ensures.slots c.push.ensures.nodes in
+    rw (← c.self.view_is) (nodes_equal _ _ _ _ _ _ _ _ _ _ refl parked refl)

@@ -1,0 +1,85 @@
+-- How a tree changes from call to call.
+use Rattle.std.specs.Prelude.{◌≡◌, ◌≢◌, ℕ, ◌≤◌, ◌+◌, ◌^◌, ℤ, pos, ◌+ℤ◌, unsigned_abs, Bool, true, List, [], ◌∷◌, ◌++◌, map, Option, None, Some, All, Contains, filter}
+use Rattle.std.specs.List.Sorted.{IsPermutation}
+use Rattle.cip_rational.specs.Rational.{ℚ}
+use Rattle.cip_problem.specs.Program.{Sides}
+use Rattle.cip_problem.specs.Log.{Node, Entry, End, Split, Closed, Parked, low_half, high_half, CanSplit}
+use Rattle.cip_rational.specs.Rational.{integer}
+use Rattle.cip_problem.specs.Box.{sides_at}
+use Rattle.cip_problem.specs.Wholes.{HasWhole}
+use Rattle.cip_tree.specs.Bounds.{IsBoundAtMost}
+use Rattle.cip_tree.specs.Queue.{bound_below}
+use Rattle.cip_tree.specs.Nodes.{TakenNode, Base, Nodes, base_at, box_of, shown, IsTaken}
+
+-- a node is taken before another: without a bound, of lesser bound, or of lesser number
+pub record IsBefore (node other : Node) : Type 0 where
+  pub bounds : IsBoundAtMost node.bound other.bound
+  pub numbers : node.bound ≡ other.bound → node.number ≤ other.number
+
+-- a tree of one open node, the root, with this box and this bound, over so many columns of which these are whole
+pub record IsNew (tree : Nodes) (box : List Sides) (integral : List Bool) (bound : Option ℚ) : Type 0 where
+  pub open_ : tree.open_ ≡ tree.root ∷ []
+  pub root : tree.root ≡ record { number = 0; box = box; bound = bound }
+  pub integral_is : tree.integral ≡ integral
+  pub parked : tree.parked ≡ []
+  pub taken : (place : ℕ) → base_at tree place ≡ None
+  pub ids : tree.ids ≡ 1
+  pub log : tree.log ≡ []
+
+-- the first open node was taken, and no other one changed
+pub record TakesFirst (old new : Nodes) (node : TakenNode) : Type 0 where
+  pub nodes : IsPermutation old.open_ (shown new node ∷ new.open_)
+  pub first : All (IsBefore (shown new node)) new.open_
+  pub taken : IsTaken new node
+  pub fresh : base_at old node.place ≡ None
+  pub others : (place : ℕ) → place ≢ node.place → base_at new place ≡ base_at old place
+  pub rest : new ≡ record old { open_ = new.open_; taken = new.taken }
+
+-- the node kept at a place is in work no more, and the others are as they were
+pub record LetsGo (old new : Nodes) (place : ℕ) : Type 0 where
+  pub gone : base_at new place ≡ None
+  pub others : (other : ℕ) → other ≢ place → base_at new other ≡ base_at old other
+
+-- a bound is the least of the nodes' bounds, where none is less than each that is there
+pub record IsLeastBound (bound : Option ℚ) (nodes : List Node) : Type 0 where
+  pub node : Node
+  pub among : Contains nodes node
+  pub is : bound ≡ node.bound
+  pub least : All (λ other. IsBoundAtMost bound other.bound) nodes
+
+-- the node's bound is below a cost, or it has none
+abbrev pub is_cheaper : ℚ → Node → Bool
+is_cheaper cost node = bound_below cost node.bound
+
+-- ---- splits
+
+-- the sides of the values up to a whole number, and from the next one on
+abbrev pub low_sides : Sides → ℤ → Sides
+low_sides sides at = record { low = sides.low; high = Some (integer at) }
+
+abbrev pub high_sides : Sides → ℤ → Sides
+high_sides sides at = record { low = Some (integer (at +ℤ pos 1)); high = sides.high }
+
+-- sides can be split at a whole number that is not too far from 0: each half has a whole value
+pub record CanHalve (sides : Sides) (at : ℤ) : Type 0 where
+  pub near : unsigned_abs at ≤ 2 ^ 101
+  pub low : HasWhole (low_sides sides at)
+  pub high : HasWhole (high_sides sides at)
+
+-- a node in work was split: it has ended, and its halves are open, with its bound and the next two numbers
+pub record IsSplit (old new : Nodes) (node : TakenNode) (column : ℕ) (at : ℤ) (low high : ℕ) : Type 0 where
+  pub low_is : low ≡ old.ids
+  pub high_is : high ≡ old.ids + 1
+  pub near : unsigned_abs at ≤ 2 ^ 101
+  pub can : CanSplit old.integral (box_of old node) column at
+  pub nodes : IsPermutation
+      (record { number = low; box = low_half (box_of old node) column at; bound = node.bound }
+      ∷ record { number = high; box = high_half (box_of old node) column at; bound = node.bound } ∷ old.open_)
+      new.open_
+  pub taken : LetsGo old new node.place
+  pub rest : new ≡ record old {
+    open_ = new.open_;
+    taken = new.taken;
+    ids = old.ids + 2;
+    log = old.log ++ record { node = node.number; bound = node.bound; end = Split column at low high } ∷ [];
+  }

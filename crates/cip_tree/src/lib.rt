@@ -1,0 +1,17 @@
+//! The nodes of a search: those that are open, by bound; those that are parked; and what is kept of their boxes, which
+//! is what differs from node to node.
+#![tactic(auto)]
+
+mod changes;
+mod kept;
+mod logs;
+mod nodes;
+mod queue;
+mod splits;
+mod trees;
+
+pub use changes::Changes;
+pub use logs::{End, Logged};
+pub use nodes::Node;
+pub use splits::SplitFault;
+pub use trees::Tree;

@@ -1,0 +1,29 @@
+//! What a search did: one entry for each node that it took and ended.
+use cip_frac::Frac;
+
+/// How a node ended.
+#[derive(Clone, Copy, Debug, PartialEq, Eq)]
+pub enum End {
+    /// Two new nodes: `low` has the column at most `at`, `high` at least `at + 1`.
+    Split {
+        col: u32,
+        at: i128,
+        low: u64,
+        high: u64,
+    },
+    /// No point of the node's box is better than the point held.
+    Closed,
+    /// The node was put aside.
+    Parked,
+}
+
+/// A node that was taken and has ended, with the bound that it had then.
+#[derive(Clone, Copy, Debug, PartialEq, Eq)]
+pub struct Logged {
+    /// The node's number.
+    pub id: u64,
+    /// Its bound then, `None` where it had none.
+    pub bound: Option<Frac>,
+    /// How it ended.
+    pub end: End,
+}

@@ -1,0 +1,376 @@
+//! The tree of a search's nodes.
+ghost use Rattle.std.specs.Prelude.{MatchResult, OnOk, vec_len, vec_capacity, ◌≡◌, ◌≢◌, ◌+◌, ◌-◌, ◌<◌, ◌≤◌, ◌^◌, ℕ, [], ◌∷◌, ◌++◌, length, filter, IfOk, MatchOption, None, Some};
+ghost use Rattle.std.specs.List.Sorted.{IsPermutation};
+ghost use Rattle.slab.specs.Slab.{HasRoomFor};
+ghost use Rattle.cip_problem.specs.Log.{Closed, Parked, Split};
+ghost use Rattle.cip_problem.specs.Box.{sides_at};
+ghost use Rattle.cip_problem.specs.Wholes.{AllHaveWholes};
+ghost use Rattle.cip_tree.specs.Splitting.{IsSplitFault};
+ghost use Rattle.cip_tree.specs.Slots.{slot_at, open_slot};
+ghost use Rattle.cip_tree.specs.Entries.{entry_of, entries_of};
+ghost use Rattle.cip_tree.specs.Nodes.{IsTaken, node_changes, box_of, shown};
+ghost use Rattle.cip_tree.specs.Moves.{IsNew, IsSplit, TakesFirst, LetsGo, IsLeastBound, is_cheaper};
+
+use crate::changes::Changes;
+use crate::kept::{Kept, Stage, new_kept, origin_at, part, release, restage};
+use crate::logs::{End, Logged};
+use crate::nodes::Node;
+use crate::queue::{OpenNode, Queue};
+use crate::splits::{SplitFault, can_halve, flag_at, high_origin, low_origin, sides_past};
+use cip_frac::Frac;
+use cip_lin::{Bounds, Sides};
+use slab::Slab;
+use std::alloc::{AllocError, Global};
+use std::marker::Model;
+
+/// The nodes of a search. Contracts see the root, the open and the parked nodes with their boxes, what is kept of nodes
+/// in work, how many numbers were given, and the log.
+#[derive(Drop)]
+pub struct Tree {
+    alloc: Global,
+    root: Bounds,
+    root_bound: Option<Frac>,
+    whole: Vec<bool>,
+    kept: Slab<Kept>,
+    queue: Queue,
+    parked: Vec<OpenNode>,
+    log: Vec<Logged>,
+    ids: u64,
+    in_work: usize,
+}
+
+impl Model for Tree {
+    ghost use Rattle.std.specs.Prelude.{◌-◌, length, vec_len, vec_capacity};
+    ghost use Rattle.cip_tree.specs.Nodes.{Nodes, nodes_code};
+    ghost use Rattle.cip_tree.specs.Entries.{entries_of};
+    ghost use Rattle.cip_tree.specs.Inside.{nodes_at, bases, IsInOrder, HasRoom};
+
+    ghost Value = { Nodes };
+
+    ghost coded = { nodes_code };
+
+    ghost view = { λ t. record {
+      root = record { number = 0; box = t.root; bound = t.root_bound };
+      integral = t.whole.items;
+      open_ = nodes_at t.root t.kept.slots t.queue.nodes;
+      parked = nodes_at t.root t.kept.slots t.parked.items;
+      taken = bases t.kept.slots;
+      ids = t.ids;
+      log = entries_of t.log.items;
+    } };
+
+    ghost invariant = { λ t.
+        IsInOrder t.kept.slots t.queue.nodes t.parked.items t.ids t.in_work
+        × HasRoom (length t.queue.nodes) t.in_work t.queue.spare
+        (vec_capacity t.parked - vec_len t.parked) (vec_capacity t.log - vec_len t.log) };
+}
+
+/// What is kept of a root, and where.
+#[derive(Drop)]
+struct Rooted {
+    kept: Slab<Kept>,
+    place: usize,
+}
+
+/// The root of a tree, by itself; `Err` where the memory for it was refused.
+fn kept_root(alloc: Global) -> Result<Rooted, AllocError>
+    ensures { IfOk result (λ r. (slot_at r.kept.slots r.place ≡ Some (open_slot 0 None))
+        × ((other : ℕ) → other ≢ r.place → slot_at r.kept.slots other ≡ None)) }
+{
+    let mut kept = Slab::new(alloc);
+    let place = kept.insert(new_kept(alloc, 0, None))?;
+    Ok(Rooted { kept, place })
+}
+
+/// The root as an open node.
+fn first_node(bound: &Option<Frac>, place: usize) -> OpenNode
+    ensures { result ≡ record { bound = bound.now; id = 0; place = place } }
+{
+    OpenNode {
+        bound: *bound,
+        id: 0,
+        place,
+    }
+}
+
+/// Makes room for the halves of a node: to keep them, to wait, to be parked, and for their entries in the log and that of
+/// the node itself. `Err` comes where a growth was refused. The contents stay as they are.
+fn make_room(
+    kept: &mut Slab<Kept>,
+    queue: &mut Queue,
+    parked: &mut Vec<OpenNode>,
+    log: &mut Vec<Logged>,
+    in_work: usize,
+) -> Result<(), AllocError>
+    requires { length queue.old.nodes + in_work + 2 < 2 ^ 64 }
+    ensures kept { kept.new.slots ≡ kept.old.slots }
+    ensures queue { queue.new.nodes ≡ queue.old.nodes }
+    ensures parked { parked.new.items ≡ parked.old.items }
+    ensures log { log.new.items ≡ log.old.items }
+    ensures grows { (queue.old.spare ≤ queue.new.spare)
+        × (vec_capacity parked.old - vec_len parked.old ≤ vec_capacity parked.new - vec_len parked.new)
+        × (vec_capacity log.old - vec_len log.old ≤ vec_capacity log.new - vec_len log.new) }
+    ensures room { OnOk result (HasRoomFor kept.new 2
+        × (in_work + 1 ≤ queue.new.spare)
+        × (length queue.old.nodes + in_work + 1 ≤ vec_capacity parked.new - vec_len parked.new)
+        × (length queue.old.nodes + in_work + 2 ≤ vec_capacity log.new - vec_len log.new)) }
+{
+    kept.reserve(2)?;
+    queue.reserve(in_work + 1)?;
+    parked.reserve(queue.len() + in_work + 1)?;
+    log.reserve(queue.len() + in_work + 2)
+}
+
+/// A node that waits at a place, with the bound of another.
+fn open_node(node: &Node, id: u64, place: usize) -> OpenNode
+    ensures { result ≡ record { bound = node.now.bound; id = id; place = place } }
+{
+    OpenNode {
+        bound: node.bound,
+        id,
+        place,
+    }
+}
+
+/// The entry of a node that was split, whose halves have the number `low` and the next one.
+fn split_entry(node: &Node, col: u32, at: i128, low: u64) -> Logged
+    requires { low < 2 ^ 63 }
+    ensures { entry_of result ≡ record { node = node.now.number; bound = node.now.bound; end = Split col at low (low + 1) } }
+{
+    Logged {
+        id: node.id,
+        bound: node.bound,
+        end: End::Split {
+            col,
+            at,
+            low,
+            high: low + 1,
+        },
+    }
+}
+
+impl Tree {
+    /// The tree of one open node, number 0, with this box and this bound, `None` where none is known; `whole` says of
+    /// each column whether it wants whole values. `Err` comes where the memory for it was refused.
+    pub fn new(
+        alloc: Global,
+        root: Bounds,
+        whole: &[bool],
+        bound: Option<Frac>,
+    ) -> Result<Tree, AllocError>
+        requires { length whole.now ≡ length root }
+        ensures { IfOk result (λ tree. IsNew tree root whole.now bound) }
+    {
+        let whole = whole.to_vec(alloc)?;
+        let parked = Vec::with_capacity(alloc, 1)?;
+        let log = Vec::with_capacity(alloc, 1)?;
+        let Rooted { kept, place } = kept_root(alloc)?;
+        let queue = Queue::new(alloc, first_node(&bound, place))?;
+        Ok(Tree {
+            alloc,
+            root,
+            root_bound: bound,
+            whole,
+            kept,
+            queue,
+            parked,
+            log,
+            ids: 1,
+            in_work: 0,
+        })
+    }
+
+    /// How many nodes are open, those in work aside.
+    pub fn open_count(&self) -> usize
+        ensures { result ≡ length self.now.open_ }
+    {
+        self.queue.len()
+    }
+
+    /// How many numbers were given to nodes.
+    pub fn ids(&self) -> u64
+        ensures { result ≡ self.now.ids }
+    {
+        self.ids
+    }
+
+    /// The nodes that were taken and have ended, in that order.
+    pub fn log(&self) -> &[Logged]
+        ensures { entries_of result.now ≡ self.now.log }
+    {
+        self.log.as_slice()
+    }
+
+    /// The log by itself; the nodes are let go.
+    pub fn take_log(self) -> Vec<Logged>
+        ensures { entries_of result.items ≡ self.log }
+    {
+        self.log
+    }
+
+    /// The least bound of the open nodes, those in work aside: `Some(None)` where one of them has none; `None` exactly
+    /// where there is no such node.
+    pub fn bound(&self) -> Option<Option<Frac>>
+        ensures { MatchOption result (self.now.open_ ≡ []) (λ bound. IsLeastBound bound self.now.open_) }
+    {
+        self.queue.least()
+    }
+
+    /// The changes of a node in work and of those above it, the newest first: the root's box with the strongest change of
+    /// each side is the node's.
+    pub fn changes<'a>(&'a self, node: &'a Node) -> Changes<'a>
+        requires { IsTaken self.now node.now }
+        ensures { result ≡ node_changes self.now node.now }
+    {
+        Changes {
+            notes: node.notes.as_slice(),
+            number: node.id,
+            origin: origin_at(&self.kept, node.place),
+            kept: &self.kept,
+        }
+    }
+
+    /// The sides of a column in the box of a node in work.
+    fn sides(&self, node: &Node, col: u32) -> Sides
+        requires taken { IsTaken self.now node.now }
+        requires column { col < length self.now.root.box }
+        ensures { result ≡ sides_at (box_of self.now node.now) col }
+    {
+        let mut sides = self.root.sides(col);
+        for change in self.changes(node) {
+            sides = sides_past(sides, change, col);
+        }
+        sides
+    }
+
+    /// Splits a node in work at a whole number: it has ended, and its halves, in which the column is at most `at` and at
+    /// least `at + 1`, are open, with the two numbers that are answered. `NotWhole` comes exactly where the column isn't
+    /// whole; `Outside` exactly where it is, and `at` has a size above 2^101 or a half has no whole value in it;
+    /// `NoMemory` where a growth was refused. After an `Err` the tree is as it was.
+    pub fn split(&mut self, node: &Node, col: u32, at: i128) -> Result<(u64, u64), SplitFault>
+        requires taken { IsTaken self.old node.now }
+        requires column { col < length self.old.integral }
+        requires few { self.old.ids < 2 ^ 63 }
+        requires wholes { AllHaveWholes self.old.integral (box_of self.old node.now) }
+        ensures { MatchResult result
+            (λ halves. IsSplit self.old self.new node.now col at halves.0 halves.1)
+            (λ fault. (self.new ≡ self.old) × IsSplitFault self.old node.now col at fault) }
+    {
+        if !flag_at(self.whole.as_slice(), col) {
+            return Err(SplitFault::NotWhole);
+        }
+        if !can_halve(self.sides(node, col), at) {
+            return Err(SplitFault::Outside);
+        }
+        let notes = node.notes.as_slice().to_vec(self.alloc)?;
+        make_room(
+            &mut self.kept,
+            &mut self.queue,
+            &mut self.parked,
+            &mut self.log,
+            self.in_work,
+        )?;
+        let low = self.ids;
+        let high = low + 1;
+        let low_kept = new_kept(self.alloc, low, Some(low_origin(node.place, col, at)));
+        let high_kept = new_kept(self.alloc, high, Some(high_origin(node.place, col, at)));
+        let (low_place, high_place) = part(&mut self.kept, node.place, notes, low_kept, high_kept);
+        self.queue.push(open_node(node, high, high_place));
+        self.queue.push(open_node(node, low, low_place));
+        self.in_work -= 1;
+        self.ids = low + 2;
+        self.log.push_reserved(split_entry(node, col, at, low));
+        Ok((low, high))
+    }
+
+    /// Takes the first open node: one without a bound, then of least bound, then of least number; `None` exactly where
+    /// no node is open, which changes nothing.
+    pub fn next(&mut self) -> Option<Node>
+        ensures { MatchOption result ((self.old.open_ ≡ []) × (self.new ≡ self.old)) (TakesFirst self.old self.new) }
+    {
+        let first = self.queue.pop()?;
+        let none = Vec::new(self.alloc);
+        let notes = restage(&mut self.kept, first.place, none, Stage::Taken);
+        self.in_work += 1;
+        Some(Node {
+            id: first.id,
+            bound: first.bound,
+            place: first.place,
+            notes,
+        })
+    }
+
+    /// Closes the open nodes whose bound is at least a cost; those without a bound stay, and so do nodes in work. None of
+    /// them is logged. It looks at no node where none can have such a bound. What is kept of the closed ones goes with the
+    /// tree.
+    pub fn close_from(&mut self, cost: Frac)
+        ensures nodes { IsPermutation (filter (is_cheaper cost) self.old.open_) self.new.open_ }
+        ensures rest { self.new ≡ record self.old { open_ = self.new.open_ } }
+    {
+        if self.queue.reaches(cost) {
+            self.queue.keep_below(cost);
+        }
+    }
+
+    /// Makes a node in work open again. It isn't logged.
+    pub fn put_back(&mut self, node: Node)
+        requires { IsTaken self.old node }
+        ensures nodes { IsPermutation (shown self.old node ∷ self.old.open_) self.new.open_ }
+        ensures taken { LetsGo self.old self.new node.place }
+        ensures rest { self.new ≡ record self.old { open_ = self.new.open_; taken = self.new.taken } }
+    {
+        let Node {
+            id,
+            bound,
+            place,
+            notes,
+        } = node;
+        let _ = restage(&mut self.kept, place, notes, Stage::Open);
+        self.queue.push(OpenNode { bound, id, place });
+        self.in_work -= 1;
+    }
+
+    /// Puts a node in work aside, and logs it.
+    pub fn park(&mut self, node: Node)
+        requires { IsTaken self.old node }
+        ensures taken { LetsGo self.old self.new node.place }
+        ensures rest { self.new ≡ record self.old {
+          parked = self.old.parked ++ shown self.old node ∷ [];
+          taken = self.new.taken;
+          log = self.old.log ++ record { node = node.number; bound = node.bound; end = Parked } ∷ [];
+        } }
+    {
+        let entry = Logged {
+            id: node.id,
+            bound: node.bound(),
+            end: End::Parked,
+        };
+        let aside = OpenNode {
+            bound: node.bound(),
+            id: node.id,
+            place: node.place,
+        };
+        let _ = restage(&mut self.kept, node.place, node.notes, Stage::Parked);
+        self.parked.push_reserved(aside);
+        self.in_work -= 1;
+        self.log.push_reserved(entry);
+    }
+
+    /// Closes a node in work, and logs it.
+    pub fn close(&mut self, node: Node)
+        requires { IsTaken self.old node }
+        ensures taken { LetsGo self.old self.new node.place }
+        ensures rest { self.new ≡ record self.old {
+          taken = self.new.taken;
+          log = self.old.log ++ record { node = node.number; bound = node.bound; end = Closed } ∷ [];
+        } }
+    {
+        release(&mut self.kept, node.place);
+        self.in_work -= 1;
+        self.log.push_reserved(Logged {
+            id: node.id,
+            bound: node.bound,
+            end: End::Closed,
+        });
+    }
+}
