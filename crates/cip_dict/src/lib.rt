@@ -16,3 +16,6 @@ mod values;
 pub use cip_dictionary::{Line, Move, Place, Stand};
 pub use dict::Dict;
 pub use fault::{FirstFault, OutOfRange};
+
+#[cfg(test)]
+mod tests;

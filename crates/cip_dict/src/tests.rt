@@ -1,0 +1,126 @@
+//! Dictionaries of small programs, worked out by hand.
+ghost use Rattle.std.specs.Prelude.{◌≡◌, true};
+ghost use Rattle.cip_dictionary.specs.Dictionary.{CanStand};
+
+use super::*;
+use cip_frac::Frac;
+use cip_lin::Sides;
+use std::alloc::Global;
+use std::test::Fail;
+
+fn from(low: i64) -> Sides {
+    Sides {
+        low: Some(Frac::from(low)),
+        high: None,
+    }
+}
+
+fn between(low: i64, high: i64) -> Sides {
+    Sides {
+        low: Some(Frac::from(low)),
+        high: Some(Frac::from(high)),
+    }
+}
+
+// x from 0 to 4 and y from 0, the row r = 2x - 3y from 1, and the cost x + y
+fn small(alloc: Global) -> Result<Dict, FirstFault> {
+    let entries = [(0, 0, Frac::from(2)), (0, 1, Frac::from(-3))];
+    let costs = [Frac::from(1), Frac::from(1)];
+    Dict::first(
+        alloc,
+        &entries,
+        &[from(1)],
+        &[between(0, 4), from(0)],
+        &costs,
+    )
+}
+
+// an entry, where there is a row
+fn entry_at(dict: &Dict, i: u32, j: u32) -> Option<Frac> {
+    let len = dict.len();
+    if (i as usize) < len && (j as usize) < len && dict.stand(i).is_none() {
+        return Some(dict.entry(i, j));
+    }
+    None
+}
+
+// a value, where there is such a variable
+fn value_of(dict: &Dict, v: u32) -> Option<Frac> {
+    if (v as usize) < dict.len() {
+        return Some(dict.value(v));
+    }
+    None
+}
+
+fn can_stand(sides: Sides, to: Stand) -> bool
+    ensures { result ≡ true → CanStand sides to }
+{
+    match to {
+        Stand::Low => sides.low.is_some(),
+        Stand::High => sides.high.is_some(),
+        Stand::Zero => sides.low.is_none() && sides.high.is_none(),
+    }
+}
+
+// an exchange, where it can be made
+fn exchange(dict: &mut Dict, i: u32, j: u32, to: Stand) -> Option<Result<(), OutOfRange>> {
+    let len = dict.len();
+    if (i as usize) >= len || (j as usize) >= len {
+        return None;
+    }
+    if dict.stand(i).is_some() || dict.stand(j).is_none() || !can_stand(dict.sides(i), to) {
+        return None;
+    }
+    if dict.entry(i, j).is_zero() {
+        return None;
+    }
+    Some(dict.exchange(i, j, to))
+}
+
+// a flip, where it can be made
+fn flip(dict: &mut Dict, j: u32) -> Option<Result<(), OutOfRange>> {
+    if (j as usize) >= dict.len() || dict.stand(j).is_none() {
+        return None;
+    }
+    let sides = dict.sides(j);
+    if sides.low.is_none() || sides.high.is_none() {
+        return None;
+    }
+    Some(dict.flip(j))
+}
+
+fn ratio(p: i128, q: i128) -> Option<Frac> {
+    Frac::new(p, q).ok()
+}
+
+#[test]
+fn an_exchange_solves_the_row_for_its_column(rt: HostRuntime) -> Result<(), Fail> {
+    let Ok(mut dict) = small(rt.alloc()) else {
+        return Err(Fail::new("a first state"));
+    };
+    assert_eq!(rt; value_of(&dict, 2), ratio(0, 1));
+    assert_eq!(rt; exchange(&mut dict, 2, 0, Stand::Low), Some(Ok(())));
+    assert_eq!(rt; entry_at(&dict, 0, 2), ratio(1, 2));
+    assert_eq!(rt; entry_at(&dict, 0, 1), ratio(3, 2));
+    assert_eq!(rt; entry_at(&dict, 2, 1), None);
+    assert_eq!(rt; value_of(&dict, 0), ratio(1, 2));
+    assert_eq!(rt; value_of(&dict, 2), ratio(1, 1));
+    assert_eq!(rt; Some(dict.cost()), ratio(1, 2));
+    assert_eq!(rt; exchange(&mut dict, 0, 2, Stand::High), Some(Ok(())));
+    assert_eq!(rt; entry_at(&dict, 2, 1), ratio(-3, 1));
+    assert_eq!(rt; value_of(&dict, 2), ratio(8, 1));
+    Ok(())
+}
+
+#[test]
+fn a_flip_goes_to_the_other_side(rt: HostRuntime) -> Result<(), Fail> {
+    let Ok(mut dict) = small(rt.alloc()) else {
+        return Err(Fail::new("a first state"));
+    };
+    assert_eq!(rt; flip(&mut dict, 0), Some(Ok(())));
+    assert_eq!(rt; value_of(&dict, 0), ratio(4, 1));
+    assert_eq!(rt; value_of(&dict, 2), ratio(8, 1));
+    assert_eq!(rt; Some(dict.cost()), ratio(4, 1));
+    assert_eq!(rt; flip(&mut dict, 1), None);
+    Ok(())
+}
