@@ -162,9 +162,9 @@ impl Dict {
         }
     }
 
-    /// Takes the nonbasic variable j, which has two sides, from the one where it stands to the other. `OutOfRange` comes
-    /// exactly where an operation of the flip leaves the range, and names the place of the first; then the state is as
-    /// before.
+    /// Takes the nonbasic variable j, which has two sides, from the one where it stands to the other. `OutOfRange`
+    /// comes exactly where an operation of the flip leaves the range, and names the place of the first; then the state
+    /// is as before.
     pub fn flip(&mut self, j: u32) -> Result<(), OutOfRange>
         requires { CanFlip self.old j }
         ensures { MatchResult result

@@ -44,7 +44,8 @@ fn write_row(
     ensures written { MatchResult result
         (λ _. (first_overflow (form_operations_in standing.now i j q (value_at new.now) v row.now) ≡ None)
         × (out.new ≡ written_form standing.now i j q (value_at new.now) v row.now out.old))
-        (λ fault. first_overflow (form_operations_in standing.now i j q (value_at new.now) v row.now) ≡ Some fault.place) }
+        (λ fault. first_overflow (form_operations_in standing.now i j q (value_at new.now) v row.now)
+        ≡ Some fault.place) }
     ensures long { length out.new ≡ length out.old }
 {
     if is_changed(standing, i, j, v, row) {

@@ -101,7 +101,8 @@ impl DomainStore {
         requires room { 0 < self.old.spare }
         ensures outcome { result ≡ tightening (sides_at self.old.box col) side value }
         ensures after { self.new ≡ after_tightening result self.old col side value }
-        ensures narrows { result ≢ Empty → self.new.box ≡ tightened self.old.box (record { column = col; side = side; value = value }) }
+        ensures narrows { result ≢ Empty
+            → self.new.box ≡ tightened self.old.box (record { column = col; side = side; value = value }) }
     {
         let sides = self.bounds.sides(col);
         if is_strong(sides, side, value) {

@@ -12,7 +12,8 @@ use Rattle.cip_tree.specs.Nodes.{Base}
 
 -- a node that is kept at a place
 abbrev pub node_at : List Sides → Slots → OpenNode → Node
-node_at box slots node = record { number = node.id; box = narrowed box (changes_at slots node.place); bound = node.bound }
+node_at box slots node =
+    record { number = node.id; box = narrowed box (changes_at slots node.place); bound = node.bound }
 
 -- the nodes that are kept at places
 abbrev pub nodes_at : List Sides → Slots → List OpenNode → List Node

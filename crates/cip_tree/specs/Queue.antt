@@ -17,7 +17,8 @@ abbrev pub order : OpenNode → OpenNode → Ordering
 order x y = ordering_then (option_cmp compare_rational y.bound x.bound) (nat_cmp y.id x.id)
 
 pub order_total : IsTotalOrder order
-order_total = back_total (then_total (on_total (λ e. e.bound) (options_total compare_total)) (on_total (λ e. e.id) nat_cmp_total))
+order_total =
+    back_total (then_total (on_total (λ e. e.bound) (options_total compare_total)) (on_total (λ e. e.id) nat_cmp_total))
 
 pub order_equivalence : IsEquivalence (eq_by_cmp order)
 order_equivalence = eq_by_cmp_equiv order_total

@@ -80,7 +80,10 @@ fn whole(at: i128) -> Frac
 /// How the low half of a split is given.
 pub(crate) fn low_origin(parent: usize, col: u32, at: i128) -> Origin
     requires { unsigned_abs at ≤ 2 ^ 101 }
-    ensures { result ≡ record { parent = parent; change = record { column = col; side = Side.High; value = integer at } } }
+    ensures { result ≡ record {
+      parent = parent;
+      change = record { column = col; side = Side.High; value = integer at };
+    } }
 {
     let change = Change {
         col,
@@ -93,7 +96,10 @@ pub(crate) fn low_origin(parent: usize, col: u32, at: i128) -> Origin
 /// How the high half of a split is given.
 pub(crate) fn high_origin(parent: usize, col: u32, at: i128) -> Origin
     requires { unsigned_abs at ≤ 2 ^ 101 }
-    ensures { result ≡ record { parent = parent; change = record { column = col; side = Side.Low; value = integer (at +ℤ pos 1) } } }
+    ensures { result ≡ record {
+      parent = parent;
+      change = record { column = col; side = Side.Low; value = integer (at +ℤ pos 1) };
+    } }
 {
     let change = Change {
         col,

@@ -93,8 +93,8 @@ fn first_node(bound: &Option<Frac>, place: usize) -> OpenNode
     }
 }
 
-/// Makes room for the halves of a node: to keep them, to wait, to be parked, and for their entries in the log and that of
-/// the node itself. `Err` comes where a growth was refused. The contents stay as they are.
+/// Makes room for the halves of a node: to keep them, to wait, to be parked, and for their entries in the log and that
+/// of the node itself. `Err` comes where a growth was refused. The contents stay as they are.
 fn make_room(
     kept: &mut Slab<Kept>,
     queue: &mut Queue,
@@ -135,7 +135,11 @@ fn open_node(node: &Node, id: u64, place: usize) -> OpenNode
 /// The entry of a node that was split, whose halves have the number `low` and the next one.
 fn split_entry(node: &Node, col: u32, at: i128, low: u64) -> Logged
     requires { low < 2 ^ 63 }
-    ensures { entry_of result ≡ record { node = node.now.number; bound = node.now.bound; end = Split col at low (low + 1) } }
+    ensures { entry_of result ≡ record {
+      node = node.now.number;
+      bound = node.now.bound;
+      end = Split col at low (low + 1);
+    } }
 {
     Logged {
         id: node.id,
@@ -216,8 +220,8 @@ impl Tree {
         self.queue.least()
     }
 
-    /// The changes of a node in work and of those above it, the newest first: the root's box with the strongest change of
-    /// each side is the node's.
+    /// The changes of a node in work and of those above it, the newest first: the root's box with the strongest change
+    /// of each side is the node's.
     pub fn changes<'a>(&'a self, node: &'a Node) -> Changes<'a>
         requires { IsTaken self.now node.now }
         ensures { result ≡ node_changes self.now node.now }
@@ -243,9 +247,9 @@ impl Tree {
         sides
     }
 
-    /// Splits a node in work at a whole number: it has ended, and its halves, in which the column is at most `at` and at
-    /// least `at + 1`, are open, with the two numbers that are answered. `NotWhole` comes exactly where the column isn't
-    /// whole; `Outside` exactly where it is, and `at` has a size above 2^101 or a half has no whole value in it;
+    /// Splits a node in work at a whole number: it has ended, and its halves, in which the column is at most `at` and
+    /// at least `at + 1`, are open, with the two numbers that are answered. `NotWhole` comes exactly where the column
+    /// isn't whole; `Outside` exactly where it is, and `at` has a size above 2^101 or a half has no whole value in it;
     /// `NoMemory` where a growth was refused. After an `Err` the tree is as it was.
     pub fn split(&mut self, node: &Node, col: u32, at: i128) -> Result<(u64, u64), SplitFault>
         requires taken { IsTaken self.old node.now }
@@ -300,9 +304,9 @@ impl Tree {
         })
     }
 
-    /// Closes the open nodes whose bound is at least a cost; those without a bound stay, and so do nodes in work. None of
-    /// them is logged. It looks at no node where none can have such a bound. What is kept of the closed ones goes with the
-    /// tree.
+    /// Closes the open nodes whose bound is at least a cost; those without a bound stay, and so do nodes in work. None
+    /// of them is logged. It looks at no node where none can have such a bound. What is kept of the closed ones goes
+    /// with the tree.
     pub fn close_from(&mut self, cost: Frac)
         ensures nodes { IsPermutation (filter (is_cheaper cost) self.old.open_) self.new.open_ }
         ensures rest { self.new ≡ record self.old { open_ = self.new.open_ } }
