@@ -36,7 +36,8 @@ lines_operations standing i j q lists =
 
 -- the rows that change and the row of the cost are written; what stood there stays where a row doesn't change, and the
 -- room for the row that enters and for the values is as it was
-pub record OthersWritten (standing : List (Option Stand)) (i j : ℕ) (q : ℚ) (lists : Lists) (old new : Room) : Type 0 where
+pub record OthersWritten
+    (standing : List (Option Stand)) (i j : ℕ) (q : ℚ) (lists : Lists) (old new : Room) : Type 0 where
   pub entering : new.entering ≡ old.entering
   pub rows : new.rows.items
       ≡ table (length standing)
@@ -47,7 +48,8 @@ pub record OthersWritten (standing : List (Option Stand)) (i j : ℕ) (q : ℚ) 
       (substituted (basic_in standing) i j q (entering_in standing i j q lists) (value_at lists.costs.items))
 
 -- and so is the row that enters
-pub record LinesWritten (standing : List (Option Stand)) (i j : ℕ) (q : ℚ) (lists : Lists) (old new : Room) : Type 0 where
+pub record LinesWritten
+    (standing : List (Option Stand)) (i j : ℕ) (q : ℚ) (lists : Lists) (old new : Room) : Type 0 where
   pub entering : new.entering ≡ table (length standing) (entering_in standing i j q lists)
   pub rows : new.rows.items
       ≡ table (length standing)
@@ -66,7 +68,8 @@ moves_operations standing j t lists =
     ++ sum_at (value_place Cost) lists.cost (value_at lists.costs.items j) t
 
 -- the values are written, and the cost is this; the room for rows is as it was
-pub record MovesWritten (standing : List (Option Stand)) (j : ℕ) (t : ℚ) (lists : Lists) (old new : Room) (cost : ℚ) : Type 0 where
+pub record MovesWritten
+    (standing : List (Option Stand)) (j : ℕ) (t : ℚ) (lists : Lists) (old new : Room) (cost : ℚ) : Type 0 where
   pub entering : new.entering ≡ old.entering
   pub rows : new.rows.items ≡ old.rows.items
   pub costs : new.costs.items ≡ old.costs.items
@@ -103,7 +106,9 @@ entered_form i j rows new v =
     if v == i then row_in rows j else (if v == j then new else row_in rows v)
 
 -- what is written has come in for what it replaces, and has left its room to that
-pub record IsTakenOver (standing : List (Option Stand)) (i j : ℕ) (to : Stand) (cost : ℚ) (lists : Lists) (room : Room) (later : List (Option Stand)) (new : Lists) (rest : Room) : Type 0 where
+pub record IsTakenOver
+    (standing : List (Option Stand)) (i j : ℕ) (to : Stand) (cost : ℚ) (lists : Lists) (room : Room)
+    (later : List (Option Stand)) (new : Lists) (rest : Room) : Type 0 where
   pub stands : later ≡ slice_set (slice_set standing i (Some to)) j None
   pub rows : (v : ℕ) → v < length standing → row_in new.rows.items v
       ≡ entered_form i j (table (length standing) (taken_form standing i j lists.rows.items room.rows.items))
@@ -134,7 +139,9 @@ pub record IsFlipPlanned (d : Dictionary) (j : ℕ) (old new : Room) (cost : ℚ
   pub cost_is : cost ≡ moved_cost d j (way d j)
 
 -- what a flip wrote has come in for what it replaces
-pub record IsFlipTaken (standing : List (Option Stand)) (j : ℕ) (cost : ℚ) (lists : Lists) (room : Room) (later : List (Option Stand)) (new : Lists) (rest : Room) : Type 0 where
+pub record IsFlipTaken
+    (standing : List (Option Stand)) (j : ℕ) (cost : ℚ) (lists : Lists) (room : Room)
+    (later : List (Option Stand)) (new : Lists) (rest : Room) : Type 0 where
   pub stands : later ≡ slice_set standing j (Some (other_stand (slice_index_or standing j None)))
   pub rows : new.rows.items ≡ lists.rows.items
   pub costs : new.costs.items ≡ lists.costs.items

@@ -130,7 +130,8 @@ impl Row {
     /// `NoMemory` only where the term could stand there. After an `Err` the row is as before.
     pub fn append(&mut self, term: Term) -> Result<(), RowFault>
         ensures { MatchResult result
-            (λ _. (self.new ≡ record self.old { terms = self.old.terms ++ term ∷ [] }) × CanStandAfter self.old.terms term)
+            (λ _. (self.new ≡ record self.old { terms = self.old.terms ++ term ∷ [] })
+            × CanStandAfter self.old.terms term)
             (λ fault. (self.new ≡ self.old) × IsAppendFault self.old.terms term fault) }
     {
         let at = self.terms.len();

@@ -11,4 +11,5 @@ use Rattle.cip_model.specs.Verdicts.{verdict_of}
 -- no sum of a row or of the cost overflows at a point of the box with whole values on whole columns
 abbrev pub CanCheck : Program → Type 0
 CanCheck program =
-    (point : List ℚ) (place : Place) → IsInBox program.bounds point → AreWhole program.integral point → verdict_of program point ≢ Wide place
+    (point : List ℚ) (place : Place) → IsInBox program.bounds point → AreWhole program.integral point
+    → verdict_of program point ≢ Wide place

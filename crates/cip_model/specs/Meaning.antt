@@ -18,7 +18,8 @@ use Rattle.cip_model.specs.declared.verdicts.Verdict.TheVariants.{Feasible, Brea
 -- the value of a column is not between its sides
 pub record IsOutside (program : Program) (point : List ℚ) (column : ℕ) : Type 0 where
   pub is_column : column < columns program
-  pub outside : ¬ Between (sides_at program.bounds column).low (sides_at program.bounds column).high (value_at point column)
+  pub outside : ¬ Between (sides_at program.bounds column).low (sides_at program.bounds column).high
+      (value_at point column)
 
 -- a column is to be whole, and its value is fractional
 pub record IsFractional (program : Program) (point : List ℚ) (column : ℕ) : Type 0 where

@@ -47,8 +47,8 @@ fn thin_texts_are_solved(rt: HostRuntime) -> Result<(), Fail> {
 
 #[test]
 fn no_row_and_no_column(rt: HostRuntime) -> Result<(), Fail> {
-    let text =
-        "NAME\nOBJSENSE\n MAX\nROWS\n N COST\nCOLUMNS\n M 'MARKER' 'INTORG'\n M 'MARKER' 'INTEND'\nRHS\nBOUNDS\nENDATA\n";
+    let text = "NAME\nOBJSENSE\n MAX\nROWS\n N COST\nCOLUMNS
+ M 'MARKER' 'INTORG'\n M 'MARKER' 'INTEND'\nRHS\nBOUNDS\nENDATA\n";
     let outcome = solve(rt.alloc(), text.as_bytes())?;
     assert_eq!(rt;
         outcome.taken.as_slice(),

@@ -15,7 +15,9 @@ use Rattle.cip_solve.specs.Right.{IsHeld}
 
 -- the search is right so far, its bound is the box bound of the program, the point held is feasible, and the numbers
 -- given are few
-pub record Kept (program : Program) (log : List Entry) (bound : Option ℚ) (held : Held) (ids : ℕ) (bounds : List Sides) (deepest : ℕ) (nodes : List OpenNode) : Type 0 where
+pub record Kept
+    (program : Program) (log : List Entry) (bound : Option ℚ) (held : Held) (ids : ℕ) (bounds : List Sides)
+    (deepest : ℕ) (nodes : List OpenNode) : Type 0 where
   pub formed : IsWellFormed program
   pub searching : Searching program log bound held.cost ids (nodes_at bounds program.bounds bound nodes)
   pub stacked : Stacked bounds program.bounds deepest nodes
@@ -26,7 +28,8 @@ pub record Kept (program : Program) (log : List Entry) (bound : Option ℚ) (hel
 -- how a search ends: with no open node; with its budget spent and open nodes that matter; or without memory
 abbrev pub SearchEnds : ℕ → List Entry → Option ℚ → Held → List OpenNode → Ended → Type 0
 SearchEnds node_limit log bound held nodes Optimal = nodes ≡ []
-SearchEnds node_limit log bound held nodes NodeLimit = (length log ≡ node_limit) × (nodes ≢ []) × (matters (Some held.cost) bound ≡ true)
+SearchEnds node_limit log bound held nodes NodeLimit = (length log ≡ node_limit) × (nodes ≢ [])
+    × (matters (Some held.cost) bound ≡ true)
 SearchEnds node_limit log bound held nodes NoMemory = ⊤
 
 -- the bound at the end: the cost held where no node is open, and else that of the root

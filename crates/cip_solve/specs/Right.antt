@@ -40,7 +40,8 @@ pub record IsRight (program : Program) (node_limit : ℕ) (log : List Entry) (an
   pub unspent : answer.ended ≡ Optimal → ¬ SpendsBudget program node_limit log answer
   pub logged : IsLog program log
 
--- a search added its log, and its answer is right; where memory was refused before it had room for a log, none was added
+-- a search added its log, and its answer is right; where memory was refused before it had room for a log,
+-- none was added
 abbrev pub Searched : Program → ℕ → List Log → List Log → Answer → Type 0
 Searched program node_limit old new answer =
     ((log : Log) × (new ≡ old ++ log ∷ []) × IsRight program node_limit (entries_of log) answer)

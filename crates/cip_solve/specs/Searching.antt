@@ -29,7 +29,8 @@ pub record IsInner (program : Program) (box : List Sides) : Type 0 where
 -- the log is right; the nodes are open in it and have different numbers, all below `ids`, the bound and inner boxes;
 -- each feasible point that is cheaper than the cost held lies in one of their boxes; and as long as it matters, no
 -- other node is open
-pub record Searching (program : Program) (log : List Entry) (bound : Option ℚ) (cost : ℚ) (ids : ℕ) (nodes : List Node) : Type 0 where
+pub record Searching
+    (program : Program) (log : List Entry) (bound : Option ℚ) (cost : ℚ) (ids : ℕ) (nodes : List Node) : Type 0 where
   pub logged : IsLog program log
   pub are_open : All (IsOpen program log) nodes
   pub apart : Pairwise (λ node other. node.number ≢ other.number) nodes

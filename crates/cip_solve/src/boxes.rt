@@ -19,7 +19,8 @@ fn restore(bounds: &mut Bounds, outer: &Bounds, column: u32, deepest: u32)
     requires kept { KeptPast deepest bounds.old outer.now }
     requires reach { 0 < deepest → deepest < length outer.now }
     ensures kept { KeptPast column bounds.new outer.now }
-    ensures same { (at : ℕ) (sides : problem.Sides) → at ≤ column → changed_box bounds.new outer.now at sides ≡ changed_box bounds.old outer.now at sides }
+    ensures same { (at : ℕ) (sides : problem.Sides) → at ≤ column
+        → changed_box bounds.new outer.now at sides ≡ changed_box bounds.old outer.now at sides }
 {
     let mut last = deepest;
     while column < last {

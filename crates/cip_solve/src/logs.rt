@@ -57,7 +57,8 @@ impl Log {
     /// Adds an entry at the end, for which there is room.
     pub(crate) fn add(&mut self, id: u64, bound: Option<Frac>, end: End)
         requires room { vec_len self.old.taken < vec_capacity self.old.taken }
-        ensures { entries_of self.new ≡ entries_of self.old ++ record { node = id; bound = bound; end = end_of end } ∷ [] }
+        ensures { entries_of self.new ≡ entries_of self.old
+            ++ record { node = id; bound = bound; end = end_of end } ∷ [] }
     {
         let _ = self.taken.push(Logged { id, bound, end });
     }

@@ -71,8 +71,12 @@ impl Search {
         requires long { length point.old ≡ columns program.now }
         requires log_room { vec_len log.old.taken < vec_capacity log.old.taken }
         requires room { vec_len self.old.stack.nodes + 2 ≤ vec_capacity self.old.stack.nodes }
-        requires kept { let s = self.old in Kept program.now (entries_of log.old) s.bound s.held s.stack.ids s.work.bounds s.work.deepest (s.stack.nodes.items ++ node ∷ []) }
-        ensures kept { let s = self.new in Kept program.now (entries_of log.new) s.bound s.held s.stack.ids s.work.bounds s.work.deepest s.stack.nodes.items }
+        requires kept { let s = self.old in
+            Kept program.now (entries_of log.old) s.bound s.held s.stack.ids s.work.bounds s.work.deepest
+            (s.stack.nodes.items ++ node ∷ []) }
+        ensures kept { let s = self.new in
+            Kept program.now (entries_of log.new) s.bound s.held s.stack.ids s.work.bounds s.work.deepest
+            s.stack.nodes.items }
         ensures grown { length (entries_of log.new) ≡ length (entries_of log.old) + 1 }
         ensures lower { self.new.held.cost ≤ℚ self.old.held.cost }
     {
@@ -105,10 +109,15 @@ impl Search {
         requires can_check { CanCheck program.now }
         requires long { length point.old ≡ columns program.now }
         requires some { 0 < vec_len self.old.stack.nodes }
-        requires kept { let s = self.old in Kept program.now (entries_of log.old) s.bound s.held s.stack.ids s.work.bounds s.work.deepest s.stack.nodes.items }
-        ensures kept { let s = self.new in Kept program.now (entries_of log.new) s.bound s.held s.stack.ids s.work.bounds s.work.deepest s.stack.nodes.items }
+        requires kept { let s = self.old in
+            Kept program.now (entries_of log.old) s.bound s.held s.stack.ids s.work.bounds s.work.deepest
+            s.stack.nodes.items }
+        ensures kept { let s = self.new in
+            Kept program.now (entries_of log.new) s.bound s.held s.stack.ids s.work.bounds s.work.deepest
+            s.stack.nodes.items }
         ensures grown { OnOk result (length (entries_of log.new) ≡ length (entries_of log.old) + 1) }
-        ensures closed { OnOk result (matters (Some self.new.held.cost) self.new.bound ≡ false → self.new.stack.nodes.items ≡ []) }
+        ensures closed { OnOk result (matters (Some self.new.held.cost) self.new.bound ≡ false
+            → self.new.stack.nodes.items ≡ []) }
         ensures lower { self.new.held.cost ≤ℚ self.old.held.cost }
     {
         log.taken.reserve(1)?;
@@ -136,9 +145,14 @@ impl Search {
         requires long { length point.old ≡ columns program.now }
         requires limit { 0 < node_limit }
         requires empty { entries_of log.old ≡ [] }
-        requires kept { let s = self.old in Kept program.now (entries_of log.old) s.bound s.held s.stack.ids s.work.bounds s.work.deepest s.stack.nodes.items }
-        ensures kept { let s = self.new in Kept program.now (entries_of log.new) s.bound s.held s.stack.ids s.work.bounds s.work.deepest s.stack.nodes.items }
-        ensures ended { let s = self.new in SearchEnds node_limit (entries_of log.new) s.bound s.held s.stack.nodes.items result }
+        requires kept { let s = self.old in
+            Kept program.now (entries_of log.old) s.bound s.held s.stack.ids s.work.bounds s.work.deepest
+            s.stack.nodes.items }
+        ensures kept { let s = self.new in
+            Kept program.now (entries_of log.new) s.bound s.held s.stack.ids s.work.bounds s.work.deepest
+            s.stack.nodes.items }
+        ensures ended { let s = self.new in
+            SearchEnds node_limit (entries_of log.new) s.bound s.held s.stack.nodes.items result }
         ensures lower { self.new.held.cost ≤ℚ self.old.held.cost }
     {
         for _ in 0..node_limit {
@@ -158,7 +172,12 @@ impl Search {
 
     /// The figures at the end: where no node is open, the bound is the cost held.
     fn answer(self, ended: Ended) -> Answer
-        ensures { result ≡ record { ended = ended; best = Some self.held; bound = final_bound self.bound self.held.cost self.stack.nodes.items } }
+        ensures { result
+            ≡ record {
+              ended = ended;
+              best = Some self.held;
+              bound = final_bound self.bound self.held.cost self.stack.nodes.items;
+            } }
     {
         let Search {
             held,

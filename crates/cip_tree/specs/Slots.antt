@@ -122,7 +122,8 @@ pub record IsRestaged (old new : Slots) (place : ℕ) (had notes : List Change) 
   pub others : (other : ℕ) → other ≢ place → slot_at new other ≡ slot_at old other
 
 -- the node at a place was split: it has ended with these notes, and its halves stand at two new places
-pub record IsParted (old new : Slots) (place : ℕ) (notes : List Change) (low high : Slot) (low_place high_place : ℕ) : Type 0
+pub record IsParted
+    (old new : Slots) (place : ℕ) (notes : List Change) (low high : Slot) (low_place high_place : ℕ) : Type 0
   where
     pub slot : Slot
     pub was : slot_at old place ≡ Some slot
