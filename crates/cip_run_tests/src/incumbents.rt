@@ -70,8 +70,12 @@ fn cheaper_points_are_held(rt: HostRuntime) -> Result<(), Fail> {
         offer(&mut incumbent, &program, &point),
         Some(Offered::Breaks(six))
     );
-    let held = incumbent.held().ok_or("nothing is held")?;
     let best = [Frac::from(2), Frac::from(0), Frac::from(1)];
-    assert_eq!(rt; held.1, best.as_slice());
+    match incumbent.held() {
+        Some((_, point)) => {
+            assert_eq!(rt; point, best.as_slice());
+        }
+        None => return Err(Fail::from("nothing is held")),
+    }
     Ok(())
 }
