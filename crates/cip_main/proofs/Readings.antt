@@ -8,8 +8,8 @@ use Rattle.cip_problem.specs.Limits.{longest_text}
 use Rattle.cip_problem.specs.Program.{Program}
 use Rattle.cip_reading.specs.Reading.Texts.{read}
 use Rattle.cip_reading.specs.Reading.Laws.{read_thin, refused}
-use Rattle.cip_mps.specs.HasRead.{HasRead}
-use Rattle.cip_mps.specs.declared.reader.Reader.{Reader}
+use Rattle.cip_thin_reader.specs.HasRead.{HasRead}
+use Rattle.cip_thin_reader.specs.declared.reader.Reader.{Reader}
 use Rattle.cip_main.specs.Pulling.{IsPulled, IsNotThin, Reads, Refuses, ReadCause, most_pulled, IsReading, IsReadToEnd, ReadsPiece, IsAllRead, IsTooLong, EndsOrNot, EndCause}
 use Rattle.cip_main.specs.Running.{Call, TellsPlain, IsUnread}
 use Rattle.cip_main.specs.declared.plain.Plain.{Plain}

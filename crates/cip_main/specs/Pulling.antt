@@ -6,8 +6,8 @@ use Rattle.cip_problem.specs.Limits.{longest_text}
 use Rattle.cip_problem.specs.Program.{Program}
 use Rattle.cip_syntax.specs.ThinText.{IsThin}
 use Rattle.cip_reading.specs.Reading.Texts.{read}
-use Rattle.cip_mps.specs.HasRead.{HasRead}
-use Rattle.cip_mps.specs.declared.reader.Reader.{Reader}
+use Rattle.cip_thin_reader.specs.HasRead.{HasRead}
+use Rattle.cip_thin_reader.specs.declared.reader.Reader.{Reader}
 use Rattle.cip_main.specs.declared.plain.Plain.{Plain}
 use Rattle.cip_main.specs.declared.plain.Plain.TheVariants.{Usage, ReadFault, Refused, NoMemory}
 

@@ -2,14 +2,14 @@
 ghost use Rattle.std.specs.Prelude.{◌≡◌, ◌<◌, ◌≤◌, ℕ, List, [], Some, MatchResult, IfOk, length, ⊤};
 ghost use Rattle.cip_reading.specs.Reading.Texts.{read};
 ghost use Rattle.cip_io.specs.Store.{StoreTells};
-ghost use Rattle.cip_mps.specs.HasRead.{HasRead};
+ghost use Rattle.cip_thin_reader.specs.HasRead.{HasRead};
 ghost use Rattle.cip_main.specs.Pulling.{IsReading, ReadsPiece, EndsOrNot, Reads, ReadCause, PieceCause, EndCause};
 ghost use Rattle.cip_main.specs.declared.reader.TheConstants.{PIECE};
 
 use crate::plain::Plain;
 use cip_io::Store;
 use cip_model::{LONGEST_TEXT, Program};
-use cip_mps::{Reader, Refusal};
+use cip_thin_reader::{Reader, Refusal};
 use std::alloc::Global;
 
 /// The most bytes that are pulled at once.

@@ -2,13 +2,14 @@
 use Rattle.std.proofs.Common.{◌≡◌, ◌⊎◌, inl, inr, ℕ, ◌+◌, ◌≤◌, Bool, true, false, cond, List, [], ◌∷◌, ◌++◌, length, Option, None, Some, refl, sym, ap, ◌∙◌}
 use Rattle.std.specs.Prelude.{take, nat_le}
 use Rattle.std.proofs.lemmas.Bool.{cond-true, le-leb, leb-true}
+use Rattle.cip_problem.specs.Limits.{longest_text}
 use Rattle.cip_problem.specs.Program.{Program}
 use Rattle.cip_syntax.specs.Lines.{lines}
 use Rattle.cip_mps_rules.specs.MpsSayings.{Said, sayings_of}
 use Rattle.cip_mps_rules.specs.MpsFacts.{Facts, no_facts, facts_with}
 use Rattle.cip_mps_rules.specs.MpsProgram.{program_of}
 use Rattle.cip_mps_rules.specs.MpsRules.{fault_of, is_end}
-use Rattle.cip_mps_rules.specs.MpsOutcome.{Outcome, Means, Faulty, outcome_at, outcome_after, outcome_of_lines, outcome_of_start, too_long, most_bytes, outcome_of, HasProgram, HasFault}
+use Rattle.cip_mps_rules.specs.MpsOutcome.{Outcome, Means, Faulty, outcome_at, outcome_after, outcome_of_lines, outcome_of_start, too_long, outcome_of, HasProgram, HasFault}
 use Rattle.cip_mps_rules.specs.MpsStatements.{AreQuiet, facts_after, IsFirstFault, HasNoEnd, IsDescribed}
 
 -- ---- one line
@@ -85,9 +86,9 @@ behind_last last facts said q = ap (outcome_after last facts) (sym (nothing_behi
 
 -- ---- a text
 
-short_outcome : (text : List ℕ) → length text ≤ most_bytes → outcome_of text ≡ outcome_of_lines text
+short_outcome : (text : List ℕ) → length text ≤ longest_text → outcome_of text ≡ outcome_of_lines text
 unfolding outcome_of
-short_outcome text h = cond-true (nat_le (length text) most_bytes) _ _ (le-leb (length text) most_bytes h)
+short_outcome text h = cond-true (nat_le (length text) longest_text) _ _ (le-leb (length text) longest_text h)
 
 no_program_when_long : (last : ℕ) (o : Outcome) (program : Program) → too_long last o ≡ Means program → ⊥
 no_program_when_long last (Means p) program e = cc
@@ -97,15 +98,15 @@ no_program_when_long last (Faulty line kind) program e = go _ e
     go true d = cc
     go false d = cc
 
-pub program_is_short : (text : List ℕ) (program : Program) → outcome_of text ≡ Means program → length text ≤ most_bytes
+pub program_is_short : (text : List ℕ) (program : Program) → outcome_of text ≡ Means program → length text ≤ longest_text
 unfolding outcome_of
-program_is_short text program e = go (nat_le (length text) most_bytes) refl e
+program_is_short text program e = go (nat_le (length text) longest_text) refl e
   where
-    go : (b : Bool) → nat_le (length text) most_bytes ≡ b → cond b (outcome_of_lines text) (outcome_of_start (take (most_bytes + 1) text)) ≡ Means program → length text ≤ most_bytes
+    go : (b : Bool) → nat_le (length text) longest_text ≡ b → cond b (outcome_of_lines text) (outcome_of_start (take (longest_text + 1) text)) ≡ Means program → length text ≤ longest_text
     go true h d = leb-true _ _ h
-    go false h d = absurd (no_program_when_long (length (lines (take (most_bytes + 1) text))) (outcome_of_lines (take (most_bytes + 1) text)) program d)
+    go false h d = absurd (no_program_when_long (length (lines (take (longest_text + 1) text))) (outcome_of_lines (take (longest_text + 1) text)) program d)
 
-pub fault_found : (text : List ℕ) (line kind : ℕ) → length text ≤ most_bytes → HasFault text line kind → IsFirstFault text line kind ⊎ HasNoEnd text line kind
+pub fault_found : (text : List ℕ) (line kind : ℕ) → length text ≤ longest_text → HasFault text line kind → IsFirstFault text line kind ⊎ HasNoEnd text line kind
 fault_found text line kind short h = go (stop_or_quiet no_facts (sayings_of text))
   where
     e : outcome_of_lines text ≡ Faulty line kind
@@ -129,7 +130,7 @@ fault_found text line kind short h = go (stop_or_quiet no_facts (sayings_of text
         let r : ◌≡◌ {A = ℕ} 17 kind = cc in
         inr (record { quiet = q; is_line = p; is_kind = r })
 
-pub fault_told : (text : List ℕ) (line kind : ℕ) → length text ≤ most_bytes → IsFirstFault text line kind ⊎ HasNoEnd text line kind → HasFault text line kind
+pub fault_told : (text : List ℕ) (line kind : ℕ) → length text ≤ longest_text → IsFirstFault text line kind ⊎ HasNoEnd text line kind → HasFault text line kind
 fault_told text line kind short (inl f) = record {
   faulty = short_outcome text short ∙ at_fault (length (lines text)) no_facts (sayings_of text) f.before f.now f.after kind f.reached.are_lines f.reached.quiet f.fault ∙ ap (λ x. Faulty x kind) f.is_line;
 }
@@ -140,7 +141,7 @@ fault_told text line kind short (inr n) = record {
 pub described : (text : List ℕ) (program : Program) → HasProgram text program → IsDescribed text program
 described text program h = go (stop_or_quiet no_facts (sayings_of text))
   where
-    short : length text ≤ most_bytes
+    short : length text ≤ longest_text
     short = program_is_short text program h.means
 
     e : outcome_of_lines text ≡ Means program

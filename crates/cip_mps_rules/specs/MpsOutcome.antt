@@ -2,6 +2,7 @@
 --     outcome_of text      the outcome
 --     HasProgram text program, HasFault text line kind
 use Rattle.std.specs.Prelude.{◌≡◌, ℕ, ◌+◌, ◌==◌, nat_lt, nat_le, Bool, ◌&&◌, ◌||◌, if◌then◌else◌, List, [], ◌∷◌, length, take, Option, None, Some}
+use Rattle.cip_problem.specs.Limits.{longest_text}
 use Rattle.cip_problem.specs.Program.{Program}
 use Rattle.cip_syntax.specs.Lines.{lines}
 use Rattle.cip_mps_rules.specs.MpsSayings.{Said, sayings_of}
@@ -32,10 +33,6 @@ outcome_of_lines text = outcome_after (length (lines text)) no_facts (sayings_of
 
 -- ---- long texts
 
--- the most bytes of a text
-abbrev pub most_bytes : ℕ
-most_bytes = 67108864
-
 -- a text that is longer is looked at as far as the first byte too many: the line of that byte is a fault, unless there
 -- is one before, or a lesser one on that line
 abbrev pub too_long : (last : ℕ) → Outcome → Outcome
@@ -50,7 +47,7 @@ outcome_of_start start = too_long (length (lines start)) (outcome_of_lines start
 -- what a text comes to
 unfoldable pub outcome_of : List ℕ → Outcome
 outcome_of text =
-    if nat_le (length text) most_bytes then outcome_of_lines text else outcome_of_start (take (most_bytes + 1) text)
+    if nat_le (length text) longest_text then outcome_of_lines text else outcome_of_start (take (longest_text + 1) text)
 
 -- a text describes a program
 pub record HasProgram (text : List ℕ) (program : Program) : Type 0 where

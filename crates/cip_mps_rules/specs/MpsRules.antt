@@ -7,7 +7,7 @@ use Rattle.std.specs.List.{filter, list_any}
 use Rattle.std.specs.Str.{bytes_eq}
 use Rattle.cip_rational.specs.Rational.{ℚ}
 use Rattle.cip_rational.specs.Range.{sum_overflows, difference_overflows}
-use Rattle.cip_problem.specs.Limits.{most_rows, most_columns}
+use Rattle.cip_problem.specs.Limits.{most_rows, most_columns, longest_name, most_entries}
 use Rattle.cip_number_text.specs.Numeral.{Numeral}
 use Rattle.cip_mps_rules.specs.MpsWords.{Part, Title, Sense, Rows, Columns, End, RowKind, BoundKind, Low, High, Fixed, WholeLow, WholeHigh, SemiContinuous, rank, part_number, is_in, number_in, is_zero, is_negative, is_no_number, is_huge, is_too_fine, sense_of}
 use Rattle.cip_mps_rules.specs.MpsSayings.{Value, Saying, UnknownSection, Opens, Misplaced, Miscounted, RowLine, ColumnLine, BadMarker, RightSideLine, RangeLine, BoundLine, BadBound}
@@ -28,16 +28,6 @@ rule kind broken = record { kind = kind; broken = broken }
 abbrev pub least : List Rule → Option ℕ
 least [] = None
 least (r ∷ others) = if r.broken then Some r.kind else least others
-
--- ---- limits
-
--- the most numbers of COLUMNS that aren't 0
-abbrev pub most_entries : ℕ
-most_entries = 4194304
-
--- the most bytes of the name of a row or a column
-abbrev pub longest_name : ℕ
-longest_name = 255
 
 -- ---- parts of a line
 

@@ -2,6 +2,7 @@
 use Rattle.std.specs.Prelude.{◌≡◌, ◌⊎◌, ◌↔◌, ⊤, ℕ, ◌+◌, ◌==◌, ◌≤◌, true, false, ◌&&◌, List, [], ◌∷◌, ◌++◌, length, None, Some, if◌then◌else◌}
 use Rattle.std.specs.List.{AllByRecursion, list_any}
 use Rattle.cip_rational.specs.Rational.{ℚ, zeroℚ}
+use Rattle.cip_problem.specs.Limits.{longest_text}
 use Rattle.cip_problem.specs.Program.{Term, Program}
 use Rattle.cip_problem.specs.WellFormed.{IsWellFormed}
 use Rattle.cip_syntax.specs.Lines.{lines}
@@ -10,7 +11,7 @@ use Rattle.cip_mps_rules.specs.MpsSayings.{Saying, Said, sayings_of}
 use Rattle.cip_mps_rules.specs.MpsFacts.{Coefficient, Facts, no_facts, facts_with, column_names}
 use Rattle.cip_mps_rules.specs.MpsProgram.{coefficient, terms_of, program_of}
 use Rattle.cip_mps_rules.specs.MpsRules.{rules, fault_of, is_end, has_coefficient}
-use Rattle.cip_mps_rules.specs.MpsOutcome.{most_bytes, HasProgram, HasFault}
+use Rattle.cip_mps_rules.specs.MpsOutcome.{HasProgram, HasFault}
 
 -- ---- one outcome
 
@@ -65,7 +66,7 @@ pub record HasNoEnd (text : List ℕ) (line kind : ℕ) : Type 0 where
 -- last
 abbrev pub FaultsAreFirst : Type 0
 FaultsAreFirst =
-    (text : List ℕ) (line kind : ℕ) → length text ≤ most_bytes
+    (text : List ℕ) (line kind : ℕ) → length text ≤ longest_text
     → (HasFault text line kind) ↔ (IsFirstFault text line kind ⊎ HasNoEnd text line kind)
 
 -- ENDATA is reached and breaks no rule, and this is the program of the lines before
@@ -73,7 +74,7 @@ pub record IsDescribed (text : List ℕ) (program : Program) : Type 0 where
   pub before : List Said
   pub now : Said
   pub after : List Said
-  pub short : length text ≤ most_bytes
+  pub short : length text ≤ longest_text
   pub reached : IsReached text before now after
   pub end : is_end now.saying ≡ true
   pub no_fault : fault_of (facts_after no_facts before) now.saying ≡ None

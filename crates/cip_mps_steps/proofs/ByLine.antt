@@ -1,6 +1,6 @@
 -- The tests of a kind of line, without the rules that it can't break.
 use Rattle.std.specs.Prelude.{nat_lt, nat_le, is_none}
-use Rattle.cip_problem.specs.Limits.{most_rows}
+use Rattle.cip_problem.specs.Limits.{most_rows, longest_name}
 use Rattle.cip_mps_rules.specs.MpsFacts.{sense_words_in}
 use Rattle.cip_mps_rules.specs.MpsProgram.{is_free}
 use Rattle.std.proofs.Common.{◌≡◌, ℕ, ◌+◌, Bool, true, false, not, length, ◌&&◌, ◌||◌, cond, List, [], ◌∷◌, Option, None, Some, refl, sym, ap, ◌∙◌, arith}
@@ -10,7 +10,7 @@ use Rattle.cip_problem.specs.Names.{number_of}
 use Rattle.cip_number_text.specs.Numeral.{Numeral}
 use Rattle.cip_mps_rules.specs.MpsWords.{Part, NoPart, Title, Sense, Rows, Columns, RightSides, Ranges, Bounds, End, RowKind, BoundKind, next, number_in, is_in, is_no_number, is_too_fine, sense_of}
 use Rattle.cip_mps_rules.specs.MpsSayings.{Value, Opens, SenseLine, RowLine, ColumnLine, BoundLine}
-use Rattle.cip_mps_rules.specs.MpsRules.{Rule, rule, least, is_end, stands_behind, has_many_words, longest_name, has_twins, is_before_last, is_semicontinuous, is_no_bound}
+use Rattle.cip_mps_rules.specs.MpsRules.{Rule, rule, least, is_end, stands_behind, has_many_words, has_twins, is_before_last, is_semicontinuous, is_no_bound}
 use Rattle.cip_mps_steps.specs.MpsState.{State, row_at}
 use Rattle.cip_mps_steps.specs.MpsSteps.{holds, tests}
 use Rattle.cip_mps_steps.specs.MpsLineTests.{opening_tests, end_tests, sense_tests, row_tests, column_tests, bound_tests, numbers_of, has_huge, has_unknown, is_full}

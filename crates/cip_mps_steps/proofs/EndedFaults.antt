@@ -3,10 +3,11 @@ use Rattle.std.proofs.Common.{◌≡◌, inl, inr, ℕ, ◌+◌, ◌<◌, ◌≤
 use Rattle.std.specs.Prelude.{fold, nat_le, nat_lt, ◌↔◌}
 use Rattle.std.proofs.lemmas.List.Sums.{fold-append}
 use Rattle.std.proofs.lemmas.Bool.{cond-true, cond-false, lt-ltb, ltb-true, eqb-true, or_cases}
+use Rattle.cip_problem.specs.Limits.{longest_text}
 use Rattle.cip_syntax.specs.Lines.{Record, record_of, is_line_feed, is_filled}
 use Rattle.cip_mps_rules.specs.MpsSayings.{Saying, said}
 use Rattle.cip_mps_rules.specs.MpsRules.{least, is_end}
-use Rattle.cip_mps_rules.specs.MpsOutcome.{Outcome, Means, Faulty, too_long, most_bytes, outcome_of, HasFault}
+use Rattle.cip_mps_rules.specs.MpsOutcome.{Outcome, Means, Faulty, too_long, outcome_of, HasFault}
 use Rattle.cip_mps_steps.specs.MpsState.{State, program_from}
 use Rattle.cip_mps_steps.specs.MpsSteps.{Progress, Going, Over, tests, taken, progress_at, record_read, line_read}
 use Rattle.cip_mps_steps.specs.MpsStream.{Stream, no_stream, byte_read, stream_with, outcome_from, last_line, last_progress, closed, read_outcome, LineFault, fault_in, progress_fault, ended_fault, stream_of}
@@ -62,7 +63,7 @@ right_byte s b h = go (is_line_feed b)
     go false = h
 
 right_with : (s : Stream) (b : ℕ) → IsRight s → IsRight (stream_with s b)
-right_with s b h = go (nat_le s.size most_bytes)
+right_with s b h = go (nat_le s.size longest_text)
   where
     go : (t : Bool) → IsRight (cond t (byte_read s b) s)
     go true = right_byte s b h
@@ -143,32 +144,32 @@ empty_line s e = cond-false (is_filled s.line) (s.ended + 1) s.ended e
 
 -- the three ways in which a fault is known
 data Known (s : Stream) (fault : LineFault) : Type 0 where
-  short : nat_le s.size most_bytes ≡ true → progress_fault s.progress ≡ Some fault → Known s fault
-  inside : nat_le s.size most_bytes ≡ false → is_filled s.line ≡ true → progress_fault s.progress ≡ Some fault → Known s fault
-  at_end : nat_le s.size most_bytes ≡ false → is_filled s.line ≡ false → fault_in (closed s) ≡ Some fault → Known s fault
+  short : nat_le s.size longest_text ≡ true → progress_fault s.progress ≡ Some fault → Known s fault
+  inside : nat_le s.size longest_text ≡ false → is_filled s.line ≡ true → progress_fault s.progress ≡ Some fault → Known s fault
+  at_end : nat_le s.size longest_text ≡ false → is_filled s.line ≡ false → fault_in (closed s) ≡ Some fault → Known s fault
 
 known : (s : Stream) (fault : LineFault) → ended_fault s ≡ Some fault → Known s fault
-known s fault e = go (nat_le s.size most_bytes) refl (is_filled s.line) refl e
+known s fault e = go (nat_le s.size longest_text) refl (is_filled s.line) refl e
   where
-    go : (a : Bool) → nat_le s.size most_bytes ≡ a → (b : Bool) → is_filled s.line ≡ b → cond (a || b) (progress_fault s.progress) (fault_in (closed s)) ≡ Some fault → Known s fault
+    go : (a : Bool) → nat_le s.size longest_text ≡ a → (b : Bool) → is_filled s.line ≡ b → cond (a || b) (progress_fault s.progress) (fault_in (closed s)) ≡ Some fault → Known s fault
     go true p b q e = short p e
     go false p true q e = inside p q e
     go false p false q e = at_end p q e
 
 from_known : (s : Stream) (fault : LineFault) → Known s fault → ended_fault s ≡ Some fault
-from_known s fault (short p e) = cond-true (nat_le s.size most_bytes || is_filled s.line) (progress_fault s.progress) (fault_in (closed s)) (ap (λ b. b || is_filled s.line) p) ∙ e
-from_known s fault (inside p q e) = cond-true (nat_le s.size most_bytes || is_filled s.line) (progress_fault s.progress) (fault_in (closed s)) (or_true (nat_le s.size most_bytes) q) ∙ e
+from_known s fault (short p e) = cond-true (nat_le s.size longest_text || is_filled s.line) (progress_fault s.progress) (fault_in (closed s)) (ap (λ b. b || is_filled s.line) p) ∙ e
+from_known s fault (inside p q e) = cond-true (nat_le s.size longest_text || is_filled s.line) (progress_fault s.progress) (fault_in (closed s)) (or_true (nat_le s.size longest_text) q) ∙ e
   where
     or_true : (b : Bool) → is_filled s.line ≡ true → (b || is_filled s.line) ≡ true
     or_true true q = refl
     or_true false q = q
-from_known s fault (at_end p q e) = cond-false (nat_le s.size most_bytes || is_filled s.line) (progress_fault s.progress) (fault_in (closed s)) (ap (λ b. b || is_filled s.line) p ∙ q) ∙ e
+from_known s fault (at_end p q e) = cond-false (nat_le s.size longest_text || is_filled s.line) (progress_fault s.progress) (fault_in (closed s)) (ap (λ b. b || is_filled s.line) p ∙ q) ∙ e
 
-short_closed : (s : Stream) → nat_le s.size most_bytes ≡ true → closed s ≡ outcome_from (last_line s) (last_progress s)
-short_closed s p = cond-true (nat_le s.size most_bytes) _ _ p
+short_closed : (s : Stream) → nat_le s.size longest_text ≡ true → closed s ≡ outcome_from (last_line s) (last_progress s)
+short_closed s p = cond-true (nat_le s.size longest_text) _ _ p
 
-long_closed : (s : Stream) → nat_le s.size most_bytes ≡ false → closed s ≡ too_long (last_line s) (outcome_from (last_line s) (last_progress s))
-long_closed s p = cond-false (nat_le s.size most_bytes) _ _ p
+long_closed : (s : Stream) → nat_le s.size longest_text ≡ false → closed s ≡ too_long (last_line s) (outcome_from (last_line s) (last_progress s))
+long_closed s p = cond-false (nat_le s.size longest_text) _ _ p
 
 known_closed : (s : Stream) → IsRight s → (fault : LineFault) → Known s fault → closed s ≡ Faulty fault.line fault.kind
 known_closed s r fault (short p e) = short_closed s p ∙ outcome_is s (Faulty fault.line fault.kind) (progress_is s.progress fault e)
@@ -209,9 +210,9 @@ last_early s l k e h = go (is_filled s.line) e
     go false e = unread s.progress e
 
 known_back : (s : Stream) (l k : ℕ) → closed s ≡ Faulty l k → l ≤ s.ended → Known s (record { line = l; kind = k })
-known_back s l k e h = go (nat_le s.size most_bytes) refl (is_filled s.line) refl
+known_back s l k e h = go (nat_le s.size longest_text) refl (is_filled s.line) refl
   where
-    go : (a : Bool) → nat_le s.size most_bytes ≡ a → (b : Bool) → is_filled s.line ≡ b → Known s (record { line = l; kind = k })
+    go : (a : Bool) → nat_le s.size longest_text ≡ a → (b : Bool) → is_filled s.line ≡ b → Known s (record { line = l; kind = k })
     go true p b q = short p (last_early s l k (sym (short_closed s p) ∙ e) h)
     go false p true q =
         inside p q (last_early s l k
@@ -237,7 +238,7 @@ is_filled-push [] b = refl
 is_filled-push (x ∷ xs) b = refl
 
 feed_stays : (s : Stream) → IsRight s → (fault : LineFault) → progress_fault s.progress ≡ Some fault → ended_fault (ended_line s) ≡ Some fault
-feed_stays s r fault e = go (nat_le (s.size + 1) most_bytes) refl
+feed_stays s r fault e = go (nat_le (s.size + 1) longest_text) refl
   where
     over : s.progress ≡ Over (Faulty fault.line fault.kind)
     over = progress_is s.progress fault e
@@ -245,7 +246,7 @@ feed_stays s r fault e = go (nat_le (s.size + 1) most_bytes) refl
     read : line_read s.progress (s.ended + 1) s.line ≡ Over (Faulty fault.line fault.kind)
     read = ap (λ p. line_read p (s.ended + 1) s.line) over
 
-    go : (a : Bool) → nat_le (s.size + 1) most_bytes ≡ a → ended_fault (ended_line s) ≡ Some fault
+    go : (a : Bool) → nat_le (s.size + 1) longest_text ≡ a → ended_fault (ended_line s) ≡ Some fault
     go true p = from_known (ended_line s) fault (short p (ap progress_fault read))
     go false p =
         from_known (ended_line s) fault
@@ -253,20 +254,20 @@ feed_stays s r fault e = go (nat_le (s.size + 1) most_bytes) refl
         ∙ early_stays (s.ended + 1) fault.line fault.kind (let h : fault.line ≤ s.ended = r fault e in omega (arith, h)))))
 
 other_stays : (s : Stream) (b : ℕ) (fault : LineFault) → progress_fault s.progress ≡ Some fault → ended_fault (longer_line s b) ≡ Some fault
-other_stays s b fault e = go (nat_le (s.size + 1) most_bytes) refl
+other_stays s b fault e = go (nat_le (s.size + 1) longest_text) refl
   where
-    go : (a : Bool) → nat_le (s.size + 1) most_bytes ≡ a → ended_fault (longer_line s b) ≡ Some fault
+    go : (a : Bool) → nat_le (s.size + 1) longest_text ≡ a → ended_fault (longer_line s b) ≡ Some fault
     go true p = from_known (longer_line s b) fault (short p e)
     go false p = from_known (longer_line s b) fault (inside p (is_filled-push s.line b) e)
 
 stays : (s : Stream) (b : ℕ) → IsRight s → (fault : LineFault) → Known s fault → ended_fault (stream_with s b) ≡ Some fault
-stays s b r fault (short p e) = ap ended_fault (cond-true (nat_le s.size most_bytes) (byte_read s b) s p) ∙ go (is_line_feed b)
+stays s b r fault (short p e) = ap ended_fault (cond-true (nat_le s.size longest_text) (byte_read s b) s p) ∙ go (is_line_feed b)
   where
     go : (t : Bool) → ended_fault (cond t (ended_line s) (longer_line s b)) ≡ Some fault
     go true = feed_stays s r fault e
     go false = other_stays s b fault e
-stays s b r fault (inside p q e) = ap ended_fault (cond-false (nat_le s.size most_bytes) (byte_read s b) s p) ∙ from_known s fault (inside p q e)
-stays s b r fault (at_end p q e) = ap ended_fault (cond-false (nat_le s.size most_bytes) (byte_read s b) s p) ∙ from_known s fault (at_end p q e)
+stays s b r fault (inside p q e) = ap ended_fault (cond-false (nat_le s.size longest_text) (byte_read s b) s p) ∙ from_known s fault (inside p q e)
+stays s b r fault (at_end p q e) = ap ended_fault (cond-false (nat_le s.size longest_text) (byte_read s b) s p) ∙ from_known s fault (at_end p q e)
 
 stay : (rest : List ℕ) (s : Stream) → IsRight s → (fault : LineFault) → ended_fault s ≡ Some fault → ended_fault (fold stream_with s rest) ≡ Some fault
 stay [] s r fault e = e

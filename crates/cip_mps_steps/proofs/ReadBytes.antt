@@ -3,11 +3,12 @@ use Rattle.std.proofs.Common.{◌≡◌, ℕ, zero, suc, ◌+◌, ◌<◌, ◌�
 use Rattle.std.specs.Prelude.{fold, nat_le}
 use Rattle.std.proofs.lemmas.List.{append-nil, append_assoc, length-take-le}
 use Rattle.std.proofs.lemmas.Bool.{cond-true, cond-false, eqb-true, le-leb, lt-leb, leb-true, leb-false}
+use Rattle.cip_problem.specs.Limits.{longest_text}
 use Rattle.cip_syntax.specs.Lines.{is_line_feed, HasNoLineFeed, lines}
 use Rattle.cip_syntax.proofs.Cuts.{lines_ended, lines_last}
 use Rattle.cip_mps_rules.specs.MpsSayings.{no_place}
 use Rattle.cip_mps_rules.specs.MpsFacts.{no_facts}
-use Rattle.cip_mps_rules.specs.MpsOutcome.{outcome_of_lines, outcome_of_start, too_long, most_bytes, outcome_of}
+use Rattle.cip_mps_rules.specs.MpsOutcome.{outcome_of_lines, outcome_of_start, too_long, outcome_of}
 use Rattle.cip_mps_steps.specs.MpsSteps.{Progress, line_read}
 use Rattle.cip_mps_steps.specs.MpsStream.{Stream, no_stream, byte_read, stream_with, outcome_from, last_line, last_progress, closed, read_outcome}
 use Rattle.cip_mps_steps.proofs.Good.{good_first}
@@ -86,12 +87,12 @@ sizes (b ∷ bs) s = sizes bs (byte_read s b) ∙ ap (λ n. n + length bs) (size
     add_suc : (m n : ℕ) → (m + 1) + n ≡ m + suc n
     add_suc m n = omega arith
 
-full : (bytes : List ℕ) (s : Stream) → most_bytes < s.size → fold stream_with s bytes ≡ s
+full : (bytes : List ℕ) (s : Stream) → longest_text < s.size → fold stream_with s bytes ≡ s
 full [] s h = refl
 full (b ∷ bs) s h =
-    ap (λ t. fold stream_with t bs) (cond-false (nat_le s.size most_bytes) (byte_read s b) s (lt-leb s.size most_bytes h)) ∙ full bs s h
+    ap (λ t. fold stream_with t bs) (cond-false (nat_le s.size longest_text) (byte_read s b) s (lt-leb s.size longest_text h)) ∙ full bs s h
 
-looked_at : (bytes : List ℕ) (n : ℕ) (s : Stream) → s.size + n ≡ most_bytes + 1 → fold stream_with s bytes ≡ fold byte_read s (take n bytes)
+looked_at : (bytes : List ℕ) (n : ℕ) (s : Stream) → s.size + n ≡ longest_text + 1 → fold stream_with s bytes ≡ fold byte_read s (take n bytes)
 looked_at bytes zero s e = full bytes s (omega (arith, e)) ∙ ap (fold byte_read s) (sym (nothing bytes))
   where
     nothing : (xs : List ℕ) → take zero xs ≡ []
@@ -99,8 +100,8 @@ looked_at bytes zero s e = full bytes s (omega (arith, e)) ∙ ap (fold byte_rea
     nothing (x ∷ xs) = refl
 looked_at [] (suc n) s e = refl
 looked_at (b ∷ bs) (suc n) s e =
-    ap (λ t. fold stream_with t bs) (cond-true (nat_le s.size most_bytes) (byte_read s b) s (le-leb s.size most_bytes (omega (arith, e))))
-    ∙ looked_at bs n (byte_read s b) (ap (λ m. m + n) (size_after s b) ∙ step s.size n most_bytes e)
+    ap (λ t. fold stream_with t bs) (cond-true (nat_le s.size longest_text) (byte_read s b) s (le-leb s.size longest_text (omega (arith, e))))
+    ∙ looked_at bs n (byte_read s b) (ap (λ m. m + n) (size_after s b) ∙ step s.size n longest_text e)
   where
     step : (m k l : ℕ) → m + suc k ≡ l + 1 → (m + 1) + k ≡ l + 1
     step m k l e = omega (arith, e)
@@ -126,15 +127,15 @@ bytes_read text =
     zero_add : (n : ℕ) → 0 + n ≡ n
     zero_add n = omega arith
 
-closed_short : (s : Stream) → s.size ≤ most_bytes → closed s ≡ outcome_from (last_line s) (last_progress s)
-closed_short s h = cond-true (nat_le s.size most_bytes) _ _ (le-leb s.size most_bytes h)
+closed_short : (s : Stream) → s.size ≤ longest_text → closed s ≡ outcome_from (last_line s) (last_progress s)
+closed_short s h = cond-true (nat_le s.size longest_text) _ _ (le-leb s.size longest_text h)
 
-closed_long : (s : Stream) → most_bytes < s.size → closed s ≡ too_long (last_line s) (outcome_from (last_line s) (last_progress s))
-closed_long s h = cond-false (nat_le s.size most_bytes) _ _ (lt-leb s.size most_bytes h)
+closed_long : (s : Stream) → longest_text < s.size → closed s ≡ too_long (last_line s) (outcome_from (last_line s) (last_progress s))
+closed_long s h = cond-false (nat_le s.size longest_text) _ _ (lt-leb s.size longest_text h)
 
-looked : (text : List ℕ) → read_outcome text ≡ closed (fold byte_read no_stream (take (most_bytes + 1) text))
+looked : (text : List ℕ) → read_outcome text ≡ closed (fold byte_read no_stream (take (longest_text + 1) text))
 unfolding read_outcome
-looked text = ap closed (looked_at text (most_bytes + 1) no_stream (omega arith))
+looked text = ap closed (looked_at text (longest_text + 1) no_stream (omega arith))
 
 size_is : (text : List ℕ) → (fold byte_read no_stream text).size ≡ length text
 size_is text = sizes text no_stream ∙ zero_add (length text)
@@ -142,12 +143,12 @@ size_is text = sizes text no_stream ∙ zero_add (length text)
     zero_add : (n : ℕ) → 0 + n ≡ n
     zero_add n = omega arith
 
-whole_text : (text : List ℕ) → length text ≤ most_bytes → closed (fold byte_read no_stream text) ≡ outcome_of_lines text
-whole_text text h = closed_short (fold byte_read no_stream text) (subst (λ (n : ℕ). n ≤ most_bytes) (sym (size_is text)) h) ∙ (bytes_read text).1
+whole_text : (text : List ℕ) → length text ≤ longest_text → closed (fold byte_read no_stream text) ≡ outcome_of_lines text
+whole_text text h = closed_short (fold byte_read no_stream text) (subst (λ (n : ℕ). n ≤ longest_text) (sym (size_is text)) h) ∙ (bytes_read text).1
 
-start_of_text : (start : List ℕ) → most_bytes < length start → closed (fold byte_read no_stream start) ≡ outcome_of_start start
+start_of_text : (start : List ℕ) → longest_text < length start → closed (fold byte_read no_stream start) ≡ outcome_of_start start
 start_of_text start h =
-    closed_long (fold byte_read no_stream start) (subst (λ (n : ℕ). most_bytes < n) (sym (size_is start)) h)
+    closed_long (fold byte_read no_stream start) (subst (λ (n : ℕ). longest_text < n) (sym (size_is start)) h)
     ∙ (let b = bytes_read start in let l = b.0 in let o = b.1 in λ i. too_long (l i) (o i))
 
 long_start : (n : ℕ) (text : List ℕ) → n < length text → n < length (take (n + 1) text)
@@ -155,10 +156,10 @@ long_start n text h = let e = length-take-le (n + 1) text (omega arith) in omega
 
 pub texts_are_read : (text : List ℕ) → read_outcome text ≡ outcome_of text
 unfolding outcome_of
-texts_are_read text = looked text ∙ go (nat_le (length text) most_bytes) refl
+texts_are_read text = looked text ∙ go (nat_le (length text) longest_text) refl
   where
-    go : (b : Bool) → nat_le (length text) most_bytes ≡ b → closed (fold byte_read no_stream (take (most_bytes + 1) text)) ≡ cond b (outcome_of_lines text) (outcome_of_start (take (most_bytes + 1) text))
+    go : (b : Bool) → nat_le (length text) longest_text ≡ b → closed (fold byte_read no_stream (take (longest_text + 1) text)) ≡ cond b (outcome_of_lines text) (outcome_of_start (take (longest_text + 1) text))
     go true e =
-        let h : length text ≤ most_bytes = leb-true (length text) most_bytes e in
-        ap (λ t. closed (fold byte_read no_stream t)) (take_all (most_bytes + 1) text (omega (arith, h))) ∙ whole_text text h
-    go false e = start_of_text (take (most_bytes + 1) text) (long_start most_bytes text (leb-false (length text) most_bytes e))
+        let h : length text ≤ longest_text = leb-true (length text) longest_text e in
+        ap (λ t. closed (fold byte_read no_stream t)) (take_all (longest_text + 1) text (omega (arith, h))) ∙ whole_text text h
+    go false e = start_of_text (take (longest_text + 1) text) (long_start longest_text text (leb-false (length text) longest_text e))

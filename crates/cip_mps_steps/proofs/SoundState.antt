@@ -7,13 +7,13 @@ use Rattle.std.proofs.lemmas.List.{length-append, length-set, get_or-set_other}
 use Rattle.std.proofs.lemmas.List.Folds.{list_all-append}
 use Rattle.std.proofs.lemmas.Bool.{and_from, and_parts, lt-ltb, ltb-true, ltb-false, leb-false, eq-eqb}
 use Rattle.cip_rational.specs.Rational.{ℚ}
-use Rattle.cip_problem.specs.Limits.{most_rows, most_columns}
+use Rattle.cip_problem.specs.Limits.{most_rows, most_columns, most_entries}
 use Rattle.cip_mps_rules.specs.MpsWords.{number_in, is_in}
 use Rattle.cip_mps_rules.specs.MpsSayings.{Value, Saying, RowLine, ColumnLine, RightSideLine, RangeLine, BoundLine, no_place}
 use Rattle.cip_mps_rules.specs.MpsFacts.{coefficients_in, no_facts}
 use Rattle.cip_mps_rules.specs.MpsBounds.{Bounded, unbounded, with_bound}
 use Rattle.cip_mps_rules.specs.MpsProgram.{number, is_free}
-use Rattle.cip_mps_rules.specs.MpsRules.{least, has_twins, is_before_last, most_entries, entry_count, is_column_too_many, is_entry_too_many}
+use Rattle.cip_mps_rules.specs.MpsRules.{least, has_twins, is_before_last, entry_count, is_column_too_many, is_entry_too_many}
 use Rattle.cip_mps_rules.proofs.Quiet.{kept, left_false, right_false}
 use Rattle.cip_mps_rules.proofs.MpsNames.{same_bytes, number_below, number_same}
 use Rattle.cip_mps_steps.specs.MpsState.{Held, RowRead, State, no_row, item_at, row_at, state_of}

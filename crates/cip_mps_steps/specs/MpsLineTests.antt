@@ -1,14 +1,14 @@
 -- The tests of each kind of line: of all rules those that such a line can break, by rising kind.
 use Rattle.std.specs.Prelude.{ℕ, ◌+◌, Bool, not, ◌&&◌, ◌||◌, nat_le, nat_lt, List, [], ◌∷◌, length, map, None, is_none}
 use Rattle.std.specs.List.{list_any}
-use Rattle.cip_problem.specs.Limits.{most_rows, most_columns}
+use Rattle.cip_problem.specs.Limits.{most_rows, most_columns, longest_name, most_entries}
 use Rattle.cip_number_text.specs.Numeral.{Numeral}
 use Rattle.cip_mps_rules.specs.MpsWords.{Part, Rows, Columns, End, RowKind, BoundKind, number_in, is_in, is_no_number, is_huge, is_too_fine, sense_of}
 use Rattle.cip_mps_rules.specs.MpsSayings.{Value, Opens, ColumnLine}
 use Rattle.cip_mps_rules.specs.MpsFacts.{coefficients_in, sense_words_in}
 use Rattle.cip_mps_rules.specs.MpsBounds.{settled}
 use Rattle.cip_mps_rules.specs.MpsProgram.{is_free}
-use Rattle.cip_mps_rules.specs.MpsRules.{Rule, rule, most_entries, longest_name, stands_behind, is_opened, has_many_words, has_twins, is_before_last, is_no_bound, is_semicontinuous, is_unbounded, entry_count}
+use Rattle.cip_mps_rules.specs.MpsRules.{Rule, rule, stands_behind, is_opened, has_many_words, has_twins, is_before_last, is_no_bound, is_semicontinuous, is_unbounded, entry_count}
 use Rattle.cip_mps_steps.specs.MpsState.{State, row_at, value_for}
 use Rattle.cip_mps_steps.specs.MpsSteps.{overflows_with, holds, has_right_side, has_range, is_free_at}
 

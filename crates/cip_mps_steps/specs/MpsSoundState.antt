@@ -2,8 +2,7 @@
 -- column.
 use Rattle.std.specs.Prelude.{◌≡◌, ℕ, ◌≤◌, nat_lt, Bool, true, ◌&&◌, List, [], ◌∷◌, length}
 use Rattle.std.specs.List.{list_all}
-use Rattle.cip_problem.specs.Limits.{most_rows, most_columns}
-use Rattle.cip_mps_rules.specs.MpsRules.{most_entries}
+use Rattle.cip_problem.specs.Limits.{most_rows, most_columns, most_entries}
 use Rattle.cip_mps_steps.specs.MpsState.{Held, RowRead, State}
 
 -- the columns of these numbers are below one

@@ -2,10 +2,11 @@
 --     stream_with stream byte      the stream, and one byte more
 --     closed stream      what the text comes to where it ends here
 use Rattle.std.specs.Prelude.{ℕ, ◌+◌, nat_le, ◌||◌, if◌then◌else◌, List, [], ◌∷◌, ◌++◌, Option, None, Some, fold}
+use Rattle.cip_problem.specs.Limits.{longest_text}
 use Rattle.cip_syntax.specs.Lines.{is_line_feed, is_filled}
 use Rattle.cip_mps_rules.specs.MpsSayings.{no_place}
 use Rattle.cip_mps_rules.specs.MpsFacts.{no_facts}
-use Rattle.cip_mps_rules.specs.MpsOutcome.{Outcome, Means, Faulty, most_bytes, too_long}
+use Rattle.cip_mps_rules.specs.MpsOutcome.{Outcome, Means, Faulty, too_long}
 use Rattle.cip_mps_steps.specs.MpsState.{state_of}
 use Rattle.cip_mps_steps.specs.MpsSteps.{Progress, Going, Over, line_read}
 
@@ -40,7 +41,7 @@ byte_read stream byte =
 
 -- one byte more; behind the first byte too many none is looked at
 abbrev pub stream_with : Stream → ℕ → Stream
-stream_with stream byte = if nat_le stream.size most_bytes then byte_read stream byte else stream
+stream_with stream byte = if nat_le stream.size longest_text then byte_read stream byte else stream
 
 -- what progress comes to where no line is left
 abbrev pub outcome_from : (last : ℕ) → Progress → Outcome
@@ -59,7 +60,7 @@ last_progress stream =
 -- what the text comes to where it ends here
 abbrev pub closed : Stream → Outcome
 closed stream =
-    if nat_le stream.size most_bytes then outcome_from (last_line stream) (last_progress stream)
+    if nat_le stream.size longest_text then outcome_from (last_line stream) (last_progress stream)
     else too_long (last_line stream) (outcome_from (last_line stream) (last_progress stream))
 
 -- what a text comes to, read byte by byte
@@ -87,7 +88,7 @@ progress_fault (Over outcome) = fault_in outcome
 -- feed, the line that it ends is such a line
 abbrev pub ended_fault : Stream → Option LineFault
 ended_fault stream =
-    if nat_le stream.size most_bytes || is_filled stream.line then progress_fault stream.progress
+    if nat_le stream.size longest_text || is_filled stream.line then progress_fault stream.progress
     else fault_in (closed stream)
 
 -- the stream behind these bytes

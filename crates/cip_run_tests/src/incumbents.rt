@@ -3,7 +3,7 @@ use crate::cases::THREE_COLUMNS;
 use cip_frac::Frac;
 use cip_incumbent::{Incumbent, Offered};
 use cip_model::{Program, Verdict};
-use cip_mps::Reader;
+use cip_thin_reader::Reader;
 use std::alloc::Global;
 use std::process::Abort;
 use std::test::Fail;
