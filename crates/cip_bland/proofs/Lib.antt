@@ -1,0 +1,14 @@
+pub mod CrossedSides
+pub mod Emptiness
+pub mod MovesMade
+pub mod Multiples
+pub mod Named
+pub mod Optima
+pub mod PointsOf
+pub mod RayEnds
+pub mod RunFacts
+pub mod Searches
+pub mod SideCases
+pub mod StateFacts
+pub mod StepCases
+pub mod Tried

@@ -1,0 +1,39 @@
+//! Bland's rule for the simplex method: the next step at a state, the list of moves, and what its ends answer.
+// Each function here does nothing. Its contract is one of the laws of the definitions, so that the check proves it.
+#![tactic(auto)]
+
+mod steps;
+
+ghost use Rattle.cip_bland.specs.Examples.{Examples};
+ghost use Rattle.cip_bland.specs.Statements.{FirstIsState, StepsAreSound, RunsAreRight, AnswersAreRight};
+
+pub use steps::{Heading, Step};
+
+/// The first state of a linear program is one of its states: it is consistent, and has its solutions and its cost.
+pub fn first_is_state()
+    ensures { FirstIsState }
+{}
+
+/// At each state of a program the step is sound: a move can be made and leads to a state of the program; an optimum's
+/// point is optimal, and the bound of its certificate is the cost; crossed sides and an infeasible end have a
+/// certificate that empties the box; and a ray keeps all sides while the cost falls along it.
+pub fn steps_are_sound()
+    ensures { StepsAreSound }
+{}
+
+/// The list of a state is the moves of the rule, all in range, up to an end, to the first move that is out of range, or
+/// to the limit; from a state of a program its last state is one too, and what its end answers is right.
+pub fn runs_are_right()
+    ensures { RunsAreRight }
+{}
+
+/// What the list from the first state answers on a linear program is right.
+pub fn answers_are_right()
+    ensures { AnswersAreRight }
+{}
+
+/// Programs of one to four columns come to the moves, points, certificates and rays that were worked out by hand; so do
+/// moves, ways and first states that are out of range, and limits of 0 and 1.
+pub fn examples()
+    ensures { Examples }
+{}
