@@ -48,31 +48,30 @@ widened_small p f = omega (arith, ints, f)
 pub widened : (p : ℤ) → FitsSigned w64 p → to_z w128 (of_z w128 (to_z w64 (of_z w64 p))) ≡ p
 widened p f = ap (λ z. to_z w128 (of_z w128 z)) (to_z-of_z w64 p f) ∙ kept p (widened_small p f)
 
-small_square : (m n : ℕ) → m < 2 ^ 63 → n < 2 ^ 63 → m * n ≤ 2 ^ 126
-small_square m n p q = let a : m ≤ 2 ^ 63 = omega arith in let b : n ≤ 2 ^ 63 = omega arith in let h : m * n ≤ 2 ^ 63 * 2 ^ 63 = mul-le-mul a b in omega arith
+short_size : (a : ℤ) → FitsSigned w64 a → unsigned_abs a ≤ 2 ^ 63
+short_size a f = omega (arith, ints, f)
 
-small_total : (n z : ℤ) → unsigned_abs n < 2 ^ 63 → unsigned_abs z ≤ 2 ^ 126 → unsigned_abs (n +ℤ z) < 2 ^ 127
+small_total : (n z : ℤ) → unsigned_abs n ≤ 2 ^ 63 → unsigned_abs z ≤ 2 ^ 126 → unsigned_abs (n +ℤ z) < 2 ^ 127
 small_total n z p q = omega (arith, ints, p, q)
 
--- a short product added to a short integer
-module _ (n a b : ℤ) (fn : FitsSigned w128 n) (fa : FitsSigned w128 a) (fb : FitsSigned w128 b) (pn : unsigned_abs (to_z w128 (of_z w128 n)) < 2 ^ 63) (pa : unsigned_abs (to_z w128 (of_z w128 a)) < 2 ^ 63) (pb : unsigned_abs (to_z w128 (of_z w128 b)) < 2 ^ 63) where
-  en : to_z w128 (of_z w128 n) ≡ n
-  en = to_z-of_z w128 n fn
-
+-- a product of two integers of 64 bits added to a third
+module _ (n a b : ℤ) (fn : FitsSigned w64 n) (fa : FitsSigned w64 a) (fb : FitsSigned w64 b) where
   product_small : unsigned_abs (a *ℤ b) ≤ 2 ^ 126
   product_small =
-      let ha : unsigned_abs a < 2 ^ 63 = rw (to_z-of_z w128 a fa) at pa in
-      let hb : unsigned_abs b < 2 ^ 63 = rw (to_z-of_z w128 b fb) at pb in
-      rw (unsigned_abs-mul a b) (small_square (unsigned_abs a) (unsigned_abs b) ha hb)
+      let h : unsigned_abs a * unsigned_abs b ≤ 2 ^ 63 * 2 ^ 63 = mul-le-mul (short_size a fa) (short_size b fb) in
+      rw (unsigned_abs-mul a b) (omega arith)
 
-  product_short : (unsigned_abs a * unsigned_abs b < 2 ^ 127) × (to_z w128 (of_z w128 (to_z w128 (of_z w128 a) *ℤ to_z w128 (of_z w128 b))) ≡ a *ℤ b)
-  product_short = product_is_short a b fa fb pa pb
+  product_kept : to_z w128 (of_z w128 (a *ℤ b)) ≡ a *ℤ b
+  product_kept = kept (a *ℤ b) (omega (arith, product_small))
 
   total_below : unsigned_abs (n +ℤ a *ℤ b) < 2 ^ 127
-  total_below = small_total n (a *ℤ b) (rw en at pn) product_small
+  total_below = small_total n (a *ℤ b) (short_size n fn) product_small
 
-  pub short_total_fits : FitsSigned w128 (to_z w128 (of_z w128 n) +ℤ to_z w128 (of_z w128 (to_z w128 (of_z w128 a) *ℤ to_z w128 (of_z w128 b))))
-  short_total_fits = rw (en, product_short.1) (fits_signed_from_abs w128 (n +ℤ a *ℤ b) total_below)
+  pub whole_step_fits : FitsSigned w128 (to_z w128 (of_z w128 (to_z w64 (of_z w64 n))) +ℤ to_z w128 (of_z w128 (to_z w128 (of_z w128 (to_z w64 (of_z w64 a))) *ℤ to_z w128 (of_z w128 (to_z w64 (of_z w64 b))))))
+  whole_step_fits = rw (widened n fn, widened a fa, widened b fb, product_kept) (fits_signed_from_abs w128 (n +ℤ a *ℤ b) total_below)
 
-  pub total_is_short : (unsigned_abs (a *ℤ b) < 2 ^ 127) × (unsigned_abs (n +ℤ a *ℤ b) < 2 ^ 127) × (to_z w128 (of_z w128 (to_z w128 (of_z w128 n) +ℤ to_z w128 (of_z w128 (to_z w128 (of_z w128 a) *ℤ to_z w128 (of_z w128 b))))) ≡ n +ℤ a *ℤ b)
-  total_is_short = (rw (unsigned_abs-mul a b) product_short.0, total_below, rw (en, product_short.1) (kept (n +ℤ a *ℤ b) total_below))
+  pub whole_step_is : to_z w128 (of_z w128 (to_z w128 (of_z w128 (to_z w64 (of_z w64 n))) +ℤ to_z w128 (of_z w128 (to_z w128 (of_z w128 (to_z w64 (of_z w64 a))) *ℤ to_z w128 (of_z w128 (to_z w64 (of_z w64 b))))))) ≡ n +ℤ a *ℤ b
+  whole_step_is = rw (widened n fn, widened a fa, widened b fb, product_kept) (kept (n +ℤ a *ℤ b) total_below)
+
+  pub whole_step_small : unsigned_abs (to_z w128 (of_z w128 (to_z w128 (of_z w128 (to_z w64 (of_z w64 n))) +ℤ to_z w128 (of_z w128 (to_z w128 (of_z w128 (to_z w64 (of_z w64 a))) *ℤ to_z w128 (of_z w128 (to_z w64 (of_z w64 b)))))))) < 2 ^ 127
+  whole_step_small = rw whole_step_is total_below

@@ -3,9 +3,12 @@ pub mod Comparison
 pub mod Divisors
 pub mod Fields
 pub mod Halves
+pub mod InRange
 pub mod Outcomes
 pub mod Products
 pub mod Quotients
+pub mod Reduced
+pub mod ShortSums
 pub mod SumParts
 pub mod SumSteps
 pub mod TextParts

@@ -1,7 +1,9 @@
 -- Sums and products of whole numbers, whose denominators are 1.
 use Rattle.std.proofs.Common.{◌≡◌, ℕ, ◌*◌, ◌<◌, ◌^◌, ℤ, pos, ◌+ℤ◌, ◌*ℤ◌, unsigned_abs, true, false, sym, ap, subst, ◌∙◌, refl, arith, lit<, inl, Bool, cond, Option, Some, None, Ok, Err}
 use Rattle.std.specs.Prelude.{MatchOption}
+use lib.Bits.{bit_or}
 use Rattle.std.proofs.lemmas.Int.{unsigned_abs-mul}
+use Rattle.std.proofs.lemmas.Nat.{le_or_l, le_or_r}
 use Rattle.cip_rational.specs.Rational.{ℚ, ◌+ℚ◌, ◌*ℚ◌, ratio, numerator, denominator}
 use Rattle.cip_rational.specs.Range.{sum_overflows, product_overflows}
 use Rattle.cip_rational.proofs.Integers.{gcd_one, times_one}
@@ -82,6 +84,14 @@ module _ (x y : ℚ) (a c : ℤ) (b d : ℕ) (ea : a ≡ numerator x) (eb : b �
             products_fit x y a c 1 1 ea ea1 la ec ed1 lc 1 1 (gcd_one _) (gcd_one _) a c 1 1 (times_one a) (times_one c) refl refl small (lit< tt),
             value ∙ product_ratio x y a c 1 1 ea ea1 la ec ed1 lc 1 1 (gcd_one _) (gcd_one _) a c 1 1 (times_one a) (times_one c) refl refl,
           )
+
+-- denominators of 1 in one test
+pub all_ones : (m b d : ℕ) → 0 < m → 0 < b → 0 < d → bit_or (bit_or m b) d ≡ 1 → (m ≡ 1) × (b ≡ 1) × (d ≡ 1)
+all_ones m b d p q r e = (
+  omega (arith, e, le_or_l m b, le_or_l (bit_or m b) d),
+  omega (arith, e, le_or_r m b, le_or_l (bit_or m b) d),
+  omega (arith, e, le_or_r (bit_or m b) d),
+)
 
 taken : (overflows : Bool) (wide : Wide) (q v : ℚ) → (overflows ≡ false) × (v ≡ q) → cond overflows (Err wide) (Ok q) ≡ Ok v
 taken overflows wide q v h = rw (h.0, h.1) refl

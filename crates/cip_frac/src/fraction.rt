@@ -1,12 +1,12 @@
 // Fractions in lowest terms.
-ghost use Rattle.std.specs.Prelude.{◌≡◌, ◌≢◌, ℕ, ℤ, ◌<◌, ◌≤◌, ◌^◌, ◌↔◌, IsTrue, pos, negsuc, neg_ℤ, unsigned_abs, MatchResult, true, false, if◌then◌else◌};
+ghost use Rattle.std.specs.Prelude.{◌≡◌, ◌≢◌, ℕ, ℤ, ◌<◌, ◌≤◌, ◌^◌, ◌↔◌, IsTrue, pos, negsuc, neg_ℤ, unsigned_abs, IfSome, MatchResult, true, false, if◌then◌else◌};
 ghost use Rattle.std.specs.Int.{IsGcd};
 ghost use Rattle.cip_rational.specs.Rational.{ℚ, ◌<ℚ◌, negate, inverse, absolute, integer, ratio, zeroℚ, oneℚ, numerator, denominator, IsWhole, floor, ceil};
 ghost use Rattle.cip_rational.specs.Range.{largest, magnitude, fits_range};
 ghost use Rattle.cip_frac.specs.FractionFault.{quotient_of, IsFaultOf};
 
-use crate::bounded::{LARGEST, floor_part_of};
-use crate::gcd::gcd;
+use crate::bounded::{LARGEST, floor_part_of, short};
+use crate::gcd::{gcd, short_gcd};
 use std::marker::Model;
 
 /// Why two integers make no fraction.
@@ -256,6 +256,37 @@ impl Frac {
         Frac {
             numerator,
             denominator,
+        }
+    }
+
+    // The number of terms that need not be lowest.
+    #[inline]
+    pub(crate) fn reduced(total: i64, common: u64) -> Frac
+        requires { 0 < common }
+        ensures { result ≡ ratio total common }
+    {
+        let size = total.unsigned_abs();
+        let g = short_gcd(size, common);
+        if g == 1 {
+            return Frac::of_lowest(total as i128, common as u128);
+        }
+        let numerator = with_sign(total < 0, (size / g) as u128);
+        Frac::of_lowest(numerator, (common / g) as u128)
+    }
+
+    // The lowest terms, where they are below 2^63.
+    #[inline]
+    pub(crate) fn short_terms(self) -> Option<(i64, u64)>
+        ensures { IfSome result
+            (λ terms. (terms.0 ≡ numerator self) × (terms.1 ≡ denominator self)
+            × (magnitude (numerator self) ≤ 2 ^ 63) × (terms.1 < 2 ^ 63)) }
+    {
+        if self.denominator > i64::MAX as u128 {
+            return None;
+        }
+        match short(self.numerator) {
+            Some(numerator) => Some((numerator, self.denominator as u64)),
+            None => None,
         }
     }
 

@@ -50,7 +50,7 @@ fn narrowed(a: u64, b: u64) -> (u64, u64)
 }
 
 #[inline]
-fn short_gcd(a: u64, b: u64) -> u64
+pub(crate) fn short_gcd(a: u64, b: u64) -> u64
     ensures { IsGcd a b result }
 {
     if a <= 1 {

@@ -4,25 +4,51 @@ ghost use Rattle.std.specs.Prelude.{◌≡◌, Ok, IsErr, IfSome, MatchOption};
 ghost use Rattle.std.specs.Bool.{MatchBool};
 ghost use Rattle.cip_frac.specs.Outcomes.{sum_outcome, product_outcome, product_added};
 
-use crate::bounded::short_total;
+use crate::bounded::{short_common, short_sum, short_total};
 use crate::fraction::Frac;
 use crate::operations::{Wide, product, sum};
 
-// A sum with a product added, of whole numbers below 2^63 in magnitude.
+// A sum with a product added, of whole numbers of 64 bits.
 #[inline]
-fn short_step(start: Frac, left: &Frac, right: &Frac) -> Option<Frac>
+fn whole_number_step(start: Frac, left: &Frac, right: &Frac) -> Option<Frac>
     ensures { IfSome result (λ value. product_added start left.now right.now ≡ Ok value) }
 {
     let (n, m) = start.terms();
     let (a, b) = left.terms();
     let (c, d) = right.terms();
-    if b == 1 && d == 1 && m == 1 {
-        match short_total(n, a, c) {
-            Some(total) => Some(Frac::of_lowest(total, 1)),
-            None => None,
-        }
-    } else {
-        None
+    if m | b | d != 1 {
+        return None;
+    }
+    match short_total(n, a, c) {
+        Some(total) => Some(Frac::of_lowest(total, 1)),
+        None => None,
+    }
+}
+
+// A sum with a product added, where over the product of the denominators all of it fits in 64 bits. It is
+// reduced once.
+#[inline]
+fn fraction_step(start: Frac, left: &Frac, right: &Frac) -> Option<Frac>
+    ensures { IfSome result (λ value. product_added start left.now right.now ≡ Ok value) }
+{
+    let Some((n, m)) = start.short_terms() else {
+        return None;
+    };
+    let Some((a, b)) = left.short_terms() else {
+        return None;
+    };
+    let Some((c, d)) = right.short_terms() else {
+        return None;
+    };
+    let Some(over) = a.checked_mul(c) else {
+        return None;
+    };
+    let Some(under) = short_common(b, d) else {
+        return None;
+    };
+    match short_sum(n, m, over, under) {
+        Some((total, common)) => Some(Frac::reduced(total, common)),
+        None => None,
     }
 }
 
@@ -32,6 +58,9 @@ fn sum_with_product(start: Frac, left: &Frac, right: &Frac) -> Option<Frac>
     ensures { MatchOption result (IsErr (product_added start left.now right.now))
         (λ value. product_added start left.now right.now ≡ Ok value) }
 {
+    if let Some(value) = fraction_step(start, left, right) {
+        return Some(value);
+    }
     let Some(product) = product(*left, *right) else {
         return None;
     };
@@ -74,7 +103,7 @@ impl Frac {
         ensures { MatchBool result (product_added self.old left.now right.now ≡ Ok self.new)
             (IsErr (product_added self.old left.now right.now) × (self.new ≡ self.old)) }
     {
-        if let Some(value) = short_step(*self, left, right) {
+        if let Some(value) = whole_number_step(*self, left, right) {
             *self = value;
             return true;
         }
