@@ -8,6 +8,7 @@ pub mod Outcomes
 pub mod Products
 pub mod Quotients
 pub mod Reduced
+pub mod ShortParts
 pub mod ShortSums
 pub mod SumParts
 pub mod SumSteps

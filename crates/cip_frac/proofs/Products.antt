@@ -139,13 +139,13 @@ module _ {x y : ℚ} {a c : ℤ} {b d g h : ℕ} (w : Parts x y a c b d g h) whe
         let e : q ≡ int_div c (pos h) = rw (kept c w.hc.over_small) at eq in
         ap (λ k. k *ℤ pos h) e ∙ exact_quotient c h w.hh.0
 
-    p_read : read p ≡ p
+    pub p_read : read p ≡ p
     p_read =
         let e : unsigned_abs p * g ≡ unsigned_abs a = sym (unsigned_abs-mul p (pos g)) ∙ ap unsigned_abs p_exact in
         let l : unsigned_abs p ≤ unsigned_abs p * g = le-mul_of_pos_right _ first_some in
         kept p (omega (arith, w.ha.over_small))
 
-    q_read : read q ≡ q
+    pub q_read : read q ≡ q
     q_read =
         let e : unsigned_abs q * h ≡ unsigned_abs c = sym (unsigned_abs-mul q (pos h)) ∙ ap unsigned_abs q_exact in
         let l : unsigned_abs q ≤ unsigned_abs q * h = le-mul_of_pos_right _ second_some in

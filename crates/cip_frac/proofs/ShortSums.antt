@@ -20,7 +20,7 @@ distributed n p m =
     let h : up (n +ℤ p) + down n + down p ≡ down (n +ℤ p) + up n + up p = omega (arith, sum_is_lem n p) in
     same_in _ _ (omega (arith, ap (λ t. t * m) h, product_is (n +ℤ p) (pos m), product_is n (pos m), product_is p (pos m), sum_is_lem (n *ℤ pos m) (p *ℤ pos m)))
 
-natural_word : (q : ℕ) → q < 2 ^ 63 → to_z w64 q ≡ pos q
+pub natural_word : (q : ℕ) → q < 2 ^ 63 → to_z w64 q ≡ pos q
 natural_word q h = omega (arith, ints)
 
 module _ (n p : ℤ) (m q : ℕ) (fn : FitsSigned w64 n) (fp : FitsSigned w64 p) (some_m : 0 < m) (some_q : 0 < q) where
@@ -45,10 +45,10 @@ module _ (n p : ℤ) (m q : ℕ) (fn : FitsSigned w64 n) (fp : FitsSigned w64 p)
       let kt : word total ≡ n *ℤ pos q +ℤ p *ℤ pos m = rw (kf, ks) at (ap word h3.1 ∙ to_z-of_z w64 (word first +ℤ word second) h3.0) in
       (rw ec (mul-pos some_m some_q), ap₂ ratio kt ec ∙ sym (ratio-add n p m q some_m some_q))
 
-word_size : (z : ℤ) → FitsSigned w64 z → unsigned_abs z ≤ 2 ^ 63
+pub word_size : (z : ℤ) → FitsSigned w64 z → unsigned_abs z ≤ 2 ^ 63
 word_size z f = omega (arith, ints, f)
 
-small_square : (k l : ℕ) → k ≤ 2 ^ 63 → l < 2 ^ 63 → k * l < 2 ^ 126
+pub small_square : (k l : ℕ) → k ≤ 2 ^ 63 → l < 2 ^ 63 → k * l < 2 ^ 126
 small_square k l p q =
     let r : l ≤ 9223372036854775807 = omega arith in
     let h : k * l ≤ 2 ^ 63 * 9223372036854775807 = mul-le-mul p r in

@@ -3,7 +3,8 @@
 // Each function first takes the short way for operands of 64 bits.
 ghost use Rattle.std.specs.Prelude.{◌≡◌, ℕ, ◌+◌, ◌*◌, ◌/◌, ◌<◌, ◌≤◌, ◌^◌, ◌↔◌, IsTrue, pos, ◌+ℤ◌, ◌*ℤ◌, unsigned_abs, int_div, SomeIff, IfSome};
 ghost use Rattle.std.specs.Int.{int_div_euclid};
-ghost use Rattle.cip_rational.specs.Rational.{◌+ℚ◌, ratio};
+
+use crate::words::{short, whole_step, wide_product};
 
 const SHORT: u128 = 0x1_0000_0000_0000_0000;
 
@@ -34,35 +35,15 @@ pub(crate) fn bounded_sum(a: i128, b: i128) -> Option<i128>
 pub(crate) fn bounded_product(a: i128, b: i128) -> Option<i128>
     ensures { SomeIff result (unsigned_abs a * unsigned_abs b < 2 ^ 127) (a *ℤ b) }
 {
-    if is_short(a) && is_short(b) {
-        return Some(a * b);
+    if let Some(left) = short(a) {
+        if let Some(right) = short(b) {
+            return Some(wide_product(left, right));
+        }
     }
     match a.checked_mul(b) {
         Some(product) if product != i128::MIN => Some(product),
         _ => None,
     }
-}
-
-// The integer in 64 bits, where it fits.
-#[inline]
-pub(crate) fn short(a: i128) -> Option<i64>
-    ensures { IfSome result (λ word. (word ≡ a) × (unsigned_abs a ≤ 2 ^ 63)) }
-{
-    if i64::MIN as i128 <= a && a <= i64::MAX as i128 {
-        Some(a as i64)
-    } else {
-        None
-    }
-}
-
-// n + a * c
-#[inline]
-pub(crate) fn whole_step(n: i64, a: i64, c: i64) -> i128
-    ensures value { result ≡ n +ℤ a *ℤ c }
-    ensures small_product { unsigned_abs (a *ℤ c) < 2 ^ 127 }
-    ensures small { unsigned_abs result < 2 ^ 127 }
-{
-    n as i128 + a as i128 * c as i128
 }
 
 // n + a * c, of integers of 64 bits.
@@ -81,47 +62,6 @@ pub(crate) fn short_total(n: i128, a: i128, c: i128) -> Option<i128>
         return None;
     };
     Some(whole_step(start, left, right))
-}
-
-// The product of two denominators, where it is below 2^63.
-#[inline]
-pub(crate) fn short_common(b: u64, d: u64) -> Option<u64>
-    ensures { IfSome result (λ common. (common ≡ b * d) × (common < 2 ^ 63)) }
-{
-    match b.checked_mul(d) {
-        Some(common) if common <= i64::MAX as u64 => Some(common),
-        _ => None,
-    }
-}
-
-// The terms of n / m + p / q over one denominator, not reduced, where they fit in 64 bits.
-#[inline]
-pub(crate) fn short_sum(n: i64, m: u64, p: i64, q: u64) -> Option<(i64, u64)>
-    requires positive { 0 < m }
-    requires other_positive { 0 < q }
-    requires small { m < 2 ^ 63 }
-    requires other_small { q < 2 ^ 63 }
-    ensures { IfSome result (λ terms. (0 < terms.1) × (ratio terms.0 terms.1 ≡ ratio n m +ℚ ratio p q)) }
-{
-    if m == q {
-        return match n.checked_add(p) {
-            Some(total) => Some((total, m)),
-            None => None,
-        };
-    }
-    let Some(first) = n.checked_mul(q as i64) else {
-        return None;
-    };
-    let Some(second) = p.checked_mul(m as i64) else {
-        return None;
-    };
-    let Some(total) = first.checked_add(second) else {
-        return None;
-    };
-    match m.checked_mul(q) {
-        Some(common) => Some((total, common)),
-        None => None,
-    }
 }
 
 // The product of a numerator and a part of a denominator.

@@ -5,8 +5,9 @@ ghost use Rattle.cip_rational.specs.Rational.{ℚ, ◌<ℚ◌, negate, inverse, 
 ghost use Rattle.cip_rational.specs.Range.{largest, magnitude, fits_range};
 ghost use Rattle.cip_frac.specs.FractionFault.{quotient_of, IsFaultOf};
 
-use crate::bounded::{LARGEST, floor_part_of, short};
+use crate::bounded::{LARGEST, floor_part_of};
 use crate::gcd::{gcd, short_gcd};
+use crate::words::short;
 use std::marker::Model;
 
 /// Why two integers make no fraction.

@@ -66,6 +66,14 @@ pub(crate) fn short_gcd(a: u64, b: u64) -> u64
     stripped_gcd(low, rest)
 }
 
+// Of two denominators, which are often equal.
+#[inline]
+pub(crate) fn denominators_gcd(b: u64, d: u64) -> u64
+    ensures { IsGcd b d result }
+{
+    if b == d { b } else { short_gcd(b, d) }
+}
+
 #[inline(never)]
 fn long_gcd(a: u128, b: u128) -> u128
     ensures { IsGcd a b result }

@@ -4,9 +4,10 @@ ghost use Rattle.std.specs.Prelude.{◌≡◌, Ok, IsErr, IfSome, MatchOption};
 ghost use Rattle.std.specs.Bool.{MatchBool};
 ghost use Rattle.cip_frac.specs.Outcomes.{sum_outcome, product_outcome, product_added};
 
-use crate::bounded::{short_common, short_sum, short_total};
+use crate::bounded::short_total;
 use crate::fraction::Frac;
 use crate::operations::{Wide, product, sum};
+use crate::words::{short_common, short_sum};
 
 // A sum with a product added, of whole numbers of 64 bits.
 #[inline]

@@ -10,6 +10,7 @@ mod order;
 #[cfg(test)]
 mod tests;
 mod text;
+mod words;
 
 pub use fraction::{Frac, FracFault};
 pub use operations::{Operation, Wide};

@@ -1,5 +1,5 @@
 // Sums, differences, products and quotients.
-ghost use Rattle.std.specs.Prelude.{◌≡◌, ◌≢◌, ℕ, ◌<◌, ◌^◌, true, false, ◌+ℤ◌, ◌*ℤ◌, unsigned_abs, MatchOption, MatchResult};
+ghost use Rattle.std.specs.Prelude.{◌≡◌, ◌≢◌, ℕ, ◌<◌, ◌^◌, true, false, ◌+ℤ◌, ◌*ℤ◌, unsigned_abs, IfSome, MatchOption, MatchResult};
 ghost use Rattle.cip_rational.specs.Rational.{◌+ℚ◌, ◌-ℚ◌, ◌*ℚ◌, inverse, ratio, zeroℚ};
 ghost use Rattle.cip_rational.specs.Range.{sum_overflows, difference_overflows, product_overflows, quotient_overflows};
 
@@ -7,7 +7,8 @@ use crate::bounded::{
     bounded_common, bounded_product, bounded_sum, part_of, raised, signed_part_of,
 };
 use crate::fraction::Frac;
-use crate::gcd::gcd;
+use crate::gcd::{denominators_gcd, gcd, short_gcd};
+use crate::words::{cross_sum, short_part_of, short_signed_part_of, wide_common, wide_product};
 
 /// Which of the four operations it was.
 #[derive(Clone, Copy, PartialEq, Eq, Debug)]
@@ -160,10 +161,74 @@ pub(crate) fn product(left: Frac, right: Frac) -> Option<Frac>
     fraction_product(left, right)
 }
 
+// Of numbers whose terms are below 2^63, which cannot overflow.
+#[inline]
+fn short_fraction_sum(left: Frac, right: Frac) -> Option<Frac>
+    ensures { IfSome result (λ value. (sum_overflows left right ≡ false) × (value ≡ left +ℚ right)) }
+{
+    let Some((a, b)) = left.short_terms() else {
+        return None;
+    };
+    let Some((c, d)) = right.short_terms() else {
+        return None;
+    };
+    let g = denominators_gcd(b, d);
+    let over = short_part_of(d, g);
+    let under = short_part_of(b, g);
+    let total = cross_sum(a, over, c, under);
+    if g == 1 {
+        return Some(Frac::of_lowest(total, wide_common(under, d)));
+    }
+    let rest = gcd(total.unsigned_abs(), g as u128);
+    let numerator = signed_part_of(total, rest);
+    let last = part_of(d as u128, rest);
+    Some(Frac::of_lowest(numerator, under as u128 * last))
+}
+
+// Of numbers whose terms are below 2^63, which cannot overflow.
+#[inline]
+fn short_fraction_product(left: Frac, right: Frac) -> Option<Frac>
+    ensures { IfSome result (λ value. (product_overflows left right ≡ false) × (value ≡ left *ℚ right)) }
+{
+    let Some((a, b)) = left.short_terms() else {
+        return None;
+    };
+    let Some((c, d)) = right.short_terms() else {
+        return None;
+    };
+    let g = short_gcd(a.unsigned_abs(), d);
+    let h = short_gcd(c.unsigned_abs(), b);
+    let numerator = wide_product(short_signed_part_of(a, g), short_signed_part_of(c, h));
+    let denominator = wide_common(short_part_of(b, h), short_part_of(d, g));
+    Some(Frac::of_lowest(numerator, denominator))
+}
+
+#[inline(never)]
+fn fraction_sum(left: Frac, right: Frac) -> Option<Frac>
+    ensures { MatchOption result (sum_overflows left right ≡ true)
+        (λ value. (sum_overflows left right ≡ false) × (value ≡ left +ℚ right)) }
+{
+    match short_fraction_sum(left, right) {
+        Some(value) => Some(value),
+        None => long_sum(left, right),
+    }
+}
+
+#[inline(never)]
+fn fraction_product(left: Frac, right: Frac) -> Option<Frac>
+    ensures { MatchOption result (product_overflows left right ≡ true)
+        (λ value. (product_overflows left right ≡ false) × (value ≡ left *ℚ right)) }
+{
+    match short_fraction_product(left, right) {
+        Some(value) => Some(value),
+        None => long_product(left, right),
+    }
+}
+
 // With the greatest common divisor g of the denominators, the sum's numerator has no divisor in common with
 // the product of the denominators' other parts: so what is left to take out divides g.
 #[inline(never)]
-fn fraction_sum(left: Frac, right: Frac) -> Option<Frac>
+fn long_sum(left: Frac, right: Frac) -> Option<Frac>
     ensures { MatchOption result (sum_overflows left right ≡ true)
         (λ value. (sum_overflows left right ≡ false) × (value ≡ left +ℚ right)) }
 {
@@ -195,7 +260,7 @@ fn fraction_sum(left: Frac, right: Frac) -> Option<Frac>
 
 // Each numerator is cancelled against the other denominator first, so the product is in lowest terms.
 #[inline(never)]
-fn fraction_product(left: Frac, right: Frac) -> Option<Frac>
+fn long_product(left: Frac, right: Frac) -> Option<Frac>
     ensures { MatchOption result (product_overflows left right ≡ true)
         (λ value. (product_overflows left right ≡ false) × (value ≡ left *ℚ right)) }
 {

@@ -1,5 +1,5 @@
 use Rattle.cip_frac.proofs.Casts.{whole_step_fits, whole_step_is, whole_step_small}
-use Rattle.cip_frac.proofs.bounded.whole_step.Goals as goal
+use Rattle.cip_frac.proofs.words.whole_step.Goals as goal
 
 pub overflow_add-result : goal.overflow_add-result
 overflow_add-result c = whole_step_fits c.args.n c.args.a c.args.c c.ranges.n c.ranges.a c.ranges.c

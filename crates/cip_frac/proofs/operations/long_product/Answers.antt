@@ -1,6 +1,6 @@
 use Rattle.std.proofs.Common.{◌∙◌}
 use Rattle.cip_frac.proofs.Products.{parts, first_some, second_some, first_small, second_small, numerator_none, denominator_none, all_fit, lowest, is_product}
-use Rattle.cip_frac.proofs.operations.fraction_product.Goals as goal
+use Rattle.cip_frac.proofs.operations.long_product.Goals as goal
 
 pub signed_part_of-first-requires-clause-positive : goal.signed_part_of-first-requires-clause-positive
 signed_part_of-first-requires-clause-positive c =

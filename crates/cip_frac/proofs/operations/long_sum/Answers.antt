@@ -1,7 +1,7 @@
 use Rattle.std.proofs.Common.{◌∙◌}
 use Rattle.cip_frac.proofs.Divisors.{positive_from_IsGcd}
 use Rattle.cip_frac.proofs.SumSteps.{known, first_none, second_none, total_none, common_none, all_fit, short_lowest, short_ratio, rest_is_some, rest_small, last_lowest, last_ratio}
-use Rattle.cip_frac.proofs.operations.fraction_sum.Goals as goal
+use Rattle.cip_frac.proofs.operations.long_sum.Goals as goal
 
 pub part_of-over-requires : goal.part_of-over-requires
 part_of-over-requires c =

@@ -1,5 +1,5 @@
 use Rattle.cip_frac.proofs.ShortSums.{same_denominators, other_denominators}
-use Rattle.cip_frac.proofs.bounded.short_sum.Goals as goal
+use Rattle.cip_frac.proofs.words.short_sum.Goals as goal
 
 pub returns-in-Some : goal.returns-in-Some
 returns-in-Some c =

@@ -1,0 +1,10 @@
+use Rattle.cip_frac.proofs.ShortParts.{cross_fits, cross_is}
+use Rattle.cip_frac.proofs.words.cross_sum.Goals as goal
+
+pub overflow_add-result : goal.overflow_add-result
+overflow_add-result c =
+    cross_fits c.args.a c.args.c c.args.o c.args.u c.ranges.a c.ranges.c c.requires.first c.requires.second _ _ c.wide_product.ensures.value c.wide_product-2.ensures.value
+
+pub returns : goal.returns
+returns c =
+    cross_is c.args.a c.args.c c.args.o c.args.u c.ranges.a c.ranges.c c.requires.first c.requires.second _ _ c.wide_product.ensures.value c.wide_product-2.ensures.value
