@@ -1,6 +1,6 @@
 -- A number without its trailing zeros, and what halves leave of a greatest common divisor.
 use Rattle.std.proofs.Common.{◌≡◌, ◌≢◌, ℕ, zero, suc, ◌+◌, ◌*◌, ◌-◌, ◌/◌, ◌%◌, ◌<◌, ◌≤◌, ◌^◌, min, max, pos, sym, subst, ap, arith, ◌∙◌, refl, ◌⊎◌, inl, inr}
-use Rattle.std.specs.Int.{IsGcd}
+use Rattle.std.specs.Int.{IsGcd, abs_diff}
 use lib.Count.{count_trailing_zeros, under}
 use Prim.Native.Nat.{◌∣◌}
 use Rattle.std.proofs.lemmas.Nat.{pow-add}
@@ -53,23 +53,28 @@ ends : (x y : ℕ) → ((min x y ≡ x) × (max x y ≡ y)) ⊎ ((min x y ≡ y)
 ends x y = by_lt_z (pos x) (pos y) (λ h. inl (omega (arith, ints, h), omega (arith, ints, h))) (λ h. inr (omega (arith, ints, h), omega (arith, ints, h)))
 
 -- one step of the loop over two odd numbers
-module _ (x y high low : ℕ) (ox : x % 2 ≡ 1) (oy : y % 2 ≡ 1) (s : x ≢ y) (eh : high ≡ max x y) (el : low ≡ min x y) (small : high < 2 ^ 64) where
+module _ (x y rest low : ℕ) (ox : x % 2 ≡ 1) (oy : y % 2 ≡ 1) (s : x ≢ y) (er : rest ≡ abs_diff x y) (el : low ≡ min x y) (small : rest < 2 ^ 64) where
   pub low_odd : low % 2 ≡ 1
   low_odd = elim (ends x y) [ inl e ↦ ap (λ m. m % 2) (el ∙ e.0) ∙ ox | inr e ↦ ap (λ m. m % 2) (el ∙ e.0) ∙ oy ]
 
-  difference_stripped : IsStripped (high - low) (count_trailing_zeros 64 (high - low))
-  difference_stripped = stripped 64 (high - low) (omega (arith, s)) (omega arith)
+  rest_stripped : IsStripped rest (count_trailing_zeros 64 rest)
+  rest_stripped = stripped 64 rest (omega (arith, er, s)) small
 
-  pub next_odd : (high - low) / 2 ^ count_trailing_zeros 64 (high - low) % 2 ≡ 1
-  next_odd = difference_stripped.odd
+  pub next_odd : rest / 2 ^ count_trailing_zeros 64 rest % 2 ≡ 1
+  next_odd = rest_stripped.odd
 
-  pub same_gcd : (g : ℕ) → IsGcd ((high - low) / 2 ^ count_trailing_zeros 64 (high - low)) low g → IsGcd x y g
+  pub same_gcd : (g : ℕ) → IsGcd (rest / 2 ^ count_trailing_zeros 64 rest) low g → IsGcd x y g
   same_gcd g h =
-      let p : IsGcd (high - low) low g = stripped_gcd (high - low) _ low g difference_stripped low_odd h in
-      let q : IsGcd high low g = IsGcd-from_sub high low g (omega arith) p in
+      let p : IsGcd rest low g = stripped_gcd rest _ low g rest_stripped low_odd h in
       elim (ends x y) [
-        | inl e ↦ IsGcd-swap y x g (subst (λ m. IsGcd m x g) (eh ∙ e.1) (subst (λ m. IsGcd high m g) (el ∙ e.0) q))
-        | inr e ↦ subst (λ m. IsGcd m y g) (eh ∙ e.1) (subst (λ m. IsGcd high m g) (el ∙ e.0) q)
+        | inl e ↦
+          let r : rest ≡ y - x = omega (arith, er, e.0, e.1) in
+          let le : x ≤ y = omega (arith, e.0, e.1) in
+          IsGcd-swap y x g (IsGcd-from_sub y x g le (subst (λ m. IsGcd m x g) r (subst (λ m. IsGcd rest m g) (el ∙ e.0) p)))
+        | inr e ↦
+          let r : rest ≡ x - y = omega (arith, er, e.0, e.1) in
+          let le : y ≤ x = omega (arith, e.0, e.1) in
+          IsGcd-from_sub x y g le (subst (λ m. IsGcd m y g) r (subst (λ m. IsGcd rest m g) (el ∙ e.0) p))
       ]
 
 -- ---- both numbers with their factors of two

@@ -13,10 +13,9 @@ fn odd_gcd(a: u64, b: u64) -> u64
     let mut x = a;
     let mut y = b;
     while x != y {
-        let low = x.min(y);
-        let rest = x.max(y) - low;
+        let rest = x.abs_diff(y);
+        y = x.min(y);
         x = rest >> rest.trailing_zeros();
-        y = low;
     }
     x
 }

@@ -227,7 +227,7 @@ fn fraction_product(left: Frac, right: Frac) -> Option<Frac>
 
 // With the greatest common divisor g of the denominators, the sum's numerator has no divisor in common with
 // the product of the denominators' other parts: so what is left to take out divides g.
-#[inline(never)]
+#[inline]
 fn long_sum(left: Frac, right: Frac) -> Option<Frac>
     ensures { MatchOption result (sum_overflows left right ≡ true)
         (λ value. (sum_overflows left right ≡ false) × (value ≡ left +ℚ right)) }
@@ -259,7 +259,7 @@ fn long_sum(left: Frac, right: Frac) -> Option<Frac>
 }
 
 // Each numerator is cancelled against the other denominator first, so the product is in lowest terms.
-#[inline(never)]
+#[inline]
 fn long_product(left: Frac, right: Frac) -> Option<Frac>
     ensures { MatchOption result (product_overflows left right ≡ true)
         (λ value. (product_overflows left right ≡ false) × (value ≡ left *ℚ right)) }

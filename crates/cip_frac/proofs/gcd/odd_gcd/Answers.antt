@@ -4,9 +4,9 @@ use Rattle.cip_frac.proofs.gcd.odd_gcd.Goals as goal
 pub loop-x-preserved : goal.loop-x-preserved
 loop-x-preserved c =
     record {
-      first_odd = next_odd c.loop-x.x c.loop-x.y _ _ c.loop-x.invariant.first_odd c.loop-x.invariant.second_odd c.loop-x-test.true c.max.ensures c.min-low.ensures c.max.type_inv;
-      second_odd = low_odd c.loop-x.x c.loop-x.y _ _ c.loop-x.invariant.first_odd c.loop-x.invariant.second_odd c.loop-x-test.true c.max.ensures c.min-low.ensures c.max.type_inv;
-      same = λ g h. c.loop-x.invariant.same g (same_gcd c.loop-x.x c.loop-x.y _ _ c.loop-x.invariant.first_odd c.loop-x.invariant.second_odd c.loop-x-test.true c.max.ensures c.min-low.ensures c.max.type_inv g h);
+      first_odd = next_odd c.loop-x.x c.loop-x.y _ _ c.loop-x.invariant.first_odd c.loop-x.invariant.second_odd c.loop-x-test.true c.abs_diff-rest.ensures c.min-y.ensures c.abs_diff-rest.type_inv;
+      second_odd = low_odd c.loop-x.x c.loop-x.y _ _ c.loop-x.invariant.first_odd c.loop-x.invariant.second_odd c.loop-x-test.true c.abs_diff-rest.ensures c.min-y.ensures c.abs_diff-rest.type_inv;
+      same = λ g h. c.loop-x.invariant.same g (same_gcd c.loop-x.x c.loop-x.y _ _ c.loop-x.invariant.first_odd c.loop-x.invariant.second_odd c.loop-x-test.true c.abs_diff-rest.ensures c.min-y.ensures c.abs_diff-rest.type_inv g h);
     }
 
 pub returns : goal.returns
