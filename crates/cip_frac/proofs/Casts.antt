@@ -1,23 +1,8 @@
 -- Short products and quotients: what the code computes over 64 bits is the number meant.
-use Rattle.std.proofs.Common.{◌≡◌, ℕ, ◌*◌, ◌<◌, ◌≤◌, ◌^◌, ◌*ℤ◌, ◌+ℤ◌, ℤ, pos, unsigned_abs, neg_ℤ, ◌-ℤ◌, FitsSigned, to_z, of_z, arith, ap, lit<, sym, ◌∙◌}
+use Rattle.std.proofs.Common.{◌≡◌, ℕ, ◌<◌, ◌≤◌, ◌^◌, ℤ, pos, unsigned_abs, neg_ℤ, ◌-ℤ◌, FitsSigned, to_z, of_z, arith, ap, ◌∙◌}
 use Rattle.std.specs.Int.{w64, w128}
 use Rattle.std.specs.Prelude.{int_div}
-use Rattle.std.proofs.lemmas.Int.{ints, unsigned_abs-mul, fits_signed_mul, to_z-of_z, fits_signed_from_abs, quot_is, quot_fits}
-use Rattle.std.proofs.Math.Nat.{mul-le-mul}
-
-bounded_square : (m n : ℕ) → m < 2 ^ 63 → n < 2 ^ 63 → m * n < 2 ^ 127
-bounded_square m n p q = let a : m ≤ 2 ^ 63 = omega arith in let b : n ≤ 2 ^ 63 = omega arith in let h : m * n ≤ 2 ^ 63 * 2 ^ 63 = mul-le-mul a b in omega arith
-
-pub short_product_fits : (a b : ℤ) → FitsSigned w128 a → FitsSigned w128 b → unsigned_abs (to_z w128 (of_z w128 a)) < 2 ^ 63 → unsigned_abs (to_z w128 (of_z w128 b)) < 2 ^ 63 → FitsSigned w128 (to_z w128 (of_z w128 a) *ℤ to_z w128 (of_z w128 b))
-short_product_fits a b fa fb p q =
-    fits_signed_mul w128 (to_z w128 (of_z w128 a)) (to_z w128 (of_z w128 b)) (2 ^ 63) (2 ^ 63) (omega arith) (omega arith) (lit< tt)
-
-pub product_is_short : (a b : ℤ) → FitsSigned w128 a → FitsSigned w128 b → unsigned_abs (to_z w128 (of_z w128 a)) < 2 ^ 63 → unsigned_abs (to_z w128 (of_z w128 b)) < 2 ^ 63 → (unsigned_abs a * unsigned_abs b < 2 ^ 127) × (to_z w128 (of_z w128 (to_z w128 (of_z w128 a) *ℤ to_z w128 (of_z w128 b))) ≡ a *ℤ b)
-product_is_short a b fa fb p q =
-    let ea : to_z w128 (of_z w128 a) ≡ a = to_z-of_z w128 a fa in
-    let eb : to_z w128 (of_z w128 b) ≡ b = to_z-of_z w128 b fb in
-    let f : FitsSigned w128 (a *ℤ b) = rw (sym ea, sym eb) (short_product_fits a b fa fb p q) in
-    (bounded_square (unsigned_abs a) (unsigned_abs b) (rw (ea) at p) (rw (eb) at q), rw (ea, eb) (to_z-of_z w128 (a *ℤ b) f))
+use Rattle.std.proofs.lemmas.Int.{ints, to_z-of_z, fits_signed_from_abs, quot_is, quot_fits}
 
 pub short_fits : (a : ℤ) → FitsSigned w128 a → unsigned_abs (to_z w128 (of_z w128 a)) < 2 ^ 63 → FitsSigned w64 (to_z w128 (of_z w128 a))
 short_fits a fa p = fits_signed_from_abs w64 (to_z w128 (of_z w128 a)) p
@@ -47,31 +32,3 @@ widened_small p f = omega (arith, ints, f)
 
 pub widened : (p : ℤ) → FitsSigned w64 p → to_z w128 (of_z w128 (to_z w64 (of_z w64 p))) ≡ p
 widened p f = ap (λ z. to_z w128 (of_z w128 z)) (to_z-of_z w64 p f) ∙ kept p (widened_small p f)
-
-short_size : (a : ℤ) → FitsSigned w64 a → unsigned_abs a ≤ 2 ^ 63
-short_size a f = omega (arith, ints, f)
-
-small_total : (n z : ℤ) → unsigned_abs n ≤ 2 ^ 63 → unsigned_abs z ≤ 2 ^ 126 → unsigned_abs (n +ℤ z) < 2 ^ 127
-small_total n z p q = omega (arith, ints, p, q)
-
--- a product of two integers of 64 bits added to a third
-module _ (n a b : ℤ) (fn : FitsSigned w64 n) (fa : FitsSigned w64 a) (fb : FitsSigned w64 b) where
-  product_small : unsigned_abs (a *ℤ b) ≤ 2 ^ 126
-  product_small =
-      let h : unsigned_abs a * unsigned_abs b ≤ 2 ^ 63 * 2 ^ 63 = mul-le-mul (short_size a fa) (short_size b fb) in
-      rw (unsigned_abs-mul a b) (omega arith)
-
-  product_kept : to_z w128 (of_z w128 (a *ℤ b)) ≡ a *ℤ b
-  product_kept = kept (a *ℤ b) (omega (arith, product_small))
-
-  total_below : unsigned_abs (n +ℤ a *ℤ b) < 2 ^ 127
-  total_below = small_total n (a *ℤ b) (short_size n fn) product_small
-
-  pub whole_step_fits : FitsSigned w128 (to_z w128 (of_z w128 (to_z w64 (of_z w64 n))) +ℤ to_z w128 (of_z w128 (to_z w128 (of_z w128 (to_z w64 (of_z w64 a))) *ℤ to_z w128 (of_z w128 (to_z w64 (of_z w64 b))))))
-  whole_step_fits = rw (widened n fn, widened a fa, widened b fb, product_kept) (fits_signed_from_abs w128 (n +ℤ a *ℤ b) total_below)
-
-  pub whole_step_is : to_z w128 (of_z w128 (to_z w128 (of_z w128 (to_z w64 (of_z w64 n))) +ℤ to_z w128 (of_z w128 (to_z w128 (of_z w128 (to_z w64 (of_z w64 a))) *ℤ to_z w128 (of_z w128 (to_z w64 (of_z w64 b))))))) ≡ n +ℤ a *ℤ b
-  whole_step_is = rw (widened n fn, widened a fa, widened b fb, product_kept) (kept (n +ℤ a *ℤ b) total_below)
-
-  pub whole_step_small : unsigned_abs (to_z w128 (of_z w128 (to_z w128 (of_z w128 (to_z w64 (of_z w64 n))) +ℤ to_z w128 (of_z w128 (to_z w128 (of_z w128 (to_z w64 (of_z w64 a))) *ℤ to_z w128 (of_z w128 (to_z w64 (of_z w64 b)))))))) < 2 ^ 127
-  whole_step_small = rw whole_step_is total_below

@@ -68,13 +68,13 @@ module _ (x y rest low : ℕ) (ox : x % 2 ≡ 1) (oy : y % 2 ≡ 1) (s : x ≢ y
       let p : IsGcd rest low g = stripped_gcd rest _ low g rest_stripped low_odd h in
       elim (ends x y) [
         | inl e ↦
-          let r : rest ≡ y - x = omega (arith, er, e.0, e.1) in
-          let le : x ≤ y = omega (arith, e.0, e.1) in
-          IsGcd-swap y x g (IsGcd-from_sub y x g le (subst (λ m. IsGcd m x g) r (subst (λ m. IsGcd rest m g) (el ∙ e.0) p)))
+            let r : rest ≡ y - x = omega (arith, er, e.0, e.1) in
+            let le : x ≤ y = omega (arith, e.0, e.1) in
+            IsGcd-swap y x g (IsGcd-from_sub y x g le (subst (λ m. IsGcd m x g) r (subst (λ m. IsGcd rest m g) (el ∙ e.0) p)))
         | inr e ↦
-          let r : rest ≡ x - y = omega (arith, er, e.0, e.1) in
-          let le : y ≤ x = omega (arith, e.0, e.1) in
-          IsGcd-from_sub x y g le (subst (λ m. IsGcd m y g) r (subst (λ m. IsGcd rest m g) (el ∙ e.0) p))
+            let r : rest ≡ x - y = omega (arith, er, e.0, e.1) in
+            let le : y ≤ x = omega (arith, e.0, e.1) in
+            IsGcd-from_sub x y g le (subst (λ m. IsGcd m y g) r (subst (λ m. IsGcd rest m g) (el ∙ e.0) p))
       ]
 
 -- ---- both numbers with their factors of two

@@ -4,7 +4,7 @@
 ghost use Rattle.std.specs.Prelude.{◌≡◌, ℕ, ◌+◌, ◌*◌, ◌/◌, ◌<◌, ◌≤◌, ◌^◌, ◌↔◌, IsTrue, pos, ◌+ℤ◌, ◌*ℤ◌, unsigned_abs, int_div, SomeIff, IfSome};
 ghost use Rattle.std.specs.Int.{int_div_euclid};
 
-use crate::words::{short, whole_step, wide_product};
+use crate::words::{short, wide_product};
 
 const SHORT: u128 = 0x1_0000_0000_0000_0000;
 
@@ -46,7 +46,7 @@ pub(crate) fn bounded_product(a: i128, b: i128) -> Option<i128>
     }
 }
 
-// n + a * c, of integers of 64 bits.
+// n + a * c, where a and c fit in 64 bits.
 #[inline]
 pub(crate) fn short_total(n: i128, a: i128, c: i128) -> Option<i128>
     ensures { IfSome result (λ total. (unsigned_abs (a *ℤ c) < 2 ^ 127)
@@ -58,10 +58,7 @@ pub(crate) fn short_total(n: i128, a: i128, c: i128) -> Option<i128>
     let Some(right) = short(c) else {
         return None;
     };
-    let Some(start) = short(n) else {
-        return None;
-    };
-    Some(whole_step(start, left, right))
+    bounded_sum(n, wide_product(left, right))
 }
 
 // The product of a numerator and a part of a denominator.

@@ -9,7 +9,7 @@ use crate::fraction::Frac;
 use crate::operations::{Wide, product, sum};
 use crate::words::{short_common, short_sum};
 
-// A sum with a product added, of whole numbers of 64 bits.
+// A sum with a product added, of whole numbers, the factors of 64 bits.
 #[inline]
 fn whole_number_step(start: Frac, left: &Frac, right: &Frac) -> Option<Frac>
     ensures { IfSome result (λ value. product_added start left.now right.now ≡ Ok value) }
