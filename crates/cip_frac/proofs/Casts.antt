@@ -1,8 +1,9 @@
 -- Short products and quotients: what the code computes over 64 bits is the number meant.
-use Rattle.std.proofs.Common.{◌≡◌, ℕ, ◌<◌, ◌≤◌, ◌^◌, ℤ, pos, unsigned_abs, neg_ℤ, ◌-ℤ◌, FitsSigned, to_z, of_z, arith, ap, ◌∙◌}
+use Rattle.std.proofs.Common.{◌≡◌, ℕ, ◌*◌, ◌<◌, ◌≤◌, ◌^◌, ◌*ℤ◌, ◌+ℤ◌, ℤ, pos, unsigned_abs, neg_ℤ, ◌-ℤ◌, FitsSigned, to_z, of_z, arith, ap, ◌∙◌}
 use Rattle.std.specs.Int.{w64, w128}
 use Rattle.std.specs.Prelude.{int_div}
-use Rattle.std.proofs.lemmas.Int.{ints, to_z-of_z, fits_signed_from_abs, quot_is, quot_fits}
+use Rattle.std.proofs.lemmas.Int.{ints, unsigned_abs-mul, to_z-of_z, fits_signed_from_abs, quot_is, quot_fits}
+use Rattle.std.proofs.Math.Nat.{mul-le-mul}
 
 pub short_fits : (a : ℤ) → FitsSigned w128 a → unsigned_abs (to_z w128 (of_z w128 a)) < 2 ^ 63 → FitsSigned w64 (to_z w128 (of_z w128 a))
 short_fits a fa p = fits_signed_from_abs w64 (to_z w128 (of_z w128 a)) p
@@ -32,3 +33,34 @@ widened_small p f = omega (arith, ints, f)
 
 pub widened : (p : ℤ) → FitsSigned w64 p → to_z w128 (of_z w128 (to_z w64 (of_z w64 p))) ≡ p
 widened p f = ap (λ z. to_z w128 (of_z w128 z)) (to_z-of_z w64 p f) ∙ kept p (widened_small p f)
+
+short_size : (a : ℤ) → FitsSigned w64 a → unsigned_abs a ≤ 2 ^ 63
+short_size a f = omega (arith, ints, f)
+
+step_total : (n z : ℤ) → unsigned_abs n < 2 ^ 126 → unsigned_abs z ≤ 2 ^ 126 → unsigned_abs (n +ℤ z) < 2 ^ 127
+step_total n z p q = omega (arith, ints, p, q)
+
+-- a product of two integers of 64 bits added to a third of 126
+module _ (n a b : ℤ) (fn : FitsSigned w128 n) (fa : FitsSigned w64 a) (fb : FitsSigned w64 b) (sn : unsigned_abs n < 2 ^ 126) where
+  kept_n : to_z w128 (of_z w128 n) ≡ n
+  kept_n = to_z-of_z w128 n fn
+
+  product_small : unsigned_abs (a *ℤ b) ≤ 2 ^ 126
+  product_small =
+      let h : unsigned_abs a * unsigned_abs b ≤ 2 ^ 63 * 2 ^ 63 = mul-le-mul (short_size a fa) (short_size b fb) in
+      rw (unsigned_abs-mul a b) (omega arith)
+
+  product_kept : to_z w128 (of_z w128 (a *ℤ b)) ≡ a *ℤ b
+  product_kept = kept (a *ℤ b) (omega (arith, product_small))
+
+  total_below : unsigned_abs (n +ℤ a *ℤ b) < 2 ^ 127
+  total_below = step_total n (a *ℤ b) sn product_small
+
+  pub whole_step_fits : FitsSigned w128 (to_z w128 (of_z w128 n) +ℤ to_z w128 (of_z w128 (to_z w128 (of_z w128 (to_z w64 (of_z w64 a))) *ℤ to_z w128 (of_z w128 (to_z w64 (of_z w64 b))))))
+  whole_step_fits = rw (kept_n, widened a fa, widened b fb, product_kept) (fits_signed_from_abs w128 (n +ℤ a *ℤ b) total_below)
+
+  pub whole_step_is : to_z w128 (of_z w128 (to_z w128 (of_z w128 n) +ℤ to_z w128 (of_z w128 (to_z w128 (of_z w128 (to_z w64 (of_z w64 a))) *ℤ to_z w128 (of_z w128 (to_z w64 (of_z w64 b))))))) ≡ n +ℤ a *ℤ b
+  whole_step_is = rw (kept_n, widened a fa, widened b fb, product_kept) (kept (n +ℤ a *ℤ b) total_below)
+
+  pub whole_step_small : unsigned_abs (to_z w128 (of_z w128 (to_z w128 (of_z w128 n) +ℤ to_z w128 (of_z w128 (to_z w128 (of_z w128 (to_z w64 (of_z w64 a))) *ℤ to_z w128 (of_z w128 (to_z w64 (of_z w64 b)))))))) < 2 ^ 127
+  whole_step_small = rw whole_step_is total_below

@@ -4,13 +4,17 @@
 ghost use Rattle.std.specs.Prelude.{◌≡◌, ℕ, ◌+◌, ◌*◌, ◌/◌, ◌<◌, ◌≤◌, ◌^◌, ◌↔◌, IsTrue, pos, ◌+ℤ◌, ◌*ℤ◌, unsigned_abs, int_div, SomeIff, IfSome};
 ghost use Rattle.std.specs.Int.{int_div_euclid};
 
-use crate::words::{short, wide_product};
+use crate::words::{short, whole_step, wide_product};
 
 const SHORT: u128 = 0x1_0000_0000_0000_0000;
 
 const SHORT_LEAST: i128 = -0x7FFF_FFFF_FFFF_FFFF;
 
 const SHORT_MOST: i128 = 0x7FFF_FFFF_FFFF_FFFF;
+
+const MIDDLE_LEAST: i128 = -0x2000_0000_0000_0000_0000_0000_0000_0000;
+
+const MIDDLE_MOST: i128 = 0x1FFF_FFFF_FFFF_FFFF_FFFF_FFFF_FFFF_FFFF;
 
 pub(crate) const LARGEST: u128 = 0x7FFF_FFFF_FFFF_FFFF_FFFF_FFFF_FFFF_FFFF;
 
@@ -46,7 +50,7 @@ pub(crate) fn bounded_product(a: i128, b: i128) -> Option<i128>
     }
 }
 
-// n + a * c, where a and c fit in 64 bits.
+// n + a * c, where a and c fit in 64 bits, and n in 126.
 #[inline]
 pub(crate) fn short_total(n: i128, a: i128, c: i128) -> Option<i128>
     ensures { IfSome result (λ total. (unsigned_abs (a *ℤ c) < 2 ^ 127)
@@ -58,7 +62,11 @@ pub(crate) fn short_total(n: i128, a: i128, c: i128) -> Option<i128>
     let Some(right) = short(c) else {
         return None;
     };
-    bounded_sum(n, wide_product(left, right))
+    if MIDDLE_LEAST <= n && n <= MIDDLE_MOST {
+        Some(whole_step(n, left, right))
+    } else {
+        None
+    }
 }
 
 // The product of a numerator and a part of a denominator.

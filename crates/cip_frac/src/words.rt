@@ -14,6 +14,17 @@ pub(crate) fn short(a: i128) -> Option<i64>
     }
 }
 
+// n + a * c
+#[inline]
+pub(crate) fn whole_step(n: i128, a: i64, c: i64) -> i128
+    requires { unsigned_abs n < 2 ^ 126 }
+    ensures value { result ≡ n +ℤ a *ℤ c }
+    ensures small_product { unsigned_abs (a *ℤ c) < 2 ^ 127 }
+    ensures small { unsigned_abs result < 2 ^ 127 }
+{
+    n + a as i128 * c as i128
+}
+
 // The product of two denominators, where it is below 2^63.
 #[inline]
 pub(crate) fn short_common(b: u64, d: u64) -> Option<u64>

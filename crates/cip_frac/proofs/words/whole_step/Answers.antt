@@ -1,0 +1,11 @@
+use Rattle.cip_frac.proofs.Casts.{whole_step_fits, whole_step_is, whole_step_small}
+use Rattle.cip_frac.proofs.words.whole_step.Goals as goal
+
+pub overflow_add-result : goal.overflow_add-result
+overflow_add-result c = whole_step_fits c.args.n c.args.a c.args.c c.ranges.n c.ranges.a c.ranges.c c.requires
+
+pub returns-clause-value : goal.returns-clause-value
+returns-clause-value c = whole_step_is c.args.n c.args.a c.args.c c.ranges.n c.ranges.a c.ranges.c c.requires
+
+pub returns-clause-small : goal.returns-clause-small
+returns-clause-small c = whole_step_small c.args.n c.args.a c.args.c c.ranges.n c.ranges.a c.ranges.c c.requires
