@@ -90,7 +90,7 @@ pub along-mul : (heading : Heading) (a x : ℚ) → along heading a *ℚ x ≡ a
 along-mul Up a x = refl
 along-mul Down a x = negate-*ℚ a x
 
-total-along : (n : ℕ) (heading : Heading) (f : ℕ → ℚ) → total n (λ k. along heading (f k)) ≡ along heading (total n f)
+pub total-along : (n : ℕ) (heading : Heading) (f : ℕ → ℚ) → total n (λ k. along heading (f k)) ≡ along heading (total n f)
 total-along zero heading f = sym (along-zero heading)
 total-along (suc n) Up f = ap (λ q. q +ℚ f n) (total-along n Up f)
 total-along (suc n) Down f =

@@ -41,6 +41,9 @@ driver d row heading k e =
 pub outside_basic : (d : Dictionary) (i : ℕ) → is_outside d i ≡ true → is_basic d i ≡ true
 outside_basic d i e = (and_parts _ _ e).0
 
+pub outside_between : (d : Dictionary) (i : ℕ) → is_outside d i ≡ true → is_between (sides_at d.sides i).low (sides_at d.sides i).high (value d i) ≡ false
+outside_between d i e = from_not (is_between (sides_at d.sides i).low (sides_at d.sides i).high (value d i)) (and_parts _ _ e).1
+
 pub outside_stand : (d : Dictionary) (i : ℕ) → is_outside d i ≡ true → CanStand (sides_at d.sides i) (stand_ahead (outside_heading d i))
 outside_stand d i e =
     let s = sides_at d.sides i in

@@ -24,14 +24,14 @@ pub data Kind (step : Step) : Type 0 where
   is_end : ((move : Move) → ¬ (step ≡ Makes move)) → Kind step
 
 -- whether a step is a move, and which
-abbrev move_in : Step → Option Move
+abbrev pub move_in : Step → Option Move
 move_in (Makes move) = Some move
 move_in (Crossed v) = None
 move_in (Infeasible i) = None
 move_in Optimum = None
 move_in (Ray j) = None
 
-no_move : (step : Step) → move_in step ≡ None → (move : Move) → ¬ (step ≡ Makes move)
+pub no_move : (step : Step) → move_in step ≡ None → (move : Move) → ¬ (step ≡ Makes move)
 no_move step e move f = none-some move (sym e ∙ ap move_in f)
 
 pub kind : (step : Step) → Kind step

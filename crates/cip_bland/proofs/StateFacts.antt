@@ -48,25 +48,30 @@ module _ (d : Dictionary) (c : IsConsistent d) where
   pub at_stand : (v : ℕ) (at : Stand) → v < size d → stand d v ≡ Some at → CanStand (sides_at d.sides v) at × (value d v ≡ standing_value (sides_at d.sides v) at)
   at_stand v at l e = let s = c.stands v at l e in (s.can_stand, s.has_value)
 
+  pub stuck_at : (row : ℕ → ℚ) (heading : Heading) → IsFreeRow d row → (v : ℕ) → v < size d → drives d row heading v ≡ false → IsUsed (along (back_of heading) (row v)) (sides_at d.sides v) (value d v)
+  stuck_at row heading free v l stuck =
+      stuck_used heading (row v) (sides_at d.sides v) (stand d v) (value d v) stuck (λ e. free v l (basic_at d v e)) (λ at e. at_stand v at l e)
+
   pub stuck_row : (row : ℕ → ℚ) (heading : Heading) → IsFreeRow d row → NoneOf (size d) (drives d row heading) → (v : ℕ) → v < size d → IsUsed (along (back_of heading) (row v)) (sides_at d.sides v) (value d v)
-  stuck_row row heading free none v l =
-      stuck_used heading (row v) (sides_at d.sides v) (stand d v) (value d v) (none.fails v l) (λ e. free v l (basic_at d v e)) (λ at e. at_stand v at l e)
+  stuck_row row heading free none v l = stuck_at row heading free v l (none.fails v l)
 
   -- a basic variable that isn't outside lies between its sides, and a nonbasic one does where they don't cross
-  pub all_between : NoneOf (size d) (is_crossed d) → NoneOf (size d) (is_outside d) → (v : ℕ) → v < size d → Between (sides_at d.sides v).low (sides_at d.sides v).high (value d v)
-  all_between uncrossed inside v l = go (stand d v) refl
+  pub between_at : (v : ℕ) → v < size d → is_crossed d v ≡ false → is_outside d v ≡ false → Between (sides_at d.sides v).low (sides_at d.sides v).high (value d v)
+  between_at v l uncrossed inside = go (stand d v) refl
     where
       inner : (b t : Bool) → b ≡ true → (b && not t) ≡ false → t ≡ true
       inner true true e f = refl
       inner true false e f = absurd (true≢false f)
       inner false t e f = absurd (true≢false (sym e))
-
       go : (s : Option Stand) → stand d v ≡ s → Between (sides_at d.sides v).low (sides_at d.sides v).high (value d v)
       go None e =
           between_of_test (sides_at d.sides v).low (sides_at d.sides v).high (value d v)
-          (inner (is_basic d v) (is_between (sides_at d.sides v).low (sides_at d.sides v).high (value d v)) (basic_at d v e) (inside.fails v l))
+          (inner (is_basic d v) (is_between (sides_at d.sides v).low (sides_at d.sides v).high (value d v)) (basic_at d v e) inside)
       go (Some at) e =
-          standing_between (sides_at d.sides v).low (sides_at d.sides v).high at (value d v) (uncrossed.fails v l) (at_stand v at l e).0 (at_stand v at l e).1
+          standing_between (sides_at d.sides v).low (sides_at d.sides v).high at (value d v) uncrossed (at_stand v at l e).0 (at_stand v at l e).1
+
+  pub all_between : NoneOf (size d) (is_crossed d) → NoneOf (size d) (is_outside d) → (v : ℕ) → v < size d → Between (sides_at d.sides v).low (sides_at d.sides v).high (value d v)
+  all_between uncrossed inside v l = between_at v l (uncrossed.fails v l) (inside.fails v l)
 
 -- ---- a state of a program
 module _ (program : LinearProgram) (d : Dictionary) (proper : IsProper program) (st : IsStateOf program d) where

@@ -89,8 +89,8 @@ crossed = record {
 -- x from 0 to 5, and a row x that is at least 2 and at most 1
 abbrev pub crossed_row : LinearProgram
 crossed_row =
-    one_column (record { terms = term 0 oneℚ ∷ []; low = Some (plus 2); high = Some oneℚ } ∷ []) (between zeroℚ (plus 5))
-    oneℚ
+    one_column (record { terms = term 0 oneℚ ∷ []; low = Some (plus 2); high = Some oneℚ } ∷ [])
+    (between zeroℚ (plus 5)) oneℚ
 
 -- y from 0, where 10^38 y is at least 1 and y over 10^38 at most 5
 abbrev pub far_apart : LinearProgram

@@ -2,5 +2,6 @@ pub mod EndAnswers
 pub mod Examples
 pub mod Headings
 pub mod MoveList
+pub mod NoRepeat
 pub mod Rule
 pub mod Statements
