@@ -1,12 +1,12 @@
 -- Two states of one program between which no variable above r moves: r can't leave in one, and enter in the other from
 -- where it left to. The one law is for variables outside, the other for moves by which the cost doesn't change.
-use Rattle.std.proofs.Common.{◌≡◌, ◌≢◌, ◌⊎◌, ℕ, zero, suc, ◌<◌, ◌≤◌, Bool, true, false, [], ◌∷◌, length, Option, None, Some, IfSome, refl, sym, ap, ap₂, ◌∙◌, subst, inl, inr, arith}
+use Rattle.std.proofs.Common.{◌≡◌, ◌⊎◌, ℕ, zero, suc, ◌<◌, ◌≤◌, Bool, true, false, [], ◌∷◌, length, Some, IfSome, refl, sym, ap, ◌∙◌, subst, inl, inr, arith}
 use Rattle.std.proofs.lemmas.Bool.{true≢false, cases_eq, cases_lt}
-use Rattle.std.proofs.lemmas.Option.{none-some, same_Some}
-use Rattle.cip_rational.specs.Rational.{ℚ, ◌+ℚ◌, ◌-ℚ◌, ◌*ℚ◌, negate, zeroℚ, ◌≤ℚ◌, ◌<ℚ◌}
+use Rattle.std.proofs.lemmas.Option.{same_Some}
+use Rattle.cip_rational.specs.Rational.{ℚ, ◌-ℚ◌, ◌*ℚ◌, zeroℚ, ◌≤ℚ◌, ◌<ℚ◌}
 use Rattle.cip_rational.proofs.Rational.Ring.{zero-*ℚ, *ℚ-zero}
-use Rattle.cip_rational.proofs.Rational.Order.{≤ℚ_refl, ≤ℚ_trans, ≤ℚ_antisymm, ≤ℚ_of_lt, ≤ℚ_of_eq, <ℚ_of_lt_of_le, <ℚ_trans, <ℚ_irrefl, not_le_of_lt, le_or_lt, eq-or-lt, ne_of_lt}
-use Rattle.cip_rational.proofs.Rational.Monotone.{+ℚ_mono, +ℚ_strict, *ℚ_mono, *ℚ_pos, *ℚ_nonneg}
+use Rattle.cip_rational.proofs.Rational.Order.{≤ℚ_refl, ≤ℚ_of_lt, ≤ℚ_of_eq, <ℚ_trans, not_le_of_lt, le_or_lt, eq-or-lt, ne_of_lt}
+use Rattle.cip_rational.proofs.Rational.Monotone.{+ℚ_mono, *ℚ_mono, *ℚ_pos, *ℚ_nonneg}
 use Rattle.cip_rational.proofs.Rational.Inverse.{*ℚ_antitone, *ℚ_eq-zero}
 use Rattle.cip_rational.proofs.Linear.{linear_le, linear_lt, linear_same}
 use Rattle.cip_problem.specs.Program.{Sides}
@@ -22,12 +22,12 @@ use Rattle.cip_bland.specs.declared.steps.Heading.{Heading}
 use Rattle.cip_bland.specs.declared.steps.Heading.TheVariants.{Up, Down}
 use Rattle.cip_bland.proofs.Searches.{IsLeast, NoneOf, IsShortest}
 use Rattle.cip_bland.proofs.SideCases.{IsPast, outside_past, standing_ahead}
-use Rattle.cip_bland.proofs.StateFacts.{at_stand, stuck_at, between_at, stand_of_basic, stand_of_nonbasic, nonbasic_at}
+use Rattle.cip_bland.proofs.StateFacts.{at_stand, stuck_at, between_at, stand_of_nonbasic, nonbasic_at}
 use Rattle.cip_bland.proofs.Emptiness.{along-zero, along-mul, total-along, back_and_forth}
 use Rattle.cip_bland.proofs.RayEnds.{falls_along, change_other, change_form, change_solves}
-use Rattle.cip_bland.proofs.MovesMade.{Drives, driver, outside_basic, outside_between}
+use Rattle.cip_bland.proofs.MovesMade.{driver, outside_basic, outside_between}
 use Rattle.cip_bland.proofs.Rates.{along_both, strict_sign, Rate, still, going, rate, driven}
-use Rattle.cip_bland.proofs.Descents.{between_ahead, Reaches, reaches, way_there}
+use Rattle.cip_bland.proofs.Descents.{between_ahead, reaches, way_there}
 
 -- ---- sums
 
@@ -41,13 +41,13 @@ total_less (suc n) r f g l h lt =
     let before = λ (k : ℕ) (lk : k < n). h k (omega (arith, lk)) in
     elim (cases_eq r n) [
       | inl e ↦
-        (let here : f n <ℚ g n = subst (λ k. f k <ℚ g k) e lt in
-        let rest = total_le n f g before in
-        linear_lt (f n ∷ g n ∷ total n f ∷ total n g ∷ []) (λ s w. omega (arith, s.le_out, s.lt_out)))
+          (let here : f n <ℚ g n = subst (λ k. f k <ℚ g k) e lt in
+          let rest = total_le n f g before in
+          linear_lt (f n ∷ g n ∷ total n f ∷ total n g ∷ []) (λ s w. omega (arith, s.le_out, s.lt_out)))
       | inr ne ↦
-        (let here : f n ≤ℚ g n = h n (omega arith) in
-        let rest = total_less n r f g (omega (arith, l, ne)) before lt in
-        linear_lt (f n ∷ g n ∷ total n f ∷ total n g ∷ []) (λ s w. omega (arith, s.le_out, s.lt_out)))
+          (let here : f n ≤ℚ g n = h n (omega arith) in
+          let rest = total_less n r f g (omega (arith, l, ne)) before lt in
+          linear_lt (f n ∷ g n ∷ total n f ∷ total n g ∷ []) (λ s w. omega (arith, s.le_out, s.lt_out)))
     ]
 
 total_nonneg : (n : ℕ) (f : ℕ → ℚ) → ((k : ℕ) → k < n → zeroℚ ≤ℚ f k) → zeroℚ ≤ℚ total n f
@@ -64,10 +64,10 @@ used_le : (y u x : ℚ) (s : Sides) → IsUsed y s u → Between s.low s.high x 
 used_le y u x s used b =
     elim (le_or_lt y zeroℚ) [
       | inl n ↦
-        elim (eq-or-lt n) [
-          | inl e ↦ ≤ℚ_of_eq (ap (λ q. q *ℚ u) e ∙ zero-*ℚ u ∙ sym (ap (λ q. q *ℚ x) e ∙ zero-*ℚ x))
-          | inr lt ↦ *ℚ_antitone x u y n (subst (λ o. IfSome o (λ q. x ≤ℚ q)) (used.high lt) b.below)
-        ]
+          elim (eq-or-lt n) [
+            | inl e ↦ ≤ℚ_of_eq (ap (λ q. q *ℚ u) e ∙ zero-*ℚ u ∙ sym (ap (λ q. q *ℚ x) e ∙ zero-*ℚ x))
+            | inr lt ↦ *ℚ_antitone x u y n (subst (λ o. IfSome o (λ q. x ≤ℚ q)) (used.high lt) b.below)
+          ]
       | inr p ↦ *ℚ_mono u x y (≤ℚ_of_lt p) (subst (λ o. IfSome o (λ q. q ≤ℚ x)) (used.low p) b.above)
     ]
 
@@ -160,10 +160,10 @@ module _ (p q : Dictionary) (one : AreOfOne p q) where
     each k lk =
         elim (cases_lt k r) [
           | inl lt ↦
-            (let used : IsUsed (along (back_of (back_of (outside_heading q l))) (entry q l k)) (sides_at q.sides k) (value q k) = stuck_at q one.second (entry q l) (back_of (outside_heading q l)) free k lk (enters_q.first k lt) in
-            let le = used_le (along (outside_heading q l) (entry q l k)) (value q k) (value p k) (sides_at q.sides k) (subst (λ y. IsUsed y (sides_at q.sides k) (value q k)) (back_and_forth (outside_heading q l) (entry q l k)) used) (below_p k lt) in
-            subst (λ t. t ≤ℚ along (outside_heading q l) (entry q l k *ℚ value p k)) (along-mul (outside_heading q l) (entry q l k) (value q k))
-            (subst (λ t. along (outside_heading q l) (entry q l k) *ℚ value q k ≤ℚ t) (along-mul (outside_heading q l) (entry q l k) (value p k)) le))
+              (let used : IsUsed (along (back_of (back_of (outside_heading q l))) (entry q l k)) (sides_at q.sides k) (value q k) = stuck_at q one.second (entry q l) (back_of (outside_heading q l)) free k lk (enters_q.first k lt) in
+              let le = used_le (along (outside_heading q l) (entry q l k)) (value q k) (value p k) (sides_at q.sides k) (subst (λ y. IsUsed y (sides_at q.sides k) (value q k)) (back_and_forth (outside_heading q l) (entry q l k)) used) (below_p k lt) in
+              subst (λ t. t ≤ℚ along (outside_heading q l) (entry q l k *ℚ value p k)) (along-mul (outside_heading q l) (entry q l k) (value q k))
+              (subst (λ t. along (outside_heading q l) (entry q l k) *ℚ value q k ≤ℚ t) (along-mul (outside_heading q l) (entry q l k) (value p k)) le))
           | inr ge ↦ at_least_r k lk ge (cases_eq k r)
         ]
       where
@@ -173,6 +173,7 @@ module _ (p q : Dictionary) (one : AreOfOne p q) where
         above k lk gt false b =
             let at = stand_of_nonbasic q k b in
             ≤ℚ_of_eq (ap (λ t. along (outside_heading q l) (entry q l k *ℚ t)) (sym (same_value k lk at.0 (alike k gt lk ∙ at.1) at.1)))
+
         at_least_r : (k : ℕ) → k < size q → r ≤ k → (k ≡ r) ⊎ (¬ (k ≡ r)) → along (outside_heading q l) (entry q l k *ℚ value q k) ≤ℚ along (outside_heading q l) (entry q l k *ℚ value p k)
         at_least_r k lk ge (inl e) = subst (λ u. along (outside_heading q l) (entry q l u *ℚ value q u) ≤ℚ along (outside_heading q l) (entry q l u *ℚ value p u)) (sym e) (≤ℚ_of_lt at_r)
         at_least_r k lk ge (inr ne) = above k lk (omega (arith, ge, ne)) (is_basic q k) refl
@@ -204,16 +205,17 @@ module _ (p q : Dictionary) (one : AreOfOne p q) where
     product_sign c x s v heading moves used free =
         elim (le_or_lt c zeroℚ) [
           | inl n ↦
-            elim (eq-or-lt n) [
-              | inl z ↦ ≤ℚ_of_eq (sym (ap (λ t. t *ℚ x) z ∙ zero-*ℚ x))
-              | inr lt ↦ down heading moves free (used.high lt) (≤ℚ_of_lt lt)
-            ]
+              elim (eq-or-lt n) [
+                | inl z ↦ ≤ℚ_of_eq (sym (ap (λ t. t *ℚ x) z ∙ zero-*ℚ x))
+                | inr lt ↦ down heading moves free (used.high lt) (≤ℚ_of_lt lt)
+              ]
           | inr p ↦ up heading moves free (used.low p) (≤ℚ_of_lt p)
         ]
       where
         down : (heading : Heading) → zeroℚ <ℚ along heading x → ¬ (side_ahead heading s ≡ Some v) → s.high ≡ Some v → c ≤ℚ zeroℚ → zeroℚ ≤ℚ c *ℚ x
         down Up moves free e n = absurd (free e)
         down Down moves free e n = subst (λ t. t ≤ℚ c *ℚ x) (*ℚ-zero c) (*ℚ_antitone x zeroℚ c n (linear_le (x ∷ []) (λ s w. omega (arith, s.lt_out))))
+
         up : (heading : Heading) → zeroℚ <ℚ along heading x → ¬ (side_ahead heading s ≡ Some v) → s.low ≡ Some v → zeroℚ ≤ℚ c → zeroℚ ≤ℚ c *ℚ x
         up Up moves free e p = *ℚ_nonneg p (≤ℚ_of_lt moves)
         up Down moves free e p = absurd (free e)
@@ -261,7 +263,7 @@ module _ (p q : Dictionary) (one : AreOfOne p q) where
         let nonbasic = (driven q one.second e enters_q.below enters_q.passes).nonbasic in
         let solves : Solves q (change_of q e) = change_solves q one.second e enters_q.below nonbasic in
         let sum : form (size q) (cost_entry p) (change_of q e) ≡ along (falling_heading q e) (cost_entry q e) =
-            ap (λ n. form n (cost_entry p) (change_of q e)) (sym sizes) ∙ one.cost (change_of q e) solves
-            ∙ change_form q one.second e enters_q.below nonbasic (cost_entry q) one.second.costs_free in
+        ap (λ n. form n (cost_entry p) (change_of q e)) (sym sizes) ∙ one.cost (change_of q e) solves
+        ∙ change_form q one.second e enters_q.below nonbasic (cost_entry q) one.second.costs_free in
         not_le_of_lt (falls_along (cost_entry q e) (driven q one.second e enters_q.below enters_q.passes).nonzero)
         (subst (λ t. zeroℚ ≤ℚ t) sum (total_nonneg (size q) (λ k. cost_entry p k *ℚ change_of q e k) terms))

@@ -1,16 +1,16 @@
 -- A move by which the cost falls: its way isn't negative, all values are between their sides after it, the cost falls by
 -- the length of the way, and a flip has a length above 0.
-use Rattle.std.proofs.Common.{◌≡◌, ◌≢◌, ℕ, ◌<◌, ◌==◌, Bool, true, false, ◌&&◌, cond, is_some, [], ◌∷◌, Option, None, Some, IfSome, unwrap_or, refl, sym, ap, ap₂, ◌∙◌, subst, inl, inr, arith}
+use Rattle.std.proofs.Common.{◌≡◌, ℕ, ◌<◌, true, false, cond, is_some, [], ◌∷◌, Option, None, Some, IfSome, unwrap_or, refl, sym, ap, ap₂, ◌∙◌, subst, inl, inr, arith}
 use Rattle.std.proofs.lemmas.Bool.{true≢false, and_from}
-use Rattle.std.proofs.lemmas.Option.{none-some, same_Some}
-use Rattle.cip_rational.specs.Rational.{ℚ, ◌+ℚ◌, ◌-ℚ◌, ◌*ℚ◌, negate, zeroℚ, oneℚ, ◌≤ℚ◌, ◌<ℚ◌}
+use Rattle.std.proofs.lemmas.Option.{none-some}
+use Rattle.cip_rational.specs.Rational.{ℚ, ◌+ℚ◌, ◌-ℚ◌, ◌*ℚ◌, negate, zeroℚ, ◌≤ℚ◌, ◌<ℚ◌}
 use Rattle.cip_rational.proofs.Rational.Ring.{+ℚ-zero, zero-*ℚ, *ℚ-zero, negate-*ℚ}
-use Rattle.cip_rational.proofs.Rational.Order.{≤ℚ_refl, ≤ℚ_trans, ≤ℚ_of_lt, ≤ℚ_of_eq, not_le_of_lt, eq-or-lt, test_of_le, ne_of_lt}
+use Rattle.cip_rational.proofs.Rational.Order.{≤ℚ_refl, ≤ℚ_of_lt, not_le_of_lt, eq-or-lt, test_of_le, ne_of_lt}
 use Rattle.cip_rational.proofs.Rational.Monotone.{*ℚ_mono, *ℚ_pos, *ℚ_nonneg, le_of_*ℚ}
 use Rattle.cip_rational.proofs.Linear.{linear_le, linear_lt, linear_same}
 use Rattle.cip_problem.specs.Program.{Sides}
 use Rattle.cip_problem.specs.Box.{Between, sides_at, sides_equal}
-use Rattle.cip_dictionary.specs.Dictionary.{Dictionary, size, is_basic, cost_entry, value, standing_value, CanStand, IsConsistent}
+use Rattle.cip_dictionary.specs.Dictionary.{Dictionary, size, cost_entry, value, standing_value, CanStand, IsConsistent}
 use Rattle.cip_dictionary.specs.Exchange.{after}
 use Rattle.cip_dictionary.specs.declared.moves.Stand.{Stand}
 use Rattle.cip_dictionary.specs.declared.moves.Stand.TheVariants.{Low, High, Zero}
@@ -20,9 +20,9 @@ use Rattle.cip_bland.specs.EndAnswers.{change_of}
 use Rattle.cip_bland.specs.declared.steps.Heading.{Heading}
 use Rattle.cip_bland.specs.declared.steps.Heading.TheVariants.{Up, Down}
 use Rattle.cip_bland.proofs.Searches.{IsShortest}
-use Rattle.cip_bland.proofs.SideCases.{IsGoal, goal_some}
+use Rattle.cip_bland.proofs.SideCases.{goal_some}
 use Rattle.cip_bland.proofs.StateFacts.{at_stand}
-use Rattle.cip_bland.proofs.Emptiness.{along-zero, along-mul}
+use Rattle.cip_bland.proofs.Emptiness.{along-mul}
 use Rattle.cip_bland.proofs.RayEnds.{falls_along, change_here}
 use Rattle.cip_bland.proofs.MovesMade.{IsWayOf, is_way}
 use Rattle.cip_bland.proofs.Rates.{one_ahead, driven, Rate, still, going, rate, after_value, after_cost}
@@ -44,6 +44,7 @@ stays_inside Up low high x y b p f = record { above = behind low b.above; below 
     behind : (o : Option ℚ) → IfSome o (λ q. q ≤ℚ x) → IfSome o (λ q. q ≤ℚ y)
     behind None h = tt
     behind (Some q) h = linear_le (q ∷ x ∷ y ∷ []) (λ s w. omega (arith, s.le_out))
+
     ahead : (o : Option ℚ) → ((side : ℚ) → o ≡ Some side → zeroℚ ≤ℚ side -ℚ y) → IfSome o (λ q. y ≤ℚ q)
     ahead None g = tt
     ahead (Some q) g = let h : zeroℚ ≤ℚ q -ℚ y = g q refl in linear_le (q ∷ y ∷ []) (λ s w. omega (arith, s.le_out))
@@ -52,6 +53,7 @@ stays_inside Down low high x y b p f = record { above = ahead low f; below = beh
     behind : (o : Option ℚ) → IfSome o (λ q. x ≤ℚ q) → IfSome o (λ q. y ≤ℚ q)
     behind None h = tt
     behind (Some q) h = linear_le (q ∷ x ∷ y ∷ []) (λ s w. omega (arith, s.le_out))
+
     ahead : (o : Option ℚ) → ((side : ℚ) → o ≡ Some side → zeroℚ ≤ℚ negate (side -ℚ y)) → IfSome o (λ q. q ≤ℚ y)
     ahead None g = tt
     ahead (Some q) g = let h : zeroℚ ≤ℚ negate (q -ℚ y) = g q refl in linear_le (q ∷ y ∷ []) (λ s w. omega (arith, s.le_out))
@@ -193,13 +195,14 @@ module _ (d : Dictionary) (c : IsConsistent d) (j : ℕ) (lj : j < size d) (good
         elim (eq-or-lt nonneg) [
           | inl zero ↦ sym zero
           | inr lt ↦ absurd (
-            let a = along (falling_heading d j) (cost_entry d j) in
-            let products : a *ℚ w.length ≡ zeroℚ = same_cost d.cost (a *ℚ w.length) (sym (after_cost d c j lj good v short.below w short.is_way) ∙ e) in
-            strictly a w.length falling lt products)
+              let a = along (falling_heading d j) (cost_entry d j) in
+              let products : a *ℚ w.length ≡ zeroℚ = same_cost d.cost (a *ℚ w.length) (sym (after_cost d c j lj good v short.below w short.is_way) ∙ e) in
+              strictly a w.length falling lt products)
         ]
       where
         same_cost : (cost p : ℚ) → cost +ℚ p ≡ cost → p ≡ zeroℚ
         same_cost cost p e = linear_same (cost ∷ p ∷ []) (λ s w. omega (arith, s.same_out))
+
         strictly : (a long : ℚ) → a <ℚ zeroℚ → zeroℚ <ℚ long → a *ℚ long ≡ zeroℚ → ⊥
         strictly a long n p e =
             let m : zeroℚ <ℚ negate a = linear_lt (a ∷ []) (λ s w. omega (arith, s.lt_out)) in

@@ -1,7 +1,9 @@
 pub mod Clashes
+pub mod Codes
 pub mod CrossedSides
 pub mod Descents
 pub mod Emptiness
+pub mod ListEnds
 pub mod MovesMade
 pub mod Multiples
 pub mod Named

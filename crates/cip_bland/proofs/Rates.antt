@@ -1,18 +1,17 @@
 -- How values change as a variable goes that lets the cost fall: how long its ways are, that the shortest one leaves all
 -- values between their sides, and by how much the cost falls.
-use Rattle.std.proofs.Common.{◌≡◌, ◌≢◌, ℕ, ◌<◌, ◌==◌, Bool, true, false, not, ◌&&◌, cond, [], ◌∷◌, Option, None, Some, IfSome, unwrap_or, refl, sym, ap, ap₂, ◌∙◌, subst, inl, inr, arith}
+use Rattle.std.proofs.Common.{◌≡◌, ◌≢◌, ℕ, ◌<◌, Bool, true, false, cond, [], ◌∷◌, None, Some, unwrap_or, refl, sym, ap, ap₂, ◌∙◌, subst, inl, inr, arith}
 use Rattle.std.proofs.lemmas.Bool.{true≢false, eq-eqb, ne_eqb, cases_eq}
 use Rattle.std.proofs.lemmas.Option.{none-some}
-use Rattle.cip_rational.specs.Rational.{ℚ, ◌+ℚ◌, ◌-ℚ◌, ◌*ℚ◌, negate, inverse, zeroℚ, oneℚ, ◌≤ℚ◌, ◌<ℚ◌, lt_test}
-use Rattle.cip_rational.proofs.Rational.Ring.{+ℚ-zero, zero-*ℚ, *ℚ-zero, *ℚ_assoc, *ℚ_comm, one-*ℚ, negate-*ℚ, *ℚ-negate}
+use Rattle.cip_rational.specs.Rational.{ℚ, ◌+ℚ◌, ◌-ℚ◌, ◌*ℚ◌, negate, inverse, zeroℚ, oneℚ, ◌≤ℚ◌, ◌<ℚ◌}
+use Rattle.cip_rational.proofs.Rational.Ring.{+ℚ-zero, zero-*ℚ, *ℚ_assoc, *ℚ_comm, one-*ℚ, negate-*ℚ, *ℚ-negate}
 use Rattle.cip_rational.proofs.Rational.Inverse.{*ℚ-inverse}
-use Rattle.cip_rational.proofs.Rational.Order.{≤ℚ_refl, ≤ℚ_trans, ≤ℚ_antisymm, ≤ℚ_of_lt, ≤ℚ_of_eq, lt_of_test, le_of_lt_test, le_or_lt, eq-or-lt, test_of_le}
-use Rattle.cip_rational.proofs.Rational.Monotone.{*ℚ_mono, *ℚ_nonneg, le_of_*ℚ}
+use Rattle.cip_rational.proofs.Rational.Order.{eq-or-lt}
 use Rattle.cip_rational.proofs.Linear.{linear_le, linear_lt, linear_same}
 use Rattle.cip_problem.specs.Program.{Sides}
-use Rattle.cip_problem.specs.Box.{Between, sides_at, sides_equal}
+use Rattle.cip_problem.specs.Box.{sides_at}
 use Rattle.cip_dictionary.specs.Dictionary.{Dictionary, size, stand, is_basic, entry, cost_entry, value, standing_value, CanStand, IsConsistent}
-use Rattle.cip_dictionary.specs.Exchange.{moved, moved_cost, pivot, step, exchanged, other_stand, way, flipped, after}
+use Rattle.cip_dictionary.specs.Exchange.{moved, moved_cost, step, other_stand, way, after}
 use Rattle.cip_dictionary.specs.Operations.{is_zero}
 use Rattle.cip_dictionary.specs.declared.moves.Stand.{Stand}
 use Rattle.cip_dictionary.specs.declared.moves.Stand.TheVariants.{Low, High, Zero}
@@ -20,18 +19,16 @@ use Rattle.cip_dictionary.specs.declared.moves.Move.TheVariants.{Exchange, Flip}
 use Rattle.cip_dictionary.proofs.Zeros.{zero_of, nonzero_of}
 use Rattle.cip_dictionary.proofs.Values.{moved_here, moved_basic, moved_other}
 use Rattle.cip_dictionary.proofs.States.{exchanged-value, exchanged-cost, flipped-value, flipped-cost}
-use Rattle.cip_bland.specs.Headings.{back_of, along, heading_for, stand_ahead, side_ahead, is_ahead, goal_ahead}
-use Rattle.cip_bland.specs.Rule.{is_crossed, is_outside, improves, falling_heading, goal_with, goal_of, length_of, Way, way_with, way_of, move_by}
+use Rattle.cip_bland.specs.Headings.{along, heading_for, stand_ahead, side_ahead, is_ahead, goal_ahead}
+use Rattle.cip_bland.specs.Rule.{improves, falling_heading, goal_with, goal_of, length_of, Way, way_of, move_by}
 use Rattle.cip_bland.specs.EndAnswers.{change_of}
 use Rattle.cip_bland.specs.declared.steps.Heading.{Heading}
 use Rattle.cip_bland.specs.declared.steps.Heading.TheVariants.{Up, Down}
-use Rattle.cip_bland.proofs.Searches.{NoneOf, IsLeast, IsShortest}
-use Rattle.cip_bland.proofs.SideCases.{standing_ahead, IsGoal, MayGo}
-use Rattle.cip_bland.proofs.StateFacts.{at_stand, all_between}
-use Rattle.cip_bland.proofs.Emptiness.{along-zero, along-one, along-mul}
-use Rattle.cip_bland.proofs.RayEnds.{along_sign, falls_along, change_here, change_basic, change_other}
-use Rattle.cip_bland.proofs.MovesMade.{Drives, driver, IsWayOf, is_way, basic_way, own_way}
-use Rattle.cip_bland.proofs.StepCases.{IsDescent}
+use Rattle.cip_bland.proofs.SideCases.{standing_ahead}
+use Rattle.cip_bland.proofs.StateFacts.{at_stand}
+use Rattle.cip_bland.proofs.Emptiness.{along-zero, along-one}
+use Rattle.cip_bland.proofs.RayEnds.{along_sign, change_here, change_basic, change_other}
+use Rattle.cip_bland.proofs.MovesMade.{Drives, driver, IsWayOf, is_way}
 
 -- ---- ways up and down
 
@@ -103,7 +100,7 @@ module _ (d : Dictionary) (c : IsConsistent d) (j : ℕ) (lj : j < size d) (good
       going h (subst (λ q. zeroℚ <ℚ along h q) (sym (change_here d c j lj driven.nonbasic)) (one_ahead h)) (goal_here j refl)
       (λ side e.
       let own : (if_own : length_of d j j (stand_ahead h) ≡ along h (way d j)) → change_of d j j *ℚ length_of d j j (stand_ahead h) ≡ way d j = λ o.
-          ap₂ (λ a b. a *ℚ b) (change_here d c j lj driven.nonbasic) o ∙ along-one h (along h (way d j)) ∙ along_twice h (way d j) in
+      ap₂ (λ a b. a *ℚ b) (change_here d c j lj driven.nonbasic) o ∙ along-one h (along h (way d j)) ∙ along_twice h (way d j) in
       let there : standing_value (sides_at d.sides j) (other_stand (stand d j)) ≡ side = ap (λ s. standing_value (sides_at d.sides j) (other_stand s)) m.stands ∙ other_side h (sides_at d.sides j) m.where_it_is side m.not_ahead (at_stand d c j m.where_it_is lj m.stands).0 e in
       own (ap (λ t. along h (cond t (way d j) (step d j j (stand_ahead h)))) (eq-eqb j j refl)) ∙ ap (λ q. q -ℚ value d j) there)
 
@@ -151,6 +148,7 @@ module _ (d : Dictionary) (c : IsConsistent d) (j : ℕ) (lj : j < size d) (good
       here =
           moved_here d j (along (falling_heading d j) long)
           ∙ ap (λ q. value d j +ℚ q) (sym (ap (λ q. q *ℚ long) (change_here d c j lj driven.nonbasic) ∙ along-one (falling_heading d j) long))
+
       by_basis : (b : Bool) → is_basic d v ≡ b → ¬ (v ≡ j) → moved d j (along (falling_heading d j) long) v ≡ value d v +ℚ change_of d j v *ℚ long
       by_basis true e ne =
           moved_basic d j (along (falling_heading d j) long) v ne e
@@ -182,11 +180,11 @@ module _ (d : Dictionary) (c : IsConsistent d) (j : ℕ) (lj : j < size d) (good
     after_value u l =
         elim (cases_eq w.variable j) [
           | inl e ↦
-            (ap (λ t. value (after d (cond t (Flip j) (Exchange w.variable j w.to))) u) (eq-eqb w.variable j e)
-            ∙ flipped-value d j u l ∙ ap (λ t. moved d j t u) (flip_is e) ∙ moved_is u w.length)
+              (ap (λ t. value (after d (cond t (Flip j) (Exchange w.variable j w.to))) u) (eq-eqb w.variable j e)
+              ∙ flipped-value d j u l ∙ ap (λ t. moved d j t u) (flip_is e) ∙ moved_is u w.length)
           | inr ne ↦
-            (ap (λ t. value (after d (cond t (Flip j) (Exchange w.variable j w.to))) u) (ne_eqb w.variable j ne)
-            ∙ exchanged-value d w.variable j w.to u l ∙ ap (λ t. moved d j t u) (step_is ne) ∙ moved_is u w.length)
+              (ap (λ t. value (after d (cond t (Flip j) (Exchange w.variable j w.to))) u) (ne_eqb w.variable j ne)
+              ∙ exchanged-value d w.variable j w.to u l ∙ ap (λ t. moved d j t u) (step_is ne) ∙ moved_is u w.length)
         ]
 
     cost_moved : moved_cost d j (along (falling_heading d j) w.length) ≡ d.cost +ℚ along (falling_heading d j) (cost_entry d j) *ℚ w.length
@@ -196,9 +194,9 @@ module _ (d : Dictionary) (c : IsConsistent d) (j : ℕ) (lj : j < size d) (good
     after_cost =
         elim (cases_eq w.variable j) [
           | inl e ↦
-            (ap (λ t. (after d (cond t (Flip j) (Exchange w.variable j w.to))).cost) (eq-eqb w.variable j e)
-            ∙ flipped-cost d j ∙ ap (moved_cost d j) (flip_is e) ∙ cost_moved)
+              (ap (λ t. (after d (cond t (Flip j) (Exchange w.variable j w.to))).cost) (eq-eqb w.variable j e)
+              ∙ flipped-cost d j ∙ ap (moved_cost d j) (flip_is e) ∙ cost_moved)
           | inr ne ↦
-            (ap (λ t. (after d (cond t (Flip j) (Exchange w.variable j w.to))).cost) (ne_eqb w.variable j ne)
-            ∙ exchanged-cost d w.variable j w.to ∙ ap (moved_cost d j) (step_is ne) ∙ cost_moved)
+              (ap (λ t. (after d (cond t (Flip j) (Exchange w.variable j w.to))).cost) (ne_eqb w.variable j ne)
+              ∙ exchanged-cost d w.variable j w.to ∙ ap (moved_cost d j) (step_is ne) ∙ cost_moved)
         ]

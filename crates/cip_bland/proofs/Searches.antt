@@ -1,11 +1,14 @@
 -- The least number that passes a test, and the shortest way.
 use Rattle.std.proofs.Common.{◌≡◌, ℕ, zero, suc, ◌<◌, Bool, true, false, cond, Option, None, Some, refl, sym, ap, ◌∙◌, subst, inl, inr, arith}
-use Rattle.std.proofs.lemmas.Bool.{cases_eq}
+use Rattle.std.proofs.lemmas.Bool.{cases_eq, cases_lt, true≢false}
 use Rattle.std.proofs.lemmas.Option.{none-some, same_Some}
 use Rattle.cip_dictionary.specs.Tables.{first_of, least}
+use Rattle.cip_dictionary.specs.Dictionary.{Dictionary}
+use Rattle.cip_dictionary.specs.declared.moves.Move.{Move}
 use Rattle.cip_rational.specs.Rational.{◌≤ℚ◌, ◌<ℚ◌, lt_test}
 use Rattle.cip_rational.proofs.Rational.Order.{≤ℚ_of_eq, ≤ℚ_of_lt, <ℚ_of_lt_of_le, lt_of_test, le_of_lt_test}
-use Rattle.cip_bland.specs.Rule.{Way, shorter, shortest}
+use Rattle.cip_bland.specs.Rule.{Way, way_of, shorter, shortest}
+use Rattle.cip_bland.specs.MoveList.{wide_way, first_wide_way}
 
 -- ---- the least number
 
@@ -149,3 +152,40 @@ pub shortest_some : (n : ℕ) (ways : ℕ → Option Way) (way : Way) → shorte
 shortest_some zero ways way e = absurd (none-some way e)
 shortest_some (suc n) ways way e =
     shortest_step n ways way (shortest n ways) (shortest_none n ways) (λ v f. shortest_some n ways v f) (shorter_of (shortest n ways) (ways n) way e)
+
+-- ---- what a loop that looks up from 0 has found
+
+-- the first that passes is the least
+pub least_is : (n : ℕ) (test : ℕ → Bool) (k : ℕ) → k < n → test k ≡ true → ((l : ℕ) → l < k → test l ≡ false) → least n test ≡ Some k
+least_is n test k l passes first = go (least n test) refl
+  where
+    go : (o : Option ℕ) → least n test ≡ o → o ≡ Some k
+    go None e = absurd (true≢false (sym passes ∙ (least_none n test e).fails k l))
+    go (Some m) e =
+        let h = least_some n test m e in
+        elim (cases_lt m k) [
+          | inl lt ↦ absurd (true≢false (sym h.passes ∙ first m lt))
+          | inr ge ↦ elim (cases_eq m k) [
+            | inl same ↦ ap Some same
+            | inr ne ↦ absurd (true≢false (sym passes ∙ h.first k (omega (arith, ge, ne))))
+          ]
+        ]
+
+-- where none passes there is none
+pub none_is : (n : ℕ) (test : ℕ → Bool) → ((l : ℕ) → l < n → test l ≡ false) → least n test ≡ None
+none_is n test fails = go (least n test) refl
+  where
+    go : (o : Option ℕ) → least n test ≡ o → o ≡ None
+    go None e = refl
+    go (Some m) e = let h = least_some n test m e in absurd (true≢false (sym h.passes ∙ fails m h.below))
+
+-- the first way that is out of range is that of all
+pub wide_found : (d : Dictionary) (j n k : ℕ) (move : Move) → k < n → first_wide_way d j k ≡ None → wide_way d j (way_of d j k) ≡ Some move → first_wide_way d j n ≡ Some move
+wide_found d j zero k move l none here = absurd (omega (arith, l))
+wide_found d j (suc n) k move l none here =
+    elim (cases_eq k n) [
+      | inl same ↦
+          (ap (λ o. first_of o (wide_way d j (way_of d j n))) (ap (first_wide_way d j) (sym same) ∙ none)
+          ∙ ap (λ u. wide_way d j (way_of d j u)) (sym same) ∙ here)
+      | inr ne ↦ ap (λ o. first_of o (wide_way d j (way_of d j n))) (wide_found d j n k move (omega (arith, l, ne)) none here)
+    ]

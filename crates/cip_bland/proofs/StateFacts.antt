@@ -63,6 +63,7 @@ module _ (d : Dictionary) (c : IsConsistent d) where
       inner true true e f = refl
       inner true false e f = absurd (true≢false f)
       inner false t e f = absurd (true≢false (sym e))
+
       go : (s : Option Stand) → stand d v ≡ s → Between (sides_at d.sides v).low (sides_at d.sides v).high (value d v)
       go None e =
           between_of_test (sides_at d.sides v).low (sides_at d.sides v).high (value d v)

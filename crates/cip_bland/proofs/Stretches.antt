@@ -1,6 +1,6 @@
 -- A stretch of exchanges after which all variables stand as before it: some variable leaves in it and enters in it from
 -- where it left to, and no greater one moves. No numbers but those of variables occur here.
-use Rattle.std.proofs.Common.{◌≡◌, ℕ, zero, suc, ◌+◌, ◌-◌, ◌<◌, ◌≤◌, max, Option, None, Some, refl, sym, ap, ◌∙◌, subst, inl, inr, arith, ◌⊎◌}
+use Rattle.std.proofs.Common.{◌≡◌, ℕ, zero, suc, ◌+◌, ◌-◌, ◌<◌, ◌≤◌, Option, None, Some, refl, sym, ap, ◌∙◌, subst, inl, inr, arith, ◌⊎◌}
 use Rattle.std.proofs.lemmas.Bool.{cases_eq, cases_lt}
 use Rattle.std.proofs.lemmas.Option.{none-some, same_Some}
 use Rattle.cip_dictionary.specs.declared.moves.Stand.{Stand}
@@ -65,8 +65,8 @@ module _ (count last : ℕ) (f : ℕ → ℕ → Option Stand) (leaves enters : 
         elim (cases_eq (enters t) r) [
           | inl same ↦ record { time = t; early = lt; is = same; stood = e }
           | inr ne ↦
-            (let ni : ¬ (r ≡ leaves t) = λ (h : r ≡ leaves t). none-some at (sym s.basic ∙ ap (f t) (sym h) ∙ e) in
-            enters_later r lr far (suc t) at (omega (arith, l)) (s.others r lr ni (λ (h : r ≡ enters t). ne (sym h)) ∙ e) n')
+              (let ni : ¬ (r ≡ leaves t) = λ (h : r ≡ leaves t). none-some at (sym s.basic ∙ ap (f t) (sym h) ∙ e) in
+              enters_later r lr far (suc t) at (omega (arith, l)) (s.others r lr ni (λ (h : r ≡ enters t). ne (sym h)) ∙ e) n')
         ]
 
     -- a variable that stands somewhere and was basic before left to there
@@ -79,8 +79,8 @@ module _ (count last : ℕ) (f : ℕ → ℕ → Option Stand) (leaves enters : 
         elim (cases_eq (leaves (t + far)) r) [
           | inl same ↦ record { time = t + far; early = lt; is = same; went = same_Some _ at (sym s.left ∙ ap (f (suc (t + far))) same ∙ e') }
           | inr ne ↦
-            (let nj : ¬ (r ≡ enters (t + far)) = λ (h : r ≡ enters (t + far)). none-some at (sym s.entered ∙ ap (f (suc (t + far))) (sym h) ∙ e') in
-            left_before r lr far t at (omega (arith, l)) (sym (s.others r lr (λ (h : r ≡ leaves (t + far)). ne (sym h)) nj) ∙ e') n)
+              (let nj : ¬ (r ≡ enters (t + far)) = λ (h : r ≡ enters (t + far)). none-some at (sym s.entered ∙ ap (f (suc (t + far))) (sym h) ∙ e') in
+              left_before r lr far t at (omega (arith, l)) (sym (s.others r lr (λ (h : r ≡ leaves (t + far)). ne (sym h)) nj) ∙ e') n)
         ]
 
     turns_by : (r : ℕ) → r < count → f 0 r ≡ f last r → (t u : ℕ) (at : Stand) → t ≤ last → u ≤ last → f t r ≡ Some at → f u r ≡ None → (o : Option Stand) → f 0 r ≡ o → Turns r
@@ -109,34 +109,40 @@ module _ (count last : ℕ) (f : ℕ → ℕ → Option Stand) (leaves enters : 
     extend : (bound r : ℕ) → IsGreatest bound r → (m : ℕ) → (leaves bound ≡ m) ⊎ (enters bound ≡ m) → leaves bound ≤ m → enters bound ≤ m → (q : ℕ) × IsGreatest (suc bound) q
     extend bound r g m is l e =
         elim (cases_lt r m) [
-          | inl lt ↦
-            (m, record {
+          | inl lt ↦ (
+            m,
+            record {
               time = bound;
               early = omega arith;
               moves = is;
               leaves_below = λ t h. elim (cases_eq t bound) [ inl same ↦ subst (λ u. leaves u ≤ m) (sym same) l | inr ne ↦ omega (arith, g.leaves_below t (omega (arith, h, ne)), lt) ];
               enters_below = λ t h. elim (cases_eq t bound) [ inl same ↦ subst (λ u. enters u ≤ m) (sym same) e | inr ne ↦ omega (arith, g.enters_below t (omega (arith, h, ne)), lt) ];
-            })
-          | inr ge ↦
-            (r, record {
+            },
+          )
+          | inr ge ↦ (
+            r,
+            record {
               time = g.time;
               early = omega (arith, g.early);
               moves = g.moves;
               leaves_below = λ t h. elim (cases_eq t bound) [ inl same ↦ subst (λ u. leaves u ≤ r) (sym same) (omega (arith, l, ge)) | inr ne ↦ g.leaves_below t (omega (arith, h, ne)) ];
               enters_below = λ t h. elim (cases_eq t bound) [ inl same ↦ subst (λ u. enters u ≤ r) (sym same) (omega (arith, e, ge)) | inr ne ↦ g.enters_below t (omega (arith, h, ne)) ];
-            })
+            },
+          )
         ]
 
     greatest : (n : ℕ) → (r : ℕ) × IsGreatest (suc n) r
     greatest zero =
-        let m = either (leaves 0) (enters 0) in
-        (m.0, record {
-          time = 0;
-          early = omega arith;
-          moves = m.1;
-          leaves_below = λ t h. (let e : t ≡ 0 = omega (arith, h) in subst (λ u. leaves u ≤ m.0) (sym e) m.2);
-          enters_below = λ t h. (let e : t ≡ 0 = omega (arith, h) in subst (λ u. enters u ≤ m.0) (sym e) m.3);
-        })
+        let m = either (leaves 0) (enters 0) in (
+          m.0,
+          record {
+            time = 0;
+            early = omega arith;
+            moves = m.1;
+            leaves_below = λ t h. (let e : t ≡ 0 = omega (arith, h) in subst (λ u. leaves u ≤ m.0) (sym e) m.2);
+            enters_below = λ t h. (let e : t ≡ 0 = omega (arith, h) in subst (λ u. enters u ≤ m.0) (sym e) m.3);
+          },
+        )
     greatest (suc n) =
         let g = greatest n in
         let m = either (leaves (suc n)) (enters (suc n)) in

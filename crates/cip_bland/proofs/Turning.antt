@@ -1,16 +1,14 @@
 -- No list of moves leads from a state of a program back to that state.
-use Rattle.std.proofs.Common.{◌≡◌, ◌≢◌, ◌⊎◌, ℕ, zero, suc, ◌+◌, ◌-◌, ◌<◌, ◌≤◌, ◌==◌, Bool, true, false, not, cond, [], ◌∷◌, length, Option, None, Some, refl, sym, ap, ◌∙◌, subst, inl, inr, arith}
-use Rattle.std.proofs.lemmas.Bool.{true≢false, and_parts, cases_eq, eq-eqb, ne_eqb}
-use Rattle.std.proofs.lemmas.Option.{none-some, same_Some}
-use Rattle.cip_rational.specs.Rational.{ℚ, ◌*ℚ◌, zeroℚ, ◌≤ℚ◌, ◌<ℚ◌}
+use Rattle.std.proofs.Common.{◌≡◌, ◌⊎◌, ℕ, zero, suc, ◌+◌, ◌-◌, ◌<◌, ◌≤◌, Bool, true, false, cond, length, Some, refl, sym, ap, ◌∙◌, subst, inl, inr, arith}
+use Rattle.std.proofs.lemmas.Bool.{true≢false, ne_eqb}
+use Rattle.std.proofs.lemmas.Option.{none-some}
+use Rattle.cip_rational.specs.Rational.{◌*ℚ◌, zeroℚ, ◌≤ℚ◌, ◌<ℚ◌}
 use Rattle.cip_rational.proofs.Rational.Ring.{zero-*ℚ}
 use Rattle.cip_rational.proofs.Rational.Order.{≤ℚ_refl, ≤ℚ_trans, ≤ℚ_antisymm, <ℚ_irrefl}
-use Rattle.cip_problem.specs.Program.{Sides}
-use Rattle.cip_problem.specs.Box.{Between, sides_at, is_between}
+use Rattle.cip_problem.specs.Box.{Between, sides_at}
 use Rattle.cip_problem.proofs.Box.SideTests.{test_of_between}
 use Rattle.cip_linear.specs.LinearProgram.{LinearProgram, IsProper}
-use Rattle.cip_dictionary.specs.Tables.{form}
-use Rattle.cip_dictionary.specs.Dictionary.{Dictionary, size, stand, is_basic, entry, cost_entry, value, IsConsistent, Solves}
+use Rattle.cip_dictionary.specs.Dictionary.{Dictionary, size, stand, is_basic, entry, cost_entry, value}
 use Rattle.cip_dictionary.specs.Exchange.{exchanged, after, CanExchange}
 use Rattle.cip_dictionary.specs.ProgramState.{first_of_program}
 use Rattle.cip_dictionary.specs.declared.moves.Stand.{Stand}
@@ -18,21 +16,20 @@ use Rattle.cip_dictionary.specs.declared.moves.Stand.TheVariants.{Zero}
 use Rattle.cip_dictionary.specs.declared.moves.Move.{Move}
 use Rattle.cip_dictionary.specs.declared.moves.Move.TheVariants.{Exchange, Flip}
 use Rattle.cip_dictionary.proofs.Tables.{total_same, form_at_same}
-use Rattle.cip_dictionary.proofs.States.{exchanged-sides, left_stand, entered_stand, stayed_stand, flipped-sides}
+use Rattle.cip_dictionary.proofs.States.{left_stand, entered_stand, stayed_stand}
 use Rattle.cip_bland.specs.Headings.{stand_ahead}
-use Rattle.cip_bland.specs.Rule.{is_crossed, is_outside, outside_heading, repairs, improves, Way, way_of, move_by, next}
+use Rattle.cip_bland.specs.Rule.{is_outside, outside_heading, repairs, improves, Way, way_of, move_by, next}
 use Rattle.cip_bland.specs.MoveList.{state_by, state_after}
 use Rattle.cip_bland.specs.Statements.{IsStateOf, IsSound}
-use Rattle.cip_bland.specs.NoRepeat.{Lasts, IsSameState}
+use Rattle.cip_bland.specs.NoRepeat.{Lasts}
 use Rattle.cip_bland.specs.declared.steps.Step.{Step}
 use Rattle.cip_bland.specs.declared.steps.Step.TheVariants.{Crossed, Infeasible, Optimum, Ray, Makes}
-use Rattle.cip_bland.proofs.Searches.{IsLeast, NoneOf, IsShortest}
-use Rattle.cip_bland.proofs.StateFacts.{stand_of_basic, stand_of_nonbasic, nonbasic_at, basic_at, all_between, first_cost}
+use Rattle.cip_bland.proofs.Searches.{IsLeast, IsShortest}
+use Rattle.cip_bland.proofs.StateFacts.{stand_of_basic, stand_of_nonbasic, all_between, first_cost}
 use Rattle.cip_bland.proofs.MovesMade.{outside_basic, outside_between, can_repair, is_way, basic_way, can_exchange}
 use Rattle.cip_bland.proofs.StepCases.{IsRepair, IsDescent, Reason, crossed, infeasible, optimum, ray, repair, descent, reason, steps_are_sound}
-use Rattle.cip_bland.proofs.RunFacts.{move_in, no_move, state_start}
+use Rattle.cip_bland.proofs.RunFacts.{no_move, state_start}
 use Rattle.cip_bland.proofs.Stretches.{IsSwap, IsTurn, turn}
-use Rattle.cip_bland.proofs.Rates.{after_value}
 use Rattle.cip_bland.proofs.Descents.{own_positive, inside_after, cost_no_more, no_length, same_values}
 use Rattle.cip_bland.proofs.Clashes.{AreOfOne, same_value, repairs_clash, descents_clash}
 
@@ -135,12 +132,15 @@ module _ (program : LinearProgram) (proper : IsProper program) where
     where
       one : AreOfOne p q
       one = one_of p q a b
+
       nonbasic_value : (u : ℕ) → u < size q → is_basic q u ≡ false → value p u ≡ value q u
       nonbasic_value u lu f = let at = stand_of_nonbasic q u f in same_value p q one u lu at.0 (alike u lu ∙ at.1) at.1
+
       products : (u : ℕ) → is_basic q k ≡ true → u < size q → (f : Bool) → is_basic q u ≡ f → entry q k u *ℚ value p u ≡ entry q k u *ℚ value q u
       products u bk lu true f =
           ap (λ t. t *ℚ value p u) (b.consistent.rows_free k u l bk lu f) ∙ zero-*ℚ (value p u) ∙ sym (ap (λ t. t *ℚ value q u) (b.consistent.rows_free k u l bk lu f) ∙ zero-*ℚ (value q u))
       products u bk lu false f = ap (λ t. entry q k u *ℚ t) (nonbasic_value u lu f)
+
       by_basis : (k' : ℕ) → k' < size q → (f : Bool) → is_basic q k ≡ f → value p k ≡ value q k
       by_basis k' l' true f =
           one.solves k l f
@@ -388,8 +388,8 @@ module _ (program : LinearProgram) (proper : IsProper program) (d : Dictionary) 
     repairing_from r t l = elim (kind_at t l) [
       | inl h ↦ h
       | inr g ↦
-        (let e : t + (n - t) ≡ n = omega (arith, l) in
-        absurd (not_repairing (state_after 0 d) (between_start (subst (λ k. AllBetween (state_after k d)) e (between_later (n - t) t (omega (arith, l)) (between_descending t g)))) r))
+          (let e : t + (n - t) ≡ n = omega (arith, l) in
+          absurd (not_repairing (state_after 0 d) (between_start (subst (λ k. AllBetween (state_after k d)) e (between_later (n - t) t (omega (arith, l)) (between_descending t g)))) r))
     ]
 
     descending_from : Descending (state_after 0 d) → (t : ℕ) → t < n → Descending (state_after t d)

@@ -30,14 +30,16 @@ whole_run d = run (enough_moves d) d
 abbrev pub moves_left : Dictionary → ℕ
 moves_left d = length (whole_run d).moves
 
--- a list is short, no state comes twice in it, and each limit that is no less than its length gives the whole of it
+-- a list is short, no state comes twice in it, and each limit above its length gives the whole of it; so a loop that
+-- makes its moves ends
 pub record EndsOf (d : Dictionary) : Type 0 where
   pub no_state_twice : (i j : ℕ) → Lasts j d → i < j → ¬ IsSameState (state_after i d) (state_after j d)
   pub few : (n : ℕ) → Lasts n d → n < enough_moves d
   pub ends : (whole_run d).ending ≢ Stops
-  pub whole : (limit : ℕ) → moves_left d ≤ limit → run limit d ≡ whole_run d
+  pub whole : (limit : ℕ) → moves_left d < limit → run limit d ≡ whole_run d
   pub short : moves_left d < enough_moves d
-  pub falls : (move : Move) → next d ≡ Makes move → wide_move d move ≡ None → moves_left d ≡ suc (moves_left (after d move))
+  pub falls : (move : Move) → next d ≡ Makes move → wide_move d move ≡ None
+      → moves_left d ≡ suc (moves_left (after d move))
 
 -- so it is from each state of a program
 abbrev pub ListsEnd : Type 0
@@ -47,7 +49,7 @@ ListsEnd = (program : LinearProgram) (d : Dictionary) → IsProper program → I
 unfoldable pub whole_answer : LinearProgram → Answer
 whole_answer program = answer (4 ^ (length program.bounds + length program.rows)) program
 
--- it is no limit, and right, and the answer with each limit that is large enough
+-- it isn't that the limit is reached, it is right, and it is the answer with each limit that is large enough
 pub record WholeAnswerHolds (program : LinearProgram) : Type 0 where
   pub ends : whole_answer program ≢ LimitReached
   pub right : IsRight program (whole_answer program)

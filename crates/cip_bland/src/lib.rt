@@ -5,6 +5,7 @@
 mod steps;
 
 ghost use Rattle.cip_bland.specs.Examples.{Examples};
+ghost use Rattle.cip_bland.specs.NoRepeat.{ListsEnd, AnswersEnd};
 ghost use Rattle.cip_bland.specs.Statements.{FirstIsState, StepsAreSound, RunsAreRight, AnswersAreRight};
 
 pub use steps::{Heading, Step};
@@ -30,6 +31,17 @@ pub fn runs_are_right()
 /// What the list from the first state answers on a linear program is right.
 pub fn answers_are_right()
     ensures { AnswersAreRight }
+{}
+
+/// From each state of a program no state comes twice in the list, so that it has fewer than 4 to the number of variables
+/// moves; each limit above its length gives all of it; and each move leaves one fewer.
+pub fn lists_end()
+    ensures { ListsEnd }
+{}
+
+/// So the answer without a limit is there and right, and is the answer with each limit that is large enough.
+pub fn answers_end()
+    ensures { AnswersEnd }
 {}
 
 /// Programs of one to four columns come to the moves, points, certificates and rays that were worked out by hand; so do
