@@ -1,8 +1,9 @@
 -- Each outcome of the rule with its reasons, and that it is sound.
-use Rattle.std.proofs.Common.{◌≡◌, ℕ, ◌<◌, Option, None, Some, refl, ◌∙◌}
+use Rattle.std.proofs.Common.{◌≡◌, ℕ, ◌<◌, Option, None, Some, refl, ◌∙◌, subst}
+use Rattle.std.specs.Bool.{⊤}
 use Rattle.cip_linear.specs.LinearProgram.{LinearProgram, IsProper}
 use Rattle.cip_dictionary.specs.Tables.{least}
-use Rattle.cip_dictionary.specs.Dictionary.{Dictionary, size}
+use Rattle.cip_dictionary.specs.Dictionary.{Dictionary, size, IsConsistent}
 use Rattle.cip_dictionary.specs.Exchange.{CanMove}
 use Rattle.cip_dictionary.specs.Statements.{IsKept}
 use Rattle.cip_dictionary.specs.ProgramState.{system_of, first_of_program}
@@ -12,7 +13,7 @@ use Rattle.cip_dictionary.proofs.Kept.{exchanges_keep, flips_keep}
 use Rattle.cip_dictionary.proofs.First.{first_states_tell}
 use Rattle.cip_bland.specs.Headings.{stand_ahead}
 use Rattle.cip_bland.specs.Rule.{is_crossed, is_outside, outside_heading, repairs, improves, Way, way_of, shortest, move_by, going, improving, repairing, least_outside, step_inside, step_of, next}
-use Rattle.cip_bland.specs.Statements.{IsStateOf, Leads, IsSound, StepsAreSound, FirstIsState}
+use Rattle.cip_bland.specs.Statements.{IsStateOf, Leads, IsSound, MovesCanBeMade, StepsAreSound, FirstIsState}
 use Rattle.cip_bland.specs.declared.steps.Step.{Step}
 use Rattle.cip_bland.specs.declared.steps.Step.TheVariants.{Crossed, Infeasible, Optimum, Ray, Makes}
 use Rattle.cip_bland.proofs.Searches.{IsLeast, NoneOf, least_none, least_some, IsShortest, shortest_none, shortest_some}
@@ -70,6 +71,27 @@ reason_case d (Some v) e = crossed v (least_some (size d) (is_crossed d) v e)
 
 pub reason : (d : Dictionary) → Reason d (next d)
 reason d = reason_case d (least (size d) (is_crossed d)) refl
+
+-- ---- moves
+
+-- the move of a step can be made
+abbrev CanFollow : Dictionary → Step → Type 0
+CanFollow d (Makes move) = CanMove d move
+CanFollow d (Crossed v) = ⊤
+CanFollow d (Infeasible i) = ⊤
+CanFollow d Optimum = ⊤
+CanFollow d (Ray j) = ⊤
+
+can_follow : (d : Dictionary) (step : Step) → IsConsistent d → Reason d step → CanFollow d step
+can_follow d step c (crossed v h) = tt
+can_follow d step c (infeasible i uncrossed h none) = tt
+can_follow d step c (optimum uncrossed inside none) = tt
+can_follow d step c (ray j uncrossed inside h none) = tt
+can_follow d step c (repair i j h) = can_repair d i j h.outside.below h.enters.below h.outside.passes h.enters.passes
+can_follow d step c (descent j v way h) = can_go d c j h.enters.below h.enters.passes v way h.way_is.below h.way_is.is_way
+
+pub moves_can_be_made : MovesCanBeMade
+moves_can_be_made d move c e = subst (CanFollow d) e (can_follow d (next d) c (reason d))
 
 -- ---- states of a program
 

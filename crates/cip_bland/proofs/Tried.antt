@@ -14,9 +14,9 @@ use Rattle.cip_dictionary.specs.Examples.{small, turned}
 use Rattle.cip_dictionary.specs.declared.moves.Stand.TheVariants.{Low, High}
 use Rattle.cip_dictionary.specs.declared.moves.Move.TheVariants.{Exchange, Flip}
 use Rattle.cip_bland.specs.Rule.{next}
-use Rattle.cip_bland.specs.MoveList.{run}
+use Rattle.cip_bland.specs.MoveList.{Ends, run, state_after}
 use Rattle.cip_bland.specs.EndAnswers.{Optimal, Unbounded, OutOfRange, LimitReached, row_multiplier, answer}
-use Rattle.cip_bland.specs.Examples.{plus, minus, three_columns, contradiction, free_column, falling, high_alone, equal_ways, fixed, crossed, crossed_row, far_apart, long_way, large_row, cycling, multiple, three_answer, optimal_at, no_point_by, Examples}
+use Rattle.cip_bland.specs.Examples.{plus, minus, three_columns, contradiction, free_column, falling, high_alone, equal_ways, fixed, crossed, crossed_row, far_apart, long_way, long_later, large_row, cycling, multiple, three_answer, optimal_at, no_point_by, Examples}
 use Rattle.cip_bland.specs.declared.steps.Step.TheVariants.{Optimum, Makes}
 
 -- numbers of which each is at most the other are the same
@@ -83,6 +83,18 @@ crosses : answer 0 crossed ≡ no_point_by [] (multiple 1 oneℚ ∷ []) (multip
 unfolding first table ratio integer whole zeroℚ oneℚ ◌+ℚ◌ ◌*ℚ◌ ◌-ℚ◌ negate inverse numerator denominator le_test lt_test is_zero exchanged flipped gcd run answer fits_range sum_overflows difference_overflows product_overflows
 crosses = refl
 
+long_first : answer 1 long_later ≡ LimitReached
+unfolding first table ratio integer whole zeroℚ oneℚ ◌+ℚ◌ ◌*ℚ◌ ◌-ℚ◌ negate inverse numerator denominator le_test lt_test is_zero exchanged flipped gcd run answer fits_range sum_overflows difference_overflows product_overflows
+long_first = refl
+
+long_second : answer 2 long_later ≡ OutOfRange (Exchange 2 0 Low ∷ Exchange 1 2 High ∷ [])
+unfolding first table ratio integer whole zeroℚ oneℚ ◌+ℚ◌ ◌*ℚ◌ ◌-ℚ◌ negate inverse numerator denominator le_test lt_test is_zero exchanged flipped gcd run answer fits_range sum_overflows difference_overflows product_overflows
+long_second = refl
+
+three_again : (run 0 (state_after 2 (first_of_program three_columns))).ending ≡ Ends Optimum
+unfolding first table ratio integer whole zeroℚ oneℚ ◌+ℚ◌ ◌*ℚ◌ ◌-ℚ◌ negate inverse numerator denominator le_test lt_test is_zero exchanged flipped gcd run answer fits_range sum_overflows difference_overflows product_overflows state_after
+three_again = refl
+
 three : answer 2 three_columns ≡ three_answer
 unfolding first table ratio integer whole zeroℚ oneℚ ◌+ℚ◌ ◌*ℚ◌ ◌-ℚ◌ negate inverse numerator denominator le_test lt_test is_zero exchanged flipped gcd run answer fits_range sum_overflows difference_overflows product_overflows
 three =
@@ -132,6 +144,7 @@ examples = record {
   three = three;
   three_at_one = three_at_one;
   three_at_none = three_at_none;
+  three_again = three_again;
   contradicts = contradicts;
   free = free;
   falls = falls;
@@ -145,6 +158,8 @@ examples = record {
   long = long;
   long_choice = long_choice;
   long_at_none = long_at_none;
+  long_first = long_first;
+  long_second = long_second;
   large = large;
   six_moves = six_moves;
 }

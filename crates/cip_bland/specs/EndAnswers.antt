@@ -25,7 +25,7 @@ use Rattle.cip_bland.specs.declared.steps.Step.TheVariants.{Crossed, Infeasible,
 abbrev pub point_of : LinearProgram → Dictionary → List ℚ
 point_of program d = table (length program.bounds) (value d)
 
--- by how much a variable changes as j goes one along the way that lets the cost fall
+-- by how much a variable changes as j goes by 1 with the heading that lets the cost fall
 abbrev pub change_of : Dictionary → ℕ → ℕ → ℚ
 change_of d j v =
     if v == j then along (falling_heading d j) oneℚ

@@ -9,7 +9,7 @@ use Rattle.cip_dictionary.specs.ProgramState.{first_of_program}
 use Rattle.cip_dictionary.specs.declared.moves.Stand.TheVariants.{Low, High}
 use Rattle.cip_dictionary.specs.declared.moves.Move.TheVariants.{Exchange, Flip}
 use Rattle.cip_bland.specs.Rule.{next}
-use Rattle.cip_bland.specs.MoveList.{run}
+use Rattle.cip_bland.specs.MoveList.{Ends, run, state_after}
 use Rattle.cip_bland.specs.EndAnswers.{Multiple, Answer, Optimal, NoPoint, Unbounded, OutOfRange, LimitReached, answer}
 use Rattle.cip_bland.specs.declared.steps.Step.TheVariants.{Optimum, Makes}
 
@@ -107,6 +107,13 @@ long_way =
     (at_most_row (term 0 (ratio (pos 1) (2 ^ 70)) ∷ []) (plus (2 ^ 70)) ∷ at_most_row (term 0 oneℚ ∷ []) oneℚ ∷ [])
     (from zeroℚ) (negate oneℚ)
 
+-- -y, y from 0, where y over 2^70 is at most 2^70, and y at least 1, so that the first move is to there
+abbrev pub long_later : LinearProgram
+long_later =
+    one_column
+    (at_most_row (term 0 (ratio (pos 1) (2 ^ 70)) ∷ []) (plus (2 ^ 70)) ∷ at_least_row (term 0 oneℚ ∷ []) oneℚ ∷ [])
+    (from zeroℚ) (negate oneℚ)
+
 -- x from 2^63, in a row with the coefficient 2^64
 abbrev pub large_row : LinearProgram
 large_row =
@@ -160,6 +167,8 @@ pub record Examples : Type 0 where
   pub three : answer 2 three_columns ≡ three_answer
   pub three_at_one : answer 1 three_columns ≡ LimitReached
   pub three_at_none : answer 0 three_columns ≡ LimitReached
+  -- from its last state the list ends at once, with no move allowed
+  pub three_again : (run 0 (state_after 2 (first_of_program three_columns))).ending ≡ Ends Optimum
   -- ends that need no move are answered with no move allowed
   pub contradicts : answer 1 contradiction ≡ no_point_by (multiple 0 oneℚ ∷ multiple 1 (negate oneℚ) ∷ []) [] []
   pub free : answer 1 free_column
@@ -177,6 +186,9 @@ pub record Examples : Type 0 where
   pub long : answer 1 long_way ≡ OutOfRange (Exchange 1 0 High ∷ [])
   pub long_choice : next (first_of_program long_way) ≡ Makes (Exchange 2 0 High)
   pub long_at_none : answer 0 long_way ≡ LimitReached
+  -- no way is formed while a variable is outside, and the ways of a second move are
+  pub long_first : answer 1 long_later ≡ LimitReached
+  pub long_second : answer 2 long_later ≡ OutOfRange (Exchange 2 0 Low ∷ Exchange 1 2 High ∷ [])
   pub large : answer 5 large_row ≡ OutOfRange []
   -- six moves
   pub six_moves : length (run 9 (first_of_program cycling)).moves ≡ 6

@@ -7,17 +7,17 @@ use Rattle.cip_dictionary.specs.declared.moves.Stand.TheVariants.{Low, High, Zer
 use Rattle.cip_bland.specs.declared.steps.Heading.{Heading}
 use Rattle.cip_bland.specs.declared.steps.Heading.TheVariants.{Up, Down}
 
--- the other way
+-- the other heading
 abbrev pub back_of : Heading → Heading
 back_of Up = Down
 back_of Down = Up
 
--- how far a change goes that way: itself upwards, its negative downwards
+-- how far a change goes with a heading: itself upwards, its negative downwards
 abbrev pub along : Heading → ℚ → ℚ
 along Up change = change
 along Down change = negate change
 
--- the way of a variable by which its product with a, which isn't 0, goes this way
+-- the heading of a variable by which its product with a, which isn't 0, goes with this one
 abbrev pub heading_for : Heading → ℚ → Heading
 heading_for heading a = if lt_test zeroℚ a then heading else back_of heading
 

@@ -39,7 +39,8 @@ abbrev pub is_outside : Dictionary → ℕ → Bool
 is_outside d v =
     is_basic d v && not (is_between (sides_at d.sides v).low (sides_at d.sides v).high (value d v))
 
--- the way in which a value outside is outside: up where it is above the high side, down where it is below the low one
+-- the heading by which a value outside left its sides: up where it is above the high one, down where it is below the
+-- low one
 abbrev pub outside_with : Sides → ℚ → Heading
 outside_with sides value = if at_least sides.low value then Up else Down
 
@@ -48,8 +49,8 @@ outside_heading d i = outside_with (sides_at d.sides i) (value d i)
 
 -- ---- which variable enters
 
--- a variable with these sides, which stands there, may go this way: it is nonbasic, its sides aren't equal, and it
--- isn't at the side ahead
+-- a variable with these sides, which stands there, may go with this heading: it is nonbasic, its sides aren't equal,
+-- and it isn't at the side ahead
 abbrev pub may_go_from : Sides → Option Stand → Heading → Bool
 may_go_from sides None heading = false
 may_go_from sides (Some at) heading = not (sides_equal sides.low sides.high) && not (is_ahead heading at)
@@ -57,7 +58,7 @@ may_go_from sides (Some at) heading = not (sides_equal sides.low sides.high) && 
 abbrev pub may_go : Dictionary → ℕ → Heading → Bool
 may_go d k heading = may_go_from (sides_at d.sides k) (stand d k) heading
 
--- a form with these entries goes this way as variable k goes where it may
+-- a form with these entries goes with this heading as variable k goes where it may
 abbrev pub drives : Dictionary → (ℕ → ℚ) → Heading → ℕ → Bool
 drives d row heading k = not (is_zero (row k)) && may_go d k (heading_for heading (row k))
 
@@ -71,7 +72,7 @@ improves d = drives d (cost_entry d) Down
 
 -- ---- ways of j, which lets the cost fall
 
--- the way that j goes
+-- the heading of j
 abbrev pub falling_heading : Dictionary → ℕ → Heading
 falling_heading d j = heading_for Down (cost_entry d j)
 
@@ -81,8 +82,8 @@ pub record Way : Type 0 where
   pub to : Stand
   pub length : ℚ
 
--- the stand at the side to which a variable goes as j goes this way, if that side is there: j goes so itself, and a
--- basic variable by its entry, if that isn't 0
+-- the stand at the side to which a variable goes as j goes with this heading, if that side is there: j goes so itself,
+-- and a basic variable by its entry, if that isn't 0
 abbrev pub goal_with : Bool → Bool → Heading → ℚ → Sides → Option Stand
 goal_with true basic heading a sides = goal_ahead heading sides
 goal_with false true heading a sides = if is_zero a then None else goal_ahead (heading_for heading a) sides

@@ -4,7 +4,7 @@ use Rattle.cip_rational.specs.Rational.{ℚ, zeroℚ, ◌<ℚ◌}
 use Rattle.cip_linear.specs.LinearProgram.{LinearProgram, IsProper, IsPoint, HasNoPoint, IsOptimal, IsRay}
 use Rattle.cip_linear.specs.Aggregate.{Inequality, aggregate, bound_of, Empties}
 use Rattle.cip_linear.specs.Multipliers.{ArePartsOf}
-use Rattle.cip_dictionary.specs.Dictionary.{Dictionary}
+use Rattle.cip_dictionary.specs.Dictionary.{Dictionary, IsConsistent}
 use Rattle.cip_dictionary.specs.Exchange.{after, CanMove}
 use Rattle.cip_dictionary.specs.Statements.{IsKept}
 use Rattle.cip_dictionary.specs.ProgramState.{first_of_program}
@@ -72,7 +72,11 @@ IsSound program d (Infeasible i) = IsRight program (answer_at program d (Infeasi
 IsSound program d Optimum = IsRight program (answer_at program d Optimum)
 IsSound program d (Ray j) = IsRight program (answer_at program d (Ray j))
 
--- so the next step is at each state of a program
+-- at each consistent state the move of the rule can be made
+abbrev pub MovesCanBeMade : Type 0
+MovesCanBeMade = (d : Dictionary) (move : Move) → IsConsistent d → next d ≡ Makes move → CanMove d move
+
+-- the next step at each state of a program is sound
 abbrev pub StepsAreSound : Type 0
 StepsAreSound =
     (program : LinearProgram) (d : Dictionary) → IsProper program → IsStateOf program d → IsSound program d (next d)
@@ -103,7 +107,7 @@ pub record IsRun (limit : ℕ) (d : Dictionary) (r : Run) : Type 0 where
   pub last : r.last ≡ state_after (length r.moves) d
   pub ending : IsEnding limit (length r.moves) r.last r.ending
 
--- it is that of each state; from a state of a program the last one is too, and what the end answers is right
+-- so is what is computed at each state; from a state of a program the last one is too, and what the end answers is right
 pub record RunsAreRight : Type 0 where
   pub lists : (limit : ℕ) (d : Dictionary) → IsRun limit d (run limit d)
   pub states : (program : LinearProgram) (limit : ℕ) (d : Dictionary)

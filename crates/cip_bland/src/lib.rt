@@ -6,13 +6,18 @@ mod steps;
 
 ghost use Rattle.cip_bland.specs.Examples.{Examples};
 ghost use Rattle.cip_bland.specs.NoRepeat.{ListsEnd, AnswersEnd};
-ghost use Rattle.cip_bland.specs.Statements.{FirstIsState, StepsAreSound, RunsAreRight, AnswersAreRight};
+ghost use Rattle.cip_bland.specs.Statements.{FirstIsState, MovesCanBeMade, StepsAreSound, RunsAreRight, AnswersAreRight};
 
 pub use steps::{Heading, Step};
 
 /// The first state of a linear program is one of its states: it is consistent, and has its solutions and its cost.
 pub fn first_is_state()
     ensures { FirstIsState }
+{}
+
+/// At each consistent state the move that the rule chooses can be made.
+pub fn moves_can_be_made()
+    ensures { MovesCanBeMade }
 {}
 
 /// At each state of a program the step is sound: a move can be made and leads to a state of the program; an optimum's
