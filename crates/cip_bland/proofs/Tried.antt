@@ -16,7 +16,7 @@ use Rattle.cip_dictionary.specs.declared.moves.Move.TheVariants.{Exchange, Flip}
 use Rattle.cip_bland.specs.Rule.{next}
 use Rattle.cip_bland.specs.MoveList.{Ends, run, state_after}
 use Rattle.cip_bland.specs.EndAnswers.{Optimal, Unbounded, OutOfRange, LimitReached, row_multiplier, answer}
-use Rattle.cip_bland.specs.Examples.{plus, minus, three_columns, contradiction, free_column, falling, high_alone, equal_ways, fixed, crossed, crossed_row, far_apart, long_way, long_later, large_row, cycling, multiple, three_answer, optimal_at, no_point_by, Examples}
+use Rattle.cip_bland.specs.Examples.{plus, minus, three_columns, contradiction, free_column, falling, high_alone, equal_ways, fixed, crossed, crossed_row, far_apart, two_outside, long_way, long_later, large_row, cycling, multiple, three_answer, optimal_at, no_point_by, Examples}
 use Rattle.cip_bland.specs.declared.steps.Step.TheVariants.{Optimum, Makes}
 
 -- numbers of which each is at most the other are the same
@@ -83,6 +83,10 @@ crosses : answer 0 crossed ≡ no_point_by [] (multiple 1 oneℚ ∷ []) (multip
 unfolding first table ratio integer whole zeroℚ oneℚ ◌+ℚ◌ ◌*ℚ◌ ◌-ℚ◌ negate inverse numerator denominator le_test lt_test is_zero exchanged flipped gcd run answer fits_range sum_overflows difference_overflows product_overflows
 crosses = refl
 
+least_leaves : (run 5 (first_of_program two_outside)).moves ≡ Exchange 1 0 Low ∷ Exchange 2 1 Low ∷ []
+unfolding first table ratio integer whole zeroℚ oneℚ ◌+ℚ◌ ◌*ℚ◌ ◌-ℚ◌ negate inverse numerator denominator le_test lt_test is_zero exchanged flipped gcd run answer fits_range sum_overflows difference_overflows product_overflows
+least_leaves = refl
+
 long_first : answer 1 long_later ≡ LimitReached
 unfolding first table ratio integer whole zeroℚ oneℚ ◌+ℚ◌ ◌*ℚ◌ ◌-ℚ◌ negate inverse numerator denominator le_test lt_test is_zero exchanged flipped gcd run answer fits_range sum_overflows difference_overflows product_overflows
 long_first = refl
@@ -140,6 +144,7 @@ pub examples : Examples
 examples = record {
   small_move = small_move;
   small_end = small_end;
+  least_leaves = least_leaves;
   three_moves = three_moves;
   three = three;
   three_at_one = three_at_one;

@@ -56,6 +56,11 @@ contradiction =
     one_column (at_least_row (term 0 oneℚ ∷ []) (plus 2) ∷ at_most_row (term 0 oneℚ ∷ []) oneℚ ∷ [])
     (between zeroℚ (plus 5)) oneℚ
 
+-- x from 0, where x is at least 1 and at least 3
+abbrev pub two_outside : LinearProgram
+two_outside =
+    one_column (at_least_row (term 0 oneℚ ∷ []) oneℚ ∷ at_least_row (term 0 oneℚ ∷ []) (plus 3) ∷ []) (from zeroℚ) oneℚ
+
 -- y, without sides, where 3 y is at least -2 and at least 2
 abbrev pub free_column : LinearProgram
 free_column =
@@ -162,6 +167,8 @@ pub record Examples : Type 0 where
   -- x and y from 0, the row 2x - 3y from 1: the row is below its side and leaves, and x enters; then x + y is least
   pub small_move : next (first small) ≡ Makes (Exchange 2 0 Low)
   pub small_end : next turned ≡ Optimum
+  -- of two rows that are outside the first leaves, and then the second
+  pub least_leaves : (run 5 (first_of_program two_outside)).moves ≡ Exchange 1 0 Low ∷ Exchange 2 1 Low ∷ []
   -- two moves lead to the optimum: so it is with a limit of 2 and more, and one of 1 or 0 is reached
   pub three_moves : (run 5 (first_of_program three_columns)).moves ≡ Exchange 3 0 High ∷ Exchange 5 2 High ∷ []
   pub three : answer 2 three_columns ≡ three_answer

@@ -107,7 +107,8 @@ pub record IsRun (limit : ℕ) (d : Dictionary) (r : Run) : Type 0 where
   pub last : r.last ≡ state_after (length r.moves) d
   pub ending : IsEnding limit (length r.moves) r.last r.ending
 
--- so is what is computed at each state; from a state of a program the last one is too, and what the end answers is right
+-- so is what is computed at each state; from a state of a program the last one is too, and what the end answers is
+-- right
 pub record RunsAreRight : Type 0 where
   pub lists : (limit : ℕ) (d : Dictionary) → IsRun limit d (run limit d)
   pub states : (program : LinearProgram) (limit : ℕ) (d : Dictionary)

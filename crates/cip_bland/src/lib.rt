@@ -38,8 +38,8 @@ pub fn answers_are_right()
     ensures { AnswersAreRight }
 {}
 
-/// From each state of a program no state comes twice in the list, so that it has fewer than 4 to the number of variables
-/// moves; each limit above its length gives all of it; and each move leaves one fewer.
+/// From each state of a program no state comes twice in the list, so that it has fewer moves than 4 to the number of
+/// variables; each limit above its length gives all of it; and each move leaves one fewer.
 pub fn lists_end()
     ensures { ListsEnd }
 {}
