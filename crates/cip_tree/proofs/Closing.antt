@@ -1,19 +1,17 @@
 -- Open nodes are closed by their bounds.
-use Rattle.std.proofs.Common.{sum_by, ◌≡◌, ℕ, ◌+◌, ◌≤◌, Bool, true, false, cond, List, [], ◌∷◌, map, length, count_by, filter, All, refl, sym, ap, ◌∙◌, subst, arith}
+use Rattle.std.proofs.Common.{sum_by, ◌≡◌, ℕ, ◌+◌, ◌≤◌, Bool, true, false, cond, List, [], ◌∷◌, map, length, count_by, filter, All, refl, sym, ap, subst, arith}
 use Rattle.std.specs.List.Sorted.{IsPermutation}
-use Rattle.std.proofs.lemmas.List.Elements.{All-head, All-tail, All-filter}
+use Rattle.std.proofs.lemmas.List.Elements.{All-head, All-tail}
 use Rattle.std.proofs.lemmas.List.Sums.{sum_by-cons, length-filter, count_by-le-length}
-use Rattle.std.proofs.lemmas.List.Sorted.{All-permutation, IsPermutation-map, IsPermutation-refl, length_permutation, sum_by-IsPermutation}
+use Rattle.std.proofs.lemmas.List.Sorted.{IsPermutation-map, IsPermutation-refl, length_permutation}
 use Rattle.cip_rational.specs.Rational.{ℚ}
 use Rattle.cip_problem.specs.Program.{Sides}
 use Rattle.cip_problem.specs.Log.{Node}
-use Rattle.cip_tree.specs.declared.kept.Stage.{Stage}
-use Rattle.cip_tree.specs.declared.kept.Stage.TheVariants.{Open, Parked}
 use Rattle.cip_tree.specs.declared.queue.OpenNode.{OpenNode}
 use Rattle.cip_tree.specs.Slots.{Slots}
 use Rattle.cip_tree.specs.Queue.{is_below}
 use Rattle.cip_tree.specs.Moves.{is_cheaper}
-use Rattle.cip_tree.specs.Inside.{node_at, nodes_at, StandsAs, is_at, IsInOrder}
+use Rattle.cip_tree.specs.Inside.{node_at, nodes_at, is_at}
 use Rattle.cip_tree.proofs.Keeping.{one_if}
 
 shown_step : (f : OpenNode → Node) (x : OpenNode) (a : List Node) (b : List OpenNode) (t : Bool) → a ≡ map f b → cond t (f x ∷ a) a ≡ map f (cond t (x ∷ b) b)
@@ -44,19 +42,10 @@ count_step : (f : OpenNode → ℕ) (x : OpenNode) (a b : List OpenNode) (t : Bo
 count_step f x a b true h = omega (arith, sum_by-cons f x a, h)
 count_step f x a b false h = omega (arith, h)
 
-fewer : (place : ℕ) (cost : ℚ) (nodes : List OpenNode) → count_by (is_at place) (filter (is_below cost) nodes) ≤ count_by (is_at place) nodes
+-- no place stands among them more often
+pub fewer : (place : ℕ) (cost : ℚ) (nodes : List OpenNode) → count_by (is_at place) (filter (is_below cost) nodes) ≤ count_by (is_at place) nodes
 fewer place cost [] = omega arith
 fewer place cost (x ∷ xs) = omega (arith, count_step (λ e. one_if (is_at place e)) x (filter (is_below cost) xs) xs (is_below cost x) (fewer place cost xs), sum_by-cons (λ e. one_if (is_at place e)) x xs)
-
-pub closed_order : (slots : Slots) (cost : ℚ) (old new p : List OpenNode) (ids work : ℕ) → IsPermutation (filter (is_below cost) old) new → IsInOrder slots old p ids work → IsInOrder slots new p ids work
-closed_order slots cost old new p ids work perm o = record {
-  kept = o.kept;
-  given = o.given;
-  waiting = All-permutation (StandsAs Open slots) (filter (is_below cost) old) new perm (All-filter (is_below cost) (StandsAs Open slots) old o.waiting);
-  once = λ place. omega (arith, o.once place, fewer place cost old, sum_by-IsPermutation (λ e. one_if (is_at place e)) (filter (is_below cost) old) new perm);
-  aside = o.aside;
-  work = o.work;
-}
 
 pub closed_length : (cost : ℚ) (old new : List OpenNode) → IsPermutation (filter (is_below cost) old) new → length new ≤ length old
 closed_length cost old new perm = omega (arith, length_permutation (filter (is_below cost) old) new perm, length-filter (is_below cost) old, count_by-le-length (is_below cost) old)

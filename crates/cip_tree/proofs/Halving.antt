@@ -1,20 +1,18 @@
 -- The halves of a node's box, as changes of one side.
-use Rattle.std.proofs.Common.{inl, inr, ◌≡◌, ◌≢◌, ◌↔◌, ℕ, zero, suc, ◌<◌, ℤ, pos, ◌+ℤ◌, Bool, true, false, cond, List, [], ◌∷◌, reverse, ◌++◌, Option, None, Some, IfSome, refl, sym, ap, ◌∙◌, subst, arith, get_or, set, true≢false}
-use Rattle.std.specs.List.{AllZip}
+use Rattle.std.proofs.Common.{inl, inr, ◌≡◌, ◌≢◌, ℕ, zero, suc, ◌<◌, ℤ, pos, ◌+ℤ◌, Bool, true, false, cond, List, [], ◌∷◌, reverse, ◌++◌, Option, None, Some, refl, sym, ap, ◌∙◌, arith, set}
 use Rattle.std.proofs.lemmas.List.{get_or-set_same, get_or-set_other, reverse-append}
 use Rattle.std.proofs.lemmas.Bool.{cases_eq}
 use Rattle.std.specs.Prelude.{slice_get}
-use Rattle.cip_rational.specs.Rational.{ℚ, floor, ceil, integer, le_test, ◌≤ℚ◌, ◌<ℚ◌}
+use Rattle.cip_rational.specs.Rational.{ℚ, floor, ceil, integer, ◌<ℚ◌}
 use Rattle.std.proofs.lemmas.Int.{ints}
 use Rattle.std.specs.Prelude.{◌==◌, length, ◌≤ℤ◌, ◌<ℤ◌}
 use Rattle.cip_domain.proofs.Boxes.{length-narrowed}
 use Rattle.cip_rational.proofs.Rational.Order.{≤ℚ_refl, ≤ℚ_trans, <ℚ_of_lt_of_le, <ℚ_of_le_of_lt, le_test_of_lt}
 use Rattle.cip_rational.proofs.Rational.Rounding.{integer_lt, integer_le, le_integer, le_ceil, ceil_least, floor_le, floor_greatest}
 use Rattle.cip_problem.specs.Program.{Sides}
-use Rattle.cip_problem.specs.Box.{no_sides, sides_at, Between, low_inside, high_inside}
+use Rattle.cip_problem.specs.Box.{no_sides, sides_at, low_inside, high_inside}
 use Rattle.cip_problem.specs.Wholes.{HasWhole, AllHaveWholes}
 use Rattle.cip_problem.specs.Log.{low_half, high_half, CanSplit}
-use Rattle.cip_lin.specs.declared.sides.Side.{Side}
 use Rattle.cip_lin.specs.declared.sides.Side.TheVariants.{Low, High}
 use Rattle.cip_domain.specs.Changes.{Change, with_side, tightened_sides, tightened, narrowed}
 use Rattle.cip_tree.specs.Moves.{CanHalve, low_sides, high_sides}

@@ -1,14 +1,13 @@
 -- What is kept of nodes stays right where one is let go.
-use Rattle.std.proofs.Common.{◌≡◌, ◌≢◌, ◌⊎◌, inl, inr, ℕ, zero, suc, ◌+◌, ◌-◌, ◌<◌, ◌≤◌, ◌==◌, Bool, true, false, cond, List, [], ◌∷◌, length, get_or, set, count_by, sum_by, Option, None, Some, IfSome, refl, sym, ap, ◌∙◌, subst, arith, true≢false}
+use Rattle.std.proofs.Common.{◌≡◌, ◌≢◌, ◌⊎◌, inl, inr, ℕ, zero, suc, ◌+◌, ◌-◌, ◌<◌, ◌==◌, Bool, true, false, cond, List, [], ◌∷◌, length, get_or, count_by, sum_by, Option, None, Some, IfSome, refl, sym, ap, ◌∙◌, subst, arith, true≢false}
 use Rattle.std.proofs.lemmas.Bool.{cases_eq, cases_lt}
 use Rattle.std.proofs.lemmas.Bool.Decides.{eqb_tells}
 use Rattle.std.proofs.lemmas.Option.{none-some, same_Some}
-use Rattle.std.proofs.lemmas.List.{get_or_past, get_or-set_same, get_or-set_other}
-use Rattle.std.proofs.lemmas.List.Sums.{sum_by-cons, sum_by-set, get_or-le-sum_by}
-use Rattle.cip_tree.specs.declared.kept.Stage.{Stage}
-use Rattle.cip_tree.specs.declared.kept.Stage.TheVariants.{Open, Taken, Parked, Ended}
+use Rattle.std.proofs.lemmas.List.{get_or_past}
+use Rattle.std.proofs.lemmas.List.Sums.{sum_by-cons, get_or-le-sum_by}
+use Rattle.cip_tree.specs.declared.kept.Stage.TheVariants.{Ended}
 use Rattle.cip_tree.specs.declared.kept.Origin.{Origin}
-use Rattle.cip_tree.specs.Slots.{Slot, Slots, slot_at, origin_is, comes_from, HasParent, IsKeptBut, IsKept, IsUsed, IsIdle, IsUnused, IsLowered, IsReleased}
+use Rattle.cip_tree.specs.Slots.{Slot, Slots, slot_at, origin_is, comes_from, HasParent, IsKeptBut, IsUsed, IsIdle, IsUnused, IsLowered, IsReleased}
 
 -- ---- sums over lists that differ at one place
 

@@ -1,4 +1,6 @@
 pub mod Closing
+pub mod Entering
+pub mod Freeing
 pub mod Halving
 pub mod Keeping
 pub mod Links
@@ -8,3 +10,5 @@ pub mod Paths
 pub mod Queues
 pub mod Restaged
 pub mod Starts
+pub mod Tracking
+pub mod Within

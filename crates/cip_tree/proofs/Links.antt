@@ -6,7 +6,7 @@ use Rattle.cip_tree.specs.declared.kept.Origin.{Origin}
 use Rattle.cip_tree.specs.Slots.{Slot, Slots, slot_at, changes_of, above, HasParent, IsKept, IsBelow, IsLinked}
 use Rattle.cip_tree.specs.Nodes.{Base}
 use Rattle.cip_tree.specs.Inside.{bases}
-use Rattle.cip_tree.proofs.Paths.{IsInWork, in_work}
+use Rattle.cip_tree.proofs.Paths.{in_work}
 
 module _ (slots : Slots) (up : (place : ℕ) (slot : Slot) → slot_at slots place ≡ Some slot → IfSome slot.origin (IsBelow slots slot.number)) where
   -- no more steps than the number are needed

@@ -1,7 +1,7 @@
 -- Trees stay in order from call to call.
-use Rattle.std.proofs.Common.{◌≡◌, ◌≢◌, ◌⊎◌, inl, inr, ℕ, ◌+◌, ◌-◌, ◌<◌, ◌≤◌, Bool, true, false, List, [], ◌∷◌, ◌++◌, map, reverse, length, count_by, Option, None, Some, IfSome, All, refl, sym, ap, ◌∙◌, subst, arith, get_or}
+use Rattle.std.proofs.Common.{◌≡◌, ◌≢◌, inl, inr, ℕ, ◌+◌, ◌-◌, ◌<◌, ◌≤◌, Bool, false, List, [], ◌∷◌, ◌++◌, map, reverse, length-append, count_by, Option, None, Some, IfSome, All, refl, sym, ap, ◌∙◌, subst, arith, get_or}
 use Rattle.std.specs.List.Sorted.{IsPermutation}
-use Rattle.std.proofs.lemmas.Option.{none-some, same_Some}
+use Rattle.std.proofs.lemmas.Option.{none-some}
 use Rattle.std.proofs.lemmas.List.Elements.{All-cons, All-tail, All-head, All-push, All-map}
 use Rattle.std.proofs.lemmas.List.{map-append, length-map, get_or-map}
 use Rattle.std.proofs.lemmas.List.Sums.{get_or-le-sum_by}
@@ -18,12 +18,12 @@ use Rattle.cip_domain.specs.Changes.{Change, narrowed}
 use Rattle.cip_tree.specs.declared.kept.Stage.{Stage}
 use Rattle.cip_tree.specs.declared.kept.Stage.TheVariants.{Open, Taken, Parked, Ended}
 use Rattle.cip_tree.specs.declared.queue.OpenNode.{OpenNode}
-use Rattle.cip_tree.specs.Nodes.{Base, TakenNode, Nodes, base_at, base_changes, node_changes, box_of, shown, IsTaken}
-use Rattle.cip_tree.specs.Slots.{Slot, Slots, slot_at, above, changes_at, slot_changes, origin_is, comes_from, HasParent, IsIdle, IsKeptBut, IsKept, IsRestaged, IsReleased}
-use Rattle.cip_tree.specs.Inside.{node_at, nodes_at, base_if, base_of, bases, is_taken, is_at_work, StandsAs, is_at, IsInOrder}
-use Rattle.cip_tree.proofs.Keeping.{one_if, count_changed, sum_changed, sum_same, slot_within, none_or_slot, same_slot}
+use Rattle.cip_tree.specs.Nodes.{Base, Nodes}
+use Rattle.cip_tree.specs.Slots.{Slot, Slots, slot_at, above, changes_at, slot_changes, origin_is, comes_from, HasParent, IsIdle, IsKept, IsRestaged, IsReleased}
+use Rattle.cip_tree.specs.Inside.{node_at, nodes_at, base_if, base_of, bases, is_waiting, is_taken, is_aside, has_stage, StandsAs, IsInOrder}
+use Rattle.cip_tree.proofs.Keeping.{one_if, sum_changed, sum_same, slot_within, none_or_slot, same_slot}
 use Rattle.cip_tree.proofs.Paths.{KeepsPaths, same_base, bases_at, IsInWork, in_work, nodes_same, stage_apart, stand_still, changes_still, first_apart, added_apart}
-use Rattle.cip_tree.proofs.Restaged.{kept_new, given_new, keeps, above_here, changes_here, base_others, work_count}
+use Rattle.cip_tree.proofs.Restaged.{kept_new, given_new, keeps, above_here, changes_here, base_others, stage_count}
 
 pub taken_not_ended : (s : Stage) → s ≡ Taken → s ≢ Ended
 taken_not_ended s e f = let g : Taken ≡ Ended = sym e ∙ f in cc
@@ -80,6 +80,9 @@ module _ (box : List Sides) (old new : Slots) (n : ℕ) (had notes : List Change
     keeps_here : KeepsPaths old new (λ k. k ≢ n)
     keeps_here = keeps old new n had notes Open h o.kept live open_is_not
 
+    back_count : (test : Stage → Bool) → count_by (has_stage test) new + one_if (test h.slot.stage) ≡ count_by (has_stage test) old + one_if (test Open)
+    back_count test = stage_count old new n had notes Open h o.kept live open_is_not test
+
     pub back_order : IsInOrder new more p ids (work - 1)
     back_order = record {
       kept = kept_new old new n had notes Open h o.kept live open_is_not;
@@ -87,11 +90,13 @@ module _ (box : List Sides) (old new : Slots) (n : ℕ) (had notes : List Change
       waiting = All-permutation (StandsAs Open new) ((let e : OpenNode = record { bound = bound; id = id; place = n } in e) ∷ q) more perm (All-cons (StandsAs Open new) _ q (record { slot = record h.slot { notes = notes; stage = Open }; found = h.now; number = back_number; stage_is = refl }) q_stands);
       once = added_apart (record { bound = bound; id = id; place = n }) q more o.once q_apart perm;
       aside = p_stands;
-      work = omega (arith, o.work, work_count old new n had notes Open h o.kept live open_is_not, ap (λ s. one_if (is_taken s)) back_taken);
+      work = omega (arith, o.work, back_count is_taken, ap (λ s. one_if (is_taken s)) back_taken);
+      waits = omega (arith, o.waits, back_count is_waiting, ap (λ s. one_if (is_waiting s)) back_taken, length_permutation _ _ perm);
+      rests = omega (arith, o.rests, back_count is_aside, ap (λ s. one_if (is_aside s)) back_taken);
     }
 
     pub back_some : 1 ≤ work
-    back_some = omega (arith, o.work, work_count old new n had notes Open h o.kept live open_is_not, ap (λ s. one_if (is_taken s)) back_taken)
+    back_some = omega (arith, o.work, back_count is_taken, ap (λ s. one_if (is_taken s)) back_taken)
 
     pub back_parked : nodes_at box new p ≡ nodes_at box old p
     back_parked = nodes_same box old new p (changes_still Parked old new (λ k. k ≢ n) p keeps_here p_apart p_stands)
@@ -145,6 +150,9 @@ module _ (box : List Sides) (old new : Slots) (n : ℕ) (had notes : List Change
     abbrev node_here : OpenNode
     node_here = record { bound = bound; id = id; place = n }
 
+    aside_count : (test : Stage → Bool) → count_by (has_stage test) new + one_if (test h.slot.stage) ≡ count_by (has_stage test) old + one_if (test Parked)
+    aside_count test = stage_count old new n had notes Parked h o.kept aside_live parked_is_not test
+
     pub aside_order : IsInOrder new q (p ++ node_here ∷ []) ids (work - 1)
     aside_order = record {
       kept = kept_new old new n had notes Parked h o.kept aside_live parked_is_not;
@@ -152,11 +160,13 @@ module _ (box : List Sides) (old new : Slots) (n : ℕ) (had notes : List Change
       waiting = aq_stands;
       once = o.once;
       aside = All-push (StandsAs Parked new) p node_here ap_stands (record { slot = record h.slot { notes = notes; stage = Parked }; found = h.now; number = aside_number; stage_is = refl });
-      work = omega (arith, o.work, work_count old new n had notes Parked h o.kept aside_live parked_is_not, ap (λ s. one_if (is_taken s)) aside_taken);
+      work = omega (arith, o.work, aside_count is_taken, ap (λ s. one_if (is_taken s)) aside_taken);
+      waits = omega (arith, o.waits, aside_count is_waiting, ap (λ s. one_if (is_waiting s)) aside_taken);
+      rests = omega (arith, o.rests, aside_count is_aside, ap (λ s. one_if (is_aside s)) aside_taken, length-append p (node_here ∷ []));
     }
 
     pub aside_some : 1 ≤ work
-    aside_some = omega (arith, o.work, work_count old new n had notes Parked h o.kept aside_live parked_is_not, ap (λ s. one_if (is_taken s)) aside_taken)
+    aside_some = omega (arith, o.work, aside_count is_taken, ap (λ s. one_if (is_taken s)) aside_taken)
 
     pub aside_open : nodes_at box new q ≡ nodes_at box old q
     aside_open = nodes_same box old new q (changes_still Open old new (λ k. k ≢ n) q aside_keeps aq_apart aq_stands)
@@ -217,30 +227,37 @@ module _ (old new : Slots) (n : ℕ) (r : IsReleased old new n) (kept : IsKept n
   gone_by_stage k t d e f Parked s = absurd (none-some t (sym f ∙ r.live k t d e (λ x. let g : Parked ≡ Ended = sym s ∙ x in cc)))
   gone_by_stage k t d e f Ended s = refl
 
-  gone_base : (k : ℕ) → k ≢ n → slot_at new k ≡ None → (b : Option Slot) → slot_at old k ≡ b → (base_of old b ≡ None) × (is_at_work b ≡ false)
-  gone_base k d e None f = (refl, refl)
+  gone_ended : (k : ℕ) → k ≢ n → slot_at new k ≡ None → (t : Slot) → slot_at old k ≡ Some t → t.stage ≡ Ended
+  gone_ended k d e t f = gone_by_stage k t d f e t.stage refl
+
+  gone_base : (k : ℕ) → k ≢ n → slot_at new k ≡ None → (b : Option Slot) → slot_at old k ≡ b → base_of old b ≡ None
+  gone_base k d e None f = refl
   gone_base k d e (Some t) f =
-      let ended : t.stage ≡ Ended = gone_by_stage k t d f e t.stage refl in
-      (ap (λ x. base_if x (record { number = t.number; changes = above t.number old t.origin })) ended, ap is_taken ended)
+      ap (λ x. base_if x (record { number = t.number; changes = above t.number old t.origin })) (gone_ended k d e t f)
+
+  gone_stage : (test : Stage → Bool) → test Ended ≡ false → (k : ℕ) → k ≢ n → slot_at new k ≡ None → (b : Option Slot) → slot_at old k ≡ b → has_stage test b ≡ false
+  gone_stage test z k d e None f = refl
+  gone_stage test z k d e (Some t) f = ap test (gone_ended k d e t f) ∙ z
 
   pub released_others : (k : ℕ) → k ≢ n → get_or (bases new) k None ≡ get_or (bases old) k None
   released_others k d = bases_at new k ∙ elim (none_or_slot (slot_at new k)) [
-    | inl e ↦ ap (base_of new) e ∙ sym (gone_base k d e (slot_at old k) refl).0
+    | inl e ↦ ap (base_of new) e ∙ sym (gone_base k d e (slot_at old k) refl)
     | inr (s, e) ↦ same_base old new Anywhere released_keeps k s tt e
   ] ∙ sym (bases_at old k)
 
   pub released_gone : get_or (bases new) n None ≡ None
   released_gone = bases_at new n ∙ ap (base_of new) r.gone
 
-  work_same : (k : ℕ) → k ≢ n → one_if (is_at_work (slot_at new k)) ≡ one_if (is_at_work (slot_at old k))
-  work_same k d = elim (none_or_slot (slot_at new k)) [
-    | inl e ↦ ap (λ o. one_if (is_at_work o)) e ∙ sym (ap one_if (gone_base k d e (slot_at old k) refl).1)
-    | inr (s, e) ↦ ap (λ o. one_if (is_at_work o)) e ∙ sym (ap (λ o. one_if (is_at_work o)) (r.left k s e).1)
+  stage_same : (test : Stage → Bool) → test Ended ≡ false → (k : ℕ) → k ≢ n → one_if (has_stage test (slot_at new k)) ≡ one_if (has_stage test (slot_at old k))
+  stage_same test z k d = elim (none_or_slot (slot_at new k)) [
+    | inl e ↦ ap (λ o. one_if (has_stage test o)) e ∙ sym (ap one_if (gone_stage test z k d e (slot_at old k) refl))
+    | inr (s, e) ↦ ap (λ o. one_if (has_stage test o)) e ∙ sym (ap (λ o. one_if (has_stage test o)) (r.left k s e).1)
   ]
 
-  pub released_work : count_by is_at_work new + one_if (is_at_work (slot_at old n)) ≡ count_by is_at_work old
-  released_work =
-      omega (arith, sum_changed (λ o. one_if (is_at_work o)) None refl old new n work_same, ap (λ o. one_if (is_at_work o)) r.gone)
+  -- how many nodes are at some stages
+  pub released_count : (test : Stage → Bool) → test Ended ≡ false → count_by (has_stage test) new + one_if (has_stage test (slot_at old n)) ≡ count_by (has_stage test) old
+  released_count test z =
+      omega (arith, sum_changed (λ o. one_if (has_stage test o)) None refl old new n (stage_same test z), ap (λ o. one_if (has_stage test o)) r.gone)
 
   pub released_given : (ids : ℕ) → ((k : ℕ) (s : Slot) → slot_at old k ≡ Some s → s.number < ids) → (k : ℕ) (s : Slot) → slot_at new k ≡ Some s → s.number < ids
   released_given ids g k s e = let w = r.left k s e in g k (record s { below = w.0 }) w.1
@@ -255,7 +272,7 @@ module _ (box : List Sides) (old new : Slots) (n : ℕ) (q p : List OpenNode) (i
   pub taken_some : 1 ≤ work
   taken_some =
       let s = in_work old n base w in
-      omega (arith, o.work, get_or-le-sum_by (λ x. one_if (is_at_work x)) old n None (slot_within old n s.slot s.found), ap (λ x. one_if (is_at_work x)) s.found, ap (λ x. one_if (is_taken x)) s.taken)
+      omega (arith, o.work, get_or-le-sum_by (λ x. one_if (has_stage is_taken x)) old n None (slot_within old n s.slot s.found), ap (λ x. one_if (has_stage is_taken x)) s.found, ap (λ x. one_if (is_taken x)) s.taken)
 
   pub taken_kept : (slot : Slot) × (slot_at old n ≡ Some slot)
   taken_kept = let s = in_work old n base w in (s.slot, s.found)
@@ -280,7 +297,9 @@ module _ (box : List Sides) (old new : Slots) (n : ℕ) (q p : List OpenNode) (i
           waiting = closed_waiting;
           once = o.once;
           aside = closed_aside;
-          work = omega (arith, o.work, released_work old new n r kept, ap (λ x. one_if (is_at_work x)) s.found, ap (λ x. one_if (is_taken x)) s.taken);
+          work = omega (arith, o.work, released_count old new n r kept is_taken refl, ap (λ x. one_if (has_stage is_taken x)) s.found, ap (λ x. one_if (is_taken x)) s.taken);
+          waits = omega (arith, o.waits, released_count old new n r kept is_waiting refl, ap (λ x. one_if (has_stage is_waiting x)) s.found, ap (λ x. one_if (is_waiting x)) s.taken);
+          rests = omega (arith, o.rests, released_count old new n r kept is_aside refl, ap (λ x. one_if (has_stage is_aside x)) s.found, ap (λ x. one_if (is_aside x)) s.taken);
         }
 
     pub closed_open : nodes_at box new q ≡ nodes_at box old q
@@ -292,7 +311,7 @@ module _ (box : List Sides) (old new : Slots) (n : ℕ) (q p : List OpenNode) (i
 -- ---- the first node is taken
 
 module _ (box : List Sides) (old new : Slots) (e : OpenNode) (had none : List Change) (q rest p : List OpenNode) (ids work : ℕ) (o : IsInOrder old q p ids work) (perm : IsPermutation q (e ∷ rest)) where
-  first_stands : StandsAs Open old e
+  pub first_stands : StandsAs Open old e
   first_stands = All-head (StandsAs Open old) e rest (All-permutation (StandsAs Open old) q (e ∷ rest) perm o.waiting)
 
   pub first_kept : (slot : Slot) × (slot_at old e.place ≡ Some slot)
@@ -323,6 +342,9 @@ module _ (box : List Sides) (old new : Slots) (e : OpenNode) (had none : List Ch
     aside_stands : All (StandsAs Parked new) p
     aside_stands = stand_still Parked old new e.place p (λ k s d f g. h.others k d ∙ f) aside_apart o.aside
 
+    first_count : (test : Stage → Bool) → count_by (has_stage test) new + one_if (test h.slot.stage) ≡ count_by (has_stage test) old + one_if (test Taken)
+    first_count test = stage_count old new e.place had none Taken h o.kept first_live taken_is_not test
+
     pub first_order : IsInOrder new rest p ids (work + 1)
     first_order = record {
       kept = kept_new old new e.place had none Taken h o.kept first_live taken_is_not;
@@ -330,7 +352,9 @@ module _ (box : List Sides) (old new : Slots) (e : OpenNode) (had none : List Ch
       waiting = rest_stands;
       once = (first_apart e q rest o.once perm).0;
       aside = aside_stands;
-      work = omega (arith, o.work, work_count old new e.place had none Taken h o.kept first_live taken_is_not, ap (λ s. one_if (is_taken s)) first_open);
+      work = omega (arith, o.work, first_count is_taken, ap (λ s. one_if (is_taken s)) first_open);
+      waits = omega (arith, o.waits, first_count is_waiting, ap (λ s. one_if (is_waiting s)) first_open, length_permutation q (e ∷ rest) perm);
+      rests = omega (arith, o.rests, first_count is_aside, ap (λ s. one_if (is_aside s)) first_open);
     }
 
     pub first_parked : nodes_at box new p ≡ nodes_at box old p

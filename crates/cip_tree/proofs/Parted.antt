@@ -1,12 +1,12 @@
 -- What holds where a node was split.
-use Rattle.std.proofs.Common.{◌≡◌, ◌≢◌, ◌⊎◌, inl, inr, ℕ, ◌+◌, ◌-◌, ◌<◌, ◌≤◌, ◌==◌, Bool, true, false, List, [], ◌∷◌, ◌++◌, length, reverse, count_by, get_or, set, Option, None, Some, IfSome, All, refl, sym, ap, ◌∙◌, subst, arith}
+use Rattle.std.proofs.Common.{◌≡◌, ◌≢◌, ◌⊎◌, inl, inr, ℕ, ◌+◌, ◌-◌, ◌<◌, ◌≤◌, ◌==◌, Bool, true, false, List, [], ◌∷◌, ◌++◌, reverse, count_by, get_or, set, Option, None, Some, IfSome, All, refl, sym, ap, ◌∙◌, subst, arith}
 use Rattle.std.specs.List.Sorted.{IsPermutation}
 use Rattle.std.proofs.lemmas.Bool.{cases_eq}
 use Rattle.std.proofs.lemmas.Option.{none-some, same_Some}
 use Rattle.std.proofs.lemmas.List.{get_or-set_same, get_or-set_other, length-set}
 use Rattle.std.proofs.lemmas.List.Sums.{sum_by-set}
-use Rattle.std.proofs.lemmas.List.Elements.{All-cons, All-nil}
-use Rattle.std.proofs.lemmas.List.Sorted.{All-permutation, IsPermutation-map, IsPermutation-trans, IsPermutation-cons}
+use Rattle.std.proofs.lemmas.List.Elements.{All-cons}
+use Rattle.std.proofs.lemmas.List.Sorted.{All-permutation, IsPermutation-map, IsPermutation-trans, IsPermutation-cons, length_permutation}
 use Rattle.cip_rational.specs.Rational.{ℚ}
 use Rattle.cip_problem.specs.Program.{Sides}
 use Rattle.cip_problem.specs.Log.{Node}
@@ -16,12 +16,12 @@ use Rattle.cip_tree.specs.declared.kept.Stage.TheVariants.{Open, Taken, Parked, 
 use Rattle.cip_tree.specs.declared.kept.Origin.{Origin}
 use Rattle.cip_tree.specs.declared.queue.OpenNode.{OpenNode}
 use Rattle.cip_tree.specs.Nodes.{Base}
-use Rattle.cip_tree.specs.Slots.{Slot, Slots, slot_at, open_slot, origin_is, comes_from, above, slot_changes, changes_at, HasParent, IsIdle, IsKeptBut, IsKept, IsParted, IsBelow}
-use Rattle.cip_tree.specs.Inside.{node_at, nodes_at, base_of, bases, is_taken, is_at_work, StandsAs, is_at, IsInOrder}
+use Rattle.cip_tree.specs.Slots.{Slot, Slots, slot_at, open_slot, origin_is, comes_from, above, slot_changes, changes_at, HasParent, IsKept, IsParted}
+use Rattle.cip_tree.specs.Inside.{node_at, nodes_at, base_of, bases, is_waiting, is_taken, is_aside, has_stage, StandsAs, IsInOrder}
 use Rattle.cip_tree.proofs.Keeping.{one_if, count_changed, sum_same, none_or_slot, same_slot, slot_within}
 use Rattle.cip_tree.proofs.Paths.{KeepsPaths, same_above, same_base, bases_at, IsInWork, in_work, nodes_same, stage_apart, stand_still, changes_still, added_apart}
 use Rattle.cip_tree.proofs.Orders.{taken_not_ended, taken_not_open, taken_not_parked, live_is_idle}
-use Rattle.cip_tree.proofs.Links.{first_above, up_of_kept, enough}
+use Rattle.cip_tree.proofs.Links.{first_above, up_of_kept}
 
 test_itself : (n : ℕ) → (n == n) ≡ true
 test_itself n = grind arith
@@ -113,6 +113,10 @@ module _ (box : List Sides) (old new : Slots) (n : ℕ) (notes : List Change) (l
         let c = count_changed test e old mid n mid_at in
         omega (arith, a, b, c, ap one_if e, ap (λ x. one_if (test x)) h.high_now, ap (λ x. one_if (test x)) mid_low, ap (λ x. one_if (test x)) (mid_here ∙ sym h.now))
 
+    -- how many nodes are at some stages
+    part_stages : (test : Stage → Bool) → count_by (has_stage test) new + one_if (test h.slot.stage) ≡ count_by (has_stage test) old + one_if (test Ended) + one_if (test Open) + one_if (test Open)
+    part_stages test = omega (arith, part_counts (has_stage test) refl, ap (λ x. one_if (has_stage test x)) h.was, ap (λ x. one_if (has_stage test x)) h.now)
+
     child_counts : (k : ℕ) → count_by (comes_from k) new ≡ count_by (comes_from k) old + one_if (n == k) + one_if (n == k)
     child_counts k =
         omega (arith, part_counts (comes_from k) refl, ap (λ x. one_if (comes_from k x)) h.was, ap (λ x. one_if (comes_from k x)) h.now)
@@ -193,7 +197,8 @@ module _ (box : List Sides) (old new : Slots) (n : ℕ) (notes : List Change) (l
         part_apart j k s t (inr (inl l)) (inr (inr m)) g = absurd (omega (arith, g, ap (λ (x : Slot). x.number) l.1, ap (λ (x : Slot). x.number) m.1))
         part_apart j k s t (inr (inr r)) (inr (inl m)) g = absurd (omega (arith, g, ap (λ (x : Slot). x.number) r.1, ap (λ (x : Slot). x.number) m.1))
 
-    abbrev Old : ℕ → Type 0
+    -- places that are neither of the halves' nor that of the node
+    abbrev pub Old : ℕ → Type 0
     Old k = (k ≢ n) × (k ≢ lp) × (k ≢ hp)
 
     pub part_keeps : KeepsPaths old new Old
@@ -206,6 +211,29 @@ module _ (box : List Sides) (old new : Slots) (n : ℕ) (notes : List Change) (l
       where
         old_place : (k : ℕ) (t : Slot) → slot_at old k ≡ Some t → k ≢ n → Old k
         old_place k t e d = (d, (λ x. none-some t (sym h.low_new ∙ ap (slot_at old) (sym x) ∙ e)), (λ x. none-some t (sym h.high_new ∙ ap (slot_at old) (sym x) ∙ e)))
+
+    up_here : (x : Option Origin) → h.slot.origin ≡ x → IfSome x (λ y. Old y.parent × ((t : Slot) × (slot_at new y.parent ≡ Some t)))
+    up_here None e = tt
+    up_here (Some x) e =
+        let up : HasParent old h.slot x = subst (λ y. IfSome y (HasParent old h.slot)) e (o.kept.parents n h.slot h.was) in
+        let d = parent_apart h.slot x up in (
+          (d, (λ z. none-some up.parent (sym h.low_new ∙ ap (slot_at old) (sym z) ∙ up.found)), (λ z. none-some up.parent (sym h.high_new ∙ ap (slot_at old) (sym z) ∙ up.found))),
+          (up.parent, stays x.parent up.parent d up.found),
+        )
+
+    pub above_same : above h.slot.number new h.slot.origin ≡ above h.slot.number old h.slot.origin
+    above_same = same_above old new Old part_keeps h.slot.number h.slot.origin (up_here h.slot.origin refl)
+
+    above_here : above h.slot.number new h.slot.origin ≡ base.changes
+    above_here =
+        above_same
+        ∙ ap (λ (s : Slot). above s.number old s.origin) slot_is ∙ here.changes
+
+    -- the changes of a half
+    pub half_changes : (number : ℕ) (change : Change) → ids ≤ number → above number new (Some (record { parent = n; change = change })) ≡ change ∷ (reverse notes ++ base.changes)
+    half_changes number change l =
+        first_above new (up_of_kept new part_kept) number (record { parent = n; change = change }) (record { parent = record h.slot { notes = notes; below = 2; stage = Ended }; found = h.now; lower = omega (arith, o.given n h.slot h.was, l) })
+        ∙ ap (λ r. change ∷ (reverse notes ++ r)) above_here
 
     module _ (bound : Option ℚ) (q1 q2 : List OpenNode) (p1 : let e : OpenNode = record { bound = bound; id = ids + 1; place = hp } in IsPermutation (e ∷ q) q1) (p2 : let e : OpenNode = record { bound = bound; id = ids; place = lp } in IsPermutation (e ∷ q1) q2) where
       abbrev low_node : OpenNode
@@ -252,33 +280,16 @@ module _ (box : List Sides) (old new : Slots) (n : ℕ) (notes : List Change) (l
         waiting = All-permutation (StandsAs Open new) (low_node ∷ q1) q2 p2 (All-cons (StandsAs Open new) low_node q1 (record { slot = low_slot; found = h.low_now; number = refl; stage_is = refl }) q1_stands);
         once = added_apart low_node q1 q2 (added_apart high_node q q1 o.once (new_place Open hp q h.high_new o.waiting) p1) q1_apart p2;
         aside = p_stands;
-        work = omega (arith, o.work, part_counts is_at_work refl, ap (λ x. one_if (is_at_work x)) h.was, ap (λ s. one_if (is_taken s)) was_taken, ap (λ x. one_if (is_at_work x)) h.now);
+        work = omega (arith, o.work, part_stages is_taken, ap (λ s. one_if (is_taken s)) was_taken);
+        waits = omega (arith, o.waits, part_stages is_waiting, ap (λ s. one_if (is_waiting s)) was_taken, length_permutation (high_node ∷ q) q1 p1, length_permutation (low_node ∷ q1) q2 p2);
+        rests = omega (arith, o.rests, part_stages is_aside, ap (λ s. one_if (is_aside s)) was_taken);
       }
 
       pub part_some : 1 ≤ work
-      part_some = omega (arith, o.work, part_counts is_at_work refl, ap (λ x. one_if (is_at_work x)) h.was, ap (λ s. one_if (is_taken s)) was_taken, ap (λ x. one_if (is_at_work x)) h.now)
+      part_some = omega (arith, o.work, part_stages is_taken, ap (λ s. one_if (is_taken s)) was_taken)
 
       pub part_parked : nodes_at box new p ≡ nodes_at box old p
       part_parked = nodes_same box old new p (changes_still Parked old new Old p part_keeps p_old p_stands)
-
-      up_here : (x : Option Origin) → h.slot.origin ≡ x → IfSome x (λ y. Old y.parent × ((t : Slot) × (slot_at new y.parent ≡ Some t)))
-      up_here None e = tt
-      up_here (Some x) e =
-          let up : HasParent old h.slot x = subst (λ y. IfSome y (HasParent old h.slot)) e (o.kept.parents n h.slot h.was) in
-          let d = parent_apart h.slot x up in (
-            (d, (λ z. none-some up.parent (sym h.low_new ∙ ap (slot_at old) (sym z) ∙ up.found)), (λ z. none-some up.parent (sym h.high_new ∙ ap (slot_at old) (sym z) ∙ up.found))),
-            (up.parent, stays x.parent up.parent d up.found),
-          )
-
-      above_here : above h.slot.number new h.slot.origin ≡ base.changes
-      above_here =
-          same_above old new Old part_keeps h.slot.number h.slot.origin (up_here h.slot.origin refl)
-          ∙ ap (λ (s : Slot). above s.number old s.origin) slot_is ∙ here.changes
-
-      half_changes : (number : ℕ) (change : Change) → ids ≤ number → above number new (Some (record { parent = n; change = change })) ≡ change ∷ (reverse notes ++ base.changes)
-      half_changes number change l =
-          first_above new (up_of_kept new part_kept) number (record { parent = n; change = change }) (record { parent = record h.slot { notes = notes; below = 2; stage = Ended }; found = h.now; lower = omega (arith, o.given n h.slot h.was, l) })
-          ∙ ap (λ r. change ∷ (reverse notes ++ r)) above_here
 
       pub part_nodes : let low : Node = record { number = ids; box = narrowed box (cl ∷ (reverse notes ++ base.changes)); bound = bound } in let high : Node = record { number = ids + 1; box = narrowed box (ch ∷ (reverse notes ++ base.changes)); bound = bound } in IsPermutation (low ∷ high ∷ nodes_at box old q) (nodes_at box new q2)
       part_nodes =

@@ -1,23 +1,22 @@
 -- The changes of nodes stay where other slots change.
-use Rattle.std.proofs.Common.{◌≡◌, ◌≢◌, ◌⊎◌, inl, inr, ℕ, zero, suc, ◌+◌, ◌-◌, ◌<◌, ◌≤◌, ◌==◌, Bool, true, false, cond, List, [], ◌∷◌, ◌++◌, length, map, reverse, get_or, count_by, sum_by, Option, None, Some, IfSome, All, refl, sym, ap, ◌∙◌, subst, arith, true≢false}
+use Rattle.std.proofs.Common.{◌≡◌, ◌≢◌, inl, inr, ℕ, zero, suc, ◌+◌, ◌≤◌, ◌==◌, Bool, true, false, List, [], ◌∷◌, ◌++◌, map, reverse, get_or, count_by, Option, None, Some, IfSome, All, refl, sym, ap, ◌∙◌, arith}
 use Rattle.std.specs.List.Sorted.{IsPermutation}
-use Rattle.std.proofs.lemmas.Bool.{cases_eq, cases_lt}
+use Rattle.std.proofs.lemmas.Bool.{cases_eq}
 use Rattle.std.proofs.lemmas.Option.{none-some, same_Some}
-use Rattle.std.proofs.lemmas.List.{get_or_past, get_or-map, length-map}
-use Rattle.std.proofs.lemmas.List.Elements.{All-cons, All-tail, All-head, All-nil}
+use Rattle.std.proofs.lemmas.List.Elements.{All-tail, All-head}
 use Rattle.std.proofs.lemmas.List.Sums.{sum_by-cons, get_or-le-sum_by}
-use Rattle.std.proofs.lemmas.List.Sorted.{All-permutation, sum_by-IsPermutation}
+use Rattle.std.proofs.lemmas.List.Sorted.{sum_by-IsPermutation}
 use Rattle.cip_problem.specs.Program.{Sides}
 use Rattle.cip_problem.specs.Log.{Node}
-use Rattle.cip_domain.specs.Changes.{Change, narrowed}
+use Rattle.cip_domain.specs.Changes.{narrowed}
 use Rattle.cip_tree.specs.declared.kept.Stage.{Stage}
 use Rattle.cip_tree.specs.declared.kept.Stage.TheVariants.{Open, Taken, Parked, Ended}
 use Rattle.cip_tree.specs.declared.kept.Origin.{Origin}
 use Rattle.cip_tree.specs.declared.queue.OpenNode.{OpenNode}
 use Rattle.cip_tree.specs.Nodes.{Base}
-use Rattle.cip_tree.specs.Slots.{Slot, Slots, slot_at, origin_is, comes_from, changes_of, above, slot_changes, changes_at, HasParent, IsKeptBut, IsKept, IsRestaged, IsReleased}
-use Rattle.cip_tree.specs.Inside.{node_at, nodes_at, base_if, base_of, bases, is_taken, is_at_work, StandsAs, is_at, IsInOrder}
-use Rattle.cip_tree.proofs.Keeping.{one_if, count_changed, sum_changed, slot_within, none_or_slot, same_slot}
+use Rattle.cip_tree.specs.Slots.{Slot, Slots, slot_at, changes_of, above, slot_changes, changes_at}
+use Rattle.cip_tree.specs.Inside.{node_at, nodes_at, base_if, base_of, bases, StandsAs, is_at}
+use Rattle.cip_tree.proofs.Keeping.{one_if, none_or_slot, same_slot}
 
 -- the slots at these places were there before, but for their counts, and so are their parents
 pub record KeepsPaths (old new : Slots) (D : ℕ → Type 0) : Type 0 where
@@ -40,6 +39,10 @@ module _ (old new : Slots) (D : ℕ → Type 0) (h : KeepsPaths old new D) where
       let there : changes_of (slot_at new o.parent) (above f new) ≡ reverse u.1.0.notes ++ above f new u.1.0.origin = ap (λ t. changes_of t (above f new)) u.1.1 in
       let before : changes_of (slot_at old o.parent) (above f old) ≡ reverse u.1.0.notes ++ above f old u.1.0.origin = ap (λ t. changes_of t (above f old)) w.1 in
       ap (λ r. o.change ∷ r) (there ∙ ap (λ r. reverse u.1.0.notes ++ r) (same_above f u.1.0.origin (next_up o.parent u.1.0 u.0 u.1.1 u.1.0.origin refl)) ∙ sym before)
+
+  -- what is above a node
+  pub same_up : (k : ℕ) (s : Slot) → D k → slot_at new k ≡ Some s → above s.number new s.origin ≡ above s.number old s.origin
+  same_up k s d e = same_above s.number s.origin (next_up k s d e s.origin refl)
 
   pub same_changes : (k : ℕ) (s : Slot) → D k → slot_at new k ≡ Some s → changes_at new k ≡ changes_at old k
   same_changes k s d e =
@@ -127,7 +130,7 @@ at_none place (e ∷ es) h =
     not_equal : (m n : ℕ) → m ≢ n → (m == n) ≡ false
     not_equal m n d = grind arith
 
-apart_by_count : (place : ℕ) (nodes : List OpenNode) → count_by (is_at place) nodes ≡ 0 → All (λ e. e.place ≢ place) nodes
+pub apart_by_count : (place : ℕ) (nodes : List OpenNode) → count_by (is_at place) nodes ≡ 0 → All (λ e. e.place ≢ place) nodes
 apart_by_count place nodes h = λ k d l same.
     omega (arith, h, get_or-le-sum_by (λ x. one_if (is_at place x)) nodes k d l, ap one_if (equal_test (get_or nodes k d).place place same))
   where

@@ -1,15 +1,14 @@
 -- The heap of open nodes: what its order says, and what stays true of it.
-use Rattle.std.proofs.Common.{◌≡◌, ◌≢◌, ℕ, zero, suc, ◌+◌, ◌-◌, ◌<◌, ◌≤◌, Bool, true, false, cond, not, List, [], ◌∷◌, ◌++◌, length, take, get_or, Option, None, Some, IfSome, IfNone, All, Contains, refl, sym, ap, ◌∙◌, subst, arith, Less, Equal, Greater, Ordering, is_lt, true≢false, filter, Result, Ok, Err, is_ok}
+use Rattle.std.proofs.Common.{◌≡◌, ℕ, zero, suc, ◌+◌, ◌-◌, ◌<◌, ◌≤◌, Bool, true, false, cond, not, List, [], ◌∷◌, length, take, get_or, Option, None, Some, IfSome, IfNone, All, Contains, refl, sym, ap, ◌∙◌, subst, arith, Less, Equal, Greater, Ordering, is_lt, true≢false, Result, Ok, Err, is_ok}
 use Rattle.std.specs.Prelude.{MatchOption, OnSome, OnOk}
 use Rattle.std.specs.declared.collections.BinaryHeap.{BinaryHeap}
 use Rattle.std.proofs.lemmas.List.{nil_from_length}
-use Rattle.std.specs.Cmp.Lexicographic.{options_total}
 use Rattle.std.specs.Option.{option_cmp}
 use Rattle.std.specs.Ordering.{nat_cmp, ordering_then, MatchOrdering}
 use Rattle.std.specs.BinaryHeap.{IsHeap, IsUpperBound, PopsGreatest, HeapUnchanged, heap_items, heap_len, heap_capacity}
 use Rattle.std.specs.List.Sorted.{IsPermutation}
 use Rattle.std.proofs.lemmas.Cmp.{ranked}
-use Rattle.std.proofs.lemmas.List.Elements.{All-from_recursion, All-weaker, All-tail, All-more, All-cons, All-nil, Contains-get_or}
+use Rattle.std.proofs.lemmas.List.Elements.{All-from_recursion, All-weaker, All-tail, All-more, All-cons, Contains-get_or}
 use Rattle.std.proofs.lemmas.List.Sorted.{All-permutation, length_permutation, Contains-permutation}
 use Rattle.cip_rational.specs.Rational.{ℚ, compare_rational, ◌≤ℚ◌, ◌<ℚ◌, lt_test}
 use Rattle.cip_rational.proofs.Rational.Order.{≤ℚ_trans, ≤ℚ_refl, ≤ℚ_of_lt, ≤ℚ_of_eq, <ℚ_of_le_of_lt, ne_of_lt, lt_of_test, le_of_lt_test, test_of_lt}

@@ -1,13 +1,13 @@
 -- What holds where a node has other notes and another stage.
-use Rattle.std.proofs.Common.{◌≡◌, ◌≢◌, ◌⊎◌, inl, inr, ℕ, ◌+◌, ◌<◌, ◌≤◌, Bool, true, false, List, [], ◌∷◌, ◌++◌, reverse, count_by, Option, None, Some, IfSome, All, refl, sym, ap, ◌∙◌, subst, arith}
+use Rattle.std.proofs.Common.{◌≡◌, ◌≢◌, inl, inr, ℕ, ◌+◌, ◌<◌, Bool, List, ◌++◌, reverse, count_by, Option, None, Some, IfSome, refl, sym, ap, ◌∙◌, subst, arith}
 use Rattle.std.proofs.lemmas.Bool.{cases_eq}
-use Rattle.std.proofs.lemmas.Option.{none-some, same_Some}
+use Rattle.std.proofs.lemmas.Option.{same_Some}
 use Rattle.cip_domain.specs.Changes.{Change}
 use Rattle.cip_tree.specs.declared.kept.Stage.{Stage}
-use Rattle.cip_tree.specs.declared.kept.Stage.TheVariants.{Open, Taken, Parked, Ended}
+use Rattle.cip_tree.specs.declared.kept.Stage.TheVariants.{Ended}
 use Rattle.cip_tree.specs.declared.kept.Origin.{Origin}
-use Rattle.cip_tree.specs.Slots.{Slot, Slots, slot_at, origin_is, comes_from, above, slot_changes, changes_at, HasParent, IsKeptBut, IsKept, IsRestaged}
-use Rattle.cip_tree.specs.Inside.{base_of, is_taken, is_at_work}
+use Rattle.cip_tree.specs.Slots.{Slot, Slots, slot_at, comes_from, above, slot_changes, changes_at, HasParent, IsKept, IsRestaged}
+use Rattle.cip_tree.specs.Inside.{base_of, has_stage}
 use Rattle.cip_tree.proofs.Keeping.{one_if, count_changed, none_or_slot, same_slot}
 use Rattle.cip_tree.proofs.Paths.{KeepsPaths, same_above, same_base}
 
@@ -76,5 +76,6 @@ module _ (old new : Slots) (n : ℕ) (had notes : List Change) (stage : Stage) (
     | inr (s, e) ↦ same_base old new (λ k. k ≢ n) keeps k s d e
   ]
 
-  pub work_count : count_by is_at_work new + one_if (is_taken h.slot.stage) ≡ count_by is_at_work old + one_if (is_taken stage)
-  work_count = omega (arith, count_changed is_at_work refl old new n h.others, ap (λ o. one_if (is_at_work o)) h.was, ap (λ o. one_if (is_at_work o)) h.now)
+  -- how many nodes are at some stages
+  pub stage_count : (test : Stage → Bool) → count_by (has_stage test) new + one_if (test h.slot.stage) ≡ count_by (has_stage test) old + one_if (test stage)
+  stage_count test = omega (arith, count_changed (has_stage test) refl old new n h.others, ap (λ o. one_if (has_stage test o)) h.was, ap (λ o. one_if (has_stage test o)) h.now)

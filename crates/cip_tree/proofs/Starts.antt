@@ -1,19 +1,17 @@
 -- A tree of one node is in order.
-use Rattle.std.proofs.Common.{◌≡◌, ◌≢◌, ◌⊎◌, inl, inr, ℕ, ◌+◌, ◌<◌, ◌≤◌, ◌==◌, Bool, true, false, List, [], ◌∷◌, ◌++◌, length, count_by, get_or, Option, None, Some, IfSome, All, refl, sym, ap, ◌∙◌, subst, arith}
+use Rattle.std.proofs.Common.{◌≡◌, ◌≢◌, inl, inr, ℕ, ◌≤◌, Bool, true, false, List, [], ◌∷◌, count_by, get_or, Option, None, Some, IfSome, refl, sym, ap, ◌∙◌, subst, arith}
 use Rattle.std.proofs.lemmas.Bool.{cases_eq}
 use Rattle.std.proofs.lemmas.Option.{none-some, same_Some}
 use Rattle.std.proofs.lemmas.List.Elements.{All-cons, All-nil}
 use Rattle.std.proofs.lemmas.List.Sums.{sum_by-cons}
-use Rattle.cip_rational.specs.Rational.{ℚ}
-use Rattle.cip_tree.specs.declared.kept.Stage.{Stage}
-use Rattle.cip_tree.specs.declared.kept.Stage.TheVariants.{Open, Taken, Parked, Ended}
+use Rattle.cip_tree.specs.declared.kept.Stage.TheVariants.{Open, Parked, Ended}
 use Rattle.cip_tree.specs.declared.queue.OpenNode.{OpenNode}
 use Rattle.cip_tree.specs.Slots.{Slot, Slots, slot_at, open_slot, comes_from, changes_at, slot_changes, HasParent, IsKept}
 use Rattle.cip_problem.specs.Program.{Sides}
 use Rattle.cip_problem.specs.Log.{Node}
 use Rattle.cip_domain.specs.Changes.{narrowed}
-use Rattle.cip_tree.specs.Inside.{nodes_at, base_of, bases, is_at_work, is_at, StandsAs, IsInOrder}
-use Rattle.cip_tree.proofs.Keeping.{one_if, sum_same}
+use Rattle.cip_tree.specs.Inside.{nodes_at, base_of, bases, is_waiting, is_taken, is_aside, has_stage, is_at, StandsAs, IsInOrder}
+use Rattle.cip_tree.proofs.Keeping.{one_if, sum_same, sum_changed}
 use Rattle.cip_tree.proofs.Paths.{bases_at}
 
 module _ (slots : Slots) (place : ℕ) (here : slot_at slots place ≡ Some (open_slot 0 None)) (others : (k : ℕ) → k ≢ place → slot_at slots k ≡ None) where
@@ -44,6 +42,10 @@ module _ (slots : Slots) (place : ℕ) (here : slot_at slots place ≡ Some (ope
       open_ended : Open ≡ Ended → ⊥
       open_ended e = cc
 
+  one_counted : count_by (has_stage is_waiting) slots ≡ 1
+  one_counted =
+      omega (arith, sum_changed (λ o. one_if (has_stage is_waiting o)) None refl [] slots place (λ k d. ap (λ o. one_if (has_stage is_waiting o)) (others k d)), ap (λ o. one_if (has_stage is_waiting o)) here)
+
   pub root_order : (node : OpenNode) → node.id ≡ 0 → node.place ≡ place → IsInOrder slots (node ∷ []) [] 1 0
   root_order node e f = record {
     kept = root_is_kept;
@@ -51,7 +53,9 @@ module _ (slots : Slots) (place : ℕ) (here : slot_at slots place ≡ Some (ope
     waiting = All-cons (StandsAs Open slots) node [] (record { slot = open_slot 0 None; found = ap (slot_at slots) f ∙ here; number = sym e; stage_is = refl }) (All-nil (StandsAs Open slots));
     once = λ k. omega (arith, sum_by-cons (λ x. one_if (is_at k x)) node [], at_most_one (is_at k node));
     aside = All-nil (StandsAs Parked slots);
-    work = sym (none_counted is_at_work refl refl);
+    work = sym (none_counted (has_stage is_taken) refl refl);
+    waits = sym one_counted;
+    rests = sym (none_counted (has_stage is_aside) refl refl);
   }
     where
       at_most_one : (b : Bool) → one_if b ≤ 1

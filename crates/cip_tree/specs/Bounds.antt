@@ -1,5 +1,5 @@
 -- Bounds, none of which is less than each that is there.
-use Rattle.std.specs.Prelude.{◌≡◌, ℕ, List, map, Option, None, Some, All, Contains, ⊤}
+use Rattle.std.specs.Prelude.{Option, None, Some, ⊤}
 use Rattle.cip_rational.specs.Rational.{ℚ, ◌≤ℚ◌}
 
 -- a bound is at most another

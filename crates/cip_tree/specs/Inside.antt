@@ -1,6 +1,5 @@
 -- How a tree is kept.
-use Rattle.std.specs.Prelude.{◌≡◌, ◌≢◌, ℕ, ◌+◌, ◌<◌, ◌≤◌, ◌==◌, Bool, true, false, List, [], ◌∷◌, map, length, count_by, Option, None, Some, All}
-use Rattle.cip_rational.specs.Rational.{ℚ}
+use Rattle.std.specs.Prelude.{◌≡◌, ℕ, ◌+◌, ◌<◌, ◌≤◌, ◌==◌, Bool, true, false, List, map, length, count_by, Option, None, Some, All}
 use Rattle.cip_problem.specs.Program.{Sides}
 use Rattle.cip_problem.specs.Log.{Node}
 use Rattle.cip_domain.specs.Changes.{narrowed}
@@ -36,17 +35,29 @@ base_of slots (Some slot) =
 abbrev pub bases : Slots → List (Option Base)
 bases slots = map (base_of slots) slots
 
--- a stage is that of a node in work
+-- a stage is that of a node in the queue, of one in work, of one that was put aside
+abbrev pub is_waiting : Stage → Bool
+is_waiting Open = true
+is_waiting Taken = false
+is_waiting Parked = false
+is_waiting Ended = false
+
 abbrev pub is_taken : Stage → Bool
 is_taken Open = false
 is_taken Taken = true
 is_taken Parked = false
 is_taken Ended = false
 
--- a slot is of a node in work
-abbrev pub is_at_work : Option Slot → Bool
-is_at_work None = false
-is_at_work (Some slot) = is_taken slot.stage
+abbrev pub is_aside : Stage → Bool
+is_aside Open = false
+is_aside Taken = false
+is_aside Parked = true
+is_aside Ended = false
+
+-- a slot is of a node at such a stage
+abbrev pub has_stage : (Stage → Bool) → Option Slot → Bool
+has_stage test None = false
+has_stage test (Some slot) = test slot.stage
 
 -- a node stands in its slot, at a stage
 pub record StandsAs (stage : Stage) (slots : Slots) (node : OpenNode) : Type 0 where
@@ -59,14 +70,17 @@ pub record StandsAs (stage : Stage) (slots : Slots) (node : OpenNode) : Type 0 w
 abbrev pub is_at : ℕ → OpenNode → Bool
 is_at place node = node.place == place
 
--- the open and the parked nodes stand in slots of their own, and there are so many nodes in work
+-- the open and the parked nodes stand in slots of their own, and there are so many nodes in work; no other node is kept
+-- but those that ended and have one below
 pub record IsInOrder (slots : Slots) (open_ parked : List OpenNode) (ids in_work : ℕ) : Type 0 where
   pub kept : IsKept slots
   pub given : (place : ℕ) (slot : Slot) → slot_at slots place ≡ Some slot → slot.number < ids
   pub waiting : All (StandsAs Open slots) open_
   pub once : (place : ℕ) → count_by (is_at place) open_ ≤ 1
   pub aside : All (StandsAs Parked slots) parked
-  pub work : in_work ≡ count_by is_at_work slots
+  pub work : in_work ≡ count_by (has_stage is_taken) slots
+  pub waits : length open_ ≡ count_by (has_stage is_waiting) slots
+  pub rests : length parked ≡ count_by (has_stage is_aside) slots
 
 -- there is room to put each node in work back, or aside, and for its entry in the log, and so for the open ones
 pub record HasRoom (open_ in_work spare parked_spare log_spare : ℕ) : Type 0 where

@@ -1,8 +1,11 @@
 pub mod Bounds
 pub mod Entries
+pub mod Freed
 pub mod Inside
 pub mod Moves
 pub mod Nodes
 pub mod Queue
+pub mod Searched
 pub mod Slots
 pub mod Splitting
+pub mod Tracked

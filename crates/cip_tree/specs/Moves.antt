@@ -1,15 +1,15 @@
 -- How a tree changes from call to call.
-use Rattle.std.specs.Prelude.{◌≡◌, ◌≢◌, ℕ, ◌≤◌, ◌+◌, ◌^◌, ℤ, pos, ◌+ℤ◌, unsigned_abs, Bool, true, List, [], ◌∷◌, ◌++◌, map, Option, None, Some, All, Contains, filter}
+use Rattle.std.specs.Prelude.{◌≡◌, ◌≢◌, ℕ, ◌<◌, ◌≤◌, ◌+◌, ◌^◌, ℤ, pos, ◌+ℤ◌, unsigned_abs, Bool, List, [], ◌∷◌, ◌++◌, Option, None, Some, All, Contains}
 use Rattle.std.specs.List.Sorted.{IsPermutation}
 use Rattle.cip_rational.specs.Rational.{ℚ}
 use Rattle.cip_problem.specs.Program.{Sides}
-use Rattle.cip_problem.specs.Log.{Node, Entry, End, Split, Closed, Parked, low_half, high_half, CanSplit}
+use Rattle.cip_problem.specs.Log.{Node, Split, low_half, high_half, CanSplit}
 use Rattle.cip_rational.specs.Rational.{integer}
-use Rattle.cip_problem.specs.Box.{sides_at}
 use Rattle.cip_problem.specs.Wholes.{HasWhole}
 use Rattle.cip_tree.specs.Bounds.{IsBoundAtMost}
 use Rattle.cip_tree.specs.Queue.{bound_below}
-use Rattle.cip_tree.specs.Nodes.{TakenNode, Base, Nodes, base_at, box_of, shown, IsTaken}
+use Rattle.cip_tree.specs.Searched.{HasNotEnded, HalvesHold}
+use Rattle.cip_tree.specs.Nodes.{TakenNode, Nodes, base_at, box_of, shown, IsTaken}
 
 -- a node is taken before another: without a bound, of lesser bound, or of lesser number
 pub record IsBefore (node other : Node) : Type 0 where
@@ -26,12 +26,14 @@ pub record IsNew (tree : Nodes) (box : List Sides) (integral : List Bool) (bound
   pub ids : tree.ids ≡ 1
   pub log : tree.log ≡ []
 
--- the first open node was taken, and no other one changed
+-- the first open node was taken, which has no entry in the log, and no other one changed
 pub record TakesFirst (old new : Nodes) (node : TakenNode) : Type 0 where
   pub nodes : IsPermutation old.open_ (shown new node ∷ new.open_)
   pub first : All (IsBefore (shown new node)) new.open_
   pub taken : IsTaken new node
   pub fresh : base_at old node.place ≡ None
+  pub given : node.number < old.ids
+  pub unended : HasNotEnded old.log node.number
   pub others : (place : ℕ) → place ≢ node.place → base_at new place ≡ base_at old place
   pub rest : new ≡ record old { open_ = new.open_; taken = new.taken }
 
@@ -66,12 +68,14 @@ pub record CanHalve (sides : Sides) (at : ℤ) : Type 0 where
   pub low : HasWhole (low_sides sides at)
   pub high : HasWhole (high_sides sides at)
 
--- a node in work was split: it has ended, and its halves are open, with its bound and the next two numbers
+-- a node in work was split: it has ended, and its halves are open, with its bound and the next two numbers; they hold
+-- each point of its box whose column is whole
 pub record IsSplit (old new : Nodes) (node : TakenNode) (column : ℕ) (at : ℤ) (low high : ℕ) : Type 0 where
   pub low_is : low ≡ old.ids
   pub high_is : high ≡ old.ids + 1
   pub near : unsigned_abs at ≤ 2 ^ 101
   pub can : CanSplit old.integral (box_of old node) column at
+  pub hold : HalvesHold (box_of old node) column at
   pub nodes : IsPermutation
       (record { number = low; box = low_half (box_of old node) column at; bound = node.bound }
       ∷ record { number = high; box = high_half (box_of old node) column at; bound = node.bound } ∷ old.open_)

@@ -1,13 +1,11 @@
 -- What contracts see of a tree: its open and parked nodes with their boxes, and what it keeps of those that are taken.
-use Rattle.std.specs.Prelude.{◌≡◌, ◌≢◌, ℕ, ◌≤◌, ℤ, Bool, true, false, List, [], ◌∷◌, ◌++◌, reverse, map, length, Option, None, Some, All, Contains, slice_index_or, refl, ⊤}
-use Rattle.std.specs.List.Sorted.{IsPermutation}
+use Rattle.std.specs.Prelude.{◌≡◌, ℕ, ℤ, Bool, true, false, List, [], ◌++◌, reverse, Option, None, Some, slice_index_or, refl}
 use Rattle.std.specs.Coded.{Coded, code_by, coded×, coded_ℕ, coded_ℤ, coded_bool, coded_list, coded_option}
 use Rattle.cip_rational.specs.Rational.{ℚ, coded_ℚ}
 use Rattle.cip_problem.specs.Program.{Sides}
 use Rattle.cip_problem.specs.Codes.{box_code}
 use Rattle.cip_problem.specs.Log.{Node, Entry, End, Split, Closed, Parked}
 use Rattle.cip_domain.specs.Changes.{Change, change_code, narrowed}
-use Rattle.cip_tree.specs.Bounds.{IsBoundAtMost}
 
 -- a node in work: its number, its bound, where the tree keeps the rest, and the changes of its own work, the oldest
 -- first

@@ -1,5 +1,5 @@
 -- The order in which open nodes are taken.
-use Rattle.std.specs.Prelude.{◌≡◌, ◌≢◌, ℕ, ◌≤◌, Bool, true, false, cond, List, [], ◌∷◌, Option, None, Some, All, Contains, refl, if◌then◌else◌}
+use Rattle.std.specs.Prelude.{◌≡◌, ℕ, ◌≤◌, Bool, true, List, Option, None, Some, All, Contains, refl, if◌then◌else◌}
 use Rattle.std.specs.Cmp.{IsTotalOrder, IsEquivalence, IsPartialEquivalence, IsPartialOrder, partial_equiv_from_equiv, partial_order_from_total, eq_by_cmp_equiv, on_total, then_total, back_total, nat_cmp_total}
 use Rattle.std.specs.Cmp.Lexicographic.{options_total}
 use Rattle.std.specs.Option.{option_cmp}
@@ -7,7 +7,7 @@ use Rattle.std.specs.Ordering.{nat_cmp, ordering_then, eq_by_cmp, as_partial_cmp
 use Rattle.std.specs.declared.cmp.Ordering.{Ordering}
 use Rattle.std.specs.Coded.{Coded, code_by, coded×, coded_ℕ, coded_list, coded_option}
 use Rattle.std.specs.BinaryHeap.{IsHeap}
-use Rattle.cip_rational.specs.Rational.{ℚ, coded_ℚ, compare_rational, ◌≤ℚ◌, lt_test}
+use Rattle.cip_rational.specs.Rational.{ℚ, coded_ℚ, compare_rational, lt_test}
 use Rattle.cip_rational.proofs.Rational.Compare.{compare_total}
 use Rattle.cip_tree.specs.Bounds.{IsBoundAtMost}
 use Rattle.cip_tree.specs.declared.queue.OpenNode.{OpenNode}

@@ -1,8 +1,7 @@
 -- What is kept of nodes, by place, and how a node's changes are found there.
-use Rattle.std.specs.Prelude.{◌≡◌, ◌≢◌, ℕ, zero, suc, ◌-◌, ◌<◌, ◌==◌, Bool, true, false, List, [], ◌∷◌, ◌++◌, length, reverse, map, count_by, Option, None, Some, IfSome, slice_index_or, refl, ⊤}
+use Rattle.std.specs.Prelude.{◌≡◌, ◌≢◌, ℕ, zero, suc, ◌-◌, ◌<◌, ◌==◌, Bool, false, List, [], ◌∷◌, ◌++◌, reverse, count_by, Option, None, Some, IfSome, slice_index_or, refl}
 use Rattle.std.specs.Coded.{Coded, code_by, coded×, coded_ℕ, coded_list, coded_option}
-use Rattle.cip_problem.specs.Program.{Sides}
-use Rattle.cip_domain.specs.Changes.{Change, change_code, narrowed}
+use Rattle.cip_domain.specs.Changes.{Change, change_code}
 use Rattle.cip_tree.specs.declared.kept.Stage.{Stage}
 use Rattle.cip_tree.specs.declared.kept.Stage.TheVariants.{Open, Taken, Parked, Ended}
 use Rattle.cip_tree.specs.declared.kept.Origin.{Origin}

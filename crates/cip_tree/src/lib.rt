@@ -3,6 +3,7 @@
 #![tactic(auto)]
 
 mod changes;
+mod closed;
 mod kept;
 mod logs;
 mod nodes;

@@ -79,7 +79,7 @@ fn greater(most: Option<Frac>, bound: Option<Frac>) -> Option<Frac>
 }
 
 /// Whether a bound is below a cost, as it is where there is none.
-fn stays(bound: Option<Frac>, cost: Frac) -> bool
+pub(crate) fn stays(bound: Option<Frac>, cost: Frac) -> bool
     ensures { result ≡ bound_below cost bound }
 {
     match bound {

@@ -5,13 +5,15 @@ ghost use Rattle.slab.specs.Slab.{HasRoomFor};
 ghost use Rattle.cip_problem.specs.Log.{Closed, Parked, Split};
 ghost use Rattle.cip_problem.specs.Box.{sides_at};
 ghost use Rattle.cip_problem.specs.Wholes.{AllHaveWholes};
+ghost use Rattle.cip_tree.specs.Searched.{IsSearched};
 ghost use Rattle.cip_tree.specs.Splitting.{IsSplitFault};
 ghost use Rattle.cip_tree.specs.Slots.{slot_at, open_slot};
 ghost use Rattle.cip_tree.specs.Entries.{entry_of, entries_of};
-ghost use Rattle.cip_tree.specs.Nodes.{IsTaken, node_changes, box_of, shown};
+ghost use Rattle.cip_tree.specs.Nodes.{IsTaken, base_at, node_changes, box_of, shown};
 ghost use Rattle.cip_tree.specs.Moves.{IsNew, IsSplit, TakesFirst, LetsGo, IsLeastBound, is_cheaper};
 
 use crate::changes::Changes;
+use crate::closed::release_from;
 use crate::kept::{Kept, Stage, new_kept, origin_at, part, release, restage};
 use crate::logs::{End, Logged};
 use crate::nodes::Node;
@@ -44,6 +46,7 @@ impl Model for Tree {
     ghost use Rattle.cip_tree.specs.Nodes.{Nodes, nodes_code};
     ghost use Rattle.cip_tree.specs.Entries.{entries_of};
     ghost use Rattle.cip_tree.specs.Inside.{nodes_at, bases, IsInOrder, HasRoom};
+    ghost use Rattle.cip_tree.specs.Tracked.{IsTracked};
 
     ghost Value = { Nodes };
 
@@ -62,7 +65,9 @@ impl Model for Tree {
     ghost invariant = { λ t.
         IsInOrder t.kept.slots t.queue.nodes t.parked.items t.ids t.in_work
         × HasRoom (length t.queue.nodes) t.in_work t.queue.spare
-        (vec_capacity t.parked - vec_len t.parked) (vec_capacity t.log - vec_len t.log) };
+        (vec_capacity t.parked - vec_len t.parked) (vec_capacity t.log - vec_len t.log)
+        × IsTracked (record { number = 0; box = t.root; bound = t.root_bound }) t.whole.items t.kept.slots t.ids
+        (entries_of t.log.items) };
 }
 
 /// What is kept of a root, and where.
@@ -198,16 +203,19 @@ impl Tree {
         self.ids
     }
 
-    /// The nodes that were taken and have ended, in that order.
+    /// The nodes that were taken and have ended, in that order: the log of a search of each program that has the root's
+    /// box, box bound and whole columns.
     pub fn log(&self) -> &[Logged]
-        ensures { entries_of result.now ≡ self.now.log }
+        ensures entries { entries_of result.now ≡ self.now.log }
+        ensures searched { IsSearched self.now.integral self.now.root self.now.log }
     {
         self.log.as_slice()
     }
 
-    /// The log by itself; the nodes are let go.
+    /// The log by itself, as `log` has it; the nodes are let go.
     pub fn take_log(self) -> Vec<Logged>
-        ensures { entries_of result.items ≡ self.log }
+        ensures entries { entries_of result.items ≡ self.log }
+        ensures searched { IsSearched self.integral self.root self.log }
     {
         self.log
     }
@@ -288,7 +296,7 @@ impl Tree {
     }
 
     /// Takes the first open node: one without a bound, then of least bound, then of least number; `None` exactly where
-    /// no node is open, which changes nothing.
+    /// no node is open, which changes nothing. A node that was put aside, split or closed is not given out again.
     pub fn next(&mut self) -> Option<Node>
         ensures { MatchOption result ((self.old.open_ ≡ []) × (self.new ≡ self.old)) (TakesFirst self.old self.new) }
     {
@@ -305,13 +313,15 @@ impl Tree {
     }
 
     /// Closes the open nodes whose bound is at least a cost; those without a bound stay, and so do nodes in work. None
-    /// of them is logged. It looks at no node where none can have such a bound. What is kept of the closed ones goes
-    /// with the tree.
+    /// of them is logged. What is kept of nodes that ended goes with the last node below them. It looks at no node
+    /// where none can have such a bound.
     pub fn close_from(&mut self, cost: Frac)
         ensures nodes { IsPermutation (filter (is_cheaper cost) self.old.open_) self.new.open_ }
-        ensures rest { self.new ≡ record self.old { open_ = self.new.open_ } }
+        ensures taken { (place : ℕ) → base_at self.new place ≡ base_at self.old place }
+        ensures rest { self.new ≡ record self.old { open_ = self.new.open_; taken = self.new.taken } }
     {
         if self.queue.reaches(cost) {
+            release_from(&mut self.kept, self.queue.as_slice(), cost);
             self.queue.keep_below(cost);
         }
     }

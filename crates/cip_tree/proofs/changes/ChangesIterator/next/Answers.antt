@@ -1,5 +1,4 @@
-use Rattle.std.proofs.Common.{◌≡◌, ◌∷◌, ◌++◌, [], List, Some, reverse, rules, ap, sym, ◌∙◌, refl}
-use Rattle.cip_domain.specs.Changes.{Change}
+use Rattle.std.proofs.Common.{◌≡◌, ◌∷◌, ◌++◌, [], Some, reverse, ap, sym, ◌∙◌}
 use Rattle.cip_tree.specs.Slots.{Slot, slot_at, above}
 use Rattle.cip_tree.proofs.Links.{step_up, none_last, nearer}
 use Rattle.cip_tree.proofs.changes.ChangesIterator.next.Goals as goal

@@ -1,4 +1,4 @@
-use Rattle.std.proofs.Common.{sym, subst, ◌∙◌, arith, refl, heap_items}
+use Rattle.std.proofs.Common.{subst, arith, refl, heap_items}
 use Rattle.cip_tree.specs.Queue.{IsLeast}
 use Rattle.cip_tree.proofs.Queues.{first_is_least}
 use Rattle.cip_tree.proofs.queue.Queue.least.Goals as goal

@@ -1,5 +1,5 @@
-use Rattle.std.proofs.Common.{ap, subst}
-use Rattle.std.specs.Prelude.{All, ◌≡◌, true, false}
+use Rattle.std.proofs.Common.{subst}
+use Rattle.std.specs.Prelude.{All, ◌≡◌, true}
 use Rattle.cip_tree.specs.Queue.{is_below}
 use Rattle.cip_tree.proofs.Queues.{all_below}
 use Rattle.cip_tree.proofs.queue.Queue.reaches.Goals as goal

@@ -1,4 +1,4 @@
-use Rattle.std.proofs.Common.{◌≡◌, ◌++◌, Some, None, get_or, reverse, ap, sym, ◌∙◌, refl}
+use Rattle.std.proofs.Common.{◌≡◌, ◌++◌, Some, None, get_or, reverse, ap, sym, ◌∙◌}
 use Rattle.cip_tree.specs.Nodes.{Nodes, TakenNode, base_at, base_changes}
 use Rattle.cip_tree.specs.Inside.{bases}
 use Rattle.cip_tree.specs.Slots.{above}

@@ -1,13 +1,12 @@
-use Rattle.std.proofs.Common.{◌≡◌, ◌∷◌, ◌++◌, [], Some, None, map, reverse, get_or, sym, ap, ◌∙◌, subst, refl, arith, length}
-use Rattle.std.specs.List.Sorted.{IsPermutation}
+use Rattle.std.proofs.Common.{◌≡◌, Some, None, map, get_or, sym, ap, ◌∙◌, subst, arith}
 use Rattle.std.proofs.lemmas.List.{map-append}
-use Rattle.std.proofs.lemmas.List.Sorted.{length_permutation}
 use Rattle.cip_problem.specs.Log.{Node}
-use Rattle.cip_domain.specs.Changes.{narrowed}
 use Rattle.cip_tree.specs.Entries.{entry_of}
-use Rattle.cip_tree.specs.Nodes.{Nodes, TakenNode, base_at, base_changes, shown}
-use Rattle.cip_tree.specs.Inside.{bases, nodes_at}
+use Rattle.cip_tree.specs.Nodes.{Nodes, TakenNode, base_at}
+use Rattle.cip_tree.specs.Inside.{bases}
 use Rattle.cip_tree.proofs.Orders.{taken_is_idle, taken_some, closed_order, closed_open, closed_parked, released_gone, released_others, nodes_equal}
+use Rattle.cip_tree.specs.Tracked.{IsTracked}
+use Rattle.cip_tree.proofs.Tracking.{tracked_closed}
 use Rattle.cip_tree.proofs.trees.Tree.close.Goals as goal
 
 pub release-requires-clause-idle : goal.release-requires-clause-idle
@@ -30,6 +29,8 @@ pub invariant_of-self : goal.invariant_of-self
 invariant_of-self c =
     let w : get_or (bases c.self.inside.kept.slots) c.node.inside.place None ≡ Some c.requires.base = ap (λ (t : Nodes). base_at t c.node.inside.place) c.self.view_is ∙ ap (λ (x : TakenNode). base_at c.args.self.now x.place) c.node.view_is ∙ c.requires.found in
     let some = taken_some c.self.inside.root c.self.inside.kept.slots c.self.inside.kept.slots c.node.inside.place c.self.inside.queue.nodes c.self.inside.parked.items c.self.inside.ids c.self.inside.in_work c.requires.base c.self.invariant.0 w in
+    let number = c.requires.same ∙ sym (ap (λ (x : TakenNode). x.number) c.node.view_is) in
+    let log = ap (λ l. map entry_of l) c.push_reserved.ensures.items ∙ map-append entry_of c.self.inside.log.items _ in
     let room = c.self.invariant.1 in (
       closed_order c.self.inside.root c.self.inside.kept.slots c.release.new.kept.slots c.node.inside.place c.self.inside.queue.nodes c.self.inside.parked.items c.self.inside.ids c.self.inside.in_work c.requires.base c.self.invariant.0 w c.release.ensures.slots c.release.ensures.kept,
       record {
@@ -37,6 +38,8 @@ invariant_of-self c =
         parked = omega (arith, room.parked);
         log = omega (arith, room.log, some, c.push_reserved.ensures.len, c.push_reserved.ensures.capacity);
       },
+      subst (IsTracked (let n : Node = record { number = 0; box = c.self.inside.root; bound = c.self.inside.root_bound } in n) c.self.inside.whole.items c.release.new.kept.slots c.self.inside.ids) (sym log)
+          (tracked_closed (let n : Node = record { number = 0; box = c.self.inside.root; bound = c.self.inside.root_bound } in n) c.self.inside.whole.items c.self.inside.kept.slots c.release.new.kept.slots c.self.inside.ids (map entry_of c.self.inside.log.items) c.self.invariant.2 c.self.invariant.0.kept c.node.inside.place c.requires.base w c.node.inside.id c.node.inside.bound number c.release.ensures.slots c.release.ensures.kept),
     )
 
 pub returns-clause-taken : goal.returns-clause-taken

@@ -1,27 +1,49 @@
-use Rattle.std.proofs.Common.{subst, arith, filter}
+use Rattle.std.proofs.Common.{subst, sym, arith, filter, refl, ◌≤◌, ℕ, count_by}
 use Rattle.std.specs.List.Sorted.{IsPermutation}
+use Rattle.cip_problem.specs.Log.{Node}
+use Rattle.cip_tree.specs.Entries.{entries_of}
 use Rattle.cip_tree.specs.Nodes.{Nodes}
 use Rattle.cip_tree.specs.Moves.{is_cheaper}
-use Rattle.cip_tree.specs.Inside.{nodes_at}
-use Rattle.cip_tree.proofs.Closing.{closed_nodes, none_closed, closed_order, closed_length}
+use Rattle.cip_tree.specs.Inside.{nodes_at, is_at}
+use Rattle.cip_tree.specs.Freed.{dearer, AreReleased}
+use Rattle.cip_tree.proofs.Orders.{nodes_equal}
+use Rattle.cip_tree.proofs.Closing.{closed_nodes, none_closed, closed_length}
+use Rattle.cip_tree.proofs.Freeing.{freed_order, freed_nodes, freed_parked, freed_places}
+use Rattle.cip_tree.proofs.Tracking.{tracked_freed}
 use Rattle.cip_tree.proofs.trees.Tree.close_from.Goals as goal
+
+pub release_from-requires-clause-once : goal.release_from-requires-clause-once
+release_from-requires-clause-once c = subst (λ l. (place : ℕ) → count_by (is_at place) l ≤ 1) (sym c.as_slice.ensures) c.self.invariant.0.once
 
 pub invariant_of-self : goal.invariant_of-self
 invariant_of-self c =
+    let freed = subst (λ l. AreReleased c.self.inside.kept.slots c.release_from.new.kept.slots (dearer c.args.cost l)) c.as_slice.ensures c.release_from.ensures.slots in
     let room = c.self.invariant.1 in
     let shorter = closed_length c.args.cost c.self.inside.queue.nodes c.keep_below.new.self.nodes c.keep_below.ensures.nodes in (
-      closed_order c.self.inside.kept.slots c.args.cost c.self.inside.queue.nodes c.keep_below.new.self.nodes c.self.inside.parked.items c.self.inside.ids c.self.inside.in_work c.keep_below.ensures.nodes c.self.invariant.0,
+      freed_order c.self.inside.root c.self.inside.kept.slots c.release_from.new.kept.slots c.args.cost c.self.inside.queue.nodes c.keep_below.new.self.nodes c.self.inside.parked.items c.self.inside.ids c.self.inside.in_work c.self.invariant.0 freed c.release_from.ensures.kept c.keep_below.ensures.nodes,
       record {
         queue = omega (arith, room.queue, c.keep_below.ensures.room, shorter);
         parked = omega (arith, room.parked, shorter);
         log = omega (arith, room.log, shorter);
       },
+      tracked_freed (let n : Node = record { number = 0; box = c.self.inside.root; bound = c.self.inside.root_bound } in n) c.self.inside.whole.items c.self.inside.kept.slots c.release_from.new.kept.slots c.self.inside.ids (entries_of c.self.inside.log.items) c.self.invariant.2 c.self.invariant.0.kept _ freed c.release_from.ensures.kept,
     )
 
 pub returns-then-reaches-clause-nodes : goal.returns-then-reaches-clause-nodes
 returns-then-reaches-clause-nodes c =
-    subst (λ (t : Nodes). IsPermutation (filter (is_cheaper c.args.cost) t.open_) (nodes_at c.self.inside.root c.self.inside.kept.slots c.keep_below.new.self.nodes)) c.self.view_is
-    (closed_nodes c.self.inside.root c.self.inside.kept.slots c.args.cost c.self.inside.queue.nodes c.keep_below.new.self.nodes c.keep_below.ensures.nodes)
+    let freed = subst (λ l. AreReleased c.self.inside.kept.slots c.release_from.new.kept.slots (dearer c.args.cost l)) c.as_slice.ensures c.release_from.ensures.slots in
+    subst (λ (t : Nodes). IsPermutation (filter (is_cheaper c.args.cost) t.open_) (nodes_at c.self.inside.root c.release_from.new.kept.slots c.keep_below.new.self.nodes)) c.self.view_is
+    (freed_nodes c.self.inside.root c.self.inside.kept.slots c.release_from.new.kept.slots c.args.cost c.self.inside.queue.nodes c.keep_below.new.self.nodes c.self.inside.parked.items c.self.inside.ids c.self.inside.in_work c.self.invariant.0 freed c.release_from.ensures.kept c.keep_below.ensures.nodes)
+
+pub returns-then-reaches-clause-taken : goal.returns-then-reaches-clause-taken
+returns-then-reaches-clause-taken c =
+    let freed = subst (λ l. AreReleased c.self.inside.kept.slots c.release_from.new.kept.slots (dearer c.args.cost l)) c.as_slice.ensures c.release_from.ensures.slots in
+    rw (← c.self.view_is) (freed_places c.self.inside.root c.self.inside.kept.slots c.release_from.new.kept.slots c.args.cost c.self.inside.queue.nodes c.keep_below.new.self.nodes c.self.inside.parked.items c.self.inside.ids c.self.inside.in_work c.self.invariant.0 freed c.release_from.ensures.kept c.keep_below.ensures.nodes)
+
+pub returns-then-reaches-clause-rest : goal.returns-then-reaches-clause-rest
+returns-then-reaches-clause-rest c =
+    let freed = subst (λ l. AreReleased c.self.inside.kept.slots c.release_from.new.kept.slots (dearer c.args.cost l)) c.as_slice.ensures c.release_from.ensures.slots in
+    rw (← c.self.view_is) (nodes_equal _ _ _ _ _ _ _ _ _ _ refl (freed_parked c.self.inside.root c.self.inside.kept.slots c.release_from.new.kept.slots c.args.cost c.self.inside.queue.nodes c.keep_below.new.self.nodes c.self.inside.parked.items c.self.inside.ids c.self.inside.in_work c.self.invariant.0 freed c.release_from.ensures.kept c.keep_below.ensures.nodes) refl)
 
 pub returns-else-reaches-clause-nodes : goal.returns-else-reaches-clause-nodes
 returns-else-reaches-clause-nodes c =

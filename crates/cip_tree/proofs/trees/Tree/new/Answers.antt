@@ -1,10 +1,11 @@
-use Rattle.std.proofs.Common.{◌≡◌, ◌∷◌, [], ℕ, List, rules, ap, sym, ◌∙◌, subst, refl, arith, length, vec_len}
+use Rattle.std.proofs.Common.{◌≡◌, ◌∷◌, [], List, rules, ap, sym, ◌∙◌, subst, refl, arith, length}
 use Rattle.cip_problem.specs.Log.{Node}
-use Rattle.cip_domain.specs.Changes.{narrowed}
 use Rattle.cip_tree.specs.declared.queue.OpenNode.{OpenNode}
-use Rattle.cip_tree.specs.Slots.{slot_at}
 use Rattle.cip_tree.specs.Inside.{IsInOrder, nodes_at}
 use Rattle.cip_tree.proofs.Starts.{root_order, root_nodes, root_bases}
+use Rattle.cip_tree.specs.Entries.{entries_of}
+use Rattle.cip_tree.specs.Tracked.{IsTracked}
+use Rattle.cip_tree.proofs.Tracking.{tracked_root}
 use Rattle.cip_tree.proofs.trees.Tree.new.Goals as goal
 
 pub invariant_of-result : goal.invariant_of-result
@@ -20,6 +21,8 @@ invariant_of-result c =
         parked = omega (arith, one, c.in_ok-parked.ensures.len, c.in_ok-parked.ensures.exact);
         log = omega (arith, one, c.in_ok-log.ensures.len, c.in_ok-log.ensures.exact);
       },
+      subst (λ l. IsTracked (let n : Node = record { number = 0; box = c.args.root; bound = c.args.bound } in n) c.in_ok-whole.whole.items c.in_ok-kept.field-0.kept.slots 1 (entries_of l)) (sym c.in_ok-log.ensures.items)
+          (tracked_root c.args.root c.in_ok-whole.whole.items c.args.bound c.in_ok-kept.field-0.kept.slots c.in_ok-kept.field-0.place c.in_ok-kept.ensures.0 c.in_ok-kept.ensures.1),
     )
 
 pub returns : goal.returns

@@ -1,14 +1,14 @@
-use Rattle.std.proofs.Common.{◌≡◌, ◌∷◌, ◌++◌, [], ◌-◌, Option, Some, None, map, reverse, get_or, sym, ap, ◌∙◌, subst, refl, arith, length}
-use Rattle.std.specs.List.Sorted.{IsPermutation}
+use Rattle.std.proofs.Common.{◌≡◌, ◌∷◌, ◌++◌, [], ◌-◌, Some, None, map, reverse, get_or, sym, ap, ◌∙◌, subst, arith}
 use Rattle.std.proofs.lemmas.List.{map-append}
-use Rattle.cip_rational.specs.Rational.{ℚ}
 use Rattle.cip_problem.specs.Log.{Node, Entry, Parked}
 use Rattle.cip_domain.specs.Changes.{narrowed}
 use Rattle.cip_tree.specs.declared.queue.OpenNode.{OpenNode}
 use Rattle.cip_tree.specs.Entries.{entry_of}
-use Rattle.cip_tree.specs.Nodes.{Base, Nodes, TakenNode, base_at, base_changes, shown}
+use Rattle.cip_tree.specs.Nodes.{Nodes, TakenNode, base_at, base_changes}
 use Rattle.cip_tree.specs.Inside.{bases, nodes_at, IsInOrder}
 use Rattle.cip_tree.proofs.Orders.{aside_order, aside_some, aside_open, aside_parked, aside_gone, aside_others, nodes_equal}
+use Rattle.cip_tree.specs.Tracked.{IsTracked}
+use Rattle.cip_tree.proofs.Tracking.{tracked_aside}
 use Rattle.cip_tree.proofs.trees.Tree.park.Goals as goal
 
 pub invariant_of-self : goal.invariant_of-self
@@ -18,6 +18,8 @@ invariant_of-self c =
     let e : c.bound-2.result ≡ c.node.inside.bound = cc (c.bound-2.ensures, ap (λ (x : TakenNode). x.bound) c.node.view_is) in
     let items = c.push_reserved.ensures.items ∙ ap (λ b. c.self.inside.parked.items ++ (let n : OpenNode = record { bound = b; id = c.node.inside.id; place = c.node.inside.place } in n) ∷ []) e in
     let some = aside_some c.self.inside.root c.self.inside.kept.slots c.restage.new.kept.slots c.node.inside.place _ _ c.self.inside.queue.nodes c.self.inside.queue.nodes c.self.inside.parked.items c.self.inside.ids c.self.inside.in_work c.node.inside.id c.node.inside.bound c.requires.base c.self.invariant.0 w number c.restage.ensures.slots in
+    let f : c.bound.result ≡ c.node.inside.bound = cc (c.bound.ensures, ap (λ (x : TakenNode). x.bound) c.node.view_is) in
+    let log = ap (λ l. map entry_of l) c.push_reserved-2.ensures.items ∙ map-append entry_of c.self.inside.log.items _ ∙ ap (λ b. map entry_of c.self.inside.log.items ++ (let x : Entry = record { node = c.node.inside.id; bound = b; end = Parked } in x) ∷ []) f in
     let room = c.self.invariant.1 in (
       subst (λ l. IsInOrder c.restage.new.kept.slots c.self.inside.queue.nodes l c.self.inside.ids (c.self.inside.in_work - 1)) (sym items) (aside_order c.self.inside.root c.self.inside.kept.slots c.restage.new.kept.slots c.node.inside.place _ _ c.self.inside.queue.nodes c.self.inside.queue.nodes c.self.inside.parked.items c.self.inside.ids c.self.inside.in_work c.node.inside.id c.node.inside.bound c.requires.base c.self.invariant.0 w number c.restage.ensures.slots),
       record {
@@ -25,6 +27,8 @@ invariant_of-self c =
         parked = omega (arith, room.parked, some, c.push_reserved.ensures.len, c.push_reserved.ensures.capacity);
         log = omega (arith, room.log, some, c.push_reserved-2.ensures.len, c.push_reserved-2.ensures.capacity);
       },
+      subst (IsTracked (let n : Node = record { number = 0; box = c.self.inside.root; bound = c.self.inside.root_bound } in n) c.self.inside.whole.items c.restage.new.kept.slots c.self.inside.ids) (sym log)
+          (tracked_aside (let n : Node = record { number = 0; box = c.self.inside.root; bound = c.self.inside.root_bound } in n) c.self.inside.whole.items c.self.inside.kept.slots c.restage.new.kept.slots c.self.inside.ids (map entry_of c.self.inside.log.items) c.self.invariant.2 c.self.invariant.0.kept c.node.inside.place c.requires.base w _ _ c.node.inside.id c.node.inside.bound number c.restage.ensures.slots),
     )
 
 pub returns-clause-taken : goal.returns-clause-taken

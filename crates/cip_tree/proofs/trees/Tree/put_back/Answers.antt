@@ -1,11 +1,13 @@
-use Rattle.std.proofs.Common.{◌≡◌, ◌∷◌, ◌++◌, Some, None, reverse, get_or, sym, ap, ◌∙◌, subst, refl, arith, length}
+use Rattle.std.proofs.Common.{◌≡◌, ◌∷◌, ◌++◌, Some, None, reverse, get_or, sym, ap, ◌∙◌, subst, refl, arith}
 use Rattle.std.specs.List.Sorted.{IsPermutation}
 use Rattle.std.proofs.lemmas.List.Sorted.{length_permutation}
 use Rattle.cip_problem.specs.Log.{Node}
 use Rattle.cip_domain.specs.Changes.{narrowed}
-use Rattle.cip_tree.specs.Nodes.{Nodes, TakenNode, base_at, base_changes, shown}
+use Rattle.cip_tree.specs.Nodes.{Nodes, TakenNode, base_at, base_changes}
 use Rattle.cip_tree.specs.Inside.{bases, nodes_at}
 use Rattle.cip_tree.proofs.Orders.{back_order, back_some, back_parked, back_nodes, back_gone, back_others, nodes_equal}
+use Rattle.cip_tree.specs.Entries.{entries_of}
+use Rattle.cip_tree.proofs.Tracking.{tracked_back}
 use Rattle.cip_tree.proofs.trees.Tree.put_back.Goals as goal
 
 pub invariant_of-self : goal.invariant_of-self
@@ -21,6 +23,7 @@ invariant_of-self c =
         parked = omega (arith, room.parked, some, longer);
         log = omega (arith, room.log, some, longer);
       },
+      tracked_back (let n : Node = record { number = 0; box = c.self.inside.root; bound = c.self.inside.root_bound } in n) c.self.inside.whole.items c.self.inside.kept.slots c.restage.new.kept.slots c.self.inside.ids (entries_of c.self.inside.log.items) c.self.invariant.2 c.self.invariant.0.kept c.node.inside.place c.requires.base w _ _ c.restage.ensures.slots,
     )
 
 pub returns-clause-nodes : goal.returns-clause-nodes

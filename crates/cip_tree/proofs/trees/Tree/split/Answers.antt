@@ -1,4 +1,4 @@
-use Rattle.std.proofs.Common.{◌≡◌, ◌<◌, ◌+◌, ◌-◌, ◌∷◌, ◌++◌, [], pos, ◌+ℤ◌, true, Some, None, map, reverse, get_or, rules, to_z, of_z, to_z-of_z, List, Bool, sym, ap, ◌∙◌, subst, refl, arith, length}
+use Rattle.std.proofs.Common.{◌≡◌, ◌+◌, ◌-◌, ◌∷◌, ◌++◌, [], pos, ◌+ℤ◌, true, Some, None, map, reverse, get_or, rules, to_z, of_z, to_z-of_z, List, Bool, sym, ap, ◌∙◌, subst, refl, arith}
 use Rattle.std.specs.List.Sorted.{IsPermutation}
 use Rattle.std.specs.Int.{w128}
 use Rattle.std.specs.Prelude.{slice_get}
@@ -12,14 +12,18 @@ use Rattle.cip_domain.specs.Changes.{Change, narrowed, tightened}
 use Rattle.cip_tree.specs.declared.kept.Origin.{Origin}
 use Rattle.cip_tree.specs.declared.queue.OpenNode.{OpenNode}
 use Rattle.cip_tree.specs.Entries.{entry_of}
-use Rattle.cip_tree.specs.Slots.{open_slot, slot_at, IsParted}
-use Rattle.cip_tree.specs.Nodes.{Nodes, TakenNode, base_at, base_changes, node_changes, box_of, shown}
+use Rattle.cip_tree.specs.Slots.{open_slot, IsParted}
+use Rattle.cip_tree.specs.Nodes.{Nodes, TakenNode, base_at, base_changes, node_changes, box_of}
 use Rattle.cip_tree.specs.Moves.{CanHalve}
 use Rattle.cip_tree.specs.Inside.{bases, nodes_at, IsInOrder}
 use Rattle.cip_tree.proofs.Paths.{in_work}
 use Rattle.cip_tree.proofs.Halving.{long_box, can_split, low_is_half, high_is_half}
 use Rattle.cip_tree.proofs.Orders.{taken_some, nodes_equal}
-use Rattle.cip_tree.proofs.Parted.{part_order, part_some, part_parked, part_nodes, part_gone, part_others}
+use Rattle.cip_tree.proofs.Parted.{part_order, part_parked, part_nodes, part_gone, part_others}
+use Rattle.cip_problem.specs.Wholes.{AllHaveWholes}
+use Rattle.cip_tree.specs.Tracked.{IsTracked}
+use Rattle.cip_tree.proofs.Within.{halves_hold}
+use Rattle.cip_tree.proofs.Tracking.{tracked_split}
 use Rattle.cip_tree.proofs.trees.Tree.split.Goals as goal
 
 pub sides-requires-clause-column : goal.sides-requires-clause-column
@@ -69,6 +73,21 @@ invariant_of-self-2 c =
     let some = taken_some c.self.inside.root c.self.inside.kept.slots c.self.inside.kept.slots c.node.inside.place c.self.inside.queue.nodes c.self.inside.parked.items c.self.inside.ids c.self.inside.in_work c.requires.taken.base c.self.invariant.0 w in
     let one = length_permutation _ _ first in
     let two = length_permutation _ _ second in
+    let number = c.requires.taken.same ∙ sym (ap (λ (x : TakenNode). x.number) c.node.view_is) in
+    let entry = c.split_entry.ensures ∙ ap (λ z. (let x : Entry = record { node = c.args.node.now.number; bound = c.args.node.now.bound; end = Split c.args.col z c.self.inside.ids (c.self.inside.ids + 1) } in x)) at_is
+    ∙ ap (λ (n : TakenNode). (let x : Entry = record { node = n.number; bound = n.bound; end = Split c.args.col c.args.at c.self.inside.ids (c.self.inside.ids + 1) } in x)) (sym c.node.view_is) in
+    let log = ap (λ l. map entry_of l) (c.push_reserved.ensures.items ∙ ap (λ l. l ++ c.split_entry.result ∷ []) c.make_room.ensures.log) ∙ map-append entry_of c.self.inside.log.items (c.split_entry.result ∷ []) ∙ ap (λ e. map entry_of c.self.inside.log.items ++ e ∷ []) entry in
+    let box = narrowed c.self.inside.root (reverse c.node.inside.notes.items ++ c.requires.taken.base.changes) in
+    let box_is : box ≡ box_of c.args.self.now c.args.node.now =
+    ap (λ b. narrowed c.self.inside.root (reverse c.node.inside.notes.items ++ base_changes b)) (sym w)
+    ∙ ap (λ (t : Nodes). box_of t (let x : TakenNode = record { number = c.node.inside.id; bound = c.node.inside.bound; place = c.node.inside.place; notes = c.node.inside.notes.items } in x)) c.self.view_is
+    ∙ ap (λ (x : TakenNode). box_of c.args.self.now x) c.node.view_is in
+    let flag : c.flag_at.result ≡ true = first_of (cc, search rules) in
+    let halved : c.can_halve.result ≡ true = first_of (cc, search rules) in
+    let whole : slice_get c.self.inside.whole.items c.args.col ≡ Some true = ap (λ (l : List Bool). slice_get l c.args.col) (sym c.as_slice.ensures.value) ∙ c.flag_at.ensures ∙ ap Some flag in
+    let halves : CanHalve (sides_at box c.args.col) c.args.at = subst (λ b. CanHalve (sides_at b c.args.col) c.args.at) (sym box_is) (subst (λ s. CanHalve s c.args.at) c.sides.ensures (subst (λ z. CanHalve c.sides.result z) at_is (c.can_halve.ensures.0 halved))) in
+    let wholes : AllHaveWholes c.self.inside.whole.items box = subst (λ b. AllHaveWholes c.self.inside.whole.items b) (sym box_is) (subst (λ (t : Nodes). AllHaveWholes t.integral (box_of c.args.self.now c.args.node.now)) (sym c.self.view_is) c.requires.wholes) in
+    let splits = can_split c.self.inside.whole.items box c.args.col c.args.at whole wholes halves in
     let room = c.in_ok-make_room.ensures.room in (
       subst (λ l. IsInOrder c.part-low_place.new.kept.slots c.push-2.new.self.nodes l (c.self.inside.ids + 2) (c.self.inside.in_work - 1)) (sym c.make_room.ensures.parked) (part_order c.self.inside.root c.self.inside.kept.slots c.part-low_place.new.kept.slots c.node.inside.place c.node.inside.notes.items c.part-low_place.result.0 c.part-low_place.result.1 (let x : Change = record { column = c.args.col; side = High; value = integer c.args.at } in x) (let x : Change = record { column = c.args.col; side = Low; value = integer (c.args.at +ℤ pos 1) } in x) c.self.inside.queue.nodes c.self.inside.parked.items c.self.inside.ids c.self.inside.in_work c.requires.taken.base c.self.invariant.0 w parted c.node.inside.bound c.push.new.self.nodes c.push-2.new.self.nodes first second),
       record {
@@ -76,6 +95,8 @@ invariant_of-self-2 c =
         parked = omega (arith, some, room.2, one, two);
         log = omega (arith, some, room.3, one, two, c.push_reserved.ensures.len, c.push_reserved.ensures.capacity);
       },
+      subst (IsTracked (let n : Node = record { number = 0; box = c.self.inside.root; bound = c.self.inside.root_bound } in n) c.self.inside.whole.items c.part-low_place.new.kept.slots (c.self.inside.ids + 2)) (sym log)
+          (tracked_split c.self.inside.root_bound c.self.inside.whole.items c.self.inside.root c.self.inside.kept.slots c.part-low_place.new.kept.slots c.node.inside.place c.node.inside.notes.items c.part-low_place.result.0 c.part-low_place.result.1 (let x : Change = record { column = c.args.col; side = High; value = integer c.args.at } in x) (let x : Change = record { column = c.args.col; side = Low; value = integer (c.args.at +ℤ pos 1) } in x) c.self.inside.queue.nodes c.self.inside.parked.items c.self.inside.ids c.self.inside.in_work c.requires.taken.base c.self.invariant.0 w parted (map entry_of c.self.inside.log.items) c.self.invariant.2 c.args.col c.args.at c.node.inside.id c.node.inside.bound number splits (low_is_half box c.args.col c.args.at halves) (high_is_half box c.args.col c.args.at halves)),
     )
 
 pub returns : goal.returns
@@ -113,6 +134,7 @@ returns c =
       low_is = ap (λ (t : Nodes). t.ids) c.self.view_is;
       high_is = ap (λ (t : Nodes). t.ids + 1) c.self.view_is;
       near = can.near;
+      hold = halves_hold (box_of c.args.self.now c.args.node.now) c.args.col c.args.at;
       can = can_split c.args.self.now.integral (box_of c.args.self.now c.args.node.now) c.args.col c.args.at whole c.requires.wholes can;
       nodes =
           subst (λ (t : Nodes). IsPermutation ((let x : Node = record { number = c.self.inside.ids; box = low_half (box_of c.args.self.now c.args.node.now) c.args.col c.args.at; bound = c.args.node.now.bound } in x) ∷ (let x : Node = record { number = c.self.inside.ids + 1; box = high_half (box_of c.args.self.now c.args.node.now) c.args.col c.args.at; bound = c.args.node.now.bound } in x) ∷ t.open_) (nodes_at c.self.inside.root c.part-low_place.new.kept.slots c.push-2.new.self.nodes)) c.self.view_is

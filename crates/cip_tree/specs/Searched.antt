@@ -1,0 +1,22 @@
+-- The log of a tree as that of a search.
+use Rattle.std.specs.Prelude.{ℕ, ℤ, Bool, ◌⊎◌, List, [], ◌∷◌, map, Contains}
+use Rattle.cip_rational.specs.Rational.{ℚ, IsWhole}
+use Rattle.cip_problem.specs.Program.{Sides}
+use Rattle.cip_problem.specs.Box.{IsInBox}
+use Rattle.cip_problem.specs.Activity.{value_at}
+use Rattle.cip_problem.specs.Log.{Entry, Node, low_half, high_half, AllFollow}
+
+-- the entries can follow one another from the root on: of a program with these whole columns whose root this is, they
+-- are a search log
+abbrev pub IsSearched : List Bool → Node → List Entry → Type 0
+IsSearched integral root log = AllFollow integral (root ∷ []) [] log
+
+-- no entry is of the node of this number
+abbrev pub HasNotEnded : List Entry → ℕ → Type 0
+HasNotEnded log number = ¬ Contains (map (λ entry. entry.node) log) number
+
+-- each point of a box at which the column is whole lies in one of the halves
+abbrev pub HalvesHold : List Sides → ℕ → ℤ → Type 0
+HalvesHold box column at =
+    (point : List ℚ) → IsInBox box point → IsWhole (value_at point column)
+    → IsInBox (low_half box column at) point ⊎ IsInBox (high_half box column at) point
