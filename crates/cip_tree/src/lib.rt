@@ -16,3 +16,6 @@ pub use logs::{End, Logged};
 pub use nodes::Node;
 pub use splits::SplitFault;
 pub use trees::Tree;
+
+#[cfg(test)]
+mod tests;

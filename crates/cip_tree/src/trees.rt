@@ -33,7 +33,7 @@ pub struct Tree {
     root: Bounds,
     root_bound: Option<Frac>,
     whole: Vec<bool>,
-    kept: Slab<Kept>,
+    pub(crate) kept: Slab<Kept>,
     queue: Queue,
     parked: Vec<OpenNode>,
     log: Vec<Logged>,
@@ -243,7 +243,7 @@ impl Tree {
     }
 
     /// The sides of a column in the box of a node in work.
-    fn sides(&self, node: &Node, col: u32) -> Sides
+    pub(crate) fn sides(&self, node: &Node, col: u32) -> Sides
         requires taken { IsTaken self.now node.now }
         requires column { col < length self.now.root.box }
         ensures { result ≡ sides_at (box_of self.now node.now) col }
