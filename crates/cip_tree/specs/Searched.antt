@@ -1,15 +1,20 @@
 -- The log of a tree as that of a search.
-use Rattle.std.specs.Prelude.{ℕ, ℤ, Bool, ◌⊎◌, List, [], ◌∷◌, map, Contains}
+use Rattle.std.specs.Prelude.{◌↔◌, ℕ, ℤ, Bool, ◌⊎◌, List, [], ◌∷◌, map, Contains}
 use Rattle.cip_rational.specs.Rational.{ℚ, IsWhole}
-use Rattle.cip_problem.specs.Program.{Sides}
+use Rattle.cip_problem.specs.Program.{Sides, Program}
 use Rattle.cip_problem.specs.Box.{IsInBox}
 use Rattle.cip_problem.specs.Activity.{value_at}
-use Rattle.cip_problem.specs.Log.{Entry, Node, low_half, high_half, AllFollow}
+use Rattle.cip_problem.specs.Log.{Entry, Node, root, low_half, high_half, AllFollow, IsLog}
 
 -- the entries can follow one another from the root on: of a program with these whole columns whose root this is, they
 -- are a search log
 abbrev pub IsSearched : List Bool → Node → List Entry → Type 0
-IsSearched integral root log = AllFollow integral (root ∷ []) [] log
+IsSearched integral first log = AllFollow integral (first ∷ []) [] log
+
+-- with a program's whole columns and root these are its search logs
+abbrev pub SearchedLogsAreLogs : Type 0
+SearchedLogsAreLogs =
+    (program : Program) (log : List Entry) → IsSearched program.integral (root program) log ↔ IsLog program log
 
 -- no entry is of the node of this number
 abbrev pub HasNotEnded : List Entry → ℕ → Type 0

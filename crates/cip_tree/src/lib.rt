@@ -12,7 +12,7 @@ mod splits;
 mod trees;
 
 pub use changes::Changes;
-pub use logs::{End, Logged};
+pub use logs::{End, Logged, searched_logs_are_logs};
 pub use nodes::Node;
 pub use splits::SplitFault;
 pub use trees::Tree;

@@ -1,4 +1,6 @@
 //! What a search did: one entry for each node that it took and ended.
+ghost use Rattle.cip_tree.specs.Searched.{SearchedLogsAreLogs};
+
 use cip_frac::Frac;
 
 /// How a node ended.
@@ -27,3 +29,9 @@ pub struct Logged {
     /// How it ended.
     pub end: End,
 }
+
+/// What a tree logs that has the root and the whole columns of a program is a search log of that program, and each
+/// search log is such a one.
+pub fn searched_logs_are_logs()
+    ensures { SearchedLogsAreLogs }
+{}

@@ -1,4 +1,4 @@
-use Rattle.std.proofs.Common.{◌≡◌, ℕ, ℤ, pos, ◌+ℤ◌, Bool, true, false, List, [], ◌∷◌, length, Option, None, Some, IfSome, rules, to_z, of_z, to_z-of_z, sym, ◌∙◌, subst, arith, true≢false}
+use Rattle.std.proofs.Common.{◌≡◌, ℤ, pos, ◌+ℤ◌, true, false, List, [], ◌∷◌, length, Option, None, Some, IfSome, rules, to_z, of_z, to_z-of_z, sym, ◌∙◌, subst, arith, true≢false}
 use Rattle.std.specs.Int.{w128}
 use Rattle.cip_rational.specs.Rational.{ℚ, integer, ◌≤ℚ◌}
 use Rattle.cip_rational.proofs.Rational.Order.{≤ℚ_trans}
