@@ -67,6 +67,13 @@ impl RowPool {
         }
     }
 
+    /// The number of columns.
+    pub fn columns(&self) -> usize
+        ensures { result ≡ self.now.columns }
+    {
+        self.columns
+    }
+
     /// The rows that are held, by rising id.
     pub fn rows(&self) -> &[PoolRow]
         ensures rows { result.now ≡ self.now.rows }
