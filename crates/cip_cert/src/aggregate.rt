@@ -5,26 +5,25 @@ ghost use Rattle.cip_cert.specs.Checks.{most_multiples, aggregate_of};
 
 use crate::entries::{add_highs, add_lows, add_rows};
 use crate::faults::CutFault;
+use crate::limits::MOST_MULTIPLES;
 use crate::rows::Rows;
 use crate::sparse::SparseRow;
 use cip_frac::Frac;
 use cip_lin::{Bounds, Combo};
-
-const MOST: usize = 4096;
 
 /// Whether a combination has more entries than are allowed.
 fn is_too_long(combo: &Combo) -> bool
     ensures { result ≡ nat_lt most_multiples (count_of (multiples_of combo.now)) }
 {
     let rows = combo.rows.len();
-    if rows > MOST {
+    if rows > MOST_MULTIPLES {
         return true;
     }
     let lows = combo.lows.len();
-    if lows > MOST - rows {
+    if lows > MOST_MULTIPLES - rows {
         return true;
     }
-    combo.highs.len() > MOST - rows - lows
+    combo.highs.len() > MOST_MULTIPLES - rows - lows
 }
 
 /// Leaves the coefficients of the aggregated row in the row, and answers the right side.

@@ -3,7 +3,7 @@ ghost use Rattle.std.specs.Prelude.{◌≡◌, ◌+◌, ◌≤◌, length, Ok, E
 ghost use Rattle.cip_problem.specs.Activity.{StandsBelow};
 ghost use Rattle.cip_cert.specs.Pool.{pool_row, AreRising};
 ghost use Rattle.cip_cert.specs.Lent.{lent_of, KeptFits, Fits};
-ghost use Rattle.cip_cert.specs.Checks.{chain, in_scope, add_part, row_part, add_row, add_low, add_high, add_rows, add_lows, add_highs};
+ghost use Rattle.cip_cert.specs.Checks.{most_multiples, chain, in_scope, add_part, row_part, add_row, add_low, add_high, add_rows, add_lows, add_highs};
 
 use crate::faults::CutFault;
 use crate::lookup::pool_place;
@@ -203,7 +203,7 @@ pub(crate) fn add_lows(
     row: &mut SparseRow,
 ) -> Result<Frac, CutFault>
     requires room { length bounds.now ≤ length row.old.entries }
-    requires few { first + length multiples.now ≤ 4096 }
+    requires few { first + length multiples.now ≤ most_multiples }
     ensures steps { MatchResult result
         (λ more. add_lows bounds.now first multiples.now (record { coefficients = row.old.entries; least = start })
         ≡ Ok (record { coefficients = row.new.entries; least = more }))
@@ -230,7 +230,7 @@ pub(crate) fn add_highs(
     row: &mut SparseRow,
 ) -> Result<Frac, CutFault>
     requires room { length bounds.now ≤ length row.old.entries }
-    requires few { first + length multiples.now ≤ 4096 }
+    requires few { first + length multiples.now ≤ most_multiples }
     ensures steps { MatchResult result
         (λ more. add_highs bounds.now first multiples.now (record { coefficients = row.old.entries; least = start })
         ≡ Ok (record { coefficients = row.new.entries; least = more }))

@@ -18,7 +18,7 @@ pub enum Place {
 /// divided by its coefficient after all columns. The first of these operations that overflows is named.
 #[derive(Clone, Copy, Debug, PartialEq, Eq)]
 pub enum CutFault {
-    /// There are more than 4,096 entries.
+    /// There are more than `MOST_MULTIPLES` entries.
     TooLong,
     /// An entry names a row that isn't there.
     UnknownRow { entry: usize },

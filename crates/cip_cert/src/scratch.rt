@@ -2,6 +2,7 @@
 ghost use Rattle.std.specs.Prelude.{◌≡◌, ◌≤◌, replicate, IfOk};
 ghost use Rattle.cip_rational.specs.Rational.{zeroℚ};
 ghost use Rattle.cip_problem.specs.Box.{no_sides};
+ghost use Rattle.cip_problem.specs.Limits.{most_columns};
 
 use crate::sparse::SparseRow;
 use cip_lin::Bounds;
@@ -20,7 +21,7 @@ pub struct Scratch {
 impl Scratch {
     /// Room for so many columns, at most 65,536; `Err` where the memory for it was refused.
     pub fn new(alloc: Global, columns: usize) -> Result<Scratch, AllocError>
-        requires { columns ≤ 65536 }
+        requires { columns ≤ most_columns }
         ensures row { IfOk result (λ scratch. scratch.row.entries ≡ replicate columns zeroℚ) }
         ensures bounds { IfOk result (λ scratch. scratch.bounds ≡ replicate columns no_sides) }
     {

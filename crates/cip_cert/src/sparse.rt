@@ -4,7 +4,7 @@ ghost use Rattle.std.specs.Ordering.{nat_cmp};
 ghost use Rattle.std.specs.Vec.{vec_capacity};
 ghost use Rattle.std.specs.List.Sorted.{IsSorted};
 ghost use Rattle.cip_rational.specs.Rational.{zeroℚ};
-ghost use Rattle.cip_problem.specs.Activity.{value_at};
+ghost use Rattle.cip_problem.specs.Limits.{most_columns};
 ghost use Rattle.cip_cert.specs.Touched.{Tells};
 
 use cip_frac::Frac;
@@ -34,7 +34,7 @@ impl Model for SparseRow {
 
 // Puts each column with a coefficient that isn't 0 into the list.
 fn scan(entries: &[Frac], touched: &mut Vec<u32>)
-    requires few { length entries.now ≤ 65536 }
+    requires few { length entries.now ≤ most_columns }
     requires empty { touched.old.items ≡ [] }
     requires room { length entries.now ≤ vec_capacity touched.old }
     ensures tells { Tells entries.now touched.new.items }
@@ -61,7 +61,7 @@ fn wipe(entries: &mut [Frac], touched: &[u32])
 impl SparseRow {
     /// A row of so many columns, at most 65,536, with coefficients 0; `Err` where the memory for it was refused.
     pub fn new(alloc: Global, columns: usize) -> Result<SparseRow, AllocError>
-        requires { columns ≤ 65536 }
+        requires { columns ≤ most_columns }
         ensures { IfOk result (λ row. row.entries ≡ replicate columns zeroℚ) }
     {
         let entries = vec![in alloc; Frac::zero(); columns]?;
@@ -72,7 +72,7 @@ impl SparseRow {
     /// The coefficients by column.
     pub fn entries(&self) -> &[Frac]
         ensures entries { result.now ≡ self.now.entries }
-        ensures few { length self.now.entries ≤ 65536 }
+        ensures few { length self.now.entries ≤ most_columns }
     {
         self.entries.as_slice()
     }

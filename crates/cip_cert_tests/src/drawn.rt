@@ -1,7 +1,7 @@
 //! Rows, boxes and combinations that look random, with all that can be wrong with them.
 use crate::asked::Asked;
 use crate::draws::{Draws, Numbers};
-use cip_cert::SparseRow;
+use cip_cert::Scratch;
 use cip_frac::Frac;
 use cip_lin::{
     Bounds, ColumnMultiple, Combo, Row, RowFault, RowId, RowMultiple, Side, Sides, Term,
@@ -93,14 +93,14 @@ fn coefficients(
     draws: &mut Draws,
     numbers: Numbers,
     columns: u32,
-) -> Result<SparseRow, AllocError> {
-    let mut row = SparseRow::new(alloc, columns.min(65_536) as usize)?;
+) -> Result<Scratch, AllocError> {
+    let mut scratch = Scratch::new(alloc, columns.min(64) as usize)?;
     for column in 0..columns {
-        if draws.once_in(2) && (column as usize) < row.entries().len() {
-            row.set(column, draws.number(numbers));
+        if draws.once_in(2) && (column as usize) < scratch.row.entries().len() {
+            scratch.row.set(column, draws.number(numbers));
         }
     }
-    Ok(row)
+    Ok(scratch)
 }
 
 /// Adds a row to a pool, where it fits.
@@ -113,7 +113,7 @@ fn add_row(
 ) -> Result<(), AllocError> {
     let row = coefficients(alloc, draws, numbers, bounds.len().min(64) as u32)?;
     let scope = scope(alloc, draws, bounds)?;
-    if row.entries().len() == pool.columns() && scope.len() == pool.columns() {
+    if row.row.entries().len() == pool.columns() && scope.len() == pool.columns() {
         pool.add(alloc, &row, draws.number(numbers), &scope)?;
     }
     Ok(())

@@ -1,26 +1,29 @@
 //! The pool of rows.
 use crate::draws::fraction;
-use crate::single_calls::pair;
-use cip_cert::{Scratch, SparseRow};
+use crate::single_calls::{row_of_pair, up_to};
+use cip_cert::Scratch;
 use cip_frac::Frac;
-use cip_lin::{Bounds, Sides};
+use cip_lin::Bounds;
 use cip_rows::{Added, RowPool};
-use std::alloc::{AllocError, Global};
+use std::alloc::Global;
 use std::test::Fail;
 
-/// What adding a row comes to, where its columns are the pool's.
+/// What adding a row comes to, where its columns are the pool's and there is memory.
 fn added(
     alloc: Global,
     pool: &mut RowPool,
-    row: &SparseRow,
+    scratch: &Scratch,
     least: i64,
     scope: &Bounds,
-) -> Result<Option<Added>, AllocError> {
+) -> Option<Added> {
     let columns = pool.columns();
-    if row.entries().len() != columns || scope.len() != columns {
-        return Ok(None);
+    if scratch.row.entries().len() != columns || scope.len() != columns {
+        return None;
     }
-    Ok(Some(pool.add(alloc, row, Frac::from(least), scope)?))
+    match pool.add(alloc, scratch, Frac::from(least), scope) {
+        Ok(added) => Some(added),
+        Err(_) => None,
+    }
 }
 
 /// How many rows may be used in a box, where its columns are the pool's.
@@ -35,37 +38,26 @@ fn usable(pool: &RowPool, bounds: &Bounds) -> Option<usize> {
     Some(count)
 }
 
-/// Two columns from 0 to a number.
-fn up_to(alloc: Global, high: i64) -> Result<Bounds, AllocError> {
-    let sides = Sides {
-        low: Some(Frac::zero()),
-        high: Some(Frac::from(high)),
-    };
-    let mut bounds = Bounds::new(alloc, 0)?;
-    bounds.push(sides)?;
-    bounds.push(sides)?;
-    Ok(bounds)
-}
-
 #[test]
 fn a_row_is_known_inside_its_scope(rt: HostRuntime) -> Result<(), Fail> {
     let alloc = rt.alloc();
-    let mut scratch = Scratch::new(alloc, 2)?;
-    let asked = pair(alloc, fraction(-1, 2))?;
-    assert_eq!(rt; asked.derived(&mut scratch), Some(Ok(Frac::from(-1))));
-    let (row, narrow, wide) = (&scratch.row, up_to(alloc, 1)?, up_to(alloc, 2)?);
-    let mut pool = RowPool::new(alloc, 2);
+    let mut row = Scratch::new(alloc, 5)?;
+    let answer = row_of_pair(alloc, fraction(-1, 2), None, &mut row)?;
+    assert_eq!(rt; answer, Some(Ok(Frac::from(-1))));
+    let narrow = up_to(alloc, 1)?;
+    let wide = up_to(alloc, 2)?;
+    let mut pool = RowPool::new(alloc, 5);
     assert_eq!(rt;
-        added(alloc, &mut pool, row, -1, &narrow)?,
+        added(alloc, &mut pool, &row, -1, &narrow),
         Some(Added::New(0))
     );
     assert_eq!(rt;
-        added(alloc, &mut pool, row, -1, &narrow)?,
+        added(alloc, &mut pool, &row, -1, &narrow),
         Some(Added::Known(0))
     );
     assert_eq!(rt; usable(&pool, &wide), Some(0));
     assert_eq!(rt;
-        added(alloc, &mut pool, row, -1, &wide)?,
+        added(alloc, &mut pool, &row, -1, &wide),
         Some(Added::New(1))
     );
     assert_eq!(rt; usable(&pool, &wide), Some(1));
@@ -73,32 +65,30 @@ fn a_row_is_known_inside_its_scope(rt: HostRuntime) -> Result<(), Fail> {
     Ok(())
 }
 
-/// A pool of 8,192 rows over the coefficients of a row, with the right sides 0, 1, ..
-fn full(alloc: Global, row: &SparseRow, scope: &Bounds) -> Result<RowPool, AllocError> {
-    let mut pool = RowPool::new(alloc, 2);
-    for number in 0..8192_u32 {
-        added(alloc, &mut pool, row, i64::from(number), scope)?;
-    }
-    Ok(pool)
-}
-
 #[test]
 fn a_full_pool_is_full_until_rows_go(rt: HostRuntime) -> Result<(), Fail> {
     let alloc = rt.alloc();
+    let row = Scratch::new(alloc, 5)?;
     let scope = up_to(alloc, 1)?;
-    let row = SparseRow::new(alloc, 2)?;
-    let mut pool = full(alloc, &row, &scope)?;
+    let mut pool = RowPool::new(alloc, 5);
+    for number in 0..8192_u32 {
+        let new = Some(Added::New(u64::from(number)));
+        assert_eq!(rt;
+            added(alloc, &mut pool, &row, i64::from(number), &scope),
+            new
+        );
+    }
     assert_eq!(rt;
-        added(alloc, &mut pool, &row, 8192, &scope)?,
+        added(alloc, &mut pool, &row, 8192, &scope),
         Some(Added::Full)
     );
     assert_eq!(rt;
-        added(alloc, &mut pool, &row, 5, &scope)?,
+        added(alloc, &mut pool, &row, 5, &scope),
         Some(Added::Known(5))
     );
     pool.retire(5);
     assert_eq!(rt;
-        added(alloc, &mut pool, &row, 5, &scope)?,
+        added(alloc, &mut pool, &row, 5, &scope),
         Some(Added::New(8192))
     );
     pool.age();
@@ -106,7 +96,7 @@ fn a_full_pool_is_full_until_rows_go(rt: HostRuntime) -> Result<(), Fail> {
     assert_eq!(rt; rows.len(), 4096);
     assert_eq!(rt; rows[0].id, 4097);
     assert_eq!(rt;
-        added(alloc, &mut pool, &row, 7, &scope)?,
+        added(alloc, &mut pool, &row, 7, &scope),
         Some(Added::New(8193))
     );
     Ok(())

@@ -1,139 +1,172 @@
-//! The checks, and the pool, on rows worked out by hand.
+//! The checks on rows worked out by hand.
 use crate::asked::Asked;
 use crate::draws::fraction;
 use cip_cert::{CutFault, Place, Scratch};
 use cip_frac::Frac;
-use cip_lin::{ColumnMultiple, Row, RowId, RowMultiple, Side, Sides, Term};
+use cip_lin::{Bounds, ColumnMultiple, Row, RowId, RowMultiple, Side, Sides, Term};
 use std::alloc::{AllocError, Global};
 use std::test::Fail;
 
-/// A row of the program: coefficients by column, from the first on, between two sides.
+/// A row over five columns, of which those with a coefficient 0 have no term.
 fn row(
     alloc: Global,
-    coefficients: &[i64],
-    low: Option<Frac>,
-    high: Option<Frac>,
+    coefficients: [i64; 5],
+    low: Option<i64>,
+    high: Option<i64>,
 ) -> Result<Row, Fail> {
-    let mut terms = Vec::new(alloc);
-    let mut col = 0;
-    for coefficient in coefficients {
-        terms.push(Term {
-            col,
-            coef: Frac::from(*coefficient),
-        })?;
-        col = col.saturating_add(1);
-    }
-    Ok(Row::build(alloc, terms.as_slice(), low, high)?)
-}
-
-/// A box of so many whole columns from 0 to a number, each of cost 1, with one row.
-fn one_row(alloc: Global, columns: u32, top: i64, row: Row) -> Result<Asked, AllocError> {
-    let mut asked = Asked::new(alloc, columns as usize)?;
-    let sides = Sides {
-        low: Some(Frac::zero()),
-        high: Some(Frac::from(top)),
-    };
-    for column in 0..columns {
-        if (column as usize) < asked.bounds.len() {
-            asked.bounds.set_sides(column, sides);
+    let mut row = Row::empty(alloc, low.map(Frac::from), high.map(Frac::from));
+    for col in 0..5_u32 {
+        let coef = Frac::from(coefficients[col as usize]);
+        if !coef.is_zero() {
+            row.append(Term { col, coef })?;
         }
     }
-    asked.own.push(row)?;
-    Ok(asked)
+    Ok(row)
 }
 
-/// The case with a row of the program added to its combination.
-fn with_row(mut asked: Asked, number: u32, factor: Frac) -> Result<Asked, AllocError> {
-    let row = RowId::Own(number);
+/// Five columns from 0 to a number.
+pub fn up_to(alloc: Global, high: i64) -> Result<Bounds, AllocError> {
+    let sides = Sides {
+        low: Some(Frac::zero()),
+        high: Some(Frac::from(high)),
+    };
+    let mut bounds = Bounds::new(alloc, 0)?;
+    for _ in 0..5 {
+        bounds.push(sides)?;
+    }
+    Ok(bounds)
+}
+
+/// Five whole columns from 0 to a number, each of cost 1, with one row and a factor for it.
+fn one_row(alloc: Global, top: i64, row: Row, factor: Frac) -> Result<Asked, AllocError> {
+    let mut asked = Asked::new(alloc, 5)?;
+    asked.bounds = up_to(alloc, top)?;
+    asked.own.push(row)?;
+    let row = RowId::Own(0);
     asked.combo.rows.push(RowMultiple { row, factor })?;
     Ok(asked)
 }
 
-/// Two columns from 0 to 1 under 2 x + 2 y at most 3, with a factor for that row.
-pub fn pair(alloc: Global, factor: Frac) -> Result<Asked, Fail> {
-    let row = row(alloc, &[2, 2], None, Some(Frac::from(3)))?;
-    let mut asked = with_row(one_row(alloc, 2, 1, row)?, 0, factor)?;
+/// What `derive` answers with rounding for a multiple of 2 x + 2 y at most 3, and with one of the low side of x where it
+/// is given; the first two coefficients stand in the scratch.
+pub fn row_of_pair(
+    alloc: Global,
+    factor: Frac,
+    low: Option<Frac>,
+    scratch: &mut Scratch,
+) -> Result<Option<Result<Frac, CutFault>>, Fail> {
+    let row = row(alloc, [2, 2, 0, 0, 0], None, Some(3))?;
+    let mut asked = one_row(alloc, 1, row, factor)?;
     asked.round = true;
-    Ok(asked)
+    if let Some(factor) = low {
+        asked.combo.lows.push(ColumnMultiple { col: 0, factor })?;
+    }
+    Ok(asked.derived(scratch))
 }
 
 #[test]
 fn half_a_row_is_rounded(rt: HostRuntime) -> Result<(), Fail> {
-    let alloc = rt.alloc();
-    let mut scratch = Scratch::new(alloc, 2)?;
-    let asked = pair(alloc, fraction(-1, 2))?;
-    let least = Frac::from(-1);
-    assert_eq!(rt; asked.derived(&mut scratch), Some(Ok(least)));
-    assert_eq!(rt; scratch.row.entries(), [least, least].as_slice());
+    let mut scratch = Scratch::new(rt.alloc(), 5)?;
+    let answer = row_of_pair(rt.alloc(), fraction(-1, 2), None, &mut scratch)?;
+    let (one, zero) = (Frac::from(-1), Frac::zero());
+    assert_eq!(rt; answer, Some(Ok(one)));
+    assert_eq!(rt;
+        scratch.row.entries(),
+        [one, one, zero, zero, zero].as_slice()
+    );
     Ok(())
 }
 
 #[test]
 fn rows_are_refused(rt: HostRuntime) -> Result<(), Fail> {
-    let alloc = rt.alloc();
-    let mut scratch = Scratch::new(alloc, 2)?;
-    let third = pair(alloc, fraction(-1, 3))?;
-    let half = pair(alloc, fraction(1, 2))?;
-    let mut low = pair(alloc, fraction(-1, 2))?;
-    low.combo.lows.push(ColumnMultiple {
-        col: 0,
-        factor: Frac::from(-1),
-    })?;
+    let mut scratch = Scratch::new(rt.alloc(), 5)?;
     let open = CutFault::NoSide {
         place: Place::Entry(0),
     };
-    let faults = [
-        (&third, CutFault::NotWhole { column: 0 }),
-        (&half, open),
-        (&low, CutFault::WrongSign { entry: 1 }),
+    let negative = Some(Frac::from(-1));
+    let cases = [
+        (fraction(-1, 3), None, CutFault::NotWhole { column: 0 }),
+        (fraction(1, 2), None, open),
+        (fraction(-1, 2), negative, CutFault::WrongSign { entry: 1 }),
     ];
-    for (asked, fault) in faults {
-        assert_eq!(rt; asked.derived(&mut scratch), Some(Err(fault)));
+    for (factor, low, fault) in cases {
+        let answer = row_of_pair(rt.alloc(), factor, low, &mut scratch)?;
+        assert_eq!(rt; answer, Some(Err(fault)));
     }
     Ok(())
 }
 
+/// What `empties` answers for a multiple of x at least 2 and one of x at most 1, or for neither.
+fn emptiness(
+    alloc: Global,
+    is_empty: bool,
+    scratch: &mut Scratch,
+) -> Result<Option<Result<(), CutFault>>, Fail> {
+    let above = row(alloc, [1, 0, 0, 0, 0], Some(2), None)?;
+    let below = row(alloc, [1, 0, 0, 0, 0], None, Some(1))?;
+    let mut asked = one_row(alloc, 5, above, Frac::one())?;
+    asked.own.push(below)?;
+    let row = RowId::Own(1);
+    let factor = Frac::from(-1);
+    asked.combo.rows.push(RowMultiple { row, factor })?;
+    if is_empty {
+        asked.combo.rows.clear();
+    }
+    Ok(asked.emptied(scratch))
+}
+
 #[test]
 fn rows_that_exclude_each_other_empty(rt: HostRuntime) -> Result<(), Fail> {
-    let alloc = rt.alloc();
-    let mut scratch = Scratch::new(alloc, 1)?;
-    let above = row(alloc, &[1], Some(Frac::from(2)), None)?;
-    let below = row(alloc, &[1], None, Some(Frac::one()))?;
-    let mut asked = one_row(alloc, 1, 5, above)?;
-    asked.own.push(below)?;
+    let mut scratch = Scratch::new(rt.alloc(), 5)?;
+    let answer = emptiness(rt.alloc(), false, &mut scratch)?;
+    assert_eq!(rt; answer, Some(Ok(())));
     let nothing = CutFault::NotPositive {
         value: Frac::zero(),
     };
-    assert_eq!(rt; asked.emptied(&mut scratch), Some(Err(nothing)));
-    let asked = with_row(asked, 0, Frac::one())?;
-    let asked = with_row(asked, 1, Frac::from(-1))?;
-    assert_eq!(rt; asked.emptied(&mut scratch), Some(Ok(())));
+    let answer = emptiness(rt.alloc(), true, &mut scratch)?;
+    assert_eq!(rt; answer, Some(Err(nothing)));
     Ok(())
+}
+
+/// What `lower_bound` answers for half of an equation.
+fn half_an_equation(
+    alloc: Global,
+    scratch: &mut Scratch,
+) -> Result<Option<Result<Frac, CutFault>>, Fail> {
+    let row = row(alloc, [2, 2, 2, 2, 2], Some(5), Some(5))?;
+    let asked = one_row(alloc, 1, row, fraction(1, 2))?;
+    Ok(asked.bounded(scratch))
 }
 
 #[test]
 fn half_an_equation_bounds(rt: HostRuntime) -> Result<(), Fail> {
-    let alloc = rt.alloc();
-    let mut scratch = Scratch::new(alloc, 5)?;
-    let five = Some(Frac::from(5));
-    let row = row(alloc, &[2, 2, 2, 2, 2], five, five)?;
-    let asked = with_row(one_row(alloc, 5, 1, row)?, 0, fraction(1, 2))?;
-    assert_eq!(rt; asked.bounded(&mut scratch), Some(Ok(fraction(5, 2))));
+    let mut scratch = Scratch::new(rt.alloc(), 5)?;
+    let answer = half_an_equation(rt.alloc(), &mut scratch)?;
+    assert_eq!(rt; answer, Some(Ok(fraction(5, 2))));
     Ok(())
+}
+
+/// What `reduction` answers for a high side of a under 2 a + 3 b + c at most 5.
+fn high_side(
+    alloc: Global,
+    value: Frac,
+    scratch: &mut Scratch,
+) -> Result<Option<Result<Frac, CutFault>>, Fail> {
+    let row = row(alloc, [2, 3, 1, 0, 0], None, Some(5))?;
+    let mut asked = one_row(alloc, 10, row, Frac::from(-1))?;
+    asked.side = Side::High;
+    asked.value = value;
+    Ok(asked.reduced(scratch))
 }
 
 #[test]
 fn a_row_implies_a_side(rt: HostRuntime) -> Result<(), Fail> {
-    let alloc = rt.alloc();
-    let mut scratch = Scratch::new(alloc, 3)?;
-    let row = row(alloc, &[2, 3, 1], None, Some(Frac::from(5)))?;
-    let mut asked = with_row(one_row(alloc, 3, 10, row)?, 0, Frac::from(-1))?;
-    asked.side = Side::High;
+    let mut scratch = Scratch::new(rt.alloc(), 5)?;
     let two = Frac::from(2);
-    asked.value = two;
-    assert_eq!(rt; asked.reduced(&mut scratch), Some(Ok(two)));
-    asked.value = Frac::one();
+    let answer = high_side(rt.alloc(), two, &mut scratch)?;
+    assert_eq!(rt; answer, Some(Ok(two)));
     let weaker = CutFault::NotImplied { implied: Some(two) };
-    assert_eq!(rt; asked.reduced(&mut scratch), Some(Err(weaker)));
+    let answer = high_side(rt.alloc(), Frac::one(), &mut scratch)?;
+    assert_eq!(rt; answer, Some(Err(weaker)));
     Ok(())
 }

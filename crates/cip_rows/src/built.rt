@@ -1,5 +1,6 @@
 //! Rows made of coefficients, and rows compared.
 ghost use Rattle.std.specs.Prelude.{◌≡◌, ◌≤◌, ◌↔◌, IsTrue, length, MatchResult};
+ghost use Rattle.cip_problem.specs.Limits.{most_columns};
 ghost use Rattle.cip_cuts.specs.Cuts.{row_of};
 ghost use Rattle.cip_lin.specs.declared.rows.RowFault.{RowFault};
 
@@ -9,7 +10,7 @@ use std::alloc::Global;
 
 /// The row that says that the sum of the coefficients' products is at least a number; no fault but want of memory.
 pub(crate) fn row_from(alloc: Global, coefficients: &[Frac], least: Frac) -> Result<Row, RowFault>
-    requires { length coefficients.now ≤ 65536 }
+    requires { length coefficients.now ≤ most_columns }
     ensures { MatchResult result
         (λ row. row ≡ row_of (record { coefficients = coefficients.now; least = least }))
         (λ fault. fault ≡ RowFault.NoMemory) }

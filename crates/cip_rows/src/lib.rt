@@ -11,6 +11,3 @@ mod usable;
 pub use limits::{KEPT_POOL_ROWS, MOST_IDS, MOST_POOL_ROWS, limits_agree};
 pub use pools::{Added, RowPool};
 pub use usable::Usable;
-
-#[cfg(test)]
-mod tests;

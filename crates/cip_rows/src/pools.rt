@@ -12,7 +12,7 @@ use crate::fingerprints::fingerprint;
 use crate::index::{Entry, first_from, forget, forget_below, known};
 use crate::limits::{KEPT_POOL_ROWS, MOST_IDS, MOST_POOL_ROWS};
 use crate::usable::Usable;
-use cip_cert::{PoolRow, SparseRow};
+use cip_cert::{PoolRow, Scratch};
 use cip_frac::Frac;
 use cip_lin::{Bounds, Row};
 use std::alloc::{AllocError, Global};
@@ -107,25 +107,26 @@ impl RowPool {
         Ok(())
     }
 
-    /// Adds the row that says, in boxes inside `scope`, that the sum of the coefficients' products is at least `least`.
+    /// Adds the row that says, in boxes inside `scope`, that the sum of the products of the coefficients, which stand in
+    /// the scratch, is at least `least`.
     /// `Known` comes exactly where an equal row whose scope holds `scope` is held; else `Full` exactly where the pool
     /// holds `MOST_POOL_ROWS` rows or has given `MOST_IDS` ids; else the row is `New`. `Err` comes where a growth was
     /// refused. All but `New` leave the pool as it was.
     pub fn add(
         &mut self,
         alloc: Global,
-        row: &SparseRow,
+        scratch: &Scratch,
         least: Frac,
         scope: &Bounds,
     ) -> Result<Added, AllocError>
-        requires coefficients { length row.now.entries ≡ self.old.columns }
+        requires coefficients { length scratch.now.row.entries ≡ self.old.columns }
         requires columns { length scope.now ≡ self.old.columns }
         ensures added { MatchResult result
-            (IsAdded self.old (row_of (record { coefficients = row.now.entries; least = least })) scope.now self.new)
+            (IsAdded self.old (row_of (record { coefficients = scratch.now.row.entries; least = least })) scope.now self.new)
             (λ _. self.new ≡ self.old) }
         ensures columns { self.new.columns ≡ self.old.columns }
     {
-        let Ok(row) = row_from(alloc, row.entries(), least) else {
+        let Ok(row) = row_from(alloc, scratch.row.entries(), least) else {
             return Err(AllocError);
         };
         let print = fingerprint(&row);
