@@ -13,12 +13,11 @@ use cip_lin::Term;
 pub(crate) fn sum_of(place: Place, sum: Frac, a: Frac, b: Frac) -> Result<Frac, CutFault>
     ensures { result ≡ placed place (product_added sum a b) }
 {
-    let Ok(product) = a.mul(b) else {
-        return Err(CutFault::Wide { place });
-    };
-    match sum.add(product) {
-        Ok(value) => Ok(value),
-        Err(_) => Err(CutFault::Wide { place }),
+    let mut value = sum;
+    if value.add_product(&a, &b) {
+        Ok(value)
+    } else {
+        Err(CutFault::Wide { place })
     }
 }
 
