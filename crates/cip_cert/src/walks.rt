@@ -1,5 +1,6 @@
 //! Walks over the columns of a row of coefficients.
-ghost use Rattle.std.specs.Prelude.{◌≡◌, ◌≤◌, length};
+ghost use Rattle.std.specs.Prelude.{◌≡◌, ◌≤◌, length, Ok, IsErr};
+ghost use Rattle.std.specs.Bool.{MatchBool};
 ghost use Rattle.std.specs.Ordering.{nat_cmp};
 ghost use Rattle.std.specs.List.Sorted.{IsSorted};
 ghost use Rattle.cip_cert.specs.Touched.{Tells};
@@ -72,6 +73,30 @@ fn add_column(
     }
 }
 
+/// Adds the least rest of one column in place: `true`, or `false` where there is none, with the sum as it was.
+#[inline(always)]
+fn step(column: usize, sum: &mut Frac, cost: Frac, coefficient: Frac, sides: &Sides) -> bool
+    ensures { MatchBool result
+        (chain (rest_of column cost coefficient) (λ rest. rest_added column sum.old rest sides.now) ≡ Ok sum.new)
+        (IsErr (chain (rest_of column cost coefficient) (λ rest. rest_added column sum.old rest sides.now))
+        × (sum.new ≡ sum.old)) }
+{
+    let Ok(rest) = cost.sub(coefficient) else {
+        return false;
+    };
+    let side = if rest.is_positive() {
+        sides.low
+    } else if rest.is_negative() {
+        sides.high
+    } else {
+        return true;
+    };
+    match side {
+        None => false,
+        Some(side) => sum.add_product(&rest, &side),
+    }
+}
+
 /// A sum with the least rests of all columns added: of their costs less their coefficients.
 pub(crate) fn bound(
     costs: &[Frac],
@@ -85,9 +110,8 @@ pub(crate) fn bound(
 {
     let mut sum = start;
     for at in 0..sides.len() {
-        match add_column(at, sum, costs[at], entries[at], sides[at]) {
-            Ok(value) => sum = value,
-            Err(fault) => return Err(fault),
+        if !step(at, &mut sum, costs[at], entries[at], &sides[at]) {
+            return add_column(at, sum, costs[at], entries[at], sides[at]);
         }
     }
     Ok(sum)
