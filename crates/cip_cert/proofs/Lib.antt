@@ -4,3 +4,4 @@ pub mod Pools
 pub mod Steps
 pub mod Sums
 pub mod Values
+pub mod Rounded

@@ -1,11 +1,12 @@
 -- Laws of the check, each as one statement: functions of `src/laws.rt` have them as contracts.
-use Rattle.std.specs.Prelude.{◌≡◌, ℕ, ◌≤◌, ◌<◌, List, [], length, None, Some, IfOk}
+use Rattle.std.specs.Prelude.{◌≡◌, ◌↔◌, ℕ, ◌≤◌, ◌<◌, Bool, List, [], length, Option, None, Some, IfOk, if◌then◌else◌}
 use Rattle.cip_rational.specs.Rational.{ℚ}
 use Rattle.cip_problem.specs.Program.{Sides}
 use Rattle.cip_problem.specs.Activity.{value_at}
-use Rattle.cip_linear.specs.Aggregate.{Inequality, bound_of, only}
+use Rattle.cip_linear.specs.Aggregate.{Inequality, bound_of, only, implied_sides}
+use Rattle.cip_cuts.specs.Cuts.{CanRound, rounded_low, rounded_high}
 use Rattle.cip_cert.specs.Lent.{Lent, Fits, Multiples}
-use Rattle.cip_cert.specs.Checks.{aggregate_of, bound_from, rests_from}
+use Rattle.cip_cert.specs.Checks.{chain, aggregate_of, first_stop, bound_from, rests_from, implied_low, implied_high}
 use Rattle.cip_cert.specs.Follows.{IsSum}
 
 -- the row of a combination that is accepted is the sum of parts that hold where the rows hold
@@ -28,3 +29,30 @@ pub record BoundsAreThose : Type 0 where
       → length box ≤ length row.coefficients → column < length box
       → IfOk (rests_from (Some column) 0 row.least row.coefficients box)
       (λ b. bound_of row (only column (value_at row.coefficients column)) box ≡ Some b)
+
+-- a row is rounded exactly where each of its coefficients is whole and, unless it is 0, stands on a whole column
+abbrev pub RowsAreRoundedWhereTheyCan : Type 0
+RowsAreRoundedWhereTheyCan =
+    (integral : List Bool) (ds : List ℚ) → length integral ≡ length ds
+    → (first_stop 0 integral ds ≡ None) ↔ CanRound integral ds
+
+-- a side, rounded inward where the column is whole
+abbrev pub inward_low : Bool → Option ℚ → Option ℚ
+inward_low whole side = if whole then rounded_low side else side
+
+abbrev pub inward_high : Bool → Option ℚ → Option ℚ
+inward_high whole side = if whole then rounded_high side else side
+
+-- the single bounds that are computed are the sides that the inequality implies for the column, rounded inward where
+-- it is whole
+pub record SidesAreThose : Type 0 where
+  pub low : (row : Inequality) (box : List Sides) (column : ℕ) (whole : Bool)
+      → length box ≤ length row.coefficients → column < length box
+      → IfOk (chain (rests_from (Some column) 0 row.least row.coefficients box)
+      (implied_low column whole (value_at row.coefficients column)))
+      (λ side. side ≡ inward_low whole (implied_sides row box column).low)
+  pub high : (row : Inequality) (box : List Sides) (column : ℕ) (whole : Bool)
+      → length box ≤ length row.coefficients → column < length box
+      → IfOk (chain (rests_from (Some column) 0 row.least row.coefficients box)
+      (implied_high column whole (value_at row.coefficients column)))
+      (λ side. side ≡ inward_high whole (implied_sides row box column).high)

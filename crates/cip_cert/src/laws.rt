@@ -1,5 +1,5 @@
 //! Laws of the checks: each function does nothing, and its contract is a law.
-ghost use Rattle.cip_cert.specs.Statements.{AggregatesAreSums, BoundsAreThose};
+ghost use Rattle.cip_cert.specs.Statements.{AggregatesAreSums, BoundsAreThose, RowsAreRoundedWhereTheyCan, SidesAreThose};
 
 /// The row of a combination that is accepted is the sum of parts, each of which holds at every point of the box at
 /// which the rows hold.
@@ -11,4 +11,15 @@ pub fn aggregates_are_sums()
 /// on one column.
 pub fn bounds_are_those()
     ensures { BoundsAreThose }
+{}
+
+/// A row is rounded exactly where each of its coefficients is whole and, unless it is 0, stands on a whole column.
+pub fn rows_are_rounded_where_they_can()
+    ensures { RowsAreRoundedWhereTheyCan }
+{}
+
+/// The single bounds that a check computes from a row are the sides that it implies for the column in the box, rounded
+/// inward where the column is whole.
+pub fn sides_are_those()
+    ensures { SidesAreThose }
 {}

@@ -22,7 +22,9 @@ mod walks;
 
 pub use calls::{derive, empties, lower_bound, reduction};
 pub use faults::{CutFault, Place};
-pub use laws::{aggregates_are_sums, bounds_are_those};
+pub use laws::{
+    aggregates_are_sums, bounds_are_those, rows_are_rounded_where_they_can, sides_are_those,
+};
 pub use limits::{MOST_MULTIPLES, limit_agrees};
 pub use rows::{PoolRow, Rows};
 pub use scratch::Scratch;
