@@ -42,7 +42,8 @@ pub fn derive(
 }
 
 /// What costs come to at least at each point of the box at which the rows hold, by a combination. Each fault comes
-/// exactly where the entry or the column that it names is the first to break the rule that it names.
+/// exactly where the entry or the column that it names is the first to break the rule that it names. Unlike the other
+/// checks this one passes over all columns, once: each may have a cost, and then adds its least product in the box.
 pub fn lower_bound(
     rows: &Rows<'_>,
     bounds: &Bounds,
