@@ -85,9 +85,10 @@ impl SparseRow {
         self.touched.as_slice()
     }
 
-    /// Sets all coefficients to 0, in time by the columns that were touched.
+    /// Sets all coefficients to 0, in time by the columns that were touched. No column is touched then.
     pub fn clear(&mut self)
-        ensures { self.new.entries ≡ replicate (length self.old.entries) zeroℚ }
+        ensures entries { self.new.entries ≡ replicate (length self.old.entries) zeroℚ }
+        ensures touched { self.new.touched ≡ [] }
     {
         wipe(self.entries.as_mut_slice(), self.touched.as_slice());
         self.touched.clear();
