@@ -5,6 +5,7 @@ use cip_frac::Frac;
 use cip_lin::{Row, RowId, RowMultiple, Sides, Term};
 use std::alloc::{AllocError, Global};
 
+/// The most entries of a combination.
 const MOST: usize = 4096;
 
 /// A factor, a row with a coefficient for each column, and the side that is used.
