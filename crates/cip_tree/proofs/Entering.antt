@@ -1,9 +1,9 @@
 -- A log with one more entry.
-use Rattle.std.proofs.Common.{◌≡◌, ◌≢◌, ◌⊎◌, inl, inr, ℕ, zero, suc, ◌==◌, Bool, true, false, cond, List, [], ◌∷◌, ◌++◌, map, Option, None, Some, Contains, refl, sym, subst, arith}
+use Rattle.std.proofs.Common.{◌≡◌, ◌≢◌, ◌⊎◌, inl, inr, ℕ, zero, suc, ◌==◌, Bool, true, false, cond, List, [], ◌∷◌, ◌++◌, map, Option, None, Some, Contains, refl, sym, subst, arith, ap, ◌∙◌}
 use Rattle.std.proofs.lemmas.List.{map-append}
 use Rattle.std.proofs.lemmas.List.Elements.{Contains-append_right, Contains-push_cases}
 use Rattle.std.proofs.lemmas.Bool.Decides.{eqb_tells}
-use Rattle.std.proofs.lemmas.Option.{none-some}
+use Rattle.std.proofs.lemmas.Option.{none-some, same_Some}
 use Rattle.cip_problem.specs.Log.{Entry, Node, node_of, nodes_of, given_after, IsRightEnd, AllFollow}
 
 pub contains_cons : {X : Type 0} (x y : X) (xs : List X) → Contains (x ∷ xs) y → (x ≡ y) ⊎ Contains xs y
@@ -53,6 +53,14 @@ node_of_here first nodes number e = found_here first (node_of nodes number) numb
 
 pub node_of_later : (first : Node) (nodes : List Node) (number : ℕ) → first.number ≢ number → node_of (first ∷ nodes) number ≡ node_of nodes number
 node_of_later first nodes number e = found_later first (node_of nodes number) number e
+
+-- the node of a number has that number
+pub node_of_number : (nodes : List Node) (number : ℕ) (node : Node) → node_of nodes number ≡ Some node → node.number ≡ number
+node_of_number [] number node h = absurd (none-some node h)
+node_of_number (n ∷ ns) number node h = elim (eqb_tells n.number number) [
+  | inl k ↦ sym (ap (λ (t : Node). t.number) (same_Some n node (sym (node_of_here n ns number k.1) ∙ h))) ∙ k.1
+  | inr k ↦ node_of_number ns number node (sym (node_of_later n ns number k.1) ∙ h)
+]
 
 -- ---- one more entry
 

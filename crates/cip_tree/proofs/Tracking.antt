@@ -1,5 +1,6 @@
 -- The log stays right, and knows the nodes that are kept.
-use Rattle.std.proofs.Common.{◌≡◌, ◌≢◌, ◌⊎◌, inl, inr, ℕ, ◌+◌, ◌<◌, ◌≤◌, ℤ, Bool, true, false, List, [], ◌∷◌, ◌++◌, reverse, get_or, Option, None, Some, refl, sym, ap, ◌∙◌, subst, arith}
+use Rattle.std.proofs.lemmas.List.Elements.{All-map}
+use Rattle.std.proofs.Common.{◌≡◌, ◌≢◌, ◌⊎◌, inl, inr, ℕ, ◌+◌, ◌<◌, ◌≤◌, ℤ, Bool, true, false, List, [], ◌∷◌, ◌++◌, reverse, get_or, Option, None, Some, refl, sym, ap, ◌∙◌, subst, arith, All}
 use Rattle.std.proofs.lemmas.Bool.{cases_eq}
 use Rattle.std.proofs.lemmas.List.{append-nil}
 use Rattle.std.proofs.lemmas.Option.{none-some, same_Some}
@@ -11,11 +12,11 @@ use Rattle.cip_tree.specs.declared.kept.Stage.{Stage}
 use Rattle.cip_tree.specs.declared.kept.Stage.TheVariants.{Open, Taken, Parked, Ended}
 use Rattle.cip_tree.specs.declared.kept.Origin.{Origin}
 use Rattle.cip_tree.specs.declared.queue.OpenNode.{OpenNode}
-use Rattle.cip_tree.specs.Slots.{Slot, Slots, slot_at, open_slot, above, IsKept, IsRestaged, IsReleased, IsParted}
+use Rattle.cip_tree.specs.Slots.{Slot, Slots, slot_at, open_slot, above, IsKept, IsRestaged, IsReleased, IsParted, slot_changes, changes_at}
 use Rattle.cip_tree.specs.Nodes.{Base}
-use Rattle.cip_tree.specs.Inside.{bases, StandsAs, IsInOrder}
+use Rattle.cip_tree.specs.Inside.{bases, StandsAs, IsInOrder, node_at, nodes_at}
 use Rattle.cip_tree.specs.Freed.{AreReleased}
-use Rattle.cip_tree.specs.Searched.{IsSearched, HasNotEnded}
+use Rattle.cip_tree.specs.Searched.{IsSearched, HasNotEnded, IsOpenIn}
 use Rattle.cip_tree.specs.Tracked.{IsWithin, given_by, IsGiven, is_live, IsTracked}
 use Rattle.cip_tree.proofs.Keeping.{same_slot}
 use Rattle.cip_tree.proofs.Paths.{same_up, IsInWork, in_work}
@@ -23,8 +24,8 @@ use Rattle.cip_tree.proofs.Restaged as restaged
 use Rattle.cip_tree.proofs.Orders.{released_keeps}
 use Rattle.cip_tree.proofs.Freeing.{Anywhere, freed_keeps}
 use Rattle.cip_tree.proofs.Parted as parted
-use Rattle.cip_tree.proofs.Within.{within_itself, within_later, within_low, within_high, split_within}
-use Rattle.cip_tree.proofs.Entering.{node_of_kept, node_of_new, node_of_here, node_of_later, given_more, follow_more, taken_more, taken_given}
+use Rattle.cip_tree.proofs.Within.{within_itself, within_later, within_low, within_high, split_within, in_wider}
+use Rattle.cip_tree.proofs.Entering.{node_of_kept, node_of_new, node_of_here, node_of_later, given_more, follow_more, taken_more, taken_given, node_of_number}
 
 -- ---- the first log
 
@@ -133,6 +134,25 @@ live_open stage e = ap is_live e
 
 live_stays : (stage : Stage) → is_live stage ≡ true → stage ≢ Ended
 live_stays stage e f = let g : false ≡ true = sym (ap is_live f) ∙ e in cc
+
+-- ---- the open nodes
+
+module _ (root : Node) (integral : List Bool) (slots : Slots) (ids : ℕ) (log : List Entry) (t : IsTracked root integral slots ids log) where
+  open_in : (e : OpenNode) → StandsAs Open slots e → IsOpenIn root log (node_at root.box slots e)
+  open_in e s =
+      let g = t.given e.place s.slot s.found in
+      let within : IsWithin (narrowed root.box (changes_at slots e.place)) g.node.box =
+      subst (λ c. IsWithin (narrowed root.box c) g.node.box) (sym (ap (slot_changes slots) s.found)) (within_later root.box g.node.box (reverse s.slot.notes) (above s.slot.number slots s.slot.origin) g.within) in
+      record {
+        given = g.node;
+        number = node_of_number (given_by root log) s.slot.number g.node g.found ∙ s.number;
+        found = ap (node_of (given_by root log)) (sym s.number) ∙ g.found;
+        holds = λ point h. in_wider (narrowed root.box (changes_at slots e.place)) g.node.box point within h;
+        unended = subst (HasNotEnded log) s.number (t.live e.place s.slot s.found (live_open s.slot.stage s.stage_is));
+      }
+
+  pub all_open : (nodes : List OpenNode) → All (StandsAs Open slots) nodes → All (IsOpenIn root log) (nodes_at root.box slots nodes)
+  all_open nodes h = All-map (IsOpenIn root log) (node_at root.box slots) nodes (λ k d l. open_in _ (h k d l))
 
 -- ---- a node has another stage
 

@@ -27,6 +27,15 @@ within_trans (s ∷ ss) (t ∷ ts) [] h k = absurd k
 within_trans (s ∷ ss) (t ∷ ts) (u ∷ us) h k =
     (record { low = λ v l. k.0.low v (h.0.low v l); high = λ v l. k.0.high v (h.0.high v l) }, within_trans ss ts us h.1 k.1)
 
+-- a wider box holds the points
+pub in_wider : (box outer : List Sides) (point : List ℚ) → IsWithin box outer → IsInBox box point → IsInBox outer point
+in_wider [] [] point h k = k
+in_wider [] (t ∷ ts) point h k = absurd h
+in_wider (s ∷ ss) [] point h k = absurd h
+in_wider (s ∷ ss) (t ∷ ts) [] h k = absurd k
+in_wider (s ∷ ss) (t ∷ ts) (v ∷ vs) h k =
+    (record { above = h.0.low v k.0.above; below = h.0.high v k.0.below }, in_wider ss ts vs h.1 k.1)
+
 -- ---- changes
 
 weak_low : (low : Option ℚ) (value x : ℚ) → low_inside low (Some value) ≡ false → value ≤ℚ x → IfSome low (λ side. side ≤ℚ x)

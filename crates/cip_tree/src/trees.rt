@@ -1,11 +1,11 @@
 //! The tree of a search's nodes.
-ghost use Rattle.std.specs.Prelude.{MatchResult, OnOk, vec_len, vec_capacity, ◌≡◌, ◌≢◌, ◌+◌, ◌-◌, ◌<◌, ◌≤◌, ◌^◌, ℕ, [], ◌∷◌, ◌++◌, length, filter, IfOk, MatchOption, None, Some};
+ghost use Rattle.std.specs.Prelude.{MatchResult, OnOk, vec_len, vec_capacity, ◌≡◌, ◌≢◌, ◌+◌, ◌-◌, ◌<◌, ◌≤◌, ◌^◌, ℕ, [], ◌∷◌, ◌++◌, length, filter, All, IfOk, MatchOption, None, Some};
 ghost use Rattle.std.specs.List.Sorted.{IsPermutation};
 ghost use Rattle.slab.specs.Slab.{HasRoomFor};
 ghost use Rattle.cip_problem.specs.Log.{Closed, Parked, Split};
 ghost use Rattle.cip_problem.specs.Box.{sides_at};
 ghost use Rattle.cip_problem.specs.Wholes.{AllHaveWholes};
-ghost use Rattle.cip_tree.specs.Searched.{IsSearched};
+ghost use Rattle.cip_tree.specs.Searched.{IsSearched, IsOpenIn};
 ghost use Rattle.cip_tree.specs.Splitting.{IsSplitFault};
 ghost use Rattle.cip_tree.specs.Slots.{slot_at, open_slot};
 ghost use Rattle.cip_tree.specs.Entries.{entry_of, entries_of};
@@ -189,9 +189,10 @@ impl Tree {
         })
     }
 
-    /// How many nodes are open, those in work aside.
+    /// How many nodes are open, those in work aside. Each of them is open in the log.
     pub fn open_count(&self) -> usize
-        ensures { result ≡ length self.now.open_ }
+        ensures count { result ≡ length self.now.open_ }
+        ensures logged { All (IsOpenIn self.now.root self.now.log) self.now.open_ }
     {
         self.queue.len()
     }
