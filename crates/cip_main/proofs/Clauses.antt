@@ -4,7 +4,7 @@ use Rattle.std.proofs.Common.{sym, ap, ◌∙◌, subst, inl, inr, arith}
 use Rattle.cip_io.specs.Faults.{Rose}
 use Rattle.cip_problem.specs.Program.{Program}
 use Rattle.cip_answers.specs.Headline.{IsSpent}
-use Rattle.cip_solve.proofs.BudgetsLaws.{budget_suffices}
+use Rattle.cip_thin_search.proofs.BudgetsLaws.{budget_suffices}
 use Rattle.cip_problem.specs.Wholes.{assignments}
 use Rattle.cip_answers.specs.CommandLine.{Job, Solve}
 use Rattle.cip_answers.specs.Figures.{Status, Optimal, NodeLimit, NoMemory as LacksMemory, exit_status}

@@ -21,10 +21,10 @@ use Rattle.cip_model.specs.Verdicts.{verdict_of}
 use Rattle.cip_model.proofs.Meaning.Point.{verdict_on_feasible}
 use Rattle.cip_model.specs.declared.verdicts.Verdict.{Verdict}
 use Rattle.cip_model.specs.declared.verdicts.Verdict.TheVariants.{Feasible}
-use Rattle.cip_solve.specs.CanBound.{CanBound}
-use Rattle.cip_solve.specs.Right.{IsHeld, IsRight, Searched, HoldsAtMost}
-use Rattle.cip_solve.specs.Logs.{entries_of}
-use Rattle.cip_solve.specs.declared.logs.Log.{Log}
+use Rattle.cip_thin_search.specs.CanBound.{CanBound}
+use Rattle.cip_thin_search.specs.Right.{IsHeld, IsRight, Searched, HoldsAtMost}
+use Rattle.cip_thin_search.specs.Logs.{entries_of}
+use Rattle.cip_thin_search.specs.declared.logs.Log.{Log}
 use Rattle.cip_report.specs.declared.figures.Held.{Held}
 use Rattle.cip_report.specs.declared.figures.Answer.{Answer}
 use Rattle.cip_report.specs.declared.figures.Ended.TheVariants.{NoMemory}

@@ -16,7 +16,7 @@ use Rattle.cip_report.specs.declared.figures.Ended.TheVariants.{Optimal as Ended
 use Rattle.cip_report.specs.declared.figures.Held.{Held}
 use Rattle.cip_report.specs.declared.figures.Answer.{Answer}
 use Rattle.cip_report.specs.Answers.{status_of, printed_held, figures_of}
-use Rattle.cip_solve.specs.Right.{IsHeld, Agrees, SpendsBudget, IsRight}
+use Rattle.cip_thin_search.specs.Right.{IsHeld, Agrees, SpendsBudget, IsRight}
 
 back : {a b : ℚ} → negate a <ℚ negate b → b <ℚ a
 back {a} {b} h = subst (λ x. x <ℚ a) (negate_negate b) (subst (λ y. negate (negate b) <ℚ y) (negate_negate a) (negate_strict h))

@@ -6,8 +6,8 @@ use Rattle.cip_problem.specs.Log.{Entry}
 use Rattle.cip_answers.specs.Figures.{Status, NoMemory, Figures, exit_status, answer_text}
 use Rattle.cip_syntax.specs.ThinText.{IsThin}
 use Rattle.cip_answers.specs.Headline.{AreTrue}
-use Rattle.cip_solve.specs.declared.logs.Log.{Log}
-use Rattle.cip_solve.specs.Logs.{entries_of}
+use Rattle.cip_thin_search.specs.declared.logs.Log.{Log}
+use Rattle.cip_thin_search.specs.Logs.{entries_of}
 use Rattle.cip_main.specs.Saying.{Says}
 
 -- the node budget of a search

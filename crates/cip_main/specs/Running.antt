@@ -7,8 +7,8 @@ use Rattle.cip_problem.specs.Program.{Program}
 use Rattle.cip_problem.specs.Wholes.{assignments}
 use Rattle.cip_answers.specs.CommandLine.{Job, Solve}
 use Rattle.cip_syntax.specs.ThinText.{IsThin}
-use Rattle.cip_solve.specs.declared.logs.Log.{Log}
-use Rattle.cip_solve.specs.Logs.{entries_of}
+use Rattle.cip_thin_search.specs.declared.logs.Log.{Log}
+use Rattle.cip_thin_search.specs.Logs.{entries_of}
 use Rattle.cip_main.specs.declared.plain.Plain.{Plain}
 use Rattle.cip_main.specs.declared.plain.Plain.TheVariants.{Usage, ReadFault, Refused, NoMemory}
 use Rattle.cip_main.specs.Answering.{node_limit, Answers}

@@ -6,6 +6,6 @@ mod reader;
 mod running;
 mod words;
 
-pub use cip_solve::{End, Log, Logged};
+pub use cip_thin_search::{End, Log, Logged};
 pub use running::{run, say_no_memory, say_usage};
 pub use words::Words;

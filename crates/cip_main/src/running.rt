@@ -4,7 +4,7 @@ ghost use Rattle.cip_problem.specs.WellFormed.{columns};
 ghost use Rattle.cip_answers.specs.Figures.{usage_text, no_memory_text, answer_text, exit_status};
 ghost use Rattle.cip_report.specs.Answers.{figures_of};
 ghost use Rattle.cip_report.specs.declared.figures.Ended.TheVariants.{NoMemory};
-ghost use Rattle.cip_solve.specs.Right.{IsHeld, IsRight, Searched};
+ghost use Rattle.cip_thin_search.specs.Right.{IsHeld, IsRight, Searched};
 ghost use Rattle.cip_main.specs.Answering.{node_limit, HasThinText, Answers};
 ghost use Rattle.cip_answers.specs.CommandLine.{job_of};
 ghost use Rattle.cip_main.specs.Running.{Runs, call_of};
@@ -18,7 +18,7 @@ use cip_frac::Frac;
 use cip_io::{Failed, Sink, Store, push_all};
 use cip_model::{Program, Verdict};
 use cip_report::{Answer, Ended, Held, report};
-use cip_solve::{Log, root_bound, solve};
+use cip_thin_search::{Log, root_bound, solve};
 use std::alloc::{AllocError, Global};
 
 /// The nodes that a search may take.
