@@ -1,0 +1,15 @@
+use Rattle.cip_leaves.proofs.Tried.{leaf, outside, wide, narrow, no_row, cost, shifted, picked, spread}
+use Rattle.cip_leaves.proofs.examples.Goals as goal
+
+pub returns : goal.returns
+returns c = record {
+  leaf = leaf;
+  outside = outside;
+  wide = wide;
+  narrow = narrow;
+  no_row = no_row;
+  cost = cost;
+  shifted = shifted;
+  picked = picked;
+  spread = spread;
+}

@@ -1,0 +1,5 @@
+use Rattle.cip_leaves.proofs.Points.{own_leaf, feasible_leaf, only_leaf, whole_leaf}
+use Rattle.cip_leaves.proofs.points_have_leaves.Goals as goal
+
+pub returns : goal.returns
+returns c = record { own = own_leaf; feasible = feasible_leaf; only = only_leaf; whole = whole_leaf }

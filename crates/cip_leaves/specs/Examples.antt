@@ -1,0 +1,44 @@
+-- The definitions tried: minimise -x, where 10^37 x is at least 0 and x is whole from 0 to 18. 17 is the greatest value
+-- whose product is in the range.
+use Rattle.std.specs.Prelude.{◌≡◌, ◌^◌, ◌-◌, ℕ, pos, negsuc, true, false, List, [], ◌∷◌, None, Some}
+use Rattle.cip_rational.specs.Rational.{ℚ, integer, zeroℚ}
+use Rattle.cip_problem.specs.Program.{Program}
+use Rattle.cip_leaves.specs.Leaf.{at_wholes, IsLeaf}
+use Rattle.cip_leaves.specs.Wide.{InRow, InCost, IsWideAt, fixed_values, shift_overflows}
+
+-- 10^37 x is at least 0
+abbrev pub wide_program : Program
+wide_program = record {
+  column_names = (120 ∷ []) ∷ [];
+  row_names = (114 ∷ []) ∷ [];
+  rows =
+      record {
+        terms = record { column = 0; coefficient = integer (pos (10 ^ 37)) } ∷ [];
+        low = Some zeroℚ;
+        high = None;
+      } ∷ [];
+  costs = integer (negsuc 0) ∷ [];
+  constant = zeroℚ;
+  maximized = false;
+  integral = true ∷ [];
+  bounds = record { low = Some zeroℚ; high = Some (integer (pos 18)) } ∷ [];
+}
+
+-- the leaf of one value
+abbrev pub leaf_of : ℕ → List ℚ
+leaf_of n = integer (pos n) ∷ []
+
+pub record Examples : Type 0 where
+  pub leaf : IsLeaf wide_program (leaf_of 18)
+  pub outside : ¬ IsLeaf wide_program (leaf_of 19)
+  pub wide : IsWideAt wide_program (leaf_of 18) (InRow 0)
+  pub narrow : ¬ IsWideAt wide_program (leaf_of 17) (InRow 0)
+  pub no_row : ¬ IsWideAt wide_program (leaf_of 18) (InRow 1)
+  pub cost : ¬ IsWideAt wide_program (leaf_of 18) InCost
+  -- 2^126 less -2^126 is out of the range, though both are in it
+  pub shifted : shift_overflows (Some (integer (pos (2 ^ 126)))) (integer (negsuc (2 ^ 126 - 1))) ≡ true
+  -- of three columns the second is continuous
+  pub picked : at_wholes {X = ℕ} (true ∷ false ∷ true ∷ []) (1 ∷ 2 ∷ 3 ∷ []) ≡ 1 ∷ 3 ∷ []
+  pub spread :
+      fixed_values (true ∷ false ∷ true ∷ []) (integer (pos 1) ∷ integer (pos 3) ∷ [])
+      ≡ Some (integer (pos 1)) ∷ None ∷ Some (integer (pos 3)) ∷ []

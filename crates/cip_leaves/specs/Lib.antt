@@ -1,0 +1,5 @@
+pub mod Examples
+pub mod Leaf
+pub mod Searched
+pub mod Statements
+pub mod Wide
