@@ -1,9 +1,10 @@
 -- What the text of an answer tells.
 --     answer_text_injective      it determines the figures
 --     answer_text-usage, -read_fault, -no_memory, -refusal      it is none of the texts that have no figures
-use Rattle.std.specs.Prelude.{◌≡◌, ◌≢◌, ◌==◌, ◌||◌, ℕ, Bool, true, false, List, [], ◌∷◌, ◌++◌, length, Option, None, Some}
+use Rattle.std.specs.Prelude.{◌≡◌, ◌≢◌, ◌==◌, ◌||◌, ℕ, Bool, true, false, List, [], ◌∷◌, ◌++◌, length, Option, None, Some, IfSome}
 use Rattle.std.specs.List.{AllByRecursion}
-use Rattle.std.proofs.Common.{refl, sym, ap, ◌∙◌, arith, append_assoc}
+use Rattle.std.proofs.Common.{refl, sym, ap, ◌∙◌, arith, append_assoc, if◌then◌else◌, map, get_or}
+use Rattle.std.proofs.lemmas.List.{append_cancel_right, length-map}
 use Rattle.std.proofs.lemmas.List.Elements.{recursion_from_All}
 use Rattle.std.proofs.lemmas.Bool.{eqb-false, false≢true}
 use Rattle.std.specs.Str.{bytes_eq}
@@ -11,7 +12,7 @@ use lib.Chars.{codes}
 use Rattle.cip_rational.specs.Rational.{ℚ}
 use Rattle.cip_numerals.specs.NumberText.{fraction_text}
 use Rattle.cip_numerals.proofs.NumberText.{fraction_text_plain, fraction_text_injective, IsFractionByte}
-use Rattle.cip_answers.specs.Figures.{Status, Optimal, NodeLimit, NoMemory, Held, Figures, HaveValues, status_word, line, end_line, figure_text, point_lines, held_cost, held_lines, answer_text, usage_text, read_fault_text, no_memory_text, refusal_text}
+use Rattle.cip_answers.specs.Figures.{Overflow, AtRow, AtCost, Status, Optimal, Infeasible, NodeLimit, Wide, NoMemory, Held, Figures, Names, FitNames, status_word, line, end_line, figure_text, point_lines, held_cost, held_lines, cost_lines, leaf_name, leaf_lines, overflow_text, shown_lines, unless_infeasible, figure_lines, answer_text, usage_text, read_fault_text, no_memory_text, refusal_text}
 
 -- texts that the test tells apart
 pub apart : (text other : List ℕ) → bytes_eq text other ≡ false → bytes_eq other other ≡ true → text ≢ other
@@ -57,6 +58,7 @@ parted (x ∷ xs) (y ∷ ys) us vs p q e =
     let rest = parted xs ys us vs p.1 q.1 tail in
     (ap (λ byte. byte ∷ xs) head ∙ ap (λ bytes. y ∷ bytes) rest.0, rest.1)
 
+-- the same, cancelled
 cancelled : (word xs ys : List ℕ) → word ++ xs ≡ word ++ ys → xs ≡ ys
 cancelled [] xs ys e = e
 cancelled (byte ∷ word) xs ys e = cancelled word xs ys (cc)
@@ -102,71 +104,94 @@ figure_text_injective (Some figure) (Some other) e = ap (λ x. Some x) (fraction
 
 status_word-no_feed : (status : Status) → HasNoFeed (status_word status)
 status_word-no_feed Optimal = HasNoFeed-from_test (codes "optimal") refl
+status_word-no_feed Infeasible = HasNoFeed-from_test (codes "infeasible") refl
 status_word-no_feed NodeLimit = HasNoFeed-from_test (codes "nodelimit") refl
+status_word-no_feed (Wide leaf place) = HasNoFeed-from_test (codes "wide") refl
 status_word-no_feed NoMemory = HasNoFeed-from_test (codes "nomemory") refl
-
-status_word_injective : (status other : Status) → status_word status ≡ status_word other → status ≡ other
-status_word_injective Optimal Optimal e = refl
-status_word_injective Optimal NodeLimit e = absurd (apart (codes "optimal") (codes "nodelimit") refl refl e)
-status_word_injective Optimal NoMemory e = absurd (apart (codes "optimal") (codes "nomemory") refl refl e)
-status_word_injective NodeLimit Optimal e = absurd (apart (codes "nodelimit") (codes "optimal") refl refl e)
-status_word_injective NodeLimit NodeLimit e = refl
-status_word_injective NodeLimit NoMemory e = absurd (apart (codes "nodelimit") (codes "nomemory") refl refl e)
-status_word_injective NoMemory Optimal e = absurd (apart (codes "nomemory") (codes "optimal") refl refl e)
-status_word_injective NoMemory NodeLimit e = absurd (apart (codes "nomemory") (codes "nodelimit") refl refl e)
-status_word_injective NoMemory NoMemory e = refl
 
 -- ---- points
 
--- the lines of two points with one value for each name, with the same after them
-point_lines_injective :
-    (names : List (List ℕ)) (point other : List ℚ) (rest : List ℕ)
+-- the lines of two points with one value for each name, with more after them
+point_lines_parted :
+    (names : List (List ℕ)) (point other : List ℚ) (rest more : List ℕ)
     → length point ≡ length names → length other ≡ length names
-    → point_lines names point ++ rest ≡ point_lines names other ++ rest → point ≡ other
-point_lines_injective [] [] [] rest p q e = refl
-point_lines_injective [] (value ∷ point) other rest p q e = absurd (cc)
-point_lines_injective [] [] (value ∷ other) rest p q e = absurd (cc)
-point_lines_injective (name ∷ names) [] other rest p q e = absurd (cc)
-point_lines_injective (name ∷ names) (value ∷ point) [] rest p q e = absurd (cc)
-point_lines_injective (name ∷ names) (value ∷ point) (one ∷ other) rest p q e =
+    → point_lines names point ++ rest ≡ point_lines names other ++ more → (point ≡ other) × (rest ≡ more)
+point_lines_parted [] [] [] rest more p q e = (refl, e)
+point_lines_parted [] (value ∷ point) other rest more p q e = absurd (cc)
+point_lines_parted [] [] (value ∷ other) rest more p q e = absurd (cc)
+point_lines_parted (name ∷ names) [] other rest more p q e = absurd (cc)
+point_lines_parted (name ∷ names) (value ∷ point) [] rest more p q e = absurd (cc)
+point_lines_parted (name ∷ names) (value ∷ point) (one ∷ other) rest more p q e =
     let text = fraction_text value in
     let text' = fraction_text one in
     let left = append_assoc (line name text) (point_lines names point) rest in
-    let right = append_assoc (line name text') (point_lines names other) rest in
+    let right = append_assoc (line name text') (point_lines names other) more in
     let same = sym left ∙ e ∙ right in
     let parts = line_parted name text text' _ _ (fraction_text-no_feed value) (fraction_text-no_feed one) same in
-    ap (λ x. x ∷ point) (fraction_text_injective value one parts.0)
-    ∙ ap (λ xs. one ∷ xs) (point_lines_injective names point other rest (omega arith) (omega arith) parts.1)
+    let others = point_lines_parted names point other rest more (omega arith) (omega arith) parts.1 in (
+      ap (λ x. x ∷ point) (fraction_text_injective value one parts.0) ∙ ap (λ xs. one ∷ xs) others.0,
+      others.1,
+    )
 
 -- the cost tells whether there is a point
-held_injective :
-    (names : List (List ℕ)) (held other : Option Held) (rest : List ℕ) → HaveValues names held → HaveValues names other
-    → held_cost held ≡ held_cost other → held_lines names held ++ rest ≡ held_lines names other ++ rest → held ≡ other
-held_injective names None None rest p q cost e = refl
-held_injective names None (Some other) rest p q cost e = absurd (cc)
-held_injective names (Some held) None rest p q cost e = absurd (cc)
-held_injective names (Some held) (Some other) rest p q cost e =
+held_parted :
+    (names : List (List ℕ)) (held other : Option Held) (rest more : List ℕ)
+    → IfSome held (λ h. length h.point ≡ length names) → IfSome other (λ h. length h.point ≡ length names)
+    → held_cost held ≡ held_cost other → held_lines names held ++ rest ≡ held_lines names other ++ more
+    → (held ≡ other) × (rest ≡ more)
+held_parted names None None rest more p q cost e = (refl, e)
+held_parted names None (Some other) rest more p q cost e = absurd (cc)
+held_parted names (Some held) None rest more p q cost e = absurd (cc)
+held_parted names (Some held) (Some other) rest more p q cost e =
     let costs : held.cost ≡ other.cost = cc in
-    let points = point_lines_injective names held.point other.point rest p q e in
-    ap (λ x. Some (record { cost = x; point = held.point })) costs
-    ∙ ap (λ xs. Some (record { cost = other.cost; point = xs })) points
+    let points = point_lines_parted names held.point other.point rest more p q e in (
+      ap (λ x. Some (record { cost = x; point = held.point })) costs
+          ∙ ap (λ xs. Some (record { cost = other.cost; point = xs })) points.0,
+      points.1,
+    )
+
+-- ---- what is shown
+
+overflow_told : (place other : Overflow) → overflow_text place ++ 10 ∷ end_line ≡ overflow_text other ++ 10 ∷ end_line → place ≡ other
+overflow_told (AtRow name) (AtRow other) e =
+    ap AtRow (append_cancel_right name other (10 ∷ end_line) (cancelled (codes "row ") (name ++ 10 ∷ end_line) (other ++ 10 ∷ end_line) e))
+overflow_told (AtRow name) AtCost e = let byte : 114 ≡ 99 = ap (λ t. get_or t 0 0) e in absurd (omega (arith, byte))
+overflow_told AtCost (AtRow other) e = let byte : 99 ≡ 114 = ap (λ t. get_or t 0 0) e in absurd (omega (arith, byte))
+overflow_told AtCost AtCost e = refl
+
+overflow_parted : (place other : Overflow) → line (codes "overflow") (overflow_text place) ++ end_line ≡ line (codes "overflow") (overflow_text other) ++ end_line → place ≡ other
+overflow_parted place other e =
+    let same = sym (line_then (codes "overflow") (overflow_text place) end_line) ∙ e ∙ line_then (codes "overflow") (overflow_text other) end_line in
+    overflow_told place other (cancelled (codes "overflow ") (overflow_text place ++ 10 ∷ end_line) (overflow_text other ++ 10 ∷ end_line) same)
+
+-- a leaf with what overflows
+shown_parted :
+    (names : List (List ℕ)) (leaf leaf' : List ℚ) (place place' : Overflow)
+    → length leaf ≡ length names → length leaf' ≡ length names
+    → (leaf_lines names leaf ++ line (codes "overflow") (overflow_text place)) ++ end_line
+    ≡ (leaf_lines names leaf' ++ line (codes "overflow") (overflow_text place')) ++ end_line
+    → Wide leaf place ≡ Wide leaf' place'
+shown_parted names leaf leaf' place place' p q e =
+    let same = sym (append_assoc (leaf_lines names leaf) _ end_line) ∙ e ∙ append_assoc (leaf_lines names leaf') _ end_line in
+    let long = length-map names leaf_name in
+    let leaves = point_lines_parted (map leaf_name names) leaf leaf' _ _ (p ∙ sym long) (q ∙ sym long) same in
+    ap (λ l. Wide l place) leaves.0 ∙ ap (λ o. Wide leaf' o) (overflow_parted place place' leaves.1)
 
 -- ---- answers
 
 -- the text by its parts
 answer_parts :
-    (names : List (List ℕ)) (figures : Figures)
+    (names : Names) (figures : Figures)
     → answer_text names figures
-    ≡ line (codes "status") (status_word figures.status)
-    ++ (line (codes "cost") (figure_text (held_cost figures.held))
-    ++ (line (codes "bound") (figure_text figures.bound) ++ (held_lines names figures.held ++ end_line)))
+    ≡ line (codes "status") (status_word figures.status) ++ (figure_lines names figures ++ end_line)
 answer_parts names figures =
-    let status = line (codes "status") (status_word figures.status) in
-    let cost = line (codes "cost") (figure_text (held_cost figures.held)) in
-    let bound = line (codes "bound") (figure_text figures.bound) in
-    let lines = held_lines names figures.held in
-    append_assoc (status ++ cost ++ bound) lines end_line ∙ append_assoc (status ++ cost) bound (lines ++ end_line)
-    ∙ append_assoc status cost (bound ++ (lines ++ end_line))
+    append_assoc (line (codes "status") (status_word figures.status)) (figure_lines names figures) end_line
+
+-- the lines of figures by their parts, with the end
+figure_parts :
+    (cost bound held shown : List ℕ)
+    → (cost ++ bound ++ held ++ shown) ++ end_line ≡ cost ++ (bound ++ (held ++ (shown ++ end_line)))
+figure_parts cost bound held shown = simp append_assoc
 
 same_figures :
     (figures other : Figures) → figures.status ≡ other.status → figures.held ≡ other.held
@@ -176,65 +201,142 @@ same_figures figures other status held bound =
     ∙ ap (λ x. record { status = other.status; held = x; bound = figures.bound }) held
     ∙ ap (λ x. record { status = other.status; held = other.held; bound = x }) bound
 
+-- figures of one text have the points and bounds of another, and what is shown has one text
+record AreParted (figures other : Figures) (shown others : List ℕ) : Type 0 where
+  held : figures.held ≡ other.held
+  bound : figures.bound ≡ other.bound
+  after : shown ++ end_line ≡ others ++ end_line
+
+lines_parted :
+    (names : List (List ℕ)) (figures other : Figures) (shown others : List ℕ)
+    → IfSome figures.held (λ h. length h.point ≡ length names) → IfSome other.held (λ h. length h.point ≡ length names)
+    → (cost_lines figures ++ held_lines names figures.held ++ shown) ++ end_line
+    ≡ (cost_lines other ++ held_lines names other.held ++ others) ++ end_line → AreParted figures other shown others
+lines_parted names figures other shown others p q e =
+    let same =
+    sym (figure_parts (line (codes "cost") (figure_text (held_cost figures.held))) (line (codes "bound") (figure_text figures.bound)) (held_lines names figures.held) shown)
+    ∙ e
+    ∙ figure_parts (line (codes "cost") (figure_text (held_cost other.held))) (line (codes "bound") (figure_text other.bound)) (held_lines names other.held) others in
+    let figure = figure_text-no_feed (held_cost figures.held) in
+    let figure' = figure_text-no_feed (held_cost other.held) in
+    let cost = line_parted (codes "cost") _ _ _ _ figure figure' same in
+    let bound = line_parted (codes "bound") _ _ _ _ (figure_text-no_feed figures.bound) (figure_text-no_feed other.bound) cost.1 in
+    let held = held_parted names figures.held other.held _ _ p q (figure_text_injective _ _ cost.0) bound.1 in
+    record { held = held.0; bound = figure_text_injective figures.bound other.bound bound.0; after = held.1 }
+
+-- the number of a status, from its word
+word_kind : List ℕ → ℕ
+word_kind word =
+    if bytes_eq word (codes "optimal") then 0
+    else (if bytes_eq word (codes "infeasible") then 1
+    else (if bytes_eq word (codes "nodelimit") then 2 else (if bytes_eq word (codes "wide") then 3 else 4)))
+
+kind : Status → ℕ
+kind Optimal = 0
+kind Infeasible = 1
+kind NodeLimit = 2
+kind (Wide leaf place) = 3
+kind NoMemory = 4
+
+kind_of_word : (status : Status) → word_kind (status_word status) ≡ kind status
+unfolding word_kind kind
+kind_of_word Optimal = refl
+kind_of_word Infeasible = refl
+kind_of_word NodeLimit = refl
+kind_of_word (Wide leaf place) = refl
+kind_of_word NoMemory = refl
+
+same_kind : (status other : Status) → status_word status ≡ status_word other → kind status ≡ kind other
+same_kind status other e = sym (kind_of_word status) ∙ ap word_kind e ∙ kind_of_word other
+
+-- figures with these statuses and the same lines are the same
+module _ (names : Names) (held held' : Option Held) (bound bound' : Option ℚ) where
+  abbrev first : Status → Figures
+  first status = record { status = status; held = held; bound = bound }
+
+  abbrev second : Status → Figures
+  second status = record { status = status; held = held'; bound = bound' }
+
+  lines_alike : (status : Status) (shown : List ℕ) → FitNames names (first status) → FitNames names (second status) → (cost_lines (first status) ++ held_lines names.columns held ++ shown) ++ end_line ≡ (cost_lines (second status) ++ held_lines names.columns held' ++ shown) ++ end_line → first status ≡ second status
+  lines_alike status shown p q e =
+      let parts = lines_parted names.columns (first status) (second status) shown shown p.point q.point e in
+      same_figures (first status) (second status) refl parts.held parts.bound
+
+  alike : (status other : Status) → FitNames names (first status) → FitNames names (second other) → kind status ≡ kind other → figure_lines names (first status) ++ end_line ≡ figure_lines names (second other) ++ end_line → first status ≡ second other
+  unfolding kind
+  alike Optimal Optimal p q k e = lines_alike Optimal [] p q e
+  alike Infeasible Infeasible p q k e = same_figures (first Infeasible) (second Infeasible) refl (p.end_.0 ∙ sym q.end_.0) (p.end_.1 ∙ sym q.end_.1)
+  alike NodeLimit NodeLimit p q k e = lines_alike NodeLimit [] p q e
+  alike (Wide leaf place) (Wide leaf' place') p q k e =
+      let parts = lines_parted names.columns (first (Wide leaf place)) (second (Wide leaf' place')) _ _ p.point q.point e in
+      same_figures (first (Wide leaf place)) (second (Wide leaf' place')) (shown_parted names.wholes leaf leaf' place place' p.end_ q.end_ parts.after) parts.held parts.bound
+  alike NoMemory NoMemory p q k e = lines_alike NoMemory [] p q e
+  alike status other p q k e = absurd (omega (arith, k))
+
 pub answer_text_injective :
-    (names : List (List ℕ)) (figures other : Figures) → HaveValues names figures.held → HaveValues names other.held
+    (names : Names) (figures other : Figures) → FitNames names figures → FitNames names other
     → answer_text names figures ≡ answer_text names other → figures ≡ other
 answer_text_injective names figures other p q e =
     let same = sym (answer_parts names figures) ∙ e ∙ answer_parts names other in
-    let word = status_word-no_feed figures.status in
-    let word' = status_word-no_feed other.status in
-    let status = line_parted (codes "status") _ _ _ _ word word' same in
-    let figure = figure_text-no_feed (held_cost figures.held) in
-    let figure' = figure_text-no_feed (held_cost other.held) in
-    let cost = line_parted (codes "cost") _ _ _ _ figure figure' status.1 in
-    let least = figure_text-no_feed figures.bound in
-    let least' = figure_text-no_feed other.bound in
-    let bound = line_parted (codes "bound") _ _ _ _ least least' cost.1 in
-    same_figures figures other (status_word_injective figures.status other.status status.0)
-    (held_injective names figures.held other.held end_line p q (figure_text_injective _ _ cost.0) bound.1)
-    (figure_text_injective figures.bound other.bound bound.0)
+    let status = line_parted (codes "status") _ _ _ _ (status_word-no_feed figures.status) (status_word-no_feed other.status) same in
+    alike names figures.held other.held figures.bound other.bound figures.status other.status p q (same_kind figures.status other.status status.0) status.1
 
 -- ---- the texts that have no figures
 
--- an answer that begins with a line of status says that status, and goes on with the line of the cost
+-- an answer that begins with a line of status says that status, and goes on with the lines of its figures
 status_first :
-    (names : List (List ℕ)) (figures : Figures) (word rest : List ℕ) → has_feed word ≡ false
+    (names : Names) (figures : Figures) (word rest : List ℕ) → has_feed word ≡ false
     → answer_text names figures ≡ line (codes "status") word ++ rest
-    → (status_word figures.status ≡ word)
-    × (line (codes "cost") (figure_text (held_cost figures.held))
-    ++ (line (codes "bound") (figure_text figures.bound) ++ (held_lines names figures.held ++ end_line))
-    ≡ rest)
+    → (status_word figures.status ≡ word) × (figure_lines names figures ++ end_line ≡ rest)
 status_first names figures word rest test e =
     line_parted (codes "status") _ _ _ _ (status_word-no_feed figures.status) (HasNoFeed-from_test word test)
     (sym (answer_parts names figures) ∙ e)
 
 not_usage : (status : Status) → status_word status ≢ codes "usage"
 not_usage Optimal e = apart (codes "optimal") (codes "usage") refl refl e
+not_usage Infeasible e = apart (codes "infeasible") (codes "usage") refl refl e
 not_usage NodeLimit e = apart (codes "nodelimit") (codes "usage") refl refl e
+not_usage (Wide leaf place) e = apart (codes "wide") (codes "usage") refl refl e
 not_usage NoMemory e = apart (codes "nomemory") (codes "usage") refl refl e
 
 not_read_fault : (status : Status) → status_word status ≢ codes "readfault"
 not_read_fault Optimal e = apart (codes "optimal") (codes "readfault") refl refl e
+not_read_fault Infeasible e = apart (codes "infeasible") (codes "readfault") refl refl e
 not_read_fault NodeLimit e = apart (codes "nodelimit") (codes "readfault") refl refl e
+not_read_fault (Wide leaf place) e = apart (codes "wide") (codes "readfault") refl refl e
 not_read_fault NoMemory e = apart (codes "nomemory") (codes "readfault") refl refl e
 
 not_refused : (status : Status) → status_word status ≢ codes "refused"
 not_refused Optimal e = apart (codes "optimal") (codes "refused") refl refl e
+not_refused Infeasible e = apart (codes "infeasible") (codes "refused") refl refl e
 not_refused NodeLimit e = apart (codes "nodelimit") (codes "refused") refl refl e
+not_refused (Wide leaf place) e = apart (codes "wide") (codes "refused") refl refl e
 not_refused NoMemory e = apart (codes "nomemory") (codes "refused") refl refl e
 
-pub answer_text-usage : (names : List (List ℕ)) (figures : Figures) → answer_text names figures ≢ usage_text
+pub answer_text-usage : (names : Names) (figures : Figures) → answer_text names figures ≢ usage_text
 answer_text-usage names figures e =
     not_usage figures.status (status_first names figures (codes "usage") end_line refl e).0
 
-pub answer_text-read_fault : (names : List (List ℕ)) (figures : Figures) → answer_text names figures ≢ read_fault_text
+pub answer_text-read_fault : (names : Names) (figures : Figures) → answer_text names figures ≢ read_fault_text
 answer_text-read_fault names figures e =
     not_read_fault figures.status (status_first names figures (codes "readfault") end_line refl e).0
 
 -- it has a line of the cost
-pub answer_text-no_memory : (names : List (List ℕ)) (figures : Figures) → answer_text names figures ≢ no_memory_text
+no_memory_lines : (names : Names) (figures : Figures) (status : Status) → figures.status ≡ status → kind status ≡ 4 → figure_lines names figures ++ end_line ≢ end_line
+unfolding kind
+no_memory_lines names figures NoMemory s k e =
+    let lines = ap (λ t. unless_infeasible t (cost_lines figures ++ held_lines names.columns figures.held ++ shown_lines names t) ++ end_line) s in
+    let same = sym lines ∙ e in cc
+no_memory_lines names figures status s k e = absurd (omega (arith, k))
+
+kind_of_no_memory : kind NoMemory ≡ 4
+unfolding kind
+kind_of_no_memory = refl
+
+pub answer_text-no_memory : (names : Names) (figures : Figures) → answer_text names figures ≢ no_memory_text
 answer_text-no_memory names figures e =
-    let rest = (status_first names figures (codes "nomemory") end_line refl e).1 in cc
+    let first = status_first names figures (codes "nomemory") end_line refl e in
+    no_memory_lines names figures figures.status refl (same_kind figures.status NoMemory first.0 ∙ kind_of_no_memory) first.1
 
 refusal_parts :
     (text number kind : List ℕ)
@@ -250,7 +352,7 @@ refusal_parts text number kind =
     ∙ append_assoc status first (second ++ (third ++ end_line))
 
 pub answer_text-refusal :
-    (names : List (List ℕ)) (figures : Figures) (text number kind : List ℕ)
+    (names : Names) (figures : Figures) (text number kind : List ℕ)
     → answer_text names figures ≢ refusal_text text number kind
 answer_text-refusal names figures text number kind e =
     let first = status_first names figures (codes "refused") _ refl (e ∙ refusal_parts text number kind) in

@@ -8,7 +8,8 @@ use Rattle.cip_rational.specs.Gcd.{gcd}
 use Rattle.cip_rational.specs.Rational.{integer, ratio, numerator, denominator}
 use Rattle.cip_rational.proofs.Rational.Lowest.{numerator-integer, denominator-integer, numerator-ratio, denominator-ratio}
 use Rattle.cip_numerals.specs.NumberText.{integer_text, denominator_text, fraction_text}
-use Rattle.cip_answers.specs.Figures.{Optimal, NodeLimit, answer_text, usage_text, read_fault_text, no_memory_text, not_thin_text}
+use Rattle.cip_answers.specs.Figures.{Optimal, NodeLimit, Wide, AtRow, answer_text, usage_text, read_fault_text, no_memory_text, not_thin_text}
+use Rattle.cip_answers.specs.Statements.{same_names}
 use Rattle.cip_answers.proofs.AnswerTexts.{apart}
 
 -- the text of a whole number
@@ -34,7 +35,7 @@ half_figure =
     ∙ ap (λ d. integer_text (negsuc 0) ++ denominator_text d) half_denominator
 
 pub optimal :
-    answer_text (codes "a" ∷ codes "b" ∷ codes "c" ∷ []) (record {
+    answer_text (same_names (codes "a" ∷ codes "b" ∷ codes "c" ∷ [])) (record {
       status = Optimal;
       held = Some (record {
         cost = integer (pos 13);
@@ -46,18 +47,27 @@ pub optimal :
 optimal = simp integer_figure
 
 pub no_point :
-    answer_text (codes "a" ∷ []) (record { status = NodeLimit; held = None; bound = Some (integer (pos 3)) })
+    answer_text (same_names (codes "a" ∷ [])) (record { status = NodeLimit; held = None; bound = Some (integer (pos 3)) })
     ≡ codes "status nodelimit\ncost none\nbound 3\nend\n"
 no_point = simp integer_figure
 
 pub negative_ratio :
-    answer_text (codes "x" ∷ []) (record {
+    answer_text (same_names (codes "x" ∷ [])) (record {
       status = Optimal;
       held = Some (record { cost = integer (negsuc 6); point = ratio (negsuc 1) 4 ∷ [] });
       bound = None;
     })
     ≡ codes "status optimal\ncost -7\nbound none\nx -1/2\nend\n"
 negative_ratio = simp (integer_figure, half_figure)
+
+pub wide :
+    answer_text (same_names (codes "x" ∷ [])) (record {
+      status = Wide (integer (pos 18) ∷ []) (AtRow (codes "R1"));
+      held = Some (record { cost = integer (negsuc 16); point = integer (pos 17) ∷ [] });
+      bound = Some (integer (negsuc 17));
+    })
+    ≡ codes "status wide\ncost -17\nbound -18\nx 17\nleaf x 18\noverflow row R1\nend\n"
+wide = simp integer_figure
 
 after_usage : All (λ other. usage_text ≢ other) (read_fault_text ∷ no_memory_text ∷ not_thin_text ∷ [])
 after_usage =

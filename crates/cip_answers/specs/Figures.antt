@@ -1,13 +1,22 @@
 -- The figures of an answer to `solve`, and its text.
 use lib.Chars.{codes}
-use Rattle.std.specs.Prelude.{◌≡◌, length, IfSome, ℕ, List, [], ◌∷◌, ◌++◌, Option, None, Some}
+use Rattle.std.specs.Prelude.{◌≡◌, length, map, IfSome, ℕ, List, [], ◌∷◌, ◌++◌, Option, None, Some, ⊤}
 use Rattle.cip_rational.specs.Rational.{ℚ}
 use Rattle.cip_numerals.specs.NumberText.{fraction_text}
+use Rattle.cip_problem.specs.Program.{Program}
+use Rattle.cip_leaves.specs.Leaf.{at_wholes}
 
--- how a search ended
+-- where a sum of a leaf overflows: in the row of this name, or in the cost
+pub data Overflow : Type 0 where
+  AtRow : (name : List ℕ) → Overflow
+  AtCost : Overflow
+
+-- how a search ended; where a leaf is wide it is shown, with the place that overflows
 pub data Status : Type 0 where
   Optimal : Status
+  Infeasible : Status
   NodeLimit : Status
+  Wide : (leaf : List ℚ) (place : Overflow) → Status
   NoMemory : Status
 
 -- a point with its cost: one is printed exactly where the other is
@@ -24,13 +33,17 @@ pub record Figures : Type 0 where
 -- the printed word
 abbrev pub status_word : Status → List ℕ
 status_word Optimal = codes "optimal"
+status_word Infeasible = codes "infeasible"
 status_word NodeLimit = codes "nodelimit"
+status_word (Wide leaf place) = codes "wide"
 status_word NoMemory = codes "nomemory"
 
 -- the exit status
 abbrev pub exit_status : Status → ℕ
 exit_status Optimal = 0
+exit_status Infeasible = 0
 exit_status NodeLimit = 10
+exit_status (Wide leaf place) = 11
 exit_status NoMemory = 6
 
 -- a word, a blank, a figure, and a line feed
@@ -57,26 +70,80 @@ abbrev pub held_cost : Option Held → Option ℚ
 held_cost None = None
 held_cost (Some held) = Some held.cost
 
--- the lines of status, cost and bound
-abbrev pub head_text : Figures → List ℕ
-head_text figures =
-    line (codes "status") (status_word figures.status)
-    ++ line (codes "cost") (figure_text (held_cost figures.held))
-    ++ line (codes "bound") (figure_text figures.bound)
+-- the lines of cost and bound
+abbrev pub cost_lines : Figures → List ℕ
+cost_lines figures =
+    line (codes "cost") (figure_text (held_cost figures.held)) ++ line (codes "bound") (figure_text figures.bound)
 
 -- the lines of the point, if there is one
 abbrev pub held_lines : List (List ℕ) → Option Held → List ℕ
 held_lines names None = []
 held_lines names (Some held) = point_lines names held.point
 
--- the point, if there is one, has a value for each name
-abbrev pub HaveValues : List (List ℕ) → Option Held → Type 0
-HaveValues names held = IfSome held (λ held. length held.point ≡ length names)
+-- the names that an answer is printed with: those of the columns, and those of the whole columns among them
+pub record Names : Type 0 where
+  pub columns : List (List ℕ)
+  pub wholes : List (List ℕ)
 
--- the text of an answer, for a program whose columns have these names
-abbrev pub answer_text : List (List ℕ) → Figures → List ℕ
+abbrev pub names_of : Program → Names
+names_of program = record {
+  columns = program.column_names;
+  wholes = at_wholes program.integral program.column_names;
+}
+
+-- `leaf` before a name
+abbrev pub leaf_name : List ℕ → List ℕ
+leaf_name name = codes "leaf " ++ name
+
+-- a line for each whole column: its name and its value in a leaf
+abbrev pub leaf_lines : List (List ℕ) → List ℚ → List ℕ
+leaf_lines names leaf = point_lines (map leaf_name names) leaf
+
+-- what overflows
+abbrev pub overflow_text : Overflow → List ℕ
+overflow_text (AtRow name) = codes "row " ++ name
+overflow_text AtCost = codes "cost"
+
+-- the lines of the leaf that is shown, if there is one
+abbrev pub shown_lines : Names → Status → List ℕ
+shown_lines names Optimal = []
+shown_lines names Infeasible = []
+shown_lines names NodeLimit = []
+shown_lines names (Wide leaf place) = leaf_lines names.wholes leaf ++ line (codes "overflow") (overflow_text place)
+shown_lines names NoMemory = []
+
+-- after infeasible there are no more figures
+abbrev pub unless_infeasible : Status → List ℕ → List ℕ
+unless_infeasible Optimal text = text
+unless_infeasible Infeasible text = []
+unless_infeasible NodeLimit text = text
+unless_infeasible (Wide leaf place) text = text
+unless_infeasible NoMemory text = text
+
+-- the lines between status and end
+abbrev pub figure_lines : Names → Figures → List ℕ
+figure_lines names figures =
+    unless_infeasible figures.status
+    (cost_lines figures ++ held_lines names.columns figures.held ++ shown_lines names figures.status)
+
+-- the leaf that is shown, if there is one, has a value for each whole column; after infeasible there is neither a point
+-- nor a bound
+abbrev pub EndFits : Names → Figures → Status → Type 0
+EndFits names figures Optimal = ⊤
+EndFits names figures Infeasible = (figures.held ≡ None) × (figures.bound ≡ None)
+EndFits names figures NodeLimit = ⊤
+EndFits names figures (Wide leaf place) = length leaf ≡ length names.wholes
+EndFits names figures NoMemory = ⊤
+
+-- figures fit the names: the point, if there is one, has a value for each column, and the end fits
+pub record FitNames (names : Names) (figures : Figures) : Type 0 where
+  pub point : IfSome figures.held (λ held. length held.point ≡ length names.columns)
+  pub end_ : EndFits names figures figures.status
+
+-- the text of an answer, for a program with these names
+abbrev pub answer_text : Names → Figures → List ℕ
 answer_text names figures =
-    head_text figures ++ held_lines names figures.held ++ end_line
+    line (codes "status") (status_word figures.status) ++ figure_lines names figures ++ end_line
 
 -- the texts that have no figures
 abbrev pub usage_text : List ℕ

@@ -3,31 +3,35 @@
 use lib.Chars.{codes}
 use Rattle.std.specs.Prelude.{◌≡◌, ◌≢◌, ℕ, pos, negsuc, List, [], ◌∷◌, AllPairs, None, Some}
 use Rattle.cip_rational.specs.Rational.{integer, ratio}
-use Rattle.cip_answers.specs.Figures.{Optimal, NodeLimit, Figures, HaveValues, answer_text, usage_text, read_fault_text, no_memory_text, refusal_text, not_thin_text}
+use Rattle.cip_answers.specs.Figures.{Optimal, NodeLimit, Figures, FitNames, Names, Infeasible, Wide, AtRow, answer_text, usage_text, read_fault_text, no_memory_text, refusal_text, not_thin_text}
 use Rattle.cip_answers.specs.CommandLine.{Solve, job_of}
 
 -- two figures with one text, for one list of names, are the same
 abbrev pub AnswerTellsFigures : Type 0
 AnswerTellsFigures =
-    (names : List (List ℕ)) (figures other : Figures)
-    → HaveValues names figures.held → HaveValues names other.held
+    (names : Names) (figures other : Figures)
+    → FitNames names figures → FitNames names other
     → answer_text names figures ≡ answer_text names other → figures ≡ other
 
 -- the texts without figures are no answers, and differ from each other
 pub record FixedTextsStandApart : Type 0 where
-  pub usage : (names : List (List ℕ)) (figures : Figures) → answer_text names figures ≢ usage_text
-  pub read_fault : (names : List (List ℕ)) (figures : Figures) → answer_text names figures ≢ read_fault_text
-  pub no_memory : (names : List (List ℕ)) (figures : Figures) → answer_text names figures ≢ no_memory_text
+  pub usage : (names : Names) (figures : Figures) → answer_text names figures ≢ usage_text
+  pub read_fault : (names : Names) (figures : Figures) → answer_text names figures ≢ read_fault_text
+  pub no_memory : (names : Names) (figures : Figures) → answer_text names figures ≢ no_memory_text
   pub refusal :
-      (names : List (List ℕ)) (figures : Figures) (text number kind : List ℕ)
+      (names : Names) (figures : Figures) (text number kind : List ℕ)
       → answer_text names figures ≢ refusal_text text number kind
   pub differ :
       AllPairs (λ text other. text ≢ other) (usage_text ∷ read_fault_text ∷ no_memory_text ∷ not_thin_text ∷ [])
 
+-- the names of columns that are all whole
+abbrev pub same_names : List (List ℕ) → Names
+same_names names = record { columns = names; wholes = names }
+
 -- the definitions at values
 pub record Examples : Type 0 where
   pub optimal :
-      answer_text (codes "a" ∷ codes "b" ∷ codes "c" ∷ []) (record {
+      answer_text (same_names (codes "a" ∷ codes "b" ∷ codes "c" ∷ [])) (record {
         status = Optimal;
         held = Some (record {
           cost = integer (pos 13);
@@ -37,15 +41,25 @@ pub record Examples : Type 0 where
       })
       ≡ codes "status optimal\ncost 13\nbound 13\na 2\nb 0\nc 1\nend\n"
   pub no_point :
-      answer_text (codes "a" ∷ []) (record { status = NodeLimit; held = None; bound = Some (integer (pos 3)) })
+      answer_text (same_names (codes "a" ∷ [])) (record { status = NodeLimit; held = None; bound = Some (integer (pos 3)) })
       ≡ codes "status nodelimit\ncost none\nbound 3\nend\n"
   pub negative_ratio :
-      answer_text (codes "x" ∷ []) (record {
+      answer_text (same_names (codes "x" ∷ [])) (record {
         status = Optimal;
         held = Some (record { cost = integer (negsuc 6); point = ratio (negsuc 1) 4 ∷ [] });
         bound = None;
       })
       ≡ codes "status optimal\ncost -7\nbound none\nx -1/2\nend\n"
+  pub infeasible :
+      answer_text (same_names (codes "a" ∷ [])) (record { status = Infeasible; held = None; bound = None })
+      ≡ codes "status infeasible\nend\n"
+  pub wide :
+      answer_text (same_names (codes "x" ∷ [])) (record {
+        status = Wide (integer (pos 18) ∷ []) (AtRow (codes "R1"));
+        held = Some (record { cost = integer (negsuc 16); point = integer (pos 17) ∷ [] });
+        bound = Some (integer (negsuc 17));
+      })
+      ≡ codes "status wide\ncost -17\nbound -18\nx 17\nleaf x 18\noverflow row R1\nend\n"
   pub usage : usage_text ≡ codes "status usage\nend\n"
   pub not_thin : not_thin_text ≡ codes "status refused\ntext model\nline 1\nkind 21 OutOfProfile\nend\n"
   pub solve : job_of (codes "solve" ∷ codes "m" ∷ []) ≡ Some (Solve (codes "m"))

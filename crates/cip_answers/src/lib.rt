@@ -5,8 +5,9 @@
 
 ghost use Rattle.cip_answers.specs.Statements.{AnswerTellsFigures, FixedTextsStandApart, Examples};
 
-/// The text of an answer tells its figures: two figures that have one text, for one list of names, are the same, where
-/// the point of each, if there is one, has a value for each name.
+/// The text of an answer tells its figures: two figures that have one text, for the same names, are the same, where
+/// the point of each has a value for each column, the leaf one for each whole column, and after infeasible there is
+/// neither a point nor a bound.
 pub fn answer_tells_figures()
     ensures { AnswerTellsFigures }
 {}
@@ -17,7 +18,7 @@ pub fn fixed_texts_stand_apart()
     ensures { FixedTextsStandApart }
 {}
 
-/// Three answers, bad usage and a text that is not thin have these texts, and of six lists of words only `solve` with
+/// Five answers, bad usage and a text that is not thin have these texts, and of six lists of words only `solve` with
 /// one name that is no option asks for a job.
 pub fn examples()
     ensures { Examples }

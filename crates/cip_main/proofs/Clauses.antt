@@ -7,7 +7,7 @@ use Rattle.cip_answers.specs.Headline.{IsSpent}
 use Rattle.cip_thin_search.proofs.BudgetsLaws.{budget_suffices}
 use Rattle.cip_problem.specs.Wholes.{assignments}
 use Rattle.cip_answers.specs.CommandLine.{Job, Solve}
-use Rattle.cip_answers.specs.Figures.{Status, Optimal, NodeLimit, NoMemory as LacksMemory, exit_status}
+use Rattle.cip_answers.specs.Figures.{Status, Optimal, Infeasible, NodeLimit, Wide, NoMemory as LacksMemory, exit_status}
 use Rattle.cip_syntax.specs.ThinText.{IsThin}
 use Rattle.cip_syntax.proofs.ThinText.Parts.{one_program}
 use Rattle.cip_main.specs.declared.plain.Plain.{Plain}
@@ -15,6 +15,7 @@ use Rattle.cip_main.specs.declared.plain.Plain.TheVariants.{Usage, ReadFault, Re
 use Rattle.cip_main.specs.Answering.{node_limit, IsLogged}
 use Rattle.cip_main.specs.Plain.{plain_status}
 use Rattle.cip_main.specs.Pulling.{IsAllPulled}
+use Rattle.cip_main.specs.Answering.{IsThinEnd}
 use Rattle.cip_main.specs.Running.{Call, IsStoreSound, IsSinkSound, IsUsage, IsReadFault, IsRefused, IsNoMemory, IsUnread, IsAnswered, Ran, refuses_words, gives_plain, gives_figures, IsStatus, optimal, usage, read_fault, refused, write_fault, no_memory, spent, TellsTruth, Headline, UsageClause, ReadFaultClause, RefusedClause, WriteFaultClause, SpentLog, NodeLimitClause, MemoryClause, Runs, Asks}
 use Rattle.cip_main.specs.Saying.{Says}
 use Rattle.cip_main.proofs.PlainAnswers.{own_status, not_zero, not_five, not_ten, figures_plain}
@@ -47,7 +48,9 @@ own_answer call status n s e not_5 = elim s.either [ inl h ↦ sym h.0 ∙ e | i
 
 figures_not_five : (status : Status) → ¬ (exit_status status ≡ 5)
 figures_not_five Optimal h = omega (arith, h)
+figures_not_five Infeasible h = omega (arith, h)
 figures_not_five NodeLimit h = omega (arith, h)
+figures_not_five (Wide leaf place) h = omega (arith, h)
 figures_not_five LacksMemory h = omega (arith, h)
 
 status_of : (call : Call) (status : ℕ) → IsStatus status → StatusIs call status → IsStatus call.status
@@ -59,15 +62,17 @@ plain_is ReadFault = read_fault
 plain_is Refused = refused
 plain_is NoMemory = no_memory
 
-exit_is : (status : Status) → IsStatus (exit_status status)
-exit_is Optimal = optimal
-exit_is NodeLimit = spent
-exit_is LacksMemory = no_memory
+exit_is : (status : Status) → IsThinEnd status → IsStatus (exit_status status)
+exit_is Optimal h = optimal
+exit_is Infeasible h = absurd h
+exit_is NodeLimit h = spent
+exit_is (Wide leaf place) h = absurd h
+exit_is LacksMemory h = no_memory
 
 pub statuses : (call : Call) → Ran call → IsStatus call.status
 statuses call (refuses_words u) = status_of call _ usage (said_usage call u)
 statuses call (gives_plain model job answer m) = status_of call _ (plain_is answer) (said_plain call _ answer m)
-statuses call (gives_figures model job a) = status_of call _ (exit_is a.answers.figures.status) (said_figures call _ a)
+statuses call (gives_figures model job a) = status_of call _ (exit_is a.answers.figures.status a.answers.ended) (said_figures call _ a)
 
 -- ---- what a call does that has the status of an answer without figures
 
@@ -193,7 +198,9 @@ write_fault_clause call (gives_figures model job a) = write_fault_of call _ (sai
 
 is_spent : (status : Status) → exit_status status ≡ 10 → status ≡ NodeLimit
 is_spent Optimal h = absurd (omega (arith, h))
+is_spent Infeasible h = absurd (omega (arith, h))
 is_spent NodeLimit h = refl
+is_spent (Wide leaf place) h = absurd (omega (arith, h))
 is_spent LacksMemory h = absurd (omega (arith, h))
 
 not_spent : NodeLimit ≡ LacksMemory → ⊥

@@ -1,7 +1,7 @@
 -- Each answer without figures has its own status, and no answer with figures has it, but for want of memory.
 use Rattle.std.specs.Prelude.{◌≡◌, ◌==◌, ℕ, Option, None, Some, refl, if◌then◌else◌}
 use Rattle.std.proofs.Common.{sym, ap, ◌∙◌}
-use Rattle.cip_answers.specs.Figures.{Status, Optimal, NodeLimit, NoMemory as LacksMemory, exit_status}
+use Rattle.cip_answers.specs.Figures.{Status, Optimal, Infeasible, Wide, NodeLimit, NoMemory as LacksMemory, exit_status}
 use Rattle.cip_main.specs.declared.plain.Plain.{Plain}
 use Rattle.cip_main.specs.declared.plain.Plain.TheVariants.{Usage, ReadFault, Refused, NoMemory}
 use Rattle.cip_main.specs.Plain.{plain_status}
@@ -39,8 +39,13 @@ not_five answer = not_plain answer 5 refl
 pub not_ten : (answer : Plain) → ¬ (plain_status answer ≡ 10)
 not_ten answer = not_plain answer 10 refl
 
+not_eleven : (answer : Plain) → ¬ (plain_status answer ≡ 11)
+not_eleven answer = not_plain answer 11 refl
+
 -- figures with the status of an answer without figures
 pub figures_plain : (status : Status) (answer : Plain) → exit_status status ≡ plain_status answer → answer ≡ NoMemory
 figures_plain Optimal answer e = absurd (not_zero answer (sym e))
+figures_plain Infeasible answer e = absurd (not_zero answer (sym e))
+figures_plain (Wide leaf place) answer e = absurd (not_eleven answer (sym e))
 figures_plain NodeLimit answer e = absurd (not_ten answer (sym e))
 figures_plain LacksMemory answer e = own_status answer NoMemory (sym e)

@@ -21,16 +21,18 @@ use Rattle.cip_model.specs.Verdicts.{verdict_of}
 use Rattle.cip_model.proofs.Meaning.Point.{verdict_on_feasible}
 use Rattle.cip_model.specs.declared.verdicts.Verdict.{Verdict}
 use Rattle.cip_model.specs.declared.verdicts.Verdict.TheVariants.{Feasible}
+use Rattle.cip_problem.specs.Log.{Entry}
 use Rattle.cip_thin_search.specs.CanBound.{CanBound}
-use Rattle.cip_thin_search.specs.Right.{IsHeld, IsRight, Searched, HoldsAtMost}
+use Rattle.cip_thin_search.specs.Right.{IsHeld, IsPlainEnd, IsRight, Searched, HoldsAtMost}
 use Rattle.cip_thin_search.specs.Logs.{entries_of}
 use Rattle.cip_thin_search.specs.declared.logs.Log.{Log}
 use Rattle.cip_report.specs.declared.figures.Held.{Held}
 use Rattle.cip_report.specs.declared.figures.Answer.{Answer}
-use Rattle.cip_report.specs.declared.figures.Ended.TheVariants.{NoMemory}
-use Rattle.cip_report.specs.Answers.{status_of, printed_held, figures_of}
-use Rattle.cip_answers.specs.Figures.{answer_text, exit_status}
-use Rattle.cip_main.specs.Answering.{node_limit, HasThinText, Answers}
+use Rattle.cip_report.specs.declared.figures.Ended.{Ended}
+use Rattle.cip_report.specs.declared.figures.Ended.TheVariants.{Optimal, Infeasible, NodeLimit, Wide, NoMemory}
+use Rattle.cip_report.specs.Answers.{status_of, EndedFits, AnswerFits, printed_held, figures_of}
+use Rattle.cip_answers.specs.Figures.{names_of, answer_text, exit_status}
+use Rattle.cip_main.specs.Answering.{node_limit, HasThinText, IsThinEnd, Answers}
 use Rattle.cip_main.specs.Pulling.{IsRead}
 use Rattle.cip_main.specs.Saying.{Says}
 use Rattle.cip_main.proofs.TrueFigures.{are_true}
@@ -88,6 +90,7 @@ no_point_right program h bound e = record {
   spent = λ n. absurd (cc);
   unspent = λ n. absurd (cc);
   logged = tt;
+  plain = tt;
 }
 
 none_held : (program : Program) (held : Option Held) → option_map (printed_held program) held ≡ None → held ≡ None
@@ -101,13 +104,21 @@ some_held cost answer h e = no_some (sym h.is_best ∙ e)
     no_some : {held : Held} → Some held ≡ None → ⊥
     no_some e = cc
 
+thin_end : (rows : List (List ℕ)) (ended : Ended) → IsPlainEnd ended → IsThinEnd (status_of rows ended)
+thin_end rows Optimal h = tt
+thin_end rows Infeasible h = absurd h
+thin_end rows NodeLimit h = tt
+thin_end rows (Wide leaf shown) h = absurd h
+thin_end rows NoMemory h = tt
+
 -- what a search has answered has its figures told
-pub answers_of : (program : Program) (old new : List Log) (answer : Answer) (sink sink_after : SinkTells) (result : ℕ) → Searched program node_limit old new answer → Says sink sink_after (answer_text program.column_names (figures_of program answer)) (exit_status (figures_of program answer).status) result → (answer.best ≡ None → new ≡ old) → Answers program sink sink_after old new result
+pub answers_of : (program : Program) (old new : List Log) (answer : Answer) (sink sink_after : SinkTells) (result : ℕ) → Searched program node_limit old new answer → Says sink sink_after (answer_text (names_of program) (figures_of program answer)) (exit_status (figures_of program answer).status) result → (answer.best ≡ None → new ≡ old) → Answers program sink sink_after old new result
 answers_of program old new answer sink sink_after result (inl s) told p = record {
   figures = figures_of program answer;
   entries = entries_of s.0;
   are_true = are_true program node_limit (entries_of s.0) answer s.2;
   told = told;
+  ended = thin_end program.row_names answer.ended s.2.plain;
   logged = inl (s.0, s.1, refl);
   point = λ e. p (none_held program answer.best e);
 }
@@ -116,14 +127,25 @@ answers_of program old new answer sink sink_after result (inr s) told p = record
   entries = [];
   are_true = are_true program node_limit [] answer s.2;
   told = told;
-  logged = inr (s.0, refl, ap status_of s.1);
+  ended = thin_end program.row_names answer.ended s.2.plain;
+  logged = inr (s.0, refl, ap (status_of program.row_names) s.1);
   point = λ e. p (none_held program answer.best e);
 }
 
--- the point of an answer has a value for each column
-pub answer_fits : (program : Program) (old new : List Log) (answer : Answer) → HasThinText program → Searched program node_limit old new answer → IfSome answer.best (λ h. length h.point.items ≡ columns program)
-answer_fits program old new answer t (inl s) = held_fits program t answer.best s.2.best
-answer_fits program old new answer t (inr s) = held_fits program t answer.best s.2.best
+-- an answer of a search fits the program
+ended_fits : (program : Program) (ended : Ended) → IsPlainEnd ended → EndedFits program ended
+ended_fits program Optimal h = tt
+ended_fits program Infeasible h = absurd h
+ended_fits program NodeLimit h = tt
+ended_fits program (Wide leaf shown) h = absurd h
+ended_fits program NoMemory h = tt
+
+right_fits : (program : Program) (log : List Entry) (answer : Answer) → HasThinText program → IsRight program node_limit log answer → AnswerFits program answer
+right_fits program log answer t r = record { point = held_fits program t answer.best r.best; ended = ended_fits program answer.ended r.plain }
+
+pub answer_fits : (program : Program) (old new : List Log) (answer : Answer) → HasThinText program → Searched program node_limit old new answer → AnswerFits program answer
+answer_fits program old new answer t (inl s) = right_fits program (entries_of s.0) answer t s.2
+answer_fits program old new answer t (inr s) = right_fits program [] answer t s.2
 
 -- the text that was read is the one that the store tells
 pub thin_told : (text : Option (List ℕ)) (program : Program) → IsRead text program → IfSome text (λ bytes. IsThin bytes program)

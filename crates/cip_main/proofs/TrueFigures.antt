@@ -12,7 +12,7 @@ use Rattle.cip_problem.specs.Log.{Entry, HasOpenNode}
 use Rattle.cip_answers.specs.Figures.{Optimal, NodeLimit}
 use Rattle.cip_answers.specs.Headline.{IsBetter, IsTruePoint, IsTrueBound, IsAtMostBox, Agree, IsSpent as IsPrintedSpent, AreTrue}
 use Rattle.cip_report.specs.declared.figures.Ended.{Ended}
-use Rattle.cip_report.specs.declared.figures.Ended.TheVariants.{Optimal as EndedOptimal, NodeLimit as EndedNodeLimit, NoMemory as EndedNoMemory}
+use Rattle.cip_report.specs.declared.figures.Ended.TheVariants.{Optimal as EndedOptimal, Infeasible as EndedInfeasible, Wide as EndedWide, NodeLimit as EndedNodeLimit, NoMemory as EndedNoMemory}
 use Rattle.cip_report.specs.declared.figures.Held.{Held}
 use Rattle.cip_report.specs.declared.figures.Answer.{Answer}
 use Rattle.cip_report.specs.Answers.{status_of, printed_held, figures_of}
@@ -46,15 +46,19 @@ none_before : (program : Program) (bound : Option ℚ) → option_map (printed p
 none_before program None e = refl
 none_before program (Some b) e = absurd (cc)
 
-is_optimal : (ended : Ended) → status_of ended ≡ Optimal → ended ≡ EndedOptimal
-is_optimal EndedOptimal e = refl
-is_optimal EndedNodeLimit e = absurd (cc)
-is_optimal EndedNoMemory e = absurd (cc)
+is_optimal : (rows : List (List ℕ)) (ended : Ended) → status_of rows ended ≡ Optimal → ended ≡ EndedOptimal
+is_optimal rows EndedOptimal e = refl
+is_optimal rows EndedInfeasible e = absurd (cc)
+is_optimal rows EndedNodeLimit e = absurd (cc)
+is_optimal rows (EndedWide leaf shown) e = absurd (cc)
+is_optimal rows EndedNoMemory e = absurd (cc)
 
-is_limit : (ended : Ended) → status_of ended ≡ NodeLimit → ended ≡ EndedNodeLimit
-is_limit EndedOptimal e = absurd (cc)
-is_limit EndedNodeLimit e = refl
-is_limit EndedNoMemory e = absurd (cc)
+is_limit : (rows : List (List ℕ)) (ended : Ended) → status_of rows ended ≡ NodeLimit → ended ≡ EndedNodeLimit
+is_limit rows EndedOptimal e = absurd (cc)
+is_limit rows EndedInfeasible e = absurd (cc)
+is_limit rows EndedNodeLimit e = refl
+is_limit rows (EndedWide leaf shown) e = absurd (cc)
+is_limit rows EndedNoMemory e = absurd (cc)
 
 agree : (program : Program) (answer : Answer) → Agrees answer → Agree (figures_of program answer)
 agree program answer a = record {
@@ -81,8 +85,8 @@ are_true program node_limit log answer r = record {
   bound = true_bound program answer.bound r.bound;
   at_most_box = at_most_box program answer.bound r.box;
   no_bound = λ e. r.none (none_before program answer.bound e);
-  agree = λ e. agree program answer (r.agree (is_optimal answer.ended e));
-  spent = λ e. spent program node_limit log answer r.best (r.spent (is_limit answer.ended e));
-  unspent = λ e s. r.unspent (is_optimal answer.ended e) (unspent program node_limit log answer r.best s);
+  agree = λ e. agree program answer (r.agree (is_optimal program.row_names answer.ended e));
+  spent = λ e. spent program node_limit log answer r.best (r.spent (is_limit program.row_names answer.ended e));
+  unspent = λ e s. r.unspent (is_optimal program.row_names answer.ended e) (unspent program node_limit log answer r.best s);
   logged = r.logged;
 }

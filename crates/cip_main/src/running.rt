@@ -1,8 +1,8 @@
 //! The whole way from the words and the store to the sink.
 ghost use Rattle.std.specs.Prelude.{◌≡◌, [], None, IfOk, IfSome, length};
 ghost use Rattle.cip_problem.specs.WellFormed.{columns};
-ghost use Rattle.cip_answers.specs.Figures.{usage_text, no_memory_text, answer_text, exit_status};
-ghost use Rattle.cip_report.specs.Answers.{figures_of};
+ghost use Rattle.cip_answers.specs.Figures.{usage_text, no_memory_text, answer_text, exit_status, names_of};
+ghost use Rattle.cip_report.specs.Answers.{figures_of, AnswerFits};
 ghost use Rattle.cip_report.specs.declared.figures.Ended.TheVariants.{NoMemory};
 ghost use Rattle.cip_thin_search.specs.Right.{IsHeld, IsRight, Searched};
 ghost use Rattle.cip_main.specs.Answering.{node_limit, HasThinText, Answers};
@@ -93,10 +93,10 @@ fn search(alloc: Global, program: &Program, logs: &mut Vec<Log>) -> Answer
 
 /// Writes an answer; the status that goes with its end, or 5 where the sink failed.
 fn tell<K: Sink>(program: &Program, answer: &Answer, out: &mut K) -> u8
-    requires { IfSome answer.now.best (λ held. length held.point.items ≡ columns program.now) }
+    requires { AnswerFits program.now answer.now }
     ensures { let figures = figures_of program.now answer.now in
         Says (K.tells out.old) (K.tells out.new)
-        (answer_text program.now.column_names figures) (exit_status figures.status) result }
+        (answer_text (names_of program.now) figures) (exit_status figures.status) result }
 {
     match report(program, answer, out) {
         Ok(()) => answer.ended.status(),

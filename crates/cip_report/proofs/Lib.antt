@@ -1,1 +1,2 @@
+pub mod LeafLines
 pub mod WritingLemmas

@@ -131,3 +131,15 @@ point_lines-more (first ∷ names) (only ∷ values) zero name value within name
 point_lines-more (first ∷ names) (only ∷ values) (suc number) name value within named same =
     ap (λ text. line first (fraction_text only) ++ text) (point_lines-more names values number name value (omega arith) named same)
     ∙ sym (append_assoc (line first (fraction_text only)) _ _)
+
+-- of two texts the first failed
+pub first_of_two : {T E : Type 0} (result : Result T E) (old new : SinkTells) (front first second buffered : List ℕ) → IsErr result → PushesPart old new (front ++ first) → Writes result old new (front ++ (first ++ second)) buffered
+first_of_two result old new front first second buffered failed part =
+    subst (λ text. Writes result old new text buffered) (append_assoc front first second)
+    (Writes-err result old new (front ++ first) second buffered failed part)
+
+-- the second came last
+pub second_of_two : {T E : Type 0} (result : Result T E) (old mid new : SinkTells) (front first second held buffered : List ℕ) → Passes old mid (front ++ first) held → Writes result mid new (held ++ second) buffered → Writes result old new (front ++ (first ++ second)) buffered
+second_of_two result old mid new front first second held buffered done last =
+    subst (λ text. Writes result old new text buffered) (append_assoc front first second)
+    (Writes-more result old mid new (front ++ first) held second buffered done last)

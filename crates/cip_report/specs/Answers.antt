@@ -1,24 +1,55 @@
 -- The figures that are printed of an answer: of a program that maximises, cost and bound are negated again.
-use Rattle.std.specs.Prelude.{option_map}
+use Rattle.std.specs.Prelude.{◌≡◌, ◌<◌, ℕ, List, [], option_map, slice_index_or, length, IfSome, ⊤}
 use Rattle.cip_problem.specs.Program.{Program}
+use Rattle.cip_problem.specs.WellFormed.{columns}
 use Rattle.cip_problem.specs.Points.{printed}
-use Rattle.cip_answers.specs.Figures.{Status, Optimal, NodeLimit, NoMemory, Figures, Held}
+use Rattle.cip_answers.specs.Figures.{Overflow, AtRow, AtCost, Status, Optimal, Infeasible, NodeLimit, Wide, NoMemory, Figures, Held, names_of}
+use Rattle.cip_model.specs.declared.verdicts.Place.TheVariants.{Row, Cost}
+use Rattle.cip_report.specs.declared.figures.Shown.{Shown}
+use Rattle.cip_report.specs.declared.figures.Shown.TheVariants.{Place}
 use Rattle.cip_report.specs.declared.figures.Ended.{Ended}
-use Rattle.cip_report.specs.declared.figures.Ended.TheVariants.{Optimal as EndedOptimal, NodeLimit as EndedNodeLimit, NoMemory as EndedNoMemory}
+use Rattle.cip_report.specs.declared.figures.Ended.TheVariants.{Optimal as EndedOptimal, Infeasible as EndedInfeasible, NodeLimit as EndedNodeLimit, Wide as EndedWide, NoMemory as EndedNoMemory}
 use Rattle.cip_report.specs.declared.figures.Held.{Held as HeldPoint}
 use Rattle.cip_report.specs.declared.figures.Answer.{Answer}
 
-abbrev pub status_of : Ended → Status
-status_of EndedOptimal = Optimal
-status_of EndedNodeLimit = NodeLimit
-status_of EndedNoMemory = NoMemory
+-- what overflows as it is printed, for rows of these names
+abbrev pub overflow_of : List (List ℕ) → Shown → Overflow
+overflow_of rows (Place (Row number)) = AtRow (slice_index_or rows number [])
+overflow_of rows (Place Cost) = AtCost
+
+-- the end as it is printed, for rows of these names
+abbrev pub status_of : List (List ℕ) → Ended → Status
+status_of rows EndedOptimal = Optimal
+status_of rows EndedInfeasible = Infeasible
+status_of rows EndedNodeLimit = NodeLimit
+status_of rows (EndedWide leaf shown) = Wide leaf.items (overflow_of rows shown)
+status_of rows EndedNoMemory = NoMemory
 
 abbrev pub printed_held : Program → HeldPoint → Held
 printed_held program held = record { cost = printed program held.cost; point = held.point.items }
 
 abbrev pub figures_of : Program → Answer → Figures
 figures_of program answer = record {
-  status = status_of answer.ended;
+  status = status_of program.row_names answer.ended;
   held = option_map (printed_held program) answer.best;
   bound = option_map (printed program) answer.bound;
 }
+
+-- what is shown is of one of so many rows, or of the cost
+abbrev pub StandsAmong : ℕ → Shown → Type 0
+StandsAmong rows (Place (Row number)) = number < rows
+StandsAmong rows (Place Cost) = ⊤
+
+-- a leaf that is shown has a value for each whole column
+abbrev pub EndedFits : Program → Ended → Type 0
+EndedFits program EndedOptimal = ⊤
+EndedFits program EndedInfeasible = ⊤
+EndedFits program EndedNodeLimit = ⊤
+EndedFits program (EndedWide leaf shown) =
+    (length leaf.items ≡ length (names_of program).wholes) × StandsAmong (length program.row_names) shown
+EndedFits program EndedNoMemory = ⊤
+
+-- an answer is one of a program: its point, if it holds one, has a value for each column, and its end fits
+pub record AnswerFits (program : Program) (answer : Answer) : Type 0 where
+  pub point : IfSome answer.best (λ held. length held.point.items ≡ columns program)
+  pub ended : EndedFits program answer.ended

@@ -1,40 +1,62 @@
 //! The figures of an answer.
-ghost use Rattle.std.specs.Prelude.{◌≡◌};
+ghost use Rattle.std.specs.Prelude.{◌≡◌, ℕ, List};
 ghost use Rattle.cip_answers.specs.Figures.{status_word, exit_status};
 ghost use Rattle.cip_report.specs.Answers.{status_of};
 
 use cip_frac::Frac;
+use cip_model::Place;
+
+/// What overflows of a leaf that is shown.
+#[derive(Clone, Copy, Debug, PartialEq, Eq)]
+pub enum Shown {
+    /// A sum of a row, or that of the cost.
+    Place(Place),
+}
 
 /// How a search ended.
-#[derive(Clone, Copy, Debug, PartialEq, Eq)]
+#[derive(Debug, Drop)]
 pub enum Ended {
     /// No feasible point is better than the one held.
     Optimal,
+    /// No point is feasible.
+    Infeasible,
     /// The node budget is spent, and an open node matters.
     NodeLimit,
+    /// No node that matters is open, and points that are better than the one held can only be those of leaves that
+    /// overflow.
+    Wide {
+        /// The value of each whole column in such a leaf, by rising column.
+        leaf: Vec<Frac>,
+        /// What overflows there.
+        shown: Shown,
+    },
     /// Want of memory.
     NoMemory,
 }
 
 impl Ended {
     /// The printed word.
-    pub fn word(self) -> &'static str
-        ensures { result.now ≡ status_word (status_of self) }
+    pub fn word(&self) -> &'static str
+        ensures { (rows : List (List ℕ)) → result.now ≡ status_word (status_of rows self.now) }
     {
         match self {
             Ended::Optimal => "optimal",
+            Ended::Infeasible => "infeasible",
             Ended::NodeLimit => "nodelimit",
+            Ended::Wide { .. } => "wide",
             Ended::NoMemory => "nomemory",
         }
     }
 
     /// The exit status.
-    pub fn status(self) -> u8
-        ensures { result ≡ exit_status (status_of self) }
+    pub fn status(&self) -> u8
+        ensures { (rows : List (List ℕ)) → result ≡ exit_status (status_of rows self.now) }
     {
         match self {
             Ended::Optimal => 0,
+            Ended::Infeasible => 0,
             Ended::NodeLimit => 10,
+            Ended::Wide { .. } => 11,
             Ended::NoMemory => 6,
         }
     }

@@ -5,5 +5,5 @@ mod buffer;
 mod figures;
 mod writing;
 
-pub use figures::{Answer, Ended, Held};
+pub use figures::{Answer, Ended, Held, Shown};
 pub use writing::report;

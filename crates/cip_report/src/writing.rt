@@ -1,19 +1,21 @@
 //! Answers as bytes, written to a sink from a fixed buffer.
 ghost use Rattle.std.specs.Prelude.{◌≡◌, ◌++◌, length, option_map, IfSome, MatchResult};
+ghost use lib.Chars.{codes};
+ghost use Rattle.cip_leaves.specs.Leaf.{at_wholes};
 ghost use Rattle.cip_io.specs.Faults.{CountsFaults};
 ghost use Rattle.cip_io.specs.Sink.{TakesAll, PushesPart};
 ghost use Rattle.cip_numerals.specs.NumberText.{fraction_text};
 ghost use Rattle.cip_problem.specs.WellFormed.{columns};
 ghost use Rattle.cip_problem.specs.Points.{printed};
-ghost use Rattle.cip_answers.specs.Figures.{line, figure_text, point_lines, held_lines, answer_text, head_text, held_cost};
-ghost use Rattle.cip_report.specs.Answers.{figures_of, printed_held};
+ghost use Rattle.cip_answers.specs.Figures.{line, figure_text, point_lines, cost_lines, held_lines, leaf_name, leaf_lines, overflow_text, shown_lines, figure_lines, answer_text, held_cost, names_of};
+ghost use Rattle.cip_report.specs.Answers.{figures_of, printed_held, status_of, overflow_of, StandsAmong, EndedFits, AnswerFits};
 ghost use Rattle.cip_report.specs.Writing.{Writes};
 
 use crate::buffer::Buffer;
-use crate::figures::{Answer, Held};
+use crate::figures::{Answer, Ended, Held, Shown};
 use cip_frac::Frac;
 use cip_io::{Failed, Sink};
-use cip_model::{Names, Program, Sense};
+use cip_model::{Names, Place, Program, Sense};
 
 /// Writes a line of a word and a figure.
 fn write_line<K: Sink>(
@@ -113,20 +115,19 @@ fn printed_bound(program: &Program, bound: Option<Frac>) -> Option<Frac>
     }
 }
 
-/// Writes the lines of status, cost and bound.
-fn write_head<K: Sink>(
+/// Writes the lines of cost and bound.
+fn write_costs<K: Sink>(
     out: &mut K,
     buffer: &mut Buffer,
     program: &Program,
     answer: &Answer,
 ) -> Result<(), Failed>
     ensures taken { Writes result (K.tells out.old) (K.tells out.new)
-        (buffer.old ++ head_text (figures_of program.now answer.now)) buffer.new }
+        (buffer.old ++ cost_lines (figures_of program.now answer.now)) buffer.new }
     ensures faults { CountsFaults result (K.tells out.old).faults (K.tells out.new).faults }
 {
     let cost = printed_cost(program, &answer.best);
     let bound = printed_bound(program, answer.bound);
-    write_line(out, buffer, b"status", answer.ended.word().as_bytes())?;
     write_figure(out, buffer, b"cost", cost)?;
     write_figure(out, buffer, b"bound", bound)
 }
@@ -150,6 +151,128 @@ fn write_held<K: Sink>(
     }
 }
 
+/// Writes a line of `leaf`, a name and a value.
+fn write_leaf_line<K: Sink>(
+    out: &mut K,
+    buffer: &mut Buffer,
+    name: &[u8],
+    value: Frac,
+) -> Result<(), Failed>
+    ensures taken { Writes result (K.tells out.old) (K.tells out.new)
+        (buffer.old ++ line (leaf_name name.now) (fraction_text value)) buffer.new }
+    ensures faults { CountsFaults result (K.tells out.old).faults (K.tells out.new).faults }
+{
+    buffer.write(out, b"leaf ")?;
+    write_number(out, buffer, name, value)
+}
+
+/// Writes a line for each whole column: its name and its value in a leaf.
+fn write_leaf<K: Sink>(
+    out: &mut K,
+    buffer: &mut Buffer,
+    names: &Names,
+    whole: &[bool],
+    leaf: &[Frac],
+) -> Result<(), Failed>
+    requires long { length whole.now ≡ length names.now }
+    requires fits { length leaf.now ≡ length (at_wholes whole.now names.now) }
+    ensures taken { Writes result (K.tells out.old) (K.tells out.new)
+        (buffer.old ++ leaf_lines (at_wholes whole.now names.now) leaf.now) buffer.new }
+    ensures faults { CountsFaults result (K.tells out.old).faults (K.tells out.new).faults }
+{
+    let mut place = 0;
+    for column in 0..whole.len() {
+        if whole[column] {
+            write_leaf_line(out, buffer, names.name(column), leaf[place])?;
+            place += 1;
+        }
+    }
+    Ok(())
+}
+
+/// Writes the line of what overflows.
+fn write_overflow<K: Sink>(
+    out: &mut K,
+    buffer: &mut Buffer,
+    names: &Names,
+    shown: Shown,
+) -> Result<(), Failed>
+    requires { StandsAmong (length names.now) shown }
+    ensures taken { Writes result (K.tells out.old) (K.tells out.new)
+        (buffer.old ++ line (codes "overflow") (overflow_text (overflow_of names.now shown))) buffer.new }
+    ensures faults { CountsFaults result (K.tells out.old).faults (K.tells out.new).faults }
+{
+    match shown {
+        Shown::Place(Place::Row(number)) => {
+            write_line(out, buffer, b"overflow row", names.name(number as usize))
+        }
+        Shown::Place(Place::Cost) => write_line(out, buffer, b"overflow", b"cost"),
+    }
+}
+
+/// Writes the lines of the leaf that is shown, if there is one.
+fn write_shown<K: Sink>(
+    out: &mut K,
+    buffer: &mut Buffer,
+    program: &Program,
+    ended: &Ended,
+) -> Result<(), Failed>
+    requires { EndedFits program.now ended.now }
+    ensures taken { Writes result (K.tells out.old) (K.tells out.new)
+        (buffer.old ++ shown_lines (names_of program.now) (status_of program.now.row_names ended.now)) buffer.new }
+    ensures faults { CountsFaults result (K.tells out.old).faults (K.tells out.new).faults }
+{
+    match ended {
+        Ended::Wide { leaf, shown } => {
+            write_leaf(
+                out,
+                buffer,
+                program.column_names(),
+                program.whole(),
+                leaf.as_slice(),
+            )?;
+            write_overflow(out, buffer, program.row_names(), *shown)
+        }
+        _ => Ok(()),
+    }
+}
+
+/// Writes the lines of cost, bound, the point and the leaf that is shown.
+fn write_figures<K: Sink>(
+    out: &mut K,
+    buffer: &mut Buffer,
+    program: &Program,
+    answer: &Answer,
+) -> Result<(), Failed>
+    requires { AnswerFits program.now answer.now }
+    ensures taken { let figures = figures_of program.now answer.now in let names = names_of program.now in
+        Writes result (K.tells out.old) (K.tells out.new) (buffer.old ++ (cost_lines figures
+        ++ held_lines names.columns figures.held ++ shown_lines names figures.status)) buffer.new }
+    ensures faults { CountsFaults result (K.tells out.old).faults (K.tells out.new).faults }
+{
+    write_costs(out, buffer, program, answer)?;
+    write_held(out, buffer, program, &answer.best)?;
+    write_shown(out, buffer, program, &answer.ended)
+}
+
+/// Writes the lines between those of status and end: after infeasible there are none.
+fn write_body<K: Sink>(
+    out: &mut K,
+    buffer: &mut Buffer,
+    program: &Program,
+    answer: &Answer,
+) -> Result<(), Failed>
+    requires { AnswerFits program.now answer.now }
+    ensures taken { Writes result (K.tells out.old) (K.tells out.new)
+        (buffer.old ++ figure_lines (names_of program.now) (figures_of program.now answer.now)) buffer.new }
+    ensures faults { CountsFaults result (K.tells out.old).faults (K.tells out.new).faults }
+{
+    match answer.ended {
+        Ended::Infeasible => Ok(()),
+        _ => write_figures(out, buffer, program, answer),
+    }
+}
+
 /// Writes the answer, of which an end may be left in the buffer.
 fn write_answer<K: Sink>(
     out: &mut K,
@@ -157,20 +280,20 @@ fn write_answer<K: Sink>(
     program: &Program,
     answer: &Answer,
 ) -> Result<(), Failed>
-    requires { IfSome answer.now.best (λ held. length held.point.items ≡ columns program.now) }
+    requires { AnswerFits program.now answer.now }
     ensures taken { Writes result (K.tells out.old) (K.tells out.new)
-        (buffer.old ++ answer_text program.now.column_names (figures_of program.now answer.now)) buffer.new }
+        (buffer.old ++ answer_text (names_of program.now) (figures_of program.now answer.now)) buffer.new }
     ensures faults { CountsFaults result (K.tells out.old).faults (K.tells out.new).faults }
 {
-    write_head(out, buffer, program, answer)?;
-    write_held(out, buffer, program, &answer.best)?;
+    write_line(out, buffer, b"status", answer.ended.word().as_bytes())?;
+    write_body(out, buffer, program, answer)?;
     buffer.write(out, b"end\n")
 }
 
-/// Writes the answer of a search. After an `Err` the sink took a part of it.
+/// Writes the answer of a search, and takes no memory. After an `Err` the sink took a part of it.
 pub fn report<K: Sink>(program: &Program, answer: &Answer, out: &mut K) -> Result<(), Failed>
-    requires fits { IfSome answer.now.best (λ held. length held.point.items ≡ columns program.now) }
-    ensures taken { let text = answer_text program.now.column_names (figures_of program.now answer.now) in
+    requires fits { AnswerFits program.now answer.now }
+    ensures taken { let text = answer_text (names_of program.now) (figures_of program.now answer.now) in
         MatchResult result
         (λ _. TakesAll (K.tells out.old) (K.tells out.new) text)
         (λ _. PushesPart (K.tells out.old) (K.tells out.new) text) }

@@ -16,14 +16,14 @@ use Rattle.cip_problem.specs.Wholes.{IsWholeSide, HasWholeSides}
 use Rattle.cip_problem.specs.Log.{Entry, root}
 use Rattle.cip_report.specs.declared.figures.Held.{Held}
 use Rattle.cip_report.specs.declared.figures.Ended.{Ended}
-use Rattle.cip_report.specs.declared.figures.Ended.TheVariants.{Optimal, NodeLimit, NoMemory}
+use Rattle.cip_report.specs.declared.figures.Ended.TheVariants.{Optimal, Infeasible, NodeLimit, Wide, NoMemory}
 use Rattle.cip_thin_search.specs.Boxes.{AllSettled}
 use Rattle.cip_thin_search.specs.Splits.{IsWholeRange}
 use Rattle.cip_thin_search.specs.Searching.{Searching}
 use Rattle.cip_thin_search.specs.Stacked.{nodes_at}
 use Rattle.cip_thin_search.specs.Start.{first_node}
 use Rattle.cip_thin_search.specs.Kept.{Kept, SearchEnds, final_bound}
-use Rattle.cip_thin_search.specs.Right.{IsHeld, IsRight}
+use Rattle.cip_thin_search.specs.Right.{IsHeld, IsPlainEnd, IsRight}
 use Rattle.cip_thin_search.specs.declared.stack.OpenNode.{OpenNode}
 use Rattle.cip_thin_search.proofs.Places.{kept_self, changed_root}
 use Rattle.cip_thin_search.proofs.Ends.{start, lower_at_end, none_at_end, open_at_limit}
@@ -107,6 +107,13 @@ some_nodes : (outer bounds : List Sides) (bound : Option ℚ) (nodes : List Open
 some_nodes outer bounds bound [] h e = h refl
 some_nodes outer bounds bound (n ∷ ns) h e = absurd (omega (arith, ap length e))
 
+plain_end : (node_limit : ℕ) (log : List Entry) (bound : Option ℚ) (held : Held) (nodes : List OpenNode) (ended : Ended) → SearchEnds node_limit log bound held nodes ended → IsPlainEnd ended
+plain_end node_limit log bound held nodes Optimal k = tt
+plain_end node_limit log bound held nodes Infeasible k = absurd k
+plain_end node_limit log bound held nodes NodeLimit k = tt
+plain_end node_limit log bound held nodes (Wide leaf shown) k = absurd k
+plain_end node_limit log bound held nodes NoMemory k = tt
+
 -- the answer of a search is right
 pub right_end : (program : Program) (node_limit : ℕ) (log : List Entry) (bound : Option ℚ) (held : Held) (ids : ℕ) (bounds : List Sides) (deepest : ℕ) (nodes : List OpenNode) (ended : Ended) → Kept program log bound held ids bounds deepest nodes → SearchEnds node_limit log bound held nodes ended → IsRight program node_limit log (record { ended = ended; best = Some held; bound = final_bound bound held.cost nodes })
 right_end program node_limit log bound held ids bounds deepest nodes ended h k = record {
@@ -129,6 +136,7 @@ right_end program node_limit log bound held ids bounds deepest nodes ended h k =
       let none : nodes ≡ [] = ended_as node_limit log bound held nodes ended Optimal e k in
       none_at_end program log bound held.cost ids (subst (λ t. Searching program log bound held.cost ids (nodes_at bounds program.bounds bound t)) none h.searching) spent.matter;
   logged = h.searching.logged;
+  plain = plain_end node_limit log bound held nodes ended k;
 }
 
 -- so is that of a search without room for its first node

@@ -7,7 +7,7 @@ use Rattle.cip_problem.specs.BoxBound.{box_bound}
 use Rattle.cip_problem.specs.Log.{Entry, matters}
 use Rattle.cip_report.specs.declared.figures.Held.{Held}
 use Rattle.cip_report.specs.declared.figures.Ended.{Ended}
-use Rattle.cip_report.specs.declared.figures.Ended.TheVariants.{Optimal, NodeLimit, NoMemory}
+use Rattle.cip_report.specs.declared.figures.Ended.TheVariants.{Optimal, Infeasible, NodeLimit, Wide, NoMemory}
 use Rattle.cip_thin_search.specs.declared.stack.OpenNode.{OpenNode}
 use Rattle.cip_thin_search.specs.Searching.{Searching}
 use Rattle.cip_thin_search.specs.Stacked.{nodes_at, Stacked}
@@ -25,12 +25,14 @@ pub record Kept
   pub is_held : IsHeld program held
   pub counted : ids ≤ 1 + 2 * length log
 
--- how a search ends: with no open node; with its budget spent and open nodes that matter; or without memory
+-- how a search ends: with no open node; with its budget spent and open nodes that matter; or without memory; never otherwise
 abbrev pub SearchEnds : ℕ → List Entry → Option ℚ → Held → List OpenNode → Ended → Type 0
 SearchEnds node_limit log bound held nodes Optimal = nodes ≡ []
 SearchEnds node_limit log bound held nodes NodeLimit = (length log ≡ node_limit) × (nodes ≢ [])
     × (matters (Some held.cost) bound ≡ true)
 SearchEnds node_limit log bound held nodes NoMemory = ⊤
+SearchEnds node_limit log bound held nodes Infeasible = ⊥
+SearchEnds node_limit log bound held nodes (Wide leaf shown) = ⊥
 
 -- the bound at the end: the cost held where no node is open, and else that of the root
 abbrev pub final_bound : Option ℚ → ℚ → List OpenNode → Option ℚ

@@ -1,12 +1,13 @@
 -- What is right of an answer of a search: of its point, its cost, its bound and its end. All figures are those of
 -- the minimised form.
-use Rattle.std.specs.Prelude.{◌≡◌, ◌++◌, ◌∷◌, [], ℕ, ◌⊎◌, List, Some, None, IfSome, option_map, length}
+use Rattle.std.specs.Prelude.{◌≡◌, ◌++◌, ◌∷◌, [], ℕ, ◌⊎◌, List, Some, None, IfSome, option_map, length, ⊤}
 use Rattle.cip_rational.specs.Rational.{ℚ, ◌≤ℚ◌}
 use Rattle.cip_problem.specs.Program.{Program}
 use Rattle.cip_problem.specs.Points.{IsFeasible, cost_of, IsLowerBound}
 use Rattle.cip_problem.specs.BoxBound.{box_bound}
 use Rattle.cip_problem.specs.Log.{Entry, IsLog, HasOpenNode}
-use Rattle.cip_report.specs.declared.figures.Ended.TheVariants.{Optimal, NodeLimit, NoMemory}
+use Rattle.cip_report.specs.declared.figures.Ended.{Ended}
+use Rattle.cip_report.specs.declared.figures.Ended.TheVariants.{Optimal, Infeasible, NodeLimit, Wide, NoMemory}
 use Rattle.cip_report.specs.declared.figures.Held.{Held}
 use Rattle.cip_report.specs.declared.figures.Answer.{Answer}
 use Rattle.cip_thin_search.specs.declared.logs.Log.{Log}
@@ -28,6 +29,14 @@ pub record SpendsBudget (program : Program) (node_limit : ℕ) (log : List Entry
   pub full : length log ≡ node_limit
   pub matter : HasOpenNode program log (option_map (λ held. held.cost) answer.best)
 
+-- an end that a search from a feasible point can have, where no sum overflows
+abbrev pub IsPlainEnd : Ended → Type 0
+IsPlainEnd Optimal = ⊤
+IsPlainEnd Infeasible = ⊥
+IsPlainEnd NodeLimit = ⊤
+IsPlainEnd (Wide leaf shown) = ⊥
+IsPlainEnd NoMemory = ⊤
+
 -- an answer is right, beside the log of its search
 pub record IsRight (program : Program) (node_limit : ℕ) (log : List Entry) (answer : Answer) : Type 0 where
   pub best : IfSome answer.best (IsHeld program)
@@ -39,6 +48,7 @@ pub record IsRight (program : Program) (node_limit : ℕ) (log : List Entry) (an
   pub spent : answer.ended ≡ NodeLimit → SpendsBudget program node_limit log answer
   pub unspent : answer.ended ≡ Optimal → ¬ SpendsBudget program node_limit log answer
   pub logged : IsLog program log
+  pub plain : IsPlainEnd answer.ended
 
 -- a search added its log, and its answer is right; where memory was refused before it had room for a log,
 -- none was added
