@@ -1,0 +1,10 @@
+pub mod Ends
+pub mod Firsts
+pub mod Leaves
+pub mod Offers
+pub mod OneMore
+pub mod Places
+pub mod Ranges
+pub mod Steps
+pub mod Taken
+pub mod WideLeaves

@@ -1,0 +1,9 @@
+pub mod Answering
+pub mod Boxes
+pub mod Kept
+pub mod Logs
+pub mod RootBound
+pub mod Searching
+pub mod Settling
+pub mod Splits
+pub mod Stacked

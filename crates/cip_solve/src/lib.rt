@@ -1,0 +1,12 @@
+//! The search over a program whose columns are all whole, between finite sides, and its log.
+#![tactic(auto)]
+
+mod boxes;
+mod found;
+mod logs;
+mod search;
+mod splits;
+mod stack;
+
+pub use logs::{End, Log, Logged};
+pub use search::{Options, root_bound};
