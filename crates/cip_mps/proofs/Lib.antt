@@ -1,0 +1,4 @@
+pub mod FeedCuts
+pub mod LineLaws
+pub mod PieceLaws
+pub mod StreamLaws

@@ -1,0 +1,9 @@
+pub mod RowLaws
+pub mod ColumnLaws
+pub mod ValueLaws
+pub mod ListLaws
+pub mod TakenLaws
+pub mod RowTermLaws
+pub mod CostLaws
+pub mod NameLaws
+pub mod ProgramLaws

@@ -1,0 +1,8 @@
+pub mod RowDrafts
+pub mod ColumnDrafts
+pub mod DraftStates
+pub mod FoundRows
+pub mod DraftLines
+pub mod DraftSteps
+pub mod Costs
+pub mod NamesApart

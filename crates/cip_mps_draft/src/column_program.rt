@@ -1,0 +1,87 @@
+//! The columns of the program: costs, whole columns and bounds.
+ghost use Rattle.std.specs.Prelude.{◌≡◌, ◌≤◌, true, map, nat_le, IfOk};
+ghost use Rattle.std.specs.List.{list_all};
+ghost use Rattle.cip_problem.specs.Limits.{most_columns};
+ghost use Rattle.cip_mps_rules.specs.MpsBounds.{settled, column_sides};
+ghost use Rattle.cip_mps_steps.specs.MpsState.{held_value, minimized_by, costs_from};
+ghost use Rattle.cip_mps_steps.specs.MpsSoundState.{rises};
+ghost use Rattle.cip_mps_draft.specs.Costs.{held_behind};
+
+use crate::column_draft::ColumnDraft;
+use crate::row_draft::Held;
+use cip_frac::Frac;
+use cip_lin::Bounds;
+use std::alloc::{AllocError, Global};
+
+/// A cost in the minimised form.
+pub(crate) fn minimized(sense: Option<bool>, cost: Frac) -> Frac
+    ensures { result ≡ minimized_by sense cost }
+{
+    if sense.unwrap_or(false) {
+        cost.neg()
+    } else {
+        cost
+    }
+}
+
+/// Whether each column takes whole values only.
+pub(crate) fn wholes_of(alloc: Global, columns: &[ColumnDraft]) -> Result<Vec<bool>, AllocError>
+    ensures { IfOk result (λ wholes. wholes.items ≡ map (λ column. (settled column).whole) columns.now) }
+{
+    let mut wholes = Vec::new(alloc);
+    for column in columns {
+        wholes.push(column.is_whole())?;
+    }
+    Ok(wholes)
+}
+
+/// The sides of the columns.
+pub(crate) fn bounds_of(alloc: Global, columns: &[ColumnDraft]) -> Result<Bounds, AllocError>
+    ensures { IfOk result (λ bounds. bounds ≡ map (λ column. column_sides (settled column)) columns.now) }
+{
+    let mut bounds = Bounds::new(alloc, 0)?;
+    for column in columns {
+        bounds.push(column.sides())?;
+    }
+    Ok(bounds)
+}
+
+/// The number of a column among numbers by rising column, none of which stands before it, and those behind it.
+fn value_at(held: &[Held], column: u32) -> (Frac, &[Held])
+    requires from { list_all (λ h. nat_le column h.column) held.now ≡ true }
+    requires rising { rises held.now ≡ true }
+    ensures value { result.0 ≡ held_value held.now column }
+    ensures rest { result.1.now ≡ held_behind held.now column }
+{
+    match held {
+        [] => (Frac::zero(), held),
+        [first, rest @ ..] => {
+            if first.column == column {
+                (first.value, rest)
+            } else {
+                (Frac::zero(), held)
+            }
+        }
+    }
+}
+
+/// The costs of so many columns, in the minimised form, where the objective has these numbers.
+pub(crate) fn costs_of(
+    alloc: Global,
+    sense: Option<bool>,
+    held: &[Held],
+    columns: usize,
+) -> Result<Vec<Frac>, AllocError>
+    requires rising { rises held.now ≡ true }
+    requires few { columns ≤ most_columns }
+    ensures { IfOk result (λ costs. costs.items ≡ costs_from sense held.now 0 columns) }
+{
+    let mut costs = Vec::new(alloc);
+    let mut rest = held;
+    for column in 0..columns {
+        let (cost, behind) = value_at(rest, column as u32);
+        costs.push(minimized(sense, cost))?;
+        rest = behind;
+    }
+    Ok(costs)
+}

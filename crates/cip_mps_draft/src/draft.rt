@@ -1,0 +1,34 @@
+//! What is kept of the lines of a text.
+ghost use Rattle.std.specs.Prelude.{◌≡◌, ◌≤◌, ℕ, length, vec_len, true};
+ghost use Rattle.std.specs.List.{filter, list_all};
+ghost use Rattle.cip_problem.specs.Limits.{most_rows, most_columns, most_entries};
+ghost use Rattle.cip_mps_steps.specs.MpsState.{is_kept};
+ghost use Rattle.cip_mps_steps.specs.MpsSoundState.{held_below};
+
+use crate::column_draft::ColumnDraft;
+use crate::name_index::NameIndex;
+use crate::row_draft::RowDraft;
+use cip_mps_lines::Part;
+use std::alloc::Global;
+
+/// A program as far as the lines of a text have said it. Rows of type N are kept like others, and dropped at the end.
+#[derive(Debug, Drop)]
+pub struct Draft {
+    pub(crate) alloc: Global,
+    pub(crate) opened: Vec<Part>,
+    pub(crate) sense: Option<bool>,
+    pub(crate) row_names: NameIndex,
+    pub(crate) rows: Vec<RowDraft>,
+    pub(crate) column_names: NameIndex,
+    pub(crate) columns: Vec<ColumnDraft>,
+    pub(crate) row_count: usize,
+    pub(crate) entries: usize,
+    pub(crate) near: usize,
+    ghost rows_named: { vec_len rows ≡ length row_names },
+    ghost columns_named: { vec_len columns ≡ length column_names },
+    ghost rows_counted: { row_count ≡ length (filter is_kept rows.items) },
+    ghost few_rows: { row_count ≤ most_rows },
+    ghost few_columns: { vec_len columns ≤ most_columns },
+    ghost few_entries: { entries ≤ most_entries },
+    ghost rows_below: { list_all (λ row. held_below (length column_names) row.held) rows.items ≡ true },
+}

@@ -1,0 +1,24 @@
+//! A program as far as the lines of a free MPS text have said it: the tests of each line, what a line without fault adds,
+//! and the program at the end.
+#![tactic(auto)]
+
+mod bound_lines;
+mod column_draft;
+mod column_program;
+mod column_puts;
+mod column_tests;
+mod draft;
+mod name_index;
+mod names;
+mod program;
+mod range_lines;
+mod right_side_lines;
+mod row_draft;
+mod row_lines;
+mod row_program;
+mod sections;
+mod sides;
+mod steps;
+mod values;
+
+pub use draft::Draft;

@@ -1,0 +1,147 @@
+//! The program that the lines of a text have said.
+ghost use Rattle.std.specs.Prelude.{◌≡◌, ◌≤◌, ◌<◌, true, false, length, slice_index_or, unwrap_or, ◌++◌, ◌∷◌, [], if◌then◌else◌, IfOk, OnOk, MatchOption};
+ghost use Rattle.cip_rational.specs.Rational.{negate};
+ghost use Rattle.cip_problem.specs.Limits.{most_columns};
+ghost use Rattle.cip_mps_rules.specs.MpsWords.{is_in};
+ghost use Rattle.cip_mps_steps.specs.MpsState.{no_row, is_kept, right_side_of, objective_row, kept_names, minimized_by, costs_from, program_from};
+ghost use Rattle.cip_mps_steps.specs.MpsSoundState.{rises};
+ghost use Rattle.cip_model.specs.Programs.{is_maximize};
+ghost use Rattle.cip_mps_draft.specs.DraftStates.{kept};
+
+use crate::column_program::{bounds_of, costs_of, minimized, wholes_of};
+use crate::draft::Draft;
+use crate::name_index::NameIndex;
+use crate::row_draft::{Held, RowDraft};
+use crate::row_program::finished_rows;
+use cip_frac::Frac;
+use cip_model::{Names, Parts, Program, Sense};
+use cip_mps_steps::numbers_are_of_names;
+use std::alloc::{AllocError, Global};
+
+impl RowDraft {
+    /// Its numbers, by rising column.
+    fn numbers(&self) -> &[Held]
+        ensures items { result.now ≡ self.now.held }
+        ensures rising { rises self.now.held ≡ true }
+    {
+        self.held.as_slice()
+    }
+
+    /// Its right-hand side, 0 where it has none.
+    fn right_side_or_zero(&self) -> Frac
+        ensures { result ≡ right_side_of self.now }
+    {
+        self.right_side.unwrap_or(Frac::zero())
+    }
+}
+
+/// The number of the first row of type N.
+fn objective_at(rows: &[RowDraft]) -> Option<usize>
+    ensures { MatchOption result (objective_row rows.now ≡ no_row)
+        (λ number. (number < length rows.now) × (objective_row rows.now ≡ slice_index_or rows.now number no_row)) }
+{
+    for number in 0..rows.len() {
+        let row = &rows[number];
+        if row.is_free() {
+            return Some(number);
+        }
+    }
+    None
+}
+
+/// The costs of so many columns, in the minimised form.
+fn objective_costs(
+    alloc: Global,
+    sense: Option<bool>,
+    rows: &[RowDraft],
+    columns: usize,
+) -> Result<Vec<Frac>, AllocError>
+    requires { columns ≤ most_columns }
+    ensures { IfOk result (λ costs. costs.items ≡ costs_from sense (objective_row rows.now).held 0 columns) }
+{
+    match objective_at(rows) {
+        None => costs_of(alloc, sense, &[], columns),
+        Some(number) => {
+            let row = &rows[number];
+            costs_of(alloc, sense, row.numbers(), columns)
+        }
+    }
+}
+
+/// The constant of the cost, in the minimised form: a right-hand side of the objective is subtracted.
+fn objective_constant(sense: Option<bool>, rows: &[RowDraft]) -> Frac
+    ensures { result ≡ minimized_by sense (negate (right_side_of (objective_row rows.now))) }
+{
+    match objective_at(rows) {
+        None => minimized(sense, Frac::zero().neg()),
+        Some(number) => {
+            let row = &rows[number];
+            minimized(sense, row.right_side_or_zero().neg())
+        }
+    }
+}
+
+/// Puts the name of a row behind others, unless it is of type N. `Err` comes where a growth was refused.
+fn keep_name(alloc: Global, kept: &mut Names, name: &[u8], row: &RowDraft) -> Result<(), AllocError>
+    requires { is_in kept.old name.now ≡ false }
+    ensures { OnOk result (kept.new ≡ (if is_kept row.now then kept.old ++ name.now ∷ [] else kept.old)) }
+{
+    numbers_are_of_names();
+    if !row.is_free() {
+        kept.add(name.to_vec(alloc)?)?;
+    }
+    Ok(())
+}
+
+/// The names of the rows that aren't of type N.
+fn names_of(alloc: Global, names: &NameIndex, rows: &[RowDraft]) -> Result<Names, AllocError>
+    requires { length names.now ≡ length rows.now }
+    ensures { IfOk result (λ kept. kept ≡ kept_names names.now rows.now) }
+{
+    let mut kept = Names::new(alloc);
+    for number in 0..rows.len() {
+        let row = &rows[number];
+        keep_name(alloc, &mut kept, names.name(number), row)?;
+    }
+    Ok(kept)
+}
+
+/// Which way the cost is to go.
+fn sense_of(sense: Option<bool>) -> Sense
+    ensures { is_maximize result ≡ unwrap_or sense false }
+{
+    match sense {
+        Some(true) => Sense::Maximize,
+        _ => Sense::Minimize,
+    }
+}
+
+impl Draft {
+    /// The program of the lines that were read. `Err` comes where a growth was refused.
+    pub fn into_program(self) -> Result<Program, AllocError>
+        ensures { IfOk result (λ program. program ≡ program_from (kept self)) }
+    {
+        let Draft {
+            alloc,
+            sense,
+            row_names,
+            rows,
+            column_names,
+            columns,
+            ..
+        } = self;
+        let costs = objective_costs(alloc, sense, rows.as_slice(), columns.len())?;
+        let constant = objective_constant(sense, rows.as_slice());
+        let parts = Parts {
+            column_names: column_names.into_names(),
+            row_names: names_of(alloc, &row_names, rows.as_slice())?,
+            rows: finished_rows(alloc, rows)?,
+            costs,
+            constant,
+            sense: sense_of(sense),
+            whole: wholes_of(alloc, columns.as_slice())?,
+            bounds: bounds_of(alloc, columns.as_slice())?,
+        };
+        Ok(Program::new(parts))
+    }
+}

@@ -1,0 +1,3 @@
+pub mod FieldCuts
+pub mod OneLine
+pub mod ValuesRead

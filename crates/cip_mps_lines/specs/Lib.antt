@@ -1,0 +1,5 @@
+pub mod MpsKinds
+pub mod NumbersRead
+pub mod MpsLines
+pub mod FirstWords
+pub mod SkippedSets

@@ -1,0 +1,24 @@
+//! The lines of free MPS: what a line says, at its place in the text.
+#![tactic(auto)]
+
+mod bound_numbers;
+mod fields;
+mod line;
+mod numbers;
+mod one_line;
+mod place;
+mod sayings;
+mod set_lines;
+mod values;
+mod words;
+
+pub use bound_numbers::BoundNumber;
+pub use line::{Line, Pair, Pairs};
+pub use numbers::Number;
+pub use one_line::record_of;
+pub use place::Place;
+pub use sayings::said;
+pub use words::{BoundKind, Part, RowKind, sense_of};
+
+#[cfg(test)]
+mod tests;
