@@ -1,15 +1,19 @@
 -- Rows without an entry on the variable that enters stay as they are, and nothing is formed for them.
-use Rattle.std.proofs.Common.{◌≡◌, ℕ, zero, suc, ◌==◌, Bool, true, false, cond, not, ◌&&◌, List, [], length, Option, None, refl, ◌∙◌}
-use Rattle.cip_rational.specs.Rational.{ℚ}
+use Rattle.std.proofs.Common.{◌≡◌, ℕ, zero, suc, ◌==◌, Bool, true, false, cond, not, ◌&&◌, ◌||◌, List, [], length, Option, None, refl, ap, ◌∙◌}
+use Rattle.cip_rational.specs.Rational.{ℚ, zeroℚ, negate}
 use Rattle.cip_problem.specs.Activity.{value_at}
 use Rattle.cip_dictionary.specs.Tables.{each}
-use Rattle.cip_dictionary.specs.Exchange.{is_absent}
+use Rattle.cip_dictionary.specs.Exchange.{is_absent, solved_at, solved, substituted_at, substituted, moved_at}
 use Rattle.cip_dictionary.specs.Operations.{Placed, first_overflow, is_zero}
-use Rattle.cip_dictionary.specs.MoveOperations.{substituted_operations_at, substituted_operations}
+use Rattle.cip_dictionary.specs.MoveOperations.{solved_operations_at, solved_operations, substituted_operations_at, substituted_operations, moved_operations_at}
+use Rattle.cip_rational.proofs.Rational.Ring.{negate_zero}
+use Rattle.cip_dictionary.proofs.Zeros.{is_zero_of, zero_of}
 use Rattle.cip_dictionary.specs.declared.places.Line.{Line}
 use Rattle.cip_dictionary.specs.declared.places.Place.{Place}
 use Rattle.cip_dictionary.specs.declared.moves.Stand.{Stand}
 use Rattle.cip_dictionary.proofs.Overflow.{overflow-append}
+use Rattle.cip_dict.proofs.Formed.{product_zero_left, sum_zero_right}
+use Rattle.cip_dict.specs.Values.{moved_in, moved_operations_in}
 use Rattle.cip_dict.specs.Lists.{basic_in}
 use Rattle.cip_dict.specs.Row.{form_changes, form_operations_in, written_form}
 
@@ -37,3 +41,34 @@ unchanged_fits standing i j q new v row e =
 
 pub unchanged_stays : (standing : List (Option Stand)) (i j : ℕ) (q : ℚ) (new : ℕ → ℚ) (v : ℕ) (row out : List ℚ) → form_changes standing i j v row ≡ false → out ≡ written_form standing i j q new v row out
 unchanged_stays standing i j q new v row out e = rw e refl
+
+-- an entry on a variable that stays nonbasic stays as it is where that of the row which enters is 0
+kept_at : (place : Place) (none basic leaving entering : Bool) (q a b c : ℚ) → is_zero c ≡ none → (none && (not basic && (not leaving && not entering))) ≡ true → (first_overflow (substituted_operations_at place leaving (basic || entering) q a b c) ≡ None) × (a ≡ substituted_at leaving (basic || entering) q a b c)
+kept_at place true false false false q a b c z e = sum_zero_right place a b c z
+kept_at place true false false true q a b c z e = absurd (cc)
+kept_at place true false true entering q a b c z e = absurd (cc)
+kept_at place true true leaving entering q a b c z e = absurd (cc)
+kept_at place false basic leaving entering q a b c z e = absurd (cc)
+
+pub kept : (line : Line) (standing : List (Option Stand)) (i j : ℕ) (q : ℚ) (new row : ℕ → ℚ) (k : ℕ) → (is_zero (new k) && (not (basic_in standing k) && (not (k == i) && not (k == j)))) ≡ true → (first_overflow (substituted_operations line (basic_in standing) i j q new row k) ≡ None) × (row k ≡ substituted (basic_in standing) i j q new row k)
+kept line standing i j q new row k e = kept_at _ _ (basic_in standing k) (k == i) (k == j) q (row k) (row j) (new k) refl e
+
+-- nothing is written where the row that is solved has no entry
+none_at : (place : Place) (none leaving absent : Bool) (q a : ℚ) → is_zero a ≡ none → (none && not leaving) ≡ true → (first_overflow (solved_operations_at place leaving absent q a) ≡ None) × (zeroℚ ≡ solved_at leaving absent q a)
+none_at place true false true q a z e = (refl, refl)
+none_at place true false false q a z e = product_zero_left place (negate a) q (is_zero_of (negate a) (ap negate (zero_of a z) ∙ negate_zero))
+none_at place true true absent q a z e = absurd (cc)
+none_at place false leaving absent q a z e = absurd (cc)
+
+pub solved_none : (line : Line) (basic : ℕ → Bool) (i j : ℕ) (q : ℚ) (row : ℕ → ℚ) (k : ℕ) → (is_zero (row k) && not (k == i)) ≡ true → (first_overflow (solved_operations line basic i j q row k) ≡ None) × (zeroℚ ≡ solved basic i j q row k)
+solved_none line basic i j q row k e = none_at _ _ (k == i) (is_absent basic j k) q (row k) refl e
+
+-- the value of a variable that isn't basic stays as another moves
+left_at : (place : Place) (moves basic : Bool) (t v a : ℚ) → (not basic && not moves) ≡ true → (first_overflow (moved_operations_at place moves basic t v a) ≡ None) × (v ≡ moved_at moves basic t v a)
+left_at place false false t v a e = (refl, refl)
+left_at place false true t v a e = absurd (cc)
+left_at place true false t v a e = absurd (cc)
+left_at place true true t v a e = absurd (cc)
+
+pub left_alone : (standing : List (Option Stand)) (rows : List (List ℚ)) (j : ℕ) (t : ℚ) (values : List ℚ) (v : ℕ) → (not (basic_in standing v) && not (v == j)) ≡ true → (first_overflow (moved_operations_in standing rows j t values v) ≡ None) × (value_at values v ≡ moved_in standing rows j t values v)
+left_alone standing rows j t values v e = left_at _ (v == j) (basic_in standing v) t (value_at values v) _ e

@@ -11,6 +11,7 @@ use cip_dictionary::Place;
 use cip_frac::Frac;
 
 /// Whether a number is 0.
+#[inline(always)]
 pub(crate) fn vanishes(a: Frac) -> bool
     ensures { result ≡ is_zero a }
 {
@@ -18,6 +19,7 @@ pub(crate) fn vanishes(a: Frac) -> bool
 }
 
 /// The product a * b, for which nothing is formed where a factor is 0.
+#[inline(always)]
 #[tactic(auto, using(crate::proofs::Formed::entry_laws))]
 pub(crate) fn product(place: Place, a: Frac, b: Frac) -> Result<Frac, OutOfRange>
     ensures { MatchResult result
@@ -34,6 +36,7 @@ pub(crate) fn product(place: Place, a: Frac, b: Frac) -> Result<Frac, OutOfRange
 }
 
 /// The sum c + a * b, the product formed first; where a factor is 0 nothing is formed.
+#[inline(always)]
 #[tactic(auto, using(crate::proofs::Formed::entry_laws))]
 pub(crate) fn sum(place: Place, c: Frac, a: Frac, b: Frac) -> Result<Frac, OutOfRange>
     ensures { MatchResult result
@@ -43,17 +46,17 @@ pub(crate) fn sum(place: Place, c: Frac, a: Frac, b: Frac) -> Result<Frac, OutOf
     if vanishes(a) || vanishes(b) {
         return Ok(c);
     }
-    let Ok(product) = a.mul(b) else {
-        return Err(OutOfRange { place });
-    };
-    match c.add(product) {
-        Ok(value) => Ok(value),
-        Err(_) => Err(OutOfRange { place }),
+    let mut total = c;
+    if total.add_product(&a, &b) {
+        Ok(total)
+    } else {
+        Err(OutOfRange { place })
     }
 }
 
 /// An entry of the row of the variable that enters: q on the variable that leaves, nothing on one that is absent, and
 /// else that of the row which leaves, negated and times q.
+#[inline(always)]
 pub(crate) fn solved_entry(
     place: Place,
     leaving: bool,
@@ -76,6 +79,7 @@ pub(crate) fn solved_entry(
 }
 
 /// An entry a of another row, which has b on the variable that enters, in whose row c stands at that place.
+#[inline(always)]
 pub(crate) fn substituted_entry(
     place: Place,
     leaving: bool,
@@ -101,6 +105,7 @@ pub(crate) fn substituted_entry(
 
 /// The value v of a variable after a move by t: its own, if it is the one that moves, or that of a basic variable with
 /// the entry a on it.
+#[inline(always)]
 pub(crate) fn moved_value(
     place: Place,
     moves: bool,

@@ -44,6 +44,7 @@ impl Form {
     }
 
     /// The entries by variable.
+    #[inline(always)]
     pub(crate) fn as_slice(&self) -> &[Frac]
         ensures { result.now ≡ self.now }
     {
@@ -51,6 +52,7 @@ impl Form {
     }
 
     /// The entry on a variable.
+    #[inline(always)]
     pub(crate) fn entry(&self, k: u32) -> Frac
         requires { k < length self.now }
         ensures { result ≡ value_at self.now k }

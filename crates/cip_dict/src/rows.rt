@@ -15,6 +15,7 @@ use cip_dictionary::{Line, Stand};
 use cip_frac::Frac;
 
 /// Whether the row of variable v changes when i leaves and j enters: it is basic, stays so, and has an entry on j.
+#[inline(always)]
 fn is_changed(standing: &[Option<Stand>], i: u32, j: u32, v: usize, row: &Form) -> bool
     requires within { v < length standing.now }
     requires entering { j < length standing.now }

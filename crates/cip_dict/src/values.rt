@@ -1,5 +1,5 @@
 //! The values of a dictionary after a variable has moved.
-ghost use Rattle.std.specs.Prelude.{◌≡◌, ◌<◌, ◌^◌, true, false, length, Some, None, MatchResult};
+ghost use Rattle.std.specs.Prelude.{◌≡◌, ◌==◌, ◌&&◌, not, ◌<◌, ◌^◌, true, false, length, Some, None, MatchResult};
 ghost use Rattle.cip_rational.specs.Rational.{◌+ℚ◌};
 ghost use Rattle.cip_problem.specs.Activity.{value_at};
 ghost use Rattle.cip_dictionary.specs.Tables.{table, each};
@@ -16,6 +16,7 @@ use cip_dictionary::{Line, Place, Stand};
 use cip_frac::Frac;
 
 /// The place of the value of a line.
+#[inline(always)]
 pub(crate) fn value_of(line: Line) -> Place
     ensures { result ≡ record { line = line; variable = None } }
 {
@@ -26,6 +27,7 @@ pub(crate) fn value_of(line: Line) -> Place
 }
 
 /// The entry of a variable's row on j; 0 where it has none.
+#[inline(always)]
 fn entry_or_zero(standing: &[Option<Stand>], v: usize, row: &Form, j: u32) -> Frac
     requires within { v < length standing.now }
     requires entering { j < length standing.now }
@@ -40,6 +42,7 @@ fn entry_or_zero(standing: &[Option<Stand>], v: usize, row: &Form, j: u32) -> Fr
 }
 
 /// The value of variable v after j, which isn't basic, has moved by t.
+#[inline(always)]
 fn moved_on(
     standing: &[Option<Stand>],
     rows: &[Form],
@@ -70,6 +73,49 @@ fn moved_on(
     )
 }
 
+/// Whether a variable's value stays as j moves: it is another one, and isn't basic.
+#[inline(always)]
+fn is_left(standing: &[Option<Stand>], j: u32, v: usize) -> bool
+    requires { v < length standing.now }
+    ensures { result ≡ (not (basic_in standing.now v) && not (v == j)) }
+{
+    !is_basic(standing, v) && v != j as usize
+}
+
+/// Writes the value of variable v after j, which isn't basic, has moved by t, over the one that it had.
+#[inline(always)]
+fn move_on(
+    standing: &[Option<Stand>],
+    rows: &[Form],
+    j: u32,
+    t: Frac,
+    values: &[Frac],
+    v: usize,
+    value: &mut Frac,
+) -> Result<(), OutOfRange>
+    requires few { length standing.now < 2 ^ 32 }
+    requires entering { j < length standing.now }
+    requires within { v < length standing.now }
+    requires rows_long { HasRows standing.now rows.now }
+    requires values_long { length values.now ≡ length standing.now }
+    requires is_old { value.old ≡ value_at values.now v }
+    ensures { MatchResult result
+        (λ _. (first_overflow (moved_operations_in standing.now rows.now j t values.now v) ≡ None)
+        × (value.new ≡ moved_in standing.now rows.now j t values.now v))
+        (λ fault. first_overflow (moved_operations_in standing.now rows.now j t values.now v) ≡ Some fault.place) }
+{
+    if is_left(standing, j, v) {
+        return Ok(());
+    }
+    match moved_on(standing, rows, j, t, values, v) {
+        Ok(moved) => {
+            *value = moved;
+            Ok(())
+        }
+        Err(fault) => Err(fault),
+    }
+}
+
 /// Writes the values after j, which enters, has moved by t.
 pub(crate) fn write_moved(
     standing: &[Option<Stand>],
@@ -91,9 +137,10 @@ pub(crate) fn write_moved(
         × (out.new ≡ table (length standing.now) (moved_in standing.now rows.now j t values.now)))
         (λ fault. first_overflow operations ≡ Some fault.place) }
 {
+    out.copy_from_slice(values);
     for v in 0..standing.len() {
-        match moved_on(standing, rows, j, t, values, v) {
-            Ok(value) => out[v] = value,
+        match move_on(standing, rows, j, t, values, v, &mut out[v]) {
+            Ok(()) => (),
             Err(fault) => return Err(fault),
         }
     }
@@ -101,6 +148,7 @@ pub(crate) fn write_moved(
 }
 
 /// The value of variable v after j, which isn't basic, has flipped by t to a side, for which nothing is formed.
+#[inline(always)]
 fn flipped_on(
     standing: &[Option<Stand>],
     rows: &[Form],
