@@ -1,14 +1,13 @@
 -- How a search begins, lets go of its nodes, and ends.
-use Rattle.std.proofs.Common.{◌≡◌, ◌≢◌, ◌⊎◌, inl, inr, ℕ, true, false, List, [], ◌∷◌, Option, None, Some, IfSome, All, Contains, refl, sym, ap, ◌∙◌, subst, arith, true≢false}
+use Rattle.std.proofs.Common.{◌≡◌, ◌≢◌, inl, inr, ℕ, true, false, List, [], ◌∷◌, Option, None, Some, IfSome, All, Contains, refl, sym, ap, ◌∙◌, subst, arith, true≢false}
 use Rattle.std.proofs.lemmas.List.Elements.{All-nil, All-cons, All-head, All-tail}
 use Rattle.cip_rational.specs.Rational.{ℚ, ◌≤ℚ◌}
 use Rattle.cip_rational.proofs.Rational.Order.{≤ℚ_trans, ≤ℚ_refl, not_le_of_lt, le_of_lt_test}
 use Rattle.cip_problem.specs.Program.{Sides, Program}
-use Rattle.cip_problem.specs.Box.{IsInBox}
 use Rattle.cip_problem.specs.Points.{IsFeasible, cost_of, IsLowerBound}
 use Rattle.cip_problem.specs.Log.{Parked, Entry, Node, node_of, matters}
 use Rattle.cip_cuts.specs.Improving.{IsImproving, IsBoundIn}
-use Rattle.cip_leaves.specs.Searched.{first_node, nodes_given, IsLeftOpen, IsParkedLeaf, OpenMatters, ParkedMatters, NoMore, IsCostHeld, IsOneOf, IsLeast, IsInOpen, IsInParked, IsCovered, HasWideLeaf, IsTrueEntry, AreTrueEntries}
+use Rattle.cip_leaves.specs.Searched.{first_node, IsLeftOpen, OpenMatters, NoMore, IsOneOf, IsLeast, IsInOpen, IsCovered, AreTrueEntries}
 use Rattle.cip_solve.specs.Searching.{IsInOne, Searching}
 use Rattle.cip_solve.proofs.OneMore.{contains_cons, node_of_here, node_of_later, node_of_among}
 

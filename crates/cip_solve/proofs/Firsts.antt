@@ -1,13 +1,13 @@
 -- The first parked leaf, with one more entry.
-use Rattle.std.proofs.Common.{◌≡◌, ◌≢◌, ◌⊎◌, inl, inr, ℕ, true, List, [], ◌∷◌, ◌++◌, length, Option, None, Some, Contains, refl, sym, ap, ◌∙◌, subst, arith, append_assoc}
-use Rattle.std.proofs.lemmas.List.Elements.{Contains-append_left, Contains-push, Contains-push_cases}
+use Rattle.std.proofs.Common.{◌≡◌, ◌≢◌, inl, inr, ℕ, List, [], ◌∷◌, ◌++◌, length, Option, None, Some, Contains, refl, sym, ap, ◌∙◌, subst, append_assoc}
+use Rattle.std.proofs.lemmas.List.Elements.{Contains-push_cases}
 use Rattle.cip_rational.specs.Rational.{ℚ}
 use Rattle.cip_problem.specs.Program.{Program}
 use Rattle.cip_problem.specs.Log.{Closed, Parked, Entry, Node, node_of, AllFollow}
 use Rattle.cip_leaves.specs.Leaf.{IsLeaf, IsOnlyLeaf}
 use Rattle.cip_leaves.specs.Wide as wide
 use Rattle.cip_leaves.specs.Wide.{IsWideAt}
-use Rattle.cip_leaves.specs.Searched.{first_node, nodes_given, NoMore, IsFirstLeast, IsShown}
+use Rattle.cip_leaves.specs.Searched.{first_node, nodes_given, NoMore, IsShown}
 use Rattle.cip_model.specs.declared.verdicts.Place.{Place}
 use Rattle.cip_solve.specs.Kept.{IsFirstParked}
 use Rattle.cip_solve.specs.Settling.{place_of, first_place, first_leaf}
@@ -27,7 +27,7 @@ pub first_long : (found : Place) (place : Option Place) (leaf point : List ℚ) 
 first_long found None leaf point n e f = f
 first_long found (Some first) leaf point n e f = e
 
-contains_middle : (before : List Entry) (entry : Entry) (after : List Entry) → Contains (before ++ entry ∷ after) entry
+pub contains_middle : (before : List Entry) (entry : Entry) (after : List Entry) → Contains (before ++ entry ∷ after) entry
 contains_middle [] entry after = contains_here entry after
 contains_middle (b ∷ bs) entry after = contains_later b entry (bs ++ entry ∷ after) (contains_middle bs entry after)
 

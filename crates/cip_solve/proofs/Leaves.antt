@@ -3,7 +3,7 @@ use Rattle.std.proofs.Common.{◌≡◌, ℕ, zero, suc, ◌<◌, Bool, true, Li
 use Rattle.std.proofs.lemmas.List.Elements.{All-head, All-tail, All-set}
 use Rattle.std.proofs.lemmas.Option.{slice_get-get_or}
 use Rattle.cip_rational.specs.Rational.{ℚ, integer, floor, ceil, ◌≤ℚ◌, IsWhole}
-use Rattle.cip_rational.proofs.Rational.Order.{≤ℚ_refl, ≤ℚ_trans, ≤ℚ_antisymm}
+use Rattle.cip_rational.proofs.Rational.Order.{≤ℚ_trans, ≤ℚ_antisymm}
 use Rattle.cip_rational.proofs.Rational.Whole.{IsWhole-integer}
 use Rattle.cip_rational.proofs.Rational.Rounding.{integer_le, le_ceil, floor_le, whole_le_floor, ceil_le_whole}
 use Rattle.std.specs.List.{AllZip}

@@ -1,5 +1,9 @@
+pub mod Alike
+pub mod Answered
+pub mod Begun
 pub mod Ends
 pub mod Firsts
+pub mod AnswerLaws
 pub mod Leaves
 pub mod Offers
 pub mod OneMore

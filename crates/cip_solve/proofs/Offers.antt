@@ -1,10 +1,10 @@
 -- What offering a leaf comes to.
 use Rattle.std.proofs.Common.{◌≡◌, inl, inr, ℕ, Bool, true, false, List, Option, None, Some, refl, sym, ap, ◌∙◌, subst}
 use Rattle.std.proofs.lemmas.Option.{none-some, same_Some}
-use Rattle.cip_rational.specs.Rational.{ℚ, ◌≤ℚ◌, lt_test}
-use Rattle.cip_rational.proofs.Rational.Order.{≤ℚ_refl, ≤ℚ_of_lt, ≤ℚ_of_eq, not_le_of_lt, lt_of_test, le_of_lt_test}
+use Rattle.cip_rational.specs.Rational.{ℚ, ◌≤ℚ◌}
+use Rattle.cip_rational.proofs.Rational.Order.{≤ℚ_refl, ≤ℚ_of_lt, not_le_of_lt, lt_of_test, le_of_lt_test}
 use Rattle.cip_problem.specs.Program.{Program}
-use Rattle.cip_problem.specs.Points.{IsFeasible, cost_of}
+use Rattle.cip_problem.specs.Points.{cost_of}
 use Rattle.cip_cuts.specs.Improving.{IsImproving, IsNoDearer}
 use Rattle.cip_model.specs.Meaning.{VerdictHolds}
 use Rattle.cip_model.proofs.Meaning.Point.{feasible_or_wide}

@@ -4,11 +4,11 @@ use Rattle.std.specs.Prelude.{⊤}
 use Rattle.std.proofs.lemmas.List.{append-nil}
 use Rattle.std.proofs.lemmas.List.Elements.{All-push, Contains-append_left, Contains-push, Contains-push_cases}
 use Rattle.std.proofs.lemmas.Option.{none-some, same_Some}
-use Rattle.cip_rational.specs.Rational.{ℚ, ◌≤ℚ◌}
-use Rattle.cip_rational.proofs.Rational.Order.{<ℚ_of_lt_of_le, not_le_of_lt, lt_of_test, test_of_lt}
+use Rattle.cip_rational.specs.Rational.{ℚ}
+use Rattle.cip_rational.proofs.Rational.Order.{<ℚ_of_lt_of_le, lt_of_test, test_of_lt}
 use Rattle.cip_problem.specs.Program.{Program}
 use Rattle.cip_problem.specs.Box.{IsInBox}
-use Rattle.cip_problem.specs.Points.{IsFeasible, cost_of}
+use Rattle.cip_problem.specs.Points.{IsFeasible}
 use Rattle.cip_problem.specs.Log.{End, Split, Closed, Parked, Entry, Node, node_of, halves, nodes_of, low_half, high_half, CanSplit, IsRightEnd, AllFollow, matters}
 use Rattle.cip_cuts.specs.Improving.{IsImproving, IsNoDearer}
 use Rattle.cip_cuts.proofs.Improving.{fewer}

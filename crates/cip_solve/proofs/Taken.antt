@@ -1,12 +1,11 @@
 -- A node is taken: its box is entered, and it is split or closed.
-use Rattle.std.proofs.Common.{◌≡◌, ◌≢◌, ◌⊎◌, inl, inr, ℕ, zero, suc, ◌+◌, ◌<◌, ◌≤◌, Bool, true, false, not, List, [], ◌∷◌, ◌++◌, length, Option, None, Some, All, refl, sym, ap, ◌∙◌, subst, arith, length-append}
+use Rattle.std.proofs.Common.{◌≡◌, ◌⊎◌, inl, inr, ℕ, zero, suc, ◌+◌, ◌<◌, ◌≤◌, Bool, true, false, not, List, [], ◌∷◌, ◌++◌, length, Option, None, Some, All, refl, sym, ap, ◌∙◌, subst, arith, length-append}
 use Rattle.std.proofs.lemmas.List.{map-append}
 use Rattle.std.proofs.lemmas.List.Elements.{All-nil, All-head, All-tail, All-push}
-use Rattle.cip_rational.specs.Rational.{ℚ, ◌≤ℚ◌}
+use Rattle.cip_rational.specs.Rational.{ℚ}
 use Rattle.cip_problem.specs.Program.{Sides, Program}
-use Rattle.cip_problem.specs.WellFormed.{IsWellFormed, columns}
+use Rattle.cip_problem.specs.WellFormed.{columns}
 use Rattle.cip_problem.specs.Box.{IsInBox, sides_at}
-use Rattle.cip_problem.specs.Points.{IsFeasible, cost_of}
 use Rattle.cip_problem.specs.Log.{End, Split, Closed, Parked, Entry, matters}
 use Rattle.cip_cuts.specs.Improving.{IsImproving, IsNoDearer}
 use Rattle.cip_leaves.specs.Leaf.{IsOnlyLeaf}
@@ -16,7 +15,6 @@ use Rattle.cip_model.specs.Meaning.{VerdictHolds}
 use Rattle.cip_model.specs.Verdicts.{verdict_of}
 use Rattle.cip_model.proofs.Meaning.Point.{verdict_holds}
 use Rattle.cip_model.specs.declared.verdicts.Place.{Place}
-use Rattle.cip_model.specs.declared.verdicts.Verdict.{Verdict}
 use Rattle.cip_model.specs.declared.verdicts.Verdict.TheVariants.{Wide}
 use Rattle.cip_incumbent.specs.HeldPoint.{Holding, HoldsPointOf, offered, after_offer}
 use Rattle.cip_solve.specs.Settling.{place_of, overflow_in, leaf_end, first_place, first_leaf}

@@ -11,7 +11,7 @@ use Rattle.cip_problem.specs.Activity.{StandsBelow, value_at}
 use Rattle.cip_frac.specs.declared.operations.Wide.{Wide as Overflow}
 use Rattle.cip_frac.specs.Outcomes.{and_then, product_added, dot_from}
 use Rattle.cip_lin.specs.RowSums.{activity_from}
-use Rattle.cip_leaves.specs.Wide.{InRow, InCost, fixed_values, added, then_sum, row_part, cost_part, is_wide_row, IsWideAt}
+use Rattle.cip_leaves.specs.Wide.{fixed_values, added, then_sum, row_part, cost_part, IsWideAt}
 use Rattle.cip_model.specs.Meaning.{Overflows}
 use Rattle.cip_model.specs.declared.verdicts.Place.{Place}
 use Rattle.cip_model.specs.declared.verdicts.Place.TheVariants.{Row as AtRow, Cost}

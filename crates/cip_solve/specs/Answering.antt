@@ -1,11 +1,10 @@
 -- What is right of an answer of a search: of its point, its cost, its bound and its end. All figures are those of
 -- the minimised form.
 use Rattle.std.specs.Prelude.{◌≡◌, ◌≢◌, ◌⊎◌, ℕ, List, [], Option, None, Some, IfSome, IsSome, option_map, length, ⊤}
-use Rattle.std.specs.List.{Contains}
 use Rattle.cip_rational.specs.Rational.{ℚ}
 use Rattle.cip_problem.specs.Program.{Sides, Program}
 use Rattle.cip_problem.specs.Points.{IsFeasible, cost_of, IsLowerBound}
-use Rattle.cip_problem.specs.Log.{Parked, Entry, IsLog}
+use Rattle.cip_problem.specs.Log.{Entry, IsLog}
 use Rattle.cip_leaves.specs.Searched.{OpenMatters, ParkedMatters, NoMore, IsLeast, IsCovered, AreTrueEntries, IsShown}
 use Rattle.cip_report.specs.declared.figures.Ended.{Ended}
 use Rattle.cip_report.specs.declared.figures.Ended.TheVariants.{Optimal, Infeasible, NodeLimit, Wide, NoMemory}

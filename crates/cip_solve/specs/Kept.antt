@@ -1,5 +1,5 @@
 -- What a search keeps true from node to node, and how it ends.
-use Rattle.std.specs.Prelude.{◌≡◌, ◌≢◌, ◌⊎◌, ℕ, ◌+◌, ◌*◌, ◌≤◌, Bool, true, false, List, [], ◌∷◌, length, Option, None, Some, IfSome, option_map, All, Contains, ⊤}
+use Rattle.std.specs.Prelude.{◌≡◌, ◌≢◌, ◌⊎◌, ℕ, ◌+◌, ◌*◌, ◌≤◌, Bool, true, false, List, [], ◌∷◌, length, Option, None, Some, IfSome, option_map, All, Contains}
 use Rattle.cip_rational.specs.Rational.{ℚ}
 use Rattle.cip_problem.specs.Program.{Sides, Program}
 use Rattle.cip_problem.specs.WellFormed.{IsWellFormed, columns}
@@ -7,8 +7,9 @@ use Rattle.cip_problem.specs.Points.{IsLowerBound}
 use Rattle.cip_problem.specs.Log.{Parked, Entry, matters}
 use Rattle.cip_leaves.specs.Searched.{IsShown}
 use Rattle.cip_model.specs.declared.verdicts.Place.{Place}
-use Rattle.cip_incumbent.specs.HeldPoint.{Holding, HoldsPointOf}
+use Rattle.cip_incumbent.specs.HeldPoint.{HeldPoint, Holding, HoldsPointOf}
 use Rattle.cip_report.specs.declared.figures.Shown.TheVariants.{Place as ShownPlace}
+use Rattle.cip_report.specs.declared.figures.Held.{Held}
 use Rattle.cip_report.specs.declared.figures.Ended.{Ended}
 use Rattle.cip_report.specs.declared.figures.Ended.TheVariants.{Optimal, Infeasible, NodeLimit, Wide, NoMemory as LacksMemory}
 use Rattle.cip_solve.specs.declared.stack.OpenNode.{OpenNode}
@@ -52,7 +53,7 @@ SearchStops limit log bound held nodes NoMemory = nodes ≢ []
 
 -- the bound at the end: the cost held where no node is open and no leaf parked, or where none of these matters, and
 -- else that of the root
-abbrev pub final_bound : Bool → Option ℚ → Option ℚ → List OpenNode → Option Place → Option ℚ
+abbrev pub final_bound : {X : Type 0} → Bool → Option ℚ → Option ℚ → List X → Option Place → Option ℚ
 final_bound true bound held nodes place = held
 final_bound false bound held [] None = held
 final_bound false bound held [] (Some place) = bound
@@ -67,3 +68,14 @@ IsDone closed held place leaf NodeLimit = ⊥
 IsDone closed held place leaf (Wide values (ShownPlace found)) =
     (closed ≡ false) × (place ≡ Some found) × (values.items ≡ leaf)
 IsDone closed held place leaf LacksMemory = ⊥
+
+-- how a search ends that stopped so
+abbrev pub EndsBy : Stop → Bool → Bool → Option Place → List ℚ → Ended → Type 0
+EndsBy Done closed held place leaf ended = IsDone closed held place leaf ended
+EndsBy Spent closed held place leaf ended = ended ≡ NodeLimit
+EndsBy NoMemory closed held place leaf ended = ended ≡ LacksMemory
+
+-- the point handed over is the one held
+abbrev pub BestIs : Option HeldPoint → Option Held → Type 0
+BestIs best None = best ≡ None
+BestIs best (Some held) = best ≡ Some (record { cost = held.cost; point = held.point.items })

@@ -7,3 +7,5 @@ pub mod Searching
 pub mod Settling
 pub mod Splits
 pub mod Stacked
+pub mod Start
+pub mod Statements

@@ -1,5 +1,5 @@
 -- What becomes of a leaf: how its node ends, and which leaf is shown.
-use Rattle.std.specs.Prelude.{ℕ, List, Option, None, Some}
+use Rattle.std.specs.Prelude.{List, Option, None, Some}
 use Rattle.cip_rational.specs.Rational.{ℚ}
 use Rattle.cip_problem.specs.Log.{End, Closed, Parked}
 use Rattle.cip_leaves.specs.Wide.{Place, InRow, InCost}

@@ -3,10 +3,12 @@
 
 mod boxes;
 mod found;
+mod laws;
 mod logs;
 mod search;
 mod splits;
 mod stack;
 
+pub use laws::{answers_fit, budgets_suffice, ends_are_exact, leaves_are_checked};
 pub use logs::{End, Log, Logged};
-pub use search::{Options, root_bound};
+pub use search::{Options, root_bound, solve};
