@@ -1,0 +1,10 @@
+pub mod Chosen
+pub mod EndFacts
+pub mod Lists
+pub mod Shortest
+pub mod Solved
+pub mod Begins
+pub mod StartLaws
+pub mod SlackStart
+pub mod Systems
+pub mod Tabled

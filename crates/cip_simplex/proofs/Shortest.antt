@@ -1,0 +1,84 @@
+-- The ways of a variable, one after another.
+use Rattle.std.proofs.Common.{◌≡◌, ◌≢◌, ℕ, zero, suc, ◌+◌, ◌<◌, true, false, cond, ◌||◌, is_some, ap₂, Option, None, Some, refl, sym, ap, ◌∙◌, inl, inr, arith, add-one}
+use Rattle.std.proofs.lemmas.Bool.{ne_eqb, cases_eq, or_right}
+use Rattle.cip_dictionary.specs.Tables.{first_of}
+use Rattle.cip_dictionary.specs.Dictionary.{Dictionary}
+use Rattle.cip_dictionary.specs.declared.moves.Move.{Move}
+use Rattle.cip_rational.specs.Rational.{zeroℚ, lt_test}
+use Rattle.cip_problem.specs.Box.{sides_at}
+use Rattle.cip_dictionary.specs.Dictionary.{is_basic, entry}
+use Rattle.cip_dictionary.specs.Exchange.{step}
+use Rattle.cip_dictionary.specs.MoveOperations.{step_operations}
+use Rattle.cip_dictionary.specs.declared.moves.Stand.{Stand}
+use Rattle.cip_dictionary.specs.declared.moves.Move.TheVariants.{Exchange}
+use Rattle.cip_dictionary.proofs.Zeros.{is_zero_of, is_zero_false}
+use Rattle.cip_bland.specs.Headings.{along, heading_for, goal_ahead}
+use Rattle.cip_bland.specs.Rule.{Way, way_of, way_with, falling_heading, shortest, shorter}
+use Rattle.cip_bland.specs.MoveList.{is_out_of_range, wide_way, first_wide_way}
+
+-- none of the ways so far is out of range, and neither is the next
+pub wide_more : (d : Dictionary) (j n : ℕ) → first_wide_way d j n ≡ None → wide_way d j (way_of d j n) ≡ None → first_wide_way d j (n + 1) ≡ None
+wide_more d j n h e = rw add-one (ap (λ o. first_of o (wide_way d j (way_of d j n))) h ∙ e)
+
+-- the first that is out of range
+pub wide_at : (d : Dictionary) (j n k : ℕ) (move : Move) → k < n → first_wide_way d j k ≡ None → wide_way d j (way_of d j k) ≡ Some move → first_wide_way d j n ≡ Some move
+wide_at d j zero k move l h e = absurd (omega (arith, l))
+wide_at d j (suc n) k move l h e =
+    elim (cases_eq k n) [
+      | inl same ↦ (let h' : first_wide_way d j n ≡ None = rw same at h in
+          let e' : wide_way d j (way_of d j n) ≡ Some move = rw same at e in
+          ap (λ o. first_of o (wide_way d j (way_of d j n))) h' ∙ e')
+      | inr other ↦ ap (λ o. first_of o (wide_way d j (way_of d j n))) (wide_at d j n k move (omega (arith, l, other)) h e)
+    ]
+
+-- the shortest with one more
+pub shortest_more : (n : ℕ) (ways : ℕ → Option Way) (best found next : Option Way) → best ≡ shortest n ways → found ≡ ways n → next ≡ shorter best found → next ≡ shortest (n + 1) ways
+shortest_more n ways best found next b f e = rw add-one (e ∙ ap (λ w. shorter w found) b ∙ ap (shorter (shortest n ways)) f)
+
+-- ---- the way to the side of a basic variable
+
+module _ (d : Dictionary) (j v : ℕ) (apart : v ≢ j) (basic : is_basic d v ≡ true) where
+  -- none where the entry is 0
+  pub zero_entry : entry d v j ≡ zeroℚ → (wide_way d j (way_of d j v) ≡ None) × (None ≡ way_of d j v)
+  zero_entry e =
+      let none : way_of d j v ≡ None = rw (ne_eqb v j apart, basic, is_zero_of (entry d v j) e) refl in
+      (ap (wide_way d j) none, sym none)
+
+  goal_is : entry d v j ≢ zeroℚ → way_of d j v ≡ way_with d j v (goal_ahead (heading_for (falling_heading d j) (entry d v j)) (sides_at d.sides v))
+  goal_is ne = rw (ne_eqb v j apart, basic, is_zero_false (entry d v j) ne) refl
+
+  pub no_side : entry d v j ≢ zeroℚ → goal_ahead (heading_for (falling_heading d j) (entry d v j)) (sides_at d.sides v) ≡ None → (wide_way d j (way_of d j v) ≡ None) × (None ≡ way_of d j v)
+  no_side ne e =
+      let none : way_of d j v ≡ None = goal_is ne ∙ ap (way_with d j v) e in
+      (ap (wide_way d j) none, sym none)
+
+  way_is : (to : Stand) → entry d v j ≢ zeroℚ → goal_ahead (heading_for (falling_heading d j) (entry d v j)) (sides_at d.sides v) ≡ Some to → way_of d j v ≡ Some (record { variable = v; to = to; length = along (falling_heading d j) (step d v j to) })
+  way_is to ne e =
+      goal_is ne ∙ ap (way_with d j v) e
+      ∙ ap (λ b. Some (record { variable = v; to = to; length = along (falling_heading d j) (cond b (Rattle.cip_dictionary.specs.Exchange.way d j) (step d v j to)) })) (ne_eqb v j apart)
+
+  pub side_found : (to : Stand) → entry d v j ≢ zeroℚ → goal_ahead (heading_for (falling_heading d j) (entry d v j)) (sides_at d.sides v) ≡ Some to → is_out_of_range (step_operations d v j to) ≡ false
+      → (wide_way d j (way_of d j v) ≡ None) × (Some (record { variable = v; to = to; length = along (falling_heading d j) (step d v j to) }) ≡ way_of d j v)
+  side_found to ne e fits = (ap (wide_way d j) (way_is to ne e) ∙ rw (ne_eqb v j apart, fits) refl, sym (way_is to ne e))
+
+  pub side_wide : (to : Stand) → entry d v j ≢ zeroℚ → goal_ahead (heading_for (falling_heading d j) (entry d v j)) (sides_at d.sides v) ≡ Some to → is_out_of_range (step_operations d v j to) ≡ true → wide_way d j (way_of d j v) ≡ Some (Exchange v j to)
+  side_wide to ne e wide = ap (wide_way d j) (way_is to ne e) ∙ rw (ne_eqb v j apart, wide) refl
+
+-- ---- whether there is a way at all
+
+some_shorter : (first second : Option Way) → is_some (shorter first second) ≡ is_some first || is_some second
+some_shorter None second = refl
+some_shorter (Some first) None = refl
+some_shorter (Some first) (Some second) =
+    elim (lt_test second.length first.length) as (λ b. is_some (cond b (Some second) (Some first)) ≡ true) [ true ↦ refl | false ↦ refl ]
+
+pub none_more : (n : ℕ) (ways : ℕ → Option Way) → is_some (shortest n ways) ≡ false → is_some (ways n) ≡ false → is_some (shortest (n + 1) ways) ≡ false
+none_more n ways h e = rw add-one (some_shorter (shortest n ways) (ways n) ∙ ap₂ (λ a b. a || b) h e)
+
+pub some_at : (n k : ℕ) (ways : ℕ → Option Way) → k < n → is_some (ways k) ≡ true → is_some (shortest n ways) ≡ true
+some_at zero k ways l e = absurd (omega (arith, l))
+some_at (suc n) k ways l e =
+    some_shorter (shortest n ways) (ways n) ∙ elim (cases_eq k n) [
+      | inl same ↦ (let e' : is_some (ways n) ≡ true = rw same at e in or_right (is_some (shortest n ways)) (is_some (ways n)) e')
+      | inr other ↦ ap (λ b. b || is_some (ways n)) (some_at n k ways (omega (arith, l, other)) e)
+    ]

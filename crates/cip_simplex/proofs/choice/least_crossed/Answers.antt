@@ -1,0 +1,16 @@
+use Rattle.std.proofs.Common.{◌≡◌, sym, arith}
+use Rattle.cip_dictionary.specs.Dictionary.{size}
+use Rattle.cip_dict.proofs.LeastBasic.{least_more, least_at}
+use Rattle.cip_bland.specs.Rule as rule
+use Rattle.cip_simplex.proofs.choice.least_crossed.Goals as goal
+
+pub returns-then-is_crossed : goal.returns-then-is_crossed
+returns-then-is_crossed c = sym (least_at (size c.args.dict.now) c.loop-v.v (rule.is_crossed c.args.dict.now) (omega arith) c.loop-v.invariant (sym c.if-is_crossed.ensures))
+
+pub loop-v-preserved : goal.loop-v-preserved
+loop-v-preserved c = least_more c.loop-v.v (rule.is_crossed c.args.dict.now) c.loop-v.invariant (sym c.if-is_crossed.ensures)
+
+pub returns : goal.returns
+returns c =
+    let end : c.loop-v.v ≡ size c.args.dict.now = omega arith in
+    sym (rw end at c.loop-v.invariant)

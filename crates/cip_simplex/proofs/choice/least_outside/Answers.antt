@@ -1,0 +1,16 @@
+use Rattle.std.proofs.Common.{◌≡◌, sym, arith}
+use Rattle.cip_dictionary.specs.Dictionary.{size}
+use Rattle.cip_dict.proofs.LeastBasic.{least_more, least_at}
+use Rattle.cip_bland.specs.Rule as rule
+use Rattle.cip_simplex.proofs.choice.least_outside.Goals as goal
+
+pub returns-then-is_outside : goal.returns-then-is_outside
+returns-then-is_outside c = sym (least_at (size c.args.dict.now) c.loop-v.v (rule.is_outside c.args.dict.now) (omega arith) c.loop-v.invariant (sym c.if-is_outside.ensures))
+
+pub loop-v-preserved : goal.loop-v-preserved
+loop-v-preserved c = least_more c.loop-v.v (rule.is_outside c.args.dict.now) c.loop-v.invariant (sym c.if-is_outside.ensures)
+
+pub returns : goal.returns
+returns c =
+    let end : c.loop-v.v ≡ size c.args.dict.now = omega arith in
+    sym (rw end at c.loop-v.invariant)

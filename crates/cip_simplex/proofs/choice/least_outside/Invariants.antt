@@ -1,0 +1,7 @@
+use Rattle.std.proofs.Common.{◌≡◌, None}
+use Rattle.cip_dictionary.specs.Tables.{least}
+use Rattle.cip_bland.specs.Rule as rule
+use Rattle.cip_simplex.proofs.choice.least_outside.Given as goal
+
+abbrev pub invariant-loop-v : goal.invariant-loop-v
+invariant-loop-v l = least l.v (rule.is_outside l.dict) ≡ None

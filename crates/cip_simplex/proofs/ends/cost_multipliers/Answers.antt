@@ -1,0 +1,9 @@
+use Rattle.std.proofs.Common.{◌∙◌, ◌++◌, ◌∷◌, [], sym, ap₂}
+use Rattle.cip_dict.proofs.Grown.{table_none, table_more}
+use Rattle.cip_simplex.proofs.ends.cost_multipliers.Goals as goal
+
+pub loop-v-init : goal.loop-v-init
+loop-v-init c = c.new-multipliers.ensures.items ∙ table_none _
+
+pub loop-v-preserved : goal.loop-v-preserved
+loop-v-preserved c = c.in_ok-push.ensures.items ∙ ap₂ (λ xs x. xs ++ x ∷ []) c.loop-v.invariant c.cost_entry.ensures ∙ sym (table_more c.loop-v.v _)

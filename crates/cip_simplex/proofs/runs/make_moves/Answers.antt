@@ -1,0 +1,25 @@
+use Rattle.std.proofs.Common.{◌∙◌, arith}
+use Rattle.cip_simplex.specs.Advances.{ending_of}
+use Rattle.cip_simplex.proofs.Lists.{made_size, one_made, all_wide, all_ended, all_stopped}
+use Rattle.cip_simplex.proofs.runs.make_moves.Goals as goal
+
+pub returns-in-Wide-clause-run : goal.returns-in-Wide-clause-run
+returns-in-Wide-clause-run c = all_wide c.args.limit c.loop-made._made c.loop-made.dict c.loop-made.moves.items _ c.loop-made-test.true c.loop-made.invariant.so_far c.take_step.new.dict c.in-Wide.wide c.in-Wide.ensures
+
+pub returns-in-End-clause-run : goal.returns-in-End-clause-run
+returns-in-End-clause-run c = all_ended c.args.limit c.loop-made._made c.loop-made.dict c.loop-made.moves.items _ c.loop-made-test.true c.loop-made.invariant.so_far c.take_step.new.dict c.in-End.step c.in-End.ensures
+
+pub loop-made-preserved : goal.loop-made-preserved
+loop-made-preserved c = record {
+  variables = made_size c.loop-made.dict c.take_step.new.dict c.in-Made.chosen c.in-Made.ensures ∙ c.loop-made.invariant.variables;
+  so_far = one_made c.args.limit c.loop-made._made c.loop-made.dict c.loop-made.moves.items _ c.loop-made-test.true c.loop-made.invariant.so_far c.take_step.new.dict c.in-Made.chosen c.push.new.self.items c.in-Made.ensures c.in_ok-push-in-Made.ensures.items;
+}
+
+pub returns-clause-run : goal.returns-clause-run
+returns-clause-run c = all_stopped c.args.limit c.loop-made._made c.loop-made.dict c.loop-made.moves.items _ (ending_of c.ending_here.result) (omega arith) c.loop-made.invariant.so_far c.ending_here.ensures
+
+pub take_step-requires : goal.take_step-requires
+take_step-requires c = omega (arith, c.loop-made.invariant.variables, c.requires)
+
+pub ending_here-requires : goal.ending_here-requires
+ending_here-requires c = omega (arith, c.loop-made.invariant.variables, c.requires)

@@ -1,0 +1,11 @@
+use Rattle.std.proofs.Common.{◌≡◌, None}
+use Rattle.cip_dictionary.specs.Dictionary.{size}
+use Rattle.cip_simplex.specs.Starts.{begun_through, entering_move}
+use Rattle.cip_simplex.proofs.start_moves.enter_columns.Given as goal
+
+abbrev pub invariant-loop-k : goal.invariant-loop-k
+invariant-loop-k l = record {
+  variables : size l.dict ≡ size l.fn.dict;
+  made : begun_through l.k (entering_move l.start) (record { moves = l.fn.moves.items; last = l.fn.dict; wide = None })
+      ≡ record { moves = l.moves.items; last = l.dict; wide = None };
+}

@@ -1,0 +1,12 @@
+use Rattle.std.proofs.Common.{◌≡◌, false, rules}
+use Rattle.cip_dictionary.specs.Dictionary.{is_basic}
+use Rattle.cip_simplex.proofs.Begins.{leaving_within, can_enter}
+use Rattle.cip_simplex.proofs.start_moves.entering_move.Goals as goal
+
+pub leaving_stand-requires-clause-within : goal.leaving_stand-requires-clause-within
+leaving_stand-requires-clause-within c = leaving_within c.args.start.now c.args.dict.now c.args.k c.in-Some.v c.in-Some.ensures
+
+pub returns-in-Some-clause-can : goal.returns-in-Some-clause-can
+returns-in-Some-clause-can c =
+    let nonbasic : is_basic c.args.dict.now c.args.k ≡ false = search rules in
+    can_enter c.args.start.now c.args.dict.now c.args.k c.in-Some.v c.leaving_stand.result c.requires.entering nonbasic c.in-Some.ensures c.leaving_stand.ensures

@@ -1,0 +1,9 @@
+use Rattle.std.proofs.Common.{sym, ◌∙◌}
+use Rattle.cip_simplex.proofs.Chosen.{can_descend, wide_descent}
+use Rattle.cip_simplex.proofs.steps.improve.Goals as goal
+
+pub carry_out-requires-clause-can : goal.carry_out-requires-clause-can
+carry_out-requires-clause-can c = can_descend c.args.dict.now c.args.j c.requires.improves _ c.move_by.result c.in-Ok-Some.ensures.consistent (sym c.in-Ok-Some.field-0-is ∙ c.in-Ok-Some.ensures.shortest.1) c.move_by.ensures
+
+pub returns-in-Err : goal.returns-in-Err
+returns-in-Err c = wide_descent c.args.dict.now c.args.j c.requires.improves c.in-Err.wide c.in-Err.ensures.shortest

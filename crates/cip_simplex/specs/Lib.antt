@@ -1,0 +1,10 @@
+pub mod Advances
+pub mod Certificates
+pub mod LpAnswers
+pub mod LpCode
+pub mod LpEntries
+pub mod LpShape
+pub mod StartCode
+pub mod StartLaws
+pub mod Starts
+pub mod WayCode

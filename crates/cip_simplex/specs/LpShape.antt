@@ -1,0 +1,12 @@
+-- Linear programs that are solved.
+use Rattle.std.specs.Prelude.{ℕ, ◌+◌, ◌<◌, ◌^◌, length}
+use Rattle.cip_linear.specs.LinearProgram.{LinearProgram, IsProper}
+
+-- the columns and the rows
+abbrev pub variables : LinearProgram → ℕ
+variables program = length program.bounds + length program.rows
+
+-- each column has a cost, rows stand on columns of the program, and there are fewer than 2^32 columns and rows
+pub record IsSolvable (program : LinearProgram) : Type 0 where
+  pub proper : IsProper program
+  pub few : variables program < 2 ^ 32

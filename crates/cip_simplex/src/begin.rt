@@ -1,0 +1,82 @@
+//! The first state of a linear program.
+ghost use Rattle.std.specs.Prelude.{◌≡◌, ℕ, ◌<◌, ◌^◌, ◌++◌, length, map, Some, None, IfOk, MatchResult};
+ghost use Rattle.cip_problem.specs.RowTerms.{AreTerms};
+ghost use Rattle.cip_linear.specs.Multipliers.{row_sides};
+ghost use Rattle.cip_dictionary.specs.Operations.{first_overflow};
+ghost use Rattle.cip_dictionary.specs.FirstState.{first_operations};
+ghost use Rattle.cip_dictionary.specs.ProgramState.{terms_at, system_of, first_of_program};
+ghost use Rattle.cip_dict.specs.Entries.{IsFirstFault};
+ghost use Rattle.cip_simplex.specs.LpEntries.{entry_of, entries_in};
+
+use crate::lp::Lp;
+use cip_dict::{Dict, FirstFault};
+use cip_frac::Frac;
+use cip_lin::{Row, Sides, Term};
+use std::alloc::{AllocError, Global};
+
+/// Puts the entries of row r at the end; `Err` where a growth was refused.
+fn put_entries(
+    entries: &mut Vec<(u32, u32, Frac)>,
+    r: u32,
+    terms: &[Term],
+) -> Result<(), AllocError>
+    ensures { IfOk result (λ _. entries.new.items ≡ entries.old.items ++ map (entry_of r) terms.now) }
+{
+    for term in terms {
+        entries.push((r, term.col, term.coef))?;
+    }
+    Ok(())
+}
+
+/// The entries of all rows, which have their terms by rising column; `Err` where the memory was refused.
+fn entries_of(alloc: Global, rows: &[Row]) -> Result<Vec<(u32, u32, Frac)>, AllocError>
+    requires { length rows.now < 2 ^ 32 }
+    ensures { IfOk result (λ entries. (entries.items ≡ entries_in rows.now)
+        × ((r : ℕ) → r < length rows.now → AreTerms (terms_at rows.now r))) }
+{
+    let mut entries = Vec::new(alloc);
+    for r in 0..rows.len() {
+        put_entries(&mut entries, r as u32, rows[r].terms())?;
+    }
+    Ok(entries)
+}
+
+/// The sides of a row.
+fn sides_of(row: &Row) -> Sides
+    ensures { result ≡ row_sides row.now }
+{
+    Sides {
+        low: row.low(),
+        high: row.high(),
+    }
+}
+
+/// The sides of all rows; `Err` where the memory was refused.
+fn all_sides(alloc: Global, rows: &[Row]) -> Result<Vec<Sides>, AllocError>
+    ensures { IfOk result (λ sides. sides.items ≡ map row_sides rows.now) }
+{
+    let mut sides = Vec::new(alloc);
+    for row in rows {
+        sides.push(sides_of(row))?;
+    }
+    Ok(sides)
+}
+
+/// The first state of a linear program: rows are basic, and each column stands at its low side, else at its high side,
+/// else at 0. `OutOfRange` comes exactly where an operation of its values leaves the range; `NoMemory` where memory was
+/// refused.
+pub(crate) fn first_state(alloc: Global, lp: &Lp) -> Result<Dict, FirstFault>
+    ensures { MatchResult result
+        (λ dict. (first_overflow (first_operations (system_of lp.now)) ≡ None) × (dict ≡ first_of_program lp.now))
+        (IsFirstFault (system_of lp.now)) }
+{
+    let entries = entries_of(alloc, lp.rows())?;
+    let sides = all_sides(alloc, lp.rows())?;
+    Dict::first(
+        alloc,
+        entries.as_slice(),
+        sides.as_slice(),
+        lp.sides(),
+        lp.costs(),
+    )
+}

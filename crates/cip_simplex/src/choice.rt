@@ -1,0 +1,132 @@
+//! Which variables are at fault, and which may mend that: the tests of Bland's rule, and the least that passes each.
+ghost use Rattle.std.specs.Prelude.{◌≡◌, ◌<◌, ◌^◌, true};
+ghost use Rattle.cip_dictionary.specs.Tables.{least};
+ghost use Rattle.cip_dictionary.specs.Dictionary as def;
+ghost use Rattle.cip_dictionary.specs.Operations as operations;
+ghost use Rattle.cip_bland.specs.Rule as rule;
+
+use crate::headings::{are_crossed, back_of, heading_for, is_free, outside_way};
+use cip_bland::Heading;
+use cip_dict::Dict;
+use cip_frac::Frac;
+
+/// Whether a number is 0.
+pub(crate) fn vanishes(a: Frac) -> bool
+    ensures { result ≡ operations.is_zero a }
+{
+    a.is_zero()
+}
+
+/// Whether the low side of variable v is above its high one.
+fn is_crossed(dict: &Dict, v: u32) -> bool
+    requires { v < def.size dict.now }
+    ensures { result ≡ rule.is_crossed dict.now v }
+{
+    are_crossed(dict.sides(v))
+}
+
+/// The least variable whose low side is above its high one.
+pub(crate) fn least_crossed(dict: &Dict) -> Option<u32>
+    requires { def.size dict.now < 2 ^ 32 }
+    ensures { result ≡ least (def.size dict.now) (rule.is_crossed dict.now) }
+{
+    for v in 0..dict.len() {
+        if is_crossed(dict, v as u32) {
+            return Some(v as u32);
+        }
+    }
+    None
+}
+
+/// Whether variable v is basic and outside its sides.
+fn is_outside(dict: &Dict, v: u32) -> bool
+    requires { v < def.size dict.now }
+    ensures { result ≡ rule.is_outside dict.now v }
+{
+    dict.stand(v).is_none() && !dict.sides(v).contains(dict.value(v))
+}
+
+/// The least basic variable outside its sides.
+pub(crate) fn least_outside(dict: &Dict) -> Option<u32>
+    requires { def.size dict.now < 2 ^ 32 }
+    ensures { result ≡ rule.least_outside dict.now }
+{
+    for v in 0..dict.len() {
+        if is_outside(dict, v as u32) {
+            return Some(v as u32);
+        }
+    }
+    None
+}
+
+/// The way in which variable i is outside its sides, where it is.
+pub(crate) fn outside_heading(dict: &Dict, i: u32) -> Heading
+    requires { i < def.size dict.now }
+    ensures { result ≡ rule.outside_heading dict.now i }
+{
+    outside_way(dict.sides(i), dict.value(i))
+}
+
+/// Whether variable k may go the way by which what has this entry on it goes a way.
+fn drives(dict: &Dict, entry: Frac, heading: Heading, k: u32) -> bool
+    requires { k < def.size dict.now }
+    ensures { result ≡ rule.drives dict.now (λ _. entry) heading k }
+{
+    !vanishes(entry) && is_free(dict.sides(k), dict.stand(k), heading_for(heading, entry))
+}
+
+/// Whether the basic variable i goes this way as variable k goes where it may.
+fn is_driving(dict: &Dict, i: u32, heading: Heading, k: u32) -> bool
+    requires leaving { i < def.size dict.now }
+    requires basic { def.is_basic dict.now i ≡ true }
+    requires within { k < def.size dict.now }
+    ensures { result ≡ rule.drives dict.now (def.entry dict.now i) heading k }
+{
+    drives(dict, dict.entry(i, k), heading, k)
+}
+
+/// The least variable that takes i this way as it goes where it may.
+fn least_driving(dict: &Dict, i: u32, heading: Heading) -> Option<u32>
+    requires few { def.size dict.now < 2 ^ 32 }
+    requires leaving { i < def.size dict.now }
+    requires basic { def.is_basic dict.now i ≡ true }
+    ensures { result ≡ least (def.size dict.now) (rule.drives dict.now (def.entry dict.now i) heading) }
+{
+    for k in 0..dict.len() {
+        if is_driving(dict, i, heading, k as u32) {
+            return Some(k as u32);
+        }
+    }
+    None
+}
+
+/// The least variable that brings i, which is outside, nearer to its side.
+pub(crate) fn least_repairing(dict: &Dict, i: u32) -> Option<u32>
+    requires few { def.size dict.now < 2 ^ 32 }
+    requires leaving { i < def.size dict.now }
+    requires basic { def.is_basic dict.now i ≡ true }
+    ensures { result ≡ least (def.size dict.now) (rule.repairs dict.now i) }
+{
+    least_driving(dict, i, back_of(outside_heading(dict, i)))
+}
+
+/// Whether the cost falls as variable k goes where it may.
+fn improves(dict: &Dict, k: u32) -> bool
+    requires { k < def.size dict.now }
+    ensures { result ≡ rule.improves dict.now k }
+{
+    drives(dict, dict.cost_entry(k), Heading::Down, k)
+}
+
+/// The least variable by which the cost falls.
+pub(crate) fn least_improving(dict: &Dict) -> Option<u32>
+    requires { def.size dict.now < 2 ^ 32 }
+    ensures { result ≡ least (def.size dict.now) (rule.improves dict.now) }
+{
+    for k in 0..dict.len() {
+        if improves(dict, k as u32) {
+            return Some(k as u32);
+        }
+    }
+    None
+}

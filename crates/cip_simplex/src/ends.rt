@@ -1,0 +1,242 @@
+//! What the ends of a list of moves answer.
+ghost use Rattle.std.specs.Prelude.{◌≡◌, ◌+◌, ◌<◌, ◌≤◌, ◌^◌, true, length, IfOk};
+ghost use Rattle.cip_dictionary.specs.Tables.{table};
+ghost use Rattle.cip_dictionary.specs.Dictionary as def;
+ghost use Rattle.cip_bland.specs.Rule as rule;
+ghost use Rattle.cip_bland.specs.EndAnswers as answers;
+ghost use Rattle.cip_bland.specs.EndAnswers.{change_of, row_multiplier, answer_at};
+ghost use Rattle.cip_simplex.specs.Certificates as certificates;
+ghost use Rattle.cip_simplex.specs.Certificates.{certificate_on, crossed_on};
+ghost use Rattle.cip_simplex.specs.LpShape.{variables};
+ghost use Rattle.cip_simplex.specs.LpAnswers.{IsCombo, IsAnswer};
+
+use crate::answers::LpAnswer;
+use crate::choice::outside_heading;
+use crate::combos::combination;
+use crate::headings::{along, back_of};
+use crate::lp::Lp;
+use crate::ways::falling_heading;
+use cip_bland::{Heading, Step};
+use cip_dict::Dict;
+use cip_frac::Frac;
+use cip_lin::{ColumnMultiple, Combo, RowId, RowMultiple};
+use std::alloc::{AllocError, Global};
+
+/// The values of the first n variables; `Err` where memory was refused.
+fn values_of(alloc: Global, dict: &Dict, n: usize) -> Result<Vec<Frac>, AllocError>
+    requires few { def.size dict.now < 2 ^ 32 }
+    requires within { n ≤ def.size dict.now }
+    ensures { IfOk result (λ values. values.items ≡ table n (def.value dict.now)) }
+{
+    let mut values = Vec::new(alloc);
+    for v in 0..n {
+        values.push(dict.value(v as u32))?;
+    }
+    Ok(values)
+}
+
+/// By how much variable v changes as j goes one this way, by which the cost falls.
+fn change_at(dict: &Dict, j: u32, heading: Heading, v: u32) -> Frac
+    requires entering { j < def.size dict.now }
+    requires falls { heading ≡ rule.falling_heading dict.now j }
+    requires within { v < def.size dict.now }
+    ensures { result ≡ change_of dict.now j v }
+{
+    if v == j {
+        along(heading, Frac::one())
+    } else if dict.stand(v).is_none() {
+        along(heading, dict.entry(v, j))
+    } else {
+        Frac::zero()
+    }
+}
+
+/// By how much the first n variables change as j goes one, so that the cost falls; `Err` where memory was refused.
+fn changes_of(alloc: Global, dict: &Dict, j: u32, n: usize) -> Result<Vec<Frac>, AllocError>
+    requires few { def.size dict.now < 2 ^ 32 }
+    requires entering { j < def.size dict.now }
+    requires within { n ≤ def.size dict.now }
+    ensures { IfOk result (λ changes. changes.items ≡ table n (change_of dict.now j)) }
+{
+    let heading = falling_heading(dict, j);
+    let mut changes = Vec::new(alloc);
+    for v in 0..n {
+        changes.push(change_at(dict, j, heading, v as u32))?;
+    }
+    Ok(changes)
+}
+
+/// The entries of the cost; `Err` where memory was refused.
+fn cost_multipliers(alloc: Global, dict: &Dict) -> Result<Vec<Frac>, AllocError>
+    requires { def.size dict.now < 2 ^ 32 }
+    ensures { IfOk result (λ multipliers. multipliers.items ≡ table (def.size dict.now) (def.cost_entry dict.now)) }
+{
+    let mut multipliers = Vec::new(alloc);
+    for v in 0..dict.len() {
+        multipliers.push(dict.cost_entry(v as u32))?;
+    }
+    Ok(multipliers)
+}
+
+/// The multiplier of variable v in the row of i, which is outside its sides in this way.
+fn multiplier_at(dict: &Dict, i: u32, heading: Heading, v: u32) -> Frac
+    requires leaving { i < def.size dict.now }
+    requires basic { def.is_basic dict.now i ≡ true }
+    requires outside { heading ≡ rule.outside_heading dict.now i }
+    requires within { v < def.size dict.now }
+    ensures { result ≡ row_multiplier dict.now i v }
+{
+    if v == i {
+        along(back_of(heading), Frac::one())
+    } else {
+        along(heading, dict.entry(i, v))
+    }
+}
+
+/// The row of i, which is outside its sides, as what is 0 at each solution; `Err` where memory was refused.
+fn row_multipliers(alloc: Global, dict: &Dict, i: u32) -> Result<Vec<Frac>, AllocError>
+    requires few { def.size dict.now < 2 ^ 32 }
+    requires leaving { i < def.size dict.now }
+    requires basic { def.is_basic dict.now i ≡ true }
+    ensures { IfOk result (λ multipliers. multipliers.items ≡ table (def.size dict.now) (row_multiplier dict.now i)) }
+{
+    let heading = outside_heading(dict, i);
+    let mut multipliers = Vec::new(alloc);
+    for v in 0..dict.len() {
+        multipliers.push(multiplier_at(dict, i, heading, v as u32))?;
+    }
+    Ok(multipliers)
+}
+
+/// The combination of the entries of the cost; `Err` where memory was refused.
+fn cost_combo(alloc: Global, dict: &Dict, columns: usize, rows: usize) -> Result<Combo, AllocError>
+    requires few { def.size dict.now < 2 ^ 32 }
+    requires variables { def.size dict.now ≡ columns + rows }
+    ensures { IfOk result (IsCombo (certificate_on columns rows (def.cost_entry dict.now))) }
+{
+    let multipliers = cost_multipliers(alloc, dict)?;
+    combination(alloc, columns, multipliers.as_slice())
+}
+
+/// The combination of the row of i, which is outside its sides; `Err` where memory was refused.
+fn row_combo(
+    alloc: Global,
+    dict: &Dict,
+    i: u32,
+    columns: usize,
+    rows: usize,
+) -> Result<Combo, AllocError>
+    requires few { def.size dict.now < 2 ^ 32 }
+    requires variables { def.size dict.now ≡ columns + rows }
+    requires leaving { i < def.size dict.now }
+    requires basic { def.is_basic dict.now i ≡ true }
+    ensures { IfOk result (IsCombo (certificate_on columns rows (row_multiplier dict.now i))) }
+{
+    let multipliers = row_multipliers(alloc, dict, i)?;
+    combination(alloc, columns, multipliers.as_slice())
+}
+
+/// The combination of the crossed sides of a column; `Err` where memory was refused.
+fn crossed_column(alloc: Global, col: u32) -> Result<Combo, AllocError>
+    ensures { IfOk result (IsCombo (certificates.crossed_column col)) }
+{
+    let one = Frac::one();
+    let lows = vec![in alloc; ColumnMultiple { col, factor: one }]?;
+    let highs = vec![in alloc;
+        ColumnMultiple {
+            col,
+            factor: one.neg()
+        },
+    ]?;
+    Ok(Combo {
+        rows: Vec::new(alloc),
+        lows,
+        highs,
+    })
+}
+
+/// The combination of the crossed sides of a row; `Err` where memory was refused.
+fn crossed_row(alloc: Global, r: u32) -> Result<Combo, AllocError>
+    ensures { IfOk result (IsCombo (certificates.crossed_row r)) }
+{
+    let one = Frac::one();
+    let row = RowId::Own(r);
+    let rows = vec![in alloc;
+        RowMultiple { row, factor: one },
+        RowMultiple {
+            row,
+            factor: one.neg()
+        },
+    ]?;
+    Ok(Combo {
+        rows,
+        lows: Vec::new(alloc),
+        highs: Vec::new(alloc),
+    })
+}
+
+/// The combination of the crossed sides of a variable; `Err` where memory was refused.
+fn crossed_combo(alloc: Global, v: u32, columns: usize) -> Result<Combo, AllocError>
+    requires { columns < 2 ^ 32 }
+    ensures { IfOk result (IsCombo (crossed_on columns v)) }
+{
+    if (v as usize) < columns {
+        crossed_column(alloc, v)
+    } else {
+        crossed_row(alloc, v - columns as u32)
+    }
+}
+
+/// What an optimum answers: its point, the combination of the cost's entries, and the cost.
+fn optimum(alloc: Global, dict: &Dict, columns: usize, rows: usize) -> Result<LpAnswer, AllocError>
+    requires few { def.size dict.now < 2 ^ 32 }
+    requires variables { def.size dict.now ≡ columns + rows }
+    ensures { IfOk result (IsAnswer (answers.Optimal (table columns (def.value dict.now))
+        (certificate_on columns rows (def.cost_entry dict.now)) dict.now.cost)) }
+{
+    let point = values_of(alloc, dict, columns)?;
+    let combo = cost_combo(alloc, dict, columns, rows)?;
+    let cost = dict.cost();
+    Ok(LpAnswer::Optimal { point, combo, cost })
+}
+
+/// What a ray answers: its point, and by how much the columns change along it.
+fn unbounded(alloc: Global, dict: &Dict, j: u32, columns: usize) -> Result<LpAnswer, AllocError>
+    requires few { def.size dict.now < 2 ^ 32 }
+    requires within { columns ≤ def.size dict.now }
+    requires entering { j < def.size dict.now }
+    ensures { IfOk result (IsAnswer (answers.Unbounded (table columns (def.value dict.now))
+        (table columns (change_of dict.now j)))) }
+{
+    let point = values_of(alloc, dict, columns)?;
+    let ray = changes_of(alloc, dict, j, columns)?;
+    Ok(LpAnswer::Unbounded { point, ray })
+}
+
+/// What a state answers at which this is the step; `Err` where memory was refused.
+pub(crate) fn end_answer(
+    alloc: Global,
+    lp: &Lp,
+    dict: &Dict,
+    step: Step,
+) -> Result<LpAnswer, AllocError>
+    requires variables { def.size dict.now ≡ variables lp.now }
+    requires is_next { rule.next dict.now ≡ step }
+    ensures { IfOk result (IsAnswer (answer_at lp.now dict.now step)) }
+{
+    let columns = lp.columns();
+    let rows = lp.rows().len();
+    match step {
+        Step::Crossed(v) => {
+            let combo = crossed_combo(alloc, v, columns)?;
+            Ok(LpAnswer::Infeasible { combo })
+        }
+        Step::Infeasible(i) => {
+            let combo = row_combo(alloc, dict, i, columns, rows)?;
+            Ok(LpAnswer::Infeasible { combo })
+        }
+        Step::Optimum => optimum(alloc, dict, columns, rows),
+        Step::Ray(j) => unbounded(alloc, dict, j, columns),
+        Step::Makes(_) => Ok(LpAnswer::Limit),
+    }
+}

@@ -1,0 +1,134 @@
+//! Which way values go, and the sides that lie that way.
+ghost use Rattle.std.specs.Prelude.{◌≡◌};
+ghost use Rattle.cip_rational.specs.Rational.{le_test, lt_test};
+ghost use Rattle.cip_bland.specs.Headings as def;
+ghost use Rattle.cip_bland.specs.Rule.{outside_with, sides_cross, may_go_from};
+
+use cip_bland::Heading;
+use cip_dictionary::Stand;
+use cip_frac::Frac;
+use cip_lin::Sides;
+
+/// The other way.
+pub(crate) fn back_of(heading: Heading) -> Heading
+    ensures { result ≡ def.back_of heading }
+{
+    match heading {
+        Heading::Up => Heading::Down,
+        Heading::Down => Heading::Up,
+    }
+}
+
+/// How far a change goes that way.
+pub(crate) fn along(heading: Heading, change: Frac) -> Frac
+    ensures { result ≡ def.along heading change }
+{
+    match heading {
+        Heading::Up => change,
+        Heading::Down => change.neg(),
+    }
+}
+
+/// Whether one number is below another.
+pub(crate) fn is_below(a: Frac, b: Frac) -> bool
+    ensures { result ≡ lt_test a b }
+{
+    a < b
+}
+
+/// Whether one number is at most another.
+fn is_at_most(a: Frac, b: Frac) -> bool
+    ensures { result ≡ le_test a b }
+{
+    a <= b
+}
+
+/// The way of a variable by which its product with a, which isn't 0, goes this way.
+pub(crate) fn heading_for(heading: Heading, a: Frac) -> Heading
+    ensures { result ≡ def.heading_for heading a }
+{
+    if is_below(Frac::zero(), a) {
+        heading
+    } else {
+        back_of(heading)
+    }
+}
+
+/// Where a variable stands at the side ahead.
+pub(crate) fn stand_ahead(heading: Heading) -> Stand
+    ensures { result ≡ def.stand_ahead heading }
+{
+    match heading {
+        Heading::Up => Stand::High,
+        Heading::Down => Stand::Low,
+    }
+}
+
+/// Whether a variable at that stand is at the side ahead.
+pub(crate) fn is_ahead(heading: Heading, at: Stand) -> bool
+    ensures { result ≡ def.is_ahead heading at }
+{
+    match (heading, at) {
+        (Heading::Up, Stand::High) => true,
+        (Heading::Down, Stand::Low) => true,
+        _ => false,
+    }
+}
+
+/// The side ahead.
+fn side_ahead(heading: Heading, sides: Sides) -> Option<Frac>
+    ensures { result ≡ def.side_ahead heading sides }
+{
+    match heading {
+        Heading::Up => sides.high,
+        Heading::Down => sides.low,
+    }
+}
+
+/// The stand at the side ahead, if that side is there.
+pub(crate) fn goal_ahead(heading: Heading, sides: Sides) -> Option<Stand>
+    ensures { result ≡ def.goal_ahead heading sides }
+{
+    if side_ahead(heading, sides).is_some() {
+        Some(stand_ahead(heading))
+    } else {
+        None
+    }
+}
+
+/// Whether the low side is above the high one.
+pub(crate) fn are_crossed(sides: Sides) -> bool
+    ensures { result ≡ sides_cross sides.low sides.high }
+{
+    match (sides.low, sides.high) {
+        (Some(low), Some(high)) => is_below(high, low),
+        _ => false,
+    }
+}
+
+/// The way in which a value outside its sides is outside: up where it isn't below the low one.
+pub(crate) fn outside_way(sides: Sides, value: Frac) -> Heading
+    ensures { result ≡ outside_with sides value }
+{
+    match sides.low {
+        None => Heading::Up,
+        Some(low) => {
+            if is_at_most(low, value) {
+                Heading::Up
+            } else {
+                Heading::Down
+            }
+        }
+    }
+}
+
+/// Whether a variable with these sides, which stands there or is basic, may go this way: it is nonbasic, its sides
+/// aren't equal, and it isn't at the side ahead.
+pub(crate) fn is_free(sides: Sides, stand: Option<Stand>, heading: Heading) -> bool
+    ensures { result ≡ may_go_from sides stand heading }
+{
+    match stand {
+        None => false,
+        Some(at) => !sides.is_fixed() && !is_ahead(heading, at),
+    }
+}

@@ -1,0 +1,30 @@
+//! The simplex method by Bland's rule over exact fractions.
+#![tactic(auto)]
+
+mod answers;
+mod begin;
+mod choice;
+mod combos;
+mod ends;
+mod headings;
+mod laws;
+mod lp;
+mod runs;
+mod solving;
+mod start_moves;
+mod starts;
+mod steps;
+mod ways;
+
+pub use answers::LpAnswer;
+pub use laws::{slack_is_first, starts_are_right};
+pub use lp::Lp;
+pub use solving::{solve, solve_from};
+pub use starts::Start;
+
+#[cfg(test)]
+mod random_tests;
+#[cfg(test)]
+mod slow_check;
+#[cfg(test)]
+mod tests;

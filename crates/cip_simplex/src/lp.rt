@@ -1,0 +1,118 @@
+//! Linear programs, lent to be solved.
+ghost use Rattle.std.specs.Prelude.{◌≡◌, ◌↔◌, IsTrue, All, length};
+ghost use Rattle.cip_problem.specs.Activity.{StandsBelow};
+ghost use Rattle.cip_linear.specs.LinearProgram.{LinearProgram};
+ghost use Rattle.cip_simplex.specs.LpShape as shape;
+
+use cip_frac::Frac;
+use cip_lin::{Bounds, Row, Sides, Term};
+use std::marker::Model;
+
+/// A linear program: rows, the sides of each column, and what each column costs. Nothing is copied. Each column has a
+/// cost, the rows stand on its columns, and there are fewer than 2^32 columns and rows.
+#[derive(Debug, Drop)]
+pub struct Lp<'a> {
+    rows: &'a [Row],
+    bounds: &'a Bounds,
+    costs: &'a [Frac],
+}
+
+impl<'a> Model for Lp<'a> {
+    ghost use Rattle.cip_linear.specs.LinearProgram.{LinearProgram};
+    ghost use Rattle.cip_simplex.specs.LpCode.{program_code};
+
+    ghost Value = { LinearProgram };
+
+    ghost coded = { program_code };
+
+    ghost use Rattle.cip_simplex.specs.LpShape.{IsSolvable};
+
+    ghost view = { λ lp. record { rows = lp.rows.now; bounds = lp.bounds.now; costs = lp.costs.now } };
+
+    ghost invariant = { λ lp. IsSolvable (record { rows = lp.rows.now; bounds = lp.bounds.now; costs = lp.costs.now }) };
+}
+
+/// Whether terms stand on the first columns, so many.
+fn stands_below(terms: &[Term], columns: usize) -> bool
+    ensures { IsTrue result ↔ StandsBelow columns terms.now }
+{
+    for term in terms {
+        if term.col as usize >= columns {
+            return false;
+        }
+    }
+    true
+}
+
+/// Whether each row stands on the first columns, so many.
+fn are_below(rows: &[Row], columns: usize) -> bool
+    ensures { IsTrue result ↔ All (λ row. StandsBelow columns row.terms) rows.now }
+{
+    for row in rows {
+        if !stands_below(row.terms(), columns) {
+            return false;
+        }
+    }
+    true
+}
+
+impl<'a> Lp<'a> {
+    /// Whether these are a linear program that can be solved: each column has a cost, the rows stand on its columns, and
+    /// there are fewer than 2^32 columns and rows.
+    pub fn is_solvable(rows: &[Row], bounds: &Bounds, costs: &[Frac]) -> bool
+        ensures { IsTrue result
+            ↔ shape.IsSolvable (record { rows = rows.now; bounds = bounds.now; costs = costs.now }) }
+    {
+        let few = bounds.len() < 1 << 32 && rows.len() < (1 << 32) - bounds.len();
+        few && costs.len() == bounds.len() && are_below(rows, bounds.len())
+    }
+
+    /// The linear program of rows, sides and costs.
+    pub fn new(rows: &'a [Row], bounds: &'a Bounds, costs: &'a [Frac]) -> Lp<'a>
+        requires { shape.IsSolvable (record { rows = rows.now; bounds = bounds.now; costs = costs.now }) }
+        ensures { result ≡ record { rows = rows.now; bounds = bounds.now; costs = costs.now } }
+    {
+        Lp {
+            rows,
+            bounds,
+            costs,
+        }
+    }
+
+    /// The number of columns. And the program can be solved: it is proper, and has fewer than 2^32 columns and rows.
+    pub fn columns(&self) -> usize
+        ensures columns { result ≡ length self.now.bounds }
+        ensures solvable { shape.IsSolvable self.now }
+    {
+        self.bounds.len()
+    }
+
+    /// The number of columns and rows.
+    pub(crate) fn len(&self) -> usize
+        ensures { result ≡ shape.variables self.now }
+    {
+        self.bounds.len() + self.rows.len()
+    }
+
+    /// The rows.
+    pub(crate) fn rows(&self) -> &[Row]
+        ensures rows { result.now ≡ self.now.rows }
+        ensures solvable { shape.IsSolvable self.now }
+    {
+        self.rows
+    }
+
+    /// The sides of the columns.
+    pub(crate) fn sides(&self) -> &[Sides]
+        ensures { result.now ≡ self.now.bounds }
+    {
+        self.bounds.as_slice()
+    }
+
+    /// The costs of the columns.
+    pub(crate) fn costs(&self) -> &[Frac]
+        ensures { result.now ≡ self.now.costs }
+    {
+        self.costs
+    }
+}

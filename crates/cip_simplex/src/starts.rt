@@ -1,0 +1,115 @@
+//! Starts: where variables are to be as the moves of the rule begin.
+ghost use Rattle.std.specs.Prelude.{◌≡◌, ◌<◌, ◌^◌, length, IfOk};
+ghost use Rattle.cip_dictionary.specs.Tables.{table};
+ghost use Rattle.cip_dictionary.specs.Dictionary as def;
+ghost use Rattle.cip_dictionary.specs.FirstState.{first_stand};
+ghost use Rattle.cip_dictionary.specs.ProgramState.{first_of_program};
+ghost use Rattle.cip_dict.specs.FirstLists.{stand_in};
+ghost use Rattle.cip_simplex.specs.Starts as definitions;
+
+use crate::lp::Lp;
+use cip_dict::Dict;
+use cip_dictionary::Stand;
+use cip_lin::Sides;
+use std::alloc::{AllocError, Global};
+use std::marker::Model;
+
+/// Of each column and, after them, of each row, whether it is to be basic, else where it is to stand.
+#[derive(Debug, Drop)]
+pub struct Start {
+    standing: Vec<Option<Stand>>,
+}
+
+impl Model for Start {
+    ghost use Rattle.cip_simplex.specs.Starts.{Stands};
+    ghost use Rattle.cip_simplex.specs.StartCode.{start_code};
+
+    ghost Value = { Stands };
+
+    ghost coded = { start_code };
+
+    ghost view = { λ s. s.standing.items };
+}
+
+/// Where a column with these sides stands at first.
+pub(crate) fn stand_first(sides: Sides) -> Stand
+    ensures { result ≡ first_stand sides }
+{
+    match (sides.low, sides.high) {
+        (Some(_), _) => Stand::Low,
+        (None, Some(_)) => Stand::High,
+        (None, None) => Stand::Zero,
+    }
+}
+
+/// Where variable v stands at first: a column at a side or at 0; a row is basic.
+fn first_place(columns: &[Sides], v: usize) -> Option<Stand>
+    ensures { result ≡ stand_in columns.now v }
+{
+    if v < columns.len() {
+        Some(stand_first(columns[v]))
+    } else {
+        None
+    }
+}
+
+/// Where all n variables stand at first; `Err` where memory was refused.
+fn first_stands(
+    alloc: Global,
+    columns: &[Sides],
+    n: usize,
+) -> Result<Vec<Option<Stand>>, AllocError>
+    ensures { IfOk result (λ standing. standing.items ≡ table n (stand_in columns.now)) }
+{
+    let mut standing = Vec::new(alloc);
+    for v in 0..n {
+        standing.push(first_place(columns, v))?;
+    }
+    Ok(standing)
+}
+
+impl Start {
+    /// The start that says this of each variable: `None` where it is to be basic.
+    pub fn new(standing: Vec<Option<Stand>>) -> Start
+        ensures { result ≡ standing.items }
+    {
+        Start { standing }
+    }
+
+    /// The number of variables.
+    pub fn len(&self) -> usize
+        ensures { result ≡ length self.now }
+    {
+        self.standing.len()
+    }
+
+    /// Where a variable is to stand; `None` where it is to be basic.
+    pub fn stand(&self, v: u32) -> Option<Stand>
+        requires { v < length self.now }
+        ensures { result ≡ definitions.wish self.now v }
+    {
+        self.standing[v as usize]
+    }
+
+    /// Where the variables are at a state; `Err` where memory was refused.
+    pub(crate) fn at(alloc: Global, dict: &Dict) -> Result<Start, AllocError>
+        requires { def.size dict.now < 2 ^ 32 }
+        ensures { IfOk result (λ start. start ≡ definitions.stands_of dict.now) }
+    {
+        let mut standing = Vec::new(alloc);
+        for v in 0..dict.len() {
+            standing.push(dict.stand(v as u32))?;
+        }
+        Ok(Start { standing })
+    }
+
+    /// The start of the first state: rows are basic, and each column stands at its low side, else at its high side, else
+    /// at 0. `Err` where memory was refused.
+    pub fn slack(alloc: Global, lp: &Lp) -> Result<Start, AllocError>
+        ensures { IfOk result (λ start. start ≡ definitions.stands_of (first_of_program lp.now)) }
+    {
+        let sides = lp.sides();
+        let standing = first_stands(alloc, sides, lp.len())?;
+        Ok(Start { standing })
+    }
+}

@@ -1,0 +1,183 @@
+//! One step by Bland's rule: what is chosen, and the move that is made.
+ghost use Rattle.std.specs.Prelude.{◌≡◌, ◌<◌, ◌^◌, true, false, None, Some, MatchBool};
+ghost use Rattle.cip_dictionary.specs.Tables.{least};
+ghost use Rattle.cip_dictionary.specs.Dictionary as def;
+ghost use Rattle.cip_dictionary.specs.Exchange.{after, CanMove};
+ghost use Rattle.cip_dictionary.specs.MoveOperations.{move_operations};
+ghost use Rattle.cip_bland.specs.Rule as rule;
+ghost use Rattle.cip_bland.specs.MoveList.{is_out_of_range, wide_way_of, ending_at};
+ghost use Rattle.cip_simplex.specs.Advances.{IsChoice, Improves, IsAdvance, ending_of};
+
+use crate::choice::{
+    least_crossed, least_improving, least_outside, least_repairing, outside_heading,
+};
+use crate::headings::stand_ahead;
+use crate::ways::{Way, has_way, shortest_way};
+use cip_bland::Step;
+use cip_dict::Dict;
+use cip_dictionary::{Move, Stand};
+
+/// What the rule says at a state before ways are formed.
+#[derive(Debug, Drop)]
+pub(crate) enum Choice {
+    /// The low side of this variable is above its high one.
+    Crossed(u32),
+    /// This basic variable is outside its sides, and none may bring it nearer.
+    Infeasible(u32),
+    /// None is outside, and by none the cost may fall.
+    Optimum,
+    /// The basic variable named first is outside and leaves to there; the one named second enters.
+    Repair(u32, u32, Stand),
+    /// None is outside, and the cost falls as this variable goes.
+    Improve(u32),
+}
+
+/// What a step comes to.
+#[derive(Debug, Drop)]
+pub(crate) enum Advance {
+    /// This move was made.
+    Made(Move),
+    /// This move is out of range.
+    Wide(Move),
+    /// The state is an end.
+    End(Step),
+}
+
+/// Why a list of moves ends.
+#[derive(Debug, Drop)]
+pub(crate) enum Ending {
+    /// The last state is an end.
+    Ends(Step),
+    /// This move is out of range.
+    Overflows(Move),
+    /// The limit is reached.
+    Stops,
+}
+
+/// What is chosen where variable i is the least one outside its sides.
+fn choose_repair(dict: &Dict, i: u32) -> Choice
+    requires few { def.size dict.now < 2 ^ 32 }
+    requires uncrossed { least (def.size dict.now) (rule.is_crossed dict.now) ≡ None }
+    requires outside { rule.least_outside dict.now ≡ Some i }
+    ensures { IsChoice dict.now result }
+{
+    match least_repairing(dict, i) {
+        None => Choice::Infeasible(i),
+        Some(j) => Choice::Repair(i, j, stand_ahead(outside_heading(dict, i))),
+    }
+}
+
+/// What is chosen where no variable is outside its sides.
+fn choose_improving(dict: &Dict) -> Choice
+    requires few { def.size dict.now < 2 ^ 32 }
+    requires uncrossed { least (def.size dict.now) (rule.is_crossed dict.now) ≡ None }
+    requires inside { rule.least_outside dict.now ≡ None }
+    ensures { IsChoice dict.now result }
+{
+    match least_improving(dict) {
+        None => Choice::Optimum,
+        Some(j) => Choice::Improve(j),
+    }
+}
+
+/// What the rule says at a state before ways are formed.
+fn choose(dict: &Dict) -> Choice
+    requires { def.size dict.now < 2 ^ 32 }
+    ensures { IsChoice dict.now result }
+{
+    if let Some(v) = least_crossed(dict) {
+        return Choice::Crossed(v);
+    }
+    match least_outside(dict) {
+        Some(i) => choose_repair(dict, i),
+        None => choose_improving(dict),
+    }
+}
+
+/// Makes a move: `true`, and the state is the one after it; `false` exactly where an operation of it is out of range,
+/// and the state is as it was.
+pub(crate) fn make(dict: &mut Dict, chosen: Move) -> bool
+    requires { CanMove dict.old chosen }
+    ensures { MatchBool result
+        ((is_out_of_range (move_operations dict.old chosen) ≡ false) × (dict.new ≡ after dict.old chosen))
+        ((is_out_of_range (move_operations dict.old chosen) ≡ true) × (dict.new ≡ dict.old)) }
+{
+    let made = match chosen {
+        Move::Exchange(i, j, to) => dict.exchange(i, j, to),
+        Move::Flip(j) => dict.flip(j),
+    };
+    made.is_ok()
+}
+
+/// Makes the next move, whose ways are in range.
+fn carry_out(dict: &mut Dict, chosen: Move) -> Advance
+    requires can { CanMove dict.old chosen }
+    requires is_next { rule.next dict.old ≡ Step.Makes chosen }
+    requires ways_fit { wide_way_of dict.old chosen (rule.least_outside dict.old) ≡ None }
+    ensures { IsAdvance dict.old dict.new result }
+{
+    if make(dict, chosen) {
+        Advance::Made(chosen)
+    } else {
+        Advance::Wide(chosen)
+    }
+}
+
+/// The move by which j goes a way.
+fn move_by(j: u32, way: &Way) -> Move
+    ensures { result ≡ rule.move_by j way.now }
+{
+    if way.variable == j {
+        Move::Flip(j)
+    } else {
+        Move::Exchange(way.variable, j, way.to)
+    }
+}
+
+/// Makes the step of the shortest way of j, which lets the cost fall.
+fn improve(dict: &mut Dict, j: u32) -> Advance
+    requires few { def.size dict.old < 2 ^ 32 }
+    requires improves { Improves dict.old j }
+    ensures { IsAdvance dict.old dict.new result }
+{
+    match shortest_way(dict, j) {
+        Err(wide) => Advance::Wide(wide),
+        Ok(None) => Advance::End(Step::Ray(j)),
+        Ok(Some(way)) => carry_out(dict, move_by(j, &way)),
+    }
+}
+
+/// Makes the next step.
+pub(crate) fn take_step(dict: &mut Dict) -> Advance
+    requires { def.size dict.old < 2 ^ 32 }
+    ensures { IsAdvance dict.old dict.new result }
+{
+    match choose(dict) {
+        Choice::Crossed(v) => Advance::End(Step::Crossed(v)),
+        Choice::Infeasible(i) => Advance::End(Step::Infeasible(i)),
+        Choice::Optimum => Advance::End(Step::Optimum),
+        Choice::Repair(i, j, to) => carry_out(dict, Move::Exchange(i, j, to)),
+        Choice::Improve(j) => improve(dict, j),
+    }
+}
+
+/// Why the list ends at a state where no move may be made any more: the state is an end, or the limit is reached.
+/// Nothing is formed.
+pub(crate) fn ending_here(dict: &Dict) -> Ending
+    requires { def.size dict.now < 2 ^ 32 }
+    ensures { ending_of result ≡ ending_at (rule.next dict.now) }
+{
+    match choose(dict) {
+        Choice::Crossed(v) => Ending::Ends(Step::Crossed(v)),
+        Choice::Infeasible(i) => Ending::Ends(Step::Infeasible(i)),
+        Choice::Optimum => Ending::Ends(Step::Optimum),
+        Choice::Repair(_, _, _) => Ending::Stops,
+        Choice::Improve(j) => {
+            if has_way(dict, j) {
+                Ending::Stops
+            } else {
+                Ending::Ends(Step::Ray(j))
+            }
+        }
+    }
+}

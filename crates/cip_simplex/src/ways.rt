@@ -1,0 +1,247 @@
+//! The ways of a variable that lets the cost fall, each to a side, and the shortest of them.
+ghost use Rattle.std.specs.Prelude.{◌≡◌, ◌≢◌, ◌<◌, ◌^◌, true, false, is_some, Some, None, MatchOption, MatchResult};
+ghost use Rattle.cip_rational.specs.Rational.{zeroℚ};
+ghost use Rattle.cip_dictionary.specs.Dictionary as def;
+ghost use Rattle.cip_dictionary.specs.Exchange.{other_stand, step, way};
+ghost use Rattle.cip_dictionary.specs.MoveOperations.{step_operations};
+ghost use Rattle.cip_bland.specs.Rule as rule;
+ghost use Rattle.cip_bland.specs.MoveList.{is_out_of_range, own_way_operations, wide_way, first_wide_way};
+
+use crate::choice::vanishes;
+use crate::headings::{along, goal_ahead, heading_for, is_below};
+use cip_bland::Heading;
+use cip_dict::Dict;
+use cip_dictionary::{Move, Stand};
+use cip_frac::Frac;
+use cip_lin::Sides;
+use std::marker::Model;
+
+/// A way of a variable to a side: whose side that is, where that variable then stands, and how far it is.
+#[derive(Debug, Drop)]
+pub(crate) struct Way {
+    pub(crate) variable: u32,
+    pub(crate) to: Stand,
+    pub(crate) length: Frac,
+}
+
+impl Model for Way {
+    ghost use Rattle.cip_bland.specs.Rule as rule;
+    ghost use Rattle.cip_simplex.specs.WayCode.{way_code};
+
+    ghost Value = { rule.Way };
+
+    ghost coded = { way_code };
+
+    ghost view = { λ w. record { variable = w.variable; to = w.to; length = w.length } };
+}
+
+/// The way in which j goes so that the cost falls.
+pub(crate) fn falling_heading(dict: &Dict, j: u32) -> Heading
+    requires { j < def.size dict.now }
+    ensures { result ≡ rule.falling_heading dict.now j }
+{
+    heading_for(Heading::Down, dict.cost_entry(j))
+}
+
+/// The value where a variable with these sides stands; 0 where the side isn't there.
+fn value_at_stand(sides: Sides, at: Stand) -> Frac
+    ensures { result ≡ def.standing_value sides at }
+{
+    match at {
+        Stand::Low => sides.low.unwrap_or(Frac::zero()),
+        Stand::High => sides.high.unwrap_or(Frac::zero()),
+        Stand::Zero => Frac::zero(),
+    }
+}
+
+/// The other side of a variable that stands at one; 0 stays.
+fn other_of(at: Option<Stand>) -> Stand
+    ensures { result ≡ other_stand at }
+{
+    match at {
+        Some(Stand::Low) => Stand::High,
+        Some(Stand::High) => Stand::Low,
+        Some(Stand::Zero) => Stand::Zero,
+        None => Stand::Zero,
+    }
+}
+
+/// By how much j moves until it is at its other side; none where that is out of range.
+fn own_change(dict: &Dict, j: u32) -> Option<Frac>
+    requires { j < def.size dict.now }
+    ensures { MatchOption result (is_out_of_range (own_way_operations dict.now j) ≡ true)
+        (λ t. (is_out_of_range (own_way_operations dict.now j) ≡ false) × (t ≡ way dict.now j)) }
+{
+    let side = value_at_stand(dict.sides(j), other_of(dict.stand(j)));
+    match side.sub(dict.value(j)) {
+        Ok(change) => Some(change),
+        Err(_) => None,
+    }
+}
+
+/// By how much j moves until the basic variable i is at that side; none where that is out of range.
+fn change_until(dict: &Dict, i: u32, j: u32, to: Stand) -> Option<Frac>
+    requires leaving { i < def.size dict.now }
+    requires basic { def.is_basic dict.now i ≡ true }
+    requires entering { j < def.size dict.now }
+    requires nonzero { def.entry dict.now i j ≢ zeroℚ }
+    ensures { MatchOption result (is_out_of_range (step_operations dict.now i j to) ≡ true)
+        (λ t. (is_out_of_range (step_operations dict.now i j to) ≡ false) × (t ≡ step dict.now i j to)) }
+{
+    let side = value_at_stand(dict.sides(i), to);
+    let Ok(distance) = side.sub(dict.value(i)) else {
+        return None;
+    };
+    match distance.mul(dict.entry(i, j).reciprocal()) {
+        Ok(change) => Some(change),
+        Err(_) => None,
+    }
+}
+
+/// The way of j, which goes this way, to its own side; the move by which it would go there where the length is out of
+/// range.
+fn own_way(dict: &Dict, j: u32, heading: Heading) -> Result<Option<Way>, Move>
+    requires within { j < def.size dict.now }
+    requires falls { heading ≡ rule.falling_heading dict.now j }
+    ensures { MatchResult result
+        (λ found. (wide_way dict.now j (rule.way_of dict.now j j) ≡ None) × (found ≡ rule.way_of dict.now j j))
+        (λ wide. wide_way dict.now j (rule.way_of dict.now j j) ≡ Some wide) }
+{
+    let Some(to) = goal_ahead(heading, dict.sides(j)) else {
+        return Ok(None);
+    };
+    match own_change(dict, j) {
+        Some(change) => Ok(Some(Way {
+            variable: j,
+            to,
+            length: along(heading, change),
+        })),
+        None => Err(Move::Flip(j)),
+    }
+}
+
+/// The way of j, which goes this way, to the side of the basic variable v, which has this entry on j, not 0.
+fn basic_way(
+    dict: &Dict,
+    j: u32,
+    heading: Heading,
+    v: u32,
+    entry: Frac,
+) -> Result<Option<Way>, Move>
+    requires entering { j < def.size dict.now }
+    requires falls { heading ≡ rule.falling_heading dict.now j }
+    requires leaving { v < def.size dict.now }
+    requires apart { v ≢ j }
+    requires basic { def.is_basic dict.now v ≡ true }
+    requires is_entry { entry ≡ def.entry dict.now v j }
+    requires nonzero { entry ≢ zeroℚ }
+    ensures { MatchResult result
+        (λ found. (wide_way dict.now j (rule.way_of dict.now j v) ≡ None) × (found ≡ rule.way_of dict.now j v))
+        (λ wide. wide_way dict.now j (rule.way_of dict.now j v) ≡ Some wide) }
+{
+    let Some(to) = goal_ahead(heading_for(heading, entry), dict.sides(v)) else {
+        return Ok(None);
+    };
+    match change_until(dict, v, j, to) {
+        Some(change) => Ok(Some(Way {
+            variable: v,
+            to,
+            length: along(heading, change),
+        })),
+        None => Err(Move::Exchange(v, j, to)),
+    }
+}
+
+/// The way of j, which goes this way, to the side of variable v, if there is one; the move by which it would go there
+/// where the length is out of range.
+fn way_to(dict: &Dict, j: u32, heading: Heading, v: u32) -> Result<Option<Way>, Move>
+    requires entering { j < def.size dict.now }
+    requires falls { heading ≡ rule.falling_heading dict.now j }
+    requires within { v < def.size dict.now }
+    ensures { MatchResult result
+        (λ found. (wide_way dict.now j (rule.way_of dict.now j v) ≡ None) × (found ≡ rule.way_of dict.now j v))
+        (λ wide. wide_way dict.now j (rule.way_of dict.now j v) ≡ Some wide) }
+{
+    if v == j {
+        return own_way(dict, j, heading);
+    }
+    if dict.stand(v).is_some() {
+        return Ok(None);
+    }
+    let entry = dict.entry(v, j);
+    if entry.is_zero() {
+        return Ok(None);
+    }
+    basic_way(dict, j, heading, v, entry)
+}
+
+/// The shorter of two ways, the first where they are equal.
+fn shorter(first: Option<Way>, second: Option<Way>) -> Option<Way>
+    ensures { result ≡ rule.shorter first second }
+{
+    match (first, second) {
+        (None, second) => second,
+        (Some(first), None) => Some(first),
+        (Some(first), Some(second)) => {
+            if is_below(second.length, first.length) {
+                Some(second)
+            } else {
+                Some(first)
+            }
+        }
+    }
+}
+
+/// The shortest way of j, which lets the cost fall, of equal ones the first; the move of the first way whose length is
+/// out of range, where there is one.
+pub(crate) fn shortest_way(dict: &Dict, j: u32) -> Result<Option<Way>, Move>
+    requires few { def.size dict.now < 2 ^ 32 }
+    requires entering { j < def.size dict.now }
+    ensures shortest { MatchResult result
+        (λ found. (first_wide_way dict.now j (def.size dict.now) ≡ None)
+        × (found ≡ rule.shortest (def.size dict.now) (rule.way_of dict.now j)))
+        (λ wide. first_wide_way dict.now j (def.size dict.now) ≡ Some wide) }
+    ensures consistent { def.IsConsistent dict.now }
+{
+    let heading = falling_heading(dict, j);
+    let mut best = None;
+    for v in 0..dict.len() {
+        match way_to(dict, j, heading, v as u32) {
+            Ok(found) => best = shorter(best, found),
+            Err(wide) => return Err(wide),
+        }
+    }
+    Ok(best)
+}
+
+/// Whether j, which goes this way, has a way to a side of variable v. Nothing is formed.
+fn has_goal(dict: &Dict, j: u32, heading: Heading, v: u32) -> bool
+    requires entering { j < def.size dict.now }
+    requires falls { heading ≡ rule.falling_heading dict.now j }
+    requires within { v < def.size dict.now }
+    ensures { result ≡ is_some (rule.way_of dict.now j v) }
+{
+    if v == j {
+        return goal_ahead(heading, dict.sides(j)).is_some();
+    }
+    if dict.stand(v).is_some() {
+        return false;
+    }
+    let entry = dict.entry(v, j);
+    !vanishes(entry) && goal_ahead(heading_for(heading, entry), dict.sides(v)).is_some()
+}
+
+/// Whether j, which lets the cost fall, has a way to a side. Nothing is formed.
+pub(crate) fn has_way(dict: &Dict, j: u32) -> bool
+    requires few { def.size dict.now < 2 ^ 32 }
+    requires entering { j < def.size dict.now }
+    ensures { result ≡ is_some (rule.shortest (def.size dict.now) (rule.way_of dict.now j)) }
+{
+    let heading = falling_heading(dict, j);
+    for v in 0..dict.len() {
+        if has_goal(dict, j, heading, v as u32) {
+            return true;
+        }
+    }
+    false
+}
