@@ -1,0 +1,2 @@
+pub mod BlockNumbers
+pub mod BlockLaws

@@ -1,0 +1,128 @@
+-- The laws of texts of blocks, each as one statement: functions of `src/` have them as contracts.
+use Rattle.std.specs.Prelude.{◌≡◌, ◌⊎◌, ◌↔◌, ⊤, ℕ, ◌<◌, ◌≤◌, ◌==◌, true, false, ◌&&◌, List, [], ◌∷◌, None, Some, length, slice_index_or}
+use Rattle.std.specs.List.{AllByRecursion, list_any}
+use Rattle.cip_problem.specs.Program.{Row, Program}
+use Rattle.cip_problem.specs.Box.{sides_at}
+use Rattle.cip_problem.specs.WellFormed.{columns}
+use Rattle.cip_mps_rules.specs.MpsWords.{is_in}
+use Rattle.cip_line_texts.specs.LineTexts.{HasResult}
+use Rattle.cip_line_texts.specs.LineStatements.{OneOutcome, FaultsAreFirst, ResultsAreDescribed, known_of}
+use Rattle.cip_block_rules.specs.BlockParts.{NamedRow, BlockPart, Blocks, has_number, is_named, block_named, stands_on, is_bounded}
+use Rattle.cip_block_rules.specs.BlockWords.{word_said}
+use Rattle.cip_block_rules.specs.BlockRules.{most_blocks, BlockFacts, block_rules, block_fault, block_end_rules, block_end_fault, block_reading}
+
+-- a text has blocks or a first fault, never both, and one of each at the most
+abbrev pub BlocksHaveOneOutcome : Type 0
+BlocksHaveOneOutcome = (program : Program) → OneOutcome (block_reading program)
+
+-- the fault of a text is that of its first faulty word; else the one behind the last line, if there is one
+abbrev pub BlockFaultsAreFirst : Type 0
+BlockFaultsAreFirst = (program : Program) → FaultsAreFirst (block_reading program)
+
+-- a text has blocks exactly where no word has a fault, and there is none behind the last line
+abbrev pub BlocksAreDescribed : Type 0
+BlocksAreDescribed = (program : Program) → ResultsAreDescribed (block_reading program)
+
+-- the fault of a word is a kind whose rule is broken, and no lesser one is; a word without fault breaks none; and so
+-- behind the last line
+pub record BlockFaultsAreLeast : Type 0 where
+  pub broken : (program : Program) (facts : BlockFacts) (word : List ℕ) (kind : ℕ)
+      → block_fault program facts word ≡ Some kind
+      → list_any (λ r. r.kind == kind && r.broken) (block_rules program facts (word_said facts.place word)) ≡ true
+  pub least : (program : Program) (facts : BlockFacts) (word : List ℕ) (kind : ℕ)
+      → block_fault program facts word ≡ Some kind
+      → AllByRecursion (λ r. r.broken ≡ true → kind ≤ r.kind) (block_rules program facts (word_said facts.place word))
+  pub none : (program : Program) (facts : BlockFacts) (word : List ℕ) → block_fault program facts word ≡ None
+      → AllByRecursion (λ r. r.broken ≡ false) (block_rules program facts (word_said facts.place word))
+  pub end_broken : (program : Program) (facts : BlockFacts) (kind : ℕ) → block_end_fault program facts ≡ Some kind
+      → list_any (λ r. r.kind == kind && r.broken) (block_end_rules program facts) ≡ true
+  pub end_least : (program : Program) (facts : BlockFacts) (kind : ℕ) → block_end_fault program facts ≡ Some kind
+      → AllByRecursion (λ r. r.broken ≡ true → kind ≤ r.kind) (block_end_rules program facts)
+  pub end_none : (program : Program) (facts : BlockFacts) → block_end_fault program facts ≡ None
+      → AllByRecursion (λ r. r.broken ≡ false) (block_end_rules program facts)
+
+-- ---- the blocks
+
+-- what stands past the last block, and past the last row
+abbrev pub no_part : BlockPart
+no_part = record { rows = []; columns = [] }
+
+abbrev pub no_row : Row
+no_row = record { terms = []; low = None; high = None }
+
+-- the block of a number
+abbrev pub part_at : Blocks → ℕ → BlockPart
+part_at blocks k = slice_index_or blocks.blocks k no_part
+
+-- the row of a number
+abbrev pub row_at : Program → ℕ → Row
+row_at program k = slice_index_or program.rows k no_row
+
+-- a block has a row with an entry of a column
+pub record HasEntry (program : Program) (part : BlockPart) (column : ℕ) : Type 0 where
+  pub row : ℕ
+  pub is_row : has_number part.rows row ≡ true
+  pub entry : stands_on column (row_at program row) ≡ true
+
+-- a row is of one of the blocks
+pub record IsOfBlock (blocks : Blocks) (row : ℕ) : Type 0 where
+  pub block : ℕ
+  pub is_block : block < length blocks.blocks
+  pub is_row : has_number (part_at blocks block).rows row ≡ true
+
+-- there are from 1 to 4,096 blocks; each row is a master row or of one block; a block has the columns of which its
+-- rows have entries; a column of a block has entries in rows of the block and in master rows alone, and two bounds; and
+-- the other columns are of no block
+pub record AreBlocks (program : Program) (blocks : Blocks) : Type 0 where
+  pub some : 0 < length blocks.blocks
+  pub few : length blocks.blocks ≤ most_blocks
+  pub placed : (row : ℕ) → row < length program.row_names
+      → has_number blocks.master_rows row ≡ true ⊎ IsOfBlock blocks row
+  pub one_block : (row b c : ℕ) → has_number (part_at blocks b).rows row ≡ true
+      → has_number (part_at blocks c).rows row ≡ true → b ≡ c
+  pub no_master : (row b : ℕ) → has_number (part_at blocks b).rows row ≡ true
+      → has_number blocks.master_rows row ≡ false
+  pub columns_of : (b column : ℕ) → b < length blocks.blocks → column < columns program
+      → (has_number (part_at blocks b).columns column ≡ true) ↔ HasEntry program (part_at blocks b) column
+  pub entries : (b column row : ℕ) → has_number (part_at blocks b).columns column ≡ true
+      → row < length program.row_names → stands_on column (row_at program row) ≡ true
+      → has_number (part_at blocks b).rows row ≡ true ⊎ has_number blocks.master_rows row ≡ true
+  pub bounded : (b column : ℕ) → has_number (part_at blocks b).columns column ≡ true
+      → is_bounded (sides_at program.bounds column) ≡ true
+  pub free : (column : ℕ) → column < columns program
+      → (has_number blocks.free_columns column ≡ true)
+      ↔ ((b : ℕ) → has_number (part_at blocks b).columns column ≡ false)
+
+-- the blocks of a text are such
+abbrev pub BlocksAreApart : Type 0
+BlocksAreApart =
+    (program : Program) (text : List ℕ) (blocks : Blocks) → HasResult (block_reading program) text blocks
+    → AreBlocks program blocks
+
+-- ---- the names
+
+-- no name stands twice
+abbrev pub AreNamedOnce : List NamedRow → Type 0
+AreNamedOnce [] = ⊤
+AreNamedOnce (row ∷ others) = (is_named others row.name ≡ false) × AreNamedOnce others
+
+-- the rows that a text names, each with its block
+abbrev pub named_by : Program → List ℕ → List NamedRow
+named_by program text = (known_of (block_reading program) text).named
+
+-- no row is named twice, each is one of the program, and a row is of the block that it was named for
+pub record AreOfNames (program : Program) (text : List ℕ) (blocks : Blocks) : Type 0 where
+  pub once : AreNamedOnce (named_by program text)
+  pub known : AllByRecursion (λ row. is_in program.row_names row.name ≡ true) (named_by program text)
+  pub of_block : (k b : ℕ) → k < length program.row_names → b < length blocks.blocks
+      → (has_number (part_at blocks b).rows k ≡ true)
+      ↔ (block_named (named_by program text) (slice_index_or program.row_names k []) ≡ Some b)
+  pub of_master : (k : ℕ) → k < length program.row_names
+      → (has_number blocks.master_rows k ≡ true)
+      ↔ (block_named (named_by program text) (slice_index_or program.row_names k []) ≡ None)
+
+-- the rows of a text's blocks are those that it names
+abbrev pub BlocksAreOfNames : Type 0
+BlocksAreOfNames =
+    (program : Program) (text : List ℕ) (blocks : Blocks) → HasResult (block_reading program) text blocks
+    → AreOfNames program text blocks

@@ -1,0 +1,2 @@
+mod BlockSame
+mod Owned

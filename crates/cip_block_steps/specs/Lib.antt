@@ -1,0 +1,3 @@
+pub mod BlockOwners
+pub mod BlockStepStatements
+pub mod BlockSteps

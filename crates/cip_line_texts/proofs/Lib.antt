@@ -1,0 +1,4 @@
+pub mod LineOutcomes
+pub mod LineBytes
+pub mod LineFaults
+pub mod LineSame

@@ -1,0 +1,4 @@
+pub mod LineTexts
+pub mod LineStatements
+pub mod LineStream
+pub mod LineExamples

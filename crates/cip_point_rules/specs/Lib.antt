@@ -1,0 +1,3 @@
+pub mod PointExamples
+pub mod PointRules
+pub mod PointStatements

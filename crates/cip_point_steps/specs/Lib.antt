@@ -1,0 +1,2 @@
+pub mod PointStepStatements
+pub mod PointSteps
