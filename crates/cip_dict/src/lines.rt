@@ -147,7 +147,16 @@ fn is_kept(standing: &[Option<Stand>], i: u32, j: u32, new: &[Frac], k: usize) -
     vanishes(new[k]) && !is_basic(standing, k) && k != i as usize && k != j as usize
 }
 
-/// Writes the entry on variable k of a line other than that of j over the one that it had.
+/// The entry of a line on variable k.
+#[inline(always)]
+pub(crate) fn number_at(row: &[Frac], k: usize) -> Frac
+    requires { k < length row.now }
+    ensures { result ≡ value_at row.now k }
+{
+    row[k]
+}
+
+/// Writes the entry on variable k of a line other than that of j.
 #[inline(always)]
 fn substitute_on(
     line: Line,
@@ -165,7 +174,6 @@ fn substitute_on(
     requires new_long { length new.now ≡ length standing.now }
     requires row_long { length row.now ≡ length standing.now }
     requires within { k < length standing.now }
-    requires is_old { entry.old ≡ value_at row.now k }
     ensures { let operations =
         substituted_operations line (basic_in standing.now) i j q (value_at new.now) (value_at row.now) k in
         MatchResult result
@@ -174,6 +182,7 @@ fn substitute_on(
         (λ fault. first_overflow operations ≡ Some fault.place) }
 {
     if is_kept(standing, i, j, new, k) {
+        *entry = number_at(row, k);
         return Ok(());
     }
     match substituted_on(line, standing, i, j, q, new, row, k) {
@@ -210,7 +219,6 @@ pub(crate) fn write_substituted(
         (substituted (basic_in standing.now) i j q (value_at new.now) (value_at row.now))))
         (λ fault. first_overflow operations ≡ Some fault.place) }
 {
-    out.copy_from_slice(row);
     for k in 0..standing.len() {
         match substitute_on(line, standing, i, j, q, new, row, k, &mut out[k]) {
             Ok(()) => (),

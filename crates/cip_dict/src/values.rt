@@ -11,7 +11,7 @@ ghost use Rattle.cip_dict.specs.Values.{moved_in, moved_operations_in, flipped_o
 use crate::entries::{moved_value, sum};
 use crate::fault::OutOfRange;
 use crate::forms::Form;
-use crate::lines::is_basic;
+use crate::lines::{is_basic, number_at};
 use cip_dictionary::{Line, Place, Stand};
 use cip_frac::Frac;
 
@@ -82,7 +82,7 @@ fn is_left(standing: &[Option<Stand>], j: u32, v: usize) -> bool
     !is_basic(standing, v) && v != j as usize
 }
 
-/// Writes the value of variable v after j, which isn't basic, has moved by t, over the one that it had.
+/// Writes the value of variable v after j, which isn't basic, has moved by t.
 #[inline(always)]
 fn move_on(
     standing: &[Option<Stand>],
@@ -98,13 +98,13 @@ fn move_on(
     requires within { v < length standing.now }
     requires rows_long { HasRows standing.now rows.now }
     requires values_long { length values.now ≡ length standing.now }
-    requires is_old { value.old ≡ value_at values.now v }
     ensures { MatchResult result
         (λ _. (first_overflow (moved_operations_in standing.now rows.now j t values.now v) ≡ None)
         × (value.new ≡ moved_in standing.now rows.now j t values.now v))
         (λ fault. first_overflow (moved_operations_in standing.now rows.now j t values.now v) ≡ Some fault.place) }
 {
     if is_left(standing, j, v) {
+        *value = number_at(values, v);
         return Ok(());
     }
     match moved_on(standing, rows, j, t, values, v) {
@@ -137,7 +137,6 @@ pub(crate) fn write_moved(
         × (out.new ≡ table (length standing.now) (moved_in standing.now rows.now j t values.now)))
         (λ fault. first_overflow operations ≡ Some fault.place) }
 {
-    out.copy_from_slice(values);
     for v in 0..standing.len() {
         match move_on(standing, rows, j, t, values, v, &mut out[v]) {
             Ok(()) => (),

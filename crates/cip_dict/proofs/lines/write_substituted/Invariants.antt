@@ -1,4 +1,4 @@
-use Rattle.std.proofs.Common.{◌≡◌, ℕ, ◌<◌, ◌≤◌, None, get_or}
+use Rattle.std.proofs.Common.{◌≡◌, ℕ, ◌<◌, None, get_or}
 use Rattle.cip_rational.specs.Rational.{zeroℚ}
 use Rattle.cip_problem.specs.Activity.{value_at}
 use Rattle.cip_dictionary.specs.Tables.{each}
@@ -12,5 +12,4 @@ abbrev pub invariant-loop-k : goal.invariant-loop-k
 invariant-loop-k l = record {
   fits : first_overflow (each l.k (substituted_operations l.line (basic_in l.standing) l.i l.j l.q (value_at l.new) (value_at l.row))) ≡ None;
   written : (k : ℕ) → k < l.k → get_or l.out k zeroℚ ≡ substituted (basic_in l.standing) l.i l.j l.q (value_at l.new) (value_at l.row) k;
-  rest : (k : ℕ) → l.k ≤ k → get_or l.out k zeroℚ ≡ value_at l.row k;
 }

@@ -5,4 +5,4 @@ use Rattle.cip_dict.proofs.values.move_on.Goals as goal
 pub returns-then-is_left : goal.returns-then-is_left
 returns-then-is_left c =
     let stays = left_alone c.args.standing.now c.args.rows.now c.args.j c.args.t c.args.values.now c.args.v (sym c.if-is_left.ensures) in
-    (stays.0, c.requires.is_old ∙ stays.1)
+    (stays.0, c.number_at.ensures ∙ stays.1)

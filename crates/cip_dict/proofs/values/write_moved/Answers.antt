@@ -1,13 +1,8 @@
-use Rattle.std.proofs.Common.{arith, length, ◌≡◌, sym, ◌∙◌}
-use Rattle.std.proofs.lemmas.List.{get_or-set_other, get_or_read}
+use Rattle.std.proofs.Common.{arith, length}
 use Rattle.cip_rational.specs.Rational.{zeroℚ}
 use Rattle.cip_dictionary.proofs.Overflow.{first_more, first_at}
 use Rattle.cip_dict.proofs.Loops.{written_more, loop_end}
 use Rattle.cip_dict.proofs.values.write_moved.Goals as goal
-
-pub move_on-requires-clause-is_old : goal.move_on-requires-clause-is_old
-move_on-requires-clause-is_old c =
-    sym c.index-out-v.is ∙ get_or_read c.loop-v.out c.loop-v.v c.index-out-v.result (omega arith) c.index-out-v.is zeroℚ ∙ c.loop-v.invariant.rest c.loop-v.v (omega arith)
 
 pub returns-in-Err : goal.returns-in-Err
 returns-in-Err c = first_at (length c.args.standing.now) c.loop-v.v _ c.in-Err.fault.place c.loop-v-test.true c.loop-v.invariant.fits c.in-Err.ensures
@@ -16,7 +11,6 @@ pub loop-v-preserved : goal.loop-v-preserved
 loop-v-preserved c = record {
   fits = first_more c.loop-v.v _ c.loop-v.invariant.fits c.in-Ok.ensures.0;
   written = written_more _ c.loop-v.out c.loop-v.v c.move_on.new.value zeroℚ (omega arith) c.loop-v.invariant.written c.in-Ok.ensures.1;
-  rest = λ m l. get_or-set_other c.loop-v.out c.loop-v.v m c.move_on.new.value zeroℚ (λ (e : m ≡ c.loop-v.v). omega (arith, l, e)) ∙ c.loop-v.invariant.rest m (omega (arith, l));
 }
 
 pub returns : goal.returns
