@@ -244,7 +244,7 @@ are_blocks program n named s = record {
   no_master = no_master program n named;
   columns_of = λ b j hb hj. (has_entry_of program n named b j, entry_column program n named b j hb hj);
   entries = entries program n named s;
-  bounded = bounded program n named s;
+  bounded = λ b j e. (both_left (is_some (sides_at program.bounds j).low) _ (bounded program n named s b j e), both_right (is_some (sides_at program.bounds j).low) _ (bounded program n named s b j e));
   free = λ j h. (no_column program n named j, is_free program n named j h);
 }
 

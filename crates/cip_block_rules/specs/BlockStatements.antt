@@ -1,5 +1,5 @@
 -- The laws of texts of blocks, each as one statement: functions of `src/` have them as contracts.
-use Rattle.std.specs.Prelude.{◌≡◌, ◌⊎◌, ◌↔◌, ⊤, ℕ, ◌<◌, ◌≤◌, ◌==◌, true, false, ◌&&◌, List, [], ◌∷◌, None, Some, length, slice_index_or}
+use Rattle.std.specs.Prelude.{◌≡◌, ◌⊎◌, ◌↔◌, ⊤, ℕ, ◌<◌, ◌≤◌, ◌==◌, true, false, ◌&&◌, List, [], ◌∷◌, None, Some, length, slice_index_or, is_some}
 use Rattle.std.specs.List.{AllByRecursion, list_any}
 use Rattle.cip_problem.specs.Program.{Row, Program}
 use Rattle.cip_problem.specs.Box.{sides_at}
@@ -7,7 +7,7 @@ use Rattle.cip_problem.specs.WellFormed.{columns}
 use Rattle.cip_mps_rules.specs.MpsWords.{is_in}
 use Rattle.cip_line_texts.specs.LineTexts.{HasResult}
 use Rattle.cip_line_texts.specs.LineStatements.{OneOutcome, FaultsAreFirst, ResultsAreDescribed, known_of}
-use Rattle.cip_block_rules.specs.BlockParts.{NamedRow, BlockPart, Blocks, has_number, is_named, block_named, stands_on, is_bounded}
+use Rattle.cip_block_rules.specs.BlockParts.{NamedRow, BlockPart, Blocks, has_number, is_named, block_named, stands_on}
 use Rattle.cip_block_rules.specs.BlockWords.{word_said}
 use Rattle.cip_block_rules.specs.BlockRules.{most_blocks, BlockFacts, block_rules, block_fault, block_end_rules, block_end_fault, block_reading}
 
@@ -88,7 +88,7 @@ pub record AreBlocks (program : Program) (blocks : Blocks) : Type 0 where
       → row < length program.row_names → stands_on column (row_at program row) ≡ true
       → has_number (part_at blocks b).rows row ≡ true ⊎ has_number blocks.master_rows row ≡ true
   pub bounded : (b column : ℕ) → has_number (part_at blocks b).columns column ≡ true
-      → is_bounded (sides_at program.bounds column) ≡ true
+      → (is_some (sides_at program.bounds column).low ≡ true) × (is_some (sides_at program.bounds column).high ≡ true)
   pub free : (column : ℕ) → column < columns program
       → (has_number blocks.free_columns column ≡ true)
       ↔ ((b : ℕ) → has_number (part_at blocks b).columns column ≡ false)

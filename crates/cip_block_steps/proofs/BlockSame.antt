@@ -3,7 +3,6 @@ use Rattle.std.proofs.Common.{◌≡◌, ℕ, zero, suc, ◌+◌, ◌<◌, ◌==
 use Rattle.std.specs.Prelude.{is_none, unwrap_or, replicate, nat_lt, if◌then◌else◌}
 use Rattle.std.specs.List.{AllByRecursion, list_any}
 use Rattle.std.specs.Str.{bytes_eq}
-use Rattle.std.proofs.lemmas.List.{length-set}
 use Rattle.std.proofs.lemmas.List.Folds.{list_any-append}
 use Rattle.std.proofs.lemmas.Bool.{ltb-true, lt-ltb, eq-eqb, eqb-true, false_from_ne_true}
 use Rattle.cip_problem.specs.Program.{Program}
@@ -20,8 +19,8 @@ use Rattle.cip_block_rules.specs.BlockParts.{NamedRow, is_named, block_named, ro
 use Rattle.cip_block_rules.specs.BlockRules.{BlockFacts, block_rules, block_fault, block_facts_with, is_no_block, is_bad_word, begun_in, begun_with, count_with, named_with, block_count, block_end_rules, lacks_zero, lacks_count, lacks_number, lacks_block, block_reading}
 use Rattle.cip_block_rules.proofs.BlockNumbers.{within, within_below, below_within, part_of}
 use Rattle.cip_block_rules.proofs.BlockLaws.{PlaceFits, Fits, fits_first, fits_next}
-use Rattle.cip_block_steps.specs.BlockSteps.{RowPlace, Unnamed, place_of, block_at, is_placed, BlockState, no_state, is_taken, row_place, block_tests, begin_block, begun_after, put_row, rows_after, state_with, count_of, blocks_at, block_end_tests, block_steps}
-use Rattle.cip_block_steps.specs.BlockStepStatements.{NamesAreApart, IsSoundBlockState}
+use Rattle.cip_block_steps.specs.BlockSteps.{RowPlace, Unnamed, place_of, block_at, is_placed, BlockState, is_taken, row_place, block_tests, begin_block, begun_after, put_row, rows_after, state_with, count_of, blocks_at, block_end_tests, block_steps}
+use Rattle.cip_block_steps.specs.BlockStepStatements.{NamesAreApart}
 
 -- ---- what is kept
 
@@ -337,29 +336,3 @@ stands program d = record {
   end_fault = λ facts state h. end_same program facts state h;
   result = λ facts state h e. result_same program facts state h;
 }
-
--- ---- sound states
-
-copies : {X : Type 0} (n : ℕ) (x : X) → length (replicate n x) ≡ n
-copies zero x = refl
-copies (suc n) x = ap suc (copies n x)
-
-pub sound_first : (program : Program) → IsSoundBlockState program (no_state program)
-sound_first program = record { rows = copies (length program.row_names) Unnamed; begun = refl }
-
-begun_length : (begun : List Bool) (o : Option ℕ) → length (begin_block begun o) ≡ length begun
-begun_length begun None = refl
-begun_length begun (Some k) = length-set begun k true
-
-rows_length : (rows : List RowPlace) (o : Option ℕ) (place : RowPlace) → length (put_row rows o place) ≡ length rows
-rows_length rows None place = refl
-rows_length rows (Some k) place = length-set rows k place
-
-pub sound_later : (program : Program) (state : BlockState) (now : WordSaying) → IsSoundBlockState program state → least (block_tests program state now) ≡ None → IsSoundBlockState program (state_with program state now)
-sound_later program state (Opens keyword) s e = record { rows = s.rows; begun = s.begun }
-sound_later program state OutOfPlace s e = absurd (cc)
-sound_later program state Zero s e = record { rows = s.rows; begun = s.begun }
-sound_later program state (Count None) s e = absurd (cc)
-sound_later program state (Count (Some count)) s e = record { rows = s.rows; begun = copies count false }
-sound_later program state (Number number) s e = record { rows = s.rows; begun = begun_length state.begun (from_zero number) ∙ s.begun }
-sound_later program state (RowName block name) s e = record { rows = rows_length state.rows (number_in program.row_names name) (place_of block) ∙ s.rows; begun = s.begun }

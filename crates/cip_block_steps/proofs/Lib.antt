@@ -1,2 +1,3 @@
 mod BlockSame
 mod Owned
+mod Sound

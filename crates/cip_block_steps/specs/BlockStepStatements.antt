@@ -1,12 +1,12 @@
 -- The laws of the steps, each as one statement: functions of `src/lib.rt` have them as contracts.
-use Rattle.std.specs.Prelude.{◌≡◌, ⊤, ℕ, false, List, [], ◌∷◌, length, Option, None, Some, is_none, is_some, if◌then◌else◌}
+use Rattle.std.specs.Prelude.{◌≡◌, ⊤, ℕ, ◌<◌, ◌≤◌, false, List, [], ◌∷◌, length, Option, None, Some, All, IfSome, unwrap_or, is_none, is_some, if◌then◌else◌}
 use Rattle.cip_problem.specs.Program.{Program}
 use Rattle.cip_mps_rules.specs.MpsWords.{is_in}
 use Rattle.cip_mps_rules.specs.MpsRules.{least}
 use Rattle.cip_line_texts.specs.LineStream.{TextsAreRead, FaultsOfEndedLines, FaultsStay}
-use Rattle.cip_block_rules.specs.BlockWords.{Presolved, BlockCount, Block, Master, WordSaying, Opens, OutOfPlace, Zero, Count, Number, RowName, from_zero}
-use Rattle.cip_block_rules.specs.BlockRules.{is_bad_count, block_reading}
-use Rattle.cip_block_steps.specs.BlockSteps.{BlockState, no_state, is_taken, block_tests, name_tests, count_of, state_with, block_steps}
+use Rattle.cip_block_rules.specs.BlockWords.{Presolved, BlockCount, Block, Master, WordPlace, CountDue, NamesOf, word_said, Opens, OutOfPlace, Zero, Count, Number, RowName, from_zero}
+use Rattle.cip_block_rules.specs.BlockRules.{most_blocks, is_bad_count, block_reading}
+use Rattle.cip_block_steps.specs.BlockSteps.{BlockState, block_at, no_state, is_taken, block_tests, name_tests, count_of, state_with, block_steps}
 
 -- no name stands twice
 abbrev pub NamesAreApart : List (List ℕ) → Type 0
@@ -49,13 +49,24 @@ pub record BlockWordsHaveTests : Type 0 where
   pub name : (program : Program) (state : BlockState) (block : Option ℕ) (name : List ℕ)
       → least (block_tests program state (RowName block name)) ≡ least (name_tests program state name)
 
--- there is a place for each row and a mark for each block
+-- the number of blocks is due only where it wasn't said, and names stand for a block that is one of so many
+abbrev pub IsSoundPlace : Option ℕ → WordPlace → Type 0
+IsSoundPlace count CountDue = count ≡ None
+IsSoundPlace count (NamesOf block) = IfSome block (λ b. b < unwrap_or count 0)
+IsSoundPlace count other = ⊤
+
+-- there is a place for each row and a mark for each block, there are not too many blocks, and those of rows are among
+-- them
 pub record IsSoundBlockState (program : Program) (state : BlockState) : Type 0 where
   pub rows : length state.rows ≡ length program.row_names
   pub begun : length state.begun ≡ count_of state
+  pub few : count_of state ≤ most_blocks
+  pub place : IsSoundPlace state.count state.place
+  pub below : All (λ place. IfSome (block_at place) (λ b. b < count_of state)) state.rows
 
 -- the first state is sound, and so is each state behind a word without fault
 pub record BlockStatesAreSound : Type 0 where
   pub first : (program : Program) → IsSoundBlockState program (no_state program)
-  pub later : (program : Program) (state : BlockState) (now : WordSaying) → IsSoundBlockState program state
-      → least (block_tests program state now) ≡ None → IsSoundBlockState program (state_with program state now)
+  pub later : (program : Program) (state : BlockState) (word : List ℕ) → IsSoundBlockState program state
+      → least (block_tests program state (word_said state.place word)) ≡ None
+      → IsSoundBlockState program (state_with program state (word_said state.place word))

@@ -29,7 +29,8 @@ pub fn block_words_have_tests()
     ensures { BlockWordsHaveTests }
 {}
 
-/// There is a place for each row and a mark for each block, before the first word and behind each without fault.
+/// There is a place for each row and a mark for each of at most 4,096 blocks, and the blocks of rows are among them,
+/// before the first word and behind each without fault.
 pub fn block_states_are_sound()
     ensures { BlockStatesAreSound }
 {}

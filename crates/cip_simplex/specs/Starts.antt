@@ -4,7 +4,8 @@
 --                        variable that is to be nonbasic and has an entry on it that isn't 0 (that is a row, since a
 --                        column that is basic by then is to be so); where there is none, the column is passed over
 --     flipping moves     then, by rising number, each nonbasic variable that is to stand at its other side flips
--- A variable stands where it is to, if it has that side, or has none and is to stand at 0; else where it would at first.
+-- A variable stands where it is to, if it has that side, or has none and is to stand at 0; else where it would at
+-- first.
 use Rattle.std.specs.Prelude.{ℕ, zero, suc, Bool, true, false, ◌&&◌, ◌||◌, not, List, [], ◌∷◌, ◌++◌, length, Option, None, Some, is_some, unwrap_or, slice_index_or, if◌then◌else◌, ⊤}
 use Rattle.cip_problem.specs.Program.{Sides}
 use Rattle.cip_problem.specs.Box.{sides_at}

@@ -29,7 +29,8 @@ impl<'a> Model for Lp<'a> {
 
     ghost view = { λ lp. record { rows = lp.rows.now; bounds = lp.bounds.now; costs = lp.costs.now } };
 
-    ghost invariant = { λ lp. IsSolvable (record { rows = lp.rows.now; bounds = lp.bounds.now; costs = lp.costs.now }) };
+    ghost invariant = { λ lp.
+        IsSolvable (record { rows = lp.rows.now; bounds = lp.bounds.now; costs = lp.costs.now }) };
 }
 
 /// Whether terms stand on the first columns, so many.
@@ -57,8 +58,8 @@ fn are_below(rows: &[Row], columns: usize) -> bool
 }
 
 impl<'a> Lp<'a> {
-    /// Whether these are a linear program that can be solved: each column has a cost, the rows stand on its columns, and
-    /// there are fewer than 2^32 columns and rows.
+    /// Whether these are a linear program that can be solved: each column has a cost, the rows stand on its columns,
+    /// and there are fewer than 2^32 columns and rows.
     pub fn is_solvable(rows: &[Row], bounds: &Bounds, costs: &[Frac]) -> bool
         ensures { IsTrue result
             ↔ shape.IsSolvable (record { rows = rows.now; bounds = bounds.now; costs = costs.now }) }

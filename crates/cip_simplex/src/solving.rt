@@ -32,7 +32,8 @@ pub(crate) fn solve_on(
     limit: u32,
 ) -> Result<LpAnswer, AllocError>
     requires { def.size dict.old ≡ variables lp.now }
-    ensures answer { IfOk result (λ found. IsAnswer (answer_of lp.now (run_behind moves.items (run limit dict.old))) found
+    ensures answer { IfOk result (λ found.
+        IsAnswer (answer_of lp.now (run_behind moves.items (run limit dict.old))) found
         × (dict.new ≡ (run limit dict.old).last)) }
     ensures variables { IfOk result (λ _. def.size dict.new ≡ variables lp.now) }
 {

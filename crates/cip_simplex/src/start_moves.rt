@@ -141,8 +141,8 @@ fn make_next(
     }
 }
 
-/// Makes the entering moves of so many columns, by rising number, and puts each at the end of the list of moves; answers
-/// the first that is out of range, at which it stops. `Err` where a growth of the list was refused.
+/// Makes the entering moves of so many columns, by rising number, and puts each at the end of the list of moves;
+/// answers the first that is out of range, at which it stops. `Err` where a growth of the list was refused.
 fn enter_columns(
     start: &Start,
     dict: &mut Dict,
@@ -166,8 +166,8 @@ fn enter_columns(
     Ok(None)
 }
 
-/// Makes the flipping moves of n variables, by rising number, and puts each at the end of the list of moves; answers the
-/// first that is out of range, at which it stops. `Err` where a growth of the list was refused.
+/// Makes the flipping moves of n variables, by rising number, and puts each at the end of the list of moves; answers
+/// the first that is out of range, at which it stops. `Err` where a growth of the list was refused.
 fn flip_variables(
     start: &Start,
     dict: &mut Dict,

@@ -103,8 +103,8 @@ impl Start {
         Ok(Start { standing })
     }
 
-    /// The start of the first state: rows are basic, and each column stands at its low side, else at its high side, else
-    /// at 0. `Err` where memory was refused.
+    /// The start of the first state: rows are basic, and each column stands at its low side, else at its high side,
+    /// else at 0. `Err` where memory was refused.
     pub fn slack(alloc: Global, lp: &Lp) -> Result<Start, AllocError>
         ensures { IfOk result (λ start. start ≡ definitions.stands_of (first_of_program lp.now)) }
     {

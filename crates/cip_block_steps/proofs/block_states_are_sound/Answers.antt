@@ -1,4 +1,4 @@
-use Rattle.cip_block_steps.proofs.BlockSame.{sound_first, sound_later}
+use Rattle.cip_block_steps.proofs.Sound.{sound_first, sound_later}
 use Rattle.cip_block_steps.proofs.block_states_are_sound.Goals as goal
 
 pub returns : goal.returns
