@@ -1,21 +1,143 @@
--- The place of a name among names, and among keys.
-use Rattle.std.proofs.Common.{◌≡◌, ℕ, ◌+◌, Bool, true, false, cond, ◌||◌, List, [], ◌∷◌, map, Option, None, Some, refl, sym, ◌∙◌, ap}
-use Rattle.std.specs.List.{position_from, position, list_any}
-use Rattle.std.proofs.lemmas.Iterator.Adapters.{position_from-zero}
+-- The places of names among names, and in the order of names.
+use Rattle.std.proofs.Common.{◌≡◌, ℕ, zero, suc, ◌+◌, ◌<◌, ◌≤◌, Bool, true, false, cond, ◌||◌, List, [], ◌∷◌, ◌++◌, map, length, Option, None, Some, refl, sym, ◌∙◌, ap, subst, inl, inr, ◌⊎◌, arith, Less, Equal, Greater, Ordering, is_eq, add-zero, zero-add}
+use Rattle.std.specs.Prelude.{slice_get, slice_index_or, IfSome}
+use Rattle.std.specs.Str.{bytes_eq}
+use Rattle.std.specs.Map.{lookup}
+use Rattle.std.specs.BTreeMap.{insert_entry}
+use Rattle.std.specs.Ordering.{nat_cmp, match_ordering}
+use Rattle.std.specs.Cmp.Lexicographic.{slice_cmp}
+use Rattle.std.specs.List.{position_from}
+use Rattle.std.proofs.lemmas.Map.Text.{is_eq-slice_cmp}
+use Rattle.std.proofs.lemmas.Slice.Eq.{bytes_eq-Decides}
+use Rattle.cip_problem.specs.Names.{number_of}
 
--- the first place at which a list's values pass a test
-pub position_from-map : {X Y : Type 0} (test : Y → Bool) (f : X → Y) (i : ℕ) (xs : List X) → position_from test i (map f xs) ≡ position_from (λ x. test (f x)) i xs
-position_from-map test f i [] = refl
-position_from-map test f i (x ∷ xs) = ap (λ r. cond (test (f x)) (Some i) r) (position_from-map test f (i + 1) xs)
+-- ---- the first place
 
-pub position-map : {X Y : Type 0} (test : Y → Bool) (f : X → Y) (xs : List X) → position (λ x. test (f x)) xs ≡ position_from test 0 (map f xs)
-position-map test f xs = position_from-zero (λ x. test (f x)) xs ∙ sym (position_from-map test f 0 xs)
+-- the first of two that is there
+abbrev or_else : Option ℕ → Option ℕ → Option ℕ
+or_else None other = other
+or_else (Some k) other = Some k
 
-none_step : (b any : Bool) (i : ℕ) (r : Option ℕ) → cond b (Some i) r ≡ None → (r ≡ None → any ≡ false) → (b || any) ≡ false
-none_step true any i r h f = cc
-none_step false any i r h f = f h
+position_push : {X : Type 0} (t : X → Bool) (i : ℕ) (xs : List X) (y : X) → position_from t i (xs ++ y ∷ []) ≡ or_else (position_from t i xs) (cond (t y) (Some (i + length xs)) None)
+position_push t i [] y = ap (λ n. cond (t y) (Some n) None) (sym (add-zero i))
+position_push t i (x ∷ xs) y = go (t x) (position_push t (i + 1) xs y)
+  where
+    go : (b : Bool) → position_from t (i + 1) (xs ++ y ∷ []) ≡ or_else (position_from t (i + 1) xs) (cond (t y) (Some (i + 1 + length xs)) None)
+        → cond b (Some i) (position_from t (i + 1) (xs ++ y ∷ [])) ≡ or_else (cond b (Some i) (position_from t (i + 1) xs)) (cond (t y) (Some (i + suc (length xs))) None)
+    go true h = refl
+    go false h = h ∙ ap (λ n. or_else (position_from t (i + 1) xs) (cond (t y) (Some n) None)) (omega arith)
 
--- where no place is found, no element passes
-pub list_any-none : {X : Type 0} (test : X → Bool) (i : ℕ) (xs : List X) → position_from test i xs ≡ None → list_any test xs ≡ false
-list_any-none test i [] h = refl
-list_any-none test i (x ∷ xs) h = none_step (test x) (list_any test xs) i _ h (list_any-none test (i + 1) xs)
+same : (a b : List ℕ) → bytes_eq a b ≡ true → a ≡ b
+same a b h = (bytes_eq-Decides a b).0 h
+
+-- the number of a name among names, one of which is new
+pub number_push : (names : List (List ℕ)) (new name : List ℕ) → number_of names new ≡ None → number_of (names ++ new ∷ []) name ≡ cond (bytes_eq name new) (Some (length names)) (number_of names name)
+number_push names new name absent = position_push (bytes_eq name) 0 names new ∙ go (bytes_eq name new) refl
+  where
+    right : (o : Option ℕ) → or_else o None ≡ o
+    right None = refl
+    right (Some k) = refl
+
+    left : (o : Option ℕ) (p : Option ℕ) → o ≡ None → or_else o p ≡ p
+    left None p e = refl
+    left (Some k) p e = absurd (cc)
+
+    go : (b : Bool) → bytes_eq name new ≡ b → or_else (number_of names name) (cond b (Some (0 + length names)) None) ≡ cond b (Some (length names)) (number_of names name)
+    go true e =
+        let n : name ≡ new = same name new e in
+        left (number_of names name) (Some (0 + length names)) (ap (number_of names) n ∙ absent) ∙ ap Some (zero-add (length names))
+    go false e = right (number_of names name)
+
+position_below : {X : Type 0} (t : X → Bool) (i : ℕ) (xs : List X) (k : ℕ) → position_from t i xs ≡ Some k → k < i + length xs
+position_below t i [] k e = absurd (cc)
+position_below t i (x ∷ xs) k e = go (t x) e (position_below t (i + 1) xs k)
+  where
+    go : (b : Bool) → cond b (Some i) (position_from t (i + 1) xs) ≡ Some k → (position_from t (i + 1) xs ≡ Some k → k < i + 1 + length xs) → k < i + suc (length xs)
+    go true p h = let q : i ≡ k = cc in omega (arith, q)
+    go false p h = let q : k < i + 1 + length xs = h p in omega (arith, q)
+
+pub number_below : (names : List (List ℕ)) (name : List ℕ) (k : ℕ) → number_of names name ≡ Some k → k < length names
+number_below names name k e = let l : k < 0 + length names = position_below (bytes_eq name) 0 names k e in omega (arith, l)
+
+-- ---- the order of names
+
+module _ {K : Type 0} (f : K → List ℕ) where
+  -- the number that the order has for a name
+  abbrev pub in_order : List (K × ℕ) → List ℕ → Option ℕ
+  in_order es name = lookup (λ q. is_eq (slice_cmp nat_cmp name (f q))) es
+
+  pub order_push : (es : List (K × ℕ)) (k : K) (v : ℕ) (name : List ℕ) → in_order es (f k) ≡ None → in_order (insert_entry (λ x y. slice_cmp nat_cmp (f x) (f y)) es k v) name ≡ cond (bytes_eq name (f k)) (Some v) (in_order es name)
+  order_push [] k v name absent = ap (λ b. cond b (Some v) None) (is_eq-slice_cmp name (f k))
+  order_push (e ∷ es) k v name absent = go (slice_cmp nat_cmp (f k) (f e.0)) refl (order_push es k v name)
+    where
+      rest : (b : Bool) → is_eq (slice_cmp nat_cmp (f k) (f e.0)) ≡ b → cond b (Some e.1) (in_order es (f k)) ≡ None → in_order es (f k) ≡ None
+      rest true p h = absurd (cc)
+      rest false p h = h
+
+      apart : (b : Bool) → is_eq (slice_cmp nat_cmp (f k) (f e.0)) ≡ b → cond b (Some e.1) (in_order es (f k)) ≡ None → bytes_eq (f k) (f e.0) ≡ false
+      apart true p h = absurd (cc)
+      apart false p h = sym (is_eq-slice_cmp (f k) (f e.0)) ∙ p
+
+      swap : (a b : Bool) → bytes_eq name (f e.0) ≡ a → bytes_eq name (f k) ≡ b → bytes_eq (f k) (f e.0) ≡ false → cond a (Some e.1) (cond b (Some v) (in_order es name)) ≡ cond b (Some v) (cond a (Some e.1) (in_order es name))
+      swap true true p q n =
+          let x : name ≡ f e.0 = same name (f e.0) p in
+          let y : name ≡ f k = same name (f k) q in
+          let z : bytes_eq (f k) (f e.0) ≡ true = ap (λ w. bytes_eq w (f e.0)) (sym y) ∙ p in absurd (cc)
+      swap true false p q n = refl
+      swap false true p q n = refl
+      swap false false p q n = refl
+
+      go : (o : Ordering) → slice_cmp nat_cmp (f k) (f e.0) ≡ o
+          → (in_order es (f k) ≡ None → in_order (insert_entry (λ x y. slice_cmp nat_cmp (f x) (f y)) es k v) name ≡ cond (bytes_eq name (f k)) (Some v) (in_order es name))
+          → in_order (match_ordering o ((k, v) ∷ e ∷ es) ((e.0, v) ∷ es) (e ∷ insert_entry (λ x y. slice_cmp nat_cmp (f x) (f y)) es k v)) name ≡ cond (bytes_eq name (f k)) (Some v) (in_order (e ∷ es) name)
+      go Less p more = ap (λ b. cond b (Some v) (in_order (e ∷ es) name)) (is_eq-slice_cmp name (f k))
+      go Equal p more = let q : is_eq (slice_cmp nat_cmp (f k) (f e.0)) ≡ true = ap is_eq p in let a = apart (is_eq (slice_cmp nat_cmp (f k) (f e.0))) refl absent in let t : bytes_eq (f k) (f e.0) ≡ true = sym (is_eq-slice_cmp (f k) (f e.0)) ∙ q in absurd (cc)
+      go Greater p more =
+          ap (λ t. cond (is_eq (slice_cmp nat_cmp name (f e.0))) (Some e.1) t) (more (rest (is_eq (slice_cmp nat_cmp (f k) (f e.0))) refl absent))
+          ∙ ap (λ b. cond b (Some e.1) (cond (bytes_eq name (f k)) (Some v) (in_order es name))) (is_eq-slice_cmp name (f e.0))
+          ∙ swap (bytes_eq name (f e.0)) (bytes_eq name (f k)) refl refl (apart (is_eq (slice_cmp nat_cmp (f k) (f e.0))) refl absent)
+          ∙ ap (λ b. cond (bytes_eq name (f k)) (Some v) (cond b (Some e.1) (in_order es name))) (sym (is_eq-slice_cmp name (f e.0)))
+
+-- ---- names stay apart
+
+get_push : (names : List (List ℕ)) (new name : List ℕ) (k : ℕ) → slice_get (names ++ new ∷ []) k ≡ Some name → (slice_get names k ≡ Some name) ⊎ ((k ≡ length names) × (name ≡ new))
+get_push [] new name zero e = inr (refl, let q : new ≡ name = cc in sym q)
+get_push [] new name (suc k) e = absurd (cc)
+get_push (x ∷ xs) new name zero e = inl e
+get_push (x ∷ xs) new name (suc k) e = elim (get_push xs new name k e) [ inl h ↦ inl h | inr h ↦ inr (ap suc h.0, h.1) ]
+
+abbrev pub AreApart : List (List ℕ) → Type 0
+AreApart names = (number : ℕ) (name : List ℕ) → slice_get names number ≡ Some name → number_of names name ≡ Some number
+
+pub apart_push : (names : List (List ℕ)) (new : List ℕ) → number_of names new ≡ None → AreApart names → AreApart (names ++ new ∷ [])
+apart_push names new absent apart k name e = number_push names new name absent ∙ go (get_push names new name k e)
+  where
+    old : (b : Bool) → bytes_eq name new ≡ b → number_of names name ≡ Some k → cond b (Some (length names)) (number_of names name) ≡ Some k
+    old true p h = let n : name ≡ new = same name new p in let q : number_of names name ≡ None = ap (number_of names) n ∙ absent in absurd (cc)
+    old false p h = h
+
+    go : (slice_get names k ≡ Some name) ⊎ ((k ≡ length names) × (name ≡ new)) → cond (bytes_eq name new) (Some (length names)) (number_of names name) ≡ Some k
+    go (inl h) = old (bytes_eq name new) refl (apart k name h)
+    go (inr h) = ap (λ b. cond b (Some (length names)) (number_of names name)) ((bytes_eq-Decides name new).1 h.1) ∙ ap Some (sym h.0)
+
+-- ---- keys
+
+-- the name at a place
+pub key_at : {K : Type 0} (f : K → List ℕ) (keys : List K) (k : ℕ) (key : K) (name : List ℕ) → k < length keys → key ≡ slice_index_or keys k key → bytes_eq (f key) name ≡ true → slice_get (map f keys) k ≡ Some name
+key_at f [] k key name l e b = absurd (omega (arith, l))
+key_at f (x ∷ xs) zero key name l e b = ap (λ y. Some (f y)) (sym e) ∙ ap Some (same (f key) name b)
+key_at f (x ∷ xs) (suc k) key name l e b = key_at f xs k key name (omega (arith, l)) e b
+
+pub number_within : (names : List (List ℕ)) (name : List ℕ) (o : Option ℕ) → o ≡ number_of names name → IfSome o (λ number. number < length names)
+number_within names name None e = tt
+number_within names name (Some k) e = number_below names name k (sym e)
+
+-- one name more, in the order and in the list
+pub found_push : (names after : List (List ℕ)) (new copy name : List ℕ) (k : ℕ) (old found : Option ℕ) → copy ≡ new → k ≡ length names → number_of names new ≡ None
+    → found ≡ cond (bytes_eq name copy) (Some k) old → old ≡ number_of names name → after ≡ names ++ new ∷ [] → found ≡ number_of after name
+found_push names after new copy name k old found c l absent f o a =
+    f ∙ ap (λ b. cond (bytes_eq name b) (Some k) old) c ∙ ap (λ n. cond (bytes_eq name new) (Some n) old) l ∙ ap (cond (bytes_eq name new) (Some (length names))) o
+    ∙ sym (number_push names new name absent) ∙ ap (λ ns. number_of ns name) (sym a)
+
+pub apart_after : (names after : List (List ℕ)) (new : List ℕ) → number_of names new ≡ None → AreApart names → after ≡ names ++ new ∷ [] → AreApart after
+apart_after names after new absent apart a = subst AreApart (sym a) (apart_push names new absent apart)

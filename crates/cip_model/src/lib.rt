@@ -3,6 +3,7 @@
 
 mod checks;
 mod limits;
+mod name_hints;
 mod names;
 mod parts;
 mod programs;

@@ -1,15 +1,25 @@
 //! Names and their numbers.
-ghost use Rattle.std.specs.Prelude.{◌≡◌, ◌<◌, ◌++◌, ◌∷◌, ◌↔◌, [], Some, None, IsTrue, length, slice_get, IfSome, OnOk, OnErr};
+ghost use Rattle.std.specs.Prelude.{◌≡◌, ℕ, ◌<◌, ◌++◌, ◌∷◌, ◌↔◌, [], List, Some, None, IsTrue, length, vec_len, vec_capacity, slice_get, if◌then◌else◌, IfSome, OnOk, OnErr};
+ghost use Rattle.std.specs.BTreeMap.{get_by};
+ghost use Rattle.std.specs.Cmp.Lexicographic.{slice_cmp};
+ghost use Rattle.std.specs.Ordering.{nat_cmp};
+ghost use Rattle.std.specs.Str.{bytes_eq};
 ghost use Rattle.cip_problem.specs.Names.{number_of};
 
-use indexmap::IndexSet;
+use crate::name_hints::{fingerprint, hinted};
+use indexmap::IndexMap;
 use std::alloc::{AllocError, Global};
+use std::collections::BTreeMap;
 use std::marker::Model;
 
-/// Distinct names; the number of a name is its place, from 0.
+/// Distinct names; the number of a name is its place, from 0. A name is sought by hints, and where these have it not in
+/// the order of names, so that no choice of names makes the search long.
 #[derive(Debug, Drop)]
 pub struct Names {
-    keys: IndexSet<Vec<u8>>,
+    alloc: Global,
+    keys: Vec<Vec<u8>>,
+    order: BTreeMap<Vec<u8>, usize>,
+    hints: IndexMap<u32, usize>,
 }
 
 impl Model for Names {
@@ -20,9 +30,32 @@ impl Model for Names {
 
     ghost coded = { names_code };
 
-    ghost use Rattle.cip_model.specs.Keys.{names_of};
+    ghost use Rattle.cip_model.specs.Keys.{names_of, AreOrdered};
 
     ghost view = { names_of };
+
+    ghost invariant = { AreOrdered };
+}
+
+/// Puts a new name with its number into the order of names. `Err` comes where a growth was refused, and changes
+/// nothing.
+fn put(order: &mut BTreeMap<Vec<u8>, usize>, name: Vec<u8>, number: usize) -> Result<(), AllocError>
+    requires { get_by (λ key. slice_cmp nat_cmp name.items key.items) order.old ≡ None }
+    ensures ok { OnOk result ((other : List ℕ) → get_by (λ key. slice_cmp nat_cmp other key.items) order.new
+        ≡ (if bytes_eq other name.items then Some number
+        else get_by (λ key. slice_cmp nat_cmp other key.items) order.old)) }
+    ensures err { OnErr result (order.new.entries ≡ order.old.entries) }
+{
+    order.insert(name, number)?;
+    Ok(())
+}
+
+/// Puts a name behind others, for which there is room.
+fn push(keys: &mut Vec<Vec<u8>>, name: Vec<u8>)
+    requires { vec_len keys.old < vec_capacity keys.old }
+    ensures { keys.new.items ≡ keys.old.items ++ name ∷ [] }
+{
+    let _ = keys.push(name);
 }
 
 impl Names {
@@ -31,7 +64,10 @@ impl Names {
         ensures { result ≡ [] }
     {
         Names {
-            keys: IndexSet::new(alloc),
+            alloc,
+            keys: Vec::new(alloc),
+            order: BTreeMap::new(alloc),
+            hints: IndexMap::new(alloc),
         }
     }
 
@@ -54,7 +90,10 @@ impl Names {
         ensures number { result ≡ number_of self.now name.now }
         ensures within { IfSome result (λ number. number < length self.now) }
     {
-        self.keys.get_index_of(name)
+        match hinted(&self.hints, self.keys.as_slice(), name) {
+            Some(number) => Some(number),
+            None => self.order.get(name).copied(),
+        }
     }
 
     /// The name of this number, which is below their number.
@@ -62,7 +101,19 @@ impl Names {
         requires { number < length self.now }
         ensures { slice_get self.now number ≡ Some result.now }
     {
-        self.keys.as_slice()[number].as_slice()
+        let key = &self.keys[number];
+        key.as_slice()
+    }
+
+    /// Hints the number that the next name gets, unless its fingerprint has a hint.
+    fn hint(&mut self, name: &[u8]) -> Result<(), AllocError>
+        ensures { self.new ≡ self.old }
+    {
+        let print = fingerprint(name);
+        if self.hints.get(&print).is_none() {
+            self.hints.insert(print, self.keys.len())?;
+        }
+        Ok(())
     }
 
     /// Puts a name that is not there yet at the end. `Err` comes where a growth was refused, and
@@ -72,7 +123,12 @@ impl Names {
         ensures ok { OnOk result (self.new ≡ self.old ++ name.items ∷ []) }
         ensures err { OnErr result (self.new ≡ self.old) }
     {
-        self.keys.insert(name)?;
+        self.hint(name.as_slice())?;
+        let number = self.keys.len();
+        let copy = name.as_slice().to_vec(self.alloc)?;
+        self.keys.reserve(1)?;
+        put(&mut self.order, copy, number)?;
+        push(&mut self.keys, name);
         Ok(())
     }
 }

@@ -1,14 +1,20 @@
-use Rattle.std.proofs.Common.{◌≡◌, false, ◌∷◌, [], sym, ◌∙◌}
-use Rattle.std.proofs.lemmas.List.{map-append}
-use Rattle.std.specs.List.{list_any}
-use Rattle.std.specs.Str.{bytes_eq}
-use Rattle.cip_model.proofs.NamePlaces.{list_any-none, position_from-map}
+use Rattle.std.proofs.Common.{◌≡◌, ◌++◌, ◌∷◌, [], ℕ, List, None, Vec, Global, map, length, ap, sym, ◌∙◌, arith}
+use Rattle.std.proofs.lemmas.List.{map-append, length-map}
+use Rattle.cip_problem.specs.Names.{number_of}
+use Rattle.cip_model.specs.Keys.{names_of}
+use Rattle.cip_model.proofs.NamePlaces.{found_push, apart_after}
 use Rattle.cip_model.proofs.names.Names.add.Goals as goal
 
-pub returns-clause-ok : goal.returns-clause-ok
-returns-clause-ok c =
-    let old = c.self.inside.keys.keys in
-    let absent : list_any (λ key. bytes_eq c.args.name.items key.items) old ≡ false =
-    list_any-none (λ key. bytes_eq c.args.name.items key.items) 0 old
-    (sym (position_from-map (bytes_eq c.args.name.items) (λ key. key.items) 0 old) ∙ (rw (← c.self.view_is) at c.requires)) in
-    rw (← c.self.view_is, c.in_ok-insert.ensures.keys, absent) (map-append (λ key. key.items) old (c.args.name ∷ []))
+pub invariant_of-self-2 : goal.invariant_of-self-2
+invariant_of-self-2 c =
+    let items : Vec ℕ Global → List ℕ = λ key. key.items in
+    let names = names_of c.self.inside in
+    let new = c.args.name.items in
+    let absent : number_of names new ≡ None = rw (c.self.view_is, c.in_ok-hint.ensures) c.requires in
+    let after : map items c.push.new.keys.items ≡ names ++ new ∷ [] = ap (map items) (c.push.ensures ∙ ap (λ keys. keys ++ c.args.name ∷ []) c.in_ok-reserve.ensures.items) ∙ map-append items c.self.inside.keys.items (c.args.name ∷ []) in
+    let copy : c.in_ok-copy.copy.items ≡ new = c.in_ok-copy.ensures.items_if_clones_equal (λ x y e. e) ∙ c.as_slice-2.ensures.value in
+    let count : c.len-number.result ≡ length names = omega (arith, c.len-number.ensures, c.self.inside.keys.ok.0, length-map c.self.inside.keys.items items) in
+    record {
+      found = λ name. found_push names (map items c.push.new.keys.items) new c.in_ok-copy.copy.items name c.len-number.result _ _ copy count absent (c.in_ok-put.ensures.ok name) (c.self.invariant.found name) after;
+      apart = apart_after names (map items c.push.new.keys.items) new absent c.self.invariant.apart after;
+    }

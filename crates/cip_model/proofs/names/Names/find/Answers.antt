@@ -1,8 +1,10 @@
-use Rattle.std.proofs.Common.{◌∙◌}
-use Rattle.std.specs.Str.{bytes_eq}
-use Rattle.cip_model.proofs.NamePlaces.{position-map}
+use Rattle.std.proofs.Common.{◌≡◌, ◌∙◌}
+use Rattle.cip_problem.specs.Names.{number_of}
+use Rattle.cip_model.proofs.NamePlaces.{number_within}
 use Rattle.cip_model.proofs.names.Names.find.Goals as goal
 
-pub returns-clause-number : goal.returns-clause-number
-returns-clause-number c =
-    rw (← c.self.view_is) (c.get_index_of.ensures.index ∙ position-map (bytes_eq c.args.name.now) (λ key. key.items) c.self.inside.keys.keys)
+pub returns-in-None-clause-within : goal.returns-in-None-clause-within
+returns-in-None-clause-within c =
+    let number : c.copied.result ≡ number_of c.args.self.now c.args.name.now =
+    rw (← c.self.view_is) (c.copied.ensures ∙ c.get.ensures.value ∙ c.self.invariant.found c.args.name.now) in
+    number_within c.args.self.now c.args.name.now c.copied.result number
