@@ -19,8 +19,6 @@ mod row_program;
 mod sections;
 mod sides;
 mod steps;
-#[cfg(test)]
-mod tests;
 mod values;
 
 pub use draft::Draft;
