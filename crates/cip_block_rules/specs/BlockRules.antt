@@ -132,7 +132,8 @@ lacks_block facts =
 -- a column of the program has entries in two blocks
 abbrev pub has_linking : Program → BlockFacts → Bool
 has_linking program facts =
-    list_any (is_linking program (block_count facts) (row_blocks program facts.named)) (numbers_from 0 (columns program))
+    list_any (is_linking program (block_count facts) (row_blocks program facts.named))
+    (numbers_from 0 (columns program))
 
 -- a column of a block lacks a bound
 abbrev pub has_open : Program → BlockFacts → Bool

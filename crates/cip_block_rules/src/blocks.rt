@@ -8,8 +8,8 @@ pub fn blocks_have_one_outcome()
     ensures { BlocksHaveOneOutcome }
 {}
 
-/// The fault of a text of at most 67,108,864 bytes is that of its first faulty word; where no word has a fault it is the
-/// one at the line behind the last, if there is one.
+/// The fault of a text of at most 67,108,864 bytes is that of its first faulty word; where no word has a fault it is
+/// the one at the line behind the last, if there is one.
 pub fn block_faults_are_first()
     ensures { BlockFaultsAreFirst }
 {}
@@ -20,15 +20,15 @@ pub fn blocks_are_described()
     ensures { BlocksAreDescribed }
 {}
 
-/// The fault of a word, and that behind the last line, is a kind whose rule is broken there, and no lesser one is; where
-/// there is no fault no rule is broken.
+/// The fault of a word, and that behind the last line, is a kind whose rule is broken there, and no lesser one is;
+/// where there is no fault no rule is broken.
 pub fn block_faults_are_least()
     ensures { BlockFaultsAreLeast }
 {}
 
-/// There are from 1 to 4,096 blocks. Each row is a master row or of one block; a block has the columns of which its rows
-/// have entries; a column of a block has entries in rows of the block and in master rows alone, and two bounds; the other
-/// columns are of no block.
+/// There are from 1 to 4,096 blocks. Each row is a master row or of one block; a block has the columns of which its
+/// rows have entries; a column of a block has entries in rows of the block and in master rows alone, and two bounds;
+/// the other columns are of no block.
 pub fn blocks_are_apart()
     ensures { BlocksAreApart }
 {}

@@ -1,5 +1,5 @@
-//! A reader of texts of blocks on plain values: a place for each row and a mark for each block, the tests and the put of
-//! a word, and bytes taken one by one. The contracts of the code are over these steps; the laws tie them to the
+//! A reader of texts of blocks on plain values: a place for each row and a mark for each block, the tests and the put
+//! of a word, and bytes taken one by one. The contracts of the code are over these steps; the laws tie them to the
 //! definitions of a text.
 // Each function here does nothing. Its contract is a law of the steps, so that the check proves it.
 #![tactic(auto)]
@@ -7,8 +7,8 @@
 ghost use Rattle.cip_block_steps.specs.BlockOwners.{OwnersAreRight};
 ghost use Rattle.cip_block_steps.specs.BlockStepStatements.{BlocksAreRead, BlockFaultsOfEndedLines, BlockFaultsStay, BlockWordsHaveTests, BlockStatesAreSound};
 
-/// A text that is read byte by byte comes to exactly the blocks or the first fault of the text, for a program whose rows
-/// have different names.
+/// A text that is read byte by byte comes to exactly the blocks or the first fault of the text, for a program whose
+/// rows have different names.
 pub fn blocks_are_read()
     ensures { BlocksAreRead }
 {}
@@ -35,8 +35,8 @@ pub fn block_states_are_sound()
     ensures { BlockStatesAreSound }
 {}
 
-/// One pass over the rows tells whether a column has entries in two blocks, whether it is of a block, and, where none has
-/// entries in two, of which.
+/// One pass over the rows tells whether a column has entries in two blocks, whether it is of a block, and, where none
+/// has entries in two, of which.
 pub fn owners_are_right()
     ensures { OwnersAreRight }
 {}

@@ -5,6 +5,7 @@ use Rattle.cip_dictionary.specs.Dictionary.{Dictionary, size, is_basic}
 use Rattle.cip_dictionary.specs.declared.moves.Move.{Move}
 use Rattle.cip_bland.specs.Rule.{next}
 use Rattle.cip_bland.specs.MoveList as list
+use Rattle.cip_bland.specs.NoRepeat.{enough_moves, whole_run}
 use Rattle.cip_bland.specs.Statements.{IsEnding}
 use Rattle.cip_bland.specs.EndAnswers.{answer_of, answer_after}
 use Rattle.cip_bland.specs.declared.steps.Step.{Step}
@@ -65,3 +66,8 @@ module _ (limit : ℕ) (d : Dictionary) (before moves : List Move) (last : Dicti
       let h = run_is limit d in
       let at : IsEnding limit (length r.moves) r.last (list.Ends s) = subst (IsEnding limit (length r.moves) r.last) (ending_is ∙ f) h.ending in
       ap next (sym last_is) ∙ at.0
+
+-- so at the end of the whole list
+pub whole_ends_at : (d : Dictionary) (before moves : List Move) (last : Dictionary) (ending : list.Ending) → run_behind before (whole_run d) ≡ record { moves = moves; last = last; ending = ending } → (s : Step) → ending ≡ list.Ends s → next last ≡ s
+unfolding whole_run
+whole_ends_at d before moves last ending e s f = ends_at (enough_moves d) d before moves last ending e s f

@@ -8,3 +8,4 @@ pub mod StartLaws
 pub mod SlackStart
 pub mod Systems
 pub mod Tabled
+pub mod WholeLists

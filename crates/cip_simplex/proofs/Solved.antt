@@ -1,5 +1,5 @@
 -- The answer from the first state of a linear program.
-use Rattle.std.proofs.Common.{◌≡◌, ℕ, ◌+◌, List, [], length, length-append, cond, is_some, None, Some, Option, Result, Ok, Err, IfOk, arith, sym, ap, ◌∙◌, subst}
+use Rattle.std.proofs.Common.{◌≡◌, ℕ, ◌+◌, ◌^◌, List, [], length, length-append, cond, is_some, None, Some, Option, Result, Ok, Err, IfOk, arith, sym, ap, ◌∙◌, subst}
 use Rattle.std.proofs.lemmas.List.{length-map}
 use Rattle.cip_linear.specs.LinearProgram.{LinearProgram}
 use Rattle.cip_linear.specs.Multipliers.{row_sides}
@@ -10,6 +10,7 @@ use Rattle.cip_dictionary.specs.ProgramState.{system_of, first_of_program}
 use Rattle.cip_dictionary.specs.declared.places.Place.{Place}
 use Rattle.cip_dictionary.specs.declared.moves.Move.{Move}
 use Rattle.cip_bland.specs.MoveList.{run}
+use Rattle.cip_bland.specs.NoRepeat.{whole_run, whole_answer}
 use Rattle.cip_bland.specs.EndAnswers.{OutOfRange, answer_of, answer}
 use Rattle.cip_bland.specs.EndAnswers as def
 use Rattle.cip_simplex.specs.Advances.{run_behind}
@@ -75,3 +76,20 @@ from_out_of_range program start limit place e = (
   ap (λ o. cond (is_some o) (OutOfRange []) (answer_on program limit (begun program start).wide (begun program start))) e,
   ap (λ o. cond (is_some o) (first_of_program program) (last_on limit (begun program start).wide (begun program start))) e,
 )
+
+-- ---- without a limit
+
+pub whole_in_range : (program : LinearProgram) → first_overflow (first_operations (system_of program)) ≡ None → whole_answer program ≡ answer_of program (whole_run (first_of_program program))
+unfolding whole_answer whole_run
+whole_in_range program e =
+    answer_in_range program (4 ^ variables program) e ∙ ap (λ n. answer_of program (run (4 ^ n) (first_of_program program))) (sym (first_size program))
+
+pub whole_out_of_range : (program : LinearProgram) (place : Place) → first_overflow (first_operations (system_of program)) ≡ Some place → whole_answer program ≡ OutOfRange []
+unfolding whole_answer
+whole_out_of_range program place e = answer_out_of_range program (4 ^ variables program) place e
+
+pub wholly_answered : {E : Type 0} (program : LinearProgram) (d : Dictionary) (result : Result LpAnswer E) → first_overflow (first_operations (system_of program)) ≡ None → d ≡ first_of_program program
+    → IfOk result (IsAnswer (answer_of program (run_behind [] (whole_run d)))) → IfOk result (IsAnswer (whole_answer program))
+wholly_answered program d (Err e) fits is_first h = h
+wholly_answered program d (Ok found) fits is_first h =
+    subst (λ (a : def.Answer). IsAnswer a found) (ap (λ s. answer_of program (whole_run s)) is_first ∙ sym (whole_in_range program fits)) h

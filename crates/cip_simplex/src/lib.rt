@@ -19,7 +19,7 @@ mod ways;
 pub use answers::LpAnswer;
 pub use laws::{slack_is_first, starts_are_right};
 pub use lp::Lp;
-pub use solving::{solve, solve_from};
+pub use solving::{solve, solve_from, solve_fully};
 pub use starts::Start;
 
 #[cfg(test)]

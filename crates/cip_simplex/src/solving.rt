@@ -1,10 +1,11 @@
 //! Linear programs, solved.
-ghost use Rattle.std.specs.Prelude.{◌≡◌, length, IfOk};
+ghost use Rattle.std.specs.Prelude.{◌≡◌, [], length, IfOk};
 ghost use Rattle.cip_dictionary.specs.ProgramState.{first_of_program};
 ghost use Rattle.cip_dictionary.specs.Dictionary as def;
 ghost use Rattle.cip_bland.specs.MoveList.{run};
 ghost use Rattle.cip_bland.specs.EndAnswers.{answer_of, answer};
-ghost use Rattle.cip_bland.specs.Statements.{IsRight};
+ghost use Rattle.cip_bland.specs.NoRepeat.{whole_run, whole_answer, WholeAnswerHolds};
+ghost use Rattle.cip_bland.specs.Statements.{IsStateOf, IsRight};
 ghost use Rattle.cip_simplex.specs.Advances.{run_behind};
 ghost use Rattle.cip_simplex.specs.LpShape.{variables};
 ghost use Rattle.cip_simplex.specs.Starts.{begun, stands_of, answer_on, answer_from, last_on, last_from};
@@ -14,7 +15,7 @@ use crate::answers::LpAnswer;
 use crate::begin::first_state;
 use crate::ends::end_answer;
 use crate::lp::Lp;
-use crate::runs::make_moves;
+use crate::runs::{make_all_moves, make_moves};
 use crate::start_moves::begin_at;
 use crate::starts::Start;
 use crate::steps::Ending;
@@ -137,4 +138,45 @@ pub fn solve_from(
 {
     let _columns = lp.columns();
     solve_begun(alloc, lp, start, limit)
+}
+
+/// Makes all moves of the rule from a state of a linear program, and answers what their end does. `Err` where memory
+/// was refused.
+fn solve_all(alloc: Global, lp: &Lp, dict: &mut Dict) -> Result<LpAnswer, AllocError>
+    requires state { IsStateOf lp.now dict.old }
+    requires variables { def.size dict.old ≡ variables lp.now }
+    ensures { IfOk result (IsAnswer (answer_of lp.now (run_behind [] (whole_run dict.old)))) }
+{
+    let mut moves = Vec::new(alloc);
+    match make_all_moves(lp, dict, &mut moves)? {
+        Ending::Ends(step) => end_answer(alloc, lp, dict, step),
+        Ending::Overflows(wide) => {
+            moves.push(wide)?;
+            Ok(LpAnswer::Wide { moves })
+        }
+        Ending::Stops => Ok(LpAnswer::Limit),
+    }
+}
+
+/// Solves a linear program by the simplex method, from its first state, with as many moves by Bland's rule as there
+/// are: no state comes twice, so they end, and `Limit` is never answered. `Err` where memory was refused.
+pub fn solve_fully(alloc: Global, lp: &Lp) -> Result<LpAnswer, AllocError>
+    ensures answer { IfOk result (IsAnswer (whole_answer lp.now)) }
+    ensures whole { WholeAnswerHolds lp.now }
+{
+    let _columns = lp.columns();
+    solve_wholly(alloc, lp)
+}
+
+/// What `solve_fully` answers.
+fn solve_wholly(alloc: Global, lp: &Lp) -> Result<LpAnswer, AllocError>
+    ensures { IfOk result (IsAnswer (whole_answer lp.now)) }
+{
+    match first_state(alloc, lp) {
+        Ok(mut dict) => solve_all(alloc, lp, &mut dict),
+        Err(FirstFault::OutOfRange { place: _ }) => Ok(LpAnswer::Wide {
+            moves: Vec::new(alloc),
+        }),
+        Err(FirstFault::NoMemory) => Err(AllocError),
+    }
 }

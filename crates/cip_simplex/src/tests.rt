@@ -2,7 +2,7 @@
 ghost use Rattle.std.specs.Prelude.{◌≡◌, length};
 
 use crate::slow_check::{Program, check_answer};
-use crate::{Lp, LpAnswer, Start, solve, solve_from};
+use crate::{Lp, LpAnswer, Start, solve, solve_from, solve_fully};
 use cip_frac::Frac;
 use cip_lin::{Bounds, Row, Sides, Term};
 use std::alloc::Global;
@@ -196,5 +196,31 @@ fn crossed_sides_have_no_point(rt: HostRuntime) -> Result<(), Fail> {
     let found = solved(rt.alloc(), &program, 0)?;
     assert!(rt; matches!(&found, LpAnswer::Infeasible { combo: _ }));
     check_answer(&program, &found)?;
+    Ok(())
+}
+
+// its answer without a limit
+fn wholly_solved(alloc: Global, program: &Program) -> Result<LpAnswer, Fail> {
+    if !Lp::is_solvable(program.rows, program.bounds, program.costs) {
+        return Err(Fail::new("no linear program"));
+    }
+    let lp = Lp::new(program.rows, program.bounds, program.costs);
+    Ok(solve_fully(alloc, &lp)?)
+}
+
+#[test]
+fn three_columns_cost_13_without_a_limit(rt: HostRuntime) -> Result<(), Fail> {
+    let rows = three_rows(rt.alloc())?;
+    let bounds = box_of(
+        rt.alloc(),
+        &[between(0, 10), between(0, 10), between(0, 10)],
+    )?;
+    let costs = [whole(-5), whole(-4), whole(-3)];
+    let program = Program {
+        rows: &rows,
+        bounds: &bounds,
+        costs: &costs,
+    };
+    assert!(rt; is_13(&wholly_solved(rt.alloc(), &program)?));
     Ok(())
 }

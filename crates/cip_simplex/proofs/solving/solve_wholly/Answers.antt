@@ -1,0 +1,23 @@
+use Rattle.std.proofs.Common.{ap, sym, ◌∙◌, subst}
+use Rattle.cip_dictionary.specs.Dictionary.{size}
+use Rattle.cip_bland.specs.EndAnswers as def
+use Rattle.cip_bland.specs.Statements.{IsStateOf}
+use Rattle.cip_bland.proofs.StepCases.{first_is_state}
+use Rattle.cip_simplex.specs.LpAnswers.{IsAnswer}
+use Rattle.cip_simplex.specs.declared.answers.LpAnswer.TheVariants.{Wide}
+use Rattle.cip_simplex.proofs.Solved.{first_size, whole_out_of_range, wholly_answered}
+use Rattle.cip_simplex.proofs.solving.solve_wholly.Goals as goal
+
+pub solve_all-requires-clause-state : goal.solve_all-requires-clause-state
+solve_all-requires-clause-state c = subst (IsStateOf c.args.lp.now) (sym c.in-Ok.ensures.1) (first_is_state c.args.lp.now)
+
+pub solve_all-requires-clause-variables : goal.solve_all-requires-clause-variables
+solve_all-requires-clause-variables c = ap size c.in-Ok.ensures.1 ∙ first_size c.args.lp.now
+
+pub returns-in-Ok : goal.returns-in-Ok
+returns-in-Ok c = wholly_answered c.args.lp.now c.in-Ok.dict c.solve_all.result c.in-Ok.ensures.0 c.in-Ok.ensures.1 c.solve_all.ensures
+
+pub returns-in-Err-OutOfRange : goal.returns-in-Err-OutOfRange
+returns-in-Err-OutOfRange c =
+    let at = rw c.in-Err-OutOfRange.field-0-is at c.in-Err-OutOfRange.ensures in
+    subst (λ (a : def.Answer). IsAnswer a (Wide c.new.result)) (sym (whole_out_of_range c.args.lp.now c.in-Err-OutOfRange.field-0-0 at)) c.new.ensures.items
