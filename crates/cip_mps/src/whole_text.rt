@@ -8,9 +8,9 @@ use crate::reader::MpsReader;
 use cip_model::Program;
 use std::alloc::Global;
 
-/// The program of a text of free MPS, or its first fault: that of the first line that breaks a rule, with the least kind
-/// that it breaks. A text of more than 67,108,864 bytes is looked at as far as the first byte too many. `NoMemory` comes
-/// where a growth was refused.
+/// The program of a text of free MPS, or its first fault: that of the first line that breaks a rule, with the least
+/// kind that it breaks. A text of more than 67,108,864 bytes is looked at as far as the first byte too many. `NoMemory`
+/// comes where a growth was refused.
 pub fn read_mps(alloc: Global, text: &[u8]) -> Result<Program, ReadFault>
     ensures { MatchResult result (λ program. HasProgram text.now program) (IsFaultOf text.now) }
 {
