@@ -41,7 +41,11 @@ pub record Examples : Type 0 where
       })
       ≡ codes "status optimal\ncost 13\nbound 13\na 2\nb 0\nc 1\nend\n"
   pub no_point :
-      answer_text (same_names (codes "a" ∷ [])) (record { status = NodeLimit; held = None; bound = Some (integer (pos 3)) })
+      answer_text (same_names (codes "a" ∷ [])) (record {
+        status = NodeLimit;
+        held = None;
+        bound = Some (integer (pos 3));
+      })
       ≡ codes "status nodelimit\ncost none\nbound 3\nend\n"
   pub negative_ratio :
       answer_text (same_names (codes "x" ∷ [])) (record {

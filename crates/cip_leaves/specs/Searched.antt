@@ -100,8 +100,8 @@ pub record IsInParked (program : Program) (start : Option ℚ) (log : List Entry
   pub leaf : IsParkedLeaf program start log entry node
   pub within : IsInBox node.box point
 
--- each improving point lies in the box of an open node or of a parked leaf, and their bounds, where they have some, hold
--- in their boxes
+-- each improving point lies in the box of an open node or of a parked leaf, and their bounds, where they have some,
+-- hold in their boxes
 pub record IsCovered (program : Program) (start : Option ℚ) (log : List Entry) (held : Option ℚ) : Type 0 where
   pub reached : (point : List ℚ) → IsImproving program held point
       → IsInOpen program start log point ⊎ IsInParked program start log point

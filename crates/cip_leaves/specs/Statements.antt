@@ -10,8 +10,8 @@ use Rattle.cip_leaves.specs.Leaf.{at_wholes, IsLeafIn, IsLeaf, IsPointOf, IsOnly
 use Rattle.cip_leaves.specs.Searched.{OpenMatters, ParkedMatters, IsCovered, IsLeast, AreTrueEntries}
 use Rattle.cip_leaves.specs.Wide.{IsWide}
 
--- a point whose whole columns have whole values has a leaf, and in a box with one whole assignment it is that one; where
--- no column is continuous a leaf has no other point than its values
+-- a point whose whole columns have whole values has a leaf, and in a box with one whole assignment it is that one;
+-- where no column is continuous a leaf has no other point than its values
 pub record PointsHaveLeaves : Type 0 where
   pub own : (integral : List Bool) (box : List Sides) (point : List ℚ)
       → IsInBox box point → AreWhole integral point → IsLeafIn integral box (at_wholes integral point)

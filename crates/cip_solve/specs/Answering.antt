@@ -57,8 +57,8 @@ pub record Agrees (answer : Answer) : Type 0 where
 pub record IsAnswer (program : Program) (nodes : ℕ) (log : List Entry) (answer : Answer) : Type 0 where
   -- the point is feasible at its cost
   pub point : IfSome answer.best (IsHeld program)
-  -- the bound is the least of the cost held and of the bounds of open nodes and parked leaves; after infeasible there is
-  -- none of these, and no bound; no feasible point costs less, and it is not below the box bound
+  -- the bound is the least of the cost held and of the bounds of open nodes and parked leaves; after infeasible there
+  -- is none of these, and no bound; no feasible point costs less, and it is not below the box bound
   pub least : answer.ended ≢ Infeasible → IsLeast program (root_value program) log (best_cost answer) answer.bound
   pub no_bound : answer.ended ≡ Infeasible → answer.bound ≡ None
   pub bound : IfSome answer.bound (IsLowerBound program)

@@ -380,14 +380,14 @@ fn search_from_root(alloc: Global, program: &Program, nodes: u64, log: &mut Log)
     search.answer(stop, best)
 }
 
-/// Searches a program whose columns are all whole, between sides that are there, and leaves in the log what it did; what
-/// the log held before is let go. The answer is right beside the log (`IsAnswer`): its point is feasible at its cost, no
-/// feasible point costs less than its bound, and its end is
+/// Searches a program whose columns are all whole, between sides that are there, and leaves in the log what it did;
+/// what the log held before is let go. The answer is right beside the log (`IsAnswer`): its point is feasible at its
+/// cost, no feasible point costs less than its bound, and its end is
 /// - `Optimal` with a point whose cost is the bound, where no open node and no parked leaf matters,
 /// - `Infeasible` where no point is feasible,
 /// - `NodeLimit` where the log has as many entries as nodes are allowed, and an open node matters,
-/// - `Wide` where no open node matters and a parked leaf does: the one of least bound is shown, the first of these, with
-///   the row in which, or that in the cost, a sum overflows there,
+/// - `Wide` where no open node matters and a parked leaf does: the one of least bound is shown, the first of these,
+///   with the row in which, or that in the cost, a sum overflows there,
 /// - `NoMemory` where a growth was refused, with what was found until then.
 pub fn solve(alloc: Global, program: &Program, options: &Options, log: &mut Log) -> Answer
     requires whole { All (λ whole. whole ≡ true) program.now.integral }
