@@ -1,0 +1,70 @@
+#!/usr/bin/env python3
+"""Writes texts in free MPS that a reader's time and memory are measured on: texts.py FOLDER [SCALE].
+
+sorted     the limits of a text: 65,536 rows and columns, 4,194,304 entries, a column's rows in their order
+random     the same entries, a column's rows in random order
+long       names of 255 bytes
+digits     numbers of a million digits
+line       one line of 60 MB
+SCALE (1 where nothing is said) divides rows, columns and entries."""
+import os
+import random
+import sys
+
+
+def limits(path, rows, columns, entries, in_order, name_bytes=0):
+    """A program of so many rows, columns and entries, two entries a line."""
+    chance = random.Random(7)
+    row = lambda k: ("r%x" % k).ljust(name_bytes, "_")
+    column = lambda k: ("c%x" % k).ljust(name_bytes, "_")
+    per_column = entries // columns
+    with open(path, "w") as out:
+        out.write("NAME limits\nROWS\n N COST\n")
+        out.writelines(" L %s\n" % row(k) for k in range(rows))
+        out.write("COLUMNS\n M 'MARKER' 'INTORG'\n")
+        for k in range(columns):
+            chosen = chance.sample(range(rows), per_column)
+            if in_order:
+                chosen.sort()
+            for at in range(0, per_column - 1, 2):
+                out.write(" %s %s 1 %s 2\n" % (column(k), row(chosen[at]), row(chosen[at + 1])))
+            if per_column % 2:
+                out.write(" %s %s 3\n" % (column(k), row(chosen[-1])))
+        out.write(" M 'MARKER' 'INTEND'\nRHS\n")
+        out.writelines(" RHS %s 9\n" % row(k) for k in range(rows))
+        out.write("BOUNDS\n")
+        out.writelines(" UP B %s 9\n" % column(k) for k in range(columns))
+        out.write("ENDATA\n")
+
+
+def digits(path, count):
+    """Entries whose numbers have a million zeros before or behind the point."""
+    with open(path, "w") as out:
+        out.write("NAME digits\nROWS\n N COST\n L R\nCOLUMNS\n M 'MARKER' 'INTORG'\n")
+        for k in range(count):
+            out.write(" c%d R %s7.5%s\n" % (k, "0" * 500000, "0" * 500000))
+        out.write(" M 'MARKER' 'INTEND'\nBOUNDS\n")
+        out.writelines(" UP B c%d 9\n" % k for k in range(count))
+        out.write("ENDATA\n")
+
+
+def one_line(path, size):
+    """A comment of one line, between two others."""
+    with open(path, "w") as out:
+        out.write("NAME line\n*" + "x" * size + "\nROWS\n N COST\nCOLUMNS\nENDATA\n")
+
+
+def main():
+    folder = sys.argv[1]
+    scale = int(sys.argv[2]) if len(sys.argv) > 2 else 1
+    os.makedirs(folder, exist_ok=True)
+    at = lambda name: os.path.join(folder, name + ".mps")
+    rows, columns, entries = 65536 // scale, 65536 // scale, 4194304 // scale
+    limits(at("sorted"), rows, columns, entries, True)
+    limits(at("random"), rows, columns, entries, False)
+    limits(at("long"), rows // 16, columns // 16, 60000 // scale, True, 255)
+    digits(at("digits"), 60 // scale)
+    one_line(at("line"), 60000000 // scale)
+
+
+main()
