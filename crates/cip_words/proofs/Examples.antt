@@ -1,0 +1,66 @@
+-- Words and the jobs that they mean, computed.
+use Rattle.std.specs.Prelude.{◌≡◌, ℕ, List, [], ◌∷◌, Option, None, Some, refl}
+use lib.Chars.{codes}
+use Rattle.clap.proofs.OnLiterals.{clap_on_literals}
+use Rattle.cip_words.specs.Jobs.{Job, Solve, cip_command, job_of}
+
+-- `solve` and a name ask for the usual number of nodes
+pub usual : job_of (codes "solve" ∷ codes "M" ∷ []) ≡ Some (Solve (codes "M") 1000000)
+unfolding clap_on_literals cip_command job_of
+usual = refl
+
+-- as many nodes as `--nodes` says, before the name or behind it
+pub five : job_of (codes "solve" ∷ codes "--nodes=5" ∷ codes "M" ∷ []) ≡ Some (Solve (codes "M") 5)
+unfolding clap_on_literals cip_command job_of
+five = refl
+
+pub most : job_of (codes "solve" ∷ codes "M" ∷ codes "--nodes" ∷ codes "1099511627776" ∷ []) ≡ Some (Solve (codes "M") 1099511627776)
+unfolding clap_on_literals cip_command job_of
+most = refl
+
+-- `--plain` changes nothing of the job
+pub plain : job_of (codes "solve" ∷ codes "M" ∷ codes "--plain" ∷ []) ≡ Some (Solve (codes "M") 1000000)
+unfolding clap_on_literals cip_command job_of
+plain = refl
+
+-- no nodes, or more than the most, are refused
+pub no_nodes : job_of (codes "solve" ∷ codes "M" ∷ codes "--nodes" ∷ codes "0" ∷ []) ≡ None
+unfolding clap_on_literals cip_command job_of
+no_nodes = refl
+
+pub past_most : job_of (codes "solve" ∷ codes "M" ∷ codes "--nodes" ∷ codes "1099511627777" ∷ []) ≡ None
+unfolding clap_on_literals cip_command job_of
+past_most = refl
+
+-- so are words without a name, a second name, other commands, and the asks for help and version
+pub no_word : job_of [] ≡ None
+unfolding clap_on_literals cip_command job_of
+no_word = refl
+
+pub no_name : job_of (codes "solve" ∷ []) ≡ None
+unfolding clap_on_literals cip_command job_of
+no_name = refl
+
+pub two_names : job_of (codes "solve" ∷ codes "M" ∷ codes "N" ∷ []) ≡ None
+unfolding clap_on_literals cip_command job_of
+two_names = refl
+
+pub other_command : job_of (codes "check" ∷ []) ≡ None
+unfolding clap_on_literals cip_command job_of
+other_command = refl
+
+pub help : job_of (codes "--help" ∷ []) ≡ None
+unfolding clap_on_literals cip_command job_of
+help = refl
+
+pub help_word : job_of (codes "help" ∷ []) ≡ None
+unfolding clap_on_literals cip_command job_of
+help_word = refl
+
+pub help_of_solve : job_of (codes "solve" ∷ codes "-h" ∷ []) ≡ None
+unfolding clap_on_literals cip_command job_of
+help_of_solve = refl
+
+pub version : job_of (codes "--version" ∷ []) ≡ None
+unfolding clap_on_literals cip_command job_of
+version = refl

@@ -1,0 +1,43 @@
+-- The number of nodes that a word says.
+use Rattle.std.specs.Prelude.{◌≡◌, Bool, true, false, ℕ, ◌^◌, ◌<◌, ◌≤◌, List, Option, None, Some, refl, if◌then◌else◌}
+use Rattle.std.proofs.Common.{sym, ap, ap₂, ◌∙◌, arith}
+use lib.Chars.{codes}
+use Rattle.clap.specs.Words.{first_value, rows_of}
+use Rattle.clap.specs.declared.parser.matches.Found.{Found}
+use Rattle.clap.proofs.WalkLemmas.{first_value-rows}
+use Rattle.std.specs.Str.Parse.{IsNumeral, digits_value, without_leading_plus}
+use Rattle.clap.specs.ValueTests.{is_unsigned_in}
+use Rattle.clap.specs.Values.{IsUnsignedIn}
+use Rattle.clap.specs.declared.builder.value_parser.ValueParser.TheVariants as vp
+use Rattle.clap.proofs.ValueTestLemmas.{accepts-Accepts, Accepts-accepts}
+use Rattle.cip_words.specs.Jobs.{Solve, job_behind, job_with, most_nodes, nodes_of}
+
+number_of : (same : Bool) (text : List ℕ) → is_unsigned_in 1 most_nodes text ≡ same → nodes_of (Some text) ≡ (if same then Some (digits_value 10 (without_leading_plus text)) else None)
+number_of same text e = ap (λ (b : Bool). if b then Some (digits_value 10 (without_leading_plus text)) else None) e
+
+-- a number in the range
+pub some_nodes : (text : List ℕ) (n : ℕ) → IsNumeral 10 (without_leading_plus text) → digits_value 10 (without_leading_plus text) < 2 ^ 64 → n ≡ digits_value 10 (without_leading_plus text) → 1 ≤ n → n ≤ most_nodes → nodes_of (Some text) ≡ Some n
+some_nodes text n numeral fits e low high =
+    number_of true text (Accepts-accepts false (vp.Unsigned 1 most_nodes) text (numeral, fits, omega (arith, e, low), omega (arith, e, high))) ∙ ap Some (sym e)
+
+-- and what is none
+pub no_nodes : (text : List ℕ) → (IsUnsignedIn 1 most_nodes text → ⊥) → nodes_of (Some text) ≡ None
+no_nodes text n = number_of false text (is_not (is_unsigned_in 1 most_nodes text) refl)
+  where
+    is_not : (b : Bool) → is_unsigned_in 1 most_nodes text ≡ b → b ≡ false
+    is_not true e = absurd (n (accepts-Accepts false (vp.Unsigned 1 most_nodes) text e))
+    is_not false e = refl
+
+-- ---- the job of what stands behind `solve`
+
+job_from : (f : Found) (model nodes : Option (List ℕ)) → model ≡ first_value f (codes "model") → nodes ≡ first_value f (codes "nodes") → job_behind (rows_of f) ≡ job_with model (nodes_of nodes)
+job_from f model nodes m n = ap₂ (λ (model nodes : Option (List ℕ)). job_with model (nodes_of nodes)) (sym (first_value-rows f (codes "model")) ∙ sym m) (sym (first_value-rows f (codes "nodes")) ∙ sym n)
+
+pub full_job : (f : Found) (model : List ℕ) (word : Option (List ℕ)) (nodes : ℕ) → Some model ≡ first_value f (codes "model") → word ≡ first_value f (codes "nodes") → Some nodes ≡ nodes_of word → job_behind (rows_of f) ≡ Some (Solve model nodes)
+full_job f model word nodes m n e = job_from f (Some model) word m n ∙ sym (ap (job_with (Some model)) e)
+
+pub no_number : (f : Found) (model : List ℕ) (word : Option (List ℕ)) → Some model ≡ first_value f (codes "model") → word ≡ first_value f (codes "nodes") → None ≡ nodes_of word → job_behind (rows_of f) ≡ None
+no_number f model word m n e = job_from f (Some model) word m n ∙ sym (ap (job_with (Some model)) e)
+
+pub no_model : (f : Found) → None ≡ first_value f (codes "model") → job_behind (rows_of f) ≡ None
+no_model f m = job_from f None (first_value f (codes "nodes")) m refl

@@ -1,0 +1,9 @@
+//! The words of the program's command line, and the jobs that they ask for.
+#![tactic(auto)]
+
+mod words;
+
+pub use words::{Job, Words, WordsFault};
+
+#[cfg(test)]
+mod tests;

@@ -1,0 +1,178 @@
+//! The words of a command line.
+ghost use Rattle.std.specs.Prelude.{◌≡◌, ◌++◌, ◌∷◌, [], Some, None, IfOk, OnOk, OnErr, MatchResult, option_map, option_and_then, length};
+ghost use Rattle.clap.specs.Words.{app_of, kind_of, rows_of, found_of, subcommand_rows_of};
+ghost use Rattle.clap.specs.declared.error.kind.ErrorKind.TheVariants.{OutOfMemory};
+ghost use Rattle.cip_words.specs.Jobs.{cip_command, nodes_of, job_behind, job_at, job_of};
+ghost use Rattle.cip_words.specs.WordsRead.{meant, WordsCause};
+
+use clap::error::ErrorKind;
+use clap::{Arg, ArgAction, ArgMatches, Command, Error};
+use std::alloc::{AllocError, Global};
+use std::marker::Model;
+
+/// The nodes of a search where nothing is said of them.
+const USUAL_NODES: u64 = 1_000_000;
+
+/// The most nodes that can be asked for, 2^40.
+const MOST_NODES: u64 = 1_099_511_627_776;
+
+/// The words of a command line, without the program's name.
+#[derive(Debug, Drop)]
+pub struct Words {
+    alloc: Global,
+    words: Vec<String>,
+}
+
+impl Model for Words {
+    ghost use Rattle.std.specs.Prelude.{ℕ, List};
+    ghost use Rattle.cip_problem.specs.Codes.{names_code};
+
+    ghost Value = { List (List ℕ) };
+
+    ghost coded = { names_code };
+
+    ghost use Rattle.cip_words.specs.WordsRead.{words_of};
+
+    ghost view = { words_of };
+}
+
+/// What the words ask for.
+#[derive(Clone, Copy, Debug, PartialEq, Eq)]
+pub enum Job<'a> {
+    /// To solve the program of a text.
+    Solve {
+        /// The name of the text.
+        model: &'a str,
+        /// The most nodes that are taken, from 1 to 2^40.
+        nodes: u64,
+    },
+}
+
+/// Why words give no job.
+#[derive(Clone, Copy, Debug, PartialEq, Eq)]
+pub enum WordsFault {
+    /// They are not accepted.
+    Refused,
+    /// A growth was refused.
+    NoMemory,
+}
+
+impl From<AllocError> for WordsFault {
+    ghost use Rattle.std.specs.Prelude.{◌≡◌};
+    ghost use Rattle.cip_words.specs.declared.words.WordsFault.{WordsFault};
+
+    ghost from_gives = { λ _ fault. fault ≡ WordsFault.NoMemory };
+
+    fn from(_: AllocError) -> WordsFault {
+        WordsFault::NoMemory
+    }
+}
+
+/// The command: `solve MODEL [--nodes N] [--plain]`.
+fn command<'a>(alloc: Global) -> Result<Command<'a>, AllocError>
+    ensures { IfOk result (λ command. app_of command ≡ cip_command) }
+{
+    let model = Arg::new(alloc, "model").required(true);
+    let nodes = Arg::new(alloc, "nodes").long("nodes");
+    let plain = Arg::new(alloc, "plain")
+        .long("plain")
+        .action(ArgAction::SetTrue);
+    let solve = Command::new(alloc, "solve")
+        .arg(model)?
+        .arg(nodes)?
+        .arg(plain)?;
+    Command::new(alloc, "cip")
+        .no_binary_name(true)
+        .subcommand(solve)
+}
+
+/// The number of nodes that a word says, from 1 to the most.
+fn number_in(text: &str) -> Option<u64>
+    ensures { result ≡ nodes_of (Some text.now) }
+{
+    match text.parse::<u64>() {
+        Ok(nodes) if 1 <= nodes && nodes <= MOST_NODES => Some(nodes),
+        _ => None,
+    }
+}
+
+/// The number of nodes that is asked for; the usual one where there is no word.
+fn nodes_in(word: Option<&str>) -> Option<u64>
+    ensures { result ≡ nodes_of (option_map (λ text. text.now) word.entry) }
+{
+    match word {
+        Some(text) => number_in(text),
+        None => Some(USUAL_NODES),
+    }
+}
+
+/// The job of what stands behind `solve`.
+fn job_of_solve<'a>(solve: &ArgMatches<'a>) -> Result<Job<'a>, WordsFault>
+    ensures { MatchResult result
+        (λ job. job_behind (rows_of (found_of solve.now)) ≡ Some (meant job))
+        (λ fault. (fault ≡ WordsFault.Refused) × (job_behind (rows_of (found_of solve.now)) ≡ None)) }
+{
+    let Some(model) = solve.get_str("model") else {
+        return Err(WordsFault::Refused);
+    };
+    match nodes_in(solve.get_str("nodes")) {
+        Some(nodes) => Ok(Job::Solve { model, nodes }),
+        None => Err(WordsFault::Refused),
+    }
+}
+
+/// The job of words that the command takes.
+fn job_in<'a>(matches: &ArgMatches<'a>) -> Result<Job<'a>, WordsFault>
+    ensures { MatchResult result
+        (λ job. option_and_then job_at (subcommand_rows_of matches.now) ≡ Some (meant job))
+        (λ fault. (fault ≡ WordsFault.Refused) × (option_and_then job_at (subcommand_rows_of matches.now) ≡ None)) }
+{
+    match matches.subcommand_matches("solve") {
+        Some(solve) => job_of_solve(solve),
+        None => Err(WordsFault::Refused),
+    }
+}
+
+/// What an error of the command says.
+fn fault_of(error: &Error) -> WordsFault
+    ensures { (result ≡ WordsFault.Refused) → (kind_of error.now ≡ OutOfMemory) → ⊥ }
+{
+    match error.kind() {
+        ErrorKind::OutOfMemory => WordsFault::NoMemory,
+        _ => WordsFault::Refused,
+    }
+}
+
+impl Words {
+    /// No word yet.
+    pub fn new(alloc: Global) -> Result<Words, AllocError>
+        ensures { IfOk result (λ words. words ≡ []) }
+    {
+        Ok(Words {
+            alloc,
+            words: Vec::new(alloc),
+        })
+    }
+
+    /// Puts a word at the end; an `Err` changes nothing.
+    pub fn add(&mut self, word: &str) -> Result<(), AllocError>
+        ensures ok { OnOk result (self.new ≡ self.old ++ word.now ∷ []) }
+        ensures err { OnErr result (self.new ≡ self.old) }
+    {
+        let owned = String::from_str(self.alloc, word)?;
+        self.words.push(owned)?;
+        Ok(())
+    }
+
+    /// What the words ask for. `Refused` comes exactly where they are not accepted, unless a growth was refused.
+    pub fn job(&self) -> Result<Job<'_>, WordsFault>
+        ensures { MatchResult result (λ job. job_of self.now ≡ Some (meant job))
+            (WordsCause self.now) }
+    {
+        let command = command(self.alloc)?;
+        match command.try_get_matches_from(self.words.as_slice()) {
+            Ok(matches) => job_in(&matches),
+            Err(error) => Err(fault_of(&error)),
+        }
+    }
+}
