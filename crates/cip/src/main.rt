@@ -2,7 +2,7 @@
 #![tactic(auto)]
 
 use cip_io::{HostSink, HostStore};
-use cip_main::{Words, run, say_no_memory, say_usage};
+use cip_thin_main::{Words, run, say_no_memory, say_usage};
 use std::process::ExitCode;
 use std::{env, io};
 

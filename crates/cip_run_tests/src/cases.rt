@@ -1,6 +1,6 @@
 //! What the tests share: a text, and one call of `run`.
 use cip_io::{MemorySink, MemoryStore};
-use cip_main::{Words, run};
+use cip_thin_main::{Words, run};
 use std::alloc::{AllocError, Global};
 
 /// Three whole columns between 0 and 10 under three rows.
