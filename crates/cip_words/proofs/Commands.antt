@@ -1,5 +1,5 @@
 -- What the command takes of words, and the job of words that it takes.
-use Rattle.std.specs.Prelude.{◌≡◌, Bool, true, false, ℕ, List, [], ◌∷◌, Option, None, Some, Result, Ok, Err, MatchResult, refl, if◌then◌else◌, option_map, option_and_then}
+use Rattle.std.specs.Prelude.{◌≡◌, Bool, true, false, ℕ, List, [], ◌∷◌, Option, None, Some, Result, Ok, Err, MatchResult, IfOk, refl, if◌then◌else◌, option_map, option_and_then}
 use Rattle.std.proofs.Common.{sym, ap, ap₂, ◌∙◌, subst, inl, inr}
 use lib.Chars.{codes}
 use Rattle.std.specs.Str.{bytes_eq}
@@ -10,7 +10,8 @@ use Rattle.clap.specs.declared.error.kind.ErrorKind.{ErrorKind}
 use Rattle.clap.specs.declared.error.kind.ErrorKind.TheVariants.{OutOfMemory}
 use Rattle.clap.specs.declared.parser.matches.ArgMatches.{ArgMatches}
 use Rattle.clap.proofs.OnLiterals.{clap_on_literals}
-use Rattle.cip_words.specs.Jobs.{Job, cip_command, job_at, job_behind, job_of, unless_faulty}
+use Rattle.cip_words.proofs.Numbers.{asks_for_some}
+use Rattle.cip_words.specs.Jobs.{Job, AsksForSome, cip_command, job_at, job_behind, job_of, unless_faulty}
 use Rattle.cip_words.specs.WordsRead.{WordsCause, meant}
 use Rattle.cip_words.specs.declared.words.Job.{Job as Wanted}
 use Rattle.cip_words.specs.declared.words.WordsFault.{WordsFault}
@@ -60,6 +61,11 @@ read_job app words told m result a w f h = by_case result
     by_case (Ok job) e = job_is _ e
     by_case (Err Refused) e = job_is None e.1
     by_case (Err NoMemory) e = tt
+
+-- and asks for a number of nodes in the range
+pub ranged : (told : List (List ℕ)) (result : Result Wanted WordsFault) → MatchResult result (λ job. job_of told ≡ Some (meant job)) (WordsCause told) → IfOk result (λ job. AsksForSome (meant job))
+ranged told (Ok job) h = asks_for_some told (meant job) h
+ranged told (Err fault) h = tt
 
 -- an error that is not want of memory comes of words that are not accepted
 pub refused_words : (app : App) (words told : List (List ℕ)) (error : Error) (fault : WordsFault) → app ≡ cip_command → words ≡ told

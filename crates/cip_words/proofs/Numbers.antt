@@ -1,8 +1,9 @@
 -- The number of nodes that a word says.
-use Rattle.std.specs.Prelude.{◌≡◌, Bool, true, false, ℕ, ◌^◌, ◌<◌, ◌≤◌, List, Option, None, Some, refl, if◌then◌else◌}
+use Rattle.std.specs.Prelude.{◌≡◌, Bool, true, false, ℕ, ◌^◌, ◌<◌, ◌≤◌, List, [], ◌∷◌, Option, None, Some, refl, if◌then◌else◌, option_and_then}
 use Rattle.std.proofs.Common.{sym, ap, ap₂, ◌∙◌, arith}
 use lib.Chars.{codes}
-use Rattle.clap.specs.Words.{first_value, rows_of}
+use Rattle.std.specs.Str.{bytes_eq}
+use Rattle.clap.specs.Words.{Kinds, Row, Text, fault_of, first_of, first_value, rows_of, subcommand_of}
 use Rattle.clap.specs.declared.parser.matches.Found.{Found}
 use Rattle.clap.proofs.WalkLemmas.{first_value-rows}
 use Rattle.std.specs.Str.Parse.{IsNumeral, digits_value, without_leading_plus}
@@ -10,7 +11,7 @@ use Rattle.clap.specs.ValueTests.{is_unsigned_in}
 use Rattle.clap.specs.Values.{IsUnsignedIn}
 use Rattle.clap.specs.declared.builder.value_parser.ValueParser.TheVariants as vp
 use Rattle.clap.proofs.ValueTestLemmas.{accepts-Accepts, Accepts-accepts}
-use Rattle.cip_words.specs.Jobs.{Solve, job_behind, job_with, most_nodes, nodes_of}
+use Rattle.cip_words.specs.Jobs.{Job, Solve, AsksForSome, cip_command, job_at, job_behind, job_of, job_with, most_nodes, nodes_of, unless_faulty, usual_nodes}
 
 number_of : (same : Bool) (text : List ℕ) → is_unsigned_in 1 most_nodes text ≡ same → nodes_of (Some text) ≡ (if same then Some (digits_value 10 (without_leading_plus text)) else None)
 number_of same text e = ap (λ (b : Bool). if b then Some (digits_value 10 (without_leading_plus text)) else None) e
@@ -41,3 +42,43 @@ no_number f model word m n e = job_from f (Some model) word m n ∙ sym (ap (job
 
 pub no_model : (f : Found) → None ≡ first_value f (codes "model") → job_behind (rows_of f) ≡ None
 no_model f m = job_from f None (first_value f (codes "nodes")) m refl
+
+-- ---- the range of the number
+
+range_of : (text : List ℕ) (nodes : ℕ) (same : Bool) → is_unsigned_in 1 most_nodes text ≡ same → (if same then Some (digits_value 10 (without_leading_plus text)) else None) ≡ Some nodes → (1 ≤ nodes) × (nodes ≤ most_nodes)
+range_of text nodes true e h =
+    let within = accepts-Accepts false (vp.Unsigned 1 most_nodes) text e in
+    let same : digits_value 10 (without_leading_plus text) ≡ nodes = cc in
+    (omega (arith, same, within.2), omega (arith, same, within.3))
+range_of text nodes false e h = absurd (cc)
+
+usual_range : (nodes : ℕ) → Some usual_nodes ≡ Some nodes → (1 ≤ nodes) × (nodes ≤ most_nodes)
+usual_range nodes h = let same : usual_nodes ≡ nodes = cc in (omega (arith, same), omega (arith, same))
+
+nodes_range : (word : Option (List ℕ)) (nodes : ℕ) → nodes_of word ≡ Some nodes → (1 ≤ nodes) × (nodes ≤ most_nodes)
+nodes_range None nodes h = usual_range nodes h
+nodes_range (Some text) nodes h = range_of text nodes (is_unsigned_in 1 most_nodes text) refl h
+
+job_range : (model : Option (List ℕ)) (nodes : Option ℕ) (word : Option (List ℕ)) (job : Job) → nodes_of word ≡ nodes → job_with model nodes ≡ Some job → AsksForSome job
+job_range (Some model) (Some nodes) word (Solve told n) w h =
+    let same : nodes ≡ n = cc in
+    nodes_range word n (w ∙ ap Some same)
+job_range (Some model) None word job w h = absurd (cc)
+job_range None nodes word job w h = absurd (cc)
+
+at_range : (entered : Text × List Row) (same : Bool) (job : Job) → (if same then job_behind entered.1 else None) ≡ Some job → AsksForSome job
+at_range entered true job h = job_range _ _ (first_of (codes "nodes") entered.1) job refl h
+at_range entered false job h = absurd (cc)
+
+entered_range : (entered : Option (Text × List Row)) (job : Job) → option_and_then job_at entered ≡ Some job → AsksForSome job
+entered_range None job h = absurd (cc)
+entered_range (Some entered) job h = at_range entered (bytes_eq entered.0 (codes "solve")) job h
+
+faultless_range : (kinds : Kinds) (entered : Option (Text × List Row)) (job : Job) → unless_faulty kinds (option_and_then job_at entered) ≡ Some job → AsksForSome job
+faultless_range [] entered job h = entered_range entered job h
+faultless_range (kind ∷ kinds) entered job h = absurd (cc)
+
+-- a job asks for 1 node at least, and at most the most
+pub asks_for_some : (words : List (List ℕ)) (job : Job) → job_of words ≡ Some job → AsksForSome job
+unfolding job_of
+asks_for_some words job h = faultless_range (fault_of cip_command words) (subcommand_of cip_command words) job h

@@ -2,7 +2,7 @@
 --     cip_command      the command, as `clap` has it: `solve MODEL [--nodes N] [--plain]`
 --     job_of words      the job of the words, where they are accepted
 use lib.Chars.{codes}
-use Rattle.std.specs.Prelude.{ℕ, true, List, [], ◌∷◌, Option, None, Some, option_and_then, if◌then◌else◌}
+use Rattle.std.specs.Prelude.{ℕ, ◌≤◌, true, List, [], ◌∷◌, Option, None, Some, option_and_then, if◌then◌else◌}
 use Rattle.std.specs.Str.{bytes_eq}
 use Rattle.std.specs.Str.Parse.{digits_value, without_leading_plus}
 use Rattle.clap.specs.Words.{App, Kinds, Row, Rule, Text, fault_of, first_of, new_app, new_rule, subcommand_of}
@@ -75,3 +75,7 @@ unless_faulty (kind ∷ kinds) job = None
 -- the job of the words, where they are accepted: the command takes them, and the number of nodes is one
 unfoldable pub job_of : List (List ℕ) → Option Job
 job_of words = unless_faulty (fault_of cip_command words) (option_and_then job_at (subcommand_of cip_command words))
+
+-- a job asks for 1 node at least, and at most the most
+abbrev pub AsksForSome : Job → Type 0
+AsksForSome (Solve model nodes) = (1 ≤ nodes) × (nodes ≤ most_nodes)

@@ -2,7 +2,7 @@
 ghost use Rattle.std.specs.Prelude.{◌≡◌, ◌++◌, ◌∷◌, [], Some, None, IfOk, OnOk, OnErr, MatchResult, option_map, option_and_then, length};
 ghost use Rattle.clap.specs.Words.{app_of, kind_of, rows_of, found_of, subcommand_rows_of};
 ghost use Rattle.clap.specs.declared.error.kind.ErrorKind.TheVariants.{OutOfMemory};
-ghost use Rattle.cip_words.specs.Jobs.{cip_command, nodes_of, job_behind, job_at, job_of};
+ghost use Rattle.cip_words.specs.Jobs.{AsksForSome, cip_command, nodes_of, job_behind, job_at, job_of};
 ghost use Rattle.cip_words.specs.WordsRead.{meant, WordsCause};
 
 use clap::error::ErrorKind;
@@ -166,7 +166,8 @@ impl Words {
 
     /// What the words ask for. `Refused` comes exactly where they are not accepted, unless a growth was refused.
     pub fn job(&self) -> Result<Job<'_>, WordsFault>
-        ensures { MatchResult result (λ job. job_of self.now ≡ Some (meant job))
+        ensures range { IfOk result (λ job. AsksForSome (meant job)) }
+        ensures job { MatchResult result (λ job. job_of self.now ≡ Some (meant job))
             (WordsCause self.now) }
     {
         let command = command(self.alloc)?;
