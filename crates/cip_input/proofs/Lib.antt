@@ -1,0 +1,4 @@
+pub mod Bounded
+pub mod ModelTexts
+pub mod Pulled
+pub mod Readings

@@ -1,0 +1,42 @@
+use Rattle.std.proofs.Common.{◌≡◌, ◌≤◌, ◌+◌, ◌-◌, length, take, drop, min, rules, arith, length-append, length-drop, length-take, ◌∙◌}
+use Rattle.cip_problem.specs.Limits.{longest_text}
+use Rattle.cip_input.specs.TextPulls.{most_pulled}
+use Rattle.cip_input.specs.declared.pulling.TheConstants.{PIECE}
+use Rattle.cip_input.proofs.Readings.{reading_none, too_long}
+use Rattle.cip_input.proofs.pulling.read_pieces.Goals as goal
+
+pub loop-pulled-init : goal.loop-pulled-init
+loop-pulled-init g c = record {
+  in_range = omega arith;
+  size = c.requires.room;
+  reading = reading_none (g.T.TextReader.has_read c.args.reader.now) (g.S.Store.tells c.args.store.now) c.requires.fresh;
+  holds = search rules;
+}
+
+pub loop-pulled-preserved : goal.loop-pulled-preserved
+loop-pulled-preserved g c =
+    let so_far = c.loop-pulled.invariant in
+    let room = c.min-room.result in
+    let here : room ≡ min PIECE (longest_text + 1 - c.loop-pulled.pulled) = search rules in
+    let front : length (take room c.loop-pulled.buffer) ≡ min room (length c.loop-pulled.buffer) = length-take room c.loop-pulled.buffer in
+    let back : length (drop room c.loop-pulled.buffer) ≡ length c.loop-pulled.buffer - room = length-drop room c.loop-pulled.buffer in
+    let within : c.in_ok-count.count ≤ length (take room c.loop-pulled.buffer) = c.in_ok-count.ensures.within in
+    let kept : length c.read_piece.new.buffer ≡ length (take room c.loop-pulled.buffer) = c.in_ok-count.ensures.size in
+    record {
+      in_range = omega (arith, so_far.in_range, so_far.size, here, front, within);
+      size = length-append c.read_piece.new.buffer (drop room c.loop-pulled.buffer) ∙ omega (arith, so_far.size, here, front, back, kept);
+      reading = (c.in_ok-count.ensures.read (g.S.Store.tells c.args.store.now) c.loop-pulled.pulled so_far.reading).reading;
+      holds = c.in_ok-count.ensures.holds ∙ so_far.holds;
+    }
+
+pub returns-then-count-eq0-clause-read : goal.returns-then-count-eq0-clause-read
+returns-then-count-eq0-clause-read g c =
+    let so_far = c.loop-pulled.invariant in
+    let within : c.loop-pulled.pulled ≤ longest_text = omega (arith, c.loop-pulled-test.true) in
+    (c.in_ok-count.ensures.read (g.S.Store.tells c.args.store.now) c.loop-pulled.pulled so_far.reading).end c.if-count-eq0.true (omega (arith, within))
+
+pub returns-clause-read : goal.returns-clause-read
+returns-clause-read g c =
+    let so_far = c.loop-pulled.invariant in
+    let all : c.loop-pulled.pulled ≡ most_pulled = omega (arith, so_far.in_range, c.loop-pulled-test.false) in
+    too_long _ (g.S.Store.tells c.args.store.now) _ c.loop-pulled.pulled all so_far.reading

@@ -1,0 +1,3 @@
+pub mod BoundedModels
+pub mod ModelsRead
+pub mod TextPulls
