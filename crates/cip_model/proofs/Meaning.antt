@@ -1,3 +1,4 @@
 -- Lemmas on `Meaning`.
 pub mod BoxBound
 pub mod Point
+pub mod Ray

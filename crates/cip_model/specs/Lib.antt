@@ -4,4 +4,6 @@ pub mod Keys
 pub mod Least
 pub mod Meaning
 pub mod Programs
+pub mod RayTests
+pub mod Rays
 pub mod Verdicts

@@ -7,6 +7,7 @@ mod name_hints;
 mod names;
 mod parts;
 mod programs;
+mod rays;
 mod verdicts;
 
 pub use limits::{LONGEST_NAME, LONGEST_TEXT, MOST_COLUMNS, MOST_ENTRIES, MOST_ROWS, limits_agree};

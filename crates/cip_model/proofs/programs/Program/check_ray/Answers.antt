@@ -1,0 +1,40 @@
+use Rattle.std.proofs.Common.{◌≡◌, ◌∙◌, true, false, rules}
+use Rattle.cip_rational.specs.Rational.{zeroℚ}
+use Rattle.cip_frac.specs.Outcomes.{dot_from}
+use Rattle.cip_model.specs.declared.verdicts.Verdict.TheVariants.{Feasible}
+use Rattle.cip_model.specs.Meaning.{VerdictHolds}
+use Rattle.cip_model.specs.Verdicts.{verdict_of}
+use Rattle.cip_model.specs.RayTests.{all_stay, all_still, rows_stay, cost_falls}
+use Rattle.cip_model.proofs.Meaning.Ray.{bounds_broken, wholes_broken, rows_broken, cost_kept, feasible_along, shown_by}
+use Rattle.cip_model.proofs.programs.Program.check_ray.Goals as goal
+
+pub returns-then-not-keeps_bounds-clause-shown : goal.returns-then-not-keeps_bounds-clause-shown
+returns-then-not-keeps_bounds-clause-shown c =
+    let e : all_stay c.as_slice.result.now c.args.ray.now ≡ false = search rules in
+    (λ h. absurd (cc), λ h. absurd (bounds_broken c.args.self.now c.args.point.now c.args.ray.now c.as_slice.result.now (c.as_slice.ensures ∙ c.bounds.ensures.bounds) e h))
+
+pub returns-then-not-keeps_wholes-clause-shown : goal.returns-then-not-keeps_wholes-clause-shown
+returns-then-not-keeps_wholes-clause-shown c =
+    let e : all_still c.whole.result.now c.args.ray.now ≡ false = search rules in
+    (λ h. absurd (cc), λ h. absurd (wholes_broken c.args.self.now c.args.point.now c.args.ray.now c.whole.result.now c.whole.ensures.whole e h))
+
+pub returns-then-not-keeps_rows-clause-shown : goal.returns-then-not-keeps_rows-clause-shown
+returns-then-not-keeps_rows-clause-shown c =
+    let e : rows_stay c.rows.result.now c.args.ray.now ≡ false = search rules in
+    (λ h. absurd (cc), λ h. absurd (rows_broken c.args.self.now c.args.point.now c.args.ray.now c.rows.result.now c.rows.ensures.rows e h))
+
+pub returns-clause-shown : goal.returns-clause-shown
+returns-clause-shown c =
+    let program = c.args.self.now in
+    let ray = c.args.ray.now in
+    let v : verdict_of program c.args.point.now ≡ Feasible c.in-Feasible.field-0 = search rules in
+    let m : VerdictHolds program c.args.point.now (Feasible c.in-Feasible.field-0) = search rules in
+    let b : all_stay program.bounds ray ≡ true = search rules in
+    let w : all_still program.integral ray ≡ true = search rules in
+    let r : rows_stay program.rows ray ≡ true = search rules in
+    (λ h. let f : cost_falls (dot_from zeroℚ program.costs ray) ≡ true = search rules in shown_by program c.args.point.now ray c.in-Feasible.field-0 c.costs.ensures.formed c.requires.ray v m b w r f, λ h. let f = cost_kept program c.args.point.now ray c.costs.result.now c.costs.ensures.costs h in search rules)
+
+pub returns-clause-falls : goal.returns-clause-falls
+returns-clause-falls c =
+    let m : VerdictHolds c.args.self.now c.args.point.now (Feasible c.in-Feasible.field-0) = search rules in
+    λ h. feasible_along c.args.self.now c.args.point.now c.args.ray.now m.0 ((returns-clause-shown c).0 h)
