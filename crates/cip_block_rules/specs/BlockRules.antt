@@ -8,13 +8,10 @@ use Rattle.cip_mps_rules.specs.MpsWords.{is_in}
 use Rattle.cip_mps_rules.specs.MpsRules.{Rule, rule, least}
 use Rattle.cip_line_texts.specs.LineTexts.{Reading}
 use Rattle.cip_block_rules.specs.BlockWords.{BlockCount, Block, WordPlace, KeywordDue, ZeroDue, CountDue, BlockDue, WordSaying, Opens, OutOfPlace, Count, Number, RowName, line_words, word_said, next_place, from_zero}
-use Rattle.cip_block_rules.specs.BlockParts.{NamedRow, Blocks, is_named, row_blocks, numbers_from, has_number, is_linking, is_open, blocks_of}
+use Rattle.cip_parts.specs.BlockParts.{most_blocks, Blocks, numbers_from, has_number, is_linking, is_open, blocks_of}
+use Rattle.cip_block_rules.specs.NamedRows.{NamedRow, is_named, row_blocks}
 
 -- ---- what is known
-
--- the most blocks
-abbrev pub most_blocks : ℕ
-most_blocks = 4096
 
 -- where the next word stands, how many blocks there are, if that was said, the blocks begun by their numbers from 0,
 -- and the rows named, in the order of the text

@@ -7,9 +7,11 @@ use Rattle.cip_problem.specs.WellFormed.{columns}
 use Rattle.cip_mps_rules.specs.MpsWords.{is_in}
 use Rattle.cip_line_texts.specs.LineTexts.{HasResult}
 use Rattle.cip_line_texts.specs.LineStatements.{OneOutcome, FaultsAreFirst, ResultsAreDescribed, known_of}
-use Rattle.cip_block_rules.specs.BlockParts.{NamedRow, BlockPart, Blocks, has_number, is_named, block_named, stands_on}
+use Rattle.cip_parts.specs.BlockParts.{Blocks, has_number}
+use Rattle.cip_parts.specs.BlockMeaning.{part_at, AreBlocks}
+use Rattle.cip_block_rules.specs.NamedRows.{NamedRow, is_named, block_named}
 use Rattle.cip_block_rules.specs.BlockWords.{word_said}
-use Rattle.cip_block_rules.specs.BlockRules.{most_blocks, BlockFacts, block_rules, block_fault, block_end_rules, block_end_fault, block_reading}
+use Rattle.cip_block_rules.specs.BlockRules.{BlockFacts, block_rules, block_fault, block_end_rules, block_end_fault, block_reading}
 
 -- a text has blocks or a first fault, never both, and one of each at the most
 abbrev pub BlocksHaveOneOutcome : Type 0
@@ -42,56 +44,6 @@ pub record BlockFaultsAreLeast : Type 0 where
       → AllByRecursion (λ r. r.broken ≡ false) (block_end_rules program facts)
 
 -- ---- the blocks
-
--- what stands past the last block, and past the last row
-abbrev pub no_part : BlockPart
-no_part = record { rows = []; columns = [] }
-
-abbrev pub no_row : Row
-no_row = record { terms = []; low = None; high = None }
-
--- the block of a number
-abbrev pub part_at : Blocks → ℕ → BlockPart
-part_at blocks k = slice_index_or blocks.blocks k no_part
-
--- the row of a number
-abbrev pub row_at : Program → ℕ → Row
-row_at program k = slice_index_or program.rows k no_row
-
--- a block has a row with an entry of a column
-pub record HasEntry (program : Program) (part : BlockPart) (column : ℕ) : Type 0 where
-  pub row : ℕ
-  pub is_row : has_number part.rows row ≡ true
-  pub entry : stands_on column (row_at program row) ≡ true
-
--- a row is of one of the blocks
-pub record IsOfBlock (blocks : Blocks) (row : ℕ) : Type 0 where
-  pub block : ℕ
-  pub is_block : block < length blocks.blocks
-  pub is_row : has_number (part_at blocks block).rows row ≡ true
-
--- there are from 1 to 4,096 blocks; each row is a master row or of one block; a block has the columns of which its
--- rows have entries; a column of a block has entries in rows of the block and in master rows alone, and two bounds; and
--- the other columns are of no block
-pub record AreBlocks (program : Program) (blocks : Blocks) : Type 0 where
-  pub some : 0 < length blocks.blocks
-  pub few : length blocks.blocks ≤ most_blocks
-  pub placed : (row : ℕ) → row < length program.row_names
-      → has_number blocks.master_rows row ≡ true ⊎ IsOfBlock blocks row
-  pub one_block : (row b c : ℕ) → has_number (part_at blocks b).rows row ≡ true
-      → has_number (part_at blocks c).rows row ≡ true → b ≡ c
-  pub no_master : (row b : ℕ) → has_number (part_at blocks b).rows row ≡ true
-      → has_number blocks.master_rows row ≡ false
-  pub columns_of : (b column : ℕ) → b < length blocks.blocks → column < columns program
-      → (has_number (part_at blocks b).columns column ≡ true) ↔ HasEntry program (part_at blocks b) column
-  pub entries : (b column row : ℕ) → has_number (part_at blocks b).columns column ≡ true
-      → row < length program.row_names → stands_on column (row_at program row) ≡ true
-      → has_number (part_at blocks b).rows row ≡ true ⊎ has_number blocks.master_rows row ≡ true
-  pub bounded : (b column : ℕ) → has_number (part_at blocks b).columns column ≡ true
-      → (is_some (sides_at program.bounds column).low ≡ true) × (is_some (sides_at program.bounds column).high ≡ true)
-  pub free : (column : ℕ) → column < columns program
-      → (has_number blocks.free_columns column ≡ true)
-      ↔ ((b : ℕ) → has_number (part_at blocks b).columns column ≡ false)
 
 -- the blocks of a text are such
 abbrev pub BlocksAreApart : Type 0

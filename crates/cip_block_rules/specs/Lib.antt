@@ -1,5 +1,5 @@
 pub mod BlockExamples
-pub mod BlockParts
 pub mod BlockRules
 pub mod BlockStatements
 pub mod BlockWords
+pub mod NamedRows

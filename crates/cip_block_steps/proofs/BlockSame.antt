@@ -15,12 +15,13 @@ use Rattle.cip_mps_steps.specs.MpsSteps.{changed}
 use Rattle.cip_mps_steps.proofs.LookUps.{AreApart, changed_map, is_in-cons}
 use Rattle.cip_line_texts.proofs.LineSame.{StandsFor}
 use Rattle.cip_block_rules.specs.BlockWords.{Keyword, WordPlace, KeywordDue, ZeroDue, CountDue, BlockDue, NamesOf, WordSaying, Opens, OutOfPlace, Zero, Count, Number, RowName, keywords, meaning_said, word_said, from_zero}
-use Rattle.cip_block_rules.specs.BlockParts.{NamedRow, is_named, block_named, row_blocks, numbers_from, has_number, is_linking, is_open, blocks_of}
+use Rattle.cip_parts.specs.BlockParts.{numbers_from, has_number, is_linking, is_open, blocks_of}
+use Rattle.cip_parts.specs.NamesOnce.{StandOnce}
+use Rattle.cip_block_rules.specs.NamedRows.{NamedRow, is_named, block_named, row_blocks}
 use Rattle.cip_block_rules.specs.BlockRules.{BlockFacts, block_rules, block_fault, block_facts_with, is_no_block, is_bad_word, begun_in, begun_with, count_with, named_with, block_count, block_end_rules, lacks_zero, lacks_count, lacks_number, lacks_block, block_reading}
 use Rattle.cip_block_rules.proofs.BlockNumbers.{within, within_below, below_within, part_of}
 use Rattle.cip_block_rules.proofs.BlockLaws.{PlaceFits, Fits, fits_first, fits_next}
 use Rattle.cip_block_steps.specs.BlockSteps.{RowPlace, Unnamed, place_of, block_at, is_placed, BlockState, is_taken, row_place, block_tests, begin_block, begun_after, put_row, rows_after, state_with, count_of, blocks_at, block_end_tests, block_steps}
-use Rattle.cip_block_steps.specs.BlockStepStatements.{NamesAreApart}
 
 -- ---- what is kept
 
@@ -113,9 +114,13 @@ map_same : {X : Type 0} (xs : List X) → map (λ x. x) xs ≡ xs
 map_same [] = refl
 map_same (x ∷ xs) = ap (λ ys. x ∷ ys) (map_same xs)
 
-are_apart : (names : List (List ℕ)) → NamesAreApart names → AreApart names
+in_any : (names : List (List ℕ)) (name : List ℕ) → is_in names name ≡ list_any (bytes_eq name) names
+in_any [] name = refl
+in_any (other ∷ names) name = is_in-cons other names name ∙ ap (λ b. bytes_eq name other || b) (in_any names name)
+
+are_apart : (names : List (List ℕ)) → StandOnce names → AreApart names
 are_apart [] d = tt
-are_apart (name ∷ names) d = (d.0, are_apart names d.1)
+are_apart (name ∷ names) d = (in_any names name ∙ d.0, are_apart names d.1)
 
 named_last : (named : List NamedRow) (row : NamedRow) → is_named named row.name ≡ false → place_named (named ++ row ∷ []) row.name ≡ place_of row.block
 named_last [] row e = ap (λ b. cond b (place_of row.block) Unnamed) (bytes_self row.name)
@@ -129,7 +134,7 @@ named_other : (named : List NamedRow) (row : NamedRow) (name : List ℕ) → byt
 named_other [] row name e = ap (λ b. cond b (place_of row.block) Unnamed) e
 named_other (x ∷ xs) row name e = ap (cond (bytes_eq name x.name) (place_of x.block)) (named_other xs row name e)
 
-row_put : (program : Program) (named : List NamedRow) (block : Option ℕ) (name : List ℕ) → NamesAreApart program.row_names → is_named named name ≡ false → put_row (map (place_named named) program.row_names) (number_in program.row_names name) (place_of block) ≡ map (place_named (named ++ record { name = name; block = block } ∷ [])) program.row_names
+row_put : (program : Program) (named : List NamedRow) (block : Option ℕ) (name : List ℕ) → StandOnce program.row_names → is_named named name ≡ false → put_row (map (place_named named) program.row_names) (number_in program.row_names name) (place_of block) ≡ map (place_named (named ++ record { name = name; block = block } ∷ [])) program.row_names
 row_put program named block name d e =
     put_changed (map (place_named named) program.row_names) (number_in program.row_names name) (place_of block)
     ∙ ap (λ names. changed Unnamed (map (place_named named) program.row_names) (number_in names name) (λ old. place_of block)) (sym (map_same program.row_names))
@@ -231,7 +236,7 @@ record Follows (program : Program) (facts : BlockFacts) (state : BlockState) (no
   rows : rows_after program.row_names state.rows now ≡ map (place_named (named_with facts.named now)) program.row_names
   unbegun : count_with facts.count now ≡ None → begun_with facts.begun now ≡ []
 
-follows : (program : Program) → NamesAreApart program.row_names → (facts : BlockFacts) (state : BlockState) (now : WordSaying) → Holds program facts state → NoneBroken program facts now → ((number : Option ℕ) → now ≡ Count number → facts.count ≡ None) → Follows program facts state now
+follows : (program : Program) → StandOnce program.row_names → (facts : BlockFacts) (state : BlockState) (now : WordSaying) → Holds program facts state → NoneBroken program facts now → ((number : Option ℕ) → now ≡ Count number → facts.count ≡ None) → Follows program facts state now
 follows program d facts state (Opens keyword) h t n = record { begun = h.begun; rows = h.rows; unbegun = h.unbegun }
 follows program d facts state OutOfPlace h t n = record { begun = h.begun; rows = h.rows; unbegun = h.unbegun }
 follows program d facts state Zero h t n = record { begun = h.begun; rows = h.rows; unbegun = h.unbegun }
@@ -252,7 +257,7 @@ follows program d facts state (RowName block name) h t n = record {
   unbegun = h.unbegun;
 }
 
-next_holds : (program : Program) → NamesAreApart program.row_names → (facts : BlockFacts) (state : BlockState) (word : List ℕ) → Holds program facts state → block_fault program facts word ≡ None → Holds program (block_facts_with facts word) (state_with program state (word_said state.place word))
+next_holds : (program : Program) → StandOnce program.row_names → (facts : BlockFacts) (state : BlockState) (word : List ℕ) → Holds program facts state → block_fault program facts word ≡ None → Holds program (block_facts_with facts word) (state_with program state (word_said state.place word))
 next_holds program d facts state word h e =
     subst (λ place. Holds program (block_facts_with facts word) (state_with program state (word_said place word))) (sym h.place)
     (go (follows program d facts state (word_said facts.place word) h (kept (block_rules program facts (word_said facts.place word)) e)
@@ -326,7 +331,7 @@ unnamed : (names : List (List ℕ)) → replicate (length names) Unnamed ≡ map
 unnamed [] = refl
 unnamed (name ∷ names) = ap (λ ps. Unnamed ∷ ps) (unnamed names)
 
-pub stands : (program : Program) → NamesAreApart program.row_names → StandsFor (block_reading program) (block_steps program) (Holds program)
+pub stands : (program : Program) → StandOnce program.row_names → StandsFor (block_reading program) (block_steps program) (Holds program)
 stands program d = record {
   items = refl;
   long = refl;

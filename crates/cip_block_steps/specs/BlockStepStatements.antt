@@ -1,33 +1,29 @@
 -- The laws of the steps, each as one statement: functions of `src/lib.rt` have them as contracts.
 use Rattle.std.specs.Prelude.{◌≡◌, ⊤, ℕ, ◌<◌, ◌≤◌, false, List, [], ◌∷◌, length, Option, None, Some, All, IfSome, unwrap_or, is_none, is_some, if◌then◌else◌}
 use Rattle.cip_problem.specs.Program.{Program}
-use Rattle.cip_mps_rules.specs.MpsWords.{is_in}
+use Rattle.cip_parts.specs.NamesOnce.{StandOnce}
+use Rattle.cip_parts.specs.BlockParts.{most_blocks}
 use Rattle.cip_mps_rules.specs.MpsRules.{least}
 use Rattle.cip_line_texts.specs.LineStream.{TextsAreRead, FaultsOfEndedLines, FaultsStay}
 use Rattle.cip_block_rules.specs.BlockWords.{Presolved, BlockCount, Block, Master, WordPlace, CountDue, NamesOf, word_said, Opens, OutOfPlace, Zero, Count, Number, RowName, from_zero}
-use Rattle.cip_block_rules.specs.BlockRules.{most_blocks, is_bad_count, block_reading}
+use Rattle.cip_block_rules.specs.BlockRules.{is_bad_count, block_reading}
 use Rattle.cip_block_steps.specs.BlockSteps.{BlockState, block_at, no_state, is_taken, block_tests, name_tests, count_of, state_with, block_steps}
-
--- no name stands twice
-abbrev pub NamesAreApart : List (List ℕ) → Type 0
-NamesAreApart [] = ⊤
-NamesAreApart (name ∷ names) = (is_in names name ≡ false) × NamesAreApart names
 
 -- a text that is read byte by byte comes to its blocks or its first fault
 abbrev pub BlocksAreRead : Type 0
 BlocksAreRead =
-    (program : Program) → NamesAreApart program.row_names → TextsAreRead (block_reading program) (block_steps program)
+    (program : Program) → StandOnce program.row_names → TextsAreRead (block_reading program) (block_steps program)
 
 -- a fault is known exactly where the text, as far as it was read, is faulty at a line that has ended
 abbrev pub BlockFaultsOfEndedLines : Type 0
 BlockFaultsOfEndedLines =
-    (program : Program) → NamesAreApart program.row_names
+    (program : Program) → StandOnce program.row_names
     → FaultsOfEndedLines (block_reading program) (block_steps program)
 
 -- a fault that is known is the text's, whatever follows, and stays known
 abbrev pub BlockFaultsStay : Type 0
 BlockFaultsStay =
-    (program : Program) → NamesAreApart program.row_names → FaultsStay (block_reading program) (block_steps program)
+    (program : Program) → StandOnce program.row_names → FaultsStay (block_reading program) (block_steps program)
 
 -- the least kind of a word is that of the tests that such a word can fail
 pub record BlockWordsHaveTests : Type 0 where

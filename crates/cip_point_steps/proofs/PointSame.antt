@@ -15,9 +15,9 @@ use Rattle.cip_mps_rules.proofs.MpsNames.{bytes_same, bytes_self, bytes_flip}
 use Rattle.cip_mps_steps.specs.MpsSteps.{changed}
 use Rattle.cip_mps_steps.proofs.LookUps.{AreApart, changed_map, is_in-cons}
 use Rattle.cip_line_texts.proofs.LineSame.{StandsFor}
+use Rattle.cip_parts.specs.NamesOnce.{StandOnce}
 use Rattle.cip_point_rules.specs.PointRules.{PointLine, BadLine, ValueLine, Given, given_in, is_given, number_given, point_rules, point_fault, point_reading}
 use Rattle.cip_point_steps.specs.PointSteps.{no_values, value_held, point_tests, put_value, values_with, point_steps}
-use Rattle.cip_point_steps.specs.PointStepStatements.{NamesDiffer}
 
 -- ---- values
 
@@ -85,9 +85,13 @@ map_same : {X : Type 0} (xs : List X) → map (λ x. x) xs ≡ xs
 map_same [] = refl
 map_same (x ∷ xs) = ap (λ ys. x ∷ ys) (map_same xs)
 
-are_apart : (names : List (List ℕ)) → NamesDiffer names → AreApart names
+in_any : (names : List (List ℕ)) (name : List ℕ) → is_in names name ≡ list_any (bytes_eq name) names
+in_any [] name = refl
+in_any (other ∷ names) name = is_in-cons other names name ∙ ap (λ b. bytes_eq name other || b) (in_any names name)
+
+are_apart : (names : List (List ℕ)) → StandOnce names → AreApart names
 are_apart [] d = tt
-are_apart (name ∷ names) d = (d.0, are_apart names d.1)
+are_apart (name ∷ names) d = (in_any names name ∙ d.0, are_apart names d.1)
 
 given_last : (given : List Given) (g : Given) → is_given given g.column ≡ false → number_given (given ++ g ∷ []) g.column ≡ Some g.number
 given_last [] g e = ap (λ b. cond b (Some g.number) None) (bytes_self g.column)
@@ -105,7 +109,7 @@ all_push : {X : Type 0} (P : X → Type 0) (xs : List X) (x : X) → AllByRecurs
 all_push P [] x h e = (e, tt)
 all_push P (y ∷ ys) x h e = (h.0, all_push P ys x h.1 e)
 
-put_is : (program : Program) (given : List Given) (column : List ℕ) (number : Numeral) → NamesDiffer program.column_names → is_given given column ≡ false → put_value (map (held_for given) program.column_names) (number_in program.column_names column) (value_of number) ≡ map (held_for (given ++ record { column = column; number = number } ∷ [])) program.column_names
+put_is : (program : Program) (given : List Given) (column : List ℕ) (number : Numeral) → StandOnce program.column_names → is_given given column ≡ false → put_value (map (held_for given) program.column_names) (number_in program.column_names column) (value_of number) ≡ map (held_for (given ++ record { column = column; number = number } ∷ [])) program.column_names
 put_is program given column number d e =
     put_changed (map (held_for given) program.column_names) (number_in program.column_names column) (value_of number)
     ∙ ap (λ names. changed None (map (held_for given) program.column_names) (number_in names column) (λ old. value_of number)) (sym (map_same program.column_names))
@@ -117,7 +121,7 @@ put_is program given column number d e =
     g : Given
     g = record { column = column; number = number }
 
-next_keeps : (program : Program) → NamesDiffer program.column_names → (given : List Given) (values : List (Option ℚ)) (now : PointLine) → Keeps program given values → point_fault program given now ≡ None → Keeps program (given ++ given_in now) (values_with program values now)
+next_keeps : (program : Program) → StandOnce program.column_names → (given : List Given) (values : List (Option ℚ)) (now : PointLine) → Keeps program given values → point_fault program given now ≡ None → Keeps program (given ++ given_in now) (values_with program values now)
 next_keeps program d given values BadLine k e = absurd (cc)
 next_keeps program d given values (ValueLine column number) k e = go (kept (point_rules program given (ValueLine column number)) e)
   where
@@ -155,7 +159,7 @@ point_is given (name ∷ names) =
     go None = refl
     go (Some number) = refl
 
-pub stands : (program : Program) → NamesDiffer program.column_names → StandsFor (point_reading program) (point_steps program) (Keeps program)
+pub stands : (program : Program) → StandOnce program.column_names → StandsFor (point_reading program) (point_steps program) (Keeps program)
 stands program d = record {
   items = refl;
   long = refl;

@@ -3,33 +3,28 @@ use Rattle.std.specs.Prelude.{◌≡◌, ⊤, ℕ, false, List, [], ◌∷◌, l
 use Rattle.cip_rational.specs.Rational.{ℚ}
 use Rattle.cip_problem.specs.Program.{Program}
 use Rattle.cip_number_text.specs.Numeral.{Numeral}
-use Rattle.cip_mps_rules.specs.MpsWords.{is_in}
+use Rattle.cip_parts.specs.NamesOnce.{StandOnce}
 use Rattle.cip_mps_rules.specs.MpsRules.{least}
 use Rattle.cip_line_texts.specs.LineStream.{TextsAreRead, FaultsOfEndedLines, FaultsStay}
 use Rattle.cip_point_rules.specs.PointRules.{PointLine, BadLine, ValueLine, point_reading}
 use Rattle.cip_point_steps.specs.PointSteps.{no_values, point_tests, value_tests, values_with, point_steps}
 
--- no name stands twice
-abbrev pub NamesDiffer : List (List ℕ) → Type 0
-NamesDiffer [] = ⊤
-NamesDiffer (name ∷ names) = (is_in names name ≡ false) × NamesDiffer names
-
 -- a text that is read byte by byte comes to its point or its first fault
 abbrev pub PointsAreRead : Type 0
 PointsAreRead =
-    (program : Program) → NamesDiffer program.column_names
+    (program : Program) → StandOnce program.column_names
     → TextsAreRead (point_reading program) (point_steps program)
 
 -- a fault is known exactly where the text, as far as it was read, is faulty at a line that has ended
 abbrev pub PointFaultsOfEndedLines : Type 0
 PointFaultsOfEndedLines =
-    (program : Program) → NamesDiffer program.column_names
+    (program : Program) → StandOnce program.column_names
     → FaultsOfEndedLines (point_reading program) (point_steps program)
 
 -- a fault that is known is the text's, whatever follows, and stays known
 abbrev pub PointFaultsStay : Type 0
 PointFaultsStay =
-    (program : Program) → NamesDiffer program.column_names → FaultsStay (point_reading program) (point_steps program)
+    (program : Program) → StandOnce program.column_names → FaultsStay (point_reading program) (point_steps program)
 
 -- a line of other than two fields is faulty; the least kind of any other is that of three tests
 pub record PointLinesHaveTests : Type 0 where

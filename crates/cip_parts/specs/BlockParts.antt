@@ -2,15 +2,13 @@
 --     blocks_of program count row_blocks      the blocks, by the block of each row
 use Rattle.std.specs.Prelude.{ℕ, zero, suc, ◌+◌, ◌==◌, nat_lt, Bool, false, not, ◌&&◌, ◌||◌, if◌then◌else◌, List, [], ◌∷◌, length, map, Option, None, Some, is_some, is_none}
 use Rattle.std.specs.List.{filter, list_any}
-use Rattle.std.specs.Str.{bytes_eq}
 use Rattle.cip_problem.specs.Program.{Sides, Row, Program}
 use Rattle.cip_problem.specs.Box.{sides_at}
 use Rattle.cip_problem.specs.WellFormed.{columns}
 
--- a row that was named, with its block; without one it is a master row
-pub record NamedRow : Type 0 where
-  pub name : List ℕ
-  pub block : Option ℕ
+-- the most blocks
+abbrev pub most_blocks : ℕ
+most_blocks = 4096
 
 -- rows and columns of a block, by rising number
 pub record BlockPart : Type 0 where
@@ -35,19 +33,6 @@ abbrev pub has_number : List ℕ → ℕ → Bool
 has_number numbers k = list_any (λ n. n == k) numbers
 
 -- ---- rows
-
--- a row was named
-abbrev pub is_named : List NamedRow → List ℕ → Bool
-is_named named name = list_any (λ row. bytes_eq name row.name) named
-
--- the block that a row was named for; a row that wasn't named has none
-abbrev pub block_named : List NamedRow → List ℕ → Option ℕ
-block_named [] name = None
-block_named (row ∷ others) name = if bytes_eq name row.name then row.block else block_named others name
-
--- the block of each row of the program, if it has one
-abbrev pub row_blocks : Program → List NamedRow → List (Option ℕ)
-row_blocks program named = map (block_named named) program.row_names
 
 -- a row is of this block
 abbrev pub is_block : ℕ → Option ℕ → Bool

@@ -1,0 +1,3 @@
+pub mod BlockMeaning
+pub mod BlockParts
+pub mod NamesOnce
