@@ -1,0 +1,3 @@
+pub mod FeedCuts
+pub mod OneLine
+pub mod Streams

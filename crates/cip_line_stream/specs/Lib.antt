@@ -1,0 +1,4 @@
+pub mod EndedFaults
+pub mod PieceCuts
+pub mod PieceFaults
+pub mod PieceStands

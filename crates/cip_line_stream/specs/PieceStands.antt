@@ -1,0 +1,30 @@
+-- What is kept of a text stands for its stream, which is read byte by byte on plain values.
+use Rattle.std.specs.Prelude.{◌≡◌, ℕ, Option, None, Some}
+use Rattle.cip_syntax.specs.Lines.{is_filled}
+use Rattle.cip_line_texts.specs.LineTexts.{Outcome, Means, Faulty}
+use Rattle.cip_line_texts.specs.LineStream.{Progress, Going, Failed, Stream}
+use Rattle.cip_line_stream.specs.declared.faults.KnownFault.{KnownFault}
+use Rattle.cip_line_stream.specs.PieceCuts.{Cut}
+
+-- how far a text has been read: to what is known, or to a fault
+abbrev pub progress_of : {K : Type 0} → Option KnownFault → K → Progress K
+progress_of None known = Going known
+progress_of (Some fault) known = Failed fault.line fault.kind
+
+-- the progress behind a line of this number that has a fault of this kind, or none
+abbrev pub progress_after : {K : Type 0} → (number : ℕ) → Option ℕ → K → Progress K
+progress_after number None known = Going known
+progress_after number (Some kind) known = Failed number kind
+
+-- the stream has this progress, line and size
+pub record StandsAt {K : Type 0} (cut : Cut) (known : K) (stream : Stream K) : Type 0 where
+  pub progress : stream.progress ≡ progress_of cut.fault known
+  pub ended : stream.ended ≡ cut.ended
+  pub filled : is_filled stream.line ≡ cut.filled
+  pub line : cut.fault ≡ None → stream.line ≡ cut.line
+  pub size : stream.size ≡ cut.size
+
+-- what a text comes to that has this fault, or none and then this result
+abbrev pub outcome_with : {X : Type 0} → Option KnownFault → X → Outcome X
+outcome_with None value = Means value
+outcome_with (Some fault) value = Faulty fault.line fault.kind
