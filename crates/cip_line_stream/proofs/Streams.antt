@@ -14,7 +14,7 @@ use Rattle.cip_line_texts.proofs.LineBytes.{failed_items}
 use Rattle.cip_line_stream.specs.declared.faults.KnownFault.{KnownFault}
 use Rattle.cip_line_stream.specs.PieceFaults.{line_fault, first_fault, stays, fault_when_long}
 use Rattle.cip_line_stream.specs.PieceCuts.{Cut, with_bytes, with_feed, known_fault, last_line, end_fault}
-use Rattle.cip_line_stream.specs.PieceStands.{progress_of, progress_after, StandsAt, outcome_with}
+use Rattle.cip_line_stream.specs.PieceStands.{progress_of, progress_after, StandsAt, IsRead, IsLastRead, outcome_with}
 use Rattle.cip_line_stream.specs.EndedFaults.{lines_ended, IsKnownFault, KnownFaultsStay}
 use Rattle.cip_line_stream.proofs.OneLine.{left_none, right_none}
 
@@ -64,11 +64,6 @@ kept r cut known s bytes none h = subst (StandsAt (with_bytes cut bytes) known) 
 
 failed_line : {K I X : Type 0} (r : Reading K I X) (first kind number : ℕ) (line : List ℕ) → line_read r (Failed first kind) number line ≡ Failed first kind
 failed_line r first kind number line = failed_items r first kind number (r.items line)
-
--- what a line says that was read
-abbrev pub IsRead : {K I X : Type 0} → Reading K I X → Cut → (known after : K) → Option ℕ → Type 0
-IsRead r cut known after kind =
-    cut.fault ≡ None → line_read r (Going known) (cut.ended + 1) cut.line ≡ progress_after (cut.ended + 1) kind after
 
 -- the progress behind that line
 pub line_is : {K I X : Type 0} (r : Reading K I X) (cut : Cut) (known after : K) (kind : Option ℕ) (s : Stream K) → StandsAt cut known s → IsRead r cut known after kind
@@ -222,11 +217,6 @@ short_is r last (Some f) known = refl
 
 last_is : {K : Type 0} (cut : Cut) (known : K) (s : Stream K) → StandsAt cut known s → plain.last_line s ≡ last_line cut
 last_is cut known s h = ap (λ b. cond b (s.ended + 1) s.ended) h.filled ∙ ap (λ n. cond cut.filled (n + 1) n) h.ended
-
--- what the last line says, where it has no line feed: nothing where it is empty
-pub record IsLastRead {K I X : Type 0} (r : Reading K I X) (cut : Cut) (known after : K) (kind : Option ℕ) : Type 0 where
-  pub filled : cut.filled ≡ true → IsRead r cut known after kind
-  pub empty : cut.filled ≡ false → (kind ≡ None) × (known ≡ after)
 
 closed_progress : {K I X : Type 0} (r : Reading K I X) (cut : Cut) (known after : K) (kind : Option ℕ) (s : Stream K) → StandsAt cut known s → IsLastRead r cut known after kind
     → last_progress r s ≡ progress_of (first_fault cut.fault (cut.ended + 1) kind) after

@@ -6,10 +6,11 @@ use Rattle.std.specs.Map.{lookup}
 use Rattle.std.specs.BTreeMap.{insert_entry}
 use Rattle.std.specs.Ordering.{nat_cmp, match_ordering}
 use Rattle.std.specs.Cmp.Lexicographic.{slice_cmp}
-use Rattle.std.specs.List.{position_from}
+use Rattle.std.specs.List.{position_from, list_any}
 use Rattle.std.proofs.lemmas.Map.Text.{is_eq-slice_cmp}
 use Rattle.std.proofs.lemmas.Slice.Eq.{bytes_eq-Decides}
 use Rattle.cip_problem.specs.Names.{number_of}
+use Rattle.cip_parts.specs.NamesOnce.{StandOnce}
 
 -- ---- the first place
 
@@ -119,6 +120,44 @@ apart_push names new absent apart k name e = number_push names new name absent �
     go : (slice_get names k ≡ Some name) ⊎ ((k ≡ length names) × (name ≡ new)) → cond (bytes_eq name new) (Some (length names)) (number_of names name) ≡ Some k
     go (inl h) = old (bytes_eq name new) refl (apart k name h)
     go (inr h) = ap (λ b. cond b (Some (length names)) (number_of names name)) ((bytes_eq-Decides name new).1 h.1) ∙ ap Some (sym h.0)
+
+shift : (t : List ℕ → Bool) (i : ℕ) (xs : List (List ℕ)) → position_from t (i + 1) xs ≡ option_map (λ k. suc k) (position_from t i xs)
+shift t i [] = refl
+shift t i (x ∷ xs) = go (t x) (shift t (i + 1) xs)
+  where
+    go : (b : Bool) → position_from t (i + 1 + 1) xs ≡ option_map (λ k. suc k) (position_from t (i + 1) xs) → cond b (Some (i + 1)) (position_from t (i + 1 + 1) xs) ≡ option_map (λ k. suc k) (cond b (Some i) (position_from t (i + 1) xs))
+    go true h = let e : i + 1 ≡ suc i = omega arith in ap Some e
+    go false h = h
+
+apart_tail : (x : List ℕ) (xs : List (List ℕ)) → AreApart (x ∷ xs) → AreApart xs
+apart_tail x xs apart k name e = go (bytes_eq name x) (position_from (bytes_eq name) 0 xs) (shift (bytes_eq name) 0 xs) (apart (suc k) name e)
+  where
+    go : (b : Bool) (o : Option ℕ) → position_from (bytes_eq name) (0 + 1) xs ≡ option_map (λ j. suc j) o → cond b (Some 0) (position_from (bytes_eq name) (0 + 1) xs) ≡ Some (suc k) → o ≡ Some k
+    go true o p q = absurd (cc)
+    go false None p q = absurd (cc)
+    go false (Some j) p q = let r : suc j ≡ suc k = cc (p, q) in let s : j ≡ k = omega (arith, r) in ap Some s
+
+place_of : (name : List ℕ) (xs : List (List ℕ)) → list_any (bytes_eq name) xs ≡ true → (k : ℕ) × (slice_get xs k ≡ Some name)
+place_of name [] e = absurd (cc)
+place_of name (x ∷ xs) e = go (bytes_eq name x) refl e (place_of name xs)
+  where
+    go : (b : Bool) → bytes_eq name x ≡ b → (b || list_any (bytes_eq name) xs) ≡ true → (list_any (bytes_eq name) xs ≡ true → (k : ℕ) × (slice_get xs k ≡ Some name)) → (k : ℕ) × (slice_get (x ∷ xs) k ≡ Some name)
+    go true p h rest = (0, ap Some (sym (same name x p)))
+    go false p h rest = let found = rest h in (suc found.0, found.1)
+
+-- no name stands twice
+pub once : (names : List (List ℕ)) → AreApart names → StandOnce names
+once [] apart = tt
+once (x ∷ xs) apart = (go (list_any (bytes_eq x) xs) refl, once xs (apart_tail x xs apart))
+  where
+    go : (b : Bool) → list_any (bytes_eq x) xs ≡ b → list_any (bytes_eq x) xs ≡ false
+    go false e = e
+    go true e =
+        let found = place_of x xs e in
+        let number = apart (suc found.0) x found.1 in
+        let here : bytes_eq x x ≡ true = (bytes_eq-Decides x x).1 refl in
+        let first : number_of (x ∷ xs) x ≡ Some 0 = ap (λ b. cond b (Some 0) (position_from (bytes_eq x) (0 + 1) xs)) here in
+        absurd (cc (number, first))
 
 -- ---- keys
 

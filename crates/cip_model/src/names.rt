@@ -59,6 +59,8 @@ fn push(keys: &mut Vec<Vec<u8>>, name: Vec<u8>)
 }
 
 impl Names {
+    ghost use Rattle.cip_parts.specs.NamesOnce.{StandOnce};
+
     /// No name yet.
     pub fn new(alloc: Global) -> Names
         ensures { result ≡ [] }
@@ -103,6 +105,13 @@ impl Names {
     {
         let key = &self.keys[number];
         key.as_slice()
+    }
+
+    /// No name stands twice. Nothing is done.
+    pub fn stand_once(&self)
+        ensures { StandOnce self.now }
+    {
+        let _ = &self.keys;
     }
 
     /// Hints the number that the next name gets, unless its fingerprint has a hint.
