@@ -1,0 +1,7 @@
+use Rattle.cip_search.proofs.Relaxed.{optimum, greater, wider}
+use Rattle.cip_search.proofs.Members.{rest_apart}
+use Rattle.cip_search.proofs.Alike.{is_log}
+use Rattle.cip_search.proofs.relaxed_bounds_hold.Goals as goal
+
+pub returns : goal.returns
+returns c = record { optimum = optimum; greater = greater; wider = wider }

@@ -1,0 +1,4 @@
+pub mod Endings
+pub mod Relaxation
+pub mod SearchState
+pub mod Statements
