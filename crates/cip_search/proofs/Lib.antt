@@ -1,4 +1,11 @@
 pub mod Alike
+pub mod AsGiven
+pub mod Bounds
+pub mod Ended
+pub mod Halved
+pub mod Kept
+pub mod Logs
 pub mod Members
 pub mod OneMore
 pub mod Relaxed
+pub mod Told

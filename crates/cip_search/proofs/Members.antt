@@ -1,9 +1,7 @@
 -- Members of lists, and how many nodes have some number.
-use Rattle.std.proofs.Common.{◌≡◌, ◌≢◌, ◌⊎◌, inl, inr, ℕ, zero, suc, ◌+◌, ◌≤◌, ◌==◌, Bool, true, false, cond, List, [], ◌∷◌, ◌++◌, sum_by, count_by, filter, Contains, refl, sym, ap, ◌∙◌, subst, arith}
-use Rattle.std.specs.List.Sorted.{IsPermutation}
-use Rattle.std.proofs.lemmas.Bool.{eq-eqb, ne_eqb, eqb-true}
-use Rattle.std.proofs.lemmas.List.Sums.{sum_by-cons, sum_by-append}
-use Rattle.std.proofs.lemmas.List.Sorted.{sum_by-IsPermutation}
+use Rattle.std.proofs.Common.{◌≡◌, ◌≢◌, ◌⊎◌, inl, inr, ℕ, zero, suc, ◌+◌, ◌≤◌, ◌==◌, Bool, true, false, cond, List, [], ◌∷◌, map, sum_by, filter, Contains, refl, sym, ap, ◌∙◌, subst, arith}
+use Rattle.std.proofs.lemmas.Bool.{eq-eqb, ne_eqb}
+use Rattle.std.proofs.lemmas.List.Sums.{sum_by-cons}
 use Rattle.cip_problem.specs.Log.{Node}
 use Rattle.cip_search.specs.SearchState.{has_number, AreApart}
 
@@ -25,6 +23,26 @@ here_or_later x y xs (suc k, l, e) = inr (k, omega (arith, l), e)
 pub only_one : {X : Type 0} (x y : X) → Contains (x ∷ []) y → x ≡ y
 only_one x y (zero, l, e) = e
 only_one x y (suc k, l, e) = absurd (omega (arith, l))
+
+pub mapped : {X Y : Type 0} (f : X → Y) (xs : List X) (x : X) → Contains xs x → Contains (map f xs) (f x)
+mapped f [] x h = absurd (none_in x h)
+mapped f (y ∷ ys) x h = elim (here_or_later y x ys h) [
+  | inl e ↦ subst (λ z. Contains (f y ∷ map f ys) (f z)) e (here (f y) (map f ys))
+  | inr k ↦ later (f y) (f x) (map f ys) (mapped f ys x k)
+]
+
+-- an element of a mapped list comes from one
+pub record ComesFrom {X Y : Type 0} (f : X → Y) (xs : List X) (y : Y) : Type 0 where
+  pub from : X
+  pub among : Contains xs from
+  pub is : f from ≡ y
+
+pub of_mapped : {X Y : Type 0} (f : X → Y) (xs : List X) (y : Y) → Contains (map f xs) y → ComesFrom f xs y
+of_mapped f [] y h = absurd (none_in y h)
+of_mapped f (x ∷ xs) y h = elim (here_or_later (f x) y (map f xs) h) [
+  | inl e ↦ record { from = x; among = here x xs; is = e }
+  | inr k ↦ let r = of_mapped f xs y k in record { from = r.from; among = later x r.from xs r.among; is = r.is }
+]
 
 filtered : {X : Type 0} (x y : X) (a b : List X) (t : Bool) → (Contains a y → Contains b y) → Contains (cond t (x ∷ a) a) y → Contains (x ∷ b) y × ((t ≡ true) ⊎ Contains a y)
 filtered x y a b true f h = (
@@ -76,6 +94,9 @@ hit number node e = ap (λ t. cond t 1 0) (eq-eqb node.number number e)
 
 pub missed : (number : ℕ) (node : Node) → node.number ≢ number → hits number node ≡ 0
 missed number node e = ap (λ t. cond t 1 0) (ne_eqb node.number number e)
+
+pub same_hits : (number : ℕ) (node other : Node) → node.number ≡ other.number → hits number node ≡ hits number other
+same_hits number node other e = let f : ℕ → ℕ = λ n. cond (n == number) 1 0 in ap f e
 
 -- none of them has it
 pub none_hits : (number : ℕ) (nodes : List Node) → ((node : Node) → Contains nodes node → node.number ≢ number) → sum_by (hits number) nodes ≡ 0

@@ -1,8 +1,8 @@
 -- Bounds of the linear program of a box.
-use Rattle.std.proofs.Common.{◌≡◌, List, [], ◌∷◌, ◌++◌, Option, None, Some, refl, sym, subst}
+use Rattle.std.proofs.Common.{List, [], ◌∷◌, ◌++◌, Option, None, Some, sym, subst}
 use Rattle.std.specs.List.{AllByRecursion}
 use Rattle.std.proofs.lemmas.List.{append-nil}
-use Rattle.cip_rational.specs.Rational.{ℚ, ◌+ℚ◌, ◌≤ℚ◌}
+use Rattle.cip_rational.specs.Rational.{ℚ, ◌+ℚ◌}
 use Rattle.cip_rational.proofs.Rational.Order.{≤ℚ_trans}
 use Rattle.cip_problem.specs.Program.{Sides, Row, Program}
 use Rattle.cip_problem.specs.Box.{IsInBox}

@@ -9,7 +9,7 @@ use Rattle.cip_problem.specs.Program.{Program}
 use Rattle.cip_problem.specs.Box.{IsInBox}
 use Rattle.cip_problem.specs.Points.{IsFeasible, cost_of}
 use Rattle.cip_problem.specs.Log.{End, Split, Closed, Parked, Entry, Node, node_of, AllFollow, matters}
-use Rattle.cip_cuts.specs.Improving.{IsImproving, HoldsInBox, IsBoundIn}
+use Rattle.cip_cuts.specs.Improving.{HoldsInBox, IsBoundIn}
 use Rattle.cip_cuts.specs.Cover.{IsCover}
 use Rattle.cip_cuts.specs.Reduced.{IsReduction}
 use Rattle.cip_leaves.specs.Leaf.{at_wholes, IsLeaf, IsOnlyLeaf}

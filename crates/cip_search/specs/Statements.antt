@@ -147,7 +147,7 @@ pub record StepsKeepGiven
         log = state.log ++ record { node = node.number; bound = node.bound; end = Parked } ∷ [];
       })
   pub split : (state : State) (node low high : Node) (work open_ : List Node) (column : ℕ) (at : ℤ)
-      → state.work ≡ node ∷ work → AreHalves node column at low high
+      → state.work ≡ node ∷ work → CanSplit reduced.integral node.box column at → AreHalves node column at low high
       → IsPermutation (low ∷ high ∷ state.open_) open_
       → AllFollow reduced.integral (first_node reduced start ∷ []) []
       (state.log ++ split_entry node column at low.number high.number ∷ [])

@@ -1,6 +1,4 @@
 use Rattle.cip_search.proofs.Relaxed.{optimum, greater, wider}
-use Rattle.cip_search.proofs.Members.{rest_apart}
-use Rattle.cip_search.proofs.Alike.{is_log}
 use Rattle.cip_search.proofs.relaxed_bounds_hold.Goals as goal
 
 pub returns : goal.returns
