@@ -1,0 +1,12 @@
+use Rattle.std.proofs.Common.{true, false, arith}
+use Rattle.cip_problem.specs.Box.{no_sides}
+use Rattle.cip_problem.specs.Wholes.{HasWhole}
+use Rattle.cip_problem.specs.Program.{Sides}
+use Rattle.std.proofs.Common.{◌≡◌, Bool}
+use Rattle.cip_node_rules.proofs.Places.{zip_from}
+use Rattle.cip_node_rules.proofs.columns.lacking_column.Goals as goal
+
+pub returns : goal.returns
+returns c =
+    zip_from (λ (whole : Bool) (sides : Sides). whole ≡ true → HasWhole sides) c.args.whole.now c.args.bounds.now false no_sides c.requires.long
+    (λ k l. c.loop-column.invariant k (omega (arith, l)))

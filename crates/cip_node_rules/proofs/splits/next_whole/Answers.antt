@@ -1,0 +1,10 @@
+use Rattle.std.proofs.Common.{◌≡◌, ◌∙◌, ap, arith}
+use Rattle.std.proofs.lemmas.Int.{ints}
+use Rattle.cip_rational.specs.Rational.{numerator, ceil}
+use Rattle.cip_rational.proofs.Rational.Lowest.{numerator-integer}
+use Rattle.cip_node_rules.proofs.splits.next_whole.Goals as goal
+
+pub returns-clause-value : goal.returns-clause-value
+returns-clause-value c =
+    let e : c.numerator.result ≡ ceil c.args.low = c.numerator.ensures.value ∙ ap numerator c.rounded_up.ensures ∙ numerator-integer _ in
+    omega (arith, ints, e)

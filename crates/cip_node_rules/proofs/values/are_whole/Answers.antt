@@ -1,0 +1,15 @@
+use Rattle.std.proofs.Common.{◌≡◌, true, false, Bool, get_or, sym, subst, arith}
+use Rattle.cip_rational.specs.Rational.{ℚ, zeroℚ, IsWhole}
+use Rattle.cip_node_rules.proofs.Places.{zip_from, zip_at}
+use Rattle.cip_node_rules.proofs.values.are_whole.Goals as goal
+
+pub returns-then-not-is_right : goal.returns-then-not-is_right
+returns-then-not-is_right c = λ h.
+    c.if-not-is_right.ensures
+    (subst (λ v. get_or c.args.whole.now c.loop-at.at false ≡ true → IsWhole v) (sym c.index-point-at.is)
+    (zip_at (λ (whole : Bool) (value : ℚ). whole ≡ true → IsWhole value) c.args.whole.now c.args.point.now false c.index-point-at.result c.loop-at.at h c.loop-at-test.true))
+
+pub returns : goal.returns
+returns c =
+    zip_from (λ (whole : Bool) (value : ℚ). whole ≡ true → IsWhole value) c.args.whole.now c.args.point.now false zeroℚ c.requires
+    (λ k l. c.loop-at.invariant k (omega (arith, l)))

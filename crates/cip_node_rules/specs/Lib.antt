@@ -1,0 +1,2 @@
+pub mod OpenColumns
+pub mod SplitRules

@@ -1,0 +1,11 @@
+//! What is done with a node by the look of its box and of a point: whether it is empty or a leaf, where it is split, and
+//! whether its bound may be rounded.
+#![tactic(auto)]
+
+mod columns;
+mod splits;
+mod values;
+
+pub use columns::{fractional_column, has_whole, lacking_column, open_column};
+pub use splits::{Place, chosen_place, middle, moved, splits_leave_both};
+pub use values::{are_whole, has_whole_costs, rounded_bound};
