@@ -1,0 +1,3 @@
+pub mod LeafProgram
+pub mod Statements
+pub mod WideLeaf

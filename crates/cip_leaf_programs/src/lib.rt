@@ -1,0 +1,12 @@
+//! Leaves with continuous columns: the linear program of a leaf, and when a leaf is wide. `specs/` holds the
+//! definitions.
+// Each function here does nothing. Its contract is one of the laws of the definitions, so that the check proves it.
+#![tactic(auto)]
+
+ghost use Rattle.cip_leaf_programs.specs.Statements.{LeavesHavePrograms};
+
+/// The points of a leaf are those of its program, beside the leaf's values, and their costs are those that they have
+/// there, from the cost of the leaf's values on.
+pub fn leaves_have_programs()
+    ensures { LeavesHavePrograms }
+{}
