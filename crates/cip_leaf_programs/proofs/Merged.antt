@@ -1,20 +1,19 @@
 -- Points that are put together of a leaf's values and others.
-use Rattle.std.proofs.Common.{◌≡◌, ℕ, zero, suc, ◌+◌, ◌<◌, Bool, true, false, List, [], ◌∷◌, map, length, Option, None, Some, IfSome, All, refl, sym, ap, ◌∙◌, subst, arith, true≢false, cond}
-use Rattle.std.specs.Prelude.{slice_index_or}
-use Rattle.std.specs.List.{AllZip, AllByRecursion}
-use Rattle.std.proofs.lemmas.List.Elements.{All-head, All-tail, All-cons, All-nil}
-use Rattle.cip_rational.specs.Rational.{ℚ, ◌+ℚ◌, ◌-ℚ◌, ◌*ℚ◌, zeroℚ, ◌≤ℚ◌, IsWhole}
+use Rattle.std.proofs.Common.{◌≡◌, ℕ, zero, suc, ◌<◌, Bool, true, false, List, [], ◌∷◌, map, length, Option, None, Some, IfSome, All, refl, sym, ap, ◌∙◌, subst, arith, true≢false, cond}
+use Rattle.std.specs.List.{AllByRecursion}
+use Rattle.std.proofs.lemmas.List.Elements.{All-cons, All-nil}
+use Rattle.cip_rational.specs.Rational.{ℚ, ◌+ℚ◌, ◌-ℚ◌, ◌*ℚ◌, zeroℚ, ◌≤ℚ◌}
 use Rattle.cip_rational.specs.Sums.{dot}
-use Rattle.cip_rational.proofs.Rational.Ring.{+ℚ-zero, zero-+ℚ, *ℚ-zero, +ℚ_assoc}
+use Rattle.cip_rational.proofs.Rational.Ring.{+ℚ-zero, *ℚ-zero, +ℚ_assoc}
 use Rattle.cip_rational.proofs.Linear.{linear_le, linear_same}
 use Rattle.cip_problem.specs.Program.{Term, Sides, Row, Program}
-use Rattle.cip_problem.specs.WellFormed.{IsWellFormed, columns}
+use Rattle.cip_problem.specs.WellFormed.{IsWellFormed}
 use Rattle.cip_problem.specs.Activity.{activity, value_at, StandsBelow}
 use Rattle.cip_problem.specs.Box.{Between, IsInBox}
-use Rattle.cip_problem.specs.Points.{IsSatisfied, AreWhole, IsFeasible, cost_of}
+use Rattle.cip_problem.specs.Points.{IsSatisfied, AreWhole, cost_of}
 use Rattle.cip_problem.proofs.Points.AtPlaces.{IsInBox-long}
-use Rattle.cip_linear.specs.LinearProgram.{LinearProgram, IsProper, IsPoint}
-use Rattle.cip_leaves.specs.Leaf.{at_wholes, IsWholeBetween, IsLeafIn, IsLeaf, IsPointOf}
+use Rattle.cip_linear.specs.LinearProgram.{IsProper, IsPoint}
+use Rattle.cip_leaves.specs.Leaf.{at_wholes, IsLeafIn, IsLeaf, IsPointOf}
 use Rattle.cip_leaf_programs.specs.LeafProgram.{at_continuous, merged, is_continuous, new_number, continuous_terms, part_of, shifted, row_of_leaf, program_of_leaf}
 use Rattle.cip_leaf_programs.specs.Statements.{IsTold}
 

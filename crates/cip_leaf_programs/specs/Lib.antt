@@ -1,3 +1,4 @@
+pub mod Examples
 pub mod LeafProgram
 pub mod Statements
 pub mod WideLeaf

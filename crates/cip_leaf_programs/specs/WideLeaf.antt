@@ -5,7 +5,7 @@
 --     4   that list ends in an optimum or a ray, and a sum of the test of its point, or of its ray, overflows
 -- Case 3 is shown by the number of moves, which counts the one that is out of range; the others by the row or the cost.
 -- All sums go by rising column, each product before its sum.
-use Rattle.std.specs.Prelude.{◌≡◌, ◌⊎◌, ℕ, ◌+◌, ◌<◌, List, [], map, length, Option, None, Some, slice_get}
+use Rattle.std.specs.Prelude.{◌≡◌, ◌⊎◌, ℕ, ◌+◌, ◌<◌, List, [], map, length, None, Some, slice_get}
 use Rattle.cip_rational.specs.Rational.{ℚ, zeroℚ}
 use Rattle.cip_problem.specs.Program.{Row, Program}
 use Rattle.cip_linear.specs.LinearProgram.{LinearProgram}

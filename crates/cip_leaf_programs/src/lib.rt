@@ -3,10 +3,17 @@
 // Each function here does nothing. Its contract is one of the laws of the definitions, so that the check proves it.
 #![tactic(auto)]
 
+ghost use Rattle.cip_leaf_programs.specs.Examples.{Examples};
 ghost use Rattle.cip_leaf_programs.specs.Statements.{LeavesHavePrograms};
 
 /// The points of a leaf are those of its program, beside the leaf's values, and their costs are those that they have
 /// there, from the cost of the leaf's values on.
 pub fn leaves_have_programs()
     ensures { LeavesHavePrograms }
+{}
+
+/// Leaves of three programs come to the least costs, to the move out of range and to the ray that were worked out by
+/// hand.
+pub fn examples()
+    ensures { Examples }
 {}
