@@ -4,7 +4,7 @@
 #![tactic(auto)]
 
 ghost use Rattle.cip_leaf_programs.specs.Examples.{Examples};
-ghost use Rattle.cip_leaf_programs.specs.Statements.{LeavesHavePrograms};
+ghost use Rattle.cip_leaf_programs.specs.Statements.{LeavesHavePrograms, WholeLeavesAgree};
 
 /// The points of a leaf are those of its program, beside the leaf's values, and their costs are those that they have
 /// there, from the cost of the leaf's values on.
@@ -16,4 +16,10 @@ pub fn leaves_have_programs()
 /// hand.
 pub fn examples()
     ensures { Examples }
+{}
+
+/// Where no column is continuous, a leaf is wide at a row or at the cost where its fixed part or what a side leaves of
+/// it overflows, and nowhere else, and never by moves.
+pub fn whole_leaves_agree()
+    ensures { WholeLeavesAgree }
 {}
