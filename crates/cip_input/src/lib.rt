@@ -7,3 +7,6 @@ mod pulling;
 
 pub use laws::programs_are_bounded;
 pub use models::{Unread, read_program};
+
+#[cfg(test)]
+mod tests;
