@@ -1,10 +1,10 @@
 -- What is kept of a text stands for its stream, behind bytes, line feeds and the end.
 use Rattle.std.proofs.Common.{◌≡◌, ℕ, zero, suc, ◌+◌, ◌-◌, ◌<◌, ◌≤◌, ◌==◌, Bool, true, false, cond, ◌&&◌, ◌||◌, List, [], ◌∷◌, ◌++◌, length, take, Option, None, Some, refl, sym, ap, subst, ◌∙◌, arith}
-use Rattle.std.specs.Prelude.{fold, nat_le, nat_lt, is_none, option_map}
+use Rattle.std.specs.Prelude.{fold, nat_le, nat_lt, is_none, option_map, IfSome}
 use Rattle.std.specs.List.{count_by, list_any}
 use Rattle.std.proofs.lemmas.List.{append-nil, append_assoc}
 use Rattle.std.proofs.lemmas.List.Sums.{fold-append, sum_by-cons}
-use Rattle.std.proofs.lemmas.Bool.{cond-true, cond-false, le-leb, lt-leb, le-ltb, eqb-true, false_from_ne_true}
+use Rattle.std.proofs.lemmas.Bool.{cond-true, cond-false, le-leb, lt-leb, le-ltb, lt-ltb, leb-true, ltb-true, eqb-true, false_from_ne_true}
 use Rattle.cip_problem.specs.Limits.{longest_text}
 use Rattle.cip_syntax.specs.Lines.{is_line_feed, is_filled}
 use Rattle.cip_line_texts.specs.LineTexts.{Reading, Outcome, Means, Faulty, outcome_at, too_long, outcome_of}
@@ -12,8 +12,8 @@ use Rattle.cip_line_texts.specs.LineStream.{Progress, Going, Failed, line_read, 
 use Rattle.cip_line_texts.specs.LineStream as plain
 use Rattle.cip_line_texts.proofs.LineBytes.{failed_items}
 use Rattle.cip_line_stream.specs.declared.faults.KnownFault.{KnownFault}
-use Rattle.cip_line_stream.specs.PieceFaults.{line_fault, first_fault, stays, fault_when_long}
-use Rattle.cip_line_stream.specs.PieceCuts.{Cut, with_bytes, with_feed, known_fault, last_line, end_fault}
+use Rattle.cip_line_stream.specs.PieceFaults.{line_fault, first_fault, stays, fault_when_long, has_kind_to}
+use Rattle.cip_line_stream.specs.PieceCuts.{Cut, no_bytes, with_bytes, with_feed, known_fault, last_line, end_fault}
 use Rattle.cip_line_stream.specs.PieceStands.{progress_of, progress_after, StandsAt, IsRead, IsLastRead, outcome_with}
 use Rattle.cip_line_stream.specs.EndedFaults.{lines_ended, IsKnownFault, KnownFaultsStay}
 use Rattle.cip_line_stream.proofs.OneLine.{left_none, right_none}
@@ -310,3 +310,94 @@ pub ends : {K S I X : Type 0} (reading : Reading K I X) (steps : Reading S I X) 
     → outcome_of reading text ≡ outcome_with (end_fault steps.long cut kind (steps.end_fault after)) (steps.result after)
 unfolding read_outcome
 ends reading steps law text cut known after kind h told = sym (law text) ∙ closed_is steps cut known after kind (stream_of steps text) h told
+
+-- ---- kinds
+
+kind_to : (most kind : ℕ) → 0 < kind → kind ≤ most → (nat_lt 0 kind && nat_le kind most) ≡ true
+kind_to most kind some few = ap (λ b. b && nat_le kind most) (lt-ltb 0 kind some) ∙ le-leb kind most few
+
+-- the first fault behind a line has a kind in range
+pub first_to : (most line : ℕ) (f : Option KnownFault) (kind : Option ℕ) → has_kind_to most f ≡ true → IfSome kind (λ k. (0 < k) × (k ≤ most)) → has_kind_to most (first_fault f line kind) ≡ true
+first_to most line None None h k = refl
+first_to most line None (Some kind) h k = kind_to most kind k.0 k.1
+first_to most line (Some f) kind h k = h
+
+long_to : (long last : ℕ) (f : Option KnownFault) → 0 < long → has_kind_to long f ≡ true → has_kind_to long (Some (fault_when_long long last f)) ≡ true
+long_to long last None some h = kind_to long long some (omega arith)
+long_to long last (Some f) some h = go (stays long last f)
+  where
+    go : (b : Bool) → has_kind_to long (Some (cond b f (record { line = last; kind = long }))) ≡ true
+    go true = h
+    go false = kind_to long long some (omega arith)
+
+-- the fault that is known
+pub known_to : (long : ℕ) (cut : Cut) → 0 < long → has_kind_to long cut.fault ≡ true → has_kind_to long (known_fault long cut) ≡ true
+known_to long cut some h = go (nat_le cut.size longest_text || cut.filled)
+  where
+    go : (b : Bool) → has_kind_to long (cond b cut.fault (Some (fault_when_long long cut.ended cut.fault))) ≡ true
+    go true = h
+    go false = long_to long cut.ended cut.fault some h
+
+-- the fault at the end
+pub end_to : (long : ℕ) (cut : Cut) (last_kind end_kind : Option ℕ) → 0 < long → has_kind_to long cut.fault ≡ true → IfSome last_kind (λ k. (0 < k) × (k ≤ long)) → IfSome end_kind (λ k. (0 < k) × (k ≤ long)) → has_kind_to long (end_fault long cut last_kind end_kind) ≡ true
+end_to long cut last_kind end_kind some h a b = go (nat_le cut.size longest_text)
+  where
+    f : Option KnownFault
+    f = first_fault cut.fault (cut.ended + 1) last_kind
+
+    go : (t : Bool) → has_kind_to long (cond t (first_fault f (last_line cut + 1) end_kind) (Some (fault_when_long long (last_line cut) f))) ≡ true
+    go true = first_to long (last_line cut + 1) f end_kind (first_to long (cut.ended + 1) cut.fault last_kind h a) b
+    go false = long_to long (last_line cut) f some (first_to long (cut.ended + 1) cut.fault last_kind h a)
+
+-- the kind of a fault in range
+pub some_kind : (most : ℕ) (f : KnownFault) → has_kind_to most (Some f) ≡ true → 0 < f.kind
+some_kind most f h = go (nat_lt 0 f.kind) refl h
+  where
+    go : (b : Bool) → nat_lt 0 f.kind ≡ b → (b && nat_le f.kind most) ≡ true → 0 < f.kind
+    go true e h = ltb-true 0 f.kind e
+    go false e h = absurd (cc)
+
+pub few_kinds : (most : ℕ) (f : KnownFault) → has_kind_to most (Some f) ≡ true → f.kind ≤ most
+few_kinds most f h = go (nat_lt 0 f.kind) h
+  where
+    go : (b : Bool) → (b && nat_le f.kind most) ≡ true → f.kind ≤ most
+    go true h = leb-true f.kind most h
+    go false h = absurd (cc)
+
+-- ---- steps of readers
+
+-- a line that these bytes and a line feed end
+pub line_ended : {K I X : Type 0} (r : Reading K I X) (cut kept_cut read_cut ended_cut : Cut) (known after : K) (kind : Option ℕ) (s : Stream K) (tail : List ℕ) → list_any is_line_feed tail ≡ false → StandsAt cut known s
+    → kept_cut ≡ with_bytes cut tail → IsRead r kept_cut known after kind → read_cut ≡ kept_cut → ended_cut ≡ with_feed read_cut kind → StandsAt ended_cut after (fold (byte_read r) s (tail ++ 10 ∷ []))
+line_ended {K = K} r cut kept_cut read_cut ended_cut known after kind s tail none h e told f g =
+    let before : StandsAt kept_cut known (fold (byte_read r) s tail) = subst (λ (c : Cut). StandsAt c known (fold (byte_read r) s tail)) (sym e) (kept r cut known s tail none h) in
+    let behind : StandsAt (with_feed kept_cut kind) after (byte_read r (fold (byte_read r) s tail) 10) = fed r kept_cut known after kind (fold (byte_read r) s tail) before told in
+    let same : with_feed kept_cut kind ≡ ended_cut = ap (λ c. with_feed c kind) (sym f) ∙ sym g in
+    subst (λ (c : Cut). StandsAt c after (fold (byte_read r) s (tail ++ 10 ∷ []))) same
+    (subst (λ (t : Stream K). StandsAt (with_feed kept_cut kind) after t) (sym (fold-append (byte_read r) s tail (10 ∷ []))) behind)
+
+-- what stands behind that line
+pub cut_read : {K I X : Type 0} (r : Reading K I X) (s t : Stream K) (bytes rest tail behind : List ℕ) → fold (byte_read r) t rest ≡ fold (byte_read r) s bytes → rest ≡ tail ++ 10 ∷ behind → fold (byte_read r) (fold (byte_read r) t (tail ++ 10 ∷ [])) behind ≡ fold (byte_read r) s bytes
+cut_read r s t bytes rest tail behind e f =
+    sym (fold-append (byte_read r) t (tail ++ 10 ∷ []) behind) ∙ ap (fold (byte_read r) t) (append_assoc tail (10 ∷ []) behind ∙ sym f) ∙ e
+
+-- bytes without line feed that are left
+pub rest_kept : {K I X : Type 0} (r : Reading K I X) (cut kept_cut : Cut) (known : K) (s t : Stream K) (bytes rest : List ℕ) → list_any is_line_feed rest ≡ false → StandsAt cut known t → fold (byte_read r) t rest ≡ fold (byte_read r) s bytes → kept_cut ≡ with_bytes cut rest → StandsAt kept_cut known (fold (byte_read r) s bytes)
+rest_kept {K = K} r cut kept_cut known s t bytes rest none h e f =
+    subst (λ (c : Cut). StandsAt c known (fold (byte_read r) s bytes)) (sym f) (subst (λ (u : Stream K). StandsAt (with_bytes cut rest) known u) e (kept r cut known t rest none h))
+
+-- one piece more
+pub piece_stands : {K I X : Type 0} (r : Reading K I X) (cut piece_cut : Cut) (known after : K) (text piece looked : List ℕ) → StandsAt cut known (stream_of r text) → cut.size ≤ longest_text + 1 → looked ≡ take (longest_text + 1 - cut.size) piece → StandsAt piece_cut after (fold (byte_read r) (stream_of r text) looked) → StandsAt piece_cut after (stream_of r (text ++ piece))
+piece_stands {K = K} r cut piece_cut known after text piece looked h few e told =
+    subst (λ (u : Stream K). StandsAt piece_cut after u) (ap (fold (byte_read r) (stream_of r text)) e ∙ sym (piece_read r text piece cut.size h.size few)) told
+
+-- the outcome of the text that ends here, by the fault that is answered
+pub ends_with : {K S I X : Type 0} (reading : Reading K I X) (steps : Reading S I X) → TextsAreRead reading steps → (text : List ℕ) (cut read_cut : Cut) (known after : S) (kind end_kind : Option ℕ) (fault : Option KnownFault) → StandsAt cut known (stream_of steps text) → IsLastRead steps cut known after kind
+    → read_cut ≡ cut → end_kind ≡ steps.end_fault after → fault ≡ end_fault steps.long read_cut kind end_kind → outcome_of reading text ≡ outcome_with fault (steps.result after)
+ends_with reading steps law text cut read_cut known after kind end_kind fault h told e f g =
+    ends reading steps law text cut known after kind h told
+    ∙ ap (λ o. outcome_with o (steps.result after)) (ap (λ k. end_fault steps.long cut kind k) (sym f) ∙ ap (λ c. end_fault steps.long c kind end_kind) (sym e) ∙ sym g)
+
+-- before the first byte
+pub first_stands : {K I X : Type 0} (r : Reading K I X) (cut : Cut) (known : K) → cut ≡ no_bytes → known ≡ r.start → StandsAt cut known (no_stream r)
+first_stands r cut known e f = subst (λ (c : Cut). StandsAt c known (no_stream r)) (sym e) (record { progress = ap Going (sym f); ended = refl; filled = refl; line = λ none. refl; size = refl })

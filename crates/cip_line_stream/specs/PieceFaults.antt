@@ -1,5 +1,5 @@
 -- Faults of a text, and which of them counts.
-use Rattle.std.specs.Prelude.{ℕ, ◌==◌, nat_lt, Bool, ◌&&◌, ◌||◌, if◌then◌else◌, Option, None, Some}
+use Rattle.std.specs.Prelude.{ℕ, ◌==◌, nat_lt, nat_le, Bool, true, ◌&&◌, ◌||◌, if◌then◌else◌, Option, None, Some}
 use Rattle.cip_line_texts.specs.LineStream.{LineFault}
 use Rattle.cip_line_stream.specs.declared.faults.KnownFault.{KnownFault}
 
@@ -22,3 +22,8 @@ abbrev pub fault_when_long : (long last : ℕ) → Option KnownFault → KnownFa
 fault_when_long long last None = record { line = last; kind = long }
 fault_when_long long last (Some fault) =
     if stays long last fault then fault else record { line = last; kind = long }
+
+-- the kind of a fault, where there is one, is from 1 to this number
+abbrev pub has_kind_to : (most : ℕ) → Option KnownFault → Bool
+has_kind_to most None = true
+has_kind_to most (Some fault) = nat_lt 0 fault.kind && nat_le fault.kind most

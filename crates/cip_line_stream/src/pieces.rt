@@ -56,7 +56,8 @@ impl Pieces {
     pub fn keep(&mut self, bytes: &[u8]) -> Result<(), AllocError>
         requires no_feed { list_any is_line_feed bytes.now ≡ false }
         requires few { (cut_of self.old).size + length bytes.now ≤ longest_text + 1 }
-        ensures { OnOk result (cut_of self.new ≡ with_bytes (cut_of self.old) bytes.now) }
+        ensures kept { OnOk result (cut_of self.new ≡ with_bytes (cut_of self.old) bytes.now) }
+        ensures fault { (cut_of self.new).fault ≡ (cut_of self.old).fault }
     {
         if self.fault.is_none() {
             self.line.extend_from_slice(bytes)?;

@@ -1,0 +1,5 @@
+pub mod KnownPointFaults
+pub mod PointKinds
+pub mod PointLinesRead
+pub mod PointReaders
+pub mod PointTexts

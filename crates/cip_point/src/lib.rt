@@ -1,0 +1,14 @@
+//! Points from texts that give each column of a program its value, in whatever pieces a text comes.
+#![tactic(auto)]
+
+mod faults;
+mod laws;
+mod point_lines;
+mod point_text;
+mod reader;
+mod whole_text;
+
+pub use faults::{PointFault, PointKind, ReadFault};
+pub use laws::known_point_faults_stay;
+pub use reader::PointReader;
+pub use whole_text::read_point;
