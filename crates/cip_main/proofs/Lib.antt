@@ -1,0 +1,7 @@
+pub mod Clauses
+pub mod Readings
+pub mod RefusalTexts
+pub mod Searches
+pub mod SolveJobs
+pub mod Statuses
+pub mod TrueFigures

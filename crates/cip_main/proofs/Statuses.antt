@@ -1,0 +1,111 @@
+-- What a status tells of an answer.
+use Rattle.std.specs.Prelude.{◌≡◌, ◌≢◌, List, refl}
+use Rattle.std.proofs.Common.{arith}
+use Rattle.cip_rational.specs.Rational.{ℚ}
+use Rattle.cip_answers.specs.Figures.{Overflow, Status, Optimal, Infeasible, Wide, NodeLimit, NoMemory as LacksMemory, exit_status}
+use Rattle.cip_mps.specs.declared.faults.MpsFault.{MpsFault}
+use Rattle.cip_main.specs.declared.plain.Plain.{Plain}
+use Rattle.cip_main.specs.declared.plain.Plain.TheVariants.{Usage, ReadFault, Refused, NoMemory}
+use Rattle.cip_main.specs.Plain.{plain_status}
+use Rattle.cip_main.specs.Running.{IsStatus, solved, usage, read_fault, refused, no_memory, spent, wide}
+
+-- ---- answers without figures
+
+pub says_usage : (answer : Plain) → plain_status answer ≡ 2 → answer ≡ Usage
+says_usage Usage e = refl
+says_usage ReadFault e = absurd (omega (arith, e))
+says_usage (Refused fault) e = absurd (omega (arith, e))
+says_usage NoMemory e = absurd (omega (arith, e))
+
+pub says_read_fault : (answer : Plain) → plain_status answer ≡ 3 → answer ≡ ReadFault
+says_read_fault Usage e = absurd (omega (arith, e))
+says_read_fault ReadFault e = refl
+says_read_fault (Refused fault) e = absurd (omega (arith, e))
+says_read_fault NoMemory e = absurd (omega (arith, e))
+
+pub says_refused : (answer : Plain) → plain_status answer ≡ 4 → (fault : MpsFault) × (answer ≡ Refused fault)
+says_refused Usage e = absurd (omega (arith, e))
+says_refused ReadFault e = absurd (omega (arith, e))
+says_refused (Refused fault) e = (fault, refl)
+says_refused NoMemory e = absurd (omega (arith, e))
+
+pub says_no_memory : (answer : Plain) → plain_status answer ≡ 6 → answer ≡ NoMemory
+says_no_memory Usage e = absurd (omega (arith, e))
+says_no_memory ReadFault e = absurd (omega (arith, e))
+says_no_memory (Refused fault) e = absurd (omega (arith, e))
+says_no_memory NoMemory e = refl
+
+pub plain_below_five : (answer : Plain) → plain_status answer ≢ 5
+plain_below_five Usage e = absurd (omega (arith, e))
+plain_below_five ReadFault e = absurd (omega (arith, e))
+plain_below_five (Refused fault) e = absurd (omega (arith, e))
+plain_below_five NoMemory e = absurd (omega (arith, e))
+
+pub plain_not_ten : (answer : Plain) → plain_status answer ≢ 10
+plain_not_ten Usage e = absurd (omega (arith, e))
+plain_not_ten ReadFault e = absurd (omega (arith, e))
+plain_not_ten (Refused fault) e = absurd (omega (arith, e))
+plain_not_ten NoMemory e = absurd (omega (arith, e))
+
+pub plain_not_eleven : (answer : Plain) → plain_status answer ≢ 11
+plain_not_eleven Usage e = absurd (omega (arith, e))
+plain_not_eleven ReadFault e = absurd (omega (arith, e))
+plain_not_eleven (Refused fault) e = absurd (omega (arith, e))
+plain_not_eleven NoMemory e = absurd (omega (arith, e))
+
+pub plain_is : (answer : Plain) → IsStatus (plain_status answer)
+plain_is Usage = usage
+plain_is ReadFault = read_fault
+plain_is (Refused fault) = refused
+plain_is NoMemory = no_memory
+
+-- ---- answers with figures
+
+pub figures_not_two : (status : Status) → exit_status status ≢ 2
+figures_not_two Optimal e = absurd (omega (arith, e))
+figures_not_two Infeasible e = absurd (omega (arith, e))
+figures_not_two NodeLimit e = absurd (omega (arith, e))
+figures_not_two (Wide leaf place) e = absurd (omega (arith, e))
+figures_not_two LacksMemory e = absurd (omega (arith, e))
+
+pub figures_not_three : (status : Status) → exit_status status ≢ 3
+figures_not_three Optimal e = absurd (omega (arith, e))
+figures_not_three Infeasible e = absurd (omega (arith, e))
+figures_not_three NodeLimit e = absurd (omega (arith, e))
+figures_not_three (Wide leaf place) e = absurd (omega (arith, e))
+figures_not_three LacksMemory e = absurd (omega (arith, e))
+
+pub figures_not_four : (status : Status) → exit_status status ≢ 4
+figures_not_four Optimal e = absurd (omega (arith, e))
+figures_not_four Infeasible e = absurd (omega (arith, e))
+figures_not_four NodeLimit e = absurd (omega (arith, e))
+figures_not_four (Wide leaf place) e = absurd (omega (arith, e))
+figures_not_four LacksMemory e = absurd (omega (arith, e))
+
+pub figures_not_five : (status : Status) → exit_status status ≢ 5
+figures_not_five Optimal e = absurd (omega (arith, e))
+figures_not_five Infeasible e = absurd (omega (arith, e))
+figures_not_five NodeLimit e = absurd (omega (arith, e))
+figures_not_five (Wide leaf place) e = absurd (omega (arith, e))
+figures_not_five LacksMemory e = absurd (omega (arith, e))
+
+pub is_spent : (status : Status) → exit_status status ≡ 10 → status ≡ NodeLimit
+is_spent Optimal e = absurd (omega (arith, e))
+is_spent Infeasible e = absurd (omega (arith, e))
+is_spent NodeLimit e = refl
+is_spent (Wide leaf place) e = absurd (omega (arith, e))
+is_spent LacksMemory e = absurd (omega (arith, e))
+
+pub is_wide : (status : Status) → exit_status status ≡ 11 → (leaf : List ℚ) × (place : Overflow) × (status ≡ Wide leaf place)
+is_wide Optimal e = absurd (omega (arith, e))
+is_wide Infeasible e = absurd (omega (arith, e))
+is_wide NodeLimit e = absurd (omega (arith, e))
+is_wide (Wide leaf place) e = (leaf, place, refl)
+is_wide LacksMemory e = absurd (omega (arith, e))
+
+pub exit_is : (status : Status) → IsStatus (exit_status status)
+exit_is Optimal = solved
+exit_is Infeasible = solved
+exit_is NodeLimit = spent
+exit_is (Wide leaf place) = wide
+exit_is LacksMemory = no_memory

@@ -1,0 +1,7 @@
+pub mod Answering
+pub mod Headline
+pub mod Plain
+pub mod Refusals
+pub mod Running
+pub mod Saying
+pub mod Tasks

@@ -1,0 +1,39 @@
+//! The whole way from the words and the store to the sink.
+ghost use Rattle.cip_words.specs.Jobs.{job_of};
+ghost use Rattle.cip_main.specs.Running.{Runs, call_of};
+
+use crate::plain::say;
+use crate::solving::solve_and_report;
+use crate::tasks::read_task;
+use cip_io::{Sink, Store};
+use cip_solve::Log;
+use cip_words::Words;
+use std::alloc::Global;
+
+/// Does all that the program does, and answers its exit status:
+///
+/// - 0: an optimal point was printed, or that no point is feasible;
+/// - 2: the words are not accepted, and nothing is pulled;
+/// - 3: the store failed;
+/// - 4: the text of the model is faulty; its first line that breaks a rule was printed, and the least kind;
+/// - 5: the sink failed; what it took is a prefix of the answer;
+/// - 6: a growth was refused: before the program was read nothing else is printed, and later the figures held;
+/// - 10: the node budget is spent, and an open node matters;
+/// - 11: what is left of the search is leaves that overflow, and one of these was printed.
+///
+/// A search adds one log to `logs`, or none where memory was refused before it had room for one.
+pub fn run<S: Store, K: Sink>(
+    alloc: Global,
+    words: &Words,
+    store: &mut S,
+    out: &mut K,
+    logs: &mut Vec<Log>,
+) -> u8
+    ensures { Runs (call_of (job_of words.now) (S.tells store.old) (S.tells store.new)
+        (K.tells out.old) (K.tells out.new) logs.old.items logs.new.items result) }
+{
+    match read_task(alloc, words, store) {
+        Ok(task) => solve_and_report(alloc, &task.program, task.nodes, out, logs),
+        Err(answer) => say(out, answer),
+    }
+}

@@ -1,0 +1,70 @@
+//! Solving a program and reporting.
+ghost use Rattle.std.specs.Prelude.{◌≡◌, ◌<◌, ℕ, List, []};
+ghost use Rattle.cip_answers.specs.Figures.{answer_text, exit_status, names_of};
+ghost use Rattle.cip_report.specs.Answers.{figures_of, AnswerFits};
+ghost use Rattle.cip_main.specs.Answering.{IsSearchable, Answers, Searched};
+ghost use Rattle.cip_main.specs.Saying.{Says};
+
+use cip_io::{Failed, Sink};
+use cip_model::Program;
+use cip_report::{Answer, Ended, report};
+use cip_solve::{Log, Options, root_bound, solve};
+use std::alloc::Global;
+
+/// The answer where memory is refused before there is room for a log.
+fn no_search(program: &Program) -> Answer
+    requires { IsSearchable program.now }
+    ensures { (nodes : ℕ) (logs : List Log) → Searched program.now nodes logs logs result }
+{
+    Answer {
+        ended: Ended::NoMemory,
+        best: None,
+        bound: root_bound(program),
+    }
+}
+
+/// Searches a program, and adds the log.
+fn search(alloc: Global, program: &Program, nodes: u64, logs: &mut Vec<Log>) -> Answer
+    requires searchable { IsSearchable program.now }
+    requires some { 0 < nodes }
+    ensures { Searched program.now nodes logs.old.items logs.new.items result }
+{
+    if logs.reserve(1).is_err() {
+        return no_search(program);
+    }
+    let mut log = Log::new(alloc);
+    let answer = solve(alloc, program, &Options { nodes }, &mut log);
+    let _ = logs.push(log);
+    answer
+}
+
+/// Writes an answer; the status that goes with its end, or 5 where the sink failed.
+fn tell<K: Sink>(program: &Program, answer: &Answer, out: &mut K) -> u8
+    requires { AnswerFits program.now answer.now }
+    ensures { let figures = figures_of program.now answer.now in
+        Says (K.tells out.old) (K.tells out.new)
+        (answer_text (names_of program.now) figures) (exit_status figures.status) result }
+{
+    match report(program, answer, out) {
+        Ok(()) => answer.ended.status(),
+        Err(Failed) => 5,
+    }
+}
+
+/// Solves a program by at most so many nodes, and writes the answer with its figures, whatever the end; its status, or 5
+/// where the sink failed. A search adds one log to `logs`, or none where memory was refused before it had room for one:
+/// then the answer is want of memory, with the bound of the root.
+pub fn solve_and_report<K: Sink>(
+    alloc: Global,
+    program: &Program,
+    nodes: u64,
+    out: &mut K,
+    logs: &mut Vec<Log>,
+) -> u8
+    requires searchable { IsSearchable program.now }
+    requires some { 0 < nodes }
+    ensures { Answers program.now nodes (K.tells out.old) (K.tells out.new) logs.old.items logs.new.items result }
+{
+    let answer = search(alloc, program, nodes, logs);
+    tell(program, &answer, out)
+}
