@@ -1,9 +1,11 @@
 //! Texts that were read by hand.
-use crate::ReadFault;
+use crate::{MpsReader, ReadFault};
 
 mod faults;
+mod limits;
 mod pieces;
 mod programs;
+mod sides;
 
 /// Three rows and three whole columns.
 const CHVATAL: &str =
@@ -16,5 +18,13 @@ fn code(fault: ReadFault) -> Option<(usize, u32)> {
     match fault {
         ReadFault::Faulty(fault) => Some((fault.line, fault.kind.number())),
         ReadFault::NoMemory => None,
+    }
+}
+
+/// What the end of a text comes to: line and kind of its fault.
+fn fault_at_end(reader: MpsReader) -> Option<(usize, u32)> {
+    match reader.finish() {
+        Ok(_) => None,
+        Err(fault) => code(fault),
     }
 }

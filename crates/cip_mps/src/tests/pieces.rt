@@ -2,7 +2,6 @@
 use super::{CHVATAL, code};
 use crate::{MpsReader, read_mps};
 use std::alloc::Global;
-use std::test::Fail;
 
 /// How many columns and rows the program of a text has that comes in two pieces.
 fn cut_at(alloc: Global, text: &[u8], place: usize) -> Option<(usize, usize)> {
@@ -36,64 +35,103 @@ fn in_pieces(alloc: Global, text: &[u8], size: usize) -> Option<(usize, usize)> 
     }
 }
 
+/// A text has three columns and three rows, cut at each of these places.
+fn is_read_cut(alloc: Global, text: &[u8], places: usize) -> bool {
+    for place in 0..places {
+        if cut_at(alloc, text, place) != Some((3, 3)) {
+            return false;
+        }
+    }
+    true
+}
+
 #[test]
 fn cut_at_each_byte(rt: HostRuntime) {
     let text = CHVATAL.as_bytes();
-    for place in 0..text.len() {
-        assert!(rt; cut_at(rt.alloc(), text, place) == Some((3, 3)));
-    }
+    assert!(rt; is_read_cut(rt.alloc(), text, text.len()));
 }
 
 #[test]
-fn pieces_of_one_size(rt: HostRuntime) {
-    for size in [1, 2, 3, 7, 4096] {
-        assert!(rt; in_pieces(rt.alloc(), CHVATAL.as_bytes(), size) == Some((3, 3)));
-    }
+fn pieces_of_one_byte(rt: HostRuntime) {
+    assert!(rt; in_pieces(rt.alloc(), CHVATAL.as_bytes(), 1) == Some((3, 3)));
 }
 
-/// The fault of the first bytes of a text.
-fn fault_of_front(alloc: Global, text: &[u8], length: usize) -> Option<(usize, u32)> {
-    if length > text.len() {
+#[test]
+fn pieces_of_seven_bytes(rt: HostRuntime) {
+    assert!(rt; in_pieces(rt.alloc(), CHVATAL.as_bytes(), 7) == Some((3, 3)));
+}
+
+/// The fault of a text without so many of its last bytes.
+fn fault_without(alloc: Global, text: &[u8], missing: usize) -> Option<(usize, u32)> {
+    if missing > text.len() {
         return None;
     }
-    match read_mps(alloc, &text[..length]) {
+    match read_mps(alloc, &text[..text.len() - missing]) {
         Ok(_) => None,
         Err(fault) => code(fault),
     }
+}
+
+/// Each front of a text is faulty that lacks its last two bytes, or more.
+fn fronts_are_faulty(alloc: Global, text: &[u8]) -> bool {
+    for missing in 2..text.len() {
+        if fault_without(alloc, text, missing).is_none() {
+            return false;
+        }
+    }
+    true
 }
 
 #[test]
 fn fronts(rt: HostRuntime) {
-    let text = CHVATAL.as_bytes();
-    for length in 0..text.len() {
-        let is_whole = length + 1 == text.len();
-        assert!(rt; fault_of_front(rt.alloc(), text, length).is_none() == is_whole);
-    }
-    assert!(rt; fault_of_front(rt.alloc(), text, 0) == Some((1, 17)));
-    for missing in 2..8 {
-        if missing < text.len() {
-            let fault = fault_of_front(rt.alloc(), text, text.len() - missing);
-            let wanted = if missing == 7 { (25, 17) } else { (25, 1) };
-            assert!(rt; fault == Some(wanted));
-        }
-    }
+    assert!(rt; fronts_are_faulty(rt.alloc(), CHVATAL.as_bytes()));
 }
 
 #[test]
-fn known_faults_stay(rt: HostRuntime) -> Result<(), Fail> {
-    let mut reader = MpsReader::new(rt.alloc());
-    assert!(rt; reader.feed(b"ROWS\n N COST\n X").is_ok());
-    for piece in [" R1", "\nROWS\n", "", "COLUMNS\n"] {
-        let fault = match reader.feed(piece.as_bytes()) {
-            Ok(()) => None,
-            Err(fault) => code(fault),
-        };
-        assert!(rt; fault == if piece == " R1" { None } else { Some((3, 13)) });
-    }
-    let fault = match reader.finish() {
-        Ok(_) => None,
+fn last_line_feed_may_be_missing(rt: HostRuntime) {
+    assert!(rt; fault_without(rt.alloc(), CHVATAL.as_bytes(), 1).is_none());
+}
+
+#[test]
+fn end_is_missing(rt: HostRuntime) {
+    assert!(rt; fault_without(rt.alloc(), CHVATAL.as_bytes(), 7) == Some((25, 17)));
+}
+
+#[test]
+fn end_is_cut(rt: HostRuntime) {
+    assert!(rt; fault_without(rt.alloc(), CHVATAL.as_bytes(), 3) == Some((25, 1)));
+}
+
+#[test]
+fn bound_is_cut_behind_its_set(rt: HostRuntime) {
+    // behind ` UP B` of line 23
+    assert!(rt; fault_without(rt.alloc(), CHVATAL.as_bytes(), 24) == Some((23, 4)));
+}
+
+#[test]
+fn bound_is_cut_behind_its_column(rt: HostRuntime) {
+    // ` UP B b` has no set, and so isn't of the first set
+    assert!(rt; fault_without(rt.alloc(), CHVATAL.as_bytes(), 22) == Some((24, 17)));
+}
+
+/// The fault that the reader knows behind one more piece.
+fn fault_behind(reader: &mut MpsReader, piece: &str) -> Option<(usize, u32)> {
+    match reader.feed(piece.as_bytes()) {
+        Ok(()) => None,
         Err(fault) => code(fault),
-    };
-    assert!(rt; fault == Some((3, 13)));
-    Ok(())
+    }
+}
+
+/// A fault is known behind the line feed of its line, and then stays.
+fn faults_stay(alloc: Global) -> bool {
+    let mut reader = MpsReader::new(alloc);
+    let open = fault_behind(&mut reader, "ROWS\n N COST\n X R1");
+    let known = fault_behind(&mut reader, "\nROWS\n");
+    let later = fault_behind(&mut reader, "COLUMNS\n");
+    open.is_none() && known == Some((3, 13)) && later == Some((3, 13))
+}
+
+#[test]
+fn known_faults_stay(rt: HostRuntime) {
+    assert!(rt; faults_stay(rt.alloc()));
 }
