@@ -97,8 +97,8 @@ fn read_text<S: Store>(
 ///
 /// An `Err` says why there is no program: `Faulty` comes exactly where the text is faulty and all of it could be
 /// pulled, with the first line that breaks a rule and the least kind that is broken there; `StoreFailed` where a call
-/// of the store failed, and no further call follows; `NoMemory` where a growth was refused, and no call of the store
-/// failed. The texts that the store holds stay the same.
+/// of the store failed, so that its count of faults rose or stands at its last value; `NoMemory` where a growth was
+/// refused, and then no call of the store failed. The texts that the store holds stay the same.
 pub fn read_program<S: Store>(alloc: Global, store: &mut S, name: &str) -> Result<Program, Unread>
     ensures answer { let text = (S.tells store.old).holds name.now in
         MatchResult result
