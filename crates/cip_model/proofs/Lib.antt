@@ -1,3 +1,4 @@
 pub mod Meaning
 pub mod NamePlaces
 pub mod SmallPrograms
+pub mod GroupLaws

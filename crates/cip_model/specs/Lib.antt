@@ -7,3 +7,6 @@ pub mod Programs
 pub mod RayTests
 pub mod Rays
 pub mod Verdicts
+pub mod BlocksInside
+pub mod Grouped
+pub mod NumberLists

@@ -1,7 +1,9 @@
 //! Programs: names, rows, costs, whole columns and bounds, and the test of a point.
 #![tactic(auto)]
 
+mod blocks;
 mod checks;
+mod groups;
 mod limits;
 mod name_hints;
 mod names;
@@ -10,6 +12,7 @@ mod programs;
 mod rays;
 mod verdicts;
 
+pub use blocks::{Blocks, MOST_BLOCKS};
 pub use limits::{LONGEST_NAME, LONGEST_TEXT, MOST_COLUMNS, MOST_ENTRIES, MOST_ROWS, limits_agree};
 pub use names::Names;
 pub use parts::{Parts, Sense};

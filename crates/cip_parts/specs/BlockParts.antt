@@ -98,3 +98,21 @@ blocks_of program count row_blocks = record {
       filter (λ column. not (nat_lt 0 (length (blocks_with program count row_blocks column))))
       (numbers_from 0 (columns program));
 }
+
+-- the numbers of each of so many blocks
+abbrev pub grouped : (count : ℕ) → List (Option ℕ) → List (List ℕ)
+grouped count blocks = map (λ block. rows_where (is_block block) 0 blocks) (numbers_from 0 count)
+
+-- blocks by their rows and by their columns
+abbrev pub parts_of : (rows columns : List (List ℕ)) → List BlockPart
+parts_of [] columns = []
+parts_of (rows ∷ others) [] = []
+parts_of (rows ∷ others) (columns ∷ more) = record { rows = rows; columns = columns } ∷ parts_of others more
+
+-- the blocks by the block of each row and of each column; without one a row is a master row, and a column of no block
+abbrev pub blocks_by : (count : ℕ) → (row_blocks column_blocks : List (Option ℕ)) → Blocks
+blocks_by count row_blocks column_blocks = record {
+  blocks = parts_of (grouped count row_blocks) (grouped count column_blocks);
+  master_rows = rows_where is_none 0 row_blocks;
+  free_columns = rows_where is_none 0 column_blocks;
+}

@@ -1,3 +1,4 @@
+pub mod BlockCodes
 pub mod BlockMeaning
 pub mod BlockParts
 pub mod NamesOnce
