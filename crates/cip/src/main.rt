@@ -2,7 +2,7 @@
 #![tactic(auto)]
 
 use cip_io::{HostSink, HostStore};
-use cip_thin_main::{Words, run, say_no_memory, say_usage};
+use cip_main::{Plain, Words, run, say};
 use std::process::ExitCode;
 use std::{env, io};
 
@@ -23,8 +23,8 @@ fn main(rt: HostRuntime) -> ExitCode {
             let mut logs = Vec::new(rt.alloc());
             run(rt.alloc(), &words, &mut store, &mut out, &mut logs)
         }
-        Err(fault) if fault.kind() == io::ErrorKind::OutOfMemory => say_no_memory(&mut out),
-        Err(_) => say_usage(&mut out),
+        Err(fault) if fault.kind() == io::ErrorKind::OutOfMemory => say(&mut out, Plain::NoMemory),
+        Err(_) => say(&mut out, Plain::Usage),
     };
     ExitCode::from(status)
 }

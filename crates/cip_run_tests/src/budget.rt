@@ -1,5 +1,6 @@
 //! A text whose search spends the node budget.
-use crate::cases::solve;
+use crate::cases::run_words;
+use cip_io::MemoryStore;
 use std::test::Fail;
 
 /// As many as possible of 21 columns between 0 and 1, where twice their sum is at most 21. The box
@@ -92,9 +93,12 @@ end
 
 #[test]
 fn the_node_budget_is_spent(rt: HostRuntime) -> Result<(), Fail> {
-    let outcome = solve(rt.alloc(), ODD.as_bytes())?;
+    let mut store = MemoryStore::new(rt.alloc(), 4_096);
+    store.add("M", ODD.as_bytes())?;
+    let words = ["solve", "M", "--nodes", "20000"];
+    let outcome = run_words(rt.alloc(), &words, &mut store, 4_096)?;
     assert_eq!(rt; outcome.taken.as_slice(), SPENT.as_bytes());
     assert_eq!(rt; outcome.status, 10);
-    assert_eq!(rt; outcome.entries.as_slice(), &[1_000_000usize][..]);
+    assert_eq!(rt; outcome.entries.as_slice(), [20_000].as_slice());
     Ok(())
 }

@@ -1,6 +1,6 @@
 //! What the tests share: a text, and one call of `run`.
 use cip_io::{MemorySink, MemoryStore};
-use cip_thin_main::{Words, run};
+use cip_main::{Words, run};
 use std::alloc::{AllocError, Global};
 
 /// Three whole columns between 0 and 10 under three rows.
@@ -33,9 +33,6 @@ ENDATA
 
 /// Its answer.
 pub const THREE_SOLVED: &str = "status optimal\ncost 13\nbound 13\na 2\nb 0\nc 1\nend\n";
-
-/// What a text is answered that is not thin.
-pub const NOT_THIN: &str = "status refused\ntext model\nline 1\nkind 21 OutOfProfile\nend\n";
 
 /// What one call of `run` did.
 #[derive(Debug, Drop)]
@@ -76,6 +73,12 @@ pub fn run_words(
         taken: out.taken().to_vec(alloc)?,
         entries,
     })
+}
+
+/// Whether `solve M` prints this answer for this text, and ends with this status.
+pub fn answers(alloc: Global, text: &[u8], answer: &str, status: u8) -> Result<bool, AllocError> {
+    let outcome = solve(alloc, text)?;
+    Ok(outcome.status == status && outcome.taken.as_slice() == answer.as_bytes())
 }
 
 /// The text with `new` in place of its first part `old`; nothing where there is no such part.

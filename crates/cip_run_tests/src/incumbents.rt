@@ -3,7 +3,7 @@ use crate::cases::THREE_COLUMNS;
 use cip_frac::Frac;
 use cip_incumbent::{Incumbent, Offered};
 use cip_model::{Program, Verdict};
-use cip_thin_reader::Reader;
+use cip_mps::read_mps;
 use std::alloc::Global;
 use std::process::Abort;
 use std::test::Fail;
@@ -27,11 +27,9 @@ const OFFERS: [([i64; 3], Offered, i64); 6] = [
     ),
 ];
 
-/// The program of a thin text.
+/// The program of a text.
 fn program_of(alloc: Global, text: &str) -> Result<Program, Fail> {
-    let mut reader = Reader::new(alloc);
-    reader.take_piece(text.as_bytes())?;
-    match reader.finish() {
+    match read_mps(alloc, text.as_bytes()) {
         Ok(program) => Ok(program),
         Err(_) => Err(Fail::from("no program")),
     }

@@ -1,5 +1,5 @@
 //! The statuses, and pieces of a text.
-use crate::cases::{NOT_THIN, THREE_COLUMNS, THREE_SOLVED, run_words};
+use crate::cases::{THREE_COLUMNS, THREE_SOLVED, run_words};
 use cip_io::MemoryStore;
 use std::alloc::{AllocError, Global};
 use std::test::Fail;
@@ -49,6 +49,9 @@ fn a_failing_store_is_a_read_fault(rt: HostRuntime) -> Result<(), Fail> {
     Ok(())
 }
 
+/// What a text is answered whose second line opens ROWS again.
+const TWICE: &str = "status refused\ntext model\nline 2\nkind 2 SectionOrder\nend\n";
+
 #[test]
 fn a_refused_text_is_pulled_to_its_end(rt: HostRuntime) -> Result<(), Fail> {
     let mut store = MemoryStore::new(rt.alloc(), 4);
@@ -59,7 +62,7 @@ fn a_refused_text_is_pulled_to_its_end(rt: HostRuntime) -> Result<(), Fail> {
     let mut store = MemoryStore::new(rt.alloc(), 4);
     store.add("M", b"ROWS\nROWS\n")?;
     let outcome = run_words(rt.alloc(), &["solve", "M"], &mut store, 4_096)?;
-    assert_eq!(rt; outcome.taken.as_slice(), NOT_THIN.as_bytes());
+    assert_eq!(rt; outcome.taken.as_slice(), TWICE.as_bytes());
     assert_eq!(rt; outcome.status, 4);
     Ok(())
 }
@@ -80,23 +83,61 @@ const REFUSED_WORDS: [&[&str]; 14] = [
     &["solve"],
     &["check", "M"],
     &["solve", "M", "M"],
-    &["solve", "-"],
+    &["solve", "M", "--nodes", "0"],
+    &["solve", "M", "--nodes", "1099511627777"],
+    &["solve", "M", "--off", "nosuch"],
     &["solve", "--help"],
-    &["--help", "M"],
+    &["--help"],
+    &["--version"],
+    &["help"],
     &["Solve", "M"],
-    &["", "M"],
-    &["solve ", "M"],
     &["solve", "-M"],
-    &["solve", "solve", "M"],
-    &["solve", "M", ""],
     &["solve M"],
 ];
 
-/// Names that are accepted as well.
-const NAMES: [&str; 5] = ["", "solve", "M-", " -M", "é"];
+/// Words that are accepted.
+const ACCEPTED_WORDS: [&[&str]; 5] = [
+    &["solve", "M"],
+    &["solve", "M", "--plain"],
+    &["solve", "--nodes=2661", "M"],
+    &["solve", "M", "--nodes", "1099511627776"],
+    &["solve", "--plain", "--nodes", "+2661", "M"],
+];
 
 #[test]
-fn any_name_without_a_dash_in_front_is_looked_up(rt: HostRuntime) -> Result<(), Fail> {
+fn words_are_accepted(rt: HostRuntime) -> Result<(), Fail> {
+    for words in ACCEPTED_WORDS {
+        let mut store = store_of(rt.alloc(), 4_096)?;
+        let outcome = run_words(rt.alloc(), words, &mut store, 4_096)?;
+        assert_eq!(rt; outcome.taken.as_slice(), THREE_SOLVED.as_bytes());
+        assert_eq!(rt; outcome.status, 0, "{words:?}");
+    }
+    Ok(())
+}
+
+/// What is answered after one node: 5 times 10, 4 times 10 and 3 times 10 together are the box bound.
+const ONE_NODE: &str = "status nodelimit\ncost none\nbound 120\nend\n";
+
+#[test]
+fn as_many_nodes_are_taken_as_the_words_say(rt: HostRuntime) -> Result<(), Fail> {
+    let mut store = store_of(rt.alloc(), 4_096)?;
+    let outcome = run_words(
+        rt.alloc(),
+        &["solve", "M", "--nodes", "1"],
+        &mut store,
+        4_096,
+    )?;
+    assert_eq!(rt; outcome.taken.as_slice(), ONE_NODE.as_bytes());
+    assert_eq!(rt; outcome.status, 10);
+    assert_eq!(rt; outcome.entries.as_slice(), [1].as_slice());
+    Ok(())
+}
+
+/// Names that are looked up.
+const NAMES: [&str; 4] = ["solve", "M-", " -M", "é"];
+
+#[test]
+fn names_are_looked_up(rt: HostRuntime) -> Result<(), Fail> {
     for name in NAMES {
         let mut store = MemoryStore::new(rt.alloc(), 4_096);
         let outcome = run_words(rt.alloc(), &["solve", name], &mut store, 4_096)?;
