@@ -1,0 +1,12 @@
+use Rattle.std.proofs.Common.{◌∙◌, ◌≤◌, sym, length, arith}
+use Rattle.cip_leaf.proofs.Along.{fits_more, all_fit}
+use Rattle.cip_leaf.proofs.leaves.first_along.Goals as goal
+
+pub loop-at-preserved : goal.loop-at-preserved
+loop-at-preserved c =
+    fits_more c.args.rows.now c.args.ray.now c.loop-at.at c.index-rows-at.result c.activity.result c.loop-at.invariant c.index-rows-at.is c.activity.ensures.steps (sym c.is_err.ensures.value ∙ c.if-is_err.false)
+
+pub returns : goal.returns
+returns c =
+    let l : length c.args.rows.now ≤ c.loop-at.at = omega arith in
+    all_fit c.args.rows.now c.args.ray.now c.loop-at.at l c.loop-at.invariant

@@ -1,0 +1,9 @@
+use Rattle.std.proofs.Common.{arith}
+use Rattle.cip_leaf.proofs.Answered.{first_is_wide}
+use Rattle.cip_leaf.proofs.leaves.out_of_range.Goals as goal
+
+pub first_wide-requires-clause-wide : goal.first_wide-requires-clause-wide
+first_wide-requires-clause-wide c =
+    let e = c.as_slice.ensures.value in
+    let f = c.as_slice-2.ensures.value in
+    rw (e, f) (first_is_wide _ c.args.moves c.requires.end (omega arith))

@@ -1,0 +1,6 @@
+use Rattle.cip_leaf.proofs.Steps.{skipped}
+use Rattle.cip_leaf.proofs.lists.continuous_costs.Goals as goal
+
+pub loop-at-preserved-then-whole-at : goal.loop-at-preserved-then-whole-at
+loop-at-preserved-then-whole-at c =
+    skipped c.loop-at.at c.args.whole.now c.args.costs.now c.loop-at.kept.items _ c.requires c.if-whole-at.true c.loop-at.invariant

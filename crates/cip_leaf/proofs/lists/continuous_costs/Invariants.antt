@@ -1,0 +1,6 @@
+use Rattle.std.proofs.Common.{◌≡◌, ◌++◌, drop}
+use Rattle.cip_leaf_programs.specs.LeafProgram.{at_continuous}
+use Rattle.cip_leaf.proofs.lists.continuous_costs.Given as goal
+
+abbrev pub invariant-loop-at : goal.invariant-loop-at
+invariant-loop-at l = l.kept.items ++ at_continuous (drop l.at l.whole) (drop l.at l.costs) ≡ at_continuous l.whole l.costs

@@ -1,0 +1,4 @@
+pub mod Building
+pub mod FirstPlaces
+pub mod LeafAnswers
+pub mod Parts

@@ -1,0 +1,193 @@
+//! The least cost of a leaf.
+ghost use Rattle.std.specs.Prelude.{◌≡◌, ◌≤◌, [], length, All, IfOk, MatchResult};
+ghost use Rattle.cip_problem.specs.Activity.{StandsBelow};
+ghost use Rattle.cip_problem.specs.Limits.{most_rows};
+ghost use Rattle.cip_problem.specs.WellFormed.{IsWellFormed};
+ghost use Rattle.cip_simplex.specs.LpShape.{IsSolvable};
+ghost use Rattle.cip_leaves.specs.Leaf.{IsLeaf};
+ghost use Rattle.cip_leaf_programs.specs.LeafProgram as program_spec;
+ghost use Rattle.cip_leaf.specs.Building.{IsRowsFault};
+ghost use Rattle.cip_leaf.specs.LeafAnswers.{IsLeafAnswer, EndsInOptimum, EndsInRay, EndsOutOfRange, IsWideAnswer, IsFirstAlong};
+ghost use Rattle.cip_leaf.specs.Parts.{IsProgramOf};
+
+use crate::answers::{LeafAnswer, Shown};
+use crate::first_values::first_wide;
+use crate::lists::{continuous_costs, continuous_sides, merged, new_numbers};
+use crate::rows::{RowsFault, rows_left};
+use cip_frac::Frac;
+use cip_lin::{Bounds, Row};
+use cip_model::{Place, Program, Verdict};
+use cip_simplex::{Lp, LpAnswer, solve_fully};
+use std::alloc::{AllocError, Global};
+
+/// The lists of a leaf's program.
+#[derive(Drop)]
+pub(crate) struct Parts {
+    pub(crate) rows: Vec<Row>,
+    pub(crate) bounds: Bounds,
+    pub(crate) costs: Vec<Frac>,
+}
+
+/// The lists of the program of a leaf; `Wide` names the first row whose fixed part overflows, or what a side leaves of
+/// it.
+fn parts_of_leaf(alloc: Global, program: &Program, leaf: &[Frac]) -> Result<Parts, RowsFault>
+    ensures { MatchResult result
+        (IsProgramOf program.now leaf.now)
+        (IsRowsFault program.now.rows (program_spec.merged program.now.integral leaf.now [])) }
+{
+    let whole = program.whole();
+    let point = merged(alloc, whole, leaf, &[])?;
+    let numbers = new_numbers(alloc, whole)?;
+    let rows = rows_left(
+        alloc,
+        program.rows(),
+        whole,
+        numbers.as_slice(),
+        point.as_slice(),
+    )?;
+    let bounds = continuous_sides(alloc, whole, program.bounds().as_slice())?;
+    let costs = continuous_costs(alloc, whole, program.costs())?;
+    Ok(Parts {
+        rows,
+        bounds,
+        costs,
+    })
+}
+
+/// The answer where the leaf's program ends in an optimum with these values; `Err` where memory was refused.
+fn optimum(
+    alloc: Global,
+    program: &Program,
+    leaf: &[Frac],
+    others: &[Frac],
+) -> Result<LeafAnswer, AllocError>
+    requires leaf { IsLeaf program.now leaf.now }
+    requires end { EndsInOptimum program.now leaf.now others.now }
+    ensures { IfOk result (IsLeafAnswer program.now leaf.now) }
+{
+    let point = merged(alloc, program.whole(), leaf, others)?;
+    match program.check(point.as_slice()) {
+        Verdict::Feasible(cost) => Ok(LeafAnswer::Best { point, cost }),
+        Verdict::Wide { place } => Ok(LeafAnswer::Wide {
+            shown: Shown::Place(place),
+        }),
+        _ => unreachable!(),
+    }
+}
+
+/// The first row whose sum along a ray overflows; the cost where none does.
+fn first_along(rows: &[Row], ray: &[Frac]) -> Place
+    requires few { length rows.now ≤ most_rows }
+    requires stand { All (λ row. StandsBelow (length ray.now) row.terms) rows.now }
+    ensures { IsFirstAlong rows.now ray.now result }
+{
+    for at in 0..rows.len() {
+        if rows[at].activity(ray).is_err() {
+            return Place::Row(at as u32);
+        }
+    }
+    Place::Cost
+}
+
+/// The answer where the leaf's program ends in a ray from these values; `Err` where memory was refused.
+fn endless(
+    alloc: Global,
+    program: &Program,
+    leaf: &[Frac],
+    others: &[Frac],
+    direction: &[Frac],
+) -> Result<LeafAnswer, AllocError>
+    requires leaf { IsLeaf program.now leaf.now }
+    requires end { EndsInRay program.now leaf.now others.now direction.now }
+    ensures { IfOk result (IsLeafAnswer program.now leaf.now) }
+{
+    let point = merged(alloc, program.whole(), leaf, others)?;
+    let ray = merged(alloc, program.whole(), &[], direction)?;
+    if let Verdict::Wide { place } = program.check(point.as_slice()) {
+        return Ok(LeafAnswer::Wide {
+            shown: Shown::Place(place),
+        });
+    }
+    if program.check_ray(point.as_slice(), ray.as_slice()) {
+        return Ok(LeafAnswer::Unbounded { point, ray });
+    }
+    Ok(LeafAnswer::Wide {
+        shown: Shown::Place(first_along(program.rows(), ray.as_slice())),
+    })
+}
+
+/// The answer where the leaf's program ends out of range after so many moves; `Err` where memory was refused.
+fn out_of_range(alloc: Global, parts: &Parts, moves: usize) -> Result<LeafAnswer, AllocError>
+    requires solvable { IsSolvable (record {
+      rows = parts.now.rows.items;
+      bounds = parts.now.bounds;
+      costs = parts.now.costs.items;
+    }) }
+    requires end { EndsOutOfRange (record {
+      rows = parts.now.rows.items;
+      bounds = parts.now.bounds;
+      costs = parts.now.costs.items;
+    }) moves }
+    ensures { IfOk result (IsWideAnswer (record {
+      rows = parts.now.rows.items;
+      bounds = parts.now.bounds;
+      costs = parts.now.costs.items;
+    })) }
+{
+    if moves > 0 {
+        return Ok(LeafAnswer::Wide {
+            shown: Shown::Moves(moves as u64),
+        });
+    }
+    let place = first_wide(
+        alloc,
+        parts.rows.as_slice(),
+        &parts.bounds,
+        parts.costs.as_slice(),
+    )?;
+    Ok(LeafAnswer::Wide {
+        shown: Shown::Place(place),
+    })
+}
+
+/// The answer on a leaf with this program; `Err` where memory was refused.
+fn answer_on(
+    alloc: Global,
+    program: &Program,
+    wholes: &[Frac],
+    parts: &Parts,
+) -> Result<LeafAnswer, AllocError>
+    requires leaf { IsLeaf program.now wholes.now }
+    requires formed { IsWellFormed program.now }
+    requires parts { IsProgramOf program.now wholes.now parts.now }
+    ensures { IfOk result (IsLeafAnswer program.now wholes.now) }
+{
+    let lp = Lp::new(parts.rows.as_slice(), &parts.bounds, parts.costs.as_slice());
+    match solve_fully(alloc, &lp)? {
+        LpAnswer::Optimal { point, .. } => optimum(alloc, program, wholes, point.as_slice()),
+        LpAnswer::Infeasible { .. } => Ok(LeafAnswer::NoPoint),
+        LpAnswer::Unbounded { point, ray } => {
+            endless(alloc, program, wholes, point.as_slice(), ray.as_slice())
+        }
+        LpAnswer::Wide { moves } => out_of_range(alloc, parts, moves.len()),
+        LpAnswer::Limit => unreachable!(),
+    }
+}
+
+/// What is known of a leaf of a program, given by its values, which are whole and lie within the bounds, one for each
+/// whole column by rising column: a point of least cost, that there is none, that the cost falls without end, or that
+/// the leaf is wide. `NoPoint` comes exactly where the leaf has no point and the answer isn't `Wide`; `Wide` comes only
+/// where the leaf is wide by what is shown. `Err` where memory was refused.
+pub fn leaf(alloc: Global, program: &Program, wholes: &[Frac]) -> Result<LeafAnswer, AllocError>
+    requires { IsLeaf program.now wholes.now }
+    ensures { IfOk result (IsLeafAnswer program.now wholes.now) }
+{
+    let _columns = program.columns();
+    match parts_of_leaf(alloc, program, wholes) {
+        Ok(parts) => answer_on(alloc, program, wholes, &parts),
+        Err(RowsFault::Wide(number)) => Ok(LeafAnswer::Wide {
+            shown: Shown::Place(Place::Row(number)),
+        }),
+        Err(RowsFault::NoMemory) => Err(AllocError),
+    }
+}

@@ -1,0 +1,11 @@
+//! The least cost of a leaf with continuous columns.
+#![tactic(auto)]
+
+mod answers;
+mod first_values;
+mod leaves;
+mod lists;
+mod rows;
+
+pub use answers::{LeafAnswer, Shown};
+pub use leaves::leaf;
