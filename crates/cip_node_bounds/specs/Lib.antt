@@ -1,0 +1,3 @@
+pub mod NodeRows
+pub mod Relaxing
+pub mod Telling

@@ -1,0 +1,243 @@
+//! The linear program of a node, solved and checked.
+ghost use Rattle.std.specs.Prelude.{◌≡◌, ◌++◌, ◌≤◌, length, IfOk, IfSome, MatchResult};
+ghost use Rattle.cip_rational.specs.Rational.{◌+ℚ◌};
+ghost use Rattle.cip_problem.specs.WellFormed.{columns};
+ghost use Rattle.cip_problem.specs.Activity.{StandsBelow};
+ghost use Rattle.cip_bland.specs.EndAnswers.{answer};
+ghost use Rattle.cip_bland.specs.Statements.{IsRight};
+ghost use Rattle.cip_simplex.specs.LpAnswers.{IsAnswer};
+ghost use Rattle.cip_cert.specs.Lent.{lent_of, multiples_of, Fits};
+ghost use Rattle.cip_node_bounds.specs.NodeRows.{usable_rows, usable_ids, BeginWith};
+ghost use Rattle.cip_node_bounds.specs.Relaxing.{most_moves, node_program, IsCostFault, IsOptimumFound, IsEmptinessFound, IsRelaxed};
+
+use crate::names::name_combo;
+use crate::rows::NodeRows;
+use cip_cert::{CutFault, Place, Rows, Scratch, empties, lower_bound};
+use cip_dictionary::Move;
+use cip_frac::Frac;
+use cip_lin::{Bounds, Combo, Row};
+use cip_model::Program;
+use cip_rows::RowPool;
+use cip_simplex::{Lp, LpAnswer, solve};
+use std::alloc::{AllocError, Global};
+
+// The most moves of the linear program of a node.
+const MOST_MOVES: u32 = 10_000;
+
+/// Why the linear program of a node shows nothing.
+#[derive(Debug, Drop)]
+pub enum Mark {
+    /// These moves, the last of which is out of range.
+    Wide { moves: Vec<Move> },
+    /// As many moves as are made lead to no end.
+    Limit,
+    /// This combination shows the optimum, or that there is no point, and the check refuses it, or its bound and the
+    /// constant have no sum in the range, which is `Wide` past the last entry.
+    Refused { combo: Combo, fault: CutFault },
+}
+
+/// What the linear program of a node came to.
+#[derive(Debug, Drop)]
+pub enum Relaxed {
+    /// A point of least cost, and that cost with the constant.
+    Bound {
+        point: Vec<Frac>,
+        bound: Frac,
+    },
+    /// A point from which the cost falls without end.
+    Falls {
+        point: Vec<Frac>,
+    },
+    /// There is no point.
+    Empty,
+    /// Nothing is shown, for this reason; with a point, if one was found.
+    Unsolved {
+        mark: Mark,
+        point: Option<Vec<Frac>>,
+    },
+}
+
+/// Solves a linear program of as few rows, at most so many as the limits of programs and pools allow.
+fn solved(
+    alloc: Global,
+    program: &Program,
+    pool: &RowPool,
+    rows: &[Row],
+    bounds: &Bounds,
+) -> Result<LpAnswer, AllocError>
+    requires rows { rows.now ≡ program.now.rows ++ usable_rows bounds.now pool.now.rows }
+    requires columns { length bounds.now ≡ columns program.now }
+    requires pool { length bounds.now ≡ pool.now.columns }
+    ensures answer { IfOk result (IsAnswer (answer most_moves (record {
+      rows = rows.now;
+      bounds = bounds.now;
+      costs = program.now.costs;
+    }))) }
+    ensures right { IsRight (record { rows = rows.now; bounds = bounds.now; costs = program.now.costs })
+        (answer most_moves (record { rows = rows.now; bounds = bounds.now; costs = program.now.costs })) }
+{
+    let _columns = program.columns();
+    let _rows = pool.rows();
+    let lp = Lp::new(rows, bounds, program.costs());
+    solve(alloc, &lp, MOST_MOVES)
+}
+
+/// The cost of an optimum with the constant, where the check accepts its combination and the sum is in the range.
+fn checked_cost(
+    rows: &Rows<'_>,
+    program: &Program,
+    bounds: &Bounds,
+    combo: &Combo,
+    cost: Frac,
+    scratch: &mut Scratch,
+) -> Result<Frac, CutFault>
+    requires fits { Fits (length bounds.now) (lent_of rows.now) }
+    requires room { length bounds.now ≤ length scratch.old.row.entries }
+    requires columns { length bounds.now ≡ columns program.now }
+    ensures bound { MatchResult result (λ bound. bound ≡ program.now.constant +ℚ cost)
+        (IsCostFault program.now (lent_of rows.entry.now) bounds.now (length scratch.old.row.entries)
+        (multiples_of combo.now) cost) }
+    ensures room { length scratch.new.row.entries ≡ length scratch.old.row.entries }
+{
+    if let Err(fault) = lower_bound(rows, bounds, program.costs(), combo, scratch) {
+        return Err(fault);
+    }
+    match program.constant().add(cost) {
+        Ok(bound) => Ok(bound),
+        Err(_) => Err(CutFault::Wide {
+            place: Place::Entry(combo.rows.len() + combo.lows.len() + combo.highs.len()),
+        }),
+    }
+}
+
+/// What an optimum comes to.
+fn of_optimum(
+    rows: &Rows<'_>,
+    program: &Program,
+    bounds: &Bounds,
+    point: Vec<Frac>,
+    combo: Combo,
+    cost: Frac,
+    scratch: &mut Scratch,
+) -> Relaxed
+    requires fits { Fits (length bounds.now) (lent_of rows.now) }
+    requires room { length bounds.now ≤ length scratch.old.row.entries }
+    requires columns { length bounds.now ≡ columns program.now }
+    requires found { IsOptimumFound program.now (lent_of rows.now) bounds.now point.items combo cost }
+    ensures relaxed { IsRelaxed program.now (lent_of rows.entry.now) bounds.now (length scratch.old.row.entries) result }
+    ensures room { length scratch.new.row.entries ≡ length scratch.old.row.entries }
+{
+    match checked_cost(rows, program, bounds, &combo, cost, scratch) {
+        Ok(bound) => Relaxed::Bound { point, bound },
+        Err(fault) => Relaxed::Unsolved {
+            mark: Mark::Refused { combo, fault },
+            point: Some(point),
+        },
+    }
+}
+
+/// What it comes to that there is no point.
+fn of_no_point(
+    rows: &Rows<'_>,
+    program: &Program,
+    bounds: &Bounds,
+    combo: Combo,
+    scratch: &mut Scratch,
+) -> Relaxed
+    requires fits { Fits (length bounds.now) (lent_of rows.now) }
+    requires room { length bounds.now ≤ length scratch.old.row.entries }
+    requires columns { length bounds.now ≡ columns program.now }
+    requires found { IsEmptinessFound program.now (lent_of rows.now) bounds.now combo }
+    ensures relaxed { IsRelaxed program.now (lent_of rows.entry.now) bounds.now (length scratch.old.row.entries) result }
+    ensures room { length scratch.new.row.entries ≡ length scratch.old.row.entries }
+{
+    match empties(rows, bounds, &combo, scratch) {
+        Ok(()) => Relaxed::Empty,
+        Err(fault) => Relaxed::Unsolved {
+            mark: Mark::Refused { combo, fault },
+            point: None,
+        },
+    }
+}
+
+/// What an answer comes to.
+fn judged(
+    rows: &Rows<'_>,
+    program: &Program,
+    ids: &[u64],
+    bounds: &Bounds,
+    found: LpAnswer,
+    scratch: &mut Scratch,
+) -> Relaxed
+    requires fits { Fits (length bounds.now) (lent_of rows.now) }
+    requires room { length bounds.now ≤ length scratch.old.row.entries }
+    requires columns { length bounds.now ≡ columns program.now }
+    requires ids { ids.now ≡ usable_ids bounds.now rows.now.pool.now }
+    requires answer { IsAnswer (answer most_moves (node_program program.now (lent_of rows.now) bounds.now)) found }
+    requires right { IsRight (node_program program.now (lent_of rows.now) bounds.now)
+        (answer most_moves (node_program program.now (lent_of rows.now) bounds.now)) }
+    ensures relaxed { IsRelaxed program.now (lent_of rows.entry.now) bounds.now (length scratch.old.row.entries) result }
+    ensures room { length scratch.new.row.entries ≡ length scratch.old.row.entries }
+{
+    let own = program.rows().len();
+    match found {
+        LpAnswer::Optimal {
+            point,
+            mut combo,
+            cost,
+        } => {
+            name_combo(own, ids, &mut combo);
+            of_optimum(rows, program, bounds, point, combo, cost, scratch)
+        }
+        LpAnswer::Infeasible { mut combo } => {
+            name_combo(own, ids, &mut combo);
+            of_no_point(rows, program, bounds, combo, scratch)
+        }
+        LpAnswer::Unbounded { point, ray: _ } => Relaxed::Falls { point },
+        LpAnswer::Wide { moves } => Relaxed::Unsolved {
+            mark: Mark::Wide { moves },
+            point: None,
+        },
+        LpAnswer::Limit => Relaxed::Unsolved {
+            mark: Mark::Limit,
+            point: None,
+        },
+    }
+}
+
+/// Solves the linear program of a node over the rows of the program and those of the pool that may be used in its box,
+/// with at most 10,000 moves, and checks what that shows. `Bound` comes with a point of least cost and that cost with
+/// the constant, where the check accepts its combination; `Empty` where there is no point, and the check accepts that;
+/// `Falls` where the cost falls without end from a point; and `Unsolved` with its mark in all other cases. `Err` comes
+/// where memory was refused. The rows keep those of the program in front.
+pub fn relax(
+    alloc: Global,
+    program: &Program,
+    pool: &RowPool,
+    cutoff: &Option<Row>,
+    bounds: &Bounds,
+    rows: &mut NodeRows,
+    scratch: &mut Scratch,
+) -> Result<Relaxed, AllocError>
+    requires own { BeginWith program.now rows.old.rows.items }
+    requires columns { length bounds.now ≡ columns program.now }
+    requires pool { length bounds.now ≡ pool.now.columns }
+    requires cutoff { IfSome cutoff.now (λ row. StandsBelow (length bounds.now) row.terms) }
+    requires room { length bounds.now ≤ length scratch.old.row.entries }
+    ensures relaxed { IfOk result (IsRelaxed program.now
+        (record { own = program.now.rows; pool = pool.now.rows; cutoff = cutoff.now }) bounds.now
+        (length scratch.old.row.entries)) }
+    ensures own { BeginWith program.now rows.new.rows.items }
+    ensures room { length scratch.new.row.entries ≡ length scratch.old.row.entries }
+{
+    let _columns = program.columns();
+    rows.gather(alloc, program, pool, bounds)?;
+    let found = solved(alloc, program, pool, rows.rows.as_slice(), bounds)?;
+    let lent = Rows {
+        own: program.rows(),
+        pool: pool.rows(),
+        cutoff,
+        whole: program.whole(),
+    };
+    Ok(judged(&lent, program, rows.ids.as_slice(), bounds, found, scratch))
+}
