@@ -1,11 +1,11 @@
 -- What the text of an answer tells.
 --     answer_text_injective      it determines the figures
 --     answer_text-usage, -read_fault, -no_memory, -refusal      it is none of the texts that have no figures
-use Rattle.std.specs.Prelude.{◌≡◌, ◌≢◌, ◌==◌, ◌||◌, ℕ, Bool, true, false, List, [], ◌∷◌, ◌++◌, length, Option, None, Some, IfSome}
+use Rattle.std.specs.Prelude.{◌≡◌, ◌≢◌, ◌==◌, ◌||◌, ℕ, Bool, true, false, List, [], ◌∷◌, ◌++◌, length, Option, None, Some, IfSome, All}
 use Rattle.std.specs.List.{AllByRecursion}
 use Rattle.std.proofs.Common.{refl, sym, ap, ◌∙◌, arith, append_assoc, if◌then◌else◌, map, get_or}
 use Rattle.std.proofs.lemmas.List.{append_cancel_right, length-map}
-use Rattle.std.proofs.lemmas.List.Elements.{recursion_from_All}
+use Rattle.std.proofs.lemmas.List.Elements.{All-from_recursion, recursion_from_All}
 use Rattle.std.proofs.lemmas.Bool.{eqb-false, false≢true}
 use Rattle.std.specs.Str.{bytes_eq}
 use lib.Chars.{codes}
@@ -357,3 +357,16 @@ pub answer_text-refusal :
 answer_text-refusal names figures text number kind e =
     let first = status_first names figures (codes "refused") _ refl (e ∙ refusal_parts text number kind) in
     not_refused figures.status first.0
+
+-- a refusal says `refused`, and so has none of the texts of other words
+not_refusal : (text number kind word : List ℕ) → has_feed word ≡ false → bytes_eq (codes "refused") word ≡ false → bytes_eq word word ≡ true → refusal_text text number kind ≢ line (codes "status") word ++ end_line
+not_refusal text number kind word test differ same e =
+    let words = line_parted (codes "status") (codes "refused") word _ _ (HasNoFeed-from_test (codes "refused") refl) (HasNoFeed-from_test word test) (sym (refusal_parts text number kind) ∙ e) in
+    apart (codes "refused") word differ same words.0
+
+pub refused_apart : (text number kind : List ℕ) → All (λ other. refusal_text text number kind ≢ other) (usage_text ∷ read_fault_text ∷ no_memory_text ∷ [])
+refused_apart text number kind =
+    All-from_recursion (λ other. refusal_text text number kind ≢ other) (usage_text ∷ read_fault_text ∷ no_memory_text ∷ []) (
+      not_refusal text number kind (codes "usage") refl refl refl,
+      (not_refusal text number kind (codes "readfault") refl refl refl, (not_refusal text number kind (codes "nomemory") refl refl refl, tt)),
+    )

@@ -8,7 +8,7 @@ use Rattle.cip_rational.specs.Gcd.{gcd}
 use Rattle.cip_rational.specs.Rational.{integer, ratio, numerator, denominator}
 use Rattle.cip_rational.proofs.Rational.Lowest.{numerator-integer, denominator-integer, numerator-ratio, denominator-ratio}
 use Rattle.cip_numerals.specs.NumberText.{integer_text, denominator_text, fraction_text}
-use Rattle.cip_answers.specs.Figures.{Optimal, NodeLimit, Wide, AtRow, answer_text, usage_text, read_fault_text, no_memory_text, not_thin_text}
+use Rattle.cip_answers.specs.Figures.{Optimal, NodeLimit, Wide, AtRow, answer_text, usage_text, read_fault_text, no_memory_text}
 use Rattle.cip_answers.specs.Statements.{same_names}
 use Rattle.cip_answers.proofs.AnswerTexts.{apart}
 
@@ -69,36 +69,22 @@ pub wide :
     ≡ codes "status wide\ncost -17\nbound -18\nx 17\nleaf x 18\noverflow row R1\nend\n"
 wide = simp integer_figure
 
-after_usage : All (λ other. usage_text ≢ other) (read_fault_text ∷ no_memory_text ∷ not_thin_text ∷ [])
+after_usage : All (λ other. usage_text ≢ other) (read_fault_text ∷ no_memory_text ∷ [])
 after_usage =
-    All-from_recursion (λ other. usage_text ≢ other) (read_fault_text ∷ no_memory_text ∷ not_thin_text ∷ []) (
-      apart usage_text read_fault_text refl refl,
-      (apart usage_text no_memory_text refl refl, (apart usage_text not_thin_text refl refl, tt)),
-    )
+    All-from_recursion (λ other. usage_text ≢ other) (read_fault_text ∷ no_memory_text ∷ [])
+    (apart usage_text read_fault_text refl refl, (apart usage_text no_memory_text refl refl, tt))
 
-after_read_fault : All (λ other. read_fault_text ≢ other) (no_memory_text ∷ not_thin_text ∷ [])
+after_read_fault : All (λ other. read_fault_text ≢ other) (no_memory_text ∷ [])
 after_read_fault =
-    All-from_recursion (λ other. read_fault_text ≢ other) (no_memory_text ∷ not_thin_text ∷ []) (
-      apart read_fault_text no_memory_text refl refl,
-      (apart read_fault_text not_thin_text refl refl, tt),
-    )
-
-after_no_memory : All (λ other. no_memory_text ≢ other) (not_thin_text ∷ [])
-after_no_memory =
-    All-from_recursion (λ other. no_memory_text ≢ other) (not_thin_text ∷ []) (
-      apart no_memory_text not_thin_text refl refl,
-      tt,
-    )
+    All-from_recursion (λ other. read_fault_text ≢ other) (no_memory_text ∷ []) (apart read_fault_text no_memory_text refl refl, tt)
 
 abbrev Differ : List ℕ → List ℕ → Type 0
 Differ text other = text ≢ other
 
 -- no two of the texts without figures are the same
-pub fixed_texts_differ :
-    AllPairs (λ text other. text ≢ other) (usage_text ∷ read_fault_text ∷ no_memory_text ∷ not_thin_text ∷ [])
+pub fixed_texts_differ : AllPairs (λ text other. text ≢ other) (usage_text ∷ read_fault_text ∷ no_memory_text ∷ [])
 fixed_texts_differ =
-    AllPairs-cons Differ usage_text (read_fault_text ∷ no_memory_text ∷ not_thin_text ∷ []) after_usage
-    (AllPairs-cons Differ read_fault_text (no_memory_text ∷ not_thin_text ∷ []) after_read_fault
-    (AllPairs-cons Differ no_memory_text (not_thin_text ∷ []) after_no_memory
-    (AllPairs-cons Differ not_thin_text [] (All-from_recursion (Differ not_thin_text) [] tt)
-    (λ i j d below within. absurd (omega arith)))))
+    AllPairs-cons Differ usage_text (read_fault_text ∷ no_memory_text ∷ []) after_usage
+    (AllPairs-cons Differ read_fault_text (no_memory_text ∷ []) after_read_fault
+    (AllPairs-cons Differ no_memory_text [] (All-from_recursion (Differ no_memory_text) [] tt)
+    (λ i j d below within. absurd (omega arith))))

@@ -160,7 +160,3 @@ abbrev pub refusal_text : List ℕ → List ℕ → List ℕ → List ℕ
 refusal_text text number kind =
     line (codes "status") (codes "refused") ++ line (codes "text") text ++ line (codes "line") number
     ++ line (codes "kind") kind ++ end_line
-
--- what is said of a text that is not thin
-abbrev pub not_thin_text : List ℕ
-not_thin_text = refusal_text (codes "model") (codes "1") (codes "21 OutOfProfile")

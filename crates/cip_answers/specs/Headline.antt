@@ -1,11 +1,9 @@
--- When the figures of an answer are true of a program: what is printed can be relied on.
-use Rattle.std.specs.Prelude.{◌≡◌, ℕ, Bool, true, false, List, None, Some, IfSome, option_map, length}
+-- What true figures say of a program, one by one: the point, the bound, and that both agree.
+use Rattle.std.specs.Prelude.{◌≡◌, Bool, true, false, List, Some}
 use Rattle.cip_rational.specs.Rational.{ℚ, ◌<ℚ◌}
 use Rattle.cip_problem.specs.Program.{Program}
 use Rattle.cip_problem.specs.Points.{IsFeasible, cost_of, printed}
-use Rattle.cip_problem.specs.BoxBound.{box_bound}
-use Rattle.cip_problem.specs.Log.{Entry, IsLog, HasOpenNode}
-use Rattle.cip_answers.specs.Figures.{Optimal, NodeLimit, Figures, Held}
+use Rattle.cip_answers.specs.Figures.{Figures, Held}
 
 -- a printed cost is better than another: it is more where the program maximises, and less where it minimises
 abbrev pub IsBetter : (maximized : Bool) → ℚ → ℚ → Type 0
@@ -26,30 +24,8 @@ abbrev pub IsTrueBound : Program → ℚ → Type 0
 IsTrueBound program bound =
     (point : List ℚ) → IsFeasible program point → ¬ IsBetter program.maximized (printed_cost program point) bound
 
--- the printed bound is not better than the box bound
-abbrev pub IsAtMostBox : Program → ℚ → Type 0
-IsAtMostBox program bound =
-    IfSome (box_bound program program.bounds) (λ least. ¬ IsBetter program.maximized bound (printed program least))
-
 -- the printed cost and the printed bound are equal
 pub record Agree (figures : Figures) : Type 0 where
   pub held : Held
   pub is_held : figures.held ≡ Some held
   pub bound : figures.bound ≡ Some held.cost
-
--- the node budget is spent: the search's log has as many entries, and an open node matters
-pub record IsSpent (program : Program) (node_limit : ℕ) (log : List Entry) (figures : Figures) : Type 0 where
-  pub full : length log ≡ node_limit
-  pub matter : HasOpenNode program log (option_map (λ held. cost_of program held.point) figures.held)
-
--- the figures are true of a program, beside the log of the search within a node budget
-pub record AreTrue (program : Program) (node_limit : ℕ) (log : List Entry) (figures : Figures) : Type 0 where
-  pub point : IfSome figures.held (IsTruePoint program)
-  pub bound : IfSome figures.bound (IsTrueBound program)
-  pub at_most_box : IfSome figures.bound (IsAtMostBox program)
-  -- a bound is left out only where the box bound has no value
-  pub no_bound : figures.bound ≡ None → box_bound program program.bounds ≡ None
-  pub agree : figures.status ≡ Optimal → Agree figures
-  pub spent : figures.status ≡ NodeLimit → IsSpent program node_limit log figures
-  pub unspent : figures.status ≡ Optimal → ¬ IsSpent program node_limit log figures
-  pub logged : IsLog program log

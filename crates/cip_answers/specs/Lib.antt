@@ -1,4 +1,3 @@
-pub mod CommandLine
 pub mod Figures
 pub mod Headline
 pub mod Statements

@@ -1,10 +1,9 @@
 -- The laws of the texts, each as one statement, and the definitions at values: functions of `src/lib.rt` have them as
 -- contracts.
 use lib.Chars.{codes}
-use Rattle.std.specs.Prelude.{◌≡◌, ◌≢◌, ℕ, pos, negsuc, List, [], ◌∷◌, AllPairs, None, Some}
+use Rattle.std.specs.Prelude.{◌≡◌, ◌≢◌, ℕ, pos, negsuc, List, [], ◌∷◌, All, AllPairs, None, Some}
 use Rattle.cip_rational.specs.Rational.{integer, ratio}
-use Rattle.cip_answers.specs.Figures.{Optimal, NodeLimit, Figures, FitNames, Names, Infeasible, Wide, AtRow, answer_text, usage_text, read_fault_text, no_memory_text, refusal_text, not_thin_text}
-use Rattle.cip_answers.specs.CommandLine.{Solve, job_of}
+use Rattle.cip_answers.specs.Figures.{Optimal, NodeLimit, Figures, FitNames, Names, Infeasible, Wide, AtRow, answer_text, usage_text, read_fault_text, no_memory_text, refusal_text}
 
 -- two figures with one text, for one list of names, are the same
 abbrev pub AnswerTellsFigures : Type 0
@@ -21,8 +20,10 @@ pub record FixedTextsStandApart : Type 0 where
   pub refusal :
       (names : Names) (figures : Figures) (text number kind : List ℕ)
       → answer_text names figures ≢ refusal_text text number kind
-  pub differ :
-      AllPairs (λ text other. text ≢ other) (usage_text ∷ read_fault_text ∷ no_memory_text ∷ not_thin_text ∷ [])
+  pub differ : AllPairs (λ text other. text ≢ other) (usage_text ∷ read_fault_text ∷ no_memory_text ∷ [])
+  pub refused :
+      (text number kind : List ℕ)
+      → All (λ other. refusal_text text number kind ≢ other) (usage_text ∷ read_fault_text ∷ no_memory_text ∷ [])
 
 -- the names of columns that are all whole
 abbrev pub same_names : List (List ℕ) → Names
@@ -65,10 +66,3 @@ pub record Examples : Type 0 where
       })
       ≡ codes "status wide\ncost -17\nbound -18\nx 17\nleaf x 18\noverflow row R1\nend\n"
   pub usage : usage_text ≡ codes "status usage\nend\n"
-  pub not_thin : not_thin_text ≡ codes "status refused\ntext model\nline 1\nkind 21 OutOfProfile\nend\n"
-  pub solve : job_of (codes "solve" ∷ codes "m" ∷ []) ≡ Some (Solve (codes "m"))
-  pub no_name : job_of (codes "solve" ∷ []) ≡ None
-  pub option : job_of (codes "solve" ∷ codes "-m" ∷ []) ≡ None
-  pub two_names : job_of (codes "solve" ∷ codes "m" ∷ codes "n" ∷ []) ≡ None
-  pub other_command : job_of (codes "check" ∷ codes "m" ∷ []) ≡ None
-  pub no_words : job_of [] ≡ None

@@ -1,5 +1,5 @@
-//! The words that come in and the answers that go out: command lines, figures, the texts of answers, and when figures
-//! are true. The contracts of the crates above speak of these definitions; `specs/` holds them.
+//! The answers that go out: figures, the texts of answers, and what true figures say. The contracts of the crates above
+//! speak of these definitions; `specs/` holds them.
 // Each function here does nothing. Its contract is one of the laws of the definitions, so that the check proves it.
 #![tactic(auto)]
 
@@ -12,14 +12,13 @@ pub fn answer_tells_figures()
     ensures { AnswerTellsFigures }
 {}
 
-/// No answer has the text of bad usage, of a read fault, of refused memory or of any refusal, and no two of these
-/// texts (of refusals that of a text that is not thin) are the same.
+/// No answer has the text of bad usage, of a read fault, of refused memory or of any refusal; no two of the first three
+/// texts are the same, and no refusal has one of them.
 pub fn fixed_texts_stand_apart()
     ensures { FixedTextsStandApart }
 {}
 
-/// Five answers, bad usage and a text that is not thin have these texts, and of six lists of words only `solve` with
-/// one name that is no option asks for a job.
+/// Five answers and bad usage have these texts.
 pub fn examples()
     ensures { Examples }
 {}

@@ -1,3 +1,1 @@
-mod Tried
 pub mod Cuts
-pub mod ThinText

@@ -1,4 +1,2 @@
 pub mod Lines
-pub mod TextExamples
 pub mod TextStatements
-pub mod ThinText

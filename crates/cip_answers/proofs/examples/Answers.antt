@@ -10,11 +10,4 @@ returns c = record {
   infeasible = refl;
   wide = tried.wide;
   usage = refl;
-  not_thin = refl;
-  solve = refl;
-  no_name = refl;
-  option = refl;
-  two_names = refl;
-  other_command = refl;
-  no_words = refl;
 }

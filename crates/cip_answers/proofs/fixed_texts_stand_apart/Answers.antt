@@ -1,4 +1,4 @@
-use Rattle.cip_answers.proofs.AnswerTexts.{answer_text-usage, answer_text-read_fault, answer_text-no_memory, answer_text-refusal}
+use Rattle.cip_answers.proofs.AnswerTexts.{answer_text-usage, answer_text-read_fault, answer_text-no_memory, answer_text-refusal, refused_apart}
 use Rattle.cip_answers.proofs.Tried as tried
 use Rattle.cip_answers.proofs.fixed_texts_stand_apart.Goals as goal
 
@@ -9,4 +9,5 @@ returns c = record {
   no_memory = answer_text-no_memory;
   refusal = answer_text-refusal;
   differ = tried.fixed_texts_differ;
+  refused = refused_apart;
 }

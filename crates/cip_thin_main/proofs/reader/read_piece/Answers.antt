@@ -1,9 +1,0 @@
-use Rattle.std.proofs.Common.{◌≡◌, ◌≤◌, length, arith, rules}
-use Rattle.cip_thin_main.proofs.Readings.{reads_piece}
-use Rattle.cip_thin_main.proofs.reader.read_piece.Goals as goal
-
-pub returns-clause-read : goal.returns-clause-read
-returns-clause-read g c = λ chosen pulled r.
-    let same : length c.pull.new.into ≡ length c.args.buffer.now = search rules in
-    let within : c.in_ok-count.count ≤ length c.pull.new.into = omega (arith, same, c.in_ok-count.ensures.left.within) in
-    reads_piece _ _ chosen _ _ _ _ pulled c.in_ok-count.count r within c.in_ok-count.ensures.left c.in_ok-count.ensures.faults.0 (c.in_ok-take_piece.ensures r.bytes r.has_read)
