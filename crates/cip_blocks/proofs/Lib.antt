@@ -1,0 +1,4 @@
+pub mod BlockAnswers
+pub mod EndLaws
+pub mod EndedTexts
+pub mod WordLaws

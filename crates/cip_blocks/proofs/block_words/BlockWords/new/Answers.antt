@@ -1,0 +1,17 @@
+use Rattle.std.proofs.Common.{◌≡◌, ap, ◌∙◌, map, length, None}
+use Rattle.std.specs.Prelude.{replicate}
+use Rattle.std.specs.List.{list_all}
+use Rattle.cip_block_rules.specs.BlockWords as text
+use Rattle.cip_block_steps.specs.BlockSteps as steps
+use Rattle.cip_blocks.specs.WordPlaces.{row_shown, block_of, is_below}
+use Rattle.cip_blocks.proofs.WordLaws.{none_named, all_unnamed}
+use Rattle.cip_blocks.proofs.block_words.BlockWords.new.Goals as goal
+
+pub invariant_of-result-clause-below : goal.invariant_of-result-clause-below
+invariant_of-result-clause-below c = ap (list_all (λ row. is_below 0 (block_of row))) c.in_ok-rows.ensures ∙ all_unnamed 0 c.len.result
+
+pub returns-clause-state : goal.returns-clause-state
+returns-clause-state c =
+    let rows : map row_shown c.in_ok-rows.rows.items ≡ replicate _ steps.Unnamed =
+    ap (map row_shown) c.in_ok-rows.ensures ∙ none_named c.len.result ∙ ap (λ n. replicate n steps.Unnamed) (c.len.ensures ∙ ap (λ names. length names) c.row_names.ensures.names) in
+    λ i. record { place = text.KeywordDue; count = None; begun = c.new.ensures.items i; rows = rows i }

@@ -1,0 +1,32 @@
+use Rattle.std.proofs.Common.{◌≡◌, ◌<◌, Some, ap, sym, ◌∙◌, arith, length, false}
+use Rattle.std.specs.Prelude.{unwrap_or}
+use Rattle.cip_problem.specs.Names.{number_of}
+use Rattle.cip_mps_rules.specs.MpsWords.{number_in}
+use Rattle.cip_block_steps.specs.BlockSteps.{put_row, place_of, is_placed}
+use Rattle.cip_blocks.specs.declared.word_places.RowPlace.TheVariants.{Named}
+use Rattle.cip_blocks.specs.WordPlaces.{place_shown, row_shown, block_of, is_below, is_sound_place}
+use Rattle.cip_blocks.specs.BlockWordsRead.{program_of, state_of}
+use Rattle.cip_blocks.proofs.WordLaws.{all_set, row_at, shown_set, name_kind}
+use Rattle.cip_blocks.proofs.block_words.BlockWords.take_name.Goals as goal
+
+pub invariant_of-self-clause-below : goal.invariant_of-self-clause-below
+invariant_of-self-clause-below c =
+    let words = c.args.self.now in
+    all_set (λ row. is_below (unwrap_or words.count 0) (block_of row)) words.rows.items c.in-Some.number (Named c.args.block) words.below (ap (is_sound_place words.count) (sym c.requires) ∙ words.placed)
+
+pub returns-clause-taken : goal.returns-clause-taken
+returns-clause-taken c =
+    let words = c.args.self.now in
+    let program = program_of words in
+    let name = c.args.name.now in
+    let number = c.in-Some.number in
+    let known : number_in program.row_names name ≡ Some number =
+    c.numbers_are_of_names.ensures program.row_names name ∙ ap (λ names. number_of names name) (sym c.row_names.ensures.names) ∙ sym c.in-Some.ensures.number in
+    let below : number < length words.rows.items = omega (arith, c.in-Some.ensures.within, words.rows_sized, words.rows.ok.0, ap length c.row_names.ensures.names) in
+    let free : is_placed (row_shown c.index.result.now) ≡ false = sym c.if-is_named.ensures in
+    record {
+      is_kind = name_kind program (state_of words) c.args.block name number (c.block_words_have_tests.ensures.name program (state_of words) c.args.block name) known (ap is_placed (row_at words.rows.items number c.index.result.now below c.index.ensures) ∙ free);
+      taken = λ e.
+          let rows = shown_set words.rows.items number (Named c.args.block) ∙ ap (λ o. put_row (state_of words).rows o (place_of c.args.block)) (sym known) in
+          λ i. record { place = ap place_shown c.requires i; count = words.count; begun = words.begun.items; rows = rows i };
+    }

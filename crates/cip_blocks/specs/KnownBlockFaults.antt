@@ -1,0 +1,10 @@
+-- Faults that are known before a text of blocks ends.
+use Rattle.cip_problem.specs.Program.{Program}
+use Rattle.cip_line_stream.specs.EndedFaults.{KnownFaultsStay}
+use Rattle.cip_parts.specs.NamesOnce.{StandOnce}
+use Rattle.cip_block_rules.specs.BlockRules.{block_reading}
+
+-- a known fault is that of the text with whatever follows, and stays known
+abbrev pub KnownBlockFaultsStay : Type 0
+KnownBlockFaultsStay =
+    (program : Program) → StandOnce program.row_names → KnownFaultsStay (block_reading program)

@@ -1,0 +1,12 @@
+pub mod BlockKinds
+pub mod BlockReaders
+pub mod BlockTexts
+pub mod BlockWordsRead
+pub mod EndedBlocks
+pub mod Endings
+pub mod Keywords
+pub mod KnownBlockFaults
+pub mod OpenColumns
+pub mod OwnersKept
+pub mod SmallNumbers
+pub mod WordPlaces

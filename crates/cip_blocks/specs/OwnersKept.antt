@@ -1,0 +1,7 @@
+-- The blocks of columns, as the code keeps them.
+use Rattle.cip_block_steps.specs.BlockOwners as plain
+use Rattle.cip_blocks.specs.declared.owners.Owners.{Owners}
+
+-- the owners
+abbrev pub owners_shown : Owners → plain.Owners
+owners_shown owners = record { blocks = owners.blocks.items; links = owners.links }

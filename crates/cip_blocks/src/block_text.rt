@@ -1,0 +1,181 @@
+//! A text of blocks, in whatever pieces it comes.
+ghost use Rattle.std.specs.Prelude.{◌≡◌, ◌+◌, ◌<◌, ◌≤◌, ◌∷◌, ◌++◌, [], ℕ, List, length, true, false, IfSome, OnOk, IfOk, MatchResult, fold};
+ghost use Rattle.std.specs.List.{list_any};
+ghost use Rattle.cip_problem.specs.Limits.{longest_text};
+ghost use Rattle.cip_syntax.specs.Lines.{is_line_feed};
+ghost use Rattle.cip_line_texts.specs.LineTexts.{HasResult};
+ghost use Rattle.cip_line_texts.specs.LineStream.{Stream, byte_read, stream_of};
+ghost use Rattle.cip_line_stream.specs.PieceFaults.{has_kind_to};
+ghost use Rattle.cip_line_stream.specs.PieceCuts.{no_bytes, cut_of, known_fault, end_fault};
+ghost use Rattle.cip_line_stream.specs.PieceStands.{IsRead, IsLastRead};
+ghost use Rattle.cip_parts.specs.NamesOnce.{StandOnce};
+ghost use Rattle.cip_block_rules.specs.BlockRules.{block_reading};
+ghost use Rattle.cip_block_steps.specs.BlockSteps.{BlockState, no_state};
+ghost use Rattle.cip_blocks.specs.Endings.{IsEnding};
+
+use crate::block_words::BlockWords;
+use crate::ending::Ending;
+use crate::faults::{BlockFault, ReadFault};
+use cip_block_steps::blocks_are_read;
+use cip_line_stream::{KnownFault, Pieces, cut_line};
+use cip_model::{Blocks, Program};
+use std::alloc::{AllocError, Global};
+
+/// The number of the kind of a text that is too long.
+const TOO_LONG: u32 = 9;
+
+/// A text of blocks as far as it came.
+#[derive(Debug, Drop)]
+pub(crate) struct BlockText<'a> {
+    pub(crate) pieces: Pieces,
+    pub(crate) words: BlockWords<'a>,
+    ghost kinds: { has_kind_to 9 (cut_of pieces).fault ≡ true },
+}
+
+impl<'a> BlockText<'a> {
+    ghost use Rattle.cip_blocks.specs.BlockTexts.{kept_of, state_of, program_of, steps_of, StandsFor};
+    ghost use Rattle.cip_blocks.specs.EndedBlocks.{IsFaultOf, IsEnded};
+
+    /// Before the first byte.
+    pub(crate) fn new(alloc: Global, program: &'a Program) -> Result<BlockText<'a>, AllocError>
+        ensures kept { IfOk result (λ text. kept_of text ≡ no_bytes) }
+        ensures program { IfOk result (λ text. program_of text ≡ program.now) }
+        ensures state { IfOk result (λ text. state_of text ≡ no_state program.now) }
+    {
+        let words = BlockWords::new(alloc, program)?;
+        Ok(BlockText {
+            pieces: Pieces::new(alloc),
+            words,
+        })
+    }
+
+    /// Reads the line that has not ended, and says the kind of its fault, if it has one.
+    fn read_unread(&mut self) -> Result<Option<u32>, AllocError>
+        ensures read { IfOk result
+            (IsRead (steps_of self.old) (kept_of self.old) (state_of self.old) (state_of self.new)) }
+        ensures kept { kept_of self.new ≡ kept_of self.old }
+        ensures same { program_of self.new ≡ program_of self.old }
+        ensures kinds { IfOk result (λ kind. IfSome kind (λ k. (0 < k) × (k ≤ 9))) }
+    {
+        match self.pieces.unread() {
+            None => Ok(None),
+            Some(line) => self.words.take_line(line),
+        }
+    }
+
+    /// Takes the last bytes of a line, and the line feed behind them.
+    fn end_line(&mut self, tail: &[u8]) -> Result<(), AllocError>
+        requires no_feed { list_any is_line_feed tail.now ≡ false }
+        requires few { (kept_of self.old).size + length tail.now ≤ longest_text }
+        ensures reads { (s : Stream BlockState) → StandsFor self.old s
+            → OnOk result (StandsFor self.new (fold (byte_read (steps_of self.old)) s (tail.now ++ 10 ∷ []))) }
+        ensures size { OnOk result ((kept_of self.new).size ≡ (kept_of self.old).size + length tail.now + 1) }
+        ensures same { program_of self.new ≡ program_of self.old }
+    {
+        self.pieces.keep(tail)?;
+        let kind = self.read_unread()?;
+        self.pieces.end_line(kind);
+        Ok(())
+    }
+
+    /// Takes bytes of the text that are looked at.
+    fn take_bytes(&mut self, bytes: &[u8]) -> Result<(), AllocError>
+        requires { (kept_of self.old).size + length bytes.now ≤ longest_text + 1 }
+        ensures reads { (s : Stream BlockState) → StandsFor self.old s
+            → OnOk result (StandsFor self.new (fold (byte_read (steps_of self.old)) s bytes.now)) }
+        ensures same { program_of self.new ≡ program_of self.old }
+    {
+        let mut rest = bytes;
+        while let Some((tail, behind)) = cut_line(rest) {
+            self.end_line(tail)?;
+            rest = behind;
+        }
+        self.pieces.keep(rest)
+    }
+
+    /// Takes one more piece of the text.
+    pub(crate) fn take(&mut self, piece: &[u8]) -> Result<(), AllocError>
+        ensures reads { (text : List ℕ) → StandsFor self.old (stream_of (steps_of self.old) text)
+            → OnOk result (StandsFor self.new (stream_of (steps_of self.old) (text ++ piece.now))) }
+        ensures same { program_of self.new ≡ program_of self.old }
+    {
+        let looked = self.pieces.looked_at(piece);
+        self.take_bytes(looked)
+    }
+
+    /// No name of the program's rows stands twice.
+    pub(crate) fn names_stand_once(&self)
+        ensures { StandOnce (program_of self.now).row_names }
+    {
+        self.words.program.row_names().stand_once();
+    }
+
+    /// The fault at a line that has ended.
+    pub(crate) fn known_fault(&self) -> Option<KnownFault>
+        ensures fault { result ≡ known_fault 9 (kept_of self.now) }
+        ensures kinds { has_kind_to 9 result ≡ true }
+    {
+        self.pieces.known_fault(TOO_LONG)
+    }
+
+    /// Reads the last line where it has no line feed, and says the kind of its fault, if it has one.
+    fn read_last(&mut self) -> Result<Option<u32>, AllocError>
+        ensures read { IfOk result
+            (IsLastRead (steps_of self.old) (kept_of self.old) (state_of self.old) (state_of self.new)) }
+        ensures kept { kept_of self.new ≡ kept_of self.old }
+        ensures same { program_of self.new ≡ program_of self.old }
+        ensures kinds { IfOk result (λ kind. IfSome kind (λ k. (0 < k) × (k ≤ 9))) }
+    {
+        if self.pieces.is_filled() {
+            self.read_unread()
+        } else {
+            Ok(None)
+        }
+    }
+
+    /// The fault at the end, where the last line has a fault of this kind or none.
+    fn last_fault(&self, last_kind: Option<u32>, ending: &Ending) -> Option<KnownFault>
+        requires kinds { IfSome last_kind (λ kind. (0 < kind) × (kind ≤ 9)) }
+        requires ending { IsEnding (program_of self.now) (state_of self.now) ending.now }
+        ensures fault { result
+            ≡ end_fault 9 (kept_of self.now) last_kind ((steps_of self.now).end_fault (state_of self.now)) }
+        ensures kinds { has_kind_to 9 result ≡ true }
+    {
+        let end_kind = self.words.end_kind(ending);
+        self.pieces.fault_at_end(last_kind, end_kind, TOO_LONG)
+    }
+
+    /// What the text comes to, where the last line has a fault of this kind or none.
+    fn answer(&self, last_kind: Option<u32>, ending: &Ending) -> Result<Blocks, ReadFault>
+        requires kinds { IfSome last_kind (λ kind. (0 < kind) × (kind ≤ 9)) }
+        requires ending { IsEnding (program_of self.now) (state_of self.now) ending.now }
+        ensures { IsEnded
+            (end_fault 9 (kept_of self.now) last_kind ((steps_of self.now).end_fault (state_of self.now)))
+            ((steps_of self.now).result (state_of self.now)) result }
+    {
+        match self.last_fault(last_kind, ending) {
+            Some(fault) => Err(ReadFault::Faulty(BlockFault::of(fault))),
+            None => match self.words.blocks(ending) {
+                Ok(blocks) => Ok(blocks),
+                Err(_) => Err(ReadFault::NoMemory),
+            },
+        }
+    }
+
+    /// The blocks of the text that ends here, or its first fault.
+    pub(crate) fn finish(&mut self) -> Result<Blocks, ReadFault>
+        requires { StandOnce (program_of self.old).row_names }
+        ensures { (text : List ℕ) → StandsFor self.old (stream_of (steps_of self.old) text)
+            → MatchResult result (HasResult (block_reading (program_of self.old)) text)
+            (IsFaultOf (program_of self.old) text) }
+    {
+        blocks_are_read();
+        let Ok(last_kind) = self.read_last() else {
+            return Err(ReadFault::NoMemory);
+        };
+        match self.words.ending() {
+            Ok(ending) => self.answer(last_kind, &ending),
+            Err(_) => Err(ReadFault::NoMemory),
+        }
+    }
+}

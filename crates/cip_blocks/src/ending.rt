@@ -1,0 +1,108 @@
+//! The end of a text of blocks.
+ghost use Rattle.std.specs.Prelude.{◌≡◌, ◌||◌, ◌<◌, ◌≤◌, map, not, vec_len, None, is_none, IfSome, IfOk};
+ghost use Rattle.std.specs.List.{list_any};
+ghost use Rattle.cip_problem.specs.WellFormed.{columns};
+ghost use Rattle.cip_block_steps.specs.BlockOwners.{owners_of};
+ghost use Rattle.cip_block_steps.specs.BlockSteps.{blocks_at};
+ghost use Rattle.cip_blocks.specs.WordPlaces.{block_of};
+ghost use Rattle.cip_blocks.specs.OwnersKept.{owners_shown};
+
+use crate::block_words::BlockWords;
+use crate::owners::Owners;
+use crate::word_places::{RowPlace, WordPlace};
+use cip_block_steps::owners_are_right;
+use cip_model::Blocks;
+use std::alloc::{AllocError, Global};
+
+/// What the words come to where the text ends.
+#[derive(Debug, Drop)]
+pub(crate) struct Ending {
+    pub(crate) row_blocks: Vec<Option<u32>>,
+    pub(crate) owners: Owners,
+}
+
+/// The block of each row, if it has one.
+fn row_blocks(alloc: Global, rows: &[RowPlace]) -> Result<Vec<Option<u32>>, AllocError>
+    ensures { IfOk result (λ blocks. blocks.items ≡ map block_of rows.now) }
+{
+    let mut blocks = Vec::new(alloc);
+    for row in rows {
+        blocks.push(row.block())?;
+    }
+    Ok(blocks)
+}
+
+/// Whether a block was not begun.
+fn has_missing(begun: &[bool]) -> bool
+    ensures { result ≡ list_any not begun.now }
+{
+    begun.iter().any(|mark| !*mark)
+}
+
+impl BlockWords<'_> {
+    ghost use Rattle.cip_blocks.specs.BlockWordsRead.{program_of, state_of, steps_of};
+    ghost use Rattle.cip_blocks.specs.Endings.{IsEnding, place_fault};
+
+    /// What the words come to where the text ends.
+    pub(crate) fn ending(&self) -> Result<Ending, AllocError>
+        ensures { IfOk result (IsEnding (program_of self.now) (state_of self.now)) }
+    {
+        let row_blocks = row_blocks(self.alloc, self.rows.as_slice())?;
+        let owners = Owners::of(self.alloc, self.program, row_blocks.as_slice())?;
+        Ok(Ending { row_blocks, owners })
+    }
+
+    /// The kind of the fault of a number that is due.
+    fn place_kind(&self) -> Option<u32>
+        ensures { result ≡ place_fault (state_of self.now).place }
+    {
+        match self.place {
+            WordPlace::ZeroDue => Some(1),
+            WordPlace::CountDue => Some(2),
+            WordPlace::BlockDue => Some(3),
+            WordPlace::KeywordDue | WordPlace::NamesOf(_) => None,
+        }
+    }
+
+    /// Whether there is no number of blocks, or a block was not begun.
+    fn lacks_block(&self) -> bool
+        ensures { result ≡ (is_none self.now.count || list_any not self.now.begun.items) }
+    {
+        self.count.is_none() || has_missing(self.begun.as_slice())
+    }
+
+    /// The kind of the fault behind the last line, if there is one.
+    pub(crate) fn end_kind(&self, ending: &Ending) -> Option<u32>
+        requires { IsEnding (program_of self.now) (state_of self.now) ending.now }
+        ensures fault { result ≡ (steps_of self.now).end_fault (state_of self.now) }
+        ensures kinds { IfSome result (λ kind. (0 < kind) × (kind ≤ 9)) }
+    {
+        owners_are_right();
+        if let Some(kind) = self.place_kind() {
+            return Some(kind);
+        }
+        if ending.owners.links {
+            return Some(6);
+        }
+        if ending.owners.has_open(self.program) {
+            return Some(7);
+        }
+        if self.lacks_block() { Some(8) } else { None }
+    }
+
+    /// The blocks, where there is no fault behind the last line.
+    pub(crate) fn blocks(&self, ending: &Ending) -> Result<Blocks, AllocError>
+        requires ending { IsEnding (program_of self.now) (state_of self.now) ending.now }
+        requires no_fault { (steps_of self.now).end_fault (state_of self.now) ≡ None }
+        ensures { IfOk result (λ blocks. blocks ≡ (steps_of self.now).result (state_of self.now)) }
+    {
+        owners_are_right();
+        let count = self.begun.len();
+        Blocks::new(
+            self.alloc,
+            count,
+            ending.row_blocks.as_slice(),
+            ending.owners.blocks.as_slice(),
+        )
+    }
+}
