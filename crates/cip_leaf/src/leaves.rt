@@ -7,7 +7,8 @@ ghost use Rattle.cip_simplex.specs.LpShape.{IsSolvable};
 ghost use Rattle.cip_leaves.specs.Leaf.{IsLeaf};
 ghost use Rattle.cip_leaf_programs.specs.LeafProgram as program_spec;
 ghost use Rattle.cip_leaf.specs.Building.{IsRowsFault};
-ghost use Rattle.cip_leaf.specs.LeafAnswers.{IsLeafAnswer, EndsInOptimum, EndsInRay, EndsOutOfRange, IsWideAnswer, IsFirstAlong};
+ghost use Rattle.cip_leaf.specs.LeafAnswers.{IsLeafAnswer, EndsInOptimum, EndsInRay, EndsOutOfRange, IsWideAnswer};
+ghost use Rattle.cip_leaf.specs.LeafAnswers.{IsFirstAlong};
 ghost use Rattle.cip_leaf.specs.Parts.{IsProgramOf};
 
 use crate::answers::{LeafAnswer, Shown};

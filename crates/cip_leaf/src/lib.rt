@@ -9,3 +9,6 @@ mod rows;
 
 pub use answers::{LeafAnswer, Shown};
 pub use leaves::leaf;
+
+#[cfg(test)]
+mod tests;

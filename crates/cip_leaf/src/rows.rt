@@ -79,8 +79,8 @@ fn put_term(row: &mut Row, term: Term) -> Result<(), AllocError>
     }
 }
 
-/// Makes the terms on continuous columns, by their new numbers, those of a row that has none yet; `Err` where memory was
-/// refused.
+/// Makes the terms on continuous columns, by their new numbers, those of a row that has none yet; `Err` where memory
+/// was refused.
 fn put_terms(
     row: &mut Row,
     terms: &[Term],
