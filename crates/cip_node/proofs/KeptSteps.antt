@@ -1,0 +1,250 @@
+-- Steps of the tree keep what holds of a search.
+use Rattle.std.proofs.Common.{◌≡◌, ◌⊎◌, ◌≢◌, inl, inr, ℕ, zero, suc, ◌+◌, ◌<◌, ◌≤◌, ◌^◌, ℤ, pos, ◌+ℤ◌, unsigned_abs, length, slice_set, IfSome, Bool, true, false, List, [], ◌∷◌, ◌++◌, reverse, filter, Option, None, Some, Contains, MatchOption, refl, sym, ap, ◌∙◌, subst, arith}
+use Rattle.std.specs.List.Sorted.{IsPermutation}
+use Rattle.std.proofs.lemmas.Bool.{cases_lt, cases_eq}
+use Rattle.std.proofs.lemmas.List.{get_or-set_same}
+use Rattle.cip_rational.specs.Rational.{ℚ, integer, floor, ceil}
+use Rattle.cip_rational.proofs.Rational.Rounding.{floor-integer, ceil-integer}
+use Rattle.cip_problem.specs.Box.{no_sides, sides_at}
+use Rattle.cip_problem.specs.Program.{Sides, Program}
+use Rattle.cip_problem.specs.Log.{Entry, Node, Split, Closed, Parked, low_half, high_half, CanSplit, matters}
+use Rattle.std.proofs.lemmas.List.Elements.{Contains-append_left, Contains-append_right, Contains-append_cases}
+use Rattle.cip_domain.specs.Changes.{narrowed}
+use Rattle.cip_cuts.specs.Improving.{IsBoundIn, HasNoImproving, IsNoDearer}
+use Rattle.cip_leaves.specs.Searched.{first_node, NoMore}
+use Rattle.cip_leaf_programs.specs.WideLeaf.{IsWideLeaf}
+use Rattle.cip_search.specs.SearchState.{stay, IsAttained, IsStuck}
+use Rattle.cip_search.proofs.Members.{here, later, here_or_later, kept_was_there}
+use Rattle.cip_search.proofs.Kept as searching
+use Rattle.cip_search.proofs.Ended as ending
+use Rattle.cip_search.proofs.AsGiven as giving
+use Rattle.std.proofs.lemmas.List.Sorted.{Contains-permutation, IsPermutation-sym, IsPermutation-append_right}
+use Rattle.cip_tree.specs.Nodes.{Nodes, Base, TakenNode, base_at, base_changes, box_of, shown}
+use Rattle.cip_tree.specs.Moves.{TakesFirst, IsSplit, is_cheaper}
+use Rattle.cip_tree.specs.Searched.{IsSearched}
+use Rattle.cip_node_rules.specs.OpenColumns.{is_whole_at}
+use Rattle.cip_node_rules.specs.SplitRules.{AreNear, LeavesBoth}
+use Rattle.cip_tree.specs.Queue.{bound_below}
+use Rattle.cip_node.specs.KeptNodes.{state_of, farthest, IsSearchOf, IsNearBox, IsKept}
+
+-- what holds of a tree holds of one that is the same
+pub kept_same : (program : Program) (old new : Nodes) (held : Option ℚ) (work : List Node) → new ≡ old → IsKept program old held work → IsKept program new held work
+kept_same program old new held work e k = subst (λ t. IsKept program t held work) (sym e) k
+
+-- a first node in work has ended, with this log and these parked nodes
+pub kept_closed : (program : Program) (old new : Nodes) (held : Option ℚ) (node : Node) (taken : List (Option Base)) → new ≡ record old { taken = taken; log = old.log ++ record { node = node.number; bound = node.bound; end = Closed } ∷ [] } → HasNoImproving program held node.box → IsKept program old held (node ∷ []) → IsKept program new held []
+kept_closed program old new held node taken e h k =
+    let state = state_of old held (node ∷ []) in
+    kept_same program (record old { taken = taken; log = old.log ++ record { node = node.number; bound = node.bound; end = Closed } ∷ [] }) new held [] e
+    (record {
+      searched = ending.closed program program stay IsWideLeaf old.root.bound state node [] refl h k.searched;
+      as_given = giving.closed program program stay IsWideLeaf old.root.bound state node [] refl k.searched k.as_given;
+      root = k.root;
+      integral = k.integral;
+      near = λ other c. k.near other (later node other old.open_ c);
+    })
+
+pub kept_pruned : (program : Program) (old new : Nodes) (held : Option ℚ) (node : Node) (taken : List (Option Base)) → new ≡ record old { taken = taken; log = old.log ++ record { node = node.number; bound = node.bound; end = Closed } ∷ [] } → matters held node.bound ≡ false → IsKept program old held (node ∷ []) → IsKept program new held []
+kept_pruned program old new held node taken e h k =
+    let state = state_of old held (node ∷ []) in
+    kept_same program (record old { taken = taken; log = old.log ++ record { node = node.number; bound = node.bound; end = Closed } ∷ [] }) new held [] e
+    (record {
+      searched = ending.pruned program program stay IsWideLeaf old.root.bound state node [] refl h k.searched;
+      as_given = giving.closed program program stay IsWideLeaf old.root.bound state node [] refl k.searched k.as_given;
+      root = k.root;
+      integral = k.integral;
+      near = λ other c. k.near other (later node other old.open_ c);
+    })
+
+pub kept_parked : (program : Program) (old new : Nodes) (held : Option ℚ) (node : Node) (taken : List (Option Base)) → new ≡ record old { parked = old.parked ++ node ∷ []; taken = taken; log = old.log ++ record { node = node.number; bound = node.bound; end = Parked } ∷ [] } → IsStuck program program stay IsWideLeaf node → IsKept program old held (node ∷ []) → IsKept program new held []
+kept_parked program old new held node taken e h k =
+    let state = state_of old held (node ∷ []) in
+    kept_same program (record old { parked = old.parked ++ node ∷ []; taken = taken; log = old.log ++ record { node = node.number; bound = node.bound; end = Parked } ∷ [] }) new held [] e
+    (record {
+      searched = ending.parked program program stay IsWideLeaf old.root.bound state node [] refl h k.searched;
+      as_given = giving.parked program program stay IsWideLeaf old.root.bound state node [] refl k.searched k.as_given;
+      root = k.root;
+      integral = k.integral;
+      near = λ other c. k.near other (later node other old.open_ c);
+    })
+
+-- the first open node is taken up
+pub kept_taken : (program : Program) (old new : Nodes) (held : Option ℚ) (node : Node) (open_ : List Node) (taken : List (Option Base)) → new ≡ record old { open_ = open_; taken = taken } → IsPermutation old.open_ (node ∷ open_) → IsKept program old held [] → IsKept program new held (node ∷ [])
+kept_taken program old new held node open_ taken e p k =
+    let state = state_of old held [] in
+    kept_same program (record old { open_ = open_; taken = taken }) new held (node ∷ []) e
+    (record {
+      searched = searching.taken program program stay IsWideLeaf old.root.bound state node open_ p k.searched;
+      as_given = giving.taken program old.root.bound state node open_ p k.as_given;
+      root = k.root;
+      integral = k.integral;
+      near = λ other c. k.near other (Contains-permutation (node ∷ open_) old.open_ other (IsPermutation-sym old.open_ (node ∷ open_) p) c);
+    })
+
+pub taken_or_none : (program : Program) (old new : Nodes) (held : Option ℚ) (o : Option TakenNode) → MatchOption o ((old.open_ ≡ []) × (new ≡ old)) (TakesFirst old new) → IsKept program old held [] → MatchOption o (IsKept program new held []) (λ node. IsKept program new held (shown new node ∷ []))
+taken_or_none program old new held None h k = kept_same program old new held [] h.1 k
+taken_or_none program old new held (Some node) h k = kept_taken program old new held (shown new node) new.open_ new.taken h.rest h.nodes k
+
+-- ---- what a call leaves of a node in work
+
+-- a node is shown as it was where what is kept of it and the root are the same
+pub shown_same : (old new : Nodes) (node : TakenNode) → base_at new node.place ≡ base_at old node.place → new.root ≡ old.root → shown new node ≡ shown old node
+shown_same old new node e f =
+    ap (λ (b : Option Base). let n : Node = record { number = node.number; box = narrowed new.root.box (reverse node.notes ++ base_changes b); bound = node.bound } in n) e
+    ∙ ap (λ (r : Node). let n : Node = record { number = node.number; box = narrowed r.box (reverse node.notes ++ base_changes (base_at old node.place)); bound = node.bound } in n) f
+
+-- the bound of the first node in work rises
+pub kept_raised : (program : Program) (tree : Nodes) (held : Option ℚ) (node : Node) (b : ℚ) → IsBoundIn program held node.box b → NoMore node.bound (Some b) → IsKept program tree held (node ∷ []) → IsKept program tree held (record node { bound = Some b } ∷ [])
+kept_raised program tree held node b h l k =
+    let state = state_of tree held (node ∷ []) in
+    record {
+      searched = searching.raised program program stay IsWideLeaf tree.root.bound state node [] b refl h l k.searched;
+      as_given = giving.raised program tree.root.bound state node [] (Some b) refl k.as_given;
+      root = k.root;
+      integral = k.integral;
+      near = λ other c. elim (here_or_later (record node { bound = Some b }) other tree.open_ c) [
+        | inl e ↦ subst (λ (n : Node). IsNearBox program tree.ids n.box) e (k.near node (here node tree.open_))
+        | inr j ↦ k.near other (later node other tree.open_ j)
+      ];
+    }
+
+-- a cheaper point is held
+pub kept_offered : (program : Program) (tree : Nodes) (held : Option ℚ) (work : List Node) (cost : ℚ) → IsAttained program cost → IsNoDearer (Some cost) held → IsKept program tree held work → IsKept program tree (Some cost) work
+kept_offered program tree held work cost a l k =
+    let state = state_of tree held work in
+    record {
+      searched = searching.offered program program stay IsWideLeaf tree.root.bound state cost a l k.searched;
+      as_given = giving.offered program tree.root.bound state (Some cost) k.as_given;
+      root = k.root;
+      integral = k.integral;
+      near = k.near;
+    }
+
+cheaper_matters : (cost : ℚ) (node : Node) (bound : Option ℚ) → bound_below cost bound ≡ matters (Some cost) bound
+cheaper_matters cost node None = refl
+cheaper_matters cost node (Some b) = refl
+
+-- open nodes that don't matter are let go
+pub kept_let_go : (program : Program) (old new : Nodes) (cost : ℚ) (work open_ : List Node) (taken : List (Option Base)) → new ≡ record old { open_ = open_; taken = taken } → IsPermutation (filter (is_cheaper cost) old.open_) open_ → IsKept program old (Some cost) work → IsKept program new (Some cost) work
+kept_let_go program old new cost work open_ taken e p k =
+    let state = state_of old (Some cost) work in
+    kept_same program (record old { open_ = open_; taken = taken }) new (Some cost) work e
+    (record {
+      searched = searching.closed_from program program stay IsWideLeaf old.root.bound state open_ (is_cheaper cost) (λ node. cheaper_matters cost node node.bound) p k.as_given k.searched;
+      as_given = giving.closed_from program old.root.bound state open_ (is_cheaper cost) p k.as_given;
+      root = k.root;
+      integral = k.integral;
+      near = λ other c. elim (Contains-append_cases work open_ other c) [
+        | inl j ↦ k.near other (Contains-append_left work old.open_ other j)
+        | inr j ↦ k.near other (Contains-append_right work old.open_ other (kept_was_there (is_cheaper cost) old.open_ other (Contains-permutation open_ (filter (is_cheaper cost) old.open_) other (IsPermutation-sym (filter (is_cheaper cost) old.open_) open_ p) j)))
+      ];
+    })
+
+-- a node goes back
+pub searched_back : (program : Program) (old new : Nodes) (held : Option ℚ) (node : Node) (open_ : List Node) (taken : List (Option Base)) → new ≡ record old { open_ = open_; taken = taken } → IsPermutation (node ∷ old.open_) open_ → IsKept program old held (node ∷ []) → IsSearchOf program new held []
+searched_back program old new held node open_ taken e p k =
+    subst (λ t. IsSearchOf program t held []) (sym e) (searching.put_back program program stay IsWideLeaf old.root.bound (state_of old held (node ∷ [])) node [] open_ refl p k.searched)
+
+pub let_go_from : (program : Program) (old new : Nodes) (held : Option ℚ) (cost : ℚ) (work open_ : List Node) (taken : List (Option Base)) → held ≡ Some cost → new ≡ record old { open_ = open_; taken = taken } → IsPermutation (filter (is_cheaper cost) old.open_) open_ → IsKept program old held work → IsKept program new held work
+let_go_from program old new held cost work open_ taken h e p k =
+    subst (λ t. IsKept program new t work) (sym h) (kept_let_go program old new cost work open_ taken e p (subst (λ t. IsKept program old t work) h k))
+
+-- a first node in work that is shown the same
+pub kept_shown : (program : Program) (tree : Nodes) (held : Option ℚ) (node other : Node) → other ≡ node → IsKept program tree held (node ∷ []) → IsKept program tree held (other ∷ [])
+kept_shown program tree held node other e k = subst (λ n. IsKept program tree held (n ∷ [])) (sym e) k
+
+-- ---- splits
+
+no_farther : (n m : ℕ) (sides : Sides) → n ≤ m → AreNear n sides → AreNear m sides
+no_farther n m sides l h = record { low = weaker sides.low ceil h.low; high = weaker sides.high floor h.high }
+  where
+    weaker : (side : Option ℚ) (f : ℚ → ℤ) → IfSome side (λ s. unsigned_abs (f s) ≤ n) → IfSome side (λ s. unsigned_abs (f s) ≤ m)
+    weaker None f k = tt
+    weaker (Some s) f k = omega (arith, k, l)
+
+at_same : (box : List Sides) (column : ℕ) (sides : Sides) → column < length box → sides_at (slice_set box column sides) column ≡ sides
+at_same box column sides l = get_or-set_same box column sides no_sides l
+
+at_other : (box : List Sides) (column other : ℕ) (sides : Sides) → other ≢ column → sides_at (slice_set box column sides) other ≡ sides_at box other
+at_other [] column other sides d = refl
+at_other (s ∷ ss) zero zero sides d = absurd (d refl)
+at_other (s ∷ ss) zero (suc other) sides d = refl
+at_other (s ∷ ss) (suc column) zero sides d = refl
+at_other (s ∷ ss) (suc column) (suc other) sides d = at_other ss column other sides (λ e. d (omega (arith, e)))
+
+past_end : (box : List Sides) (column : ℕ) (sides : Sides) → length box ≤ column → slice_set box column sides ≡ box
+past_end [] column sides l = refl
+past_end (s ∷ ss) zero sides l = absurd (omega (arith, l))
+past_end (s ∷ ss) (suc column) sides l = ap (λ t. s ∷ t) (past_end ss column sides (omega (arith, l)))
+
+-- a box with other sides for one column is near
+near_set : (program : Program) (ids : ℕ) (box : List Sides) (column : ℕ) (sides : Sides) → IsNearBox program ids box → AreNear (farthest ids) sides → IsNearBox program ids (slice_set box column sides)
+near_set program ids box column sides h k = λ other w. elim (cases_lt column (length box)) [
+  | inl l ↦ elim (cases_eq other column) [
+    | inl e ↦ subst (λ c. AreNear (farthest ids) (sides_at (slice_set box column sides) c)) (sym e) (subst (AreNear (farthest ids)) (sym (at_same box column sides l)) k)
+    | inr d ↦ subst (AreNear (farthest ids)) (sym (at_other box column other sides d)) (h other w)
+  ]
+  | inr l ↦ subst (λ b. AreNear (farthest ids) (sides_at b other)) (sym (past_end box column sides l)) (h other w)
+]
+
+nearer : (program : Program) (ids more : ℕ) (box : List Sides) → ids ≤ more → IsNearBox program ids box → IsNearBox program more box
+nearer program ids more box l h = λ column w. no_farther (farthest ids) (farthest more) (sides_at box column) (omega (arith, l)) (h column w)
+
+module _ (program : Program) (old new : Nodes) (held : Option ℚ) (node : TakenNode) (column : ℕ) (at : ℤ) (low high : ℕ) (s : IsSplit old new node column at low high) (k : IsKept program old held (shown old node ∷ [])) (b : LeavesBoth (sides_at (box_of old node) column) (farthest old.ids + 1) at) (whole : is_whole_at program.integral column ≡ true) where
+  abbrev low_node : Node
+  low_node = record { number = low; box = low_half (box_of old node) column at; bound = node.bound }
+
+  abbrev high_node : Node
+  high_node = record { number = high; box = high_half (box_of old node) column at; bound = node.bound }
+
+  abbrev entry : Entry
+  entry = record { node = node.number; bound = node.bound; end = Split column at low high }
+
+  abbrev split_tree : Nodes
+  split_tree = record old { open_ = new.open_; taken = new.taken; ids = old.ids + 2; log = old.log ++ entry ∷ [] }
+
+  own_near : IsNearBox program old.ids (box_of old node)
+  own_near = k.near (shown old node) (here (shown old node) old.open_)
+
+  wider_near : IsNearBox program (old.ids + 2) (box_of old node)
+  wider_near = nearer program old.ids (old.ids + 2) (box_of old node) (omega arith) own_near
+
+  own_sides : AreNear (farthest (old.ids + 2)) (sides_at (box_of old node) column)
+  own_sides = wider_near column whole
+
+  low_near : IsNearBox program (old.ids + 2) low_node.box
+  low_near = near_set program (old.ids + 2) (box_of old node) column (record { low = (sides_at (box_of old node) column).low; high = Some (integer at) }) wider_near (record { low = own_sides.low; high = omega (arith, b.near, ap unsigned_abs (floor-integer at)) })
+
+  high_near : IsNearBox program (old.ids + 2) high_node.box
+  high_near = near_set program (old.ids + 2) (box_of old node) column (record { low = Some (integer (at +ℤ pos 1)); high = (sides_at (box_of old node) column).high }) wider_near (record { low = omega (arith, b.next_near, ap unsigned_abs (ceil-integer (at +ℤ pos 1))); high = own_sides.high })
+
+  all_near : (other : Node) → Contains new.open_ other → IsNearBox program (old.ids + 2) other.box
+  all_near other c = elim (here_or_later low_node other (high_node ∷ old.open_) (Contains-permutation new.open_ (low_node ∷ high_node ∷ old.open_) other (IsPermutation-sym (low_node ∷ high_node ∷ old.open_) new.open_ s.nodes) c)) [
+    | inl e ↦ subst (λ (n : Node). IsNearBox program (old.ids + 2) n.box) e low_near
+    | inr j ↦ elim (here_or_later high_node other old.open_ j) [
+      | inl e ↦ subst (λ (n : Node). IsNearBox program (old.ids + 2) n.box) e high_near
+      | inr i ↦ nearer program old.ids (old.ids + 2) other.box (omega arith) (k.near other (later (shown old node) other old.open_ i))
+    ]
+  ]
+
+  module _ (logged : IsSearched new.integral new.root new.log) where
+    followed : IsSearched program.integral (first_node program old.root.bound) (old.log ++ entry ∷ [])
+    followed =
+        subst (λ r. IsSearched program.integral r (old.log ++ entry ∷ [])) k.root
+        (subst (λ i. IsSearched i old.root (old.log ++ entry ∷ [])) k.integral
+        (subst (λ (t : Nodes). IsSearched t.integral t.root t.log) s.rest logged))
+
+    can : CanSplit program.integral (box_of old node) column at
+    can = subst (λ i. CanSplit i (box_of old node) column at) k.integral s.can
+
+    pub kept_split : IsKept program new held []
+    kept_split =
+        let state = state_of old held (shown old node ∷ []) in
+        kept_same program split_tree new held [] s.rest
+        (record {
+          searched = ending.split program program stay IsWideLeaf old.root.bound state (shown old node) low_node high_node [] new.open_ column at refl can (record { low_box = refl; high_box = refl; low_bound = refl; high_bound = refl }) s.nodes followed k.searched;
+          as_given = giving.split program program stay IsWideLeaf old.root.bound state (shown old node) low_node high_node [] new.open_ column at refl can (record { low_box = refl; high_box = refl; low_bound = refl; high_bound = refl }) s.nodes followed k.searched k.as_given;
+          root = k.root;
+          integral = k.integral;
+          near = all_near;
+        })

@@ -1,0 +1,34 @@
+//! What a search works with.
+use cip_cert::Scratch;
+use cip_domain::{DomainStore, Mark};
+use cip_incumbent::Incumbent;
+use cip_lin::Row;
+use cip_model::Program;
+use cip_node_bounds::NodeRows;
+use cip_rows::RowPool;
+use cip_tree::Tree;
+
+/// What a search over a program works with: the nodes, the point held, and what is reused from node to node.
+#[derive(Drop)]
+pub struct Core<'a> {
+    /// The program.
+    pub program: &'a Program,
+    /// Whether costs are whole, so that bounds are rounded up.
+    pub whole_costs: bool,
+    /// Rows that are valid in their scopes.
+    pub pool: RowPool,
+    /// The cutoff row; no combination names it yet.
+    pub cutoff: Option<Row>,
+    /// The box in work.
+    pub domain: DomainStore,
+    /// The moment at which the box in work is the program's.
+    pub start: Mark,
+    /// The rows of a node's linear program.
+    pub rows: NodeRows,
+    /// What checks work in.
+    pub scratch: Scratch,
+    /// The nodes, with the log.
+    pub tree: Tree,
+    /// The point held.
+    pub incumbent: Incumbent,
+}

@@ -1,0 +1,7 @@
+//! The work on a node of a search.
+#![tactic(auto)]
+
+mod core;
+mod steps;
+
+pub use core::Core;
