@@ -10,9 +10,9 @@ use Rattle.std.proofs.lemmas.Bool.{eqb-false, false≢true}
 use Rattle.std.specs.Str.{bytes_eq}
 use lib.Chars.{codes}
 use Rattle.cip_rational.specs.Rational.{ℚ}
-use Rattle.cip_numerals.specs.NumberText.{fraction_text}
-use Rattle.cip_numerals.proofs.NumberText.{fraction_text_plain, fraction_text_injective, IsFractionByte}
-use Rattle.cip_answers.specs.Figures.{Overflow, AtRow, AtCost, Status, Optimal, Infeasible, NodeLimit, Wide, NoMemory, Held, Figures, Names, FitNames, status_word, line, end_line, figure_text, point_lines, held_cost, held_lines, cost_lines, leaf_name, leaf_lines, overflow_text, shown_lines, unless_infeasible, figure_lines, answer_text, usage_text, read_fault_text, no_memory_text, refusal_text}
+use Rattle.cip_numerals.specs.NumberText.{natural_text, fraction_text}
+use Rattle.cip_numerals.proofs.NumberText.{natural_text_injective, fraction_text_plain, fraction_text_injective, IsFractionByte}
+use Rattle.cip_answers.specs.Figures.{Overflow, AtRow, AtCost, AtMoves, Status, Optimal, Infeasible, Unbounded, NodeLimit, Wide, NoMemory, Held, Figures, Names, FitNames, status_word, line, end_line, figure_text, point_lines, held_cost, held_lines, cost_lines, leaf_name, leaf_lines, ray_name, ray_lines, overflow_text, shown_lines, unless_infeasible, figure_lines, answer_text, usage_text, read_fault_text, no_memory_text, refusal_text}
 
 -- texts that the test tells apart
 pub apart : (text other : List ℕ) → bytes_eq text other ≡ false → bytes_eq other other ≡ true → text ≢ other
@@ -105,6 +105,7 @@ figure_text_injective (Some figure) (Some other) e = ap (λ x. Some x) (fraction
 status_word-no_feed : (status : Status) → HasNoFeed (status_word status)
 status_word-no_feed Optimal = HasNoFeed-from_test (codes "optimal") refl
 status_word-no_feed Infeasible = HasNoFeed-from_test (codes "infeasible") refl
+status_word-no_feed (Unbounded ray) = HasNoFeed-from_test (codes "unbounded") refl
 status_word-no_feed NodeLimit = HasNoFeed-from_test (codes "nodelimit") refl
 status_word-no_feed (Wide leaf place) = HasNoFeed-from_test (codes "wide") refl
 status_word-no_feed NoMemory = HasNoFeed-from_test (codes "nomemory") refl
@@ -158,6 +159,12 @@ overflow_told (AtRow name) (AtRow other) e =
 overflow_told (AtRow name) AtCost e = let byte : 114 ≡ 99 = ap (λ t. get_or t 0 0) e in absurd (omega (arith, byte))
 overflow_told AtCost (AtRow other) e = let byte : 99 ≡ 114 = ap (λ t. get_or t 0 0) e in absurd (omega (arith, byte))
 overflow_told AtCost AtCost e = refl
+overflow_told (AtMoves number) (AtMoves other) e =
+    ap AtMoves (natural_text_injective number other (append_cancel_right (natural_text number) (natural_text other) (10 ∷ end_line) (cancelled (codes "moves ") (natural_text number ++ 10 ∷ end_line) (natural_text other ++ 10 ∷ end_line) e)))
+overflow_told (AtMoves number) (AtRow name) e = let byte : 109 ≡ 114 = ap (λ t. get_or t 0 0) e in absurd (omega (arith, byte))
+overflow_told (AtMoves number) AtCost e = let byte : 109 ≡ 99 = ap (λ t. get_or t 0 0) e in absurd (omega (arith, byte))
+overflow_told (AtRow name) (AtMoves number) e = let byte : 114 ≡ 109 = ap (λ t. get_or t 0 0) e in absurd (omega (arith, byte))
+overflow_told AtCost (AtMoves number) e = let byte : 99 ≡ 109 = ap (λ t. get_or t 0 0) e in absurd (omega (arith, byte))
 
 overflow_parted : (place other : Overflow) → line (codes "overflow") (overflow_text place) ++ end_line ≡ line (codes "overflow") (overflow_text other) ++ end_line → place ≡ other
 overflow_parted place other e =
@@ -176,6 +183,12 @@ shown_parted names leaf leaf' place place' p q e =
     let long = length-map names leaf_name in
     let leaves = point_lines_parted (map leaf_name names) leaf leaf' _ _ (p ∙ sym long) (q ∙ sym long) same in
     ap (λ l. Wide l place) leaves.0 ∙ ap (λ o. Wide leaf' o) (overflow_parted place place' leaves.1)
+
+-- a ray
+ray_parted : (names : List (List ℕ)) (ray other : List ℚ) → length ray ≡ length names → length other ≡ length names → ray_lines names ray ++ end_line ≡ ray_lines names other ++ end_line → Unbounded ray ≡ Unbounded other
+ray_parted names ray other p q e =
+    let long = length-map names ray_name in
+    ap Unbounded (point_lines_parted (map ray_name names) ray other end_line end_line (p ∙ sym long) (q ∙ sym long) e).0
 
 -- ---- answers
 
@@ -229,11 +242,13 @@ word_kind : List ℕ → ℕ
 word_kind word =
     if bytes_eq word (codes "optimal") then 0
     else (if bytes_eq word (codes "infeasible") then 1
-    else (if bytes_eq word (codes "nodelimit") then 2 else (if bytes_eq word (codes "wide") then 3 else 4)))
+    else (if bytes_eq word (codes "nodelimit") then 2 else (if bytes_eq word (codes "wide") then 3
+    else (if bytes_eq word (codes "unbounded") then 5 else 4))))
 
 kind : Status → ℕ
 kind Optimal = 0
 kind Infeasible = 1
+kind (Unbounded ray) = 5
 kind NodeLimit = 2
 kind (Wide leaf place) = 3
 kind NoMemory = 4
@@ -242,6 +257,7 @@ kind_of_word : (status : Status) → word_kind (status_word status) ≡ kind sta
 unfolding word_kind kind
 kind_of_word Optimal = refl
 kind_of_word Infeasible = refl
+kind_of_word (Unbounded ray) = refl
 kind_of_word NodeLimit = refl
 kind_of_word (Wide leaf place) = refl
 kind_of_word NoMemory = refl
@@ -266,6 +282,9 @@ module _ (names : Names) (held held' : Option Held) (bound bound' : Option ℚ) 
   unfolding kind
   alike Optimal Optimal p q k e = lines_alike Optimal [] p q e
   alike Infeasible Infeasible p q k e = same_figures (first Infeasible) (second Infeasible) refl (p.end_.0 ∙ sym q.end_.0) (p.end_.1 ∙ sym q.end_.1)
+  alike (Unbounded ray) (Unbounded ray') p q k e =
+      let parts = lines_parted names.columns (first (Unbounded ray)) (second (Unbounded ray')) _ _ p.point q.point e in
+      same_figures (first (Unbounded ray)) (second (Unbounded ray')) (ray_parted names.columns ray ray' p.end_.0 q.end_.0 parts.after) parts.held parts.bound
   alike NodeLimit NodeLimit p q k e = lines_alike NodeLimit [] p q e
   alike (Wide leaf place) (Wide leaf' place') p q k e =
       let parts = lines_parted names.columns (first (Wide leaf place)) (second (Wide leaf' place')) _ _ p.point q.point e in
@@ -295,6 +314,7 @@ status_first names figures word rest test e =
 not_usage : (status : Status) → status_word status ≢ codes "usage"
 not_usage Optimal e = apart (codes "optimal") (codes "usage") refl refl e
 not_usage Infeasible e = apart (codes "infeasible") (codes "usage") refl refl e
+not_usage (Unbounded ray) e = apart (codes "unbounded") (codes "usage") refl refl e
 not_usage NodeLimit e = apart (codes "nodelimit") (codes "usage") refl refl e
 not_usage (Wide leaf place) e = apart (codes "wide") (codes "usage") refl refl e
 not_usage NoMemory e = apart (codes "nomemory") (codes "usage") refl refl e
@@ -302,6 +322,7 @@ not_usage NoMemory e = apart (codes "nomemory") (codes "usage") refl refl e
 not_read_fault : (status : Status) → status_word status ≢ codes "readfault"
 not_read_fault Optimal e = apart (codes "optimal") (codes "readfault") refl refl e
 not_read_fault Infeasible e = apart (codes "infeasible") (codes "readfault") refl refl e
+not_read_fault (Unbounded ray) e = apart (codes "unbounded") (codes "readfault") refl refl e
 not_read_fault NodeLimit e = apart (codes "nodelimit") (codes "readfault") refl refl e
 not_read_fault (Wide leaf place) e = apart (codes "wide") (codes "readfault") refl refl e
 not_read_fault NoMemory e = apart (codes "nomemory") (codes "readfault") refl refl e
@@ -309,6 +330,7 @@ not_read_fault NoMemory e = apart (codes "nomemory") (codes "readfault") refl re
 not_refused : (status : Status) → status_word status ≢ codes "refused"
 not_refused Optimal e = apart (codes "optimal") (codes "refused") refl refl e
 not_refused Infeasible e = apart (codes "infeasible") (codes "refused") refl refl e
+not_refused (Unbounded ray) e = apart (codes "unbounded") (codes "refused") refl refl e
 not_refused NodeLimit e = apart (codes "nodelimit") (codes "refused") refl refl e
 not_refused (Wide leaf place) e = apart (codes "wide") (codes "refused") refl refl e
 not_refused NoMemory e = apart (codes "nomemory") (codes "refused") refl refl e

@@ -8,7 +8,7 @@ use Rattle.cip_rational.specs.Gcd.{gcd}
 use Rattle.cip_rational.specs.Rational.{integer, ratio, numerator, denominator}
 use Rattle.cip_rational.proofs.Rational.Lowest.{numerator-integer, denominator-integer, numerator-ratio, denominator-ratio}
 use Rattle.cip_numerals.specs.NumberText.{integer_text, denominator_text, fraction_text}
-use Rattle.cip_answers.specs.Figures.{Optimal, NodeLimit, Wide, AtRow, answer_text, usage_text, read_fault_text, no_memory_text}
+use Rattle.cip_answers.specs.Figures.{Optimal, Unbounded, NodeLimit, Wide, AtRow, AtMoves, answer_text, usage_text, read_fault_text, no_memory_text}
 use Rattle.cip_answers.specs.Statements.{same_names}
 use Rattle.cip_answers.proofs.AnswerTexts.{apart}
 
@@ -50,6 +50,24 @@ pub no_point :
     answer_text (same_names (codes "a" ∷ [])) (record { status = NodeLimit; held = None; bound = Some (integer (pos 3)) })
     ≡ codes "status nodelimit\ncost none\nbound 3\nend\n"
 no_point = simp integer_figure
+
+pub wide_by_moves :
+    answer_text (record { columns = codes "y" ∷ []; wholes = [] }) (record {
+      status = Wide [] (AtMoves 1);
+      held = None;
+      bound = Some (integer (pos 0));
+    })
+    ≡ codes "status wide\ncost none\nbound 0\noverflow moves 1\nend\n"
+wide_by_moves = simp integer_figure
+
+pub unbounded :
+    answer_text (record { columns = codes "x" ∷ codes "y" ∷ []; wholes = codes "x" ∷ [] }) (record {
+      status = Unbounded (integer (pos 0) ∷ integer (pos 1) ∷ []);
+      held = Some (record { cost = integer (pos 0); point = integer (pos 0) ∷ integer (pos 0) ∷ [] });
+      bound = None;
+    })
+    ≡ codes "status unbounded\ncost 0\nbound none\nx 0\ny 0\nray x 0\nray y 1\nend\n"
+unbounded = simp integer_figure
 
 pub negative_ratio :
     answer_text (same_names (codes "x" ∷ [])) (record {

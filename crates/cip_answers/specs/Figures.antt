@@ -2,19 +2,22 @@
 use lib.Chars.{codes}
 use Rattle.std.specs.Prelude.{◌≡◌, length, map, IfSome, ℕ, List, [], ◌∷◌, ◌++◌, Option, None, Some, ⊤}
 use Rattle.cip_rational.specs.Rational.{ℚ}
-use Rattle.cip_numerals.specs.NumberText.{fraction_text}
+use Rattle.cip_numerals.specs.NumberText.{natural_text, fraction_text}
 use Rattle.cip_problem.specs.Program.{Program}
 use Rattle.cip_leaves.specs.Leaf.{at_wholes}
 
--- where a sum of a leaf overflows: in the row of this name, or in the cost
+-- what overflows of a leaf: a sum of the row of this name, or of the cost; or so many moves come to one out of range
 pub data Overflow : Type 0 where
   AtRow : (name : List ℕ) → Overflow
   AtCost : Overflow
+  AtMoves : (number : ℕ) → Overflow
 
--- how a search ended; where a leaf is wide it is shown, with the place that overflows
+-- how a search ended; where the cost falls without end there is a ray, and where a leaf is wide it is shown, with what
+-- overflows
 pub data Status : Type 0 where
   Optimal : Status
   Infeasible : Status
+  Unbounded : (ray : List ℚ) → Status
   NodeLimit : Status
   Wide : (leaf : List ℚ) (place : Overflow) → Status
   NoMemory : Status
@@ -34,6 +37,7 @@ pub record Figures : Type 0 where
 abbrev pub status_word : Status → List ℕ
 status_word Optimal = codes "optimal"
 status_word Infeasible = codes "infeasible"
+status_word (Unbounded ray) = codes "unbounded"
 status_word NodeLimit = codes "nodelimit"
 status_word (Wide leaf place) = codes "wide"
 status_word NoMemory = codes "nomemory"
@@ -42,6 +46,7 @@ status_word NoMemory = codes "nomemory"
 abbrev pub exit_status : Status → ℕ
 exit_status Optimal = 0
 exit_status Infeasible = 0
+exit_status (Unbounded ray) = 0
 exit_status NodeLimit = 10
 exit_status (Wide leaf place) = 11
 exit_status NoMemory = 6
@@ -103,11 +108,21 @@ leaf_lines names leaf = point_lines (map leaf_name names) leaf
 abbrev pub overflow_text : Overflow → List ℕ
 overflow_text (AtRow name) = codes "row " ++ name
 overflow_text AtCost = codes "cost"
+overflow_text (AtMoves number) = codes "moves " ++ natural_text number
 
--- the lines of the leaf that is shown, if there is one
+-- `ray` before a name
+abbrev pub ray_name : List ℕ → List ℕ
+ray_name name = codes "ray " ++ name
+
+-- a line for each column: its name and by how much it changes along a ray
+abbrev pub ray_lines : List (List ℕ) → List ℚ → List ℕ
+ray_lines names ray = point_lines (map ray_name names) ray
+
+-- the lines of the ray or of the leaf that is shown, if there is one
 abbrev pub shown_lines : Names → Status → List ℕ
 shown_lines names Optimal = []
 shown_lines names Infeasible = []
+shown_lines names (Unbounded ray) = ray_lines names.columns ray
 shown_lines names NodeLimit = []
 shown_lines names (Wide leaf place) = leaf_lines names.wholes leaf ++ line (codes "overflow") (overflow_text place)
 shown_lines names NoMemory = []
@@ -116,6 +131,7 @@ shown_lines names NoMemory = []
 abbrev pub unless_infeasible : Status → List ℕ → List ℕ
 unless_infeasible Optimal text = text
 unless_infeasible Infeasible text = []
+unless_infeasible (Unbounded ray) text = text
 unless_infeasible NodeLimit text = text
 unless_infeasible (Wide leaf place) text = text
 unless_infeasible NoMemory text = text
@@ -126,11 +142,12 @@ figure_lines names figures =
     unless_infeasible figures.status
     (cost_lines figures ++ held_lines names.columns figures.held ++ shown_lines names figures.status)
 
--- the leaf that is shown, if there is one, has a value for each whole column; after infeasible there is neither a point
--- nor a bound
+-- the ray, if there is one, has a change for each column, and there is no bound; the leaf that is shown, if there is
+-- one, has a value for each whole column; after infeasible there is neither a point nor a bound
 abbrev pub EndFits : Names → Figures → Status → Type 0
 EndFits names figures Optimal = ⊤
 EndFits names figures Infeasible = (figures.held ≡ None) × (figures.bound ≡ None)
+EndFits names figures (Unbounded ray) = (length ray ≡ length names.columns) × (figures.bound ≡ None)
 EndFits names figures NodeLimit = ⊤
 EndFits names figures (Wide leaf place) = length leaf ≡ length names.wholes
 EndFits names figures NoMemory = ⊤

@@ -3,7 +3,7 @@
 use lib.Chars.{codes}
 use Rattle.std.specs.Prelude.{◌≡◌, ◌≢◌, ℕ, pos, negsuc, List, [], ◌∷◌, All, AllPairs, None, Some}
 use Rattle.cip_rational.specs.Rational.{integer, ratio}
-use Rattle.cip_answers.specs.Figures.{Optimal, NodeLimit, Figures, FitNames, Names, Infeasible, Wide, AtRow, answer_text, usage_text, read_fault_text, no_memory_text, refusal_text}
+use Rattle.cip_answers.specs.Figures.{Optimal, NodeLimit, Figures, FitNames, Names, Infeasible, Unbounded, Wide, AtRow, AtMoves, answer_text, usage_text, read_fault_text, no_memory_text, refusal_text}
 
 -- two figures with one text, for one list of names, are the same
 abbrev pub AnswerTellsFigures : Type 0
@@ -65,4 +65,18 @@ pub record Examples : Type 0 where
         bound = Some (integer (negsuc 17));
       })
       ≡ codes "status wide\ncost -17\nbound -18\nx 17\nleaf x 18\noverflow row R1\nend\n"
+  pub wide_by_moves :
+      answer_text (record { columns = codes "y" ∷ []; wholes = [] }) (record {
+        status = Wide [] (AtMoves 1);
+        held = None;
+        bound = Some (integer (pos 0));
+      })
+      ≡ codes "status wide\ncost none\nbound 0\noverflow moves 1\nend\n"
+  pub unbounded :
+      answer_text (record { columns = codes "x" ∷ codes "y" ∷ []; wholes = codes "x" ∷ [] }) (record {
+        status = Unbounded (integer (pos 0) ∷ integer (pos 1) ∷ []);
+        held = Some (record { cost = integer (pos 0); point = integer (pos 0) ∷ integer (pos 0) ∷ [] });
+        bound = None;
+      })
+      ≡ codes "status unbounded\ncost 0\nbound none\nx 0\ny 0\nray x 0\nray y 1\nend\n"
   pub usage : usage_text ≡ codes "status usage\nend\n"

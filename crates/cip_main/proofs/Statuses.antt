@@ -2,7 +2,7 @@
 use Rattle.std.specs.Prelude.{◌≡◌, ◌≢◌, List, refl}
 use Rattle.std.proofs.Common.{arith}
 use Rattle.cip_rational.specs.Rational.{ℚ}
-use Rattle.cip_answers.specs.Figures.{Overflow, Status, Optimal, Infeasible, Wide, NodeLimit, NoMemory as LacksMemory, exit_status}
+use Rattle.cip_answers.specs.Figures.{Overflow, Status, Optimal, Infeasible, Unbounded, Wide, NodeLimit, NoMemory as LacksMemory, exit_status}
 use Rattle.cip_mps.specs.declared.faults.MpsFault.{MpsFault}
 use Rattle.cip_main.specs.declared.plain.Plain.{Plain}
 use Rattle.cip_main.specs.declared.plain.Plain.TheVariants.{Usage, ReadFault, Refused, NoMemory}
@@ -64,6 +64,7 @@ plain_is NoMemory = no_memory
 pub figures_not_two : (status : Status) → exit_status status ≢ 2
 figures_not_two Optimal e = absurd (omega (arith, e))
 figures_not_two Infeasible e = absurd (omega (arith, e))
+figures_not_two (Unbounded ray) e = absurd (omega (arith, e))
 figures_not_two NodeLimit e = absurd (omega (arith, e))
 figures_not_two (Wide leaf place) e = absurd (omega (arith, e))
 figures_not_two LacksMemory e = absurd (omega (arith, e))
@@ -71,6 +72,7 @@ figures_not_two LacksMemory e = absurd (omega (arith, e))
 pub figures_not_three : (status : Status) → exit_status status ≢ 3
 figures_not_three Optimal e = absurd (omega (arith, e))
 figures_not_three Infeasible e = absurd (omega (arith, e))
+figures_not_three (Unbounded ray) e = absurd (omega (arith, e))
 figures_not_three NodeLimit e = absurd (omega (arith, e))
 figures_not_three (Wide leaf place) e = absurd (omega (arith, e))
 figures_not_three LacksMemory e = absurd (omega (arith, e))
@@ -78,6 +80,7 @@ figures_not_three LacksMemory e = absurd (omega (arith, e))
 pub figures_not_four : (status : Status) → exit_status status ≢ 4
 figures_not_four Optimal e = absurd (omega (arith, e))
 figures_not_four Infeasible e = absurd (omega (arith, e))
+figures_not_four (Unbounded ray) e = absurd (omega (arith, e))
 figures_not_four NodeLimit e = absurd (omega (arith, e))
 figures_not_four (Wide leaf place) e = absurd (omega (arith, e))
 figures_not_four LacksMemory e = absurd (omega (arith, e))
@@ -85,6 +88,7 @@ figures_not_four LacksMemory e = absurd (omega (arith, e))
 pub figures_not_five : (status : Status) → exit_status status ≢ 5
 figures_not_five Optimal e = absurd (omega (arith, e))
 figures_not_five Infeasible e = absurd (omega (arith, e))
+figures_not_five (Unbounded ray) e = absurd (omega (arith, e))
 figures_not_five NodeLimit e = absurd (omega (arith, e))
 figures_not_five (Wide leaf place) e = absurd (omega (arith, e))
 figures_not_five LacksMemory e = absurd (omega (arith, e))
@@ -92,6 +96,7 @@ figures_not_five LacksMemory e = absurd (omega (arith, e))
 pub is_spent : (status : Status) → exit_status status ≡ 10 → status ≡ NodeLimit
 is_spent Optimal e = absurd (omega (arith, e))
 is_spent Infeasible e = absurd (omega (arith, e))
+is_spent (Unbounded ray) e = absurd (omega (arith, e))
 is_spent NodeLimit e = refl
 is_spent (Wide leaf place) e = absurd (omega (arith, e))
 is_spent LacksMemory e = absurd (omega (arith, e))
@@ -99,6 +104,7 @@ is_spent LacksMemory e = absurd (omega (arith, e))
 pub is_wide : (status : Status) → exit_status status ≡ 11 → (leaf : List ℚ) × (place : Overflow) × (status ≡ Wide leaf place)
 is_wide Optimal e = absurd (omega (arith, e))
 is_wide Infeasible e = absurd (omega (arith, e))
+is_wide (Unbounded ray) e = absurd (omega (arith, e))
 is_wide NodeLimit e = absurd (omega (arith, e))
 is_wide (Wide leaf place) e = (leaf, place, refl)
 is_wide LacksMemory e = absurd (omega (arith, e))
@@ -106,6 +112,7 @@ is_wide LacksMemory e = absurd (omega (arith, e))
 pub exit_is : (status : Status) → IsStatus (exit_status status)
 exit_is Optimal = solved
 exit_is Infeasible = solved
+exit_is (Unbounded ray) = solved
 exit_is NodeLimit = spent
 exit_is (Wide leaf place) = wide
 exit_is LacksMemory = no_memory

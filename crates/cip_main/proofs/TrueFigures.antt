@@ -12,14 +12,14 @@ use Rattle.cip_problem.specs.Log.{Entry}
 use Rattle.cip_cuts.specs.Improving.{IsImproving}
 use Rattle.cip_leaves.specs.Searched.{NoMore, OpenMatters}
 use Rattle.cip_leaves.proofs.Covers.{wide_leaf}
-use Rattle.cip_answers.specs.Figures.{Overflow, Status, Optimal, Infeasible, NodeLimit, Wide, NoMemory, Held as PrintedHeld, EndFits, FitNames, status_word, names_of}
+use Rattle.cip_answers.specs.Figures.{Overflow, Status, Optimal, Infeasible, Unbounded, NodeLimit, Wide, NoMemory, Held as PrintedHeld, EndFits, FitNames, status_word, names_of}
 use Rattle.cip_answers.specs.Headline.{IsBetter, IsTruePoint, IsTrueBound, Agree}
 use Rattle.cip_answers.proofs.AnswerTexts.{answer_text_injective}
 use Rattle.cip_model.specs.declared.verdicts.Place.{Place}
 use Rattle.cip_model.specs.declared.verdicts.Place.TheVariants.{Row as ModelRow, Cost as ModelCost}
 use Rattle.cip_report.specs.declared.figures.Ended.{Ended}
-use Rattle.cip_report.specs.declared.figures.Ended.TheVariants.{Optimal as EndedOptimal, Infeasible as EndedInfeasible, Wide as EndedWide, NodeLimit as EndedNodeLimit, NoMemory as EndedNoMemory}
-use Rattle.cip_report.specs.declared.figures.Shown.TheVariants.{Place as ShownPlace}
+use Rattle.cip_report.specs.declared.figures.Ended.TheVariants.{Optimal as EndedOptimal, Infeasible as EndedInfeasible, Unbounded as EndedUnbounded, Wide as EndedWide, NodeLimit as EndedNodeLimit, NoMemory as EndedNoMemory}
+use Rattle.cip_report.specs.declared.figures.Shown.TheVariants.{Place as ShownPlace, Moves as ShownMoves}
 use Rattle.cip_report.specs.declared.figures.Held.{Held}
 use Rattle.cip_report.specs.declared.figures.Answer.{Answer}
 use Rattle.cip_report.specs.Answers.{status_of, overflow_of, printed_held, figures_of, EndedFits}
@@ -78,6 +78,7 @@ none_before program (Some b) e = absurd (cc)
 is_optimal : (rows : List (List ℕ)) (ended : Ended) → status_of rows ended ≡ Optimal → ended ≡ EndedOptimal
 is_optimal rows EndedOptimal e = refl
 is_optimal rows EndedInfeasible e = absurd (cc)
+is_optimal rows (EndedUnbounded ray) e = absurd (cc)
 is_optimal rows EndedNodeLimit e = absurd (cc)
 is_optimal rows (EndedWide leaf shown) e = absurd (cc)
 is_optimal rows EndedNoMemory e = absurd (cc)
@@ -85,6 +86,7 @@ is_optimal rows EndedNoMemory e = absurd (cc)
 is_infeasible : (rows : List (List ℕ)) (ended : Ended) → status_of rows ended ≡ Infeasible → ended ≡ EndedInfeasible
 is_infeasible rows EndedOptimal e = absurd (cc)
 is_infeasible rows EndedInfeasible e = refl
+is_infeasible rows (EndedUnbounded ray) e = absurd (cc)
 is_infeasible rows EndedNodeLimit e = absurd (cc)
 is_infeasible rows (EndedWide leaf shown) e = absurd (cc)
 is_infeasible rows EndedNoMemory e = absurd (cc)
@@ -109,6 +111,7 @@ printed_place rows ModelCost = refl
 ends_printed : (program : Program) (nodes : ℕ) (log : List Entry) (held : Option PrintedHeld) (ended : Ended) → EndsAs program nodes log (cost_held program held) ended → EndsWith program nodes log held (status_of program.row_names ended)
 ends_printed program nodes log held EndedOptimal h = (record { none_open = h.0; none_parked = h.1 }, some_before _ held h.2)
 ends_printed program nodes log held EndedInfeasible h = (record { none_open = h.0; none_parked = h.1 }, none_held _ held h.2)
+ends_printed program nodes log held (EndedUnbounded ray) h = absurd h
 ends_printed program nodes log held EndedNodeLimit h = record { full = h.0; matter = h.1 }
 ends_printed program nodes log held (EndedWide leaf (ShownPlace place)) h = record {
   none_open = h.0;
@@ -117,6 +120,7 @@ ends_printed program nodes log held (EndedWide leaf (ShownPlace place)) h = reco
   is_printed = printed_place program.row_names place;
   shown = h.2;
 }
+ends_printed program nodes log held (EndedWide leaf (ShownMoves number)) h = absurd h.2
 ends_printed program nodes log held EndedNoMemory h = tt
 
 not_none : (held : Option PrintedHeld) → IsSome held → held ≢ None
@@ -129,22 +133,27 @@ exclude program nodes log held Optimal Optimal n m h k = refl
 exclude program nodes log held Optimal Infeasible n m h k = absurd (not_none held h.1 k.1)
 exclude program nodes log held Optimal NodeLimit n m h k = absurd (h.0.none_open k.matter)
 exclude program nodes log held Optimal (Wide leaf place) n m h k = absurd (h.0.none_parked k.matter)
+exclude program nodes log held Optimal (Unbounded ray) n m h k = absurd k
 exclude program nodes log held Optimal NoMemory n m h k = absurd (m refl)
 exclude program nodes log held Infeasible Optimal n m h k = absurd (not_none held k.1 h.1)
 exclude program nodes log held Infeasible Infeasible n m h k = refl
 exclude program nodes log held Infeasible NodeLimit n m h k = absurd (h.0.none_open k.matter)
 exclude program nodes log held Infeasible (Wide leaf place) n m h k = absurd (h.0.none_parked k.matter)
+exclude program nodes log held Infeasible (Unbounded ray) n m h k = absurd k
 exclude program nodes log held Infeasible NoMemory n m h k = absurd (m refl)
 exclude program nodes log held NodeLimit Optimal n m h k = absurd (k.0.none_open h.matter)
 exclude program nodes log held NodeLimit Infeasible n m h k = absurd (k.0.none_open h.matter)
 exclude program nodes log held NodeLimit NodeLimit n m h k = refl
 exclude program nodes log held NodeLimit (Wide leaf place) n m h k = absurd (k.none_open h.matter)
+exclude program nodes log held NodeLimit (Unbounded ray) n m h k = absurd k
 exclude program nodes log held NodeLimit NoMemory n m h k = absurd (m refl)
 exclude program nodes log held (Wide leaf place) Optimal n m h k = absurd (k.0.none_parked h.matter)
 exclude program nodes log held (Wide leaf place) Infeasible n m h k = absurd (k.0.none_parked h.matter)
 exclude program nodes log held (Wide leaf place) NodeLimit n m h k = absurd (h.none_open k.matter)
 exclude program nodes log held (Wide leaf place) (Wide other there) n m h k = refl
+exclude program nodes log held (Wide leaf place) (Unbounded ray) n m h k = absurd k
 exclude program nodes log held (Wide leaf place) NoMemory n m h k = absurd (m refl)
+exclude program nodes log held (Unbounded ray) other n m h k = absurd h
 exclude program nodes log held NoMemory other n m h k = absurd (n refl)
 
 -- ---- overflows
@@ -159,8 +168,10 @@ improves program (Some best) point held feasible better = record {
 no_open : (program : Program) (nodes : ℕ) (log : List Entry) (held : Option ℚ) (ended : Ended) (leaf : List ℚ) (place : Overflow) → status_of program.row_names ended ≡ Wide leaf place → EndsAs program nodes log held ended → ¬ OpenMatters program (root_value program) log held
 no_open program nodes log held EndedOptimal leaf place e h = absurd (cc)
 no_open program nodes log held EndedInfeasible leaf place e h = absurd (cc)
+no_open program nodes log held (EndedUnbounded ray) leaf place e h = absurd (cc)
 no_open program nodes log held EndedNodeLimit leaf place e h = absurd (cc)
 no_open program nodes log held (EndedWide values (ShownPlace there)) leaf place e h = h.0
+no_open program nodes log held (EndedWide values (ShownMoves number)) leaf place e h = absurd h.2
 no_open program nodes log held EndedNoMemory leaf place e h = absurd (cc)
 
 -- ---- names
@@ -173,8 +184,10 @@ end_fits : (program : Program) (nodes : ℕ) (log : List Entry) (answer : Answer
 end_fits program nodes log answer EndedOptimal e r h f = tt
 end_fits program nodes log answer EndedInfeasible e r h f =
     (ap (option_map (printed_held program)) (none_held _ answer.best h.2), ap (option_map (printed program)) (r.no_bound e))
+end_fits program nodes log answer (EndedUnbounded ray) e r h f = absurd h
 end_fits program nodes log answer EndedNodeLimit e r h f = tt
 end_fits program nodes log answer (EndedWide leaf (ShownPlace place)) e r h f = f.0
+end_fits program nodes log answer (EndedWide leaf (ShownMoves number)) e r h f = absurd h.2
 end_fits program nodes log answer EndedNoMemory e r h f = tt
 
 fits : (program : Program) (nodes : ℕ) (log : List Entry) (answer : Answer) → IsWellFormed program → IsAnswer program nodes log answer → FitNames (names_of program) (figures_of program answer)
@@ -194,6 +207,7 @@ agree program answer a = record {
 not_infeasible : (program : Program) (ended : Ended) → ended ≢ EndedInfeasible ⊎ ended ≡ EndedInfeasible
 not_infeasible program EndedOptimal = inl (λ e. absurd (cc))
 not_infeasible program EndedInfeasible = inr refl
+not_infeasible program (EndedUnbounded ray) = inl (λ e. absurd (cc))
 not_infeasible program EndedNodeLimit = inl (λ e. absurd (cc))
 not_infeasible program (EndedWide leaf shown) = inl (λ e. absurd (cc))
 not_infeasible program EndedNoMemory = inl (λ e. absurd (cc))

@@ -8,7 +8,7 @@ use Rattle.cip_problem.specs.Log.{Entry, IsLog}
 use Rattle.cip_leaves.specs.Leaf.{at_wholes}
 use Rattle.cip_leaves.specs.Wide.{Place, InRow, InCost, IsWide}
 use Rattle.cip_leaves.specs.Searched.{OpenMatters, ParkedMatters, IsShown}
-use Rattle.cip_answers.specs.Figures.{Overflow, AtRow, AtCost, Status, Optimal, Infeasible, NodeLimit, Wide, NoMemory, Figures, Held, FitNames, status_word, names_of, answer_text}
+use Rattle.cip_answers.specs.Figures.{Overflow, AtRow, AtCost, Status, Optimal, Infeasible, Unbounded, NodeLimit, Wide, NoMemory, Figures, Held, FitNames, status_word, names_of, answer_text}
 use Rattle.cip_answers.specs.Headline.{IsBetter, printed_cost, IsTruePoint, IsTrueBound, Agree}
 use Rattle.cip_solve.specs.RootBound.{root_value}
 
@@ -65,6 +65,7 @@ pub record IsSettled (program : Program) (log : List Entry) (held : Option Held)
 abbrev pub EndsWith : Program → (nodes : ℕ) → List Entry → Option Held → Status → Type 0
 EndsWith program nodes log held Optimal = IsSettled program log held × IsSome held
 EndsWith program nodes log held Infeasible = IsSettled program log held × (held ≡ None)
+EndsWith program nodes log held (Unbounded ray) = ⊥
 EndsWith program nodes log held NodeLimit = IsSpent program nodes log held
 EndsWith program nodes log held (Wide leaf overflow) = ShowsOverflow program log held leaf overflow
 EndsWith program nodes log held NoMemory = ⊤

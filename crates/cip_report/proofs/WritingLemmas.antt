@@ -6,8 +6,11 @@ use Rattle.std.proofs.Math.Seq.{take-append-add}
 use Rattle.std.proofs.lemmas.List.{take-append-le}
 use Rattle.cip_io.specs.Sink.{SinkTells, TakesAll, PushesPart}
 use Rattle.cip_rational.specs.Rational.{ℚ}
-use Rattle.cip_numerals.specs.NumberText.{fraction_text}
-use Rattle.cip_answers.specs.Figures.{line, point_lines}
+use Rattle.std.specs.Prelude.{pos}
+use Rattle.cip_rational.specs.Rational.{integer, denominator}
+use Rattle.cip_rational.proofs.Rational.Lowest.{numerator-integer, denominator-integer}
+use Rattle.cip_numerals.specs.NumberText.{natural_text, integer_text, denominator_text, fraction_text}
+use Rattle.cip_answers.specs.Figures.{line, point_lines, ray_name, ray_lines}
 use Rattle.cip_report.specs.Writing.{Passes, Writes}
 
 -- two appended to what is known are one
@@ -131,6 +134,36 @@ point_lines-more (first ∷ names) (only ∷ values) zero name value within name
 point_lines-more (first ∷ names) (only ∷ values) (suc number) name value within named same =
     ap (λ text. line first (fraction_text only) ++ text) (point_lines-more names values number name value (omega arith) named same)
     ∙ sym (append_assoc (line first (fraction_text only)) _ _)
+
+-- the lines of a ray, by those of the columns before one, its own and those after it
+pub ray_parts : (names : List (List ℕ)) (ray : List ℚ) (number : ℕ) (name : List ℕ) (change : ℚ) → number < length ray → slice_get names number ≡ Some name → change ≡ get_or ray number change → ray_lines names ray ≡ ray_lines (take number names) (take number ray) ++ line (ray_name name) (fraction_text change) ++ ray_lines (drop (suc number) names) (drop (suc number) ray)
+ray_parts [] ray number name change within named same = absurd (cc)
+ray_parts (first ∷ names) [] number name change within named same = absurd (omega arith)
+ray_parts (first ∷ names) (only ∷ ray) zero name change within named same =
+    let first_same : first ≡ name = cc in
+    rw (first_same, same) refl
+ray_parts (first ∷ names) (only ∷ ray) (suc number) name change within named same =
+    ap (λ text. line (ray_name first) (fraction_text only) ++ text) (ray_parts names ray number name change (omega arith) named same)
+    ∙ three_parts (line (ray_name first) (fraction_text only)) _ _ _
+
+-- the lines of the columns up to one
+pub ray_lines-more : (names : List (List ℕ)) (ray : List ℚ) (number : ℕ) (name : List ℕ) (change : ℚ) → number < length ray → slice_get names number ≡ Some name → change ≡ get_or ray number change → ray_lines (take (suc number) names) (take (suc number) ray) ≡ ray_lines (take number names) (take number ray) ++ line (ray_name name) (fraction_text change)
+ray_lines-more [] ray number name change within named same = absurd (cc)
+ray_lines-more (first ∷ names) [] number name change within named same = absurd (omega arith)
+ray_lines-more (first ∷ names) (only ∷ ray) zero name change within named same =
+    let first_same : first ≡ name = cc in
+    rw (first_same, same) (append-nil (line (ray_name name) (fraction_text only)))
+ray_lines-more (first ∷ names) (only ∷ ray) (suc number) name change within named same =
+    ap (λ text. line (ray_name first) (fraction_text only) ++ text) (ray_lines-more names ray number name change (omega arith) named same)
+    ∙ sym (append_assoc (line (ray_name first) (fraction_text only)) _ _)
+
+-- the text of a whole number
+pub whole_text : (n : ℕ) → fraction_text (integer (pos n)) ≡ natural_text n
+unfolding fraction_text
+whole_text n =
+    ap (λ z. integer_text z ++ denominator_text (denominator (integer (pos n)))) (numerator-integer (pos n))
+    ∙ ap (λ d. natural_text n ++ denominator_text d) (denominator-integer (pos n))
+    ∙ append-nil (natural_text n)
 
 -- of two texts the first failed
 pub first_of_two : {T E : Type 0} (result : Result T E) (old new : SinkTells) (front first second buffered : List ℕ) → IsErr result → PushesPart old new (front ++ first) → Writes result old new (front ++ (first ++ second)) buffered

@@ -3,12 +3,12 @@ use Rattle.std.specs.Prelude.{◌≡◌, ◌<◌, ℕ, List, [], option_map, sli
 use Rattle.cip_problem.specs.Program.{Program}
 use Rattle.cip_problem.specs.WellFormed.{columns}
 use Rattle.cip_problem.specs.Points.{printed}
-use Rattle.cip_answers.specs.Figures.{Overflow, AtRow, AtCost, Status, Optimal, Infeasible, NodeLimit, Wide, NoMemory, Figures, Held, names_of}
+use Rattle.cip_answers.specs.Figures.{Overflow, AtRow, AtCost, AtMoves, Status, Optimal, Infeasible, Unbounded, NodeLimit, Wide, NoMemory, Figures, Held, names_of}
 use Rattle.cip_model.specs.declared.verdicts.Place.TheVariants.{Row, Cost}
 use Rattle.cip_report.specs.declared.figures.Shown.{Shown}
-use Rattle.cip_report.specs.declared.figures.Shown.TheVariants.{Place}
+use Rattle.cip_report.specs.declared.figures.Shown.TheVariants.{Place, Moves}
 use Rattle.cip_report.specs.declared.figures.Ended.{Ended}
-use Rattle.cip_report.specs.declared.figures.Ended.TheVariants.{Optimal as EndedOptimal, Infeasible as EndedInfeasible, NodeLimit as EndedNodeLimit, Wide as EndedWide, NoMemory as EndedNoMemory}
+use Rattle.cip_report.specs.declared.figures.Ended.TheVariants.{Optimal as EndedOptimal, Infeasible as EndedInfeasible, Unbounded as EndedUnbounded, NodeLimit as EndedNodeLimit, Wide as EndedWide, NoMemory as EndedNoMemory}
 use Rattle.cip_report.specs.declared.figures.Held.{Held as HeldPoint}
 use Rattle.cip_report.specs.declared.figures.Answer.{Answer}
 
@@ -16,11 +16,13 @@ use Rattle.cip_report.specs.declared.figures.Answer.{Answer}
 abbrev pub overflow_of : List (List ℕ) → Shown → Overflow
 overflow_of rows (Place (Row number)) = AtRow (slice_index_or rows number [])
 overflow_of rows (Place Cost) = AtCost
+overflow_of rows (Moves number) = AtMoves number
 
 -- the end as it is printed, for rows of these names
 abbrev pub status_of : List (List ℕ) → Ended → Status
 status_of rows EndedOptimal = Optimal
 status_of rows EndedInfeasible = Infeasible
+status_of rows (EndedUnbounded ray) = Unbounded ray.items
 status_of rows EndedNodeLimit = NodeLimit
 status_of rows (EndedWide leaf shown) = Wide leaf.items (overflow_of rows shown)
 status_of rows EndedNoMemory = NoMemory
@@ -35,15 +37,17 @@ figures_of program answer = record {
   bound = option_map (printed program) answer.bound;
 }
 
--- what is shown is of one of so many rows, or of the cost
+-- what is shown is of one of so many rows, or of the cost, or it is moves
 abbrev pub StandsAmong : ℕ → Shown → Type 0
 StandsAmong rows (Place (Row number)) = number < rows
 StandsAmong rows (Place Cost) = ⊤
+StandsAmong rows (Moves number) = ⊤
 
--- a leaf that is shown has a value for each whole column
+-- a ray has a change for each column, and a leaf that is shown a value for each whole column
 abbrev pub EndedFits : Program → Ended → Type 0
 EndedFits program EndedOptimal = ⊤
 EndedFits program EndedInfeasible = ⊤
+EndedFits program (EndedUnbounded ray) = length ray.items ≡ length program.column_names
 EndedFits program EndedNodeLimit = ⊤
 EndedFits program (EndedWide leaf shown) =
     (length leaf.items ≡ length (names_of program).wholes) × StandsAmong (length program.row_names) shown

@@ -11,6 +11,8 @@ use cip_model::Place;
 pub enum Shown {
     /// A sum of a row, or that of the cost.
     Place(Place),
+    /// So many moves, at least 1, lead to one out of range, which is counted.
+    Moves(u64),
 }
 
 /// How a search ended.
@@ -20,6 +22,11 @@ pub enum Ended {
     Optimal,
     /// No point is feasible.
     Infeasible,
+    /// The cost falls without end from the point that is held.
+    Unbounded {
+        /// By how much each column changes, in their order.
+        ray: Vec<Frac>,
+    },
     /// The node budget is spent, and an open node matters.
     NodeLimit,
     /// No node that matters is open, and points that are better than the one held can only be those of leaves that
@@ -42,6 +49,7 @@ impl Ended {
         match self {
             Ended::Optimal => "optimal",
             Ended::Infeasible => "infeasible",
+            Ended::Unbounded { .. } => "unbounded",
             Ended::NodeLimit => "nodelimit",
             Ended::Wide { .. } => "wide",
             Ended::NoMemory => "nomemory",
@@ -55,6 +63,7 @@ impl Ended {
         match self {
             Ended::Optimal => 0,
             Ended::Infeasible => 0,
+            Ended::Unbounded { .. } => 0,
             Ended::NodeLimit => 10,
             Ended::Wide { .. } => 11,
             Ended::NoMemory => 6,

@@ -4,10 +4,10 @@ ghost use lib.Chars.{codes};
 ghost use Rattle.cip_leaves.specs.Leaf.{at_wholes};
 ghost use Rattle.cip_io.specs.Faults.{CountsFaults};
 ghost use Rattle.cip_io.specs.Sink.{TakesAll, PushesPart};
-ghost use Rattle.cip_numerals.specs.NumberText.{fraction_text};
+ghost use Rattle.cip_numerals.specs.NumberText.{natural_text, fraction_text};
 ghost use Rattle.cip_problem.specs.WellFormed.{columns};
 ghost use Rattle.cip_problem.specs.Points.{printed};
-ghost use Rattle.cip_answers.specs.Figures.{line, figure_text, point_lines, cost_lines, held_lines, leaf_name, leaf_lines, overflow_text, shown_lines, figure_lines, answer_text, held_cost, names_of};
+ghost use Rattle.cip_answers.specs.Figures.{line, figure_text, point_lines, cost_lines, held_lines, leaf_name, leaf_lines, ray_name, ray_lines, overflow_text, shown_lines, figure_lines, answer_text, held_cost, names_of};
 ghost use Rattle.cip_report.specs.Answers.{figures_of, printed_held, status_of, overflow_of, StandsAmong, EndedFits, AnswerFits};
 ghost use Rattle.cip_report.specs.Writing.{Writes};
 
@@ -151,6 +151,39 @@ fn write_held<K: Sink>(
     }
 }
 
+/// Writes a line of `ray`, a name and a change.
+fn write_ray_line<K: Sink>(
+    out: &mut K,
+    buffer: &mut Buffer,
+    name: &[u8],
+    change: Frac,
+) -> Result<(), Failed>
+    ensures taken { Writes result (K.tells out.old) (K.tells out.new)
+        (buffer.old ++ line (ray_name name.now) (fraction_text change)) buffer.new }
+    ensures faults { CountsFaults result (K.tells out.old).faults (K.tells out.new).faults }
+{
+    buffer.write(out, b"ray ")?;
+    write_number(out, buffer, name, change)
+}
+
+/// Writes a line for each column: its name and by how much it changes along a ray.
+fn write_ray<K: Sink>(
+    out: &mut K,
+    buffer: &mut Buffer,
+    names: &Names,
+    ray: &[Frac],
+) -> Result<(), Failed>
+    requires { length ray.now ≡ length names.now }
+    ensures taken { Writes result (K.tells out.old) (K.tells out.new)
+        (buffer.old ++ ray_lines names.now ray.now) buffer.new }
+    ensures faults { CountsFaults result (K.tells out.old).faults (K.tells out.new).faults }
+{
+    for number in 0..ray.len() {
+        write_ray_line(out, buffer, names.name(number), ray[number])?;
+    }
+    Ok(())
+}
+
 /// Writes a line of `leaf`, a name and a value.
 fn write_leaf_line<K: Sink>(
     out: &mut K,
@@ -190,6 +223,18 @@ fn write_leaf<K: Sink>(
     Ok(())
 }
 
+/// Writes the line of a number of moves.
+fn write_moves<K: Sink>(out: &mut K, buffer: &mut Buffer, number: u64) -> Result<(), Failed>
+    ensures taken { Writes result (K.tells out.old) (K.tells out.new)
+        (buffer.old ++ line (codes "overflow moves") (natural_text number)) buffer.new }
+    ensures faults { CountsFaults result (K.tells out.old).faults (K.tells out.new).faults }
+{
+    match Frac::whole(number as i128) {
+        Ok(value) => write_number(out, buffer, b"overflow moves", value),
+        Err(_) => unreachable!(),
+    }
+}
+
 /// Writes the line of what overflows.
 fn write_overflow<K: Sink>(
     out: &mut K,
@@ -207,10 +252,11 @@ fn write_overflow<K: Sink>(
             write_line(out, buffer, b"overflow row", names.name(number as usize))
         }
         Shown::Place(Place::Cost) => write_line(out, buffer, b"overflow", b"cost"),
+        Shown::Moves(number) => write_moves(out, buffer, number),
     }
 }
 
-/// Writes the lines of the leaf that is shown, if there is one.
+/// Writes the lines of the ray or of the leaf that is shown, if there is one.
 fn write_shown<K: Sink>(
     out: &mut K,
     buffer: &mut Buffer,
@@ -233,11 +279,14 @@ fn write_shown<K: Sink>(
             )?;
             write_overflow(out, buffer, program.row_names(), *shown)
         }
+        Ended::Unbounded { ray } => {
+            write_ray(out, buffer, program.column_names(), ray.as_slice())
+        }
         _ => Ok(()),
     }
 }
 
-/// Writes the lines of cost, bound, the point and the leaf that is shown.
+/// Writes the lines of cost, bound, the point and the ray or leaf that is shown.
 fn write_figures<K: Sink>(
     out: &mut K,
     buffer: &mut Buffer,

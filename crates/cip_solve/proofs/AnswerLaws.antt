@@ -1,37 +1,32 @@
 -- Laws of what a search answers.
-use Rattle.std.proofs.Common.{◌≡◌, ◌≢◌, ◌⊎◌, inl, inr, ℕ, zero, suc, ◌<◌, ◌≤◌, ◌*◌, ◌-◌, Bool, true, false, List, [], ◌∷◌, ◌++◌, length, Option, None, Some, IfSome, All, refl, sym, ap, ◌∙◌, subst, arith, slice_get}
-use Rattle.std.specs.Prelude.{max, IsSome, ⊤}
+use Rattle.std.proofs.Common.{◌≡◌, ◌≢◌, inl, inr, ℕ, zero, suc, ◌<◌, ◌≤◌, ◌*◌, ◌-◌, Bool, true, false, List, [], ◌∷◌, ◌++◌, length, Option, None, Some, IfSome, refl, sym, ap, ◌∙◌, subst, arith, slice_get}
+use Rattle.std.specs.Prelude.{max, IsSome}
 use Rattle.std.proofs.lemmas.List.{length-append}
 use Rattle.std.proofs.lemmas.Option.{none-some}
 use Rattle.std.proofs.lemmas.Slice.Zip.{AllZip-long}
 use Rattle.cip_rational.specs.Rational.{ℚ}
-use Rattle.cip_problem.specs.Program.{Sides, Row, Program}
+use Rattle.cip_problem.specs.Program.{Row, Program}
 use Rattle.cip_problem.specs.WellFormed.{IsWellFormed, columns}
-use Rattle.cip_problem.specs.Points.{IsFeasible, cost_of}
 use Rattle.cip_problem.proofs.Points.AtPlaces.{IsInBox-long}
 use Rattle.cip_problem.specs.Log.{Closed, Entry, IsLog}
 use Rattle.cip_problem.proofs.Log.Length.{log_is_short}
-use Rattle.cip_leaves.specs.Leaf.{at_wholes, IsWholeBetween, IsLeaf}
-use Rattle.cip_leaves.specs.Wide.{InRow, InCost, IsWide, IsWideAt}
-use Rattle.cip_leaves.specs.Searched.{first_node, nodes_given, OpenMatters, ParkedMatters, IsShown}
+use Rattle.cip_leaves.specs.Leaf.{at_wholes, IsWholeBetween}
+use Rattle.cip_leaves.specs.Wide.{IsWideAt}
+use Rattle.cip_leaves.specs.Searched.{first_node}
 use Rattle.cip_leaves.proofs.Points.{all_wholes}
 use Rattle.cip_model.specs.Meaning.{VerdictHolds}
 use Rattle.cip_model.specs.Verdicts.{verdict_of}
 use Rattle.cip_model.proofs.Meaning.Point.{verdict_holds, feasible_or_wide}
 use Rattle.cip_model.specs.declared.verdicts.Place.{Place}
 use Rattle.cip_model.specs.declared.verdicts.Place.TheVariants.{Row as AtRow, Cost}
-use Rattle.cip_model.specs.declared.verdicts.Verdict.TheVariants.{Feasible}
-use Rattle.cip_answers.specs.Figures.{names_of}
-use Rattle.cip_report.specs.Answers.{StandsAmong, EndedFits, AnswerFits}
+use Rattle.cip_report.specs.Answers.{StandsAmong, EndedFits}
 use Rattle.cip_report.specs.declared.figures.Ended.{Ended}
-use Rattle.cip_report.specs.declared.figures.Ended.TheVariants.{Optimal, Infeasible, NodeLimit, Wide, NoMemory}
-use Rattle.cip_report.specs.declared.figures.Shown.TheVariants.{Place as ShownPlace}
+use Rattle.cip_report.specs.declared.figures.Ended.TheVariants.{Optimal, Infeasible, Unbounded, NodeLimit, Wide, NoMemory}
+use Rattle.cip_report.specs.declared.figures.Shown.TheVariants.{Place as ShownPlace, Moves as ShownMoves}
 use Rattle.cip_report.specs.declared.figures.Held.{Held}
-use Rattle.cip_report.specs.declared.figures.Answer.{Answer}
-use Rattle.cip_solve.specs.Answering.{IsHeld, best_cost, EndsAs, IsAnswer}
-use Rattle.cip_solve.specs.RootBound.{root_value}
+use Rattle.cip_solve.specs.Answering.{IsHeld, best_cost, EndsAs}
 use Rattle.cip_solve.specs.Settling.{place_of}
-use Rattle.cip_solve.specs.Statements.{BudgetsSuffice, kind, EndsAreExact, AnswersFit, LeavesAreChecked}
+use Rattle.cip_solve.specs.Statements.{BudgetsSuffice, EndsAreExact, AnswersFit, LeavesAreChecked}
 use Rattle.cip_solve.proofs.OneMore.{follow_more}
 use Rattle.cip_solve.proofs.Alike.{is_log, is_log_from}
 use Rattle.cip_solve.proofs.WideLeaves.{overflows_wide}
@@ -59,22 +54,32 @@ ends_exclude program nodes log held Optimal Optimal h k n m = refl
 ends_exclude program nodes log held Optimal Infeasible h k n m = absurd (not_none held h.2 k.2)
 ends_exclude program nodes log held Optimal NodeLimit h k n m = absurd (h.0 k.1)
 ends_exclude program nodes log held Optimal (Wide leaf (ShownPlace place)) h k n m = absurd (h.1 k.1)
+ends_exclude program nodes log held Optimal (Wide leaf (ShownMoves number)) h k n m = absurd k.2
+ends_exclude program nodes log held Optimal (Unbounded ray) h k n m = absurd k
 ends_exclude program nodes log held Optimal NoMemory h k n m = absurd (m refl)
 ends_exclude program nodes log held Infeasible Optimal h k n m = absurd (not_none held k.2 h.2)
 ends_exclude program nodes log held Infeasible Infeasible h k n m = refl
 ends_exclude program nodes log held Infeasible NodeLimit h k n m = absurd (h.0 k.1)
 ends_exclude program nodes log held Infeasible (Wide leaf (ShownPlace place)) h k n m = absurd (h.1 k.1)
+ends_exclude program nodes log held Infeasible (Wide leaf (ShownMoves number)) h k n m = absurd k.2
+ends_exclude program nodes log held Infeasible (Unbounded ray) h k n m = absurd k
 ends_exclude program nodes log held Infeasible NoMemory h k n m = absurd (m refl)
 ends_exclude program nodes log held NodeLimit Optimal h k n m = absurd (k.0 h.1)
 ends_exclude program nodes log held NodeLimit Infeasible h k n m = absurd (k.0 h.1)
 ends_exclude program nodes log held NodeLimit NodeLimit h k n m = refl
 ends_exclude program nodes log held NodeLimit (Wide leaf (ShownPlace place)) h k n m = absurd (k.0 h.1)
+ends_exclude program nodes log held NodeLimit (Wide leaf (ShownMoves number)) h k n m = absurd k.2
+ends_exclude program nodes log held NodeLimit (Unbounded ray) h k n m = absurd k
 ends_exclude program nodes log held NodeLimit NoMemory h k n m = absurd (m refl)
 ends_exclude program nodes log held (Wide leaf (ShownPlace place)) Optimal h k n m = absurd (k.1 h.1)
 ends_exclude program nodes log held (Wide leaf (ShownPlace place)) Infeasible h k n m = absurd (k.1 h.1)
 ends_exclude program nodes log held (Wide leaf (ShownPlace place)) NodeLimit h k n m = absurd (h.0 k.1)
 ends_exclude program nodes log held (Wide leaf (ShownPlace place)) (Wide other (ShownPlace there)) h k n m = refl
+ends_exclude program nodes log held (Wide leaf (ShownPlace place)) (Wide other (ShownMoves number)) h k n m = absurd k.2
+ends_exclude program nodes log held (Wide leaf (ShownPlace place)) (Unbounded ray) h k n m = absurd k
 ends_exclude program nodes log held (Wide leaf (ShownPlace place)) NoMemory h k n m = absurd (m refl)
+ends_exclude program nodes log held (Wide leaf (ShownMoves number)) other h k n m = absurd h.2
+ends_exclude program nodes log held (Unbounded ray) other h k n m = absurd h
 ends_exclude program nodes log held NoMemory other h k n m = absurd (n refl)
 
 -- ---- answers are printed
@@ -104,10 +109,12 @@ stands_there program leaf Cost formed h = tt
 ended_fits : (program : Program) (nodes : ℕ) (log : List Entry) (held : Option ℚ) (ended : Ended) → IsWellFormed program → EndsAs program nodes log held ended → EndedFits program ended
 ended_fits program nodes log held Optimal formed h = tt
 ended_fits program nodes log held Infeasible formed h = tt
+ended_fits program nodes log held (Unbounded ray) formed h = absurd h
 ended_fits program nodes log held NodeLimit formed h = tt
 ended_fits program nodes log held (Wide leaf (ShownPlace place)) formed h =
     let long : length leaf.items ≡ length (at_wholes program.integral program.bounds) = AllZip-long IsWholeBetween (at_wholes program.integral program.bounds) leaf.items h.2.is_leaf in
     (long ∙ as_many program.integral program.bounds program.column_names (formed.bounds ∙ sym formed.column_names), stands_there program leaf.items place formed h.2.wide)
+ended_fits program nodes log held (Wide leaf (ShownMoves number)) formed h = absurd h.2
 ended_fits program nodes log held NoMemory formed h = tt
 
 pub answer_fits : AnswersFit

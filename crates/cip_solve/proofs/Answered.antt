@@ -12,8 +12,8 @@ use Rattle.cip_leaves.proofs.Covers.{nothing_cheaper, no_point}
 use Rattle.cip_incumbent.specs.HeldPoint.{HeldPoint, Holding, IsHeldOf, HoldsPointOf}
 use Rattle.cip_model.specs.declared.verdicts.Place.{Place}
 use Rattle.cip_report.specs.declared.figures.Ended.{Ended}
-use Rattle.cip_report.specs.declared.figures.Ended.TheVariants.{Optimal, Infeasible, NodeLimit, Wide, NoMemory}
-use Rattle.cip_report.specs.declared.figures.Shown.TheVariants.{Place as ShownPlace}
+use Rattle.cip_report.specs.declared.figures.Ended.TheVariants.{Optimal, Infeasible, Unbounded, NodeLimit, Wide, NoMemory}
+use Rattle.cip_report.specs.declared.figures.Shown.TheVariants.{Place as ShownPlace, Moves as ShownMoves}
 use Rattle.cip_report.specs.declared.figures.Held.{Held}
 use Rattle.cip_solve.specs.Answering.{IsHeld, EndsAs, Agrees, IsAnswer}
 use Rattle.cip_solve.specs.Kept.{cost_held, IsFirstParked, final_bound, IsDone, BestIs}
@@ -30,6 +30,7 @@ Comes limit log bound held nodes place leaf Optimal =
     (nodes ≡ []) × IsDone (not (matters held bound)) (is_some held) place leaf Optimal
 Comes limit log bound held nodes place leaf Infeasible =
     (nodes ≡ []) × IsDone (not (matters held bound)) (is_some held) place leaf Infeasible
+Comes limit log bound held nodes place leaf (Unbounded ray) = ⊥
 Comes limit log bound held nodes place leaf NodeLimit = (length log ≡ limit) × (nodes ≢ []) × (matters held bound ≡ true)
 Comes limit log bound held nodes place leaf (Wide values shown) =
     (nodes ≡ []) × IsDone (not (matters held bound)) (is_some held) place leaf (Wide values shown)
@@ -156,8 +157,10 @@ module _ (program : Program) (log : List Entry) (bound held : Option ℚ) (ids :
     | inr k ↦ is_held_some held k.1
   ]
   some_held limit Infeasible c n e f = absurd (n refl)
+  some_held limit (Unbounded ray) c n e f = absurd c
   some_held limit NodeLimit c n e f = absurd (c.1 e)
   some_held limit (Wide values (ShownPlace found)) c n e f = absurd (none-some found (sym f ∙ c.1.1))
+  some_held limit (Wide values (ShownMoves number)) c n e f = absurd c.1
   some_held limit NoMemory c n e f = absurd (c e)
 
   ends_as : (limit : ℕ) (ended : Ended) → bound ≡ root_value program → Comes limit log bound held nodes place leaf ended → EndsAs program limit log held ended
@@ -172,6 +175,7 @@ module _ (program : Program) (log : List Entry) (bound held : Option ℚ) (ids :
   ]
   ends_as limit Infeasible r c =
       (subst (λ t. ¬ OpenMatters program t log held) r (none_open c.0), no_parked c.1.1, is_held_none held c.1.2)
+  ends_as limit (Unbounded ray) r c = absurd c
   ends_as limit NodeLimit r c =
       (c.0, subst (λ t. OpenMatters program t log held) r (open_at_limit program log bound held ids nodes h c.1 c.2))
   ends_as limit (Wide values (ShownPlace found)) r c =
@@ -186,6 +190,7 @@ module _ (program : Program) (log : List Entry) (bound held : Option ℚ) (ids :
         },
         subst (λ t. IsShown program t log values.items (place_of found)) r (subst (λ t. IsShown program bound log t (place_of found)) (sym c.1.2) shown),
       )
+  ends_as limit (Wide values (ShownMoves number)) r c = absurd c.1
   ends_as limit NoMemory r c = tt
 
 -- ---- the answer

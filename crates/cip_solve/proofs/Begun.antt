@@ -25,7 +25,7 @@ use Rattle.cip_model.proofs.Meaning.BoxBound.{least_cost_from_holds}
 use Rattle.cip_model.specs.declared.verdicts.Place.{Place}
 use Rattle.cip_incumbent.specs.HeldPoint.{HeldPoint, Holding, IsHeldOf, HoldsPointOf, nothing_held}
 use Rattle.cip_report.specs.declared.figures.Ended.{Ended}
-use Rattle.cip_report.specs.declared.figures.Ended.TheVariants.{Optimal, Infeasible, NodeLimit, Wide, NoMemory as LacksMemory}
+use Rattle.cip_report.specs.declared.figures.Ended.TheVariants.{Optimal, Infeasible, Unbounded, NodeLimit, Wide, NoMemory as LacksMemory}
 use Rattle.cip_report.specs.declared.figures.Held.{Held}
 use Rattle.cip_report.specs.declared.figures.Answer.{Answer}
 use Rattle.cip_leaves.specs.Searched.{first_node}
@@ -167,6 +167,7 @@ module _ (limit : ℕ) (log : List Entry) (bound held : Option ℚ) (bounds oute
   comes_of : (stop : Stop) (ended : Ended) → SearchStops limit log bound held nodes stop → EndsBy stop (not (matters held bound)) (is_some held) place leaf ended → Comes limit log bound held (nodes_at bounds outer bound nodes) place leaf ended
   comes_of Done Optimal n d = (none_there n, d)
   comes_of Done Infeasible n d = (none_there n, d)
+  comes_of Done (Unbounded ray) n d = absurd d
   comes_of Done NodeLimit n d = absurd d
   comes_of Done (Wide values shown) n d = (none_there n, d)
   comes_of Done LacksMemory n d = absurd d

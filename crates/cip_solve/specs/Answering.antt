@@ -7,12 +7,11 @@ use Rattle.cip_problem.specs.Points.{IsFeasible, cost_of, IsLowerBound}
 use Rattle.cip_problem.specs.Log.{Entry, IsLog}
 use Rattle.cip_leaves.specs.Searched.{OpenMatters, ParkedMatters, NoMore, IsLeast, IsCovered, AreTrueEntries, IsShown}
 use Rattle.cip_report.specs.declared.figures.Ended.{Ended}
-use Rattle.cip_report.specs.declared.figures.Ended.TheVariants.{Optimal, Infeasible, NodeLimit, Wide, NoMemory}
+use Rattle.cip_report.specs.declared.figures.Ended.TheVariants.{Optimal, Infeasible, Unbounded, NodeLimit, Wide, NoMemory}
 use Rattle.cip_report.specs.declared.figures.Shown.{Shown}
-use Rattle.cip_report.specs.declared.figures.Shown.TheVariants.{Place}
+use Rattle.cip_report.specs.declared.figures.Shown.TheVariants.{Place, Moves}
 use Rattle.cip_report.specs.declared.figures.Held.{Held}
 use Rattle.cip_report.specs.declared.figures.Answer.{Answer}
-use Rattle.cip_leaves.specs.Wide as wide
 use Rattle.cip_solve.specs.RootBound.{root_value}
 use Rattle.cip_solve.specs.Settling.{place_of}
 
@@ -30,21 +29,23 @@ pub record IsHeld (program : Program) (held : Held) : Type 0 where
 abbrev pub best_cost : Answer → Option ℚ
 best_cost answer = option_map (λ held. held.cost) answer.best
 
--- what is shown, as the definitions have it
-abbrev pub shown_place : Shown → wide.Place
-shown_place (Place place) = place_of place
+-- a leaf is shown for what overflows there; a leaf of whole columns alone takes no moves
+abbrev pub IsShownBy : Program → List Entry → List ℚ → Shown → Type 0
+IsShownBy program log leaf (Place place) = IsShown program (root_value program) log leaf (place_of place)
+IsShownBy program log leaf (Moves number) = ⊥
 
--- what each end says: of the open nodes and parked leaves that matter, and of what is held
+-- what each end says (where each column is whole and bounded the cost doesn't fall without end): of the open nodes and parked leaves that matter, and of what is held
 abbrev pub EndsAs : Program → ℕ → List Entry → Option ℚ → Ended → Type 0
 EndsAs program nodes log held Optimal =
     (¬ OpenMatters program (root_value program) log held) × (¬ ParkedMatters log held) × IsSome held
 EndsAs program nodes log held Infeasible =
     (¬ OpenMatters program (root_value program) log held) × (¬ ParkedMatters log held) × (held ≡ None)
+EndsAs program nodes log held (Unbounded ray) = ⊥
 EndsAs program nodes log held NodeLimit =
     (length log ≡ nodes) × OpenMatters program (root_value program) log held
 EndsAs program nodes log held (Wide leaf shown) =
     (¬ OpenMatters program (root_value program) log held) × ParkedMatters log held
-    × IsShown program (root_value program) log leaf.items (shown_place shown)
+    × IsShownBy program log leaf.items shown
 EndsAs program nodes log held NoMemory = ⊤
 
 -- cost and bound are equal

@@ -8,10 +8,10 @@ use Rattle.cip_problem.specs.Log.{Parked, Entry, matters}
 use Rattle.cip_leaves.specs.Searched.{IsShown}
 use Rattle.cip_model.specs.declared.verdicts.Place.{Place}
 use Rattle.cip_incumbent.specs.HeldPoint.{HeldPoint, Holding, HoldsPointOf}
-use Rattle.cip_report.specs.declared.figures.Shown.TheVariants.{Place as ShownPlace}
+use Rattle.cip_report.specs.declared.figures.Shown.TheVariants.{Place as ShownPlace, Moves as ShownMoves}
 use Rattle.cip_report.specs.declared.figures.Held.{Held}
 use Rattle.cip_report.specs.declared.figures.Ended.{Ended}
-use Rattle.cip_report.specs.declared.figures.Ended.TheVariants.{Optimal, Infeasible, NodeLimit, Wide, NoMemory as LacksMemory}
+use Rattle.cip_report.specs.declared.figures.Ended.TheVariants.{Optimal, Infeasible, Unbounded, NodeLimit, Wide, NoMemory as LacksMemory}
 use Rattle.cip_solve.specs.declared.stack.OpenNode.{OpenNode}
 use Rattle.cip_solve.specs.declared.search.Stop.{Stop}
 use Rattle.cip_solve.specs.declared.search.Stop.TheVariants.{Done, Spent, NoMemory}
@@ -64,9 +64,11 @@ final_bound false bound held (node ∷ nodes) place = bound
 abbrev pub IsDone : Bool → Bool → Option Place → List ℚ → Ended → Type 0
 IsDone closed held place leaf Optimal = (closed ≡ true) ⊎ ((place ≡ None) × (held ≡ true))
 IsDone closed held place leaf Infeasible = (closed ≡ false) × (place ≡ None) × (held ≡ false)
+IsDone closed held place leaf (Unbounded ray) = ⊥
 IsDone closed held place leaf NodeLimit = ⊥
 IsDone closed held place leaf (Wide values (ShownPlace found)) =
     (closed ≡ false) × (place ≡ Some found) × (values.items ≡ leaf)
+IsDone closed held place leaf (Wide values (ShownMoves number)) = ⊥
 IsDone closed held place leaf LacksMemory = ⊥
 
 -- how a search ends that stopped so

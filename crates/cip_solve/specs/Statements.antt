@@ -13,7 +13,7 @@ use Rattle.cip_model.specs.Verdicts.{verdict_of}
 use Rattle.cip_model.specs.declared.verdicts.Verdict.TheVariants.{Feasible}
 use Rattle.cip_report.specs.Answers.{AnswerFits}
 use Rattle.cip_report.specs.declared.figures.Ended.{Ended}
-use Rattle.cip_report.specs.declared.figures.Ended.TheVariants.{Optimal, Infeasible, NodeLimit, Wide, NoMemory}
+use Rattle.cip_report.specs.declared.figures.Ended.TheVariants.{Optimal, Infeasible, Unbounded, NodeLimit, Wide, NoMemory}
 use Rattle.cip_report.specs.declared.figures.Answer.{Answer}
 use Rattle.cip_solve.specs.Answering.{EndsAs, IsAnswer}
 
@@ -31,6 +31,7 @@ kind Infeasible = 1
 kind NodeLimit = 2
 kind (Wide leaf shown) = 3
 kind NoMemory = 4
+kind (Unbounded ray) = 5
 
 -- what two ends say, want of memory aside, holds at once only where they are of one kind
 abbrev pub EndsAreExact : Type 0

@@ -9,5 +9,7 @@ returns c = record {
   negative_ratio = tried.negative_ratio;
   infeasible = refl;
   wide = tried.wide;
+  wide_by_moves = tried.wide_by_moves;
+  unbounded = tried.unbounded;
   usage = refl;
 }

@@ -1,0 +1,20 @@
+use Rattle.std.proofs.Common.{◌∙◌, take, append_assoc, add-one}
+use Rattle.cip_numerals.specs.NumberText.{fraction_text}
+use Rattle.cip_answers.specs.Figures.{line, ray_name, ray_lines}
+use Rattle.cip_report.proofs.WritingLemmas.{ray_parts, ray_lines-more, second_of_three, Passes-more}
+use Rattle.cip_report.proofs.writing.write_ray.Goals as goal
+
+pub returns-in_err-write_ray_line-clause-taken : goal.returns-in_err-write_ray_line-clause-taken
+returns-in_err-write_ray_line-clause-taken g c =
+    let parts = ray_parts c.args.names.now c.args.ray.now c.loop-number.number c.name.result.now c.index-ray-number.result c.loop-number-test.true c.name.ensures c.index-ray-number.is in
+    rw parts
+    (second_of_three c.from_residual.result _ _ _ c.args.buffer.now _ _ _ _ _ c.from_residual.ensures.0 c.loop-number.invariant.0 c.in_err-write_ray_line.ensures.taken)
+
+pub loop-number-preserved : goal.loop-number-preserved
+loop-number-preserved g c =
+    let old = c.loop-number.invariant in
+    let more = ray_lines-more c.args.names.now c.args.ray.now c.loop-number.number c.name.result.now c.index-ray-number.result c.loop-number-test.true c.name.ensures c.index-ray-number.is in
+    let texts = append_assoc c.args.buffer.now (ray_lines (take c.loop-number.number c.args.names.now) (take c.loop-number.number c.args.ray.now)) (line (ray_name c.name.result.now) (fraction_text c.index-ray-number.result)) in (
+      rw (add-one, more, ← texts) (Passes-more _ _ _ _ _ _ _ old.0 c.in_ok-write_ray_line.ensures.taken),
+      c.in_ok-write_ray_line.ensures.faults.0 ∙ old.1,
+    )

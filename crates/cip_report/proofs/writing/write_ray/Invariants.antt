@@ -1,0 +1,10 @@
+use Rattle.std.proofs.Common.{◌≡◌, ◌++◌, take}
+use Rattle.cip_answers.specs.Figures.{ray_lines}
+use Rattle.cip_report.specs.Writing.{Passes}
+use Rattle.cip_report.proofs.writing.write_ray.Given as goal
+
+-- the lines of the columns so far have been written, with no fault
+abbrev pub invariant-loop-number : goal.invariant-loop-number
+invariant-loop-number g l =
+    Passes (g.K.Sink.tells l.initial.out) (g.K.Sink.tells l.out) (l.initial.buffer ++ ray_lines (take l.number l.names) (take l.number l.ray)) l.buffer
+    × ((g.K.Sink.tells l.out).faults ≡ (g.K.Sink.tells l.initial.out).faults)
