@@ -1,2 +1,3 @@
+pub mod BoxInWork
 pub mod KeptSteps
 pub mod Offering

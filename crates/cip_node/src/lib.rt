@@ -2,6 +2,7 @@
 #![tactic(auto)]
 
 mod core;
+mod entering;
 mod steps;
 
 pub use core::Core;
