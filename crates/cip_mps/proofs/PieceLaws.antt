@@ -1,5 +1,5 @@
 -- A text and one piece more.
-use Rattle.std.proofs.Common.{◌≡◌, ℕ, zero, suc, ◌+◌, ◌-◌, ◌<◌, ◌≤◌, Bool, true, false, cond, not, ◌||◌, List, [], ◌∷◌, ◌++◌, length, take, Option, None, Some, Result, Ok, Err, MatchResult, refl, sym, ap, ◌∙◌, arith}
+use Rattle.std.proofs.Common.{◌≡◌, ℕ, zero, suc, ◌+◌, ◌-◌, ◌<◌, ◌≤◌, Bool, true, false, cond, List, [], ◌∷◌, ◌++◌, length, take, None, Some, Result, Ok, Err, MatchResult, refl, sym, ap, ◌∙◌, arith}
 use Rattle.std.specs.Prelude.{fold, nat_le, nat_lt, if◌then◌else◌}
 use Rattle.std.specs.List.{count_by}
 use Rattle.std.proofs.lemmas.List.Sums.{fold-append, sum_by-cons}
@@ -7,7 +7,7 @@ use Rattle.std.proofs.lemmas.Bool.{cond-true, cond-false, le-leb, lt-leb, leb-tr
 use Rattle.cip_problem.specs.Program.{Program}
 use Rattle.cip_problem.specs.Limits.{longest_text}
 use Rattle.cip_syntax.specs.Lines.{is_line_feed}
-use Rattle.cip_mps_rules.specs.MpsOutcome.{Outcome, Means, Faulty, too_long, outcome_of, HasProgram, HasFault}
+use Rattle.cip_mps_rules.specs.MpsOutcome.{Outcome, Means, Faulty, too_long, outcome_of, HasProgram}
 use Rattle.cip_mps_steps.specs.MpsSteps.{Progress, line_read}
 use Rattle.cip_mps_steps.specs.MpsStream.{Stream, no_stream, byte_read, stream_with, stream_of, ended_fault, fault_in, outcome_from, last_line, last_progress, closed, read_outcome}
 use Rattle.cip_mps_steps.specs.MpsStepStatements.{FaultsOfEndedLines, FaultsStay, TextsAreRead}

@@ -1,5 +1,5 @@
 -- A stream behind the bytes of one line.
-use Rattle.std.proofs.Common.{◌≡◌, ℕ, suc, ◌+◌, ◌==◌, ◌||◌, Bool, true, false, cond, List, [], ◌∷◌, ◌++◌, length, refl, sym, ap, ◌∙◌, arith}
+use Rattle.std.proofs.Common.{◌≡◌, ℕ, suc, ◌+◌, ◌==◌, ◌||◌, Bool, true, false, List, [], ◌∷◌, ◌++◌, length, refl, sym, ap, ◌∙◌, arith}
 use Rattle.std.specs.Prelude.{fold}
 use Rattle.std.specs.List.{list_any}
 use Rattle.std.proofs.lemmas.List.{append-nil, append_assoc}
@@ -7,7 +7,7 @@ use Rattle.std.proofs.lemmas.List.Sums.{fold-append}
 use Rattle.std.proofs.lemmas.Bool.{cond-false}
 use Rattle.cip_syntax.specs.Lines.{is_line_feed, is_filled}
 use Rattle.cip_mps_steps.specs.MpsState.{State}
-use Rattle.cip_mps_steps.specs.MpsSteps.{Progress, Going, line_read}
+use Rattle.cip_mps_steps.specs.MpsSteps.{Going, line_read}
 use Rattle.cip_mps_steps.specs.MpsStream.{Stream, byte_read}
 use Rattle.cip_mps.specs.Standings.{is_reading, progress_of}
 use Rattle.cip_mps.specs.declared.line_stream.Standing.{Standing}

@@ -1,5 +1,5 @@
 -- What a reader of free MPS has read, and what its calls answer.
-use Rattle.std.specs.Prelude.{◌≡◌, ⊤, ℕ, Bool, true, false, List, Result, Ok, Err}
+use Rattle.std.specs.Prelude.{◌≡◌, ⊤, ℕ, true, false, List, Result, Ok, Err}
 use Rattle.cip_mps_rules.specs.MpsOutcome.{HasFault}
 use Rattle.cip_mps_steps.specs.MpsStream.{stream_of}
 use Rattle.cip_mps.specs.MpsFaultKinds.{kind_number}

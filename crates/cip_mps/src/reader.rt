@@ -18,7 +18,9 @@ use std::alloc::Global;
 #[derive(Debug, Drop)]
 pub struct MpsReader {
     pub(crate) stream: LineStream,
+    /// How many bytes of the text were looked at.
     pub(crate) size: usize,
+    /// A growth was refused.
     pub(crate) spent: bool,
     ghost counted: { stream.ended ≤ size },
     ghost few: { size ≤ longest_text + 1 },

@@ -1,11 +1,11 @@
 -- What a line of COLUMNS without fault finds: its rows have no number on its column or behind it.
-use Rattle.std.proofs.Common.{◌≡◌, ◌≢◌, ℕ, suc, ◌+◌, ◌==◌, ◌<◌, ◌≤◌, Bool, true, false, not, cond, ◌&&◌, ◌||◌, List, [], ◌∷◌, ◌++◌, length, Option, None, Some, refl, sym, ap, ◌∙◌, arith}
-use Rattle.std.specs.Prelude.{nat_lt, nat_le, slice_index_or, slice_set, unwrap_or, is_some, IfSome}
+use Rattle.std.proofs.Common.{◌≡◌, ◌≢◌, ℕ, ◌+◌, ◌==◌, ◌<◌, ◌≤◌, true, false, not, ◌&&◌, List, [], ◌∷◌, length, Option, None, Some, refl, sym, ap, ◌∙◌, arith}
+use Rattle.std.specs.Prelude.{nat_lt, nat_le, slice_index_or, unwrap_or, IfSome}
 use Rattle.std.specs.Str.{bytes_eq}
 use Rattle.std.specs.List.{list_all, list_any}
 use Rattle.std.proofs.lemmas.List.{get_or-set_other}
 use Rattle.std.proofs.lemmas.Bool.{and_from, and_parts, lt-ltb, ltb-true, ltb-false, eq-eqb}
-use Rattle.cip_problem.specs.Limits.{most_columns, most_entries, longest_name}
+use Rattle.cip_problem.specs.Limits.{most_columns, most_entries}
 use Rattle.cip_mps_rules.specs.MpsWords.{number_in, is_in}
 use Rattle.cip_mps_rules.specs.MpsSayings.{Value}
 use Rattle.cip_mps_rules.specs.MpsRules.{least, has_twins, is_before_last}

@@ -1,15 +1,9 @@
 -- Names that stand once: each has its place as its number.
-use Rattle.std.proofs.Common.{◌≡◌, ℕ, zero, suc, ◌+◌, ◌<◌, ◌≤◌, Bool, true, false, cond, List, [], ◌∷◌, ◌++◌, length, take, Option, None, Some, refl, sym, ap, inl, inr, ◌⊎◌, ◌∙◌, arith}
-use Rattle.std.specs.Prelude.{slice_get, is_some, not}
-use Rattle.std.specs.Str.{bytes_eq}
-use Rattle.std.proofs.lemmas.List.{length-append}
-use Rattle.cip_problem.specs.Names.{number_of}
-use Rattle.cip_mps_rules.specs.MpsWords.{next, number_in, is_in}
-use Rattle.cip_mps_rules.proofs.MpsNames.{bytes_same, same_bytes, bytes_self}
-use Rattle.cip_mps_rules.proofs.Quiet.{left_false, right_false, or_false}
-use Rattle.cip_mps_steps.specs.MpsState.{RowRead, kept_names, is_kept}
+use Rattle.std.proofs.Common.{◌≡◌, ℕ, zero, suc, true, false, List, [], ◌∷◌, ◌++◌, length, Option, Some, refl, sym, ap, inl, inr, ◌⊎◌, ◌∙◌}
+use Rattle.std.specs.Prelude.{slice_get, is_some}
+use Rattle.cip_mps_rules.specs.MpsWords.{number_in, is_in}
 use Rattle.cip_mps_draft.specs.NamesApart.{AreApart}
-use Rattle.cip_mps_steps.proofs.LookUps.{number_in-left, number_in-push, is_in-cons, is_in-append}
+use Rattle.cip_mps_steps.proofs.LookUps.{number_in-left, number_in-push}
 
 -- a name of the list, or the new one
 get_push : (names : List (List ℕ)) (new name : List ℕ) (k : ℕ) → slice_get (names ++ new ∷ []) k ≡ Some name → (slice_get names k ≡ Some name) ⊎ ((k ≡ length names) × (name ≡ new))

@@ -1,12 +1,11 @@
 -- The objective, the names of the rows that are kept, and that the program is well-formed.
-use Rattle.std.proofs.Common.{◌≡◌, ℕ, zero, suc, ◌+◌, ◌<◌, ◌≤◌, Bool, true, false, not, cond, ◌&&◌, ◌||◌, List, [], ◌∷◌, ◌++◌, length, map, take, drop, Option, None, Some, refl, sym, ap, subst, ◌∙◌, arith, All}
-use Rattle.std.specs.Prelude.{slice_get, slice_index_or, is_some, nat_lt, unwrap_or}
+use Rattle.std.proofs.Common.{◌≡◌, ℕ, zero, suc, ◌+◌, ◌<◌, ◌≤◌, Bool, true, false, cond, ◌||◌, List, [], ◌∷◌, ◌++◌, length, map, take, drop, Option, None, Some, refl, sym, ap, subst, ◌∙◌, arith, All}
+use Rattle.std.specs.Prelude.{slice_get, slice_index_or, nat_lt, unwrap_or}
 use Rattle.std.specs.List.{AllByRecursion, filter, list_all}
 use Rattle.std.specs.Str.{bytes_eq}
 use Rattle.std.proofs.lemmas.List.{length-map}
 use Rattle.std.proofs.lemmas.List.Elements.{All-from_recursion}
-use Rattle.std.proofs.lemmas.List.Folds.{list_all-append}
-use Rattle.std.proofs.lemmas.Bool.{and_parts, and_from, ltb-true}
+use Rattle.std.proofs.lemmas.Bool.{and_parts, ltb-true}
 use Rattle.cip_rational.specs.Rational.{ℚ, negate}
 use Rattle.cip_problem.specs.Limits.{most_rows, most_columns}
 use Rattle.cip_problem.specs.Program.{Term, Sides, Row, Program}
@@ -19,7 +18,6 @@ use Rattle.cip_mps_rules.proofs.Quiet.{left_false, right_false, or_false}
 use Rattle.cip_mps_steps.specs.MpsState.{Held, RowRead, State, no_row, is_zero_value, is_kept, kept_names, objective_row, right_side_of, minimized_by, costs_from, terms_from, finished_row, program_from}
 use Rattle.cip_mps_steps.specs.MpsSoundState.{held_below}
 use Rattle.cip_mps_steps.proofs.LookUps.{is_in-cons}
-use Rattle.cip_mps_draft.proofs.RowTermLaws.{term_of}
 
 -- ---- the objective
 

@@ -1,13 +1,12 @@
 -- The terms of a row: its numbers, but those that are 0.
-use Rattle.std.proofs.Common.{◌≡◌, ◌↔◌, ℕ, zero, suc, ◌+◌, ◌<◌, ◌≤◌, Bool, true, false, not, cond, ◌&&◌, List, [], ◌∷◌, ◌++◌, length, take, Option, None, Some, IsTrue, refl, sym, ap, ◌∙◌, rules, add-one, append_assoc, append-nil, arith}
+use Rattle.std.proofs.Common.{◌≡◌, ◌↔◌, ℕ, zero, suc, ◌<◌, Bool, true, false, not, cond, ◌&&◌, List, [], ◌∷◌, ◌++◌, length, take, Some, IsTrue, refl, sym, ap, ◌∙◌, rules, append_assoc, arith}
 use Rattle.std.specs.Prelude.{nat_lt, slice_get, slice_index_or}
 use Rattle.std.specs.List.{list_all}
 use Rattle.std.proofs.lemmas.List.Folds.{list_all-append}
-use Rattle.std.proofs.lemmas.Bool.{and_from, and_parts, ltb-true}
+use Rattle.std.proofs.lemmas.Bool.{and_from, and_parts}
 use Rattle.cip_rational.specs.Rational.{ℚ, zeroℚ, lt_test}
 use Rattle.cip_rational.proofs.Rational.Order.{≤ℚ_antisymm, le_of_lt_test}
 use Rattle.cip_problem.specs.Program.{Term}
-use Rattle.cip_problem.specs.RowTerms.{no_term, column_at, IsNotAboveLast}
 use Rattle.cip_mps_steps.specs.MpsState.{Held, is_zero_value, terms_from}
 use Rattle.cip_mps_steps.specs.MpsSoundState.{rises}
 use Rattle.cip_mps_steps.proofs.Told.{zero_is_zero}

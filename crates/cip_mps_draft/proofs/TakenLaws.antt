@@ -1,5 +1,5 @@
 -- The state behind each kind of line, by the fields that it changes.
-use Rattle.std.proofs.Common.{◌≡◌, ℕ, zero, suc, ◌+◌, Bool, true, false, not, ◌&&◌, ◌||◌, cond, List, [], ◌∷◌, ◌++◌, length, map, Option, None, Some, refl, sym, ap, ◌∙◌, add-zero}
+use Rattle.std.proofs.Common.{◌≡◌, ℕ, suc, ◌+◌, Bool, true, false, not, ◌&&◌, ◌||◌, cond, List, [], ◌∷◌, ◌++◌, length, Option, None, Some, refl, ap, add-zero}
 use Rattle.std.specs.Prelude.{nat_lt, nat_le}
 use Rattle.std.specs.List.{filter, list_any}
 use Rattle.std.proofs.lemmas.List.{append-nil}
@@ -8,11 +8,9 @@ use Rattle.cip_number_text.specs.Numeral.{Numeral}
 use Rattle.cip_mps_rules.specs.MpsWords.{Part, NoPart, Title, Sense, Rows, Columns, RightSides, Ranges, Bounds, End, RowKind, BoundKind, sense_of, is_zero, is_no_number, is_too_fine, number_in, is_in}
 use Rattle.cip_mps_rules.specs.MpsSayings.{Place, Value, Saying, UnknownSection, Opens, Misplaced, Miscounted, Skipped, SenseLine, RowLine, ColumnLine, Marker, BadMarker, RightSideLine, RangeLine, BoundLine, BadBound, no_place, place_after}
 use Rattle.cip_mps_rules.specs.MpsFacts.{coefficients_in, senses_in, sense_if}
-use Rattle.cip_mps_rules.specs.MpsBounds.{Bounded, unbounded, with_bound}
-use Rattle.cip_mps_rules.specs.MpsProgram.{is_free}
 use Rattle.cip_mps_rules.specs.MpsRules.{Rule, rule, least, entry_count, is_end, has_twins, is_before_last}
 use Rattle.cip_mps_steps.specs.MpsState.{State, row_at, first_of, program_from}
-use Rattle.cip_mps_steps.specs.MpsSteps.{or_else, changed, holds, new_row, put, taken, tests}
+use Rattle.cip_mps_steps.specs.MpsSteps.{or_else, holds, put, taken, tests}
 use Rattle.cip_mps_steps.specs.MpsLineTests.{column_tests, numbers_of, has_huge, has_unknown}
 use Rattle.cip_mps_draft.specs.DraftLines.{entries_in, column_rules, sense_said_on}
 use Rattle.cip_mps_draft.specs.DraftStates.{at_place}

@@ -32,7 +32,7 @@ sense_said_on part words = None
 abbrev pub entries_in : List Value → ℕ
 entries_in values = length (filter (λ value. not (is_zero value.number)) values)
 
--- a column too many, and a number too many
+-- a column too many, or a number too many
 abbrev pub is_over : State → (column : List ℕ) → List Value → Bool
 is_over state column values =
     (not (is_in state.column_names column) && nat_le most_columns (length state.column_names))

@@ -15,14 +15,20 @@ use std::alloc::Global;
 #[derive(Debug, Drop)]
 pub struct Draft {
     pub(crate) alloc: Global,
+    /// The sections so far, in their order.
     pub(crate) opened: Vec<Part>,
+    /// Whether the first sense maximises, if one was said.
     pub(crate) sense: Option<bool>,
     pub(crate) row_names: NameIndex,
+    /// The rows of these names, with those of type N.
     pub(crate) rows: Vec<RowDraft>,
     pub(crate) column_names: NameIndex,
     pub(crate) columns: Vec<ColumnDraft>,
+    /// How many rows aren't of type N.
     pub(crate) row_count: usize,
+    /// How many numbers of COLUMNS aren't 0.
     pub(crate) entries: usize,
+    /// The row that is looked at first for the next name.
     pub(crate) near: usize,
     ghost rows_named: { vec_len rows ≡ length row_names },
     ghost columns_named: { vec_len columns ≡ length column_names },

@@ -1,5 +1,5 @@
 -- The record of a text of one line.
-use Rattle.std.proofs.Common.{◌≡◌, ℕ, ◌+◌, List, [], ◌∷◌, Option, None, Some, MatchOption, refl, sym, ap, ◌∙◌}
+use Rattle.std.proofs.Common.{◌≡◌, ℕ, List, [], ◌∷◌, Option, None, Some, MatchOption, refl, sym, ap, ◌∙◌}
 use Rattle.std.specs.Prelude.{option_map}
 use Rattle.cip_syntax.specs.Lines.{Record, HasNoLineFeed, lines, record_of}
 use Rattle.cip_syntax.proofs.Cuts.{lines_last}

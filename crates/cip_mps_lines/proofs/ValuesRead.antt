@@ -1,5 +1,5 @@
 -- The code's tests of a value, as those of the text that says it.
-use Rattle.std.proofs.Common.{◌≡◌, ◌↔◌, ℕ, ◌*◌, ◌^◌, nat_le, Bool, true, false, not, ◌&&◌, if◌then◌else◌, List, Option, None, Some, IsTrue, is_le, pos, refl, sym, ap, ◌∙◌, rules}
+use Rattle.std.proofs.Common.{◌≡◌, ◌↔◌, ℕ, ◌*◌, ◌^◌, nat_le, Bool, true, false, not, ◌&&◌, if◌then◌else◌, List, Some, IsTrue, is_le, pos, refl, sym, ap, ◌∙◌, rules}
 use Rattle.cip_rational.specs.Rational.{ℚ, zeroℚ, lt_test, ◌<ℚ◌, integer, absolute, compare_rational}
 use Rattle.cip_rational.proofs.Rational.Order.{≤ℚ_antisymm, le_of_lt_test, lt_of_test, test_of_lt}
 use Rattle.cip_rational.proofs.Comparisons.{is_le-compare}

@@ -1,6 +1,5 @@
 -- The first words of a line, as the code keeps them, and the sets of a section.
-use Rattle.std.specs.Prelude.{ℕ, Bool, false, not, List, map, take, Option, None, Some}
-use Rattle.std.specs.Str.{bytes_eq}
+use Rattle.std.specs.Prelude.{ℕ, List, map, take}
 use denote.Ref.{Bor}
 use Rattle.cip_mps_lines.specs.declared.fields.Words.{Words}
 

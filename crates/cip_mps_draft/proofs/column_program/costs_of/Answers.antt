@@ -1,4 +1,4 @@
-use Rattle.std.proofs.Common.{◌≡◌, ◌+◌, ◌-◌, ◌++◌, rules, arith, sym, ap, ◌∙◌, add-one, subst, true, ℕ}
+use Rattle.std.proofs.Common.{◌≡◌, arith, sym, ap, add-one, subst, true, ℕ}
 use Rattle.cip_mps_steps.specs.MpsState.{costs_from}
 use Rattle.cip_mps_draft.specs.Costs.{held_behind}
 use Rattle.cip_mps_draft.proofs.CostLaws.{from, one_cost, behind_rises, behind_later, from_zero}

@@ -1,4 +1,4 @@
-use Rattle.std.proofs.Common.{◌≡◌, ℕ, ◌+◌, ◌-◌, ◌++◌, Bool, true}
+use Rattle.std.proofs.Common.{◌≡◌, ◌-◌, ◌++◌, true}
 use Rattle.std.specs.Prelude.{nat_le}
 use Rattle.std.specs.List.{list_all}
 use Rattle.cip_mps_steps.specs.MpsState.{Held, costs_from}

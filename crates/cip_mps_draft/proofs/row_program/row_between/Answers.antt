@@ -1,4 +1,4 @@
-use Rattle.std.proofs.Common.{◌≡◌, ◌++◌, ◌∷◌, [], ap, sym, ◌∙◌, length, take, add-one}
+use Rattle.std.proofs.Common.{◌++◌, ◌∷◌, [], ap, sym, ◌∙◌, take, add-one}
 use Rattle.cip_problem.specs.Program.{Row}
 use Rattle.cip_mps_steps.specs.MpsState.{terms_from}
 use Rattle.cip_mps_draft.proofs.RowTermLaws.{terms_below, terms_take, held_at}

@@ -1,4 +1,3 @@
-use Rattle.std.proofs.Common.{◌≡◌, Some}
 use Rattle.cip_mps_lines.specs.MpsLines.{saying_of}
 use Rattle.cip_mps_draft.specs.DraftStates.{kept}
 use Rattle.cip_mps.proofs.LineLaws.{kind_some, kind_few}

@@ -1,7 +1,7 @@
 use Rattle.std.proofs.Common.{◌≡◌, ◌+◌, ◌++◌, true, false, ap, sym, ◌∙◌, refl}
 use Rattle.cip_mps_steps.specs.MpsSteps.{Going, line_read}
 use Rattle.cip_mps.specs.LinesRead.{state_of_lines, progress_after}
-use Rattle.cip_mps.specs.Standings.{is_reading, progress_of}
+use Rattle.cip_mps.specs.Standings.{is_reading}
 use Rattle.cip_mps.proofs.StreamLaws.{line_read_with, stays, reads}
 use Rattle.cip_mps.proofs.line_stream.LineStream.end_line.Goals as goal
 

@@ -1,6 +1,5 @@
 use Rattle.std.proofs.Common.{◌≡◌, ◌++◌, true, ap, sym, ◌∙◌}
 use Rattle.cip_syntax.specs.Lines.{is_filled}
-use Rattle.cip_mps.specs.Standings.{is_reading}
 use Rattle.cip_mps.proofs.StreamLaws.{tail_read, some_filled, filled_more}
 use Rattle.cip_mps.proofs.line_stream.LineStream.keep.Goals as goal
 

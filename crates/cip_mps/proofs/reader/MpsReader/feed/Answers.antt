@@ -1,9 +1,7 @@
-use Rattle.std.proofs.Common.{◌≡◌, ◌+◌, ◌-◌, ◌++◌, length, take, ap, sym, ◌∙◌}
+use Rattle.std.proofs.Common.{◌≡◌, ◌+◌, ◌++◌, length, ap, sym, ◌∙◌}
 use Rattle.std.specs.Prelude.{fold}
-use Rattle.cip_problem.specs.Limits.{longest_text}
 use Rattle.cip_mps_steps.specs.MpsStream.{byte_read, stream_of}
 use Rattle.cip_mps.specs.StreamsRead.{StandsAt}
-use Rattle.cip_mps.specs.MpsReaders.{HasRead}
 use Rattle.cip_mps.proofs.PieceLaws.{sizes, piece_read, fed}
 use Rattle.cip_mps.proofs.reader.MpsReader.feed.Goals as goal
 

@@ -1,4 +1,4 @@
-use Rattle.std.proofs.Common.{◌≡◌, Bool, false, List, ◌∷◌, [], ap, ◌||◌}
+use Rattle.std.proofs.Common.{◌≡◌, false, ap}
 use Rattle.std.specs.Str.{bytes_eq}
 use Rattle.cip_mps_rules.specs.MpsWords.{number_in}
 use Rattle.cip_mps_rules.proofs.Quiet.{left_false}

@@ -1,4 +1,4 @@
-use Rattle.std.proofs.Common.{◌≡◌, false, ap, refl}
+use Rattle.std.proofs.Common.{ap, refl}
 use Rattle.std.specs.List.{list_any}
 use Rattle.cip_mps_lines.specs.MpsLines.{values_of, value_in, second_in}
 use Rattle.cip_mps_rules.specs.MpsWords.{number_in}

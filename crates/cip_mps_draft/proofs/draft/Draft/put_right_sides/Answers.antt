@@ -1,7 +1,7 @@
-use Rattle.std.proofs.Common.{◌≡◌, false, ap, Option, None, Some, ◌∷◌, [], refl, subst}
+use Rattle.std.proofs.Common.{◌≡◌, false, ap, Option, None, ◌∷◌, [], subst}
 use Rattle.std.specs.Str.{bytes_eq}
 use Rattle.cip_rational.specs.Rational.{ℚ}
-use Rattle.cip_mps_lines.specs.MpsLines.{values_of, value_in, second_in}
+use Rattle.cip_mps_lines.specs.MpsLines.{value_in, second_in}
 use Rattle.cip_mps_lines.specs.declared.line.Pair.{Pair}
 use Rattle.cip_mps_rules.specs.MpsRules.{least}
 use Rattle.cip_mps_rules.specs.MpsWords.{number_in}
