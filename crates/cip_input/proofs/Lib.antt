@@ -2,3 +2,6 @@ pub mod Bounded
 pub mod ModelTexts
 pub mod Pulled
 pub mod Readings
+pub mod LineTextsRead
+pub mod BlocksTold
+pub mod PointTold

@@ -1,3 +1,8 @@
+pub mod BlocksRead
+pub mod BlocksTaken
 pub mod BoundedModels
 pub mod ModelsRead
+pub mod PointsRead
+pub mod PointsTaken
 pub mod TextPulls
+pub mod TextsRead

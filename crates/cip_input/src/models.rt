@@ -45,10 +45,13 @@ impl From<AllocError> for Unread {
 }
 
 impl TextReader for MpsReader {
-    ghost use Rattle.std.specs.Prelude.{◌++◌, ℕ, List, OnOk};
+    ghost use Rattle.std.specs.Prelude.{◌≡◌, ◌++◌, ℕ, List, Option, None, OnOk};
+    ghost use Rattle.cip_problem.specs.Program.{Program};
     ghost use Rattle.cip_mps.specs.MpsReaders.{HasRead};
 
     ghost has_read = { HasRead };
+
+    ghost subject = { λ _. None };
 
     /// That a line is faulty is left to the end.
     fn take_piece(&mut self, piece: &[u8]) -> Result<(), AllocError> {

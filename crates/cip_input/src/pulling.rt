@@ -1,6 +1,7 @@
 //! Pulling a text from a store, piece by piece.
-ghost use Rattle.std.specs.Prelude.{◌≡◌, ◌<◌, ◌≤◌, ◌++◌, ℕ, List, [], MatchResult, IfOk, OnOk, length, ⊤};
+ghost use Rattle.std.specs.Prelude.{◌≡◌, ◌<◌, ◌≤◌, ◌++◌, ℕ, List, Option, [], MatchResult, IfOk, OnOk, length, ⊤};
 ghost use Rattle.cip_io.specs.Store.{StoreTells};
+ghost use Rattle.cip_problem.specs.Program.{Program};
 ghost use Rattle.cip_input.specs.TextPulls.{IsReading, ReadsPiece, IsAllRead, PullCause};
 ghost use Rattle.cip_input.specs.declared.pulling.TheConstants.{PIECE};
 
@@ -16,10 +17,14 @@ pub(crate) trait TextReader {
     /// The reader has read these bytes, and no growth was refused.
     ghost has_read: { Self → List ℕ → Type 0 };
 
+    /// The program that the text speaks of, if it speaks of one.
+    ghost subject: { Self → Option Program };
+
     /// Takes one more piece. An `Err` comes where a growth was refused.
     fn take_piece(&mut self, piece: &[u8]) -> Result<(), AllocError>
-        ensures { (bytes : List ℕ) → has_read self.old bytes
-            → OnOk result (has_read self.new (bytes ++ piece.now)) };
+        ensures read { (bytes : List ℕ) → has_read self.old bytes
+            → OnOk result (has_read self.new (bytes ++ piece.now)) }
+        ensures same { subject self.new ≡ subject self.old };
 }
 
 /// Why a text was not read to its end.
@@ -65,6 +70,7 @@ fn read_piece<S: Store, T: TextReader>(
         → MatchResult result (ReadsPiece (T.has_read reader.new) chosen (S.tells store.new) pulled) (λ _. ⊤) }
     ensures within { IfOk result (λ count. count ≤ length buffer.old) }
     ensures size { length buffer.new ≡ length buffer.old }
+    ensures same { T.subject reader.new ≡ T.subject reader.old }
     ensures cause { MatchResult result (λ _. ⊤) (PullCause (S.tells store.old) (S.tells store.new)) }
     ensures holds { (S.tells store.new).holds ≡ (S.tells store.old).holds }
 {
@@ -84,6 +90,7 @@ pub(crate) fn read_pieces<S: Store, T: TextReader>(
     ensures read { MatchResult result
         (λ _. IsAllRead (T.has_read reader.new) (S.tells store.old) (S.tells store.new))
         (PullCause (S.tells store.old) (S.tells store.new)) }
+    ensures same { T.subject reader.new ≡ T.subject reader.old }
     ensures holds { (S.tells store.new).holds ≡ (S.tells store.old).holds }
 {
     let mut pulled = 0usize;

@@ -6,4 +6,4 @@ pub returns-clause-read : goal.returns-clause-read
 returns-clause-read g c = λ chosen pulled r.
     let same : length c.pull.new.into ≡ length c.args.buffer.now = search rules in
     let within : c.in_ok-count.count ≤ length c.pull.new.into = omega (arith, same, c.in_ok-count.ensures.left.within) in
-    reads_piece _ (g.T.TextReader.has_read c.take_piece.new.self) chosen _ _ _ _ pulled c.in_ok-count.count r within c.in_ok-count.ensures.left c.in_ok-count.ensures.faults.0 (c.in_ok-take_piece.ensures r.bytes r.has_read)
+    reads_piece _ (g.T.TextReader.has_read c.take_piece.new.self) chosen _ _ _ _ pulled c.in_ok-count.count r within c.in_ok-count.ensures.left c.in_ok-count.ensures.faults.0 (c.in_ok-take_piece.ensures.read r.bytes r.has_read)

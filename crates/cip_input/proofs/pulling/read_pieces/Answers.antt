@@ -10,6 +10,7 @@ loop-pulled-init g c = record {
   in_range = omega arith;
   size = c.requires.room;
   reading = reading_none (g.T.TextReader.has_read c.args.reader.now) (g.S.Store.tells c.args.store.now) c.requires.fresh;
+  same = search rules;
   holds = search rules;
 }
 
@@ -26,6 +27,7 @@ loop-pulled-preserved g c =
       in_range = omega (arith, so_far.in_range, so_far.size, here, front, within);
       size = length-append c.read_piece.new.buffer (drop room c.loop-pulled.buffer) ∙ omega (arith, so_far.size, here, front, back, kept);
       reading = (c.in_ok-count.ensures.read (g.S.Store.tells c.args.store.now) c.loop-pulled.pulled so_far.reading).reading;
+      same = c.in_ok-count.ensures.same ∙ so_far.same;
       holds = c.in_ok-count.ensures.holds ∙ so_far.holds;
     }
 

@@ -8,6 +8,7 @@ invariant-loop-pulled g l = record {
   in_range : l.pulled ≤ most_pulled;
   size : length l.buffer ≡ PIECE;
   reading : IsReading (g.T.TextReader.has_read l.reader) (g.S.Store.tells l.fn.store) (g.S.Store.tells l.store) l.pulled;
+  same : g.T.TextReader.subject l.reader ≡ g.T.TextReader.subject l.fn.reader;
   holds : (g.S.Store.tells l.store).holds ≡ (g.S.Store.tells l.fn.store).holds;
 }
 
