@@ -1,0 +1,21 @@
+NAME apart
+ROWS
+ N COST
+ L R1
+ L R2
+ L R3
+COLUMNS
+ M1 'MARKER' 'INTORG'
+ a COST -2 R1 2
+ a R3 1
+ b COST -1 R1 2
+ b R3 1
+ c COST -2 R2 2
+ c R3 1
+ d COST -1 R2 2
+ d R3 1
+ M2 'MARKER' 'INTEND'
+RHS
+ RHS R1 3 R2 3
+ RHS R3 3
+ENDATA
