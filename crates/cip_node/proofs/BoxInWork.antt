@@ -1,7 +1,7 @@
 -- The box in work as changes are made.
 use Rattle.std.proofs.Common.{◌≡◌, ℕ, ◌<◌, Bool, true, false, not, ◌&&◌, if◌then◌else◌, IfSome, List, [], ◌∷◌, ◌++◌, reverse, length, slice_set, slice_index_or, Option, None, Some, refl, sym, ap, ◌∙◌, subst, arith}
 use Rattle.std.proofs.lemmas.Bool.{both_ways}
-use Rattle.std.proofs.lemmas.List.{append_assoc, reverse-append, get_or-set_same}
+use Rattle.std.proofs.lemmas.List.{append_assoc, reverse-append, get_or-set_same, length-set}
 use Rattle.cip_rational.specs.Rational.{ℚ, ◌≤ℚ◌, le_test}
 use Rattle.cip_rational.proofs.Rational.Order.{≤ℚ_trans, test_of_le}
 use Rattle.cip_problem.specs.Program.{Sides}
@@ -65,3 +65,8 @@ none_after_all box now done change left all e f h point k =
 -- after all changes it is the node's
 pub all_done : (box now : List Sides) (done all : List Change) → now ≡ narrowed box (reverse done) → done ≡ all → now ≡ narrowed box all
 all_done box now done all e f = e ∙ ap (λ l. narrowed box (reverse l)) f ∙ narrowed-reverse box all
+
+-- changes keep the number of columns
+pub narrowed_long : (box : List Sides) (changes : List Change) → length (narrowed box changes) ≡ length box
+narrowed_long box [] = refl
+narrowed_long box (change ∷ earlier) = length-set (narrowed box earlier) change.column _ ∙ narrowed_long box earlier

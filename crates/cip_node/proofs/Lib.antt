@@ -1,3 +1,4 @@
 pub mod BoxInWork
 pub mod KeptSteps
 pub mod Offering
+pub mod Rounded

@@ -45,7 +45,7 @@ kept_after program tree work old new Taken point verdict h e f g k =
 kept_after program tree work old new NotBetter point verdict h e f g k = subst (λ t. IsKept program tree (cost_held t) work) (sym f) k
 kept_after program tree work old new (Breaks v) point verdict h e f g k = subst (λ t. IsKept program tree (cost_held t) work) (sym f) k
 
-itself : (held : Option ℚ) → IsNoDearer held held
+pub itself : (held : Option ℚ) → IsNoDearer held held
 itself None = tt
 itself (Some cost) = ≤ℚ_refl cost
 

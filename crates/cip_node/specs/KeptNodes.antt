@@ -1,12 +1,15 @@
 -- What holds of the tree and the point held of a search over a program between two steps. The program is searched
 -- itself: what it is reduced to is the program, and all comes back as it is.
-use Rattle.std.specs.Prelude.{◌≡◌, ℕ, ◌+◌, ◌^◌, true, List, [], ◌∷◌, Option, Some, option_map}
+use Rattle.std.specs.Prelude.{◌≡◌, ℕ, ◌+◌, ◌^◌, ◌≤◌, true, List, [], ◌∷◌, Option, Some, option_map}
 use Rattle.std.specs.List.{Contains}
 use Rattle.cip_rational.specs.Rational.{ℚ}
-use Rattle.cip_problem.specs.Program.{Sides, Program}
+use Rattle.cip_problem.specs.Program.{Sides, Row, Program}
 use Rattle.cip_problem.specs.Box.{sides_at}
 use Rattle.cip_problem.specs.WellFormed.{columns}
 use Rattle.cip_problem.specs.Log.{Node}
+use Rattle.cip_cuts.specs.Improving.{IsValidRow}
+use Rattle.cip_cert.specs.declared.rows.PoolRow.{PoolRow}
+use Rattle.cip_node_bounds.specs.NodeRows.{BeginWith}
 use Rattle.cip_tree.specs.Nodes.{Nodes}
 use Rattle.cip_incumbent.specs.HeldPoint.{Holding, HoldsPointOf}
 use Rattle.cip_leaf_programs.specs.WideLeaf.{IsWideLeaf}
@@ -53,3 +56,13 @@ pub record IsKept (program : Program) (tree : Nodes) (held : Option ℚ) (work :
 pub record IsHolding (program : Program) (holding : Holding) : Type 0 where
   pub feasible : HoldsPointOf program holding
   pub room : holding.columns ≡ columns program
+
+-- each row of a pool is valid in its scope
+abbrev pub IsPoolOf : Program → Option ℚ → List PoolRow → Type 0
+IsPoolOf program held pool = (kept : PoolRow) → Contains pool kept → IsValidRow program held kept.scope kept.row
+
+-- what is reused from node to node fits a program: the rows begin with its own, and there is room for its columns
+pub record IsWorkplace (program : Program) (rows : List Row) (room : ℕ) (pool : ℕ) : Type 0 where
+  pub own : BeginWith program rows
+  pub wide : columns program ≤ room
+  pub same : pool ≡ columns program

@@ -1,0 +1,95 @@
+//! The linear program of a node in work.
+ghost use Rattle.std.specs.Prelude.{◌≡◌, ◌≤◌, ◌∷◌, [], true, length, IfOk, None, Some};
+ghost use Rattle.cip_problem.specs.WellFormed.{columns};
+ghost use Rattle.cip_cuts.specs.Improving.{IsBoundIn, IsNoDearer};
+ghost use Rattle.cip_cuts.specs.Cuts.{HasWholeCosts};
+ghost use Rattle.cip_leaves.specs.Searched.{NoMore};
+ghost use Rattle.cip_tree.specs.Nodes.{IsTaken, box_of, shown};
+ghost use Rattle.cip_node_bounds.specs.Relaxing.{IsRelaxed};
+ghost use Rattle.cip_node.specs.KeptNodes.{cost_held, IsKept, IsHolding, IsWorkplace};
+
+use crate::core::Core;
+use cip_frac::Frac;
+use cip_node_bounds::{Mark, Relaxed, relax};
+use cip_node_rules::{are_whole, rounded_bound};
+use cip_tree::Node;
+use std::alloc::{AllocError, Global};
+
+impl<'a> Core<'a> {
+    /// Solves the linear program of the box in work. `Err` comes where memory was refused.
+    pub(crate) fn relaxed(&mut self, alloc: Global) -> Result<Relaxed, AllocError>
+        requires place { IsWorkplace self.old.program.now self.old.rows.rows.items
+            (length self.old.scratch.row.entries) self.old.pool.columns }
+        requires columns { length self.old.domain.box ≡ columns self.old.program.now }
+        requires cutoff { self.old.cutoff ≡ None }
+        ensures relaxed { IfOk result (IsRelaxed self.new.program.now
+            (record { own = self.new.program.now.rows; pool = self.new.pool.rows; cutoff = None }) self.new.domain.box
+            (length self.new.scratch.row.entries)) }
+        ensures place { IsWorkplace self.new.program.now self.new.rows.rows.items
+            (length self.new.scratch.row.entries) self.new.pool.columns }
+        ensures frame { self.new ≡ record self.old { rows = self.new.rows; scratch = self.new.scratch } }
+    {
+        relax(
+            alloc,
+            self.program,
+            &self.pool,
+            &self.cutoff,
+            self.domain.bounds(),
+            &mut self.rows,
+            &mut self.scratch,
+        )
+    }
+
+    /// Offers a point of a linear program, if it has whole values on whole columns.
+    pub(crate) fn offer_whole(&mut self, node: &Node, point: &[Frac])
+        requires kept { IsKept self.old.program.now self.old.tree (cost_held self.old.incumbent)
+            (shown self.old.tree node.now ∷ []) }
+        requires taken { IsTaken self.old.tree node.now }
+        requires holding { IsHolding self.old.program.now self.old.incumbent }
+        requires values { length point.now ≡ columns self.old.program.now }
+        ensures kept { IsKept self.new.program.now self.new.tree (cost_held self.new.incumbent)
+            (shown self.new.tree node.now ∷ []) }
+        ensures taken { IsTaken self.new.tree node.now }
+        ensures same { shown self.new.tree node.now ≡ shown self.old.tree node.now }
+        ensures holding { IsHolding self.new.program.now self.new.incumbent }
+        ensures no_dearer { IsNoDearer (cost_held self.new.incumbent) (cost_held self.old.incumbent) }
+        ensures log { self.new.tree.log ≡ self.old.tree.log }
+        ensures ids { self.new.tree.ids ≡ self.old.tree.ids }
+        ensures frame { self.new ≡ record self.old { tree = self.new.tree; incumbent = self.new.incumbent } }
+    {
+        let _columns = self.program.columns();
+        if are_whole(self.program.whole(), point) {
+            let _answer = self.offer(node, point);
+        }
+    }
+}
+
+/// What the linear program of a node leaves of it.
+#[derive(Debug, Drop)]
+pub(crate) enum Bounded {
+    /// The node's box has no improving point.
+    Empty,
+    /// The node goes on, with a point of its linear program, if one was found, and the mark, if nothing was shown.
+    Open {
+        point: Option<Vec<Frac>>,
+        mark: Option<Mark>,
+    },
+}
+
+impl<'a> Core<'a> {
+    /// Gives a node a bound that holds in its box, rounded up where costs are whole, if it is greater than its own.
+    fn raise_rounded(&self, node: &mut Node, bound: Frac)
+        requires kept { IsKept self.now.program.now self.now.tree (cost_held self.now.incumbent)
+            (shown self.now.tree node.old ∷ []) }
+        requires holds { IsBoundIn self.now.program.now (cost_held self.now.incumbent) (box_of self.now.tree node.old) bound }
+        requires whole_costs { self.now.whole_costs ≡ true → HasWholeCosts self.now.program.now }
+        ensures kept { IsKept self.now.program.now self.now.tree (cost_held self.now.incumbent)
+            (shown self.now.tree node.new ∷ []) }
+        ensures node { node.new ≡ record node.old { bound = node.new.bound } }
+        ensures own { NoMore node.old.bound node.new.bound }
+        ensures raised { NoMore (Some bound) node.new.bound }
+    {
+        let rounded = rounded_bound(bound, self.whole_costs);
+        self.raise(node, rounded);
+    }
+}
