@@ -1,4 +1,5 @@
 pub mod BoxInWork
 pub mod KeptSteps
+pub mod NodeBound
 pub mod Offering
 pub mod Rounded

@@ -1,3 +1,4 @@
+pub mod Bounding
 pub mod Entering
 pub mod KeptNodes
 pub mod Looking

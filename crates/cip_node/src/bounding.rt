@@ -1,12 +1,13 @@
 //! The linear program of a node in work.
-ghost use Rattle.std.specs.Prelude.{◌≡◌, ◌≤◌, ◌∷◌, [], true, length, IfOk, None, Some};
+ghost use Rattle.std.specs.Prelude.{◌≡◌, ◌≤◌, ◌∷◌, [], true, length, IfOk, IfSome, None, Some};
 ghost use Rattle.cip_problem.specs.WellFormed.{columns};
 ghost use Rattle.cip_cuts.specs.Improving.{IsBoundIn, IsNoDearer};
 ghost use Rattle.cip_cuts.specs.Cuts.{HasWholeCosts};
 ghost use Rattle.cip_leaves.specs.Searched.{NoMore};
 ghost use Rattle.cip_tree.specs.Nodes.{IsTaken, box_of, shown};
 ghost use Rattle.cip_node_bounds.specs.Relaxing.{IsRelaxed};
-ghost use Rattle.cip_node.specs.KeptNodes.{cost_held, IsKept, IsHolding, IsWorkplace};
+ghost use Rattle.cip_node.specs.KeptNodes.{cost_held, IsKept, IsHolding, IsPoolOf, IsWorkplace};
+ghost use Rattle.cip_node.specs.Bounding.{IsBounded};
 
 use crate::core::Core;
 use cip_frac::Frac;
@@ -91,5 +92,93 @@ impl<'a> Core<'a> {
     {
         let rounded = rounded_bound(bound, self.whole_costs);
         self.raise(node, rounded);
+    }
+
+    /// Offers a point, if there is one and it has whole values on whole columns.
+    fn offer_if(&mut self, node: &Node, point: &Option<Vec<Frac>>)
+        requires kept { IsKept self.old.program.now self.old.tree (cost_held self.old.incumbent)
+            (shown self.old.tree node.now ∷ []) }
+        requires taken { IsTaken self.old.tree node.now }
+        requires holding { IsHolding self.old.program.now self.old.incumbent }
+        requires values { IfSome point.now (λ values. length values.items ≡ columns self.old.program.now) }
+        ensures kept { IsKept self.new.program.now self.new.tree (cost_held self.new.incumbent)
+            (shown self.new.tree node.now ∷ []) }
+        ensures taken { IsTaken self.new.tree node.now }
+        ensures same { shown self.new.tree node.now ≡ shown self.old.tree node.now }
+        ensures holding { IsHolding self.new.program.now self.new.incumbent }
+        ensures no_dearer { IsNoDearer (cost_held self.new.incumbent) (cost_held self.old.incumbent) }
+        ensures log { self.new.tree.log ≡ self.old.tree.log }
+        ensures ids { self.new.tree.ids ≡ self.old.tree.ids }
+        ensures frame { self.new ≡ record self.old { tree = self.new.tree; incumbent = self.new.incumbent } }
+    {
+        match point {
+            None => {}
+            Some(values) => self.offer_whole(node, values.as_slice()),
+        }
+    }
+
+    /// Solves the linear program of a node, whose box is the box in work: its bound rises to what that shows, and a
+    /// point that is whole on whole columns is offered. `Err` comes where memory was refused, and leaves the nodes and
+    /// the point held as they were.
+    pub(crate) fn bound(&mut self, alloc: Global, node: &mut Node) -> Result<Bounded, AllocError>
+        requires kept { IsKept self.old.program.now self.old.tree (cost_held self.old.incumbent)
+            (shown self.old.tree node.old ∷ []) }
+        requires taken { IsTaken self.old.tree node.old }
+        requires holding { IsHolding self.old.program.now self.old.incumbent }
+        requires box_in_work { self.old.domain.box ≡ box_of self.old.tree node.old }
+        requires columns { length self.old.domain.box ≡ columns self.old.program.now }
+        requires place { IsWorkplace self.old.program.now self.old.rows.rows.items
+            (length self.old.scratch.row.entries) self.old.pool.columns }
+        requires pool { IsPoolOf self.old.program.now (cost_held self.old.incumbent) self.old.pool.rows }
+        requires cutoff { self.old.cutoff ≡ None }
+        requires whole_costs { self.old.whole_costs ≡ true → HasWholeCosts self.old.program.now }
+        ensures kept { IsKept self.new.program.now self.new.tree (cost_held self.new.incumbent)
+            (shown self.new.tree node.new ∷ []) }
+        ensures taken { IsTaken self.new.tree node.new }
+        ensures holding { IsHolding self.new.program.now self.new.incumbent }
+        ensures node { node.new ≡ record node.old { bound = node.new.bound } }
+        ensures own { NoMore node.old.bound node.new.bound }
+        ensures same { box_of self.new.tree node.new ≡ box_of self.old.tree node.old }
+        ensures bounded { IfOk result (IsBounded self.new.program.now (cost_held self.new.incumbent)
+            (record { own = self.new.program.now.rows; pool = self.new.pool.rows; cutoff = None }) self.new.domain.box
+            (length self.new.scratch.row.entries) node.new.bound) }
+        ensures place { IsWorkplace self.new.program.now self.new.rows.rows.items
+            (length self.new.scratch.row.entries) self.new.pool.columns }
+        ensures no_dearer { IsNoDearer (cost_held self.new.incumbent) (cost_held self.old.incumbent) }
+        ensures log { self.new.tree.log ≡ self.old.tree.log }
+        ensures ids { self.new.tree.ids ≡ self.old.tree.ids }
+        ensures frame { self.new ≡ record self.old {
+          rows = self.new.rows;
+          scratch = self.new.scratch;
+          tree = self.new.tree;
+          incumbent = self.new.incumbent;
+        } }
+    {
+        let _rows = self.pool.rows();
+        match self.relaxed(alloc)? {
+            Relaxed::Empty => Ok(Bounded::Empty),
+            Relaxed::Bound { point, bound } => {
+                self.raise_rounded(node, bound);
+                self.offer_whole(node, point.as_slice());
+                Ok(Bounded::Open {
+                    point: Some(point),
+                    mark: None,
+                })
+            }
+            Relaxed::Falls { point } => {
+                self.offer_whole(node, point.as_slice());
+                Ok(Bounded::Open {
+                    point: Some(point),
+                    mark: None,
+                })
+            }
+            Relaxed::Unsolved { mark, point } => {
+                self.offer_if(node, &point);
+                Ok(Bounded::Open {
+                    point,
+                    mark: Some(mark),
+                })
+            }
+        }
     }
 }
