@@ -142,13 +142,16 @@ module _ (program : Program) (leaf : List ℚ) (formed : IsWellFormed program) (
   end_wide place LimitReached e r h = absurd h
 
   pub place_agrees : (place : Place) → IsLeaf program leaf → IsWideBy program leaf (AtPlace place) ↔ IsWideAt program leaf place
-  place_agrees place h = (λ w. elim w [
-    | inl fixed ↦ fixed
-    | inr later ↦ elim later [
-      | inl value ↦ absurd (none-some _ (sym (no_first_overflow (program_of_leaf program leaf) no_columns) ∙ value))
-      | inr sum ↦ end_wide place (whole_answer (program_of_leaf program leaf)) (leaf-long program.integral program.bounds leaf whole (formed.integral ∙ sym formed.bounds) h) (answers_end (program_of_leaf program leaf) (leaf_proper program leaf formed)).right sum
-    ]
-  ], λ fixed. inl fixed)
+  place_agrees place h = (
+    λ w. elim w [
+      | inl fixed ↦ fixed
+      | inr later ↦ elim later [
+        | inl value ↦ absurd (none-some _ (sym (no_first_overflow (program_of_leaf program leaf) no_columns) ∙ value))
+        | inr sum ↦ end_wide place (whole_answer (program_of_leaf program leaf)) (leaf-long program.integral program.bounds leaf whole (formed.integral ∙ sym formed.bounds) h) (answers_end (program_of_leaf program leaf) (leaf_proper program leaf formed)).right sum
+      ]
+    ],
+    λ fixed. inl fixed,
+  )
 
   pub moves_agree : (number : ℕ) → ¬ IsWideBy program leaf (AfterMoves number)
   moves_agree number h = never_out_of_range (program_of_leaf program leaf) h.moves no_columns h.is_answer

@@ -95,4 +95,3 @@ returns-in-Unsolved-clause-bounded c =
     let r = subst (IsRelaxed c.relaxed.new.self.program.now (lent_of c.relaxed.new.self.program.now c.relaxed.new.self.pool) c.relaxed.new.self.domain.box (length c.relaxed.new.self.scratch.row.entries)) c.in-Unsolved.is c.in_ok-relaxed.ensures.relaxed in
     subst (λ s. IfSome c.in-Unsolved.point (λ v. length v.items ≡ length s.domain.box) × IsMark s.program.now (lent_of s.program.now s.pool) s.domain.box (length s.scratch.row.entries) c.in-Unsolved.mark) (sym c.offer_if.ensures.frame)
     (long_if (λ v. v.items) c.relaxed.new.self.program.now (lent_of c.relaxed.new.self.program.now c.relaxed.new.self.pool) c.relaxed.new.self.domain.box c.in-Unsolved.point r.1, r.0)
-
