@@ -3,3 +3,4 @@ pub mod KeptSteps
 pub mod NodeBound
 pub mod Offering
 pub mod Rounded
+pub mod Ruled

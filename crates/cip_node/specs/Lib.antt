@@ -1,4 +1,5 @@
 pub mod Bounding
+pub mod Branching
 pub mod Entering
 pub mod KeptNodes
 pub mod Looking

@@ -2,6 +2,7 @@
 #![tactic(auto)]
 
 mod bounding;
+mod branching;
 mod core;
 mod entering;
 mod looks;

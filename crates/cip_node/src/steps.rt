@@ -32,7 +32,7 @@ fn is_weaker(own: Option<Frac>, bound: Frac) -> bool
 }
 
 /// The cost held, if a point is.
-fn held_cost(incumbent: &Incumbent) -> Option<Frac>
+pub(crate) fn held_cost(incumbent: &Incumbent) -> Option<Frac>
     ensures { result ≡ cost_held incumbent.now }
 {
     match incumbent.held() {
