@@ -1,1 +1,2 @@
 pub mod EndsRight
+pub mod ShownNode

@@ -1,14 +1,16 @@
 -- How a search over a program with continuous columns ends, and what its answer says: of the point, the cost, the bound
 -- and the end. All figures are those of the minimised form; `start` is the bound of the root, and `nodes` the budget.
 use Rattle.std.specs.Prelude.{◌≡◌, ◌≢◌, ℕ, List, Option, None, Some, IfSome, IsSome, option_map, length, ⊤}
+use Rattle.std.specs.List.{Contains}
 use Rattle.cip_rational.specs.Rational.{ℚ, ◌+ℚ◌, ◌*ℚ◌, zeroℚ, ◌≤ℚ◌, ◌<ℚ◌}
 use Rattle.cip_rational.specs.Sums.{dot}
 use Rattle.cip_problem.specs.Program.{Program}
 use Rattle.cip_problem.specs.Points.{IsFeasible, cost_of, IsLowerBound}
-use Rattle.cip_problem.specs.Log.{Entry, Node, node_of, IsLog}
+use Rattle.cip_problem.specs.Log.{Parked, Entry, Node, node_of, IsLog}
+use Rattle.cip_cuts.specs.Improving.{IsBoundIn}
 use Rattle.cip_linear.specs.LinearProgram.{moved}
 use Rattle.cip_leaves.specs.Leaf.{IsLeaf, IsOnlyLeaf}
-use Rattle.cip_leaves.specs.Searched.{nodes_given, OpenMatters, ParkedMatters, IsLeast, IsCovered, IsFirstLeast}
+use Rattle.cip_leaves.specs.Searched.{NoMore, nodes_given, OpenMatters, ParkedMatters, IsLeast, IsCovered, IsFirstLeast}
 use Rattle.cip_leaf_programs.specs.WideLeaf.{Shown, IsWideBy, IsWideLeaf}
 use Rattle.cip_search.specs.Endings.{HasWidePoint}
 
@@ -84,11 +86,25 @@ pub record Agrees (answer : Answer) : Type 0 where
 abbrev pub IsCheaper : Program → Option Held → List ℚ → Type 0
 IsCheaper program held point = IfSome held (λ h. cost_of program point <ℚ h.cost)
 
+-- an entry is a true one of its node: its bound is at least the node's and holds in the node's box, and where it says
+-- that the node was parked, its box has one whole assignment, and that leaf is wide
+pub record IsTrueEntry (program : Program) (held : Option ℚ) (node : Node) (entry : Entry) : Type 0 where
+  pub kept : NoMore node.bound entry.bound
+  pub holds : IfSome entry.bound (IsBoundIn program held node.box)
+  pub parked : entry.end ≡ Parked
+      → (leaf : List ℚ) × IsOnlyLeaf program.integral node.box leaf × IsWideLeaf program leaf
+
+-- so are all entries of a log
+abbrev pub AreTrueEntries : Program → Option ℚ → List Entry → Option ℚ → Type 0
+AreTrueEntries program start log held =
+    (entry : Entry) (node : Node) → Contains log entry → node_of (nodes_given program start log) entry.node ≡ Some node
+    → IsTrueEntry program held node entry
+
 -- an answer is right that isn't unbounded
 pub record IsSettled
     (program : Program) (start : Option ℚ) (nodes : ℕ) (log : List Entry) (answer : Answer) : Type 0 where
-  -- the bound is the least of the cost held and of the bounds of open nodes and parked leaves; after infeasible there is
-  -- none; no feasible point costs less
+  -- the bound is the least of the cost held and of the bounds of open nodes and parked leaves; after infeasible there
+  -- is none; no feasible point costs less
   pub least : answer.ended ≢ Infeasible → IsLeast program start log (cost_held answer.held) answer.bound
   pub no_bound : answer.ended ≡ Infeasible → answer.bound ≡ None
   pub bound : IfSome answer.bound (IsLowerBound program)
@@ -104,6 +120,8 @@ pub record IsSettled
   pub ends : EndsAs program start nodes log answer.held answer.ended
   -- each improving point lies in the box of an open node or of a parked leaf
   pub cover : IsCovered program start log (cost_held answer.held)
+  -- each entry of the log is a true one
+  pub entries : AreTrueEntries program start log (cost_held answer.held)
 
 -- an answer is unbounded, and right: there is a point from which the cost falls along the ray, and no bound
 pub record IsUnbounded (program : Program) (answer : Answer) (ray : List ℚ) : Type 0 where
