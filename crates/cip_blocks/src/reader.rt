@@ -13,8 +13,8 @@ use cip_block_steps::block_faults_of_ended_lines;
 use cip_model::{Blocks, Program};
 use std::alloc::Global;
 
-/// A text of blocks as far as it came. The reader keeps the line that has not ended, a place for each row of the program
-/// and a mark for each block, and nothing else of the text.
+/// A text of blocks as far as it came. The reader keeps the line that has not ended, a place for each row of the
+/// program and a mark for each block, and nothing else of the text.
 #[derive(Debug, Drop)]
 pub struct BlockReader<'a> {
     pub(crate) text: Option<BlockText<'a>>,

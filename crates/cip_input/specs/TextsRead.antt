@@ -5,7 +5,8 @@ use Rattle.cip_input.specs.TextPulls.{IsAllPulled}
 
 -- ---- `old` and `new` are the store before and after the call
 
--- the value of a text was read, and of the text that the store tells; it was pulled, and no call of the store has failed
+-- the value of a text was read, and of the text that the store tells; it was pulled, and no call of the store has
+-- failed
 pub record ReadsText {X : Type 0} (HasValue : List ℕ → X → Type 0) (text : Option (List ℕ)) (old new : StoreTells) (value : X) : Type 0 where
   pub bytes : List ℕ
   pub described : HasValue bytes value

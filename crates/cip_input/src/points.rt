@@ -72,7 +72,8 @@ fn read_text<S: Store>(
     requires fresh { HasTaken input.reader input.program.now [] }
     requires room { length buffer.old ≡ PIECE }
     ensures answer { MatchResult result
-        (λ point. ReadsPoint input.entry.program.now (S.tells store.old).left (S.tells store.old) (S.tells store.new) point.items)
+        (λ point. ReadsPoint input.entry.program.now (S.tells store.old).left (S.tells store.old) (S.tells store.new)
+        point.items)
         (PointCause input.entry.program.now (S.tells store.old).left (S.tells store.old) (S.tells store.new)) }
     ensures holds { (S.tells store.new).holds ≡ (S.tells store.old).holds }
 {

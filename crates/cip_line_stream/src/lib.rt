@@ -1,4 +1,5 @@
-//! Texts that come in pieces: their lines are cut and kept here, with what is known of faults, for readers of such texts.
+//! Texts that come in pieces: their lines are cut and kept here, with what is known of faults, for readers of such
+//! texts.
 #![tactic(auto)]
 
 mod cuts;

@@ -117,7 +117,8 @@ impl<'a> PointText<'a> {
 
     /// Reads the last line where it has no line feed, and says the kind of its fault, if it has one.
     fn read_last(&mut self) -> Option<u32>
-        ensures read { IsLastRead (steps_of self.old) (kept_of self.old) (values_of self.old) (values_of self.new) result }
+        ensures read { IsLastRead (steps_of self.old) (kept_of self.old) (values_of self.old) (values_of self.new)
+            result }
         ensures kept { kept_of self.new ≡ kept_of self.old }
         ensures same { program_of self.new ≡ program_of self.old }
         ensures kinds { IfSome result (λ kind. (0 < kind) × (kind ≤ 6)) }
