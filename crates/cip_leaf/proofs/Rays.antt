@@ -27,6 +27,7 @@ use Rattle.cip_model.specs.Meaning.{Overflows, RowOverflows}
 use Rattle.cip_model.specs.Rays.{AreStill, IsRay, RayOverflows, RaySumsFit, IsShownRay}
 use Rattle.cip_model.specs.Verdicts.{verdict_of}
 use Rattle.cip_model.proofs.Meaning.Point.{verdict_on_feasible}
+use Rattle.cip_model.proofs.Meaning.Ray.{falls_along}
 use Rattle.cip_leaf.specs.LeafAnswers.{place_of, IsRayOf, EndsInRay, IsFirstAlong}
 use Rattle.cip_leaf.proofs.Sums.{point_overflows, ray_overflows}
 use Rattle.cip_leaf.proofs.Ends.{right, long_point}
@@ -139,7 +140,8 @@ module _ (program : Program) (leaf : List ℚ) (formed : IsWellFormed program) (
 
   pub ray_of_leaf : (others direction point ray : List ℚ) → EndsInRay program leaf others direction → point ≡ merged program.integral leaf others → IsShownRay program point ray → IsRayOf program leaf point ray
   ray_of_leaf others direction point ray e p h =
-      record { is_point = subst (IsPointOf program leaf) (sym p) (endless_point others direction e); shown = h }
+      let there = subst (IsPointOf program leaf) (sym p) (endless_point others direction e) in
+      record { is_point = there; shown = h; falls = falls_along program point ray there.feasible h.is_ray }
 
   at_point : (place : Place) (a : def.Answer) (others direction : List ℚ) → a ≡ def.Unbounded others direction → SumOverflows program program.constant (merged program.integral leaf others) (place_of place) → EndOverflows program leaf (place_of place) a
   at_point place a others direction e h = rw e (inl h)

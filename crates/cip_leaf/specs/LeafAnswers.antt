@@ -15,7 +15,7 @@ use Rattle.cip_model.specs.declared.verdicts.Place.{Place}
 use Rattle.cip_model.specs.declared.verdicts.Place.TheVariants.{Row as AtRow, Cost}
 use Rattle.cip_model.specs.declared.verdicts.Verdict.TheVariants.{Feasible}
 use Rattle.cip_model.specs.Meaning.{RowOverflows}
-use Rattle.cip_model.specs.Rays.{IsShownRay}
+use Rattle.cip_model.specs.Rays.{IsShownRay, FallsAlong}
 use Rattle.cip_model.specs.Verdicts.{verdict_of}
 use Rattle.cip_leaf.specs.declared.answers.Shown.{Shown}
 use Rattle.cip_leaf.specs.declared.answers.Shown.TheVariants as shown
@@ -38,10 +38,11 @@ pub record IsBest (program : Program) (leaf point : List ℚ) (cost : ℚ) : Typ
   pub cost_is : cost ≡ cost_of program point
   pub least : (other : List ℚ) → IsPointOf program leaf other → cost ≤ℚ cost_of program other
 
--- a ray is shown beside a point of a leaf
+-- a ray is shown beside a point of a leaf, and from there the cost falls along it without end
 pub record IsRayOf (program : Program) (leaf point ray : List ℚ) : Type 0 where
   pub is_point : IsPointOf program leaf point
   pub shown : IsShownRay program point ray
+  pub falls : FallsAlong program point ray
 
 -- what an answer says of a leaf
 abbrev pub IsLeafAnswer : Program → List ℚ → LeafAnswer → Type 0
