@@ -2,4 +2,5 @@ pub mod Bounding
 pub mod Branching
 pub mod Entering
 pub mod KeptNodes
+pub mod LeafValues
 pub mod Looking

@@ -5,6 +5,7 @@ mod bounding;
 mod branching;
 mod core;
 mod entering;
+mod leaves;
 mod looks;
 mod steps;
 
