@@ -1,5 +1,6 @@
 pub mod BoxInWork
 pub mod KeptSteps
+pub mod LeafSettled
 pub mod NodeBound
 pub mod Offering
 pub mod OneLeaf

@@ -7,6 +7,8 @@ mod core;
 mod entering;
 mod leaves;
 mod looks;
+mod settling;
 mod steps;
 
 pub use core::Core;
+pub use settling::LeafEnd;
