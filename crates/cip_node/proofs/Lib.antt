@@ -1,4 +1,5 @@
 pub mod BoxInWork
+pub mod Inside
 pub mod KeptSteps
 pub mod LeafSettled
 pub mod NodeBound

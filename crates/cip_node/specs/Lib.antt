@@ -5,3 +5,4 @@ pub mod KeptNodes
 pub mod LeafEnds
 pub mod LeafValues
 pub mod Looking
+pub mod Opening

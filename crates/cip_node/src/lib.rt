@@ -4,6 +4,7 @@
 mod bounding;
 mod branching;
 mod core;
+mod ending;
 mod entering;
 mod leaves;
 mod looks;
