@@ -2,6 +2,7 @@ pub mod BoxInWork
 pub mod Inside
 pub mod KeptSteps
 pub mod LeafSettled
+pub mod Looked
 pub mod NodeBound
 pub mod Offering
 pub mod OneLeaf

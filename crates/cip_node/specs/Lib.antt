@@ -6,3 +6,4 @@ pub mod LeafEnds
 pub mod LeafValues
 pub mod Looking
 pub mod Opening
+pub mod Processing

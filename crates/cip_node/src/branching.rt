@@ -17,7 +17,7 @@ use std::alloc::AllocError;
 
 /// How a node ends that is open.
 #[derive(Clone, Copy, Debug, PartialEq, Eq)]
-pub(crate) enum Branched {
+pub enum Branched {
     /// Its bound isn't below the cost held.
     Pruned,
     /// It was split into halves with these numbers.

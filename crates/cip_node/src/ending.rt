@@ -50,7 +50,7 @@ impl<'a> Core<'a> {
 
 /// How a node ends in whose box a whole column has two whole values.
 #[derive(Debug, Drop)]
-pub(crate) enum Opened {
+pub enum Opened {
     /// Its box has no improving point.
     Empty,
     /// It was pruned or split, with the mark of its linear program, if that showed nothing.

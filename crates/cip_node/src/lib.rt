@@ -8,8 +8,12 @@ mod ending;
 mod entering;
 mod leaves;
 mod looks;
+mod process;
 mod settling;
 mod steps;
 
 pub use core::Core;
+pub use ending::Opened;
+pub use branching::Branched;
+pub use process::NodeEnd;
 pub use settling::LeafEnd;
