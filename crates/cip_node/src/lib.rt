@@ -12,8 +12,8 @@ mod process;
 mod settling;
 mod steps;
 
+pub use branching::Branched;
 pub use core::Core;
 pub use ending::Opened;
-pub use branching::Branched;
 pub use process::NodeEnd;
 pub use settling::LeafEnd;

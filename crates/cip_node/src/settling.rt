@@ -27,7 +27,10 @@ pub enum LeafEnd {
         shown: Shown,
     },
     /// The cost falls without end from a point of the leaf along a ray.
-    Ray { point: Vec<Frac>, ray: Vec<Frac> },
+    Ray {
+        point: Vec<Frac>,
+        ray: Vec<Frac>,
+    },
 }
 
 impl<'a> Core<'a> {
