@@ -9,7 +9,7 @@ ghost use Rattle.cip_node_bounds.specs.Relaxing.{IsRelaxed};
 ghost use Rattle.cip_node.specs.KeptNodes.{cost_held, IsKept, IsHolding, IsPoolOf, IsWorkplace};
 ghost use Rattle.cip_node.specs.Bounding.{IsBounded};
 
-use crate::core::Core;
+use crate::cores::Core;
 use cip_frac::Frac;
 use cip_node_bounds::{Mark, Relaxed, relax};
 use cip_node_rules::{are_whole, rounded_bound};

@@ -8,7 +8,7 @@ ghost use Rattle.cip_node_rules.specs.OpenColumns.{is_open_at, IsFirstColumn};
 ghost use Rattle.cip_node.specs.KeptNodes.{cost_held, IsSearchOf, IsKept};
 ghost use Rattle.cip_node.specs.Branching.{IsBranched};
 
-use crate::core::Core;
+use crate::cores::Core;
 use crate::steps::held_cost;
 use cip_frac::Frac;
 use cip_node_rules::{Place, chosen_place};

@@ -12,7 +12,7 @@ ghost use Rattle.cip_node.specs.LeafEnds.{IsLeafEnd};
 
 use crate::bounding::Bounded;
 use crate::branching::Branched;
-use crate::core::Core;
+use crate::cores::Core;
 use crate::leaves::solve_leaf;
 use crate::settling::LeafEnd;
 use cip_node_bounds::Mark;

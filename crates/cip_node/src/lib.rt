@@ -3,7 +3,7 @@
 
 mod bounding;
 mod branching;
-mod core;
+mod cores;
 mod ending;
 mod entering;
 mod leaves;
@@ -13,7 +13,7 @@ mod settling;
 mod steps;
 
 pub use branching::Branched;
-pub use core::Core;
+pub use cores::Core;
 pub use ending::Opened;
 pub use process::NodeEnd;
 pub use settling::LeafEnd;

@@ -7,7 +7,7 @@ ghost use Rattle.cip_node.specs.Entering.{first_box};
 ghost use Rattle.cip_node.specs.KeptNodes.{cost_held, IsSearchOf, IsKept, IsHolding, IsPoolOf, IsWorkplace};
 ghost use Rattle.cip_node.specs.Processing.{IsProcessed};
 
-use crate::core::Core;
+use crate::cores::Core;
 use crate::ending::Opened;
 use crate::looks::{Looked, look};
 use crate::settling::LeafEnd;

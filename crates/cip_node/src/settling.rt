@@ -7,7 +7,7 @@ ghost use Rattle.cip_tree.specs.Nodes.{IsTaken, box_of, shown};
 ghost use Rattle.cip_node.specs.KeptNodes.{cost_held, IsSearchOf, IsKept, IsHolding};
 ghost use Rattle.cip_node.specs.LeafEnds.{IsLeafEnd};
 
-use crate::core::Core;
+use crate::cores::Core;
 use crate::leaves::Solved;
 use cip_frac::Frac;
 use cip_leaf::{LeafAnswer, Shown};

@@ -15,7 +15,7 @@ ghost use Rattle.cip_search.specs.SearchState.{stay, IsStuck};
 ghost use Rattle.cip_tree.specs.Nodes.{IsTaken, box_of, shown};
 ghost use Rattle.cip_node.specs.KeptNodes.{cost_held, farthest, IsSearchOf, IsKept, IsHolding};
 
-use crate::core::Core;
+use crate::cores::Core;
 use cip_frac::Frac;
 use cip_incumbent::{Incumbent, Offered};
 use cip_tree::{Node, SplitFault};

@@ -1,0 +1,97 @@
+use Rattle.std.proofs.Common.{◌≡◌, List, length, Option, None, Some, IfSome, refl, sym, ap, ◌∙◌, subst}
+use Rattle.cip_rational.specs.Rational.{ℚ}
+use Rattle.cip_problem.specs.WellFormed.{columns}
+use Rattle.cip_cuts.specs.Improving.{IsBoundIn, IsNoDearer}
+use Rattle.cip_search.specs.Relaxation.{IsRelaxedBound}
+use Rattle.cip_search.proofs.Bounds.{no_more_itself}
+use Rattle.cip_rows.specs.RowPools.{IsKept as IsKeptPool}
+use Rattle.cip_tree.specs.Nodes.{box_of}
+use Rattle.cip_node_bounds.specs.NodeRows.{usable_rows}
+use Rattle.cip_node_bounds.specs.Relaxing.{IsRelaxed, IsMark}
+use Rattle.cip_node.specs.KeptNodes.{cost_held, IsPoolOf}
+use Rattle.cip_node.proofs.Offering.{itself}
+use Rattle.cip_node.proofs.NodeBound.{lent_of, tells, long_point, long_if, as_long, good_least}
+use Rattle.cip_node.proofs.cores.Core.bound.Goals as goal
+
+pub returns-in_err-relaxed-clause-own : goal.returns-in_err-relaxed-clause-own
+returns-in_err-relaxed-clause-own c =
+    no_more_itself c.args.node.now.bound
+
+pub returns-in_err-relaxed-clause-no_dearer : goal.returns-in_err-relaxed-clause-no_dearer
+returns-in_err-relaxed-clause-no_dearer c =
+    subst (λ s. IsNoDearer (cost_held s.incumbent) (cost_held c.args.self.now.incumbent)) (sym c.relaxed.ensures.frame) (itself (cost_held c.args.self.now.incumbent))
+
+pub raise_rounded-requires-clause-holds : goal.raise_rounded-requires-clause-holds
+raise_rounded-requires-clause-holds c =
+    let r = subst (IsRelaxed c.relaxed.new.self.program.now (lent_of c.relaxed.new.self.program.now c.relaxed.new.self.pool) c.relaxed.new.self.domain.box (length c.relaxed.new.self.scratch.row.entries)) c.in-Bound.is c.in_ok-relaxed.ensures.relaxed in
+    let t = tells c.relaxed.new.self.program.now (cost_held c.relaxed.new.self.incumbent) c.relaxed.new.self.domain.box c.relaxed.new.self.pool
+    (subst (λ s. IsKeptPool s.pool) (sym c.relaxed.ensures.frame) c.rows-rows.ensures.kept) c.relaxed.ensures.place.same
+    (subst (λ s. length s.domain.box ≡ columns s.program.now) (sym c.relaxed.ensures.frame) c.requires.columns)
+    (subst (λ s. IsPoolOf s.program.now (cost_held s.incumbent) s.pool.rows) (sym c.relaxed.ensures.frame) c.requires.pool) in
+    subst (λ b. IsBoundIn c.relaxed.new.self.program.now (cost_held c.relaxed.new.self.incumbent) b c.in-Bound.bound) (subst (λ s. s.domain.box ≡ box_of s.tree c.args.node.now) (sym c.relaxed.ensures.frame) c.requires.box_in_work) (t.bound c.in-Bound.point.items c.in-Bound.bound r)
+
+pub offer_whole-requires-clause-values : goal.offer_whole-requires-clause-values
+offer_whole-requires-clause-values c =
+    let r = subst (IsRelaxed c.relaxed.new.self.program.now (lent_of c.relaxed.new.self.program.now c.relaxed.new.self.pool) c.relaxed.new.self.domain.box (length c.relaxed.new.self.scratch.row.entries)) c.in-Bound.is c.in_ok-relaxed.ensures.relaxed in
+    ap length c.as_slice.ensures.value ∙ long_point c.relaxed.new.self.program.now (lent_of c.relaxed.new.self.program.now c.relaxed.new.self.pool) c.relaxed.new.self.domain.box c.in-Bound.point.items r.optimal.is_point ∙ subst (λ s. length s.domain.box ≡ columns s.program.now) (sym c.relaxed.ensures.frame) c.requires.columns
+
+pub offer_whole-requires-in-Falls-clause-values : goal.offer_whole-requires-in-Falls-clause-values
+offer_whole-requires-in-Falls-clause-values c =
+    let r = subst (IsRelaxed c.relaxed.new.self.program.now (lent_of c.relaxed.new.self.program.now c.relaxed.new.self.pool) c.relaxed.new.self.domain.box (length c.relaxed.new.self.scratch.row.entries)) c.in-Falls.is c.in_ok-relaxed.ensures.relaxed in
+    ap length c.as_slice-in-Falls.ensures.value ∙ long_point c.relaxed.new.self.program.now (lent_of c.relaxed.new.self.program.now c.relaxed.new.self.pool) c.relaxed.new.self.domain.box c.in-Falls.point.items r.is_point ∙ subst (λ s. length s.domain.box ≡ columns s.program.now) (sym c.relaxed.ensures.frame) c.requires.columns
+
+pub offer_if-requires-clause-values : goal.offer_if-requires-clause-values
+offer_if-requires-clause-values c =
+    let r = subst (IsRelaxed c.relaxed.new.self.program.now (lent_of c.relaxed.new.self.program.now c.relaxed.new.self.pool) c.relaxed.new.self.domain.box (length c.relaxed.new.self.scratch.row.entries)) c.in-Unsolved.is c.in_ok-relaxed.ensures.relaxed in
+    as_long (λ v. v.items) c.relaxed.new.self.domain.box (columns c.relaxed.new.self.program.now) c.in-Unsolved.point (subst (λ s. length s.domain.box ≡ columns s.program.now) (sym c.relaxed.ensures.frame) c.requires.columns) (long_if (λ v. v.items) c.relaxed.new.self.program.now (lent_of c.relaxed.new.self.program.now c.relaxed.new.self.pool) c.relaxed.new.self.domain.box c.in-Unsolved.point r.1)
+
+pub returns-in-Empty-clause-own : goal.returns-in-Empty-clause-own
+returns-in-Empty-clause-own c =
+    no_more_itself c.args.node.now.bound
+
+pub returns-in-Empty-clause-bounded : goal.returns-in-Empty-clause-bounded
+returns-in-Empty-clause-bounded c =
+    let r = subst (IsRelaxed c.relaxed.new.self.program.now (lent_of c.relaxed.new.self.program.now c.relaxed.new.self.pool) c.relaxed.new.self.domain.box (length c.relaxed.new.self.scratch.row.entries)) c.in-Empty.is c.in_ok-relaxed.ensures.relaxed in
+    let t = tells c.relaxed.new.self.program.now (cost_held c.relaxed.new.self.incumbent) c.relaxed.new.self.domain.box c.relaxed.new.self.pool
+    (subst (λ s. IsKeptPool s.pool) (sym c.relaxed.ensures.frame) c.rows-rows.ensures.kept) c.relaxed.ensures.place.same
+    (subst (λ s. length s.domain.box ≡ columns s.program.now) (sym c.relaxed.ensures.frame) c.requires.columns)
+    (subst (λ s. IsPoolOf s.program.now (cost_held s.incumbent) s.pool.rows) (sym c.relaxed.ensures.frame) c.requires.pool) in
+    t.empty r
+
+pub returns-in-Empty-clause-no_dearer : goal.returns-in-Empty-clause-no_dearer
+returns-in-Empty-clause-no_dearer c =
+    subst (λ s. IsNoDearer (cost_held s.incumbent) (cost_held c.args.self.now.incumbent)) (sym c.relaxed.ensures.frame) (itself (cost_held c.args.self.now.incumbent))
+
+pub returns-in-Bound-clause-bounded : goal.returns-in-Bound-clause-bounded
+returns-in-Bound-clause-bounded c =
+    let r = subst (IsRelaxed c.relaxed.new.self.program.now (lent_of c.relaxed.new.self.program.now c.relaxed.new.self.pool) c.relaxed.new.self.domain.box (length c.relaxed.new.self.scratch.row.entries)) c.in-Bound.is c.in_ok-relaxed.ensures.relaxed in
+    let t = tells c.relaxed.new.self.program.now (cost_held c.relaxed.new.self.incumbent) c.relaxed.new.self.domain.box c.relaxed.new.self.pool
+    (subst (λ s. IsKeptPool s.pool) (sym c.relaxed.ensures.frame) c.rows-rows.ensures.kept) c.relaxed.ensures.place.same
+    (subst (λ s. length s.domain.box ≡ columns s.program.now) (sym c.relaxed.ensures.frame) c.requires.columns)
+    (subst (λ s. IsPoolOf s.program.now (cost_held s.incumbent) s.pool.rows) (sym c.relaxed.ensures.frame) c.requires.pool) in
+    subst (λ s. (length c.in-Bound.point.items ≡ length s.domain.box) × IsRelaxedBound s.program.now (usable_rows s.domain.box s.pool.rows) s.domain.box c.raise_rounded.new.node.bound) (sym c.offer_whole.ensures.frame)
+    (long_point c.relaxed.new.self.program.now (lent_of c.relaxed.new.self.program.now c.relaxed.new.self.pool) c.relaxed.new.self.domain.box c.in-Bound.point.items r.optimal.is_point, good_least c.relaxed.new.self.program.now (cost_held c.relaxed.new.self.incumbent) c.relaxed.new.self.pool c.relaxed.new.self.domain.box c.in-Bound.point.items c.in-Bound.bound c.raise_rounded.new.node.bound t r c.raise_rounded.ensures.raised)
+
+pub returns-in-Falls-clause-own : goal.returns-in-Falls-clause-own
+returns-in-Falls-clause-own c =
+    no_more_itself c.args.node.now.bound
+
+pub returns-in-Falls-clause-bounded : goal.returns-in-Falls-clause-bounded
+returns-in-Falls-clause-bounded c =
+    let r = subst (IsRelaxed c.relaxed.new.self.program.now (lent_of c.relaxed.new.self.program.now c.relaxed.new.self.pool) c.relaxed.new.self.domain.box (length c.relaxed.new.self.scratch.row.entries)) c.in-Falls.is c.in_ok-relaxed.ensures.relaxed in
+    let t = tells c.relaxed.new.self.program.now (cost_held c.relaxed.new.self.incumbent) c.relaxed.new.self.domain.box c.relaxed.new.self.pool
+    (subst (λ s. IsKeptPool s.pool) (sym c.relaxed.ensures.frame) c.rows-rows.ensures.kept) c.relaxed.ensures.place.same
+    (subst (λ s. length s.domain.box ≡ columns s.program.now) (sym c.relaxed.ensures.frame) c.requires.columns)
+    (subst (λ s. IsPoolOf s.program.now (cost_held s.incumbent) s.pool.rows) (sym c.relaxed.ensures.frame) c.requires.pool) in
+    subst (λ s. (length c.in-Falls.point.items ≡ length s.domain.box) × IsRelaxedBound s.program.now (usable_rows s.domain.box s.pool.rows) s.domain.box c.args.node.now.bound) (sym c.offer_whole-in-Falls.ensures.frame)
+    (long_point c.relaxed.new.self.program.now (lent_of c.relaxed.new.self.program.now c.relaxed.new.self.pool) c.relaxed.new.self.domain.box c.in-Falls.point.items r.is_point, t.falling c.in-Falls.point.items c.args.node.now.bound r)
+
+pub returns-in-Unsolved-clause-own : goal.returns-in-Unsolved-clause-own
+returns-in-Unsolved-clause-own c =
+    no_more_itself c.args.node.now.bound
+
+pub returns-in-Unsolved-clause-bounded : goal.returns-in-Unsolved-clause-bounded
+returns-in-Unsolved-clause-bounded c =
+    let r = subst (IsRelaxed c.relaxed.new.self.program.now (lent_of c.relaxed.new.self.program.now c.relaxed.new.self.pool) c.relaxed.new.self.domain.box (length c.relaxed.new.self.scratch.row.entries)) c.in-Unsolved.is c.in_ok-relaxed.ensures.relaxed in
+    subst (λ s. IfSome c.in-Unsolved.point (λ v. length v.items ≡ length s.domain.box) × IsMark s.program.now (lent_of s.program.now s.pool) s.domain.box (length s.scratch.row.entries) c.in-Unsolved.mark) (sym c.offer_if.ensures.frame)
+    (long_if (λ v. v.items) c.relaxed.new.self.program.now (lent_of c.relaxed.new.self.program.now c.relaxed.new.self.pool) c.relaxed.new.self.domain.box c.in-Unsolved.point r.1, r.0)
