@@ -7,3 +7,5 @@ mod blocks;
 mod points;
 #[cfg(test)]
 mod programs;
+#[cfg(test)]
+mod stores;
