@@ -1,0 +1,4 @@
+pub mod Ends
+pub mod Endless
+pub mod Fitting
+pub mod TrueFigures

@@ -1,0 +1,128 @@
+-- The figures of an answer to `solve` that are true of a program, beside the log of its search within a node budget.
+-- Costs and bounds that no figure shows are those of the minimised form. `start` is the bound of the search's root: the
+-- box bound, and none where that has no value.
+use Rattle.std.specs.Prelude.{◌≡◌, ◌≢◌, ℕ, List, [], Option, None, Some, IfSome, IsSome, option_map, length, slice_index_or, ⊤}
+use Rattle.cip_rational.specs.Rational.{ℚ}
+use Rattle.cip_problem.specs.Program.{Program}
+use Rattle.cip_problem.specs.Points.{IsFeasible, cost_of, printed}
+use Rattle.cip_problem.specs.Log.{Entry, IsLog}
+use Rattle.cip_leaves.specs.Wide.{InRow, InCost}
+use Rattle.cip_leaves.specs.Searched.{OpenMatters, ParkedMatters}
+use Rattle.cip_leaf_programs.specs.WideLeaf.{Shown, AtPlace, AfterMoves, IsWideLeaf}
+use Rattle.cip_search.specs.Endings.{HasWidePoint}
+use Rattle.cip_search_ends.specs.SearchEnds.{IsShownLeaf}
+use Rattle.cip_answers.specs.Figures.{Overflow, AtRow, AtCost, AtMoves, Status, Optimal, Infeasible, Unbounded, NodeLimit, Wide, NoMemory, Figures, Held, FitNames, status_word, names_of, answer_text}
+use Rattle.cip_answers.specs.Headline.{IsBetter, printed_cost, IsTruePoint, IsTrueBound, Agree, ShowsRay}
+
+-- the cost of the point that is printed, if one is
+abbrev pub cost_held : Program → Option Held → Option ℚ
+cost_held program held = option_map (λ held. cost_of program held.point) held
+
+-- a point is better than the one that is printed; where none is printed, each point is
+abbrev pub IsBetterThan : Program → Option Held → List ℚ → Type 0
+IsBetterThan program None point = ⊤
+IsBetterThan program (Some held) point = IsBetter program.maximized (printed_cost program point) held.cost
+
+-- the printed bound is not better than that of the root, where it has one
+abbrev pub IsWithinBox : Program → (start : Option ℚ) → ℚ → Type 0
+IsWithinBox program start bound = IfSome start (λ least. ¬ IsBetter program.maximized bound (printed program least))
+
+-- ---- how a search ends
+
+-- what overflows of a leaf, as it is printed for rows of these names
+abbrev pub overflow_at : List (List ℕ) → Shown → Overflow
+overflow_at rows (AtPlace (InRow number)) = AtRow (slice_index_or rows number [])
+overflow_at rows (AtPlace InCost) = AtCost
+overflow_at rows (AfterMoves number) = AtMoves number
+
+-- an open node of the search matters beside the point held
+abbrev pub HasOpen : Program → (start : Option ℚ) → List Entry → Option Held → Type 0
+HasOpen program start log held = OpenMatters program start log (cost_held program held)
+
+-- a parked leaf of the search matters beside the point held
+abbrev pub HasParked : Program → List Entry → Option Held → Type 0
+HasParked program log held = ParkedMatters log (cost_held program held)
+
+-- nothing is left: no open node and no parked leaf matters
+pub record IsSettled (program : Program) (start : Option ℚ) (log : List Entry) (held : Option Held) : Type 0 where
+  pub none_open : ¬ HasOpen program start log held
+  pub none_parked : ¬ HasParked program log held
+
+-- the cost falls without end: from the printed point one may go any way along the printed ray, and no bound is printed
+pub record IsEndless (program : Program) (figures : Figures) (ray : List ℚ) : Type 0 where
+  pub shown : ShowsRay program figures ray
+  pub no_bound : figures.bound ≡ None
+
+-- the node budget is spent: the log has as many entries, and an open node matters
+pub record IsSpent
+    (program : Program) (start : Option ℚ) (nodes : ℕ) (log : List Entry) (held : Option Held) : Type 0 where
+  pub full : length log ≡ nodes
+  pub matter : HasOpen program start log held
+
+-- an overflow is shown: no open node matters, a parked leaf does, and the leaf that is printed is the parked one of
+-- least bound, the first of these; it is wide by what is printed: the row, the cost, or the number of moves
+pub record ShowsOverflow
+    (program : Program) (start : Option ℚ) (log : List Entry) (held : Option Held) (leaf : List ℚ) (overflow : Overflow)
+    : Type 0 where
+  pub none_open : ¬ HasOpen program start log held
+  pub matter : HasParked program log held
+  pub by : Shown
+  pub is_printed : overflow ≡ overflow_at program.row_names by
+  pub shown : IsShownLeaf program start log leaf by
+
+-- what each end says
+abbrev pub EndsWith : Program → (start : Option ℚ) → (nodes : ℕ) → List Entry → Figures → Status → Type 0
+EndsWith program start nodes log figures Optimal = IsSettled program start log figures.held × IsSome figures.held
+EndsWith program start nodes log figures Infeasible = IsSettled program start log figures.held × (figures.held ≡ None)
+EndsWith program start nodes log figures (Unbounded ray) = IsEndless program figures ray
+EndsWith program start nodes log figures NodeLimit = IsSpent program start nodes log figures.held
+EndsWith program start nodes log figures (Wide leaf overflow) =
+    ShowsOverflow program start log figures.held leaf overflow
+EndsWith program start nodes log figures NoMemory = ⊤
+
+-- an end that comes by what is left of the search: neither a ray nor want of memory has cut it short
+abbrev pub EndsItself : Status → Type 0
+EndsItself Optimal = ⊤
+EndsItself Infeasible = ⊤
+EndsItself (Unbounded ray) = ⊥
+EndsItself NodeLimit = ⊤
+EndsItself (Wide leaf overflow) = ⊤
+EndsItself NoMemory = ⊥
+
+-- ---- the headline
+
+-- the figures are true of a program, beside the log of the search within a node budget
+pub record AreTrue
+    (program : Program) (start : Option ℚ) (nodes : ℕ) (log : List Entry) (figures : Figures) : Type 0 where
+  -- the printed point satisfies the program at the printed cost, which is printed exactly where a point is
+  pub point : IfSome figures.held (IsTruePoint program)
+  -- no feasible point is better than the printed bound, and the bound is not better than that of the root
+  pub bound : IfSome figures.bound (IsTrueBound program)
+  pub within_box : IfSome figures.bound (IsWithinBox program start)
+  -- a bound is left out only where the root has none, and after infeasible and unbounded
+  pub no_bound :
+      figures.status ≢ Infeasible → ((ray : List ℚ) → figures.status ≢ Unbounded ray)
+      → figures.bound ≡ None → start ≡ None
+  -- infeasible is said only where no point is feasible
+  pub infeasible : figures.status ≡ Infeasible → (point : List ℚ) → ¬ IsFeasible program point
+  -- cost and bound are there and agree where the answer is optimal
+  pub agree : figures.status ≡ Optimal → Agree figures
+  -- where an overflow is shown, each feasible point that is better than the printed one has a feasible point that is no
+  -- dearer in a wide leaf
+  pub overflow :
+      (leaf : List ℚ) (place : Overflow) → figures.status ≡ Wide leaf place
+      → (point : List ℚ) → IsFeasible program point → IsBetterThan program figures.held point
+      → HasWidePoint program IsWideLeaf (cost_of program point)
+  -- what the end says holds; and where neither a ray nor want of memory has cut the search short, no other end that
+  -- comes by what is left says what holds, so that each comes exactly there
+  pub ends : EndsWith program start nodes log figures figures.status
+  pub exact :
+      (status : Status) → EndsItself status → EndsItself figures.status
+      → EndsWith program start nodes log figures status → status_word status ≡ status_word figures.status
+  -- the log is one of the program
+  pub logged : IsLog program log
+  -- the printed text tells the figures: no others that fit the names of the program have it
+  pub fit : FitNames (names_of program) figures
+  pub told :
+      (other : Figures) → FitNames (names_of program) other
+      → answer_text (names_of program) other ≡ answer_text (names_of program) figures → other ≡ figures
