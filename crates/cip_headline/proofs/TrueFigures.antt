@@ -2,7 +2,7 @@
 use Rattle.std.proofs.Common.{◌≡◌, ◌≢◌, ℕ, Bool, true, false, List, Option, None, Some, IfSome, refl, sym, ap, subst}
 use Rattle.std.specs.Prelude.{IsSome, option_map, if◌then◌else◌}
 use Rattle.cip_rational.specs.Rational.{ℚ, ◌≤ℚ◌, ◌<ℚ◌, negate}
-use Rattle.cip_rational.proofs.Rational.Order.{not_le_of_lt}
+use Rattle.cip_rational.proofs.Rational.Order.{≤ℚ_trans, not_le_of_lt}
 use Rattle.cip_rational.proofs.Rational.Ring.{negate_negate}
 use Rattle.cip_rational.proofs.Rational.Monotone.{negate_strict}
 use Rattle.cip_problem.specs.Program.{Program}
@@ -43,24 +43,30 @@ true_bound : (program : Program) (bound : Option ℚ) → IfSome bound (IsLowerB
 true_bound program None h = tt
 true_bound program (Some b) h = λ point feasible. not_better program.maximized (cost_of program point) b (h point feasible)
 
--- ---- the bound of the root
+-- ---- the box bound
 
-below_start : (program : Program) (b : ℚ) (start : Option ℚ) → NoMore start (Some b) → IfSome start (λ least. ¬ IsBetter program.maximized (printed program b) (printed program least))
-below_start program b None h = tt
-below_start program b (Some least) h = not_better program.maximized b least h
+no_more : (a b c : Option ℚ) → NoMore a b → NoMore b c → NoMore a c
+no_more None b c h k = tt
+no_more (Some a) None c h k = absurd h
+no_more (Some a) (Some b) None h k = absurd k
+no_more (Some a) (Some b) (Some c) h k = ≤ℚ_trans h k
 
-within_box : (program : Program) (start bound : Option ℚ) → NoMore start bound → IfSome (option_map (printed program) bound) (IsWithinBox program start)
-within_box program start None h = tt
-within_box program start (Some b) h = below_start program b start h
+below_box : (program : Program) (b : ℚ) (box : Option ℚ) → NoMore box (Some b) → IfSome box (λ least. ¬ IsBetter program.maximized (printed program b) (printed program least))
+below_box program b None h = tt
+below_box program b (Some least) h = not_better program.maximized b least h
 
-no_bound_within : (program : Program) (start bound : Option ℚ) → bound ≡ None → IfSome (option_map (printed program) bound) (IsWithinBox program start)
-no_bound_within program start None e = tt
-no_bound_within program start (Some b) e = absurd (cc)
+within_box : (program : Program) (box bound : Option ℚ) → NoMore box bound → IfSome (option_map (printed program) bound) (IsWithinBox program box)
+within_box program box None h = tt
+within_box program box (Some b) h = below_box program b box h
 
-no_start : (start bound : Option ℚ) → NoMore start bound → bound ≡ None → start ≡ None
-no_start None bound h e = refl
-no_start (Some least) None h e = absurd h
-no_start (Some least) (Some b) h e = absurd (cc)
+no_bound_within : (program : Program) (box bound : Option ℚ) → bound ≡ None → IfSome (option_map (printed program) bound) (IsWithinBox program box)
+no_bound_within program box None e = tt
+no_bound_within program box (Some b) e = absurd (cc)
+
+no_box : (box bound : Option ℚ) → NoMore box bound → bound ≡ None → box ≡ None
+no_box None bound h e = refl
+no_box (Some least) None h e = absurd h
+no_box (Some least) (Some b) h e = absurd (cc)
 
 none_before : (program : Program) (bound : Option ℚ) → option_map (printed program) bound ≡ None → bound ≡ None
 none_before program None e = refl
@@ -193,14 +199,14 @@ kind_of NodeLimit = other (λ e. absurd (cc)) (λ ray e. absurd (cc))
 kind_of (Wide leaf shown) = other (λ e. absurd (cc)) (λ ray e. absurd (cc))
 kind_of NoMemory = other (λ e. absurd (cc)) (λ ray e. absurd (cc))
 
-module _ (program : Program) (start : Option ℚ) (nodes : ℕ) (log : List Entry) (answer : Answer) (formed : IsWellFormed program) (p : IsPrintable program start nodes log answer) where
+module _ (program : Program) (box start : Option ℚ) (nodes : ℕ) (log : List Entry) (answer : Answer) (formed : IsWellFormed program) (least : NoMore box start) (p : IsPrintable program start nodes log answer) where
   held_there : EndHolds program start nodes log answer answer.ended
   held_there = p.right.end_
 
-  within_of : Kind answer.ended → IfSome (option_map (printed program) answer.bound) (IsWithinBox program start)
-  within_of (none e) = no_bound_within program start answer.bound ((subst (EndHolds program start nodes log answer) e held_there).no_bound e)
-  within_of (endless_ ray e) = no_bound_within program start answer.bound (subst (EndHolds program start nodes log answer) e held_there).no_bound
-  within_of (other n m) = within_box program start answer.bound (p.box n m)
+  within_of : Kind answer.ended → IfSome (option_map (printed program) answer.bound) (IsWithinBox program box)
+  within_of (none e) = no_bound_within program box answer.bound ((subst (EndHolds program start nodes log answer) e held_there).no_bound e)
+  within_of (endless_ ray e) = no_bound_within program box answer.bound (subst (EndHolds program start nodes log answer) e held_there).no_bound
+  within_of (other n m) = within_box program box answer.bound (no_more box start answer.bound least (p.box n m))
 
   settled_at : (ended : Ended) → ended ≡ answer.ended → EndHolds program start nodes log answer ended
   settled_at ended e = subst (EndHolds program start nodes log answer) (sym e) held_there
@@ -215,7 +221,7 @@ module _ (program : Program) (start : Option ℚ) (nodes : ℕ) (log : List Entr
   wide_of values shown e point f better =
       (settled_at (Wide values shown) (sym e)).wide values shown e point f (cheaper_there program answer.held point better)
 
-  pub are_true : AreTrue program start nodes log (figures_of program answer)
+  pub are_true : AreTrue program box start nodes log (figures_of program answer)
   are_true =
       let ends = ends_with program start nodes log answer p.right.point answer.ended refl held_there in
       let fit = fits program start nodes log answer formed p in
@@ -223,7 +229,7 @@ module _ (program : Program) (start : Option ℚ) (nodes : ℕ) (log : List Entr
         point = true_point program answer.held p.right.point;
         bound = true_bound program answer.bound (bound_of program start nodes log answer answer.ended held_there);
         within_box = within_of (kind_of answer.ended);
-        no_bound = λ n m e. no_start start answer.bound (p.box (λ i. n (ap (status_of program.row_names) i)) (λ ray i. m ray (ap (status_of program.row_names) i))) (none_before program answer.bound e);
+        no_bound = λ n m e. no_box box answer.bound (no_more box start answer.bound least (p.box (λ i. n (ap (status_of program.row_names) i)) (λ ray i. m ray (ap (status_of program.row_names) i)))) (none_before program answer.bound e);
         infeasible = λ e. infeasible_of (is_infeasible program.row_names answer.ended e);
         agree = λ e. agree_of (is_optimal program.row_names answer.ended e);
         overflow = λ leaf place e.
@@ -237,4 +243,4 @@ module _ (program : Program) (start : Option ℚ) (nodes : ℕ) (log : List Entr
       }
 
 pub figures_are_true : FiguresAreTrue
-figures_are_true program start nodes log answer formed p = are_true program start nodes log answer formed p
+figures_are_true program box start nodes log answer formed least p = are_true program box start nodes log answer formed least p

@@ -1,6 +1,6 @@
 -- The figures of an answer to `solve` that are true of a program, beside the log of its search within a node budget.
--- Costs and bounds that no figure shows are those of the minimised form. `start` is the bound of the search's root: the
--- box bound, and none where that has no value.
+-- Costs and bounds that no figure shows are those of the minimised form. `box` is the box bound of the program, which is
+-- none where a side is open or a sum overflows, and `start` the bound of the search's root.
 use Rattle.std.specs.Prelude.{◌≡◌, ◌≢◌, ℕ, List, [], Option, None, Some, IfSome, IsSome, option_map, length, slice_index_or, ⊤}
 use Rattle.cip_rational.specs.Rational.{ℚ}
 use Rattle.cip_problem.specs.Program.{Program}
@@ -23,9 +23,9 @@ abbrev pub IsBetterThan : Program → Option Held → List ℚ → Type 0
 IsBetterThan program None point = ⊤
 IsBetterThan program (Some held) point = IsBetter program.maximized (printed_cost program point) held.cost
 
--- the printed bound is not better than that of the root, where it has one
-abbrev pub IsWithinBox : Program → (start : Option ℚ) → ℚ → Type 0
-IsWithinBox program start bound = IfSome start (λ least. ¬ IsBetter program.maximized bound (printed program least))
+-- the printed bound is not better than the box bound, where that has a value
+abbrev pub IsWithinBox : Program → (box : Option ℚ) → ℚ → Type 0
+IsWithinBox program box bound = IfSome box (λ least. ¬ IsBetter program.maximized bound (printed program least))
 
 -- ---- how a search ends
 
@@ -93,16 +93,16 @@ EndsItself NoMemory = ⊥
 
 -- the figures are true of a program, beside the log of the search within a node budget
 pub record AreTrue
-    (program : Program) (start : Option ℚ) (nodes : ℕ) (log : List Entry) (figures : Figures) : Type 0 where
+    (program : Program) (box start : Option ℚ) (nodes : ℕ) (log : List Entry) (figures : Figures) : Type 0 where
   -- the printed point satisfies the program at the printed cost, which is printed exactly where a point is
   pub point : IfSome figures.held (IsTruePoint program)
-  -- no feasible point is better than the printed bound, and the bound is not better than that of the root
+  -- no feasible point is better than the printed bound, and the bound is not better than the box bound
   pub bound : IfSome figures.bound (IsTrueBound program)
-  pub within_box : IfSome figures.bound (IsWithinBox program start)
-  -- a bound is left out only where the root has none, and after infeasible and unbounded
+  pub within_box : IfSome figures.bound (IsWithinBox program box)
+  -- a bound is left out only where the box bound has no value, and after infeasible and unbounded
   pub no_bound :
       figures.status ≢ Infeasible → ((ray : List ℚ) → figures.status ≢ Unbounded ray)
-      → figures.bound ≡ None → start ≡ None
+      → figures.bound ≡ None → box ≡ None
   -- infeasible is said only where no point is feasible
   pub infeasible : figures.status ≡ Infeasible → (point : List ℚ) → ¬ IsFeasible program point
   -- cost and bound are there and agree where the answer is optimal
