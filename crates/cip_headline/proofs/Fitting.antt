@@ -37,7 +37,7 @@ leaf_fits program leaf formed h =
     let long : length leaf ≡ length (at_wholes program.integral program.bounds) = AllZip-long IsWholeBetween (at_wholes program.integral program.bounds) leaf h in
     long ∙ as_many program.integral program.bounds program.column_names (formed.bounds ∙ sym formed.column_names)
 
-module _ (program : Program) (start : Option ℚ) (nodes : ℕ) (log : List Entry) (answer : Answer) (formed : IsWellFormed program) where
+module _ (program : Program) (box start : Option ℚ) (nodes : ℕ) (log : List Entry) (answer : Answer) (formed : IsWellFormed program) where
   infeasible_held : answer.ended ≡ Infeasible → IsSettled program start nodes log answer → answer.held ≡ None
   infeasible_held e s = (subst (EndsAs program start nodes log answer.held) e s.ends).2
 
@@ -52,7 +52,7 @@ module _ (program : Program) (start : Option ℚ) (nodes : ℕ) (log : List Entr
   end_fits (Wide leaf shown) e h n = leaf_fits program leaf formed (shown_leaf leaf shown e h)
   end_fits NoMemory e h n = tt
 
-  pub fits : IsPrintable program start nodes log answer → FitNames (names_of program) (figures_of program answer)
+  pub fits : IsPrintable program box start nodes log answer → FitNames (names_of program) (figures_of program answer)
   fits p = record {
     point = point_fits program answer.held formed p.right.point;
     end_ = end_fits answer.ended refl p.right.end_ p.ray;

@@ -2,7 +2,7 @@
 use Rattle.std.proofs.Common.{◌≡◌, ◌≢◌, ℕ, Bool, true, false, List, Option, None, Some, IfSome, refl, sym, ap, subst}
 use Rattle.std.specs.Prelude.{IsSome, option_map, if◌then◌else◌}
 use Rattle.cip_rational.specs.Rational.{ℚ, ◌≤ℚ◌, ◌<ℚ◌, negate}
-use Rattle.cip_rational.proofs.Rational.Order.{≤ℚ_trans, not_le_of_lt}
+use Rattle.cip_rational.proofs.Rational.Order.{not_le_of_lt}
 use Rattle.cip_rational.proofs.Rational.Ring.{negate_negate}
 use Rattle.cip_rational.proofs.Rational.Monotone.{negate_strict}
 use Rattle.cip_problem.specs.Program.{Program}
@@ -44,12 +44,6 @@ true_bound program None h = tt
 true_bound program (Some b) h = λ point feasible. not_better program.maximized (cost_of program point) b (h point feasible)
 
 -- ---- the box bound
-
-no_more : (a b c : Option ℚ) → NoMore a b → NoMore b c → NoMore a c
-no_more None b c h k = tt
-no_more (Some a) None c h k = absurd h
-no_more (Some a) (Some b) None h k = absurd k
-no_more (Some a) (Some b) (Some c) h k = ≤ℚ_trans h k
 
 below_box : (program : Program) (b : ℚ) (box : Option ℚ) → NoMore box (Some b) → IfSome box (λ least. ¬ IsBetter program.maximized (printed program b) (printed program least))
 below_box program b None h = tt
@@ -199,14 +193,14 @@ kind_of NodeLimit = other (λ e. absurd (cc)) (λ ray e. absurd (cc))
 kind_of (Wide leaf shown) = other (λ e. absurd (cc)) (λ ray e. absurd (cc))
 kind_of NoMemory = other (λ e. absurd (cc)) (λ ray e. absurd (cc))
 
-module _ (program : Program) (box start : Option ℚ) (nodes : ℕ) (log : List Entry) (answer : Answer) (formed : IsWellFormed program) (least : NoMore box start) (p : IsPrintable program start nodes log answer) where
+module _ (program : Program) (box start : Option ℚ) (nodes : ℕ) (log : List Entry) (answer : Answer) (formed : IsWellFormed program) (p : IsPrintable program box start nodes log answer) where
   held_there : EndHolds program start nodes log answer answer.ended
   held_there = p.right.end_
 
   within_of : Kind answer.ended → IfSome (option_map (printed program) answer.bound) (IsWithinBox program box)
   within_of (none e) = no_bound_within program box answer.bound ((subst (EndHolds program start nodes log answer) e held_there).no_bound e)
   within_of (endless_ ray e) = no_bound_within program box answer.bound (subst (EndHolds program start nodes log answer) e held_there).no_bound
-  within_of (other n m) = within_box program box answer.bound (no_more box start answer.bound least (p.box n m))
+  within_of (other n m) = within_box program box answer.bound (p.bound n m)
 
   settled_at : (ended : Ended) → ended ≡ answer.ended → EndHolds program start nodes log answer ended
   settled_at ended e = subst (EndHolds program start nodes log answer) (sym e) held_there
@@ -224,12 +218,12 @@ module _ (program : Program) (box start : Option ℚ) (nodes : ℕ) (log : List 
   pub are_true : AreTrue program box start nodes log (figures_of program answer)
   are_true =
       let ends = ends_with program start nodes log answer p.right.point answer.ended refl held_there in
-      let fit = fits program start nodes log answer formed p in
+      let fit = fits program box start nodes log answer formed p in
       record {
         point = true_point program answer.held p.right.point;
         bound = true_bound program answer.bound (bound_of program start nodes log answer answer.ended held_there);
         within_box = within_of (kind_of answer.ended);
-        no_bound = λ n m e. no_box box answer.bound (no_more box start answer.bound least (p.box (λ i. n (ap (status_of program.row_names) i)) (λ ray i. m ray (ap (status_of program.row_names) i)))) (none_before program answer.bound e);
+        no_bound = λ n m e. no_box box answer.bound (p.bound (λ i. n (ap (status_of program.row_names) i)) (λ ray i. m ray (ap (status_of program.row_names) i))) (none_before program answer.bound e);
         infeasible = λ e. infeasible_of (is_infeasible program.row_names answer.ended e);
         agree = λ e. agree_of (is_optimal program.row_names answer.ended e);
         overflow = λ leaf place e.
@@ -243,4 +237,4 @@ module _ (program : Program) (box start : Option ℚ) (nodes : ℕ) (log : List 
       }
 
 pub figures_are_true : FiguresAreTrue
-figures_are_true program box start nodes log answer formed least p = are_true program box start nodes log answer formed least p
+figures_are_true program box start nodes log answer formed p = are_true program box start nodes log answer formed p

@@ -29,10 +29,10 @@ figures_of program answer = record {
   bound = option_map (printed program) answer.bound;
 }
 
--- an answer is right beside its log; its bound is not below that of the root, after infeasible and unbounded aside; and
--- a ray has a change for each column
+-- an answer is right beside its log; its bound is not below the box bound, after infeasible and unbounded aside; and a
+-- ray has a change for each column
 pub record IsPrintable
-    (program : Program) (start : Option ℚ) (nodes : ℕ) (log : List Entry) (answer : Answer) : Type 0 where
+    (program : Program) (box start : Option ℚ) (nodes : ℕ) (log : List Entry) (answer : Answer) : Type 0 where
   pub right : IsAnswer program start nodes log answer
-  pub box : answer.ended ≢ Infeasible → ((ray : List ℚ) → answer.ended ≢ Unbounded ray) → NoMore start answer.bound
+  pub bound : answer.ended ≢ Infeasible → ((ray : List ℚ) → answer.ended ≢ Unbounded ray) → NoMore box answer.bound
   pub ray : (ray : List ℚ) → answer.ended ≡ Unbounded ray → length ray ≡ columns program

@@ -6,18 +6,17 @@ use Rattle.cip_problem.specs.WellFormed.{IsWellFormed}
 use Rattle.cip_problem.specs.Wholes.{assignments}
 use Rattle.cip_problem.specs.Points.{IsLowerBound}
 use Rattle.cip_problem.specs.Log.{Entry, IsLog}
-use Rattle.cip_leaves.specs.Searched.{NoMore}
 use Rattle.cip_answers.specs.Headline.{IsTrueRay}
 use Rattle.cip_answers.specs.Figures.{Figures, Held, Status, status_word}
 use Rattle.cip_search_ends.specs.SearchEnds.{Answer}
 use Rattle.cip_headline.specs.Headline.{HasOpen, EndsWith, EndsItself, AreTrue}
 use Rattle.cip_headline.specs.Printed.{IsPrintable, figures_of}
 
--- the figures that are printed of a right answer are true, where the bound of the root is not below the box bound
+-- the figures that are printed of a right answer are true
 abbrev pub FiguresAreTrue : Type 0
 FiguresAreTrue =
     (program : Program) (box start : Option ℚ) (nodes : ℕ) (log : List Entry) (answer : Answer)
-    → IsWellFormed program → NoMore box start → IsPrintable program start nodes log answer
+    → IsWellFormed program → IsPrintable program box start nodes log answer
     → AreTrue program box start nodes log (figures_of program answer)
 
 -- no two ends that come by what is left of a search say what holds

@@ -5,8 +5,7 @@
 
 ghost use Rattle.cip_headline.specs.Statements.{FiguresAreTrue, EndsExclude, BudgetsSuffice, RaysExcludeBounds};
 
-/// The figures that are printed of a right answer of a search are true of the program, beside the log of the search,
-/// where the bound of its root is not below the box bound.
+/// The figures that are printed of a right answer of a search are true of the program, beside the log of the search.
 pub fn figures_are_true()
     ensures { FiguresAreTrue }
 {}
