@@ -1,3 +1,4 @@
+pub mod Examples
 pub mod Headline
 pub mod Printed
 pub mod Statements

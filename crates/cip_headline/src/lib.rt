@@ -3,6 +3,7 @@
 // Each function here does nothing. Its contract is one of the laws of the definitions, so that the check proves it.
 #![tactic(auto)]
 
+ghost use Rattle.cip_headline.specs.Examples.{Examples};
 ghost use Rattle.cip_headline.specs.Statements.{FiguresAreTrue, EndsExclude, BudgetsSuffice, RaysExcludeBounds};
 
 /// The figures that are printed of a right answer of a search are true of the program, beside the log of the search.
@@ -23,4 +24,11 @@ pub fn budgets_suffice()
 /// Where there is a true ray, no number is a lower bound.
 pub fn rays_exclude_bounds()
     ensures { RaysExcludeBounds }
+{}
+
+/// Of a program along whose second column the cost falls without end a ray is shown that way, and not the other way or
+/// without a point; and of a program whose only leaf is wide by its first move that is shown once its node was put aside,
+/// by one move and not by two.
+pub fn examples()
+    ensures { Examples }
 {}
