@@ -1,2 +1,4 @@
 pub mod EndsRight
 pub mod ShownNode
+pub mod StartBounds
+pub mod WorkLogs
