@@ -9,6 +9,7 @@ use Rattle.cip_rational.specs.Rational.{integer, ratio, numerator, denominator}
 use Rattle.cip_rational.proofs.Rational.Lowest.{numerator-integer, denominator-integer, numerator-ratio, denominator-ratio}
 use Rattle.cip_numerals.specs.NumberText.{integer_text, denominator_text, fraction_text}
 use Rattle.cip_answers.specs.Figures.{Optimal, Unbounded, NodeLimit, Wide, AtRow, AtMoves, answer_text, usage_text, read_fault_text, no_memory_text}
+use Rattle.cip_answers.specs.Checks.{Above, Below, BreaksBound, BreaksRow, Feasible, WideCost, WideRow, check_text}
 use Rattle.cip_answers.specs.Statements.{same_names}
 use Rattle.cip_answers.proofs.AnswerTexts.{apart}
 
@@ -106,3 +107,20 @@ fixed_texts_differ =
     (AllPairs-cons Differ read_fault_text (no_memory_text ∷ []) after_read_fault
     (AllPairs-cons Differ no_memory_text [] (All-from_recursion (Differ no_memory_text) [] tt)
     (λ i j d below within. absurd (omega arith))))
+
+-- ---- the answers to `check`
+
+check_row : check_text (BreaksRow (codes "R1") (integer (pos 6)) (Above (integer (pos 5)))) ≡ codes "status broken\nrow R1 6 above 5\nend\n"
+check_row = simp integer_figure
+
+check_bound : check_text (BreaksBound (codes "c") (integer (negsuc 0)) (Below (integer (pos 0)))) ≡ codes "status broken\nbound c -1 below 0\nend\n"
+check_bound = simp integer_figure
+
+check_feasible : check_text (Feasible (integer (pos 13))) ≡ codes "status feasible\ncost 13\nend\n"
+check_feasible = simp integer_figure
+
+check_wide : check_text (WideRow (codes "R1")) ≡ codes "status wide\nrow R1\nend\n"
+check_wide = refl
+
+check_wide_cost : check_text WideCost ≡ codes "status wide\ncost\nend\n"
+check_wide_cost = refl

@@ -2,8 +2,10 @@
 #![tactic(auto)]
 
 mod buffer;
+mod checks;
 mod figures;
 mod writing;
 
+pub use checks::{check_status, report_check};
 pub use figures::{Answer, Ended, Held, Shown};
 pub use writing::report;

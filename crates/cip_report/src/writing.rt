@@ -18,7 +18,7 @@ use cip_io::{Failed, Sink};
 use cip_model::{Names, Place, Program, Sense};
 
 /// Writes a line of a word and a figure.
-fn write_line<K: Sink>(
+pub(crate) fn write_line<K: Sink>(
     out: &mut K,
     buffer: &mut Buffer,
     word: &[u8],
@@ -35,7 +35,7 @@ fn write_line<K: Sink>(
 }
 
 /// Writes a line of a word and a number.
-fn write_number<K: Sink>(
+pub(crate) fn write_number<K: Sink>(
     out: &mut K,
     buffer: &mut Buffer,
     word: &[u8],
@@ -86,7 +86,7 @@ fn write_point<K: Sink>(
 }
 
 /// A figure as it is printed: of a maximised program negated again.
-fn printed(program: &Program, figure: Frac) -> Frac
+pub(crate) fn printed(program: &Program, figure: Frac) -> Frac
     ensures { result ≡ printed program.now figure }
 {
     match program.sense() {
