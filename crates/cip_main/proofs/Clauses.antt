@@ -1,26 +1,41 @@
 -- The clauses of `run`, each from what the call does.
-use Rattle.std.specs.Prelude.{◌≡◌, ◌≢◌, ◌⊎◌, ℕ, List, Option, None, Some, IfSome, length, ◌*◌, ◌-◌, ◌≤◌, ◌<◌, max}
+use Rattle.std.specs.Prelude.{◌≡◌, ◌≢◌, ◌⊎◌, ⊤, ℕ, List, Option, None, Some, IfSome, length, ◌*◌, ◌-◌, ◌≤◌, ◌<◌, max}
 use Rattle.std.proofs.Common.{sym, ap, ◌∙◌, subst, inl, inr, arith}
 use Rattle.cip_io.specs.Faults.{Rose}
 use Rattle.cip_io.specs.Store.{StoreTells}
 use Rattle.cip_problem.specs.Program.{Program}
 use Rattle.cip_problem.specs.Wholes.{assignments}
 use Rattle.cip_mps_rules.specs.MpsOutcome.{Means, Faulty, HasProgram, HasFault}
+use Rattle.cip_rational.specs.Rational.{ℚ}
+use Rattle.cip_line_texts.specs.LineTexts.{Reading, outcome_of, HasResult, HasFault as HasLineFault}
+use Rattle.cip_line_texts.specs.LineTexts as texts
+use Rattle.cip_block_rules.specs.BlockRules.{block_reading}
+use Rattle.cip_point_rules.specs.PointRules.{point_reading}
 use Rattle.cip_mps.specs.MpsFaultKinds.{kind_number}
 use Rattle.cip_mps.specs.declared.faults.MpsFault.{MpsFault}
-use Rattle.cip_words.specs.Jobs.{Job, Solve}
+use Rattle.cip_blocks.specs.BlockKinds.{kind_number as block_kind_number}
+use Rattle.cip_blocks.specs.declared.faults.BlockFault.{BlockFault}
+use Rattle.cip_point.specs.PointKinds.{kind_number as point_kind_number}
+use Rattle.cip_point.specs.declared.faults.PointFault.{PointFault}
+use Rattle.cip_words.specs.Jobs.{Job, Solve, Check}
+use Rattle.cip_input.specs.ModelsRead.{IsRead}
+use Rattle.cip_answers.specs.Checks.{check_status}
+use Rattle.cip_main.specs.declared.refusals.TextFault.{TextFault}
+use Rattle.cip_main.specs.declared.refusals.TextFault.TheVariants.{Model, Blocks, Point}
 use Rattle.cip_input.specs.TextPulls.{IsAllPulled}
 use Rattle.cip_answers.specs.Figures.{NodeLimit, NoMemory as LacksMemory, exit_status}
 use Rattle.cip_solve.proofs.AnswerLaws.{budget_suffices}
 use Rattle.cip_main.specs.declared.plain.Plain.{Plain}
 use Rattle.cip_main.specs.declared.plain.Plain.TheVariants.{Usage, ReadFault, Refused, NoMemory}
 use Rattle.cip_main.specs.Answering.{IsLogged}
+use Rattle.cip_main.specs.Checking.{checked}
 use Rattle.cip_main.specs.Headline.{IsSpent, EndsWith}
 use Rattle.cip_main.specs.Plain.{plain_status}
-use Rattle.cip_main.specs.Running.{Call, IsStoreSound, IsSinkSound, GivesPlain, IsAnswered, Ran, gives_plain, gives_figures, IsStatus, write_fault, TellsTruth, Asks, Headline, UsageClause, ReadFaultClause, RefusedClause, WriteFaultClause, SpentLog, OverflowClause, MemoryClause, Runs}
+use Rattle.cip_main.specs.Running.{Call, IsStoreSound, IsSinkSound, GivesPlain, IsAnswered, IsChecked, TellsVerdict, ArePulled, IsPulledBehind, BlocksAreRead, Ran, gives_plain, gives_figures, gives_verdict, IsStatus, write_fault, TellsTruth, Asks, AsksOf, AsksWith, AsksToCheck, HasBlocks, IsCutShort, Headline, CheckClause, IsFirstFault, TellsModelFault, TellsBlockFault, TellsPointFault, UsageClause, ReadFaultClause, RefusedClause, WriteFaultClause, SpentLog, OverflowClause, MemoryClause, Runs}
 use Rattle.cip_main.specs.Saying.{Says}
-use Rattle.cip_main.specs.Tasks.{TaskCause, IsFaulty}
-use Rattle.cip_main.proofs.Statuses.{says_usage, says_read_fault, says_refused, says_no_memory, plain_below_five, plain_not_ten, plain_not_eleven, plain_is, figures_not_two, figures_not_three, figures_not_four, figures_not_five, is_spent, is_wide, exit_is}
+use Rattle.cip_main.specs.Tasks.{TaskCause, model_of, second_of, FailsBehind, HasFaultyModel, HasFaultyBlocks, HasFaultyPoint}
+use Rattle.cip_main.proofs.Readings.{told, some_job}
+use Rattle.cip_main.proofs.Statuses.{says_usage, says_read_fault, says_refused, says_no_memory, plain_below_five, plain_not_one, plain_not_ten, plain_not_eleven, plain_is, figures_not_one, figures_not_two, figures_not_three, figures_not_four, figures_not_five, is_spent, is_wide, exit_is, verdict_not_two, verdict_not_three, verdict_not_four, verdict_not_five, verdict_not_six, verdict_not_ten, verdict_is}
 
 -- ---- the status of a call
 
@@ -42,6 +57,9 @@ said_figures call a = said call _ (exit_status a.answers.figures.status) a.answe
 own_answer : (call : Call) (status n : ℕ) → StatusIs call status → call.status ≡ n → n ≢ 5 → status ≡ n
 own_answer call status n s e not_5 = elim s.either [ inl h ↦ sym h.0 ∙ e | inr h ↦ absurd (not_5 (sym e ∙ h.0)) ]
 
+said_verdict : (call : Call) (c : IsChecked call) → StatusIs call (check_status (checked c.program c.point))
+said_verdict call c = said call _ (check_status (checked c.program c.point)) c.verdict.tells
+
 -- an answer's own status, unless 5
 not_own : (call : Call) (status : ℕ) → StatusIs call status → call.status ≢ status → call.status ≢ 5 → ⊥
 not_own call status s n not_5 = elim s.either [ inl h ↦ n h.0 | inr h ↦ not_5 h.0 ]
@@ -52,6 +70,10 @@ status_of call status i s = elim s.either [ inl h ↦ subst IsStatus (sym h.0) i
 statuses : (call : Call) → Ran call → IsStatus call.status
 statuses call (gives_plain answer g) = status_of call _ (plain_is answer) (said_plain call answer g)
 statuses call (gives_figures a) = status_of call _ (exit_is a.answers.figures.status) (said_figures call a)
+statuses call (gives_verdict c) = status_of call _ (verdict_is (checked c.program c.point)) (said_verdict call c)
+
+one_five : ◌≢◌ {A = ℕ} 1 5
+one_five e = absurd (omega (arith, e))
 
 two_five : ◌≢◌ {A = ℕ} 2 5
 two_five e = absurd (omega (arith, e))
@@ -73,18 +95,34 @@ eleven_five e = absurd (omega (arith, e))
 
 -- ---- jobs and texts
 
-some_job : {model : List ℕ} {nodes : ℕ} {job : Option Job} → job ≡ Some (Solve model nodes) → job ≡ None → ⊥
-some_job h e = cc
+one_job : {asked other : Job} {job : Option Job} → job ≡ Some asked → job ≡ Some other → asked ≡ other
+one_job h e = cc
 
-same_model : {model other : List ℕ} {nodes more : ℕ} {job : Option Job} → job ≡ Some (Solve model nodes) → job ≡ Some (Solve other more) → model ≡ other
+-- a job to solve is no job to check
+solve_check : {model other name : List ℕ} {blocks : Option (List ℕ)} {nodes : ℕ} {job : Option Job} → job ≡ Some (Solve model blocks nodes) → job ≡ Some (Check other name) → ⊥
+solve_check h e = cc
+
+same_model : {model other : List ℕ} {blocks others : Option (List ℕ)} {nodes more : ℕ} {job : Option Job} → job ≡ Some (Solve model blocks nodes) → job ≡ Some (Solve other others more) → model ≡ other
 same_model h e = cc
 
-same_nodes : {model other : List ℕ} {nodes more : ℕ} {job : Option Job} → job ≡ Some (Solve model nodes) → job ≡ Some (Solve other more) → nodes ≡ more
+same_nodes : {model other : List ℕ} {blocks others : Option (List ℕ)} {nodes more : ℕ} {job : Option Job} → job ≡ Some (Solve model blocks nodes) → job ≡ Some (Solve other others more) → nodes ≡ more
 same_nodes h e = cc
 
--- the text that a job names is the one that is asked for
-text_asked : (call : Call) (model text : List ℕ) (nodes more : ℕ) → call.job ≡ Some (Solve model nodes) → (asks : Asks call text more) → call.store.holds model ≡ Some text
-text_asked call model text nodes more h asks = ap call.store.holds (same_model h asks.job) ∙ asks.held
+same_blocks : {model other : List ℕ} {blocks others : Option (List ℕ)} {nodes more : ℕ} {job : Option Job} → job ≡ Some (Solve model blocks nodes) → job ≡ Some (Solve other others more) → blocks ≡ others
+same_blocks h e = cc
+
+same_name : {name other : List ℕ} → Some name ≡ Some other → name ≡ other
+same_name e = cc
+
+same_checked : {model other name another : List ℕ} {job : Option Job} → job ≡ Some (Check model name) → job ≡ Some (Check other another) → model ≡ other
+same_checked h e = cc
+
+same_point : {model other name another : List ℕ} {job : Option Job} → job ≡ Some (Check model name) → job ≡ Some (Check other another) → name ≡ another
+same_point h e = cc
+
+-- what holds of the text of a name, where it is told, holds of the text
+of_text : (P : List ℕ → Type 0) (text : Option (List ℕ)) (bytes : List ℕ) → IfSome text P → text ≡ Some bytes → P bytes
+of_text P text bytes h e = subst (λ o. IfSome o P) e h
 
 one_program : (text : List ℕ) (program other : Program) → HasProgram text program → HasProgram text other → program ≡ other
 one_program text program other h e = same (sym h.means ∙ e.means)
@@ -104,31 +142,138 @@ same_line e = cc
 same_kind : {l m k n : ℕ} → Faulty l k ≡ Faulty m n → k ≡ n
 same_kind e = cc
 
-fault_asked : (call : Call) (text : List ℕ) (nodes line kind : ℕ) → Asks call text nodes → IsFaulty call.job call.store call.store_after line kind → HasFault text line kind
-fault_asked call text nodes line kind asks f =
-    subst (λ o. IfSome o (λ bytes. HasFault bytes line kind)) (text_asked call f.model text f.nodes nodes f.asked asks) f.refuses.fault
+same_value : {X : Type 0} {x y : X} → texts.Means x ≡ texts.Means y → x ≡ y
+same_value e = cc
 
-program_asked : (call : Call) (text : List ℕ) (nodes : ℕ) → Asks call text nodes → (a : IsAnswered call) → HasProgram text a.program
-program_asked call text nodes asks a =
-    subst (λ o. IfSome o (λ bytes. HasProgram bytes a.program)) (text_asked call a.model text a.nodes nodes a.asked asks) a.is_read
+apart : {X : Type 0} {x : X} {l k : ℕ} → texts.Means x ≡ texts.Faulty {X = X} l k → ⊥
+apart e = cc
+
+same_line_of : {X : Type 0} {l m k n : ℕ} → texts.Faulty {X = X} l k ≡ texts.Faulty m n → l ≡ m
+same_line_of e = cc
+
+same_kind_of : {X : Type 0} {l m k n : ℕ} → texts.Faulty {X = X} l k ≡ texts.Faulty m n → k ≡ n
+same_kind_of e = cc
+
+one_value : {K I X : Type 0} (r : Reading K I X) (text : List ℕ) (x y : X) → HasResult r text x → HasResult r text y → x ≡ y
+one_value r text x y h e = same_value (sym h.means ∙ e.means)
+
+no_line_fault : {K I X : Type 0} (r : Reading K I X) (text : List ℕ) (x : X) (line kind : ℕ) → HasResult r text x → HasLineFault r text line kind → ⊥
+no_line_fault r text x line kind h e = apart (sym h.means ∙ e.faulty)
+
+-- the program that was read is the one of the text
+asked_program : (call : Call) (asked : Job) (text : List ℕ) (program : Program) → IfSome (call.store.holds (model_of asked)) (λ bytes. HasProgram bytes program) → call.job ≡ Some asked → (asks : AsksOf call text) → HasProgram text program
+asked_program call asked text program h e asks =
+    of_text (λ bytes. HasProgram bytes program) _ text h (ap (λ job. call.store.holds (model_of job)) (one_job e asks.job) ∙ asks.held)
+
+fault_asked : (call : Call) (text : List ℕ) (line kind : ℕ) → AsksOf call text → HasFaultyModel call.job call.store call.store_after line kind → HasFault text line kind
+fault_asked call text line kind asks f =
+    of_text (λ bytes. HasFault bytes line kind) _ text f.refuses.fault (ap (λ job. call.store.holds (model_of job)) (one_job f.is_asked asks.job) ∙ asks.held)
+
+of_solve : (call : Call) (text : List ℕ) (nodes : ℕ) → Asks call text nodes → AsksOf call text
+of_solve call text nodes asks = record { asked = Solve asks.model asks.blocks nodes; job = asks.job; held = asks.held }
+
+of_blocks : (call : Call) (text blocks_text : List ℕ) → AsksWith call text blocks_text → AsksOf call text
+of_blocks call text blocks_text asks = record { asked = Solve asks.model (Some asks.name) asks.nodes; job = asks.job; held = asks.held }
+
+of_check : (call : Call) (text point_text : List ℕ) → AsksToCheck call text point_text → AsksOf call text
+of_check call text point_text asks = record { asked = Check asks.model asks.name; job = asks.job; held = asks.held }
+
+program_asked : (call : Call) (text : List ℕ) → AsksOf call text → (a : IsAnswered call) → HasProgram text a.program
+program_asked call text asks a = asked_program call (Solve a.model a.blocks a.nodes) text a.program a.is_read a.asked asks
+
+program_checked : (call : Call) (text : List ℕ) → AsksOf call text → (c : IsChecked call) → HasProgram text c.program
+program_checked call text asks c = asked_program call (Check c.model c.name) text c.program c.is_read c.asked asks
+
+-- the fault of the blocks that were read is one of the text, for the text's program
+blocks_fault_asked : (call : Call) (text blocks_text : List ℕ) (program : Program) (line kind : ℕ) → AsksWith call text blocks_text → HasProgram text program → HasFaultyBlocks call.job call.store call.store_after line kind → HasLineFault (block_reading program) blocks_text line kind
+blocks_fault_asked call text blocks_text program line kind asks h f =
+    let named : Some f.name ≡ Some asks.name = same_blocks f.is_asked asks.job in
+    let found : HasProgram text f.program = asked_program call (Solve f.model (Some f.name) f.nodes) text f.program (told _ f.program f.reads.is_read) f.is_asked (of_blocks call text blocks_text asks) in
+    subst (λ p. HasLineFault (block_reading p) blocks_text line kind) (one_program text f.program program found h)
+    (of_text (λ bytes. HasLineFault (block_reading f.program) bytes line kind) _ blocks_text f.refuses.fault (ap call.store.holds (same_name named) ∙ asks.blocks_held))
+
+point_fault_asked : (call : Call) (text point_text : List ℕ) (program : Program) (line kind : ℕ) → AsksToCheck call text point_text → HasProgram text program → HasFaultyPoint call.job call.store call.store_after line kind → HasLineFault (point_reading program) point_text line kind
+point_fault_asked call text point_text program line kind asks h f =
+    let found : HasProgram text f.program = asked_program call (Check f.model f.name) text f.program (told _ f.program f.reads.is_read) f.is_asked (of_check call text point_text asks) in
+    subst (λ p. HasLineFault (point_reading p) point_text line kind) (one_program text f.program program found h)
+    (of_text (λ bytes. HasLineFault (point_reading f.program) bytes line kind) _ point_text f.refuses.fault (ap call.store.holds (same_point f.is_asked asks.job) ∙ asks.point_held))
 
 -- ---- the headline
 
-headline_plain : (call : Call) (answer : Plain) → GivesPlain call answer → (text : List ℕ) (nodes : ℕ) (program : Program) → Asks call text nodes → HasProgram text program → GivesPlain call ReadFault ⊎ GivesPlain call NoMemory
-headline_plain call Usage g text nodes program asks h = absurd (some_job asks.job g.cause.0)
-headline_plain call ReadFault g text nodes program asks h = inl g
-headline_plain call (Refused fault) g text nodes program asks h =
-    absurd (no_fault text program fault.line (kind_number fault.kind) h (fault_asked call text nodes fault.line (kind_number fault.kind) asks g.cause))
-headline_plain call NoMemory g text nodes program asks h = inr g
+blocks_are : (program : Program) (blocks : Option (List ℕ)) (name : List ℕ) (store : StoreTells) → blocks ≡ Some name → HasBlocks program blocks store → HasBlocks program (Some name) store
+blocks_are program blocks name store e h = subst (λ b. HasBlocks program b store) e h
+
+-- blocks that are there are not refused
+no_blocks_fault : (call : Call) (text : List ℕ) (nodes : ℕ) (program : Program) (line kind : ℕ) (asks : Asks call text nodes) → HasProgram text program → HasBlocks program asks.blocks call.store → HasFaultyBlocks call.job call.store call.store_after line kind → ⊥
+no_blocks_fault call text nodes program line kind asks h b f =
+    let there = blocks_are program asks.blocks f.name call.store (same_blocks asks.job f.is_asked) b in
+    let with : AsksWith call text there.0 = record { model = f.model; name = f.name; nodes = f.nodes; job = f.is_asked; held = ap call.store.holds (same_model f.is_asked asks.job) ∙ asks.held; blocks_held = there.1 } in
+    no_line_fault (block_reading program) there.0 there.2.0 line kind there.2.1 (blocks_fault_asked call text there.0 program line kind with h f)
+
+headline_plain : (call : Call) (answer : Plain) → GivesPlain call answer → (text : List ℕ) (nodes : ℕ) (program : Program) (asks : Asks call text nodes) → HasProgram text program → HasBlocks program asks.blocks call.store → IsCutShort call
+headline_plain call Usage g text nodes program asks h b = absurd (some_job asks.job g.cause.0)
+headline_plain call ReadFault g text nodes program asks h b = inl g
+headline_plain call (Refused (Model fault)) g text nodes program asks h b =
+    absurd (no_fault text program fault.line (kind_number fault.kind) h (fault_asked call text fault.line (kind_number fault.kind) (of_solve call text nodes asks) g.cause))
+headline_plain call (Refused (Blocks fault)) g text nodes program asks h b = absurd (no_blocks_fault call text nodes program fault.line (block_kind_number fault.kind) asks h b g.cause)
+headline_plain call (Refused (Point fault)) g text nodes program asks h b = absurd (solve_check asks.job g.cause.is_asked)
+headline_plain call NoMemory g text nodes program asks h b = inr g
 
 headline_figures : (call : Call) (text : List ℕ) (nodes : ℕ) (program : Program) → Asks call text nodes → HasProgram text program → (a : IsAnswered call) → TellsTruth call program nodes
 headline_figures call text nodes program asks h a =
-    subst (λ p. TellsTruth call p nodes) (one_program text a.program program (program_asked call text nodes asks a) h)
+    subst (λ p. TellsTruth call p nodes) (one_program text a.program program (program_asked call text (of_solve call text nodes asks) a) h)
     (subst (λ n. TellsTruth call a.program n) (same_nodes a.asked asks.job) a.answers)
 
 headline : (call : Call) → Ran call → Headline call
-headline call (gives_plain answer g) text nodes program asks h = inr (headline_plain call answer g text nodes program asks h)
-headline call (gives_figures a) text nodes program asks h = inl (headline_figures call text nodes program asks h a)
+headline call (gives_plain answer g) text nodes program asks h b = inr (headline_plain call answer g text nodes program asks h b)
+headline call (gives_figures a) text nodes program asks h b = inl (headline_figures call text nodes program asks h a)
+headline call (gives_verdict c) text nodes program asks h b = absurd (solve_check asks.job c.asked)
+
+-- ---- checks
+
+check_plain : (call : Call) (answer : Plain) → GivesPlain call answer → (text point_text : List ℕ) (program : Program) (point : List ℚ) → AsksToCheck call text point_text → HasProgram text program → HasResult (point_reading program) point_text point → IsCutShort call
+check_plain call Usage g text point_text program point asks h p = absurd (some_job asks.job g.cause.0)
+check_plain call ReadFault g text point_text program point asks h p = inl g
+check_plain call (Refused (Model fault)) g text point_text program point asks h p =
+    absurd (no_fault text program fault.line (kind_number fault.kind) h (fault_asked call text fault.line (kind_number fault.kind) (of_check call text point_text asks) g.cause))
+check_plain call (Refused (Blocks fault)) g text point_text program point asks h p = absurd (solve_check g.cause.is_asked asks.job)
+check_plain call (Refused (Point fault)) g text point_text program point asks h p =
+    absurd (no_line_fault (point_reading program) point_text point fault.line (point_kind_number fault.kind) p (point_fault_asked call text point_text program fault.line (point_kind_number fault.kind) asks h g.cause))
+check_plain call NoMemory g text point_text program point asks h p = inr g
+
+check_verdict : (call : Call) (c : IsChecked call) (text point_text : List ℕ) (program : Program) (point : List ℚ) → AsksToCheck call text point_text → HasProgram text program → HasResult (point_reading program) point_text point → TellsVerdict call program point
+check_verdict call c text point_text program point asks h p =
+    let same = one_program text c.program program (program_checked call text (of_check call text point_text asks) c) h in
+    let found : HasResult (point_reading c.program) point_text c.point = of_text (λ bytes. HasResult (point_reading c.program) bytes c.point) _ point_text c.is_point (ap call.store.holds (same_point c.asked asks.job) ∙ asks.point_held) in
+    subst (TellsVerdict call program) (one_value (point_reading program) point_text c.point point (subst (λ q. HasResult (point_reading q) point_text c.point) same found) p)
+    (subst (λ q. TellsVerdict call q c.point) same c.verdict)
+
+check_always : (call : Call) → Ran call → (text point_text : List ℕ) (program : Program) (point : List ℚ) → AsksToCheck call text point_text → HasProgram text program → HasResult (point_reading program) point_text point → TellsVerdict call program point ⊎ IsCutShort call
+check_always call (gives_plain answer g) text point_text program point asks h p = inr (check_plain call answer g text point_text program point asks h p)
+check_always call (gives_figures a) text point_text program point asks h p = absurd (solve_check a.asked asks.job)
+check_always call (gives_verdict c) text point_text program point asks h p = inl (check_verdict call c text point_text program point asks h p)
+
+own_verdict : (call : Call) (c : IsChecked call) → call.status ≢ 5 → call.status ≡ check_status (checked c.program c.point)
+own_verdict call c not_5 = elim (said_verdict call c).either [ inl h ↦ h.0 | inr h ↦ absurd (not_5 h.0) ]
+
+no_plain : (call : Call) (answer : Plain) → GivesPlain call answer → {asked : Job} → call.job ≡ Some asked → call.status ≢ 3 → call.status ≢ 4 → call.status ≢ 5 → call.status ≢ 6 → ⊥
+no_plain call Usage g e not_3 not_4 not_5 not_6 = some_job e g.cause.0
+no_plain call ReadFault g e not_3 not_4 not_5 not_6 = not_own call 3 (said_plain call ReadFault g) not_3 not_5
+no_plain call (Refused fault) g e not_3 not_4 not_5 not_6 = not_own call 4 (said_plain call (Refused fault) g) not_4 not_5
+no_plain call NoMemory g e not_3 not_4 not_5 not_6 = not_own call 6 (said_plain call NoMemory g) not_6 not_5
+
+check_exact : (call : Call) → Ran call → (model name : List ℕ) → call.job ≡ Some (Check model name) → call.status ≢ 3 → call.status ≢ 4 → call.status ≢ 5 → call.status ≢ 6 → (c : IsChecked call) × (call.status ≡ check_status (checked c.program c.point))
+check_exact call (gives_plain answer g) model name e not_3 not_4 not_5 not_6 = absurd (no_plain call answer g e not_3 not_4 not_5 not_6)
+check_exact call (gives_figures a) model name e not_3 not_4 not_5 not_6 = absurd (solve_check a.asked e)
+check_exact call (gives_verdict c) model name e not_3 not_4 not_5 not_6 = (c, own_verdict call c not_5)
+
+check_broken : (call : Call) → Ran call → call.status ≡ 1 → IsChecked call
+check_broken call (gives_plain answer g) e = absurd (plain_not_one answer (own_answer call _ 1 (said_plain call answer g) e one_five))
+check_broken call (gives_figures a) e = absurd (figures_not_one a.answers.figures.status (own_answer call _ 1 (said_figures call a) e one_five))
+check_broken call (gives_verdict c) e = c
+
+check_clause : (call : Call) → Ran call → CheckClause call
+check_clause call r = record { always = check_always call r; exact = check_exact call r; broken = check_broken call r }
 
 -- ---- usage
 
@@ -136,16 +281,20 @@ usage_only : (call : Call) → Ran call → call.status ≡ 2 → call.job ≡ N
 usage_only call (gives_plain answer g) e =
     (subst (TaskCause call.job call.store call.store_after) (says_usage answer (own_answer call _ 2 (said_plain call answer g) e two_five)) g.cause).0
 usage_only call (gives_figures a) e = absurd (figures_not_two a.answers.figures.status (own_answer call _ 2 (said_figures call a) e two_five))
+usage_only call (gives_verdict c) e = absurd (verdict_not_two (checked c.program c.point) (own_answer call _ 2 (said_verdict call c) e two_five))
 
 refuses_words : (call : Call) (answer : Plain) → GivesPlain call answer → call.job ≡ None → GivesPlain call Usage ⊎ GivesPlain call NoMemory
 refuses_words call Usage g e = inl g
-refuses_words call ReadFault g e = absurd (some_job g.cause.asked e)
-refuses_words call (Refused fault) g e = absurd (some_job g.cause.asked e)
+refuses_words call ReadFault g e = absurd (some_job g.cause.is_asked e)
+refuses_words call (Refused (Model fault)) g e = absurd (some_job g.cause.is_asked e)
+refuses_words call (Refused (Blocks fault)) g e = absurd (some_job g.cause.is_asked e)
+refuses_words call (Refused (Point fault)) g e = absurd (some_job g.cause.is_asked e)
 refuses_words call NoMemory g e = inr g
 
 usage_always : (call : Call) → Ran call → call.job ≡ None → GivesPlain call Usage ⊎ GivesPlain call NoMemory
 usage_always call (gives_plain answer g) e = refuses_words call answer g e
 usage_always call (gives_figures a) e = absurd (some_job a.asked e)
+usage_always call (gives_verdict c) e = absurd (some_job c.asked e)
 
 untouched : (call : Call) → Ran call → call.job ≡ None → call.store_after ≡ call.store
 untouched call r e = elim (usage_always call r e) [ inl g ↦ g.cause.1 | inr g ↦ g.cause.untouched e ]
@@ -155,63 +304,121 @@ usage_clause call r = record { only = usage_only call r; always = usage_always c
 
 -- ---- read faults
 
+rose_behind : (asked : Job) (old new : StoreTells) → FailsBehind asked old new → Rose old.faults new.faults
+rose_behind asked old new f = subst (λ n. Rose n new.faults) f.reads.sound f.rose
+
 rose : (call : Call) → Ran call → call.status ≡ 3 → Rose call.store.faults call.store_after.faults
 rose call (gives_plain answer g) e =
-    (subst (TaskCause call.job call.store call.store_after) (says_read_fault answer (own_answer call _ 3 (said_plain call answer g) e three_five)) g.cause).rose
+    let cause = subst (TaskCause call.job call.store call.store_after) (says_read_fault answer (own_answer call _ 3 (said_plain call answer g) e three_five)) g.cause in
+    elim cause.fails [ inl h ↦ h | inr f ↦ rose_behind cause.asked call.store call.store_after f ]
 rose call (gives_figures a) e = absurd (figures_not_three a.answers.figures.status (own_answer call _ 3 (said_figures call a) e three_five))
+rose call (gives_verdict c) e = absurd (verdict_not_three (checked c.program c.point) (own_answer call _ 3 (said_verdict call c) e three_five))
 
 plain_sound : (call : Call) (answer : Plain) → GivesPlain call answer → call.status ≢ 3 → call.status ≢ 5 → IsStoreSound call
 plain_sound call Usage g not_3 not_5 = ap (λ (store : StoreTells). store.faults) g.cause.1
 plain_sound call ReadFault g not_3 not_5 = absurd (not_own call 3 (said_plain call ReadFault g) not_3 not_5)
-plain_sound call (Refused fault) g not_3 not_5 = g.cause.refuses.sound
+plain_sound call (Refused (Model fault)) g not_3 not_5 = g.cause.refuses.sound
+plain_sound call (Refused (Blocks fault)) g not_3 not_5 = g.cause.refuses.sound ∙ g.cause.reads.sound
+plain_sound call (Refused (Point fault)) g not_3 not_5 = g.cause.refuses.sound ∙ g.cause.reads.sound
 plain_sound call NoMemory g not_3 not_5 = g.cause.sound
 
 store_sound : (call : Call) → Ran call → call.status ≢ 3 → call.status ≢ 5 → IsStoreSound call
 store_sound call (gives_plain answer g) not_3 not_5 = plain_sound call answer g not_3 not_5
 store_sound call (gives_figures a) not_3 not_5 = a.sound
+store_sound call (gives_verdict c) not_3 not_5 = c.sound
 
-pulled_asked : (call : Call) (model other : List ℕ) (nodes more : ℕ) → call.job ≡ Some (Solve model nodes) → call.job ≡ Some (Solve other more) → IsAllPulled (call.store.holds model) call.store_after → IsAllPulled (call.store.holds other) call.store_after
-pulled_asked call model other nodes more h e = subst (λ m. IsAllPulled (call.store.holds m) call.store_after) (same_model h e)
+pulled_asked : (call : Call) (asked other : Job) → call.job ≡ Some asked → call.job ≡ Some other → ArePulled asked call.store call.store_after → ArePulled other call.store call.store_after
+pulled_asked call asked other h e = subst (λ job. ArePulled job call.store call.store_after) (one_job h e)
 
-plain_pulled : (call : Call) (answer : Plain) → GivesPlain call answer → (model : List ℕ) (nodes : ℕ) → call.job ≡ Some (Solve model nodes) → call.status ≢ 3 → call.status ≢ 5 → call.status ≢ 6 → IsAllPulled (call.store.holds model) call.store_after
-plain_pulled call Usage g model nodes h not_3 not_5 not_6 = absurd (some_job h g.cause.0)
-plain_pulled call ReadFault g model nodes h not_3 not_5 not_6 = absurd (not_own call 3 (said_plain call ReadFault g) not_3 not_5)
-plain_pulled call (Refused fault) g model nodes h not_3 not_5 not_6 = pulled_asked call g.cause.model model g.cause.nodes nodes g.cause.asked h g.cause.refuses.pulled
-plain_pulled call NoMemory g model nodes h not_3 not_5 not_6 = absurd (not_own call 6 (said_plain call NoMemory g) not_6 not_5)
-
-pulled : (call : Call) → Ran call → (model : List ℕ) (nodes : ℕ) → call.job ≡ Some (Solve model nodes) → call.status ≢ 3 → call.status ≢ 5 → call.status ≢ 6 → IsAllPulled (call.store.holds model) call.store_after
-pulled call (gives_plain answer g) model nodes h not_3 not_5 not_6 = plain_pulled call answer g model nodes h not_3 not_5 not_6
-pulled call (gives_figures a) model nodes h not_3 not_5 not_6 = pulled_asked call a.model model a.nodes nodes a.asked h a.pulled
+pulled : (call : Call) → Ran call → (asked : Job) → call.job ≡ Some asked → call.status ≢ 3 → call.status ≢ 4 → call.status ≢ 5 → call.status ≢ 6 → ArePulled asked call.store call.store_after
+pulled call (gives_plain answer g) asked h not_3 not_4 not_5 not_6 = absurd (no_plain call answer g h not_3 not_4 not_5 not_6)
+pulled call (gives_figures a) asked h not_3 not_4 not_5 not_6 = pulled_asked call _ asked a.asked h a.pulled
+pulled call (gives_verdict c) asked h not_3 not_4 not_5 not_6 = pulled_asked call _ asked c.asked h c.pulled
 
 read_fault_clause : (call : Call) → Ran call → ReadFaultClause call
 read_fault_clause call r = record { rose = rose call r; sound = store_sound call r; whole = pulled call r }
 
 -- ---- refusals
 
-refused_only : (call : Call) → Ran call → (text : List ℕ) (nodes : ℕ) → Asks call text nodes → call.status ≡ 4 → (fault : MpsFault) × HasFault text fault.line (kind_number fault.kind) × GivesPlain call (Refused fault)
-refused_only call (gives_plain answer g) text nodes asks e =
+first_fault : (call : Call) (fault : TextFault) → GivesPlain call (Refused fault) → IsFirstFault call fault
+first_fault call (Model fault) g = λ text asks. fault_asked call text fault.line (kind_number fault.kind) asks g.cause
+first_fault call (Blocks fault) g = λ text blocks_text program asks h. blocks_fault_asked call text blocks_text program fault.line (block_kind_number fault.kind) asks h g.cause
+first_fault call (Point fault) g = λ text point_text program asks h. point_fault_asked call text point_text program fault.line (point_kind_number fault.kind) asks h g.cause
+
+refused_only : (call : Call) → Ran call → call.status ≡ 4 → (fault : TextFault) × GivesPlain call (Refused fault) × IsFirstFault call fault
+refused_only call (gives_plain answer g) e =
     let refuses = says_refused answer (own_answer call _ 4 (said_plain call answer g) e four_five) in
-    let fault = refuses.0 in
-    let given : GivesPlain call (Refused fault) = subst (GivesPlain call) refuses.1 g in
-    (fault, fault_asked call text nodes fault.line (kind_number fault.kind) asks given.cause, given)
-refused_only call (gives_figures a) text nodes asks e = absurd (figures_not_four a.answers.figures.status (own_answer call _ 4 (said_figures call a) e four_five))
+    let given : GivesPlain call (Refused refuses.0) = subst (GivesPlain call) refuses.1 g in
+    (refuses.0, given, first_fault call refuses.0 given)
+refused_only call (gives_figures a) e = absurd (figures_not_four a.answers.figures.status (own_answer call _ 4 (said_figures call a) e four_five))
+refused_only call (gives_verdict c) e = absurd (verdict_not_four (checked c.program c.point) (own_answer call _ 4 (said_verdict call c) e four_five))
 
-refused_plain : (call : Call) (answer : Plain) → GivesPlain call answer → (text : List ℕ) (nodes line kind : ℕ) → Asks call text nodes → HasFault text line kind
-    → ((fault : MpsFault) × (fault.line ≡ line) × (kind_number fault.kind ≡ kind) × GivesPlain call (Refused fault)) ⊎ (GivesPlain call ReadFault ⊎ GivesPlain call NoMemory)
-refused_plain call Usage g text nodes line kind asks h = absurd (some_job asks.job g.cause.0)
-refused_plain call ReadFault g text nodes line kind asks h = inr (inl g)
-refused_plain call (Refused fault) g text nodes line kind asks h =
-    let same : Faulty fault.line (kind_number fault.kind) ≡ Faulty line kind = sym (fault_asked call text nodes fault.line (kind_number fault.kind) asks g.cause).faulty ∙ h.faulty in
-    inl (fault, same_line same, same_kind same, g)
-refused_plain call NoMemory g text nodes line kind asks h = inr (inr g)
+model_plain : (call : Call) (answer : Plain) → GivesPlain call answer → (text : List ℕ) (line kind : ℕ) → AsksOf call text → HasFault text line kind → TellsModelFault call line kind ⊎ IsCutShort call
+model_plain call Usage g text line kind asks h = absurd (some_job asks.job g.cause.0)
+model_plain call ReadFault g text line kind asks h = inr (inl g)
+model_plain call (Refused (Model fault)) g text line kind asks h =
+    let same : Faulty fault.line (kind_number fault.kind) ≡ Faulty line kind = sym (fault_asked call text fault.line (kind_number fault.kind) asks g.cause).faulty ∙ h.faulty in
+    inl (record { fault = fault; line = same_line same; kind = same_kind same; given = g })
+model_plain call (Refused (Blocks fault)) g text line kind asks h =
+    absurd (no_fault text g.cause.program line kind (asked_program call _ text g.cause.program (told _ g.cause.program g.cause.reads.is_read) g.cause.is_asked asks) h)
+model_plain call (Refused (Point fault)) g text line kind asks h =
+    absurd (no_fault text g.cause.program line kind (asked_program call _ text g.cause.program (told _ g.cause.program g.cause.reads.is_read) g.cause.is_asked asks) h)
+model_plain call NoMemory g text line kind asks h = inr (inr g)
 
-refused_always : (call : Call) → Ran call → (text : List ℕ) (nodes line kind : ℕ) → Asks call text nodes → HasFault text line kind
-    → ((fault : MpsFault) × (fault.line ≡ line) × (kind_number fault.kind ≡ kind) × GivesPlain call (Refused fault)) ⊎ (GivesPlain call ReadFault ⊎ GivesPlain call NoMemory)
-refused_always call (gives_plain answer g) text nodes line kind asks h = refused_plain call answer g text nodes line kind asks h
-refused_always call (gives_figures a) text nodes line kind asks h = absurd (no_fault text a.program line kind (program_asked call text nodes asks a) h)
+model_always : (call : Call) → Ran call → (text : List ℕ) (line kind : ℕ) → AsksOf call text → HasFault text line kind → TellsModelFault call line kind ⊎ IsCutShort call
+model_always call (gives_plain answer g) text line kind asks h = model_plain call answer g text line kind asks h
+model_always call (gives_figures a) text line kind asks h = absurd (no_fault text a.program line kind (program_asked call text asks a) h)
+model_always call (gives_verdict c) text line kind asks h = absurd (no_fault text c.program line kind (program_checked call text asks c) h)
+
+blocks_plain : (call : Call) (answer : Plain) → GivesPlain call answer → (text blocks_text : List ℕ) (program : Program) (line kind : ℕ) → AsksWith call text blocks_text → HasProgram text program → HasLineFault (block_reading program) blocks_text line kind → TellsBlockFault call line kind ⊎ IsCutShort call
+blocks_plain call Usage g text blocks_text program line kind asks h f = absurd (some_job asks.job g.cause.0)
+blocks_plain call ReadFault g text blocks_text program line kind asks h f = inr (inl g)
+blocks_plain call (Refused (Model fault)) g text blocks_text program line kind asks h f =
+    absurd (no_fault text program fault.line (kind_number fault.kind) h (fault_asked call text fault.line (kind_number fault.kind) (of_blocks call text blocks_text asks) g.cause))
+blocks_plain call (Refused (Blocks fault)) g text blocks_text program line kind asks h f =
+    let same = sym (blocks_fault_asked call text blocks_text program fault.line (block_kind_number fault.kind) asks h g.cause).faulty ∙ f.faulty in
+    inl (record { fault = fault; line = same_line_of same; kind = same_kind_of same; given = g })
+blocks_plain call (Refused (Point fault)) g text blocks_text program line kind asks h f = absurd (solve_check asks.job g.cause.is_asked)
+blocks_plain call NoMemory g text blocks_text program line kind asks h f = inr (inr g)
+
+-- blocks that were read have no fault
+blocks_answered : (call : Call) (a : IsAnswered call) (text blocks_text : List ℕ) (program : Program) (line kind : ℕ) → AsksWith call text blocks_text → HasProgram text program → HasLineFault (block_reading program) blocks_text line kind → ⊥
+blocks_answered call a text blocks_text program line kind asks h f =
+    let named : BlocksAreRead a.program (Some asks.name) call.store = subst (λ b. BlocksAreRead a.program b call.store) (same_blocks a.asked asks.job) a.are_read in
+    let found = of_text (λ bytes. (parts : _) × HasResult (block_reading a.program) bytes parts) _ blocks_text named asks.blocks_held in
+    let same = one_program text a.program program (program_asked call text (of_blocks call text blocks_text asks) a) h in
+    no_line_fault (block_reading a.program) blocks_text found.0 line kind found.1 (subst (λ q. HasLineFault (block_reading q) blocks_text line kind) (sym same) f)
+
+blocks_always : (call : Call) → Ran call → (text blocks_text : List ℕ) (program : Program) (line kind : ℕ) → AsksWith call text blocks_text → HasProgram text program → HasLineFault (block_reading program) blocks_text line kind → TellsBlockFault call line kind ⊎ IsCutShort call
+blocks_always call (gives_plain answer g) text blocks_text program line kind asks h f = blocks_plain call answer g text blocks_text program line kind asks h f
+blocks_always call (gives_figures a) text blocks_text program line kind asks h f = absurd (blocks_answered call a text blocks_text program line kind asks h f)
+blocks_always call (gives_verdict c) text blocks_text program line kind asks h f = absurd (solve_check asks.job c.asked)
+
+point_plain : (call : Call) (answer : Plain) → GivesPlain call answer → (text point_text : List ℕ) (program : Program) (line kind : ℕ) → AsksToCheck call text point_text → HasProgram text program → HasLineFault (point_reading program) point_text line kind → TellsPointFault call line kind ⊎ IsCutShort call
+point_plain call Usage g text point_text program line kind asks h f = absurd (some_job asks.job g.cause.0)
+point_plain call ReadFault g text point_text program line kind asks h f = inr (inl g)
+point_plain call (Refused (Model fault)) g text point_text program line kind asks h f =
+    absurd (no_fault text program fault.line (kind_number fault.kind) h (fault_asked call text fault.line (kind_number fault.kind) (of_check call text point_text asks) g.cause))
+point_plain call (Refused (Blocks fault)) g text point_text program line kind asks h f = absurd (solve_check g.cause.is_asked asks.job)
+point_plain call (Refused (Point fault)) g text point_text program line kind asks h f =
+    let same = sym (point_fault_asked call text point_text program fault.line (point_kind_number fault.kind) asks h g.cause).faulty ∙ f.faulty in
+    inl (record { fault = fault; line = same_line_of same; kind = same_kind_of same; given = g })
+point_plain call NoMemory g text point_text program line kind asks h f = inr (inr g)
+
+-- a point that was read has no fault
+point_checked : (call : Call) (c : IsChecked call) (text point_text : List ℕ) (program : Program) (line kind : ℕ) → AsksToCheck call text point_text → HasProgram text program → HasLineFault (point_reading program) point_text line kind → ⊥
+point_checked call c text point_text program line kind asks h f =
+    let found : HasResult (point_reading c.program) point_text c.point = of_text (λ bytes. HasResult (point_reading c.program) bytes c.point) _ point_text c.is_point (ap call.store.holds (same_point c.asked asks.job) ∙ asks.point_held) in
+    let same = one_program text c.program program (program_checked call text (of_check call text point_text asks) c) h in
+    no_line_fault (point_reading c.program) point_text c.point line kind found (subst (λ q. HasLineFault (point_reading q) point_text line kind) (sym same) f)
+
+point_always : (call : Call) → Ran call → (text point_text : List ℕ) (program : Program) (line kind : ℕ) → AsksToCheck call text point_text → HasProgram text program → HasLineFault (point_reading program) point_text line kind → TellsPointFault call line kind ⊎ IsCutShort call
+point_always call (gives_plain answer g) text point_text program line kind asks h f = point_plain call answer g text point_text program line kind asks h f
+point_always call (gives_figures a) text point_text program line kind asks h f = absurd (solve_check a.asked asks.job)
+point_always call (gives_verdict c) text point_text program line kind asks h f = absurd (point_checked call c text point_text program line kind asks h f)
 
 refused_clause : (call : Call) → Ran call → RefusedClause call
-refused_clause call r = record { only = refused_only call r; always = refused_always call r }
+refused_clause call r = record { only = refused_only call r; model = model_always call r; blocks = blocks_always call r; point = point_always call r }
 
 -- ---- write faults
 
@@ -224,6 +431,7 @@ write_fault_of call status s n = record {
 write_fault_clause : (call : Call) → Ran call → WriteFaultClause call
 write_fault_clause call (gives_plain answer g) = write_fault_of call _ (said_plain call answer g) (plain_below_five answer)
 write_fault_clause call (gives_figures a) = write_fault_of call _ (said_figures call a) (figures_not_five a.answers.figures.status)
+write_fault_clause call (gives_verdict c) = write_fault_of call _ (said_verdict call c) (verdict_not_five (checked c.program c.point))
 
 -- ---- node budgets
 
@@ -245,6 +453,7 @@ spent_of call a limit (inr n) = absurd (not_lacking (sym limit ∙ n.2))
 
 spent_log : (call : Call) → Ran call → call.status ≡ 10 → SpentLog call
 spent_log call (gives_plain answer g) e = absurd (plain_not_ten answer (own_answer call _ 10 (said_plain call answer g) e ten_five))
+spent_log call (gives_verdict c) e = absurd (verdict_not_ten (checked c.program c.point) (own_answer call _ 10 (said_verdict call c) e ten_five))
 spent_log call (gives_figures a) e =
     spent_of call a (is_spent a.answers.figures.status (own_answer call _ 10 (said_figures call a) e ten_five)) a.answers.logged
 
@@ -257,11 +466,9 @@ no_limit call program nodes n e l t ten =
     omega (arith, short, full, l)
 
 ample : (call : Call) → Ran call → (text : List ℕ) (nodes : ℕ) (program : Program) (n : ℕ) → Asks call text nodes → HasProgram text program → assignments program.integral program.bounds ≡ Some n → max 1 (2 * n - 1) ≤ nodes → call.status ≢ 10
-ample call r text nodes program n asks h e l ten = elim (headline call r text nodes program asks h) [
-  | inl t ↦ no_limit call program nodes n e l t ten
-  | inr (inl g) ↦ plain_not_ten ReadFault (own_answer call _ 10 (said_plain call ReadFault g) ten ten_five)
-  | inr (inr g) ↦ plain_not_ten NoMemory (own_answer call _ 10 (said_plain call NoMemory g) ten ten_five)
-]
+ample call (gives_plain answer g) text nodes program n asks h e l ten = plain_not_ten answer (own_answer call _ 10 (said_plain call answer g) ten ten_five)
+ample call (gives_figures a) text nodes program n asks h e l ten = no_limit call program nodes n e l (headline_figures call text nodes program asks h a) ten
+ample call (gives_verdict c) text nodes program n asks h e l ten = absurd (solve_check asks.job c.asked)
 
 -- ---- overflows, and want of memory
 
@@ -269,18 +476,20 @@ overflow_clause : (call : Call) → Ran call → OverflowClause call
 overflow_clause call (gives_plain answer g) e = absurd (plain_not_eleven answer (own_answer call _ 11 (said_plain call answer g) e eleven_five))
 overflow_clause call (gives_figures a) e =
     let shown = is_wide a.answers.figures.status (own_answer call _ 11 (said_figures call a) e eleven_five) in
-    record {
+    inl (record {
       answered = a;
       leaf = shown.0;
       place = shown.1;
       shown = shown.2;
       overflows = subst (EndsWith a.program a.nodes a.answers.entries a.answers.figures.held) shown.2 a.answers.are_true.ends;
-    }
+    })
+overflow_clause call (gives_verdict c) e = inr c
 
 memory_clause : (call : Call) → Ran call → MemoryClause call
 memory_clause call (gives_plain answer g) e =
     inl (subst (GivesPlain call) (says_no_memory answer (own_answer call _ 6 (said_plain call answer g) e six_five)) g)
 memory_clause call (gives_figures a) e = inr a
+memory_clause call (gives_verdict c) e = absurd (verdict_not_six (checked c.program c.point) (own_answer call _ 6 (said_verdict call c) e six_five))
 
 -- all of them
 pub runs : (call : Call) → Ran call → Runs call
@@ -288,6 +497,7 @@ runs call r = record {
   ran = r;
   statuses = statuses call r;
   headline = headline call r;
+  check = check_clause call r;
   usage = usage_clause call r;
   read_fault = read_fault_clause call r;
   refused = refused_clause call r;

@@ -1,27 +1,47 @@
--- What is known of a program that was read.
-use Rattle.std.specs.Prelude.{◌≡◌, ℕ, List, Option, None, Some, IfSome, Result, Ok, Err, IsErr, MatchResult}
+-- What is known of programs, blocks and points that were read, and of those that weren't.
+use Rattle.std.specs.Prelude.{◌≡◌, ⊤, ℕ, List, length, Option, None, Some, IfSome, Result, Ok, Err, IsErr, MatchResult, option_map, refl}
 use Rattle.std.specs.Result.{IsErrAnd}
-use Rattle.std.proofs.Common.{sym, subst}
+use Rattle.std.proofs.Common.{sym, ap, ◌∙◌, subst, inl, inr}
 use Rattle.std.proofs.lemmas.List.Elements.{All-weaker}
+use Rattle.std.proofs.lemmas.Slice.Zip.{AllZip-long}
+use Rattle.cip_rational.specs.Rational.{ℚ}
 use Rattle.cip_problem.specs.Program.{Program}
+use Rattle.cip_problem.specs.WellFormed.{IsWellFormed, columns}
+use Rattle.cip_line_texts.specs.LineTexts.{HasResult, HasFault}
+use Rattle.cip_block_rules.specs.BlockRules.{block_reading}
+use Rattle.cip_point_rules.specs.PointRules.{point_reading}
+use Rattle.cip_point_rules.specs.PointStatements.{IsGivenOnce, given_by, PointsAreOfLines}
 use Rattle.cip_mps_rules.specs.MpsOutcome.{HasProgram}
 use Rattle.cip_mps_rules.specs.MpsStatements.{ProgramsAreWellFormed}
+use Rattle.cip_blocks.specs.BlockKinds.{kind_number as block_kind_number}
+use Rattle.cip_point.specs.PointKinds.{kind_number as point_kind_number}
 use Rattle.cip_input.specs.BoundedModels.{HasBothSides, ProgramsAreBounded}
-use Rattle.cip_input.specs.ModelsRead.{IsRead, ReadCause}
+use Rattle.cip_input.specs.TextsRead.{ReadsText, RefusesText}
+use Rattle.cip_input.specs.ModelsRead.{IsRead, Reads, ReadCause}
+use Rattle.cip_input.specs.BlocksRead.{BlocksCause}
+use Rattle.cip_input.specs.PointsRead.{PointCause}
 use Rattle.cip_input.specs.declared.models.Unread.{Unread}
 use Rattle.cip_input.specs.declared.models.Unread.TheVariants.{StoreFailed, Faulty, NoMemory}
+use Rattle.cip_input.specs.declared.block_texts.UnreadBlocks.{UnreadBlocks}
+use Rattle.cip_input.specs.declared.block_texts.UnreadBlocks.TheVariants as blocks
+use Rattle.cip_input.specs.declared.points.UnreadPoint.{UnreadPoint}
+use Rattle.cip_input.specs.declared.points.UnreadPoint.TheVariants as point
 use Rattle.cip_io.specs.Store.{StoreTells}
-use Rattle.cip_words.specs.Jobs.{Job, Solve}
+use Rattle.cip_words.specs.Jobs.{Job, Solve, Check}
 use Rattle.cip_solve.specs.Answering.{HasSides}
 use Rattle.cip_main.specs.declared.plain.Plain.{Plain}
 use Rattle.cip_main.specs.declared.tasks.Task.{Task}
 use Rattle.cip_main.specs.Answering.{IsSearchable}
-use Rattle.cip_main.specs.Tasks.{plain_of, IsTask, TaskCause}
+use Rattle.cip_main.specs.Tasks.{plain_of, plain_of_blocks, plain_of_point, model_of, IsTask, TaskCause}
 
 -- it is that of the text that the store tells
 pub told : (text : Option (List ℕ)) (program : Program) → IsRead text program → IfSome text (λ bytes. HasProgram bytes program)
 told None program r = tt
 told (Some bytes) program r = subst (λ t. HasProgram t program) (sym r.told) r.described
+
+pub value_told : {X : Type 0} (HasValue : List ℕ → X → Type 0) (text : Option (List ℕ)) (old new : StoreTells) (value : X) → ReadsText HasValue text old new value → IfSome text (λ bytes. HasValue bytes value)
+value_told HasValue None old new value r = tt
+value_told HasValue (Some bytes) old new value r = subst (λ t. HasValue t value) (sym r.told) r.described
 
 -- a search takes it
 pub searchable : (text : Option (List ℕ)) (program : Program) → ProgramsAreBounded → ProgramsAreWellFormed → IsRead text program → IsSearchable program
@@ -31,17 +51,59 @@ searchable text program bounded formed r = record {
   sides = All-weaker HasBothSides HasSides (λ s h. record { low = h.low; high = h.high }) program.bounds (bounded r.bytes program r.described).sides;
 }
 
--- why there is no task where the text gave no program
-pub unread_cause : (job : Option Job) (model : List ℕ) (nodes : ℕ) (old new : StoreTells) (cause : Unread) → job ≡ Some (Solve model nodes) → ReadCause (old.holds model) old new cause → TaskCause job old new (plain_of cause)
-unread_cause job model nodes old new StoreFailed asked h = record { model = model; nodes = nodes; asked = asked; rose = h }
-unread_cause job model nodes old new (Faulty fault) asked h = record { model = model; nodes = nodes; asked = asked; refuses = h }
-unread_cause job model nodes old new NoMemory asked h = record { sound = h; untouched = λ none. absurd (some_job asked none) }
-  where
-    some_job : {model : List ℕ} {nodes : ℕ} {job : Option Job} → job ≡ Some (Solve model nodes) → job ≡ None → ⊥
-    some_job h e = cc
+-- the point of a text has a value for each column
+pub long : (text : Option (List ℕ)) (program : Program) (point_text : Option (List ℕ)) (old new : StoreTells) (point : List ℚ) → ProgramsAreWellFormed → PointsAreOfLines → IsRead text program → ReadsText (HasResult (point_reading program)) point_text old new point → length point ≡ columns program
+long text program point_text old new point formed lines r p =
+    AllZip-long (IsGivenOnce (given_by program p.bytes)) program.column_names point (lines program p.bytes point p.described).values
+    ∙ (formed r.bytes program r.described).column_names
 
--- the same over what a call answers
-pub not_read : (job : Option Job) (model : List ℕ) (nodes : ℕ) (old new : StoreTells) (cause : Unread) (result : Result Task Plain) → job ≡ Some (Solve model nodes) → ReadCause (old.holds model) old new cause → IsErr result × IsErrAnd result (λ answer. answer ≡ plain_of cause) → MatchResult result (IsTask job old new) (TaskCause job old new)
-not_read job model nodes old new cause (Ok task) asked h e = let no : ⊥ = let failed = e.0 in cc in absurd no
-not_read job model nodes old new cause (Err answer) asked h e =
-    subst (TaskCause job old new) (sym e.1) (unread_cause job model nodes old new cause asked h)
+some_job : {asked : Job} {job : Option Job} → job ≡ Some asked → job ≡ None → ⊥
+some_job h e = cc
+
+-- why there is no task where the text of the model gave no program
+pub unread_cause : (job : Option Job) (asked : Job) (old new : StoreTells) (cause : Unread) → job ≡ Some asked → ReadCause (old.holds (model_of asked)) old new cause → TaskCause job old new (plain_of cause)
+unread_cause job asked old new StoreFailed e h = record { asked = asked; is_asked = e; fails = inl h }
+unread_cause job asked old new (Faulty fault) e h = record { asked = asked; is_asked = e; refuses = h }
+unread_cause job asked old new NoMemory e h = record { sound = h; untouched = λ none. absurd (some_job e none) }
+
+-- why there is none where the text of the blocks gave none
+pub blocks_cause : (job : Option Job) (model name : List ℕ) (nodes : ℕ) (old between new : StoreTells) (program : Program) (cause : UnreadBlocks) → job ≡ Some (Solve model (Some name) nodes) → Reads (old.holds model) old between program → between.holds ≡ old.holds → BlocksCause program (between.holds name) between new cause → TaskCause job old new (plain_of_blocks cause)
+blocks_cause job model name nodes old between new program blocks.StoreFailed e r same h = record {
+  asked = Solve model (Some name) nodes;
+  is_asked = e;
+  fails = inr (record { name = name; named = refl; program = program; between = between; reads = r; rose = h });
+}
+blocks_cause job model name nodes old between new program (blocks.Faulty fault) e r same h = record {
+  model = model;
+  name = name;
+  nodes = nodes;
+  is_asked = e;
+  program = program;
+  between = between;
+  reads = r;
+  refuses = subst (λ holds. RefusesText (HasFault (block_reading program)) (holds name) between new fault.line (block_kind_number fault.kind)) same h;
+}
+blocks_cause job model name nodes old between new program blocks.NoMemory e r same h = record { sound = h ∙ r.sound; untouched = λ none. absurd (some_job e none) }
+
+-- why there is none where the text of the point gave none
+pub point_cause : (job : Option Job) (model name : List ℕ) (old between new : StoreTells) (program : Program) (cause : UnreadPoint) → job ≡ Some (Check model name) → Reads (old.holds model) old between program → between.holds ≡ old.holds → PointCause program (between.holds name) between new cause → TaskCause job old new (plain_of_point cause)
+point_cause job model name old between new program point.StoreFailed e r same h = record {
+  asked = Check model name;
+  is_asked = e;
+  fails = inr (record { name = name; named = refl; program = program; between = between; reads = r; rose = h });
+}
+point_cause job model name old between new program (point.Faulty fault) e r same h = record {
+  model = model;
+  name = name;
+  is_asked = e;
+  program = program;
+  between = between;
+  reads = r;
+  refuses = subst (λ holds. RefusesText (HasFault (point_reading program)) (holds name) between new fault.line (point_kind_number fault.kind)) same h;
+}
+point_cause job model name old between new program point.NoMemory e r same h = record { sound = h ∙ r.sound; untouched = λ none. absurd (some_job e none) }
+
+-- a cause over what a call answers
+pub not_done : {X : Type 0} (Done : X → Type 0) (Cause : Plain → Type 0) (answer : Plain) (result : Result X Plain) → Cause answer → IsErr result × IsErrAnd result (λ given. given ≡ answer) → MatchResult result Done Cause
+not_done Done Cause answer (Ok x) h e = let no : ⊥ = let failed = e.0 in cc in absurd no
+not_done Done Cause answer (Err given) h e = subst Cause (sym e.1) h

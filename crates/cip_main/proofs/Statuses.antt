@@ -3,11 +3,12 @@ use Rattle.std.specs.Prelude.{◌≡◌, ◌≢◌, List, refl}
 use Rattle.std.proofs.Common.{arith}
 use Rattle.cip_rational.specs.Rational.{ℚ}
 use Rattle.cip_answers.specs.Figures.{Overflow, Status, Optimal, Infeasible, Unbounded, Wide, NodeLimit, NoMemory as LacksMemory, exit_status}
-use Rattle.cip_mps.specs.declared.faults.MpsFault.{MpsFault}
+use Rattle.cip_answers.specs.Checks.{Checked, Feasible, BreaksBound, BreaksWhole, BreaksRow, WideRow, WideCost, check_status}
+use Rattle.cip_main.specs.declared.refusals.TextFault.{TextFault}
 use Rattle.cip_main.specs.declared.plain.Plain.{Plain}
 use Rattle.cip_main.specs.declared.plain.Plain.TheVariants.{Usage, ReadFault, Refused, NoMemory}
 use Rattle.cip_main.specs.Plain.{plain_status}
-use Rattle.cip_main.specs.Running.{IsStatus, solved, usage, read_fault, refused, no_memory, spent, wide}
+use Rattle.cip_main.specs.Running.{IsStatus, solved, broken, usage, read_fault, refused, no_memory, spent, wide}
 
 -- ---- answers without figures
 
@@ -23,7 +24,7 @@ says_read_fault ReadFault e = refl
 says_read_fault (Refused fault) e = absurd (omega (arith, e))
 says_read_fault NoMemory e = absurd (omega (arith, e))
 
-pub says_refused : (answer : Plain) → plain_status answer ≡ 4 → (fault : MpsFault) × (answer ≡ Refused fault)
+pub says_refused : (answer : Plain) → plain_status answer ≡ 4 → (fault : TextFault) × (answer ≡ Refused fault)
 says_refused Usage e = absurd (omega (arith, e))
 says_refused ReadFault e = absurd (omega (arith, e))
 says_refused (Refused fault) e = (fault, refl)
@@ -52,6 +53,12 @@ plain_not_eleven Usage e = absurd (omega (arith, e))
 plain_not_eleven ReadFault e = absurd (omega (arith, e))
 plain_not_eleven (Refused fault) e = absurd (omega (arith, e))
 plain_not_eleven NoMemory e = absurd (omega (arith, e))
+
+pub plain_not_one : (answer : Plain) → plain_status answer ≢ 1
+plain_not_one Usage e = absurd (omega (arith, e))
+plain_not_one ReadFault e = absurd (omega (arith, e))
+plain_not_one (Refused fault) e = absurd (omega (arith, e))
+plain_not_one NoMemory e = absurd (omega (arith, e))
 
 pub plain_is : (answer : Plain) → IsStatus (plain_status answer)
 plain_is Usage = usage
@@ -93,6 +100,14 @@ figures_not_five NodeLimit e = absurd (omega (arith, e))
 figures_not_five (Wide leaf place) e = absurd (omega (arith, e))
 figures_not_five LacksMemory e = absurd (omega (arith, e))
 
+pub figures_not_one : (status : Status) → exit_status status ≢ 1
+figures_not_one Optimal e = absurd (omega (arith, e))
+figures_not_one Infeasible e = absurd (omega (arith, e))
+figures_not_one (Unbounded ray) e = absurd (omega (arith, e))
+figures_not_one NodeLimit e = absurd (omega (arith, e))
+figures_not_one (Wide leaf place) e = absurd (omega (arith, e))
+figures_not_one LacksMemory e = absurd (omega (arith, e))
+
 pub is_spent : (status : Status) → exit_status status ≡ 10 → status ≡ NodeLimit
 is_spent Optimal e = absurd (omega (arith, e))
 is_spent Infeasible e = absurd (omega (arith, e))
@@ -116,3 +131,61 @@ exit_is (Unbounded ray) = solved
 exit_is NodeLimit = spent
 exit_is (Wide leaf place) = wide
 exit_is LacksMemory = no_memory
+
+-- ---- verdicts
+
+pub verdict_not_two : (checked : Checked) → check_status checked ≢ 2
+verdict_not_two (Feasible cost) e = absurd (omega (arith, e))
+verdict_not_two (BreaksBound column value side) e = absurd (omega (arith, e))
+verdict_not_two (BreaksWhole column value) e = absurd (omega (arith, e))
+verdict_not_two (BreaksRow row activity side) e = absurd (omega (arith, e))
+verdict_not_two (WideRow row) e = absurd (omega (arith, e))
+verdict_not_two WideCost e = absurd (omega (arith, e))
+
+pub verdict_not_three : (checked : Checked) → check_status checked ≢ 3
+verdict_not_three (Feasible cost) e = absurd (omega (arith, e))
+verdict_not_three (BreaksBound column value side) e = absurd (omega (arith, e))
+verdict_not_three (BreaksWhole column value) e = absurd (omega (arith, e))
+verdict_not_three (BreaksRow row activity side) e = absurd (omega (arith, e))
+verdict_not_three (WideRow row) e = absurd (omega (arith, e))
+verdict_not_three WideCost e = absurd (omega (arith, e))
+
+pub verdict_not_four : (checked : Checked) → check_status checked ≢ 4
+verdict_not_four (Feasible cost) e = absurd (omega (arith, e))
+verdict_not_four (BreaksBound column value side) e = absurd (omega (arith, e))
+verdict_not_four (BreaksWhole column value) e = absurd (omega (arith, e))
+verdict_not_four (BreaksRow row activity side) e = absurd (omega (arith, e))
+verdict_not_four (WideRow row) e = absurd (omega (arith, e))
+verdict_not_four WideCost e = absurd (omega (arith, e))
+
+pub verdict_not_five : (checked : Checked) → check_status checked ≢ 5
+verdict_not_five (Feasible cost) e = absurd (omega (arith, e))
+verdict_not_five (BreaksBound column value side) e = absurd (omega (arith, e))
+verdict_not_five (BreaksWhole column value) e = absurd (omega (arith, e))
+verdict_not_five (BreaksRow row activity side) e = absurd (omega (arith, e))
+verdict_not_five (WideRow row) e = absurd (omega (arith, e))
+verdict_not_five WideCost e = absurd (omega (arith, e))
+
+pub verdict_not_six : (checked : Checked) → check_status checked ≢ 6
+verdict_not_six (Feasible cost) e = absurd (omega (arith, e))
+verdict_not_six (BreaksBound column value side) e = absurd (omega (arith, e))
+verdict_not_six (BreaksWhole column value) e = absurd (omega (arith, e))
+verdict_not_six (BreaksRow row activity side) e = absurd (omega (arith, e))
+verdict_not_six (WideRow row) e = absurd (omega (arith, e))
+verdict_not_six WideCost e = absurd (omega (arith, e))
+
+pub verdict_not_ten : (checked : Checked) → check_status checked ≢ 10
+verdict_not_ten (Feasible cost) e = absurd (omega (arith, e))
+verdict_not_ten (BreaksBound column value side) e = absurd (omega (arith, e))
+verdict_not_ten (BreaksWhole column value) e = absurd (omega (arith, e))
+verdict_not_ten (BreaksRow row activity side) e = absurd (omega (arith, e))
+verdict_not_ten (WideRow row) e = absurd (omega (arith, e))
+verdict_not_ten WideCost e = absurd (omega (arith, e))
+
+pub verdict_is : (checked : Checked) → IsStatus (check_status checked)
+verdict_is (Feasible cost) = solved
+verdict_is (BreaksBound column value side) = broken
+verdict_is (BreaksWhole column value) = broken
+verdict_is (BreaksRow row activity side) = broken
+verdict_is (WideRow row) = wide
+verdict_is WideCost = wide

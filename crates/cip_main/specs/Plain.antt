@@ -9,7 +9,7 @@ use Rattle.cip_main.specs.Refusals.{refused_text}
 abbrev pub plain_text : Plain → List ℕ
 plain_text Usage = usage_text
 plain_text ReadFault = read_fault_text
-plain_text (Refused fault) = refused_text fault.line fault.kind
+plain_text (Refused fault) = refused_text fault
 plain_text NoMemory = no_memory_text
 
 -- the exit status

@@ -1,5 +1,5 @@
 -- What a call of `run` does: by the words, what the store tells, what the sink took, and the logs.
-use Rattle.std.specs.Prelude.{◌≡◌, ◌≢◌, ◌⊎◌, ℕ, ◌*◌, ◌-◌, ◌≤◌, max, List, [], ◌∷◌, ◌++◌, length, Option, None, Some, IfSome}
+use Rattle.std.specs.Prelude.{◌≡◌, ◌≢◌, ◌⊎◌, ⊤, ℕ, ◌*◌, ◌-◌, ◌≤◌, max, List, [], ◌∷◌, ◌++◌, length, Option, None, Some, IfSome}
 use Rattle.cip_io.specs.Faults.{Rose}
 use Rattle.cip_io.specs.Store.{StoreTells}
 use Rattle.cip_io.specs.Sink.{SinkTells}
@@ -7,20 +7,34 @@ use Rattle.cip_rational.specs.Rational.{ℚ}
 use Rattle.cip_problem.specs.Program.{Program}
 use Rattle.cip_problem.specs.Wholes.{assignments}
 use Rattle.cip_mps_rules.specs.MpsOutcome.{HasProgram, HasFault}
-use Rattle.cip_words.specs.Jobs.{Job, Solve}
+use Rattle.cip_line_texts.specs.LineTexts.{HasResult, HasFault as HasLineFault}
+use Rattle.cip_parts.specs.BlockParts.{Blocks as Parts}
+use Rattle.cip_block_rules.specs.BlockRules.{block_reading}
+use Rattle.cip_point_rules.specs.PointRules.{point_reading}
+use Rattle.cip_words.specs.Jobs.{Job, Solve, Check}
 use Rattle.cip_input.specs.TextPulls.{IsAllPulled}
 use Rattle.cip_answers.specs.Figures.{NodeLimit, Wide, Overflow}
+use Rattle.cip_answers.specs.Checks.{check_text, check_status}
+use Rattle.cip_model.specs.Verdicts.{verdict_of}
+use Rattle.cip_model.specs.Meaning.{VerdictHolds}
 use Rattle.cip_solve.specs.declared.logs.Log.{Log}
 use Rattle.cip_solve.specs.Logs.{entries_of}
-use Rattle.cip_mps.specs.MpsFaultKinds.{kind_number}
+use Rattle.cip_mps.specs.MpsFaultKinds.{kind_number as mps_kind_number}
 use Rattle.cip_mps.specs.declared.faults.MpsFault.{MpsFault}
+use Rattle.cip_blocks.specs.BlockKinds.{kind_number as block_kind_number}
+use Rattle.cip_blocks.specs.declared.faults.BlockFault.{BlockFault}
+use Rattle.cip_point.specs.PointKinds.{kind_number as point_kind_number}
+use Rattle.cip_point.specs.declared.faults.PointFault.{PointFault}
+use Rattle.cip_main.specs.declared.refusals.TextFault.{TextFault}
+use Rattle.cip_main.specs.declared.refusals.TextFault.TheVariants.{Model, Blocks, Point}
 use Rattle.cip_main.specs.declared.plain.Plain.{Plain}
 use Rattle.cip_main.specs.declared.plain.Plain.TheVariants.{Usage, ReadFault, Refused, NoMemory}
 use Rattle.cip_main.specs.Answering.{Answers}
+use Rattle.cip_main.specs.Checking.{checked}
 use Rattle.cip_main.specs.Headline.{IsSpent, ShowsOverflow}
 use Rattle.cip_main.specs.Plain.{plain_text, plain_status}
 use Rattle.cip_main.specs.Saying.{Says}
-use Rattle.cip_main.specs.Tasks.{TaskCause}
+use Rattle.cip_main.specs.Tasks.{TaskCause, model_of, second_of}
 
 -- a call: the job that its words mean, if they are accepted; store, sink and logs before and after it; its status
 pub record Call : Type 0 where
@@ -67,27 +81,69 @@ abbrev pub TellsTruth : Call → Program → (nodes : ℕ) → Type 0
 TellsTruth call program nodes =
     Answers program nodes call.sink call.sink_after call.logs call.logs_after call.status
 
+-- what the test of a point says was told to the sink: exactly its text, with its status; it holds of the program and the
+-- point, and no search was made
+pub record TellsVerdict (call : Call) (program : Program) (point : List ℚ) : Type 0 where
+  pub tells : Says call.sink call.sink_after (check_text (checked program point)) (check_status (checked program point))
+      call.status
+  pub holds : VerdictHolds program point (verdict_of program point)
+  pub no_search : call.logs_after ≡ call.logs
+
+-- no blocks are named, or this text, if it is told, has blocks of the program
+abbrev pub BlocksAreRead : Program → (blocks : Option (List ℕ)) → StoreTells → Type 0
+BlocksAreRead program None store = ⊤
+BlocksAreRead program (Some name) store =
+    IfSome (store.holds name) (λ text. (parts : Parts) × HasResult (block_reading program) text parts)
+
+-- the second text of a job, if it names one, was pulled behind the model's
+abbrev pub IsPulledBehind : (name : Option (List ℕ)) (old between new : StoreTells) → Type 0
+IsPulledBehind None old between new = new ≡ between
+IsPulledBehind (Some name) old between new = IsAllPulled (old.holds name) new
+
+-- all texts of a job were pulled; `between` is the store between the two
+pub record ArePulled (asked : Job) (old new : StoreTells) : Type 0 where
+  pub between : StoreTells
+  pub model : IsAllPulled (old.holds (model_of asked)) between
+  pub second : IsPulledBehind (second_of asked) old between new
+
 -- an answer with figures of the program of the text that the words name
 pub record IsAnswered (call : Call) : Type 0 where
   pub model : List ℕ
+  pub blocks : Option (List ℕ)
   pub nodes : ℕ
-  pub asked : call.job ≡ Some (Solve model nodes)
+  pub asked : call.job ≡ Some (Solve model blocks nodes)
   pub program : Program
   pub is_read : IfSome (call.store.holds model) (λ text. HasProgram text program)
+  pub are_read : BlocksAreRead program blocks call.store
   pub answers : TellsTruth call program nodes
-  pub pulled : IsAllPulled (call.store.holds model) call.store_after
+  pub pulled : ArePulled (Solve model blocks nodes) call.store call.store_after
+  pub sound : IsStoreSound call
+
+-- an answer with the verdict on the point of a text in the program of a text, both of which the words name
+pub record IsChecked (call : Call) : Type 0 where
+  pub model : List ℕ
+  pub name : List ℕ
+  pub asked : call.job ≡ Some (Check model name)
+  pub program : Program
+  pub is_read : IfSome (call.store.holds model) (λ text. HasProgram text program)
+  pub point : List ℚ
+  pub is_point : IfSome (call.store.holds name) (λ text. HasResult (point_reading program) text point)
+  pub verdict : TellsVerdict call program point
+  pub pulled : ArePulled (Check model name) call.store call.store_after
   pub sound : IsStoreSound call
 
 -- what a call does
 pub data Ran (call : Call) : Type 0 where
   gives_plain : (answer : Plain) → GivesPlain call answer → Ran call
   gives_figures : IsAnswered call → Ran call
+  gives_verdict : IsChecked call → Ran call
 
 -- ---- what follows, each by its name
 
 -- the status is one of those that the program ends with
 pub data IsStatus : ℕ → Type 0 where
   solved : IsStatus 0
+  broken : IsStatus 1
   usage : IsStatus 2
   read_fault : IsStatus 3
   refused : IsStatus 4
@@ -99,15 +155,60 @@ pub data IsStatus : ℕ → Type 0 where
 -- the words ask for the program of a text, within a budget of nodes
 pub record Asks (call : Call) (text : List ℕ) (nodes : ℕ) : Type 0 where
   pub model : List ℕ
-  pub job : call.job ≡ Some (Solve model nodes)
+  pub blocks : Option (List ℕ)
+  pub job : call.job ≡ Some (Solve model blocks nodes)
   pub held : call.store.holds model ≡ Some text
 
--- where the words ask for the program of a text, true figures of it are told, unless the store failed or want of memory
--- is answered without figures
+-- the words ask for a job, whose model has this text
+pub record AsksOf (call : Call) (text : List ℕ) : Type 0 where
+  pub asked : Job
+  pub job : call.job ≡ Some asked
+  pub held : call.store.holds (model_of asked) ≡ Some text
+
+-- the words ask to solve, with the blocks of a text
+pub record AsksWith (call : Call) (text blocks_text : List ℕ) : Type 0 where
+  pub model : List ℕ
+  pub name : List ℕ
+  pub nodes : ℕ
+  pub job : call.job ≡ Some (Solve model (Some name) nodes)
+  pub held : call.store.holds model ≡ Some text
+  pub blocks_held : call.store.holds name ≡ Some blocks_text
+
+-- the words ask to check the point of a text in the program of a text
+pub record AsksToCheck (call : Call) (text point_text : List ℕ) : Type 0 where
+  pub model : List ℕ
+  pub name : List ℕ
+  pub job : call.job ≡ Some (Check model name)
+  pub held : call.store.holds model ≡ Some text
+  pub point_held : call.store.holds name ≡ Some point_text
+
+-- no blocks are named, or there is a text of this name, and it has blocks of the program
+abbrev pub HasBlocks : Program → (blocks : Option (List ℕ)) → StoreTells → Type 0
+HasBlocks program None store = ⊤
+HasBlocks program (Some name) store =
+    (text : List ℕ) × (store.holds name ≡ Some text) × (parts : Parts) × HasResult (block_reading program) text parts
+
+-- the store failed, or want of memory is answered without figures
+abbrev pub IsCutShort : Call → Type 0
+IsCutShort call = GivesPlain call ReadFault ⊎ GivesPlain call NoMemory
+
+-- where the words ask for the program of a text, and name no blocks or those of a text that has some, true figures of
+-- the program are told, unless the store failed or want of memory is answered without figures
 abbrev pub Headline : Call → Type 0
 Headline call =
-    (text : List ℕ) (nodes : ℕ) (program : Program) → Asks call text nodes → HasProgram text program
-    → TellsTruth call program nodes ⊎ (GivesPlain call ReadFault ⊎ GivesPlain call NoMemory)
+    (text : List ℕ) (nodes : ℕ) (program : Program) → (asks : Asks call text nodes) → HasProgram text program
+    → HasBlocks program asks.blocks call.store → TellsTruth call program nodes ⊎ IsCutShort call
+
+-- where the words ask to check the point of a text in the program of a text, the verdict is told, unless the store failed
+-- or want of memory is answered; statuses 0, 1 and 11 come there only with the verdict, and it is the verdict's
+pub record CheckClause (call : Call) : Type 0 where
+  pub always : (text point_text : List ℕ) (program : Program) (point : List ℚ) → AsksToCheck call text point_text
+      → HasProgram text program → HasResult (point_reading program) point_text point
+      → TellsVerdict call program point ⊎ IsCutShort call
+  pub exact : (model name : List ℕ) → call.job ≡ Some (Check model name)
+      → call.status ≢ 3 → call.status ≢ 4 → call.status ≢ 5 → call.status ≢ 6
+      → (c : IsChecked call) × (call.status ≡ check_status (checked c.program c.point))
+  pub broken : call.status ≡ 1 → IsChecked call
 
 -- status 2 comes only where the words are not accepted; where they aren't, usage is said or want of memory, and nothing
 -- is pulled
@@ -117,22 +218,57 @@ pub record UsageClause (call : Call) : Type 0 where
   pub untouched : call.job ≡ None → call.store_after ≡ call.store
 
 -- status 3 comes only where the store's count of faults rose, or stands at its last value; with every other status but
--- 5 the count is as it was, and with 0, 4, 10 and 11 the text was pulled whole
+-- 5 the count is as it was, and with 0, 1, 10 and 11 each text that the words name was pulled whole
 pub record ReadFaultClause (call : Call) : Type 0 where
   pub rose : call.status ≡ 3 → Rose call.store.faults call.store_after.faults
   pub sound : call.status ≢ 3 → call.status ≢ 5 → IsStoreSound call
-  pub whole : (model : List ℕ) (nodes : ℕ) → call.job ≡ Some (Solve model nodes)
-      → call.status ≢ 3 → call.status ≢ 5 → call.status ≢ 6
-      → IsAllPulled (call.store.holds model) call.store_after
+  pub whole : (asked : Job) → call.job ≡ Some asked
+      → call.status ≢ 3 → call.status ≢ 4 → call.status ≢ 5 → call.status ≢ 6
+      → ArePulled asked call.store call.store_after
 
--- status 4 comes only where the text is faulty, and its first fault is told; where the text is faulty, that is said, or
--- the store failed, or want of memory is answered
+-- the fault that is told is the first of its text, and the text before it has none
+abbrev pub IsFirstFault : Call → TextFault → Type 0
+IsFirstFault call (Model fault) =
+    (text : List ℕ) → AsksOf call text → HasFault text fault.line (mps_kind_number fault.kind)
+IsFirstFault call (Blocks fault) =
+    (text blocks_text : List ℕ) (program : Program) → AsksWith call text blocks_text → HasProgram text program
+    → HasLineFault (block_reading program) blocks_text fault.line (block_kind_number fault.kind)
+IsFirstFault call (Point fault) =
+    (text point_text : List ℕ) (program : Program) → AsksToCheck call text point_text → HasProgram text program
+    → HasLineFault (point_reading program) point_text fault.line (point_kind_number fault.kind)
+
+-- a fault of this line and of this kind is told
+pub record TellsModelFault (call : Call) (line kind : ℕ) : Type 0 where
+  pub fault : MpsFault
+  pub line : fault.line ≡ line
+  pub kind : mps_kind_number fault.kind ≡ kind
+  pub given : GivesPlain call (Refused (Model fault))
+
+pub record TellsBlockFault (call : Call) (line kind : ℕ) : Type 0 where
+  pub fault : BlockFault
+  pub line : fault.line ≡ line
+  pub kind : block_kind_number fault.kind ≡ kind
+  pub given : GivesPlain call (Refused (Blocks fault))
+
+pub record TellsPointFault (call : Call) (line kind : ℕ) : Type 0 where
+  pub fault : PointFault
+  pub line : fault.line ≡ line
+  pub kind : point_kind_number fault.kind ≡ kind
+  pub given : GivesPlain call (Refused (Point fault))
+
+-- status 4 comes only where a text is faulty, and its first fault is told, that of the first faulty text in the order
+-- read; where a text is faulty, and the one before it isn't, that is said, or the store failed, or want of memory is
+-- answered
 pub record RefusedClause (call : Call) : Type 0 where
-  pub only : (text : List ℕ) (nodes : ℕ) → Asks call text nodes → call.status ≡ 4
-      → (fault : MpsFault) × HasFault text fault.line (kind_number fault.kind) × GivesPlain call (Refused fault)
-  pub always : (text : List ℕ) (nodes line kind : ℕ) → Asks call text nodes → HasFault text line kind
-      → ((fault : MpsFault) × (fault.line ≡ line) × (kind_number fault.kind ≡ kind) × GivesPlain call (Refused fault))
-      ⊎ (GivesPlain call ReadFault ⊎ GivesPlain call NoMemory)
+  pub only : call.status ≡ 4 → (fault : TextFault) × GivesPlain call (Refused fault) × IsFirstFault call fault
+  pub model : (text : List ℕ) (line kind : ℕ) → AsksOf call text → HasFault text line kind
+      → TellsModelFault call line kind ⊎ IsCutShort call
+  pub blocks : (text blocks_text : List ℕ) (program : Program) (line kind : ℕ) → AsksWith call text blocks_text
+      → HasProgram text program → HasLineFault (block_reading program) blocks_text line kind
+      → TellsBlockFault call line kind ⊎ IsCutShort call
+  pub point : (text point_text : List ℕ) (program : Program) (line kind : ℕ) → AsksToCheck call text point_text
+      → HasProgram text program → HasLineFault (point_reading program) point_text line kind
+      → TellsPointFault call line kind ⊎ IsCutShort call
 
 -- status 5 comes only where the sink's count of faults rose, or stands at its last value; with every other status the
 -- count is as it was
@@ -157,7 +293,7 @@ pub record NodeLimitClause (call : Call) : Type 0 where
   pub ample : (text : List ℕ) (nodes : ℕ) (program : Program) (n : ℕ) → Asks call text nodes → HasProgram text program
       → assignments program.integral program.bounds ≡ Some n → max 1 (2 * n - 1) ≤ nodes → call.status ≢ 10
 
--- status 11 comes only where an overflow is shown
+-- status 11 comes only where an overflow is shown, or where the test of a point says so
 pub record OverflowLog (call : Call) : Type 0 where
   pub answered : IsAnswered call
   pub leaf : List ℚ
@@ -167,7 +303,7 @@ pub record OverflowLog (call : Call) : Type 0 where
       ShowsOverflow answered.program answered.answers.entries answered.answers.figures.held leaf place
 
 abbrev pub OverflowClause : Call → Type 0
-OverflowClause call = call.status ≡ 11 → OverflowLog call
+OverflowClause call = call.status ≡ 11 → OverflowLog call ⊎ IsChecked call
 
 -- status 6 comes without figures, before a program was read; or with figures that are as true as in any other answer
 abbrev pub MemoryClause : Call → Type 0
@@ -178,6 +314,7 @@ pub record Runs (call : Call) : Type 0 where
   pub ran : Ran call
   pub statuses : IsStatus call.status
   pub headline : Headline call
+  pub check : CheckClause call
   pub usage : UsageClause call
   pub read_fault : ReadFaultClause call
   pub refused : RefusedClause call

@@ -2,10 +2,10 @@
 ghost use Rattle.std.specs.Prelude.{◌≡◌, ◌+◌, ◌≤◌, ◌++◌, length, take, drop};
 ghost use Rattle.cip_main.specs.Plain.{plain_text, plain_status};
 ghost use Rattle.cip_main.specs.Saying.{Says};
-ghost use Rattle.cip_main.specs.Refusals.{kind_text, refused_text};
+ghost use Rattle.cip_main.specs.Refusals.{refused_text};
 
+use crate::refusals::TextFault;
 use cip_io::{Failed, Sink, push_all};
-use cip_mps::{FaultKind, MpsFault};
 use itoa::Buffer;
 
 /// An answer without figures.
@@ -15,8 +15,8 @@ pub enum Plain {
     Usage,
     /// The store failed.
     ReadFault,
-    /// The text of the model is faulty: its first line that breaks a rule, and the least kind that it breaks.
-    Refused(MpsFault),
+    /// A text is faulty.
+    Refused(TextFault),
     /// A growth was refused.
     NoMemory,
 }
@@ -32,46 +32,18 @@ fn put(buffer: &mut [u8; 128], at: usize, bytes: &[u8]) -> usize
     end
 }
 
-/// The number and the name of a kind.
-fn kind_bytes(kind: FaultKind) -> &'static [u8]
-    ensures text { result.now ≡ kind_text kind }
-    ensures short { length result.now ≤ 20 }
-{
-    match kind {
-        FaultKind::UnknownSection => b"1 UnknownSection",
-        FaultKind::SectionOrder => b"2 SectionOrder",
-        FaultKind::MissingSection => b"3 MissingSection",
-        FaultKind::FieldCount => b"4 FieldCount",
-        FaultKind::BadNumber => b"5 BadNumber",
-        FaultKind::NumberHuge => b"6 NumberHuge",
-        FaultKind::NumberTooFine => b"7 NumberTooFine",
-        FaultKind::UnknownRow => b"8 UnknownRow",
-        FaultKind::UnknownColumn => b"9 UnknownColumn",
-        FaultKind::DuplicateRow => b"10 DuplicateRow",
-        FaultKind::DuplicateEntry => b"11 DuplicateEntry",
-        FaultKind::ColumnSplit => b"12 ColumnSplit",
-        FaultKind::BadRowType => b"13 BadRowType",
-        FaultKind::BadBoundType => b"14 BadBoundType",
-        FaultKind::BadMarker => b"15 BadMarker",
-        FaultKind::NoObjective => b"16 NoObjective",
-        FaultKind::NoEnd => b"17 NoEnd",
-        FaultKind::TooMany => b"18 TooMany",
-        FaultKind::NameTooLong => b"19 NameTooLong",
-        FaultKind::RangeOnObjective => b"20 RangeOnObjective",
-        FaultKind::OutOfProfile => b"21 OutOfProfile",
-    }
-}
-
 /// Writes the text of a refusal at the front of the buffer, and answers how many bytes it has.
-fn write_refusal(fault: MpsFault, buffer: &mut [u8; 128]) -> usize
+fn write_refusal(fault: TextFault, buffer: &mut [u8; 128]) -> usize
     ensures within { result ≤ 128 }
-    ensures text { take result buffer.new ≡ refused_text fault.line fault.kind }
+    ensures text { take result buffer.new ≡ refused_text fault }
 {
     let mut digits = Buffer::new();
-    let end = put(buffer, 0, b"status refused\ntext model\nline ");
-    let end = put(buffer, end, digits.format(fault.line).as_bytes());
+    let end = put(buffer, 0, b"status refused\ntext ");
+    let end = put(buffer, end, fault.text());
+    let end = put(buffer, end, b"\nline ");
+    let end = put(buffer, end, digits.format(fault.line()).as_bytes());
     let end = put(buffer, end, b"\nkind ");
-    let end = put(buffer, end, kind_bytes(fault.kind));
+    let end = put(buffer, end, fault.kind());
     put(buffer, end, b"\nend\n")
 }
 

@@ -2,9 +2,10 @@
 ghost use Rattle.cip_words.specs.Jobs.{job_of};
 ghost use Rattle.cip_main.specs.Running.{Runs, call_of};
 
+use crate::checking::check_and_report;
 use crate::plain::say;
 use crate::solving::solve_and_report;
-use crate::tasks::read_task;
+use crate::tasks::{Task, read_task};
 use cip_io::{Sink, Store};
 use cip_solve::Log;
 use cip_words::Words;
@@ -12,16 +13,20 @@ use std::alloc::Global;
 
 /// Does all that the program does, and answers its exit status:
 ///
-/// - 0: an optimal point was printed, or that no point is feasible;
+/// - 0: an optimal point was printed, or that no point is feasible; or that the point to check is feasible;
+/// - 1: the point to check is not feasible, and what it breaks was printed;
 /// - 2: the words are not accepted, and nothing is pulled;
 /// - 3: the store failed;
-/// - 4: the text of the model is faulty; its first line that breaks a rule was printed, and the least kind;
+/// - 4: a text is faulty, and the texts before it are not; its first line that breaks a rule was printed, and the
+///   least kind;
 /// - 5: the sink failed; what it took is a prefix of the answer;
 /// - 6: a growth was refused: before the program was read nothing else is printed, and later the figures held;
 /// - 10: the node budget is spent, and an open node matters;
-/// - 11: what is left of the search is leaves that overflow, and one of these was printed.
+/// - 11: what is left of the search is leaves that overflow, and one of these was printed; or a sum
+///   overflows at the point to check, and which one was printed.
 ///
-/// A search adds one log to `logs`, or none where memory was refused before it had room for one.
+/// The texts are the model's, and then that of the blocks or of the point. A search adds one log to `logs`, or none
+/// where memory was refused before it had room for one. Blocks change nothing of the search.
 pub fn run<S: Store, K: Sink>(
     alloc: Global,
     words: &Words,
@@ -33,7 +38,8 @@ pub fn run<S: Store, K: Sink>(
         (K.tells out.old) (K.tells out.new) logs.old.items logs.new.items result) }
 {
     match read_task(alloc, words, store) {
-        Ok(task) => solve_and_report(alloc, &task.program, task.nodes, out, logs),
+        Ok(Task::Solve { program, nodes }) => solve_and_report(alloc, &program, nodes, out, logs),
+        Ok(Task::Check { program, point }) => check_and_report(&program, point.as_slice(), out),
         Err(answer) => say(out, answer),
     }
 }

@@ -1,23 +1,40 @@
 //! What the words and the texts of a job come to.
-ghost use Rattle.std.specs.Prelude.{◌≡◌, ◌<◌, Option, Some, MatchResult};
-ghost use Rattle.cip_words.specs.Jobs.{Job as Asked, Solve, job_of};
-ghost use Rattle.cip_main.specs.Tasks.{IsTask, TaskCause};
+ghost use Rattle.std.specs.Prelude.{◌≡◌, ◌<◌, ℕ, List, Option, Some, MatchResult, option_map};
+ghost use Rattle.cip_words.specs.Jobs.{Job as Asked, Solve, Check, job_of};
+ghost use Rattle.cip_io.specs.Store.{StoreTells};
+ghost use Rattle.cip_input.specs.ModelsRead.{Reads};
+ghost use Rattle.cip_main.specs.Tasks.{TakesBlocks, IsTask, TaskCause};
 
 use crate::plain::Plain;
-use cip_input::{Unread, programs_are_bounded, read_program};
+use crate::refusals::TextFault;
+use cip_frac::Frac;
+use cip_input::{
+    Unread, UnreadBlocks, UnreadPoint, programs_are_bounded, read_blocks, read_point, read_program,
+};
 use cip_io::Store;
 use cip_model::Program;
 use cip_mps_rules::texts::programs_are_well_formed;
+use cip_point_rules::points::points_are_of_lines;
 use cip_words::{Job, Words, WordsFault};
 use std::alloc::Global;
 
-/// A program that is to be solved.
+/// What is to be done.
 #[derive(Debug, Drop)]
-pub struct Task {
-    /// The program: its columns are all whole, and both sides of each are there.
-    pub program: Program,
-    /// The most nodes that the search takes, from 1 to 2^40.
-    pub nodes: u64,
+pub enum Task {
+    /// To solve a program.
+    Solve {
+        /// The program: its columns are all whole, and both sides of each are there.
+        program: Program,
+        /// The most nodes that the search takes, from 1 to 2^40.
+        nodes: u64,
+    },
+    /// To check a point in a program.
+    Check {
+        /// The program.
+        program: Program,
+        /// The point: a value for each column.
+        point: Vec<Frac>,
+    },
 }
 
 impl From<Unread> for Plain {
@@ -29,8 +46,38 @@ impl From<Unread> for Plain {
     fn from(cause: Unread) -> Plain {
         match cause {
             Unread::StoreFailed => Plain::ReadFault,
-            Unread::Faulty(fault) => Plain::Refused(fault),
+            Unread::Faulty(fault) => Plain::Refused(TextFault::Model(fault)),
             Unread::NoMemory => Plain::NoMemory,
+        }
+    }
+}
+
+impl From<UnreadBlocks> for Plain {
+    ghost use Rattle.std.specs.Prelude.{◌≡◌};
+    ghost use Rattle.cip_main.specs.Tasks.{plain_of_blocks};
+
+    ghost from_gives = { λ cause answer. answer ≡ plain_of_blocks cause };
+
+    fn from(cause: UnreadBlocks) -> Plain {
+        match cause {
+            UnreadBlocks::StoreFailed => Plain::ReadFault,
+            UnreadBlocks::Faulty(fault) => Plain::Refused(TextFault::Blocks(fault)),
+            UnreadBlocks::NoMemory => Plain::NoMemory,
+        }
+    }
+}
+
+impl From<UnreadPoint> for Plain {
+    ghost use Rattle.std.specs.Prelude.{◌≡◌};
+    ghost use Rattle.cip_main.specs.Tasks.{plain_of_point};
+
+    ghost from_gives = { λ cause answer. answer ≡ plain_of_point cause };
+
+    fn from(cause: UnreadPoint) -> Plain {
+        match cause {
+            UnreadPoint::StoreFailed => Plain::ReadFault,
+            UnreadPoint::Faulty(fault) => Plain::Refused(TextFault::Point(fault)),
+            UnreadPoint::NoMemory => Plain::NoMemory,
         }
     }
 }
@@ -49,33 +96,83 @@ impl From<WordsFault> for Plain {
     }
 }
 
-/// Reads the text of the model of this name, for a search of at most so many nodes.
-fn read_model<S: Store>(
+/// Reads the text of blocks of this name, if one is named, behind that of the model.
+fn take_blocks<S: Store>(
+    alloc: Global,
+    store: &mut S,
+    blocks: Option<&str>,
+    program: &Program,
+) -> Result<(), Plain>
+    ensures { (job : Option Asked) (model : List ℕ) (nodes : ℕ) (old : StoreTells)
+        → job ≡ Some (Solve model (option_map (λ text. text.now) blocks.entry) nodes)
+        → Reads (old.holds model) old (S.tells store.old) program.now
+        → (S.tells store.old).holds ≡ old.holds
+        → MatchResult result
+        (λ _. TakesBlocks program.now (option_map (λ text. text.now) blocks.entry) old (S.tells store.old)
+        (S.tells store.new))
+        (TaskCause job old (S.tells store.new)) }
+{
+    if let Some(name) = blocks {
+        read_blocks(alloc, store, name, program)?;
+    }
+    Ok(())
+}
+
+/// Reads the texts of a model and of its blocks, for a search of at most so many nodes.
+fn read_solve<S: Store>(
     alloc: Global,
     store: &mut S,
     model: &str,
+    blocks: Option<&str>,
     nodes: u64,
 ) -> Result<Task, Plain>
     requires { 0 < nodes }
-    ensures { (job : Option Asked) → job ≡ Some (Solve model.now nodes) → MatchResult result
+    ensures { (job : Option Asked) → job ≡ Some (Solve model.now (option_map (λ text. text.now) blocks.entry) nodes)
+        → MatchResult result
         (IsTask job (S.tells store.old) (S.tells store.new)) (TaskCause job (S.tells store.old) (S.tells store.new)) }
 {
     let program = read_program(alloc, store, model)?;
+    take_blocks(alloc, store, blocks, &program)?;
     programs_are_bounded();
     programs_are_well_formed();
-    Ok(Task { program, nodes })
+    Ok(Task::Solve { program, nodes })
 }
 
-/// Reads the words, and the text of the model that they name. An `Err` is the answer that is to be given then, without
-/// figures: `Usage` comes exactly where the words are not accepted, and then nothing is pulled; `ReadFault` where a call
-/// of the store failed; `Refused` exactly where the text is faulty and was pulled to its end, or to byte 67,108,865;
-/// `NoMemory` where a growth was refused, and no call of the store failed.
+/// Reads the texts of a model and of a point.
+fn read_check<S: Store>(
+    alloc: Global,
+    store: &mut S,
+    model: &str,
+    point: &str,
+) -> Result<Task, Plain>
+    ensures { (job : Option Asked) → job ≡ Some (Check model.now point.now) → MatchResult result
+        (IsTask job (S.tells store.old) (S.tells store.new)) (TaskCause job (S.tells store.old) (S.tells store.new)) }
+{
+    let program = read_program(alloc, store, model)?;
+    let values = read_point(alloc, store, point, &program)?;
+    programs_are_well_formed();
+    points_are_of_lines();
+    Ok(Task::Check {
+        program,
+        point: values,
+    })
+}
+
+/// Reads the words, and the texts that they name, the model's first. An `Err` is the answer that is to be given then,
+/// without figures: `Usage` comes exactly where the words are not accepted, and then nothing is pulled; `ReadFault`
+/// where a call of the store failed; `Refused` exactly where a text is faulty, the texts before it are not, and it was
+/// pulled to its end, or to byte 67,108,865; `NoMemory` where a growth was refused, and no call of the store failed.
 pub fn read_task<S: Store>(alloc: Global, words: &Words, store: &mut S) -> Result<Task, Plain>
     ensures { MatchResult result
         (IsTask (job_of words.now) (S.tells store.old) (S.tells store.new))
         (TaskCause (job_of words.now) (S.tells store.old) (S.tells store.new)) }
 {
     match words.job()? {
-        Job::Solve { model, nodes } => read_model(alloc, store, model, nodes),
+        Job::Solve {
+            model,
+            blocks,
+            nodes,
+        } => read_solve(alloc, store, model, blocks, nodes),
+        Job::Check { model, point } => read_check(alloc, store, model, point),
     }
 }

@@ -6,6 +6,8 @@ mod budget;
 #[cfg(test)]
 mod cases;
 #[cfg(test)]
+mod checked_points;
+#[cfg(test)]
 mod incumbents;
 #[cfg(test)]
 mod refused_texts;

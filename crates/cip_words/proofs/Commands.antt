@@ -11,7 +11,7 @@ use Rattle.clap.specs.declared.error.kind.ErrorKind.TheVariants.{OutOfMemory}
 use Rattle.clap.specs.declared.parser.matches.ArgMatches.{ArgMatches}
 use Rattle.clap.proofs.OnLiterals.{clap_on_literals}
 use Rattle.cip_words.proofs.Numbers.{asks_for_some}
-use Rattle.cip_words.specs.Jobs.{Job, AsksForSome, cip_command, job_at, job_behind, job_of, unless_faulty}
+use Rattle.cip_words.specs.Jobs.{Job, AsksForSome, cip_command, job_at, job_behind, check_behind, job_of, unless_faulty}
 use Rattle.cip_words.specs.WordsRead.{WordsCause, meant}
 use Rattle.cip_words.specs.declared.words.Job.{Job as Wanted}
 use Rattle.cip_words.specs.declared.words.WordsFault.{WordsFault}
@@ -93,17 +93,32 @@ at_solve (Some (name, behind)) rows n r = rw (some_of n, some_of r) refl
 pub entered_job : (m : ArgMatches) (rows : List Row) → subcommand_name_of m ≡ Some (codes "solve") → option_map (λ p. p.1) (subcommand_rows_of m) ≡ Some rows → option_and_then job_at (subcommand_rows_of m) ≡ job_behind rows
 entered_job m rows n r = at_solve (subcommand_rows_of m) rows (two_maps _ _ _ ∙ n) r
 
-not_solve : (entered : Option (Text × List Row)) → ¬ (option_map (λ p. p.0) entered ≡ Some (codes "solve")) → option_and_then job_at entered ≡ None
-not_solve None n = refl
-not_solve (Some (name, behind)) n = no_name (bytes_eq name (codes "solve")) refl
+at_check : (entered : Option (Text × List Row)) (rows : List Row) → option_map (λ p. p.0) entered ≡ Some (codes "check") → option_map (λ p. p.1) entered ≡ Some rows → option_and_then job_at entered ≡ check_behind rows
+at_check None rows n r = absurd (cc)
+at_check (Some (name, behind)) rows n r = rw (some_of n, some_of r) refl
   where
-    no_name : (same : Bool) → bytes_eq name (codes "solve") ≡ same → (if same then job_behind behind else None) ≡ None
-    no_name true e = absurd (n (ap Some ((bytes_eq-Decides name (codes "solve")).0 e)))
-    no_name false e = refl
+    some_of : {X : Type 0} {x y : X} → Some x ≡ Some y → x ≡ y
+    some_of e = cc
+
+-- the rows of the subcommand `check`
+pub entered_check : (m : ArgMatches) (rows : List Row) → subcommand_name_of m ≡ Some (codes "check") → option_map (λ p. p.1) (subcommand_rows_of m) ≡ Some rows → option_and_then job_at (subcommand_rows_of m) ≡ check_behind rows
+entered_check m rows n r = at_check (subcommand_rows_of m) rows (two_maps _ _ _ ∙ n) r
+
+not_check : (name : List ℕ) (behind : List Row) → ¬ (Some name ≡ Some (codes "check")) → (same : Bool) → bytes_eq name (codes "check") ≡ same → (if same then check_behind behind else None) ≡ None
+not_check name behind n true e = absurd (n (ap Some ((bytes_eq-Decides name (codes "check")).0 e)))
+not_check name behind n false e = refl
+
+not_solve : (name : List ℕ) (behind : List Row) → ¬ (Some name ≡ Some (codes "solve")) → ¬ (Some name ≡ Some (codes "check")) → (same : Bool) → bytes_eq name (codes "solve") ≡ same → (if same then job_behind behind else (if bytes_eq name (codes "check") then check_behind behind else None)) ≡ None
+not_solve name behind n m true e = absurd (n (ap Some ((bytes_eq-Decides name (codes "solve")).0 e)))
+not_solve name behind n m false e = not_check name behind m (bytes_eq name (codes "check")) refl
+
+neither : (entered : Option (Text × List Row)) → ¬ (option_map (λ p. p.0) entered ≡ Some (codes "solve")) → ¬ (option_map (λ p. p.0) entered ≡ Some (codes "check")) → option_and_then job_at entered ≡ None
+neither None n m = refl
+neither (Some (name, behind)) n m = not_solve name behind n m (bytes_eq name (codes "solve")) refl
 
 -- another subcommand, or none, has no job
-pub no_solve : (m : ArgMatches) → (subcommand_name_of m ≡ Some (codes "solve") → false ≡ true) → option_and_then job_at (subcommand_rows_of m) ≡ None
-no_solve m n = not_solve (subcommand_rows_of m) (λ e. no_truth (n (sym (two_maps _ _ _) ∙ e)))
+pub no_command : (m : ArgMatches) → (subcommand_name_of m ≡ Some (codes "solve") → false ≡ true) → (subcommand_name_of m ≡ Some (codes "check") → false ≡ true) → option_and_then job_at (subcommand_rows_of m) ≡ None
+no_command m n k = neither (subcommand_rows_of m) (λ e. no_truth (n (sym (two_maps _ _ _) ∙ e))) (λ e. no_truth (k (sym (two_maps _ _ _) ∙ e)))
   where
     no_truth : false ≡ true → ⊥
     no_truth e = cc

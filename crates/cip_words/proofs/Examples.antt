@@ -1,25 +1,25 @@
 -- Words and the jobs that they mean, computed.
-use Rattle.std.specs.Prelude.{◌≡◌, ℕ, List, [], ◌∷◌, Option, None, Some, refl}
+use Rattle.std.specs.Prelude.{◌≡◌, [], ◌∷◌, None, Some, refl}
 use lib.Chars.{codes}
 use Rattle.clap.proofs.OnLiterals.{clap_on_literals}
-use Rattle.cip_words.specs.Jobs.{Job, Solve, cip_command, job_of}
+use Rattle.cip_words.specs.Jobs.{Solve, Check, cip_command, job_of}
 
 -- `solve` and a name ask for the usual number of nodes
-pub usual : job_of (codes "solve" ∷ codes "M" ∷ []) ≡ Some (Solve (codes "M") 1000000)
+pub usual : job_of (codes "solve" ∷ codes "M" ∷ []) ≡ Some (Solve (codes "M") None 1000000)
 unfolding clap_on_literals cip_command job_of
 usual = refl
 
 -- as many nodes as `--nodes` says, before the name or behind it
-pub five : job_of (codes "solve" ∷ codes "--nodes=5" ∷ codes "M" ∷ []) ≡ Some (Solve (codes "M") 5)
+pub five : job_of (codes "solve" ∷ codes "--nodes=5" ∷ codes "M" ∷ []) ≡ Some (Solve (codes "M") None 5)
 unfolding clap_on_literals cip_command job_of
 five = refl
 
-pub most : job_of (codes "solve" ∷ codes "M" ∷ codes "--nodes" ∷ codes "1099511627776" ∷ []) ≡ Some (Solve (codes "M") 1099511627776)
+pub most : job_of (codes "solve" ∷ codes "M" ∷ codes "--nodes" ∷ codes "1099511627776" ∷ []) ≡ Some (Solve (codes "M") None 1099511627776)
 unfolding clap_on_literals cip_command job_of
 most = refl
 
 -- `--plain` changes nothing of the job
-pub plain : job_of (codes "solve" ∷ codes "M" ∷ codes "--plain" ∷ []) ≡ Some (Solve (codes "M") 1000000)
+pub plain : job_of (codes "solve" ∷ codes "M" ∷ codes "--plain" ∷ []) ≡ Some (Solve (codes "M") None 1000000)
 unfolding clap_on_literals cip_command job_of
 plain = refl
 
@@ -64,3 +64,16 @@ help_of_solve = refl
 pub version : job_of (codes "--version" ∷ []) ≡ None
 unfolding clap_on_literals cip_command job_of
 version = refl
+
+-- the blocks of a text, and a point that is to be checked
+pub blocks : job_of (codes "solve" ∷ codes "M" ∷ codes "--blocks" ∷ codes "B" ∷ []) ≡ Some (Solve (codes "M") (Some (codes "B")) 1000000)
+unfolding clap_on_literals cip_command job_of
+blocks = refl
+
+pub check : job_of (codes "check" ∷ codes "M" ∷ codes "P" ∷ []) ≡ Some (Check (codes "M") (codes "P"))
+unfolding clap_on_literals cip_command job_of
+check = refl
+
+pub check_with_nodes : job_of (codes "check" ∷ codes "M" ∷ codes "P" ∷ codes "--nodes" ∷ codes "1" ∷ []) ≡ None
+unfolding clap_on_literals cip_command job_of
+check_with_nodes = refl

@@ -11,7 +11,7 @@ use Rattle.clap.specs.ValueTests.{is_unsigned_in}
 use Rattle.clap.specs.Values.{IsUnsignedIn}
 use Rattle.clap.specs.declared.builder.value_parser.ValueParser.TheVariants as vp
 use Rattle.clap.proofs.ValueTestLemmas.{accepts-Accepts, Accepts-accepts}
-use Rattle.cip_words.specs.Jobs.{Job, Solve, AsksForSome, cip_command, job_at, job_behind, job_of, job_with, most_nodes, nodes_of, unless_faulty, usual_nodes}
+use Rattle.cip_words.specs.Jobs.{Job, Solve, Check, AsksForSome, cip_command, check_behind, check_with, job_at, job_behind, job_of, solve_with, most_nodes, nodes_of, unless_faulty, usual_nodes}
 
 number_of : (same : Bool) (text : List ℕ) → is_unsigned_in 1 most_nodes text ≡ same → nodes_of (Some text) ≡ (if same then Some (digits_value 10 (without_leading_plus text)) else None)
 number_of same text e = ap (λ (b : Bool). if b then Some (digits_value 10 (without_leading_plus text)) else None) e
@@ -29,19 +29,33 @@ no_nodes text n = number_of false text (is_not (is_unsigned_in 1 most_nodes text
     is_not true e = absurd (n (accepts-Accepts false (vp.Unsigned 1 most_nodes) text e))
     is_not false e = refl
 
--- ---- the job of what stands behind `solve`
+-- ---- the job of what stands behind `solve`, or `check`
 
-job_from : (f : Found) (model nodes : Option (List ℕ)) → model ≡ first_value f (codes "model") → nodes ≡ first_value f (codes "nodes") → job_behind (rows_of f) ≡ job_with model (nodes_of nodes)
-job_from f model nodes m n = ap₂ (λ (model nodes : Option (List ℕ)). job_with model (nodes_of nodes)) (sym (first_value-rows f (codes "model")) ∙ sym m) (sym (first_value-rows f (codes "nodes")) ∙ sym n)
+solve_from : (f : Found) (model blocks nodes : Option (List ℕ)) → model ≡ first_value f (codes "model") → blocks ≡ first_value f (codes "blocks") → nodes ≡ first_value f (codes "nodes") → job_behind (rows_of f) ≡ solve_with model blocks (nodes_of nodes)
+solve_from f model blocks nodes m b n =
+    ap (λ (x : Option (List ℕ)). solve_with x (first_of (codes "blocks") (rows_of f)) (nodes_of (first_of (codes "nodes") (rows_of f)))) (sym (first_value-rows f (codes "model")) ∙ sym m)
+    ∙ ap₂ (λ (x y : Option (List ℕ)). solve_with model x (nodes_of y)) (sym (first_value-rows f (codes "blocks")) ∙ sym b) (sym (first_value-rows f (codes "nodes")) ∙ sym n)
 
-pub full_job : (f : Found) (model : List ℕ) (word : Option (List ℕ)) (nodes : ℕ) → Some model ≡ first_value f (codes "model") → word ≡ first_value f (codes "nodes") → Some nodes ≡ nodes_of word → job_behind (rows_of f) ≡ Some (Solve model nodes)
-full_job f model word nodes m n e = job_from f (Some model) word m n ∙ sym (ap (job_with (Some model)) e)
+pub full_job : (f : Found) (model : List ℕ) (blocks word : Option (List ℕ)) (nodes : ℕ) → Some model ≡ first_value f (codes "model") → blocks ≡ first_value f (codes "blocks") → word ≡ first_value f (codes "nodes") → Some nodes ≡ nodes_of word → job_behind (rows_of f) ≡ Some (Solve model blocks nodes)
+full_job f model blocks word nodes m b n e = solve_from f (Some model) blocks word m b n ∙ sym (ap (solve_with (Some model) blocks) e)
 
 pub no_number : (f : Found) (model : List ℕ) (word : Option (List ℕ)) → Some model ≡ first_value f (codes "model") → word ≡ first_value f (codes "nodes") → None ≡ nodes_of word → job_behind (rows_of f) ≡ None
-no_number f model word m n e = job_from f (Some model) word m n ∙ sym (ap (job_with (Some model)) e)
+no_number f model word m n e = solve_from f (Some model) (first_value f (codes "blocks")) word m refl n ∙ sym (ap (solve_with (Some model) _) e)
 
 pub no_model : (f : Found) → None ≡ first_value f (codes "model") → job_behind (rows_of f) ≡ None
-no_model f m = job_from f None (first_value f (codes "nodes")) m refl
+no_model f m = solve_from f None (first_value f (codes "blocks")) (first_value f (codes "nodes")) m refl refl
+
+check_from : (f : Found) (model point : Option (List ℕ)) → model ≡ first_value f (codes "model") → point ≡ first_value f (codes "point") → check_behind (rows_of f) ≡ check_with model point
+check_from f model point m n = ap₂ (λ (model point : Option (List ℕ)). check_with model point) (sym (first_value-rows f (codes "model")) ∙ sym m) (sym (first_value-rows f (codes "point")) ∙ sym n)
+
+pub full_check : (f : Found) (model point : List ℕ) → Some model ≡ first_value f (codes "model") → Some point ≡ first_value f (codes "point") → check_behind (rows_of f) ≡ Some (Check model point)
+full_check f model point m n = check_from f (Some model) (Some point) m n
+
+pub no_point : (f : Found) (model : List ℕ) → Some model ≡ first_value f (codes "model") → None ≡ first_value f (codes "point") → check_behind (rows_of f) ≡ None
+no_point f model m n = check_from f (Some model) None m n
+
+pub no_program : (f : Found) → None ≡ first_value f (codes "model") → check_behind (rows_of f) ≡ None
+no_program f m = check_from f None (first_value f (codes "point")) m refl
 
 -- ---- the range of the number
 
@@ -59,16 +73,27 @@ nodes_range : (word : Option (List ℕ)) (nodes : ℕ) → nodes_of word ≡ Som
 nodes_range None nodes h = usual_range nodes h
 nodes_range (Some text) nodes h = range_of text nodes (is_unsigned_in 1 most_nodes text) refl h
 
-job_range : (model : Option (List ℕ)) (nodes : Option ℕ) (word : Option (List ℕ)) (job : Job) → nodes_of word ≡ nodes → job_with model nodes ≡ Some job → AsksForSome job
-job_range (Some model) (Some nodes) word (Solve told n) w h =
+job_range : (model blocks : Option (List ℕ)) (nodes : Option ℕ) (word : Option (List ℕ)) (job : Job) → nodes_of word ≡ nodes → solve_with model blocks nodes ≡ Some job → AsksForSome job
+job_range (Some model) blocks (Some nodes) word (Solve told others n) w h =
     let same : nodes ≡ n = cc in
     nodes_range word n (w ∙ ap Some same)
-job_range (Some model) None word job w h = absurd (cc)
-job_range None nodes word job w h = absurd (cc)
+job_range (Some model) blocks (Some nodes) word (Check told point) w h = tt
+job_range (Some model) blocks None word job w h = absurd (cc)
+job_range None blocks nodes word job w h = absurd (cc)
 
-at_range : (entered : Text × List Row) (same : Bool) (job : Job) → (if same then job_behind entered.1 else None) ≡ Some job → AsksForSome job
-at_range entered true job h = job_range _ _ (first_of (codes "nodes") entered.1) job refl h
-at_range entered false job h = absurd (cc)
+check_range : (model point : Option (List ℕ)) (job : Job) → check_with model point ≡ Some job → AsksForSome job
+check_range (Some model) (Some point) (Solve told others n) h = absurd (cc)
+check_range (Some model) (Some point) (Check told other) h = tt
+check_range (Some model) None job h = absurd (cc)
+check_range None point job h = absurd (cc)
+
+at_check : (entered : Text × List Row) (same : Bool) (job : Job) → (if same then check_behind entered.1 else None) ≡ Some job → AsksForSome job
+at_check entered true job h = check_range _ _ job h
+at_check entered false job h = absurd (cc)
+
+at_range : (entered : Text × List Row) (same : Bool) (job : Job) → (if same then job_behind entered.1 else (if bytes_eq entered.0 (codes "check") then check_behind entered.1 else None)) ≡ Some job → AsksForSome job
+at_range entered true job h = job_range _ _ _ (first_of (codes "nodes") entered.1) job refl h
+at_range entered false job h = at_check entered (bytes_eq entered.0 (codes "check")) job h
 
 entered_range : (entered : Option (Text × List Row)) (job : Job) → option_and_then job_at entered ≡ Some job → AsksForSome job
 entered_range None job h = absurd (cc)

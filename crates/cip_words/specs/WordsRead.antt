@@ -1,6 +1,6 @@
 -- What `Words` is to its callers, and what reading them comes to.
-use Rattle.std.specs.Prelude.{◌≡◌, ⊤, ℕ, List, None, map, string_bytes}
-use Rattle.cip_words.specs.Jobs.{Job, Solve, job_of}
+use Rattle.std.specs.Prelude.{◌≡◌, ⊤, ℕ, List, None, map, option_map, string_bytes}
+use Rattle.cip_words.specs.Jobs.{Job, Solve, Check, job_of}
 use Rattle.cip_words.specs.declared.words.Job.{Job as Told}
 use Rattle.cip_words.specs.declared.words.Job.TheVariants as told
 use Rattle.cip_words.specs.declared.words.Words.TheInside.{Inside}
@@ -13,7 +13,8 @@ words_of line = map (λ word. string_bytes word) line.words.items
 
 -- the job that a value of `Job` tells
 abbrev pub meant : Told → Job
-meant (told.Solve model nodes) = Solve model.now nodes
+meant (told.Solve model blocks nodes) = Solve model.now (option_map (λ text. text.now) blocks) nodes
+meant (told.Check model point) = Check model.now point.now
 
 -- why words give no job: they are not accepted; want of memory says nothing of them
 abbrev pub WordsCause : List (List ℕ) → WordsFault → Type 0

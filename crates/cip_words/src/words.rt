@@ -2,7 +2,7 @@
 ghost use Rattle.std.specs.Prelude.{◌≡◌, ◌++◌, ◌∷◌, [], Some, None, IfOk, OnOk, OnErr, MatchResult, option_map, option_and_then, length};
 ghost use Rattle.clap.specs.Words.{app_of, kind_of, rows_of, found_of, subcommand_rows_of};
 ghost use Rattle.clap.specs.declared.error.kind.ErrorKind.TheVariants.{OutOfMemory};
-ghost use Rattle.cip_words.specs.Jobs.{AsksForSome, cip_command, nodes_of, job_behind, job_at, job_of};
+ghost use Rattle.cip_words.specs.Jobs.{AsksForSome, cip_command, nodes_of, job_behind, check_behind, job_at, job_of};
 ghost use Rattle.cip_words.specs.WordsRead.{meant, WordsCause};
 
 use clap::error::ErrorKind;
@@ -43,8 +43,17 @@ pub enum Job<'a> {
     Solve {
         /// The name of the text.
         model: &'a str,
+        /// The name of the text of its blocks, if one is named.
+        blocks: Option<&'a str>,
         /// The most nodes that are taken, from 1 to 2^40.
         nodes: u64,
+    },
+    /// To check a point in the program of a text.
+    Check {
+        /// The name of the text of the program.
+        model: &'a str,
+        /// The name of the text of the point.
+        point: &'a str,
     },
 }
 
@@ -68,22 +77,28 @@ impl From<AllocError> for WordsFault {
     }
 }
 
-/// The command: `solve MODEL [--nodes N] [--plain]`.
+/// The command: `solve MODEL [--blocks FILE] [--nodes N] [--plain]`, and `check MODEL POINT`.
 fn command<'a>(alloc: Global) -> Result<Command<'a>, AllocError>
     ensures { IfOk result (λ command. app_of command ≡ cip_command) }
 {
     let model = Arg::new(alloc, "model").required(true);
+    let blocks = Arg::new(alloc, "blocks").long("blocks");
     let nodes = Arg::new(alloc, "nodes").long("nodes");
     let plain = Arg::new(alloc, "plain")
         .long("plain")
         .action(ArgAction::SetTrue);
     let solve = Command::new(alloc, "solve")
         .arg(model)?
+        .arg(blocks)?
         .arg(nodes)?
         .arg(plain)?;
+    let checked = Arg::new(alloc, "model").required(true);
+    let point = Arg::new(alloc, "point").required(true);
+    let check = Command::new(alloc, "check").arg(checked)?.arg(point)?;
     Command::new(alloc, "cip")
         .no_binary_name(true)
-        .subcommand(solve)
+        .subcommand(solve)?
+        .subcommand(check)
 }
 
 /// The number of nodes that a word says, from 1 to the most.
@@ -115,8 +130,28 @@ fn job_of_solve<'a>(solve: &ArgMatches<'a>) -> Result<Job<'a>, WordsFault>
     let Some(model) = solve.get_str("model") else {
         return Err(WordsFault::Refused);
     };
+    let blocks = solve.get_str("blocks");
     match nodes_in(solve.get_str("nodes")) {
-        Some(nodes) => Ok(Job::Solve { model, nodes }),
+        Some(nodes) => Ok(Job::Solve {
+            model,
+            blocks,
+            nodes,
+        }),
+        None => Err(WordsFault::Refused),
+    }
+}
+
+/// The job of what stands behind `check`.
+fn job_of_check<'a>(check: &ArgMatches<'a>) -> Result<Job<'a>, WordsFault>
+    ensures { MatchResult result
+        (λ job. check_behind (rows_of (found_of check.now)) ≡ Some (meant job))
+        (λ fault. (fault ≡ WordsFault.Refused) × (check_behind (rows_of (found_of check.now)) ≡ None)) }
+{
+    let Some(model) = check.get_str("model") else {
+        return Err(WordsFault::Refused);
+    };
+    match check.get_str("point") {
+        Some(point) => Ok(Job::Check { model, point }),
         None => Err(WordsFault::Refused),
     }
 }
@@ -129,7 +164,10 @@ fn job_in<'a>(matches: &ArgMatches<'a>) -> Result<Job<'a>, WordsFault>
 {
     match matches.subcommand_matches("solve") {
         Some(solve) => job_of_solve(solve),
-        None => Err(WordsFault::Refused),
+        None => match matches.subcommand_matches("check") {
+            Some(check) => job_of_check(check),
+            None => Err(WordsFault::Refused),
+        },
     }
 }
 

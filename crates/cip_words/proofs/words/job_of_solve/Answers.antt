@@ -7,7 +7,7 @@ pub returns-in_default : goal.returns-in_default
 returns-in_default c = (refl, no_model (found_of c.args.solve.now) c.in_default.ensures)
 
 pub returns-in-Some-nodes_in : goal.returns-in-Some-nodes_in
-returns-in-Some-nodes_in c = full_job (found_of c.args.solve.now) _ _ _ c.in-Some.ensures c.get_str-2.ensures c.in-Some-nodes_in.ensures
+returns-in-Some-nodes_in c = full_job (found_of c.args.solve.now) _ _ _ _ c.in-Some.ensures c.get_str-blocks.ensures c.get_str-2.ensures c.in-Some-nodes_in.ensures
 
 pub returns-in-None : goal.returns-in-None
 returns-in-None c = (refl, no_number (found_of c.args.solve.now) _ _ c.in-Some.ensures c.get_str-2.ensures c.in-None.ensures)
