@@ -1,5 +1,5 @@
 -- The clauses of `run`, each from what the call does.
-use Rattle.std.specs.Prelude.{◌≡◌, ◌≢◌, ◌⊎◌, ⊤, ℕ, List, Option, None, Some, IfSome, length, ◌*◌, ◌-◌, ◌≤◌, ◌<◌, max}
+use Rattle.std.specs.Prelude.{◌≡◌, ◌≢◌, ◌⊎◌, refl, ℕ, List, Option, None, Some, IfSome, length, ◌*◌, ◌-◌, ◌≤◌, ◌<◌, max}
 use Rattle.std.proofs.Common.{sym, ap, ◌∙◌, subst, inl, inr, arith}
 use Rattle.cip_io.specs.Faults.{Rose}
 use Rattle.cip_io.specs.Store.{StoreTells}
@@ -7,22 +7,20 @@ use Rattle.cip_problem.specs.Program.{Program}
 use Rattle.cip_problem.specs.Wholes.{assignments}
 use Rattle.cip_mps_rules.specs.MpsOutcome.{Means, Faulty, HasProgram, HasFault}
 use Rattle.cip_rational.specs.Rational.{ℚ}
-use Rattle.cip_line_texts.specs.LineTexts.{Reading, outcome_of, HasResult, HasFault as HasLineFault}
+use Rattle.cip_line_texts.specs.LineTexts.{Reading, Outcome, outcome_of, HasResult, HasFault as HasLineFault}
 use Rattle.cip_line_texts.specs.LineTexts as texts
 use Rattle.cip_block_rules.specs.BlockRules.{block_reading}
 use Rattle.cip_point_rules.specs.PointRules.{point_reading}
 use Rattle.cip_mps.specs.MpsFaultKinds.{kind_number}
-use Rattle.cip_mps.specs.declared.faults.MpsFault.{MpsFault}
 use Rattle.cip_blocks.specs.BlockKinds.{kind_number as block_kind_number}
 use Rattle.cip_blocks.specs.declared.faults.BlockFault.{BlockFault}
 use Rattle.cip_point.specs.PointKinds.{kind_number as point_kind_number}
 use Rattle.cip_point.specs.declared.faults.PointFault.{PointFault}
 use Rattle.cip_words.specs.Jobs.{Job, Solve, Check}
-use Rattle.cip_input.specs.ModelsRead.{IsRead}
 use Rattle.cip_answers.specs.Checks.{check_status}
+use Rattle.cip_model.specs.Verdicts.{verdict_of}
 use Rattle.cip_main.specs.declared.refusals.TextFault.{TextFault}
 use Rattle.cip_main.specs.declared.refusals.TextFault.TheVariants.{Model, Blocks, Point}
-use Rattle.cip_input.specs.TextPulls.{IsAllPulled}
 use Rattle.cip_answers.specs.Figures.{NodeLimit, NoMemory as LacksMemory, exit_status}
 use Rattle.cip_solve.proofs.AnswerLaws.{budget_suffices}
 use Rattle.cip_main.specs.declared.plain.Plain.{Plain}
@@ -31,11 +29,11 @@ use Rattle.cip_main.specs.Answering.{IsLogged}
 use Rattle.cip_main.specs.Checking.{checked}
 use Rattle.cip_main.specs.Headline.{IsSpent, EndsWith}
 use Rattle.cip_main.specs.Plain.{plain_status}
-use Rattle.cip_main.specs.Running.{Call, IsStoreSound, IsSinkSound, GivesPlain, IsAnswered, IsChecked, TellsVerdict, ArePulled, IsPulledBehind, BlocksAreRead, Ran, gives_plain, gives_figures, gives_verdict, IsStatus, write_fault, TellsTruth, Asks, AsksOf, AsksWith, AsksToCheck, HasBlocks, IsCutShort, Headline, CheckClause, IsFirstFault, TellsModelFault, TellsBlockFault, TellsPointFault, UsageClause, ReadFaultClause, RefusedClause, WriteFaultClause, SpentLog, OverflowClause, MemoryClause, Runs}
+use Rattle.cip_main.specs.Running.{Call, IsStoreSound, IsSinkSound, GivesPlain, IsAnswered, IsChecked, TellsVerdict, ArePulled, BlocksAreRead, Ran, gives_plain, gives_figures, gives_verdict, IsStatus, write_fault, TellsTruth, Asks, AsksOf, AsksWith, AsksToCheck, RefusesBlocks, IsCutShort, Headline, BreaksSome, CheckClause, HasBlocksFault, HasPointFault, IsFirstFault, TellsModelFault, TellsBlockFault, TellsPointFault, UsageClause, behind_up_to, PullsToFault, ReadFaultClause, RefusedClause, WriteFaultClause, SpentLog, OverflowClause, MemoryClause, Runs}
 use Rattle.cip_main.specs.Saying.{Says}
 use Rattle.cip_main.specs.Tasks.{TaskCause, model_of, second_of, FailsBehind, HasFaultyModel, HasFaultyBlocks, HasFaultyPoint}
 use Rattle.cip_main.proofs.Readings.{told, some_job}
-use Rattle.cip_main.proofs.Statuses.{says_usage, says_read_fault, says_refused, says_no_memory, plain_below_five, plain_not_one, plain_not_ten, plain_not_eleven, plain_is, figures_not_one, figures_not_two, figures_not_three, figures_not_four, figures_not_five, is_spent, is_wide, exit_is, verdict_not_two, verdict_not_three, verdict_not_four, verdict_not_five, verdict_not_six, verdict_not_ten, verdict_is}
+use Rattle.cip_main.proofs.Statuses.{says_usage, says_read_fault, says_refused, says_no_memory, plain_below_five, plain_not_one, plain_not_ten, plain_not_eleven, plain_is, is_breach, is_overflow, figures_not_one, figures_not_two, figures_not_three, figures_not_four, figures_not_five, is_spent, is_wide, exit_is, verdict_not_two, verdict_not_three, verdict_not_four, verdict_not_five, verdict_not_six, verdict_not_ten, verdict_is}
 
 -- ---- the status of a call
 
@@ -142,16 +140,16 @@ same_line e = cc
 same_kind : {l m k n : ℕ} → Faulty l k ≡ Faulty m n → k ≡ n
 same_kind e = cc
 
-same_value : {X : Type 0} {x y : X} → texts.Means x ≡ texts.Means y → x ≡ y
+same_value : {X : Type 0} {x y : X} → ◌≡◌ {A = Outcome X} (texts.Means x) (texts.Means y) → x ≡ y
 same_value e = cc
 
-apart : {X : Type 0} {x : X} {l k : ℕ} → texts.Means x ≡ texts.Faulty {X = X} l k → ⊥
+apart : {X : Type 0} {x : X} {l k : ℕ} → ◌≡◌ {A = Outcome X} (texts.Means x) (texts.Faulty l k) → ⊥
 apart e = cc
 
-same_line_of : {X : Type 0} {l m k n : ℕ} → texts.Faulty {X = X} l k ≡ texts.Faulty m n → l ≡ m
+same_line_of : {X : Type 0} {l m k n : ℕ} → ◌≡◌ {A = Outcome X} (texts.Faulty l k) (texts.Faulty m n) → l ≡ m
 same_line_of e = cc
 
-same_kind_of : {X : Type 0} {l m k n : ℕ} → texts.Faulty {X = X} l k ≡ texts.Faulty m n → k ≡ n
+same_kind_of : {X : Type 0} {l m k n : ℕ} → ◌≡◌ {A = Outcome X} (texts.Faulty l k) (texts.Faulty m n) → k ≡ n
 same_kind_of e = cc
 
 one_value : {K I X : Type 0} (r : Reading K I X) (text : List ℕ) (x y : X) → HasResult r text x → HasResult r text y → x ≡ y
@@ -200,24 +198,30 @@ point_fault_asked call text point_text program line kind asks h f =
 
 -- ---- the headline
 
-blocks_are : (program : Program) (blocks : Option (List ℕ)) (name : List ℕ) (store : StoreTells) → blocks ≡ Some name → HasBlocks program blocks store → HasBlocks program (Some name) store
-blocks_are program blocks name store e h = subst (λ b. HasBlocks program b store) e h
+-- the text of blocks that are refused has its first fault there as blocks of the program of the text
+refuses_blocks : (call : Call) (text : List ℕ) (program : Program) (fault : BlockFault) → AsksOf call text → HasProgram text program → GivesPlain call (Refused (Blocks fault)) → RefusesBlocks call program
+refuses_blocks call text program fault asks h g =
+    let f = g.cause in
+    let found : HasProgram text f.program = asked_program call (Solve f.model (Some f.name) f.nodes) text f.program (told _ f.program f.reads.is_read) f.is_asked asks in
+    record {
+      model = f.model;
+      name = f.name;
+      nodes = f.nodes;
+      asked = f.is_asked;
+      fault = fault;
+      given = g;
+      pulled = record { between = f.between; model_pulled = f.reads.pulled; second_pulled = f.refuses.pulled };
+      first = subst (λ p. IfSome (call.store.holds f.name) (λ bytes. HasLineFault (block_reading p) bytes fault.line (block_kind_number fault.kind))) (one_program text f.program program found h) f.refuses.fault;
+    }
 
--- blocks that are there are not refused
-no_blocks_fault : (call : Call) (text : List ℕ) (nodes : ℕ) (program : Program) (line kind : ℕ) (asks : Asks call text nodes) → HasProgram text program → HasBlocks program asks.blocks call.store → HasFaultyBlocks call.job call.store call.store_after line kind → ⊥
-no_blocks_fault call text nodes program line kind asks h b f =
-    let there = blocks_are program asks.blocks f.name call.store (same_blocks asks.job f.is_asked) b in
-    let with : AsksWith call text there.0 = record { model = f.model; name = f.name; nodes = f.nodes; job = f.is_asked; held = ap call.store.holds (same_model f.is_asked asks.job) ∙ asks.held; blocks_held = there.1 } in
-    no_line_fault (block_reading program) there.0 there.2.0 line kind there.2.1 (blocks_fault_asked call text there.0 program line kind with h f)
-
-headline_plain : (call : Call) (answer : Plain) → GivesPlain call answer → (text : List ℕ) (nodes : ℕ) (program : Program) (asks : Asks call text nodes) → HasProgram text program → HasBlocks program asks.blocks call.store → IsCutShort call
-headline_plain call Usage g text nodes program asks h b = absurd (some_job asks.job g.cause.0)
-headline_plain call ReadFault g text nodes program asks h b = inl g
-headline_plain call (Refused (Model fault)) g text nodes program asks h b =
+headline_plain : (call : Call) (answer : Plain) → GivesPlain call answer → (text : List ℕ) (nodes : ℕ) (program : Program) → Asks call text nodes → HasProgram text program → RefusesBlocks call program ⊎ IsCutShort call
+headline_plain call Usage g text nodes program asks h = absurd (some_job asks.job g.cause.0)
+headline_plain call ReadFault g text nodes program asks h = inr (inl g)
+headline_plain call (Refused (Model fault)) g text nodes program asks h =
     absurd (no_fault text program fault.line (kind_number fault.kind) h (fault_asked call text fault.line (kind_number fault.kind) (of_solve call text nodes asks) g.cause))
-headline_plain call (Refused (Blocks fault)) g text nodes program asks h b = absurd (no_blocks_fault call text nodes program fault.line (block_kind_number fault.kind) asks h b g.cause)
-headline_plain call (Refused (Point fault)) g text nodes program asks h b = absurd (solve_check asks.job g.cause.is_asked)
-headline_plain call NoMemory g text nodes program asks h b = inr g
+headline_plain call (Refused (Blocks fault)) g text nodes program asks h = inl (refuses_blocks call text program fault (of_solve call text nodes asks) h g)
+headline_plain call (Refused (Point fault)) g text nodes program asks h = absurd (solve_check asks.job g.cause.is_asked)
+headline_plain call NoMemory g text nodes program asks h = inr (inr g)
 
 headline_figures : (call : Call) (text : List ℕ) (nodes : ℕ) (program : Program) → Asks call text nodes → HasProgram text program → (a : IsAnswered call) → TellsTruth call program nodes
 headline_figures call text nodes program asks h a =
@@ -225,9 +229,9 @@ headline_figures call text nodes program asks h a =
     (subst (λ n. TellsTruth call a.program n) (same_nodes a.asked asks.job) a.answers)
 
 headline : (call : Call) → Ran call → Headline call
-headline call (gives_plain answer g) text nodes program asks h b = inr (headline_plain call answer g text nodes program asks h b)
-headline call (gives_figures a) text nodes program asks h b = inl (headline_figures call text nodes program asks h a)
-headline call (gives_verdict c) text nodes program asks h b = absurd (solve_check asks.job c.asked)
+headline call (gives_plain answer g) text nodes program asks h = inr (headline_plain call answer g text nodes program asks h)
+headline call (gives_figures a) text nodes program asks h = inl (headline_figures call text nodes program asks h a)
+headline call (gives_verdict c) text nodes program asks h = absurd (solve_check asks.job c.asked)
 
 -- ---- checks
 
@@ -267,10 +271,13 @@ check_exact call (gives_plain answer g) model name e not_3 not_4 not_5 not_6 = a
 check_exact call (gives_figures a) model name e not_3 not_4 not_5 not_6 = absurd (solve_check a.asked e)
 check_exact call (gives_verdict c) model name e not_3 not_4 not_5 not_6 = (c, own_verdict call c not_5)
 
-check_broken : (call : Call) → Ran call → call.status ≡ 1 → IsChecked call
+check_broken : (call : Call) → Ran call → call.status ≡ 1 → BreaksSome call
 check_broken call (gives_plain answer g) e = absurd (plain_not_one answer (own_answer call _ 1 (said_plain call answer g) e one_five))
 check_broken call (gives_figures a) e = absurd (figures_not_one a.answers.figures.status (own_answer call _ 1 (said_figures call a) e one_five))
-check_broken call (gives_verdict c) e = c
+check_broken call (gives_verdict c) e = record {
+  is_checked = c;
+  breach = is_breach c.program c.point (verdict_of c.program c.point) (own_answer call _ 1 (said_verdict call c) e one_five);
+}
 
 check_clause : (call : Call) → Ran call → CheckClause call
 check_clause call r = record { always = check_always call r; exact = check_exact call r; broken = check_broken call r }
@@ -327,38 +334,67 @@ store_sound call (gives_plain answer g) not_3 not_5 = plain_sound call answer g 
 store_sound call (gives_figures a) not_3 not_5 = a.sound
 store_sound call (gives_verdict c) not_3 not_5 = c.sound
 
-pulled_asked : (call : Call) (asked other : Job) → call.job ≡ Some asked → call.job ≡ Some other → ArePulled asked call.store call.store_after → ArePulled other call.store call.store_after
-pulled_asked call asked other h e = subst (λ job. ArePulled job call.store call.store_after) (one_job h e)
-
-pulled : (call : Call) → Ran call → (asked : Job) → call.job ≡ Some asked → call.status ≢ 3 → call.status ≢ 4 → call.status ≢ 5 → call.status ≢ 6 → ArePulled asked call.store call.store_after
+pulled : (call : Call) → Ran call → (asked : Job) → call.job ≡ Some asked → call.status ≢ 3 → call.status ≢ 4 → call.status ≢ 5 → call.status ≢ 6 → ArePulled (model_of asked) (second_of asked) call.store call.store_after
 pulled call (gives_plain answer g) asked h not_3 not_4 not_5 not_6 = absurd (no_plain call answer g h not_3 not_4 not_5 not_6)
-pulled call (gives_figures a) asked h not_3 not_4 not_5 not_6 = pulled_asked call _ asked a.asked h a.pulled
-pulled call (gives_verdict c) asked h not_3 not_4 not_5 not_6 = pulled_asked call _ asked c.asked h c.pulled
+pulled call (gives_figures a) asked h not_3 not_4 not_5 not_6 = subst (λ job. ArePulled (model_of job) (second_of job) call.store call.store_after) (one_job a.asked h) a.pulled
+pulled call (gives_verdict c) asked h not_3 not_4 not_5 not_6 = subst (λ job. ArePulled (model_of job) (second_of job) call.store call.store_after) (one_job c.asked h) c.pulled
+
+-- of a refusal
+pulled_to : (call : Call) (fault : TextFault) → GivesPlain call (Refused fault) → (asked : Job) → call.job ≡ Some asked → ArePulled (model_of asked) (behind_up_to fault asked) call.store call.store_after
+pulled_to call (Model fault) g asked h =
+    subst (λ job. ArePulled (model_of job) None call.store call.store_after) (one_job g.cause.is_asked h)
+    (record { between = call.store_after; model_pulled = g.cause.refuses.pulled; second_pulled = refl })
+pulled_to call (Blocks fault) g asked h =
+    subst (λ job. ArePulled (model_of job) (second_of job) call.store call.store_after) (one_job g.cause.is_asked h)
+    (record { between = g.cause.between; model_pulled = g.cause.reads.pulled; second_pulled = g.cause.refuses.pulled })
+pulled_to call (Point fault) g asked h =
+    subst (λ job. ArePulled (model_of job) (second_of job) call.store call.store_after) (one_job g.cause.is_asked h)
+    (record { between = g.cause.between; model_pulled = g.cause.reads.pulled; second_pulled = g.cause.refuses.pulled })
+
+-- with status 4 a refusal is told
+refusal : (call : Call) → Ran call → call.status ≡ 4 → (fault : TextFault) × GivesPlain call (Refused fault)
+refusal call (gives_plain answer g) e =
+    let refuses = says_refused answer (own_answer call _ 4 (said_plain call answer g) e four_five) in
+    (refuses.0, subst (GivesPlain call) refuses.1 g)
+refusal call (gives_figures a) e = absurd (figures_not_four a.answers.figures.status (own_answer call _ 4 (said_figures call a) e four_five))
+refusal call (gives_verdict c) e = absurd (verdict_not_four (checked c.program c.point) (own_answer call _ 4 (said_verdict call c) e four_five))
+
+up_to_fault : (call : Call) → Ran call → (asked : Job) → call.job ≡ Some asked → call.status ≡ 4 → PullsToFault call asked
+up_to_fault call r asked h e =
+    let refuses = refusal call r e in
+    record { fault = refuses.0; given = refuses.1; pulled = pulled_to call refuses.0 refuses.1 asked h }
 
 read_fault_clause : (call : Call) → Ran call → ReadFaultClause call
-read_fault_clause call r = record { rose = rose call r; sound = store_sound call r; whole = pulled call r }
+read_fault_clause call r = record { rose = rose call r; sound = store_sound call r; whole = pulled call r; up_to_fault = up_to_fault call r }
 
 -- ---- refusals
 
+blocks_first : (call : Call) (fault : BlockFault) → GivesPlain call (Refused (Blocks fault)) → (text blocks_text : List ℕ) → AsksWith call text blocks_text → HasBlocksFault text blocks_text fault.line (block_kind_number fault.kind)
+blocks_first call fault g text blocks_text asks =
+    let f = g.cause in
+    let found : HasProgram text f.program = asked_program call (Solve f.model (Some f.name) f.nodes) text f.program (told _ f.program f.reads.is_read) f.is_asked (of_blocks call text blocks_text asks) in
+    record { program = f.program; is_program = found; first = blocks_fault_asked call text blocks_text f.program fault.line (block_kind_number fault.kind) asks found f }
+
+point_first : (call : Call) (fault : PointFault) → GivesPlain call (Refused (Point fault)) → (text point_text : List ℕ) → AsksToCheck call text point_text → HasPointFault text point_text fault.line (point_kind_number fault.kind)
+point_first call fault g text point_text asks =
+    let f = g.cause in
+    let found : HasProgram text f.program = asked_program call (Check f.model f.name) text f.program (told _ f.program f.reads.is_read) f.is_asked (of_check call text point_text asks) in
+    record { program = f.program; is_program = found; first = point_fault_asked call text point_text f.program fault.line (point_kind_number fault.kind) asks found f }
+
 first_fault : (call : Call) (fault : TextFault) → GivesPlain call (Refused fault) → IsFirstFault call fault
 first_fault call (Model fault) g = λ text asks. fault_asked call text fault.line (kind_number fault.kind) asks g.cause
-first_fault call (Blocks fault) g = λ text blocks_text program asks h. blocks_fault_asked call text blocks_text program fault.line (block_kind_number fault.kind) asks h g.cause
-first_fault call (Point fault) g = λ text point_text program asks h. point_fault_asked call text point_text program fault.line (point_kind_number fault.kind) asks h g.cause
+first_fault call (Blocks fault) g = blocks_first call fault g
+first_fault call (Point fault) g = point_first call fault g
 
 refused_only : (call : Call) → Ran call → call.status ≡ 4 → (fault : TextFault) × GivesPlain call (Refused fault) × IsFirstFault call fault
-refused_only call (gives_plain answer g) e =
-    let refuses = says_refused answer (own_answer call _ 4 (said_plain call answer g) e four_five) in
-    let given : GivesPlain call (Refused refuses.0) = subst (GivesPlain call) refuses.1 g in
-    (refuses.0, given, first_fault call refuses.0 given)
-refused_only call (gives_figures a) e = absurd (figures_not_four a.answers.figures.status (own_answer call _ 4 (said_figures call a) e four_five))
-refused_only call (gives_verdict c) e = absurd (verdict_not_four (checked c.program c.point) (own_answer call _ 4 (said_verdict call c) e four_five))
+refused_only call r e = let refuses = refusal call r e in (refuses.0, refuses.1, first_fault call refuses.0 refuses.1)
 
 model_plain : (call : Call) (answer : Plain) → GivesPlain call answer → (text : List ℕ) (line kind : ℕ) → AsksOf call text → HasFault text line kind → TellsModelFault call line kind ⊎ IsCutShort call
 model_plain call Usage g text line kind asks h = absurd (some_job asks.job g.cause.0)
 model_plain call ReadFault g text line kind asks h = inr (inl g)
 model_plain call (Refused (Model fault)) g text line kind asks h =
     let same : Faulty fault.line (kind_number fault.kind) ≡ Faulty line kind = sym (fault_asked call text fault.line (kind_number fault.kind) asks g.cause).faulty ∙ h.faulty in
-    inl (record { fault = fault; line = same_line same; kind = same_kind same; given = g })
+    inl (record { fault = fault; is_line = same_line same; is_kind = same_kind same; given = g })
 model_plain call (Refused (Blocks fault)) g text line kind asks h =
     absurd (no_fault text g.cause.program line kind (asked_program call _ text g.cause.program (told _ g.cause.program g.cause.reads.is_read) g.cause.is_asked asks) h)
 model_plain call (Refused (Point fault)) g text line kind asks h =
@@ -377,7 +413,7 @@ blocks_plain call (Refused (Model fault)) g text blocks_text program line kind a
     absurd (no_fault text program fault.line (kind_number fault.kind) h (fault_asked call text fault.line (kind_number fault.kind) (of_blocks call text blocks_text asks) g.cause))
 blocks_plain call (Refused (Blocks fault)) g text blocks_text program line kind asks h f =
     let same = sym (blocks_fault_asked call text blocks_text program fault.line (block_kind_number fault.kind) asks h g.cause).faulty ∙ f.faulty in
-    inl (record { fault = fault; line = same_line_of same; kind = same_kind_of same; given = g })
+    inl (record { fault = fault; is_line = same_line_of same; is_kind = same_kind_of same; given = g })
 blocks_plain call (Refused (Point fault)) g text blocks_text program line kind asks h f = absurd (solve_check asks.job g.cause.is_asked)
 blocks_plain call NoMemory g text blocks_text program line kind asks h f = inr (inr g)
 
@@ -402,7 +438,7 @@ point_plain call (Refused (Model fault)) g text point_text program line kind ask
 point_plain call (Refused (Blocks fault)) g text point_text program line kind asks h f = absurd (solve_check g.cause.is_asked asks.job)
 point_plain call (Refused (Point fault)) g text point_text program line kind asks h f =
     let same = sym (point_fault_asked call text point_text program fault.line (point_kind_number fault.kind) asks h g.cause).faulty ∙ f.faulty in
-    inl (record { fault = fault; line = same_line_of same; kind = same_kind_of same; given = g })
+    inl (record { fault = fault; is_line = same_line_of same; is_kind = same_kind_of same; given = g })
 point_plain call NoMemory g text point_text program line kind asks h f = inr (inr g)
 
 -- a point that was read has no fault
@@ -483,7 +519,9 @@ overflow_clause call (gives_figures a) e =
       shown = shown.2;
       overflows = subst (EndsWith a.program a.nodes a.answers.entries a.answers.figures.held) shown.2 a.answers.are_true.ends;
     })
-overflow_clause call (gives_verdict c) e = inr c
+overflow_clause call (gives_verdict c) e =
+    let shown = is_overflow c.program c.point (verdict_of c.program c.point) (own_answer call _ 11 (said_verdict call c) e eleven_five) in
+    inr (record { is_checked = c; place = shown.0; verdict = shown.1 })
 
 memory_clause : (call : Call) → Ran call → MemoryClause call
 memory_clause call (gives_plain answer g) e =

@@ -2,6 +2,6 @@ pub mod Clauses
 pub mod Readings
 pub mod RefusalTexts
 pub mod Searches
-pub mod SolveJobs
 pub mod Statuses
 pub mod TrueFigures
+pub mod Ways

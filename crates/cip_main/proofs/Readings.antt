@@ -1,12 +1,12 @@
 -- What is known of programs, blocks and points that were read, and of those that weren't.
-use Rattle.std.specs.Prelude.{◌≡◌, ⊤, ℕ, List, length, Option, None, Some, IfSome, Result, Ok, Err, IsErr, MatchResult, option_map, refl}
+use Rattle.std.specs.Prelude.{◌≡◌, ◌<◌, ℕ, List, length, Option, None, Some, IfSome, Result, Ok, Err, IsErr, MatchResult, refl}
 use Rattle.std.specs.Result.{IsErrAnd}
-use Rattle.std.proofs.Common.{sym, ap, ◌∙◌, subst, inl, inr}
+use Rattle.std.proofs.Common.{sym, ◌∙◌, subst, inl, inr}
 use Rattle.std.proofs.lemmas.List.Elements.{All-weaker}
 use Rattle.std.proofs.lemmas.Slice.Zip.{AllZip-long}
 use Rattle.cip_rational.specs.Rational.{ℚ}
 use Rattle.cip_problem.specs.Program.{Program}
-use Rattle.cip_problem.specs.WellFormed.{IsWellFormed, columns}
+use Rattle.cip_problem.specs.WellFormed.{columns}
 use Rattle.cip_line_texts.specs.LineTexts.{HasResult, HasFault}
 use Rattle.cip_block_rules.specs.BlockRules.{block_reading}
 use Rattle.cip_point_rules.specs.PointRules.{point_reading}
@@ -18,8 +18,8 @@ use Rattle.cip_point.specs.PointKinds.{kind_number as point_kind_number}
 use Rattle.cip_input.specs.BoundedModels.{HasBothSides, ProgramsAreBounded}
 use Rattle.cip_input.specs.TextsRead.{ReadsText, RefusesText}
 use Rattle.cip_input.specs.ModelsRead.{IsRead, Reads, ReadCause}
-use Rattle.cip_input.specs.BlocksRead.{BlocksCause}
-use Rattle.cip_input.specs.PointsRead.{PointCause}
+use Rattle.cip_input.specs.BlocksRead.{ReadsBlocks, BlocksCause}
+use Rattle.cip_input.specs.PointsRead.{ReadsPoint, PointCause}
 use Rattle.cip_input.specs.declared.models.Unread.{Unread}
 use Rattle.cip_input.specs.declared.models.Unread.TheVariants.{StoreFailed, Faulty, NoMemory}
 use Rattle.cip_input.specs.declared.block_texts.UnreadBlocks.{UnreadBlocks}
@@ -30,9 +30,9 @@ use Rattle.cip_io.specs.Store.{StoreTells}
 use Rattle.cip_words.specs.Jobs.{Job, Solve, Check}
 use Rattle.cip_solve.specs.Answering.{HasSides}
 use Rattle.cip_main.specs.declared.plain.Plain.{Plain}
-use Rattle.cip_main.specs.declared.tasks.Task.{Task}
 use Rattle.cip_main.specs.Answering.{IsSearchable}
-use Rattle.cip_main.specs.Tasks.{plain_of, plain_of_blocks, plain_of_point, model_of, IsTask, TaskCause}
+use Rattle.cip_parts.specs.BlockParts.{Blocks as Parts}
+use Rattle.cip_main.specs.Tasks.{plain_of, plain_of_blocks, plain_of_point, model_of, TakesBlocks, IsSolve, IsCheck, TaskCause}
 
 -- it is that of the text that the store tells
 pub told : (text : Option (List ℕ)) (program : Program) → IsRead text program → IfSome text (λ bytes. HasProgram bytes program)
@@ -57,7 +57,7 @@ long text program point_text old new point formed lines r p =
     AllZip-long (IsGivenOnce (given_by program p.bytes)) program.column_names point (lines program p.bytes point p.described).values
     ∙ (formed r.bytes program r.described).column_names
 
-some_job : {asked : Job} {job : Option Job} → job ≡ Some asked → job ≡ None → ⊥
+pub some_job : {asked : Job} {job : Option Job} → job ≡ Some asked → job ≡ None → ⊥
 some_job h e = cc
 
 -- why there is no task where the text of the model gave no program
@@ -102,6 +102,40 @@ point_cause job model name old between new program (point.Faulty fault) e r same
   refuses = subst (λ holds. RefusesText (HasFault (point_reading program)) (holds name) between new fault.line (point_kind_number fault.kind)) same h;
 }
 point_cause job model name old between new program point.NoMemory e r same h = record { sound = h ∙ r.sound; untouched = λ none. absurd (some_job e none) }
+
+-- the blocks of a text of this name were read
+pub blocks_taken : (program : Program) (blocks : Option (List ℕ)) (name : List ℕ) (old between new : StoreTells) (parts : Parts) → blocks ≡ Some name → between.holds ≡ old.holds → ReadsBlocks program (between.holds name) between new parts → TakesBlocks program blocks old between new
+blocks_taken program blocks name old between new parts e same r =
+    subst (λ b. TakesBlocks program b old between new) (sym e) (parts, subst (λ holds. ReadsBlocks program (holds name) between new parts) same r)
+
+-- no blocks are named
+pub no_blocks : (program : Program) (blocks : Option (List ℕ)) (old between : StoreTells) → blocks ≡ None → TakesBlocks program blocks old between between
+no_blocks program blocks old between e = subst (λ b. TakesBlocks program b old between between) (sym e) refl
+
+-- a program to solve was read, with its blocks
+pub is_solve : (job : Option Job) (model : List ℕ) (blocks : Option (List ℕ)) (nodes : ℕ) (old between new : StoreTells) (program : Program) → ProgramsAreBounded → ProgramsAreWellFormed → 0 < nodes → job ≡ Some (Solve model blocks nodes) → Reads (old.holds model) old between program → TakesBlocks program blocks old between new → IsSolve job old new program nodes
+is_solve job model blocks nodes old between new program bounded formed some asked r b = record {
+  model = model;
+  blocks = blocks;
+  asked = asked;
+  between = between;
+  reads = r;
+  takes_blocks = b;
+  searchable = searchable _ program bounded formed r.is_read;
+  some = some;
+}
+
+-- a point to check was read, behind its program
+pub is_check : (job : Option Job) (model name : List ℕ) (old between new : StoreTells) (program : Program) (point : List ℚ) → ProgramsAreWellFormed → PointsAreOfLines → job ≡ Some (Check model name) → Reads (old.holds model) old between program → between.holds ≡ old.holds → ReadsPoint program (between.holds name) between new point → IsCheck job old new program point
+is_check job model name old between new program point formed lines asked r same p = record {
+  model = model;
+  name = name;
+  asked = asked;
+  between = between;
+  reads = r;
+  reads_point = subst (λ holds. ReadsPoint program (holds name) between new point) same p;
+  long = long _ program _ between new point formed lines r.is_read p;
+}
 
 -- a cause over what a call answers
 pub not_done : {X : Type 0} (Done : X → Type 0) (Cause : Plain → Type 0) (answer : Plain) (result : Result X Plain) → Cause answer → IsErr result × IsErrAnd result (λ given. given ≡ answer) → MatchResult result Done Cause

@@ -146,9 +146,9 @@ read_kind (Blocks fault) = read_block_kind fault.kind
 read_kind (Point fault) = read_point_kind fault.kind
 
 text_name-no_feed : (fault : TextFault) → HasNoFeed (text_name fault)
-text_name-no_feed (Model fault) = (λ e. omega (arith, e), λ e. omega (arith, e), λ e. omega (arith, e), λ e. omega (arith, e), λ e. omega (arith, e), tt)
-text_name-no_feed (Blocks fault) = (λ e. omega (arith, e), λ e. omega (arith, e), λ e. omega (arith, e), λ e. omega (arith, e), λ e. omega (arith, e), λ e. omega (arith, e), tt)
-text_name-no_feed (Point fault) = (λ e. omega (arith, e), λ e. omega (arith, e), λ e. omega (arith, e), λ e. omega (arith, e), λ e. omega (arith, e), tt)
+text_name-no_feed (Model fault) = (λ e. omega (arith, e), (λ e. omega (arith, e), (λ e. omega (arith, e), (λ e. omega (arith, e), (λ e. omega (arith, e), tt)))))
+text_name-no_feed (Blocks fault) = (λ e. omega (arith, e), (λ e. omega (arith, e), (λ e. omega (arith, e), (λ e. omega (arith, e), (λ e. omega (arith, e), (λ e. omega (arith, e), tt))))))
+text_name-no_feed (Point fault) = (λ e. omega (arith, e), (λ e. omega (arith, e), (λ e. omega (arith, e), (λ e. omega (arith, e), (λ e. omega (arith, e), tt)))))
 
 pub refusals_tell : RefusalsTell
 refusals_tell fault other e =

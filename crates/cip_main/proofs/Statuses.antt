@@ -8,7 +8,13 @@ use Rattle.cip_main.specs.declared.refusals.TextFault.{TextFault}
 use Rattle.cip_main.specs.declared.plain.Plain.{Plain}
 use Rattle.cip_main.specs.declared.plain.Plain.TheVariants.{Usage, ReadFault, Refused, NoMemory}
 use Rattle.cip_main.specs.Plain.{plain_status}
-use Rattle.cip_main.specs.Running.{IsStatus, solved, broken, usage, read_fault, refused, no_memory, spent, wide}
+use Rattle.cip_problem.specs.Program.{Program}
+use Rattle.cip_model.specs.declared.verdicts.Place.{Place}
+use Rattle.cip_model.specs.declared.verdicts.Place.TheVariants as places
+use Rattle.cip_model.specs.declared.verdicts.Verdict.{Verdict}
+use Rattle.cip_model.specs.declared.verdicts.Verdict.TheVariants as verdicts
+use Rattle.cip_report.specs.Checks.{checked_of}
+use Rattle.cip_main.specs.Running.{IsBreach, IsStatus, solved, broken, usage, read_fault, refused, no_memory, spent, wide}
 
 -- ---- answers without figures
 
@@ -189,3 +195,19 @@ verdict_is (BreaksWhole column value) = broken
 verdict_is (BreaksRow row activity side) = broken
 verdict_is (WideRow row) = wide
 verdict_is WideCost = wide
+
+-- what a status tells of a verdict
+pub is_breach : (program : Program) (point : List ℚ) (verdict : Verdict) → check_status (checked_of program point verdict) ≡ 1 → IsBreach verdict
+is_breach program point (verdicts.Feasible cost) e = absurd (omega (arith, e))
+is_breach program point (verdicts.BreaksBound column) e = tt
+is_breach program point (verdicts.BreaksWhole column) e = tt
+is_breach program point (verdicts.BreaksRow number value) e = tt
+is_breach program point (verdicts.Wide (places.Row number)) e = absurd (omega (arith, e))
+is_breach program point (verdicts.Wide places.Cost) e = absurd (omega (arith, e))
+
+pub is_overflow : (program : Program) (point : List ℚ) (verdict : Verdict) → check_status (checked_of program point verdict) ≡ 11 → (place : Place) × (verdict ≡ verdicts.Wide place)
+is_overflow program point (verdicts.Feasible cost) e = absurd (omega (arith, e))
+is_overflow program point (verdicts.BreaksBound column) e = absurd (omega (arith, e))
+is_overflow program point (verdicts.BreaksWhole column) e = absurd (omega (arith, e))
+is_overflow program point (verdicts.BreaksRow number value) e = absurd (omega (arith, e))
+is_overflow program point (verdicts.Wide place) e = (place, refl)

@@ -17,6 +17,9 @@ use Rattle.cip_answers.specs.Figures.{NodeLimit, Wide, Overflow}
 use Rattle.cip_answers.specs.Checks.{check_text, check_status}
 use Rattle.cip_model.specs.Verdicts.{verdict_of}
 use Rattle.cip_model.specs.Meaning.{VerdictHolds}
+use Rattle.cip_model.specs.declared.verdicts.Place.{Place}
+use Rattle.cip_model.specs.declared.verdicts.Verdict.{Verdict}
+use Rattle.cip_model.specs.declared.verdicts.Verdict.TheVariants as verdicts
 use Rattle.cip_solve.specs.declared.logs.Log.{Log}
 use Rattle.cip_solve.specs.Logs.{entries_of}
 use Rattle.cip_mps.specs.MpsFaultKinds.{kind_number as mps_kind_number}
@@ -81,8 +84,8 @@ abbrev pub TellsTruth : Call → Program → (nodes : ℕ) → Type 0
 TellsTruth call program nodes =
     Answers program nodes call.sink call.sink_after call.logs call.logs_after call.status
 
--- what the test of a point says was told to the sink: exactly its text, with its status; it holds of the program and the
--- point, and no search was made
+-- what the test of a point says was told to the sink: exactly its text, with its status; it holds of the program and
+-- the point, and no search was made
 pub record TellsVerdict (call : Call) (program : Program) (point : List ℚ) : Type 0 where
   pub tells : Says call.sink call.sink_after (check_text (checked program point)) (check_status (checked program point))
       call.status
@@ -95,16 +98,17 @@ BlocksAreRead program None store = ⊤
 BlocksAreRead program (Some name) store =
     IfSome (store.holds name) (λ text. (parts : Parts) × HasResult (block_reading program) text parts)
 
--- the second text of a job, if it names one, was pulled behind the model's
-abbrev pub IsPulledBehind : (name : Option (List ℕ)) (old between new : StoreTells) → Type 0
+-- the second text, if there is one, was pulled behind the model's
+abbrev pub IsPulledBehind : (name : Option (List ℕ)) → (old between new : StoreTells) → Type 0
 IsPulledBehind None old between new = new ≡ between
 IsPulledBehind (Some name) old between new = IsAllPulled (old.holds name) new
 
--- all texts of a job were pulled; `between` is the store between the two
-pub record ArePulled (asked : Job) (old new : StoreTells) : Type 0 where
+-- the text of a model was pulled whole, and behind it the second text, if there is one; `between` is the store between
+-- the two. What a store tells is left of a text is of the last one alone
+pub record ArePulled (model : List ℕ) (second : Option (List ℕ)) (old new : StoreTells) : Type 0 where
   pub between : StoreTells
-  pub model : IsAllPulled (old.holds (model_of asked)) between
-  pub second : IsPulledBehind (second_of asked) old between new
+  pub model_pulled : IsAllPulled (old.holds model) between
+  pub second_pulled : IsPulledBehind second old between new
 
 -- an answer with figures of the program of the text that the words name
 pub record IsAnswered (call : Call) : Type 0 where
@@ -116,7 +120,7 @@ pub record IsAnswered (call : Call) : Type 0 where
   pub is_read : IfSome (call.store.holds model) (λ text. HasProgram text program)
   pub are_read : BlocksAreRead program blocks call.store
   pub answers : TellsTruth call program nodes
-  pub pulled : ArePulled (Solve model blocks nodes) call.store call.store_after
+  pub pulled : ArePulled model blocks call.store call.store_after
   pub sound : IsStoreSound call
 
 -- an answer with the verdict on the point of a text in the program of a text, both of which the words name
@@ -129,7 +133,7 @@ pub record IsChecked (call : Call) : Type 0 where
   pub point : List ℚ
   pub is_point : IfSome (call.store.holds name) (λ text. HasResult (point_reading program) text point)
   pub verdict : TellsVerdict call program point
-  pub pulled : ArePulled (Check model name) call.store call.store_after
+  pub pulled : ArePulled model (Some name) call.store call.store_after
   pub sound : IsStoreSound call
 
 -- what a call does
@@ -182,25 +186,52 @@ pub record AsksToCheck (call : Call) (text point_text : List ℕ) : Type 0 where
   pub held : call.store.holds model ≡ Some text
   pub point_held : call.store.holds name ≡ Some point_text
 
--- no blocks are named, or there is a text of this name, and it has blocks of the program
-abbrev pub HasBlocks : Program → (blocks : Option (List ℕ)) → StoreTells → Type 0
-HasBlocks program None store = ⊤
-HasBlocks program (Some name) store =
-    (text : List ℕ) × (store.holds name ≡ Some text) × (parts : Parts) × HasResult (block_reading program) text parts
-
 -- the store failed, or want of memory is answered without figures
 abbrev pub IsCutShort : Call → Type 0
 IsCutShort call = GivesPlain call ReadFault ⊎ GivesPlain call NoMemory
 
--- where the words ask for the program of a text, and name no blocks or those of a text that has some, true figures of
--- the program are told, unless the store failed or want of memory is answered without figures
+-- blocks are named, and their text is refused: it was pulled whole, and the fault that is told is its first one as
+-- blocks of this program
+pub record RefusesBlocks (call : Call) (program : Program) : Type 0 where
+  pub model : List ℕ
+  pub name : List ℕ
+  pub nodes : ℕ
+  pub asked : call.job ≡ Some (Solve model (Some name) nodes)
+  pub fault : BlockFault
+  pub given : GivesPlain call (Refused (Blocks fault))
+  pub pulled : ArePulled model (Some name) call.store call.store_after
+  pub first : IfSome (call.store.holds name)
+      (λ text. HasLineFault (block_reading program) text fault.line (block_kind_number fault.kind))
+
+-- where the words ask for the program of a text, true figures of the program are told; or the text of the blocks that
+-- they name is refused; or the store failed, or want of memory is answered without figures
 abbrev pub Headline : Call → Type 0
 Headline call =
-    (text : List ℕ) (nodes : ℕ) (program : Program) → (asks : Asks call text nodes) → HasProgram text program
-    → HasBlocks program asks.blocks call.store → TellsTruth call program nodes ⊎ IsCutShort call
+    (text : List ℕ) (nodes : ℕ) (program : Program) → Asks call text nodes → HasProgram text program
+    → TellsTruth call program nodes ⊎ (RefusesBlocks call program ⊎ IsCutShort call)
 
--- where the words ask to check the point of a text in the program of a text, the verdict is told, unless the store failed
--- or want of memory is answered; statuses 0, 1 and 11 come there only with the verdict, and it is the verdict's
+-- the verdict is that something is broken
+abbrev pub IsBreach : Verdict → Type 0
+IsBreach (verdicts.Feasible cost) = ⊥
+IsBreach (verdicts.BreaksBound column) = ⊤
+IsBreach (verdicts.BreaksWhole column) = ⊤
+IsBreach (verdicts.BreaksRow number value) = ⊤
+IsBreach (verdicts.Wide place) = ⊥
+
+-- the point that was read breaks something
+pub record BreaksSome (call : Call) : Type 0 where
+  pub is_checked : IsChecked call
+  pub breach : IsBreach (verdict_of is_checked.program is_checked.point)
+
+-- a sum overflows at the point that was read
+pub record PointOverflows (call : Call) : Type 0 where
+  pub is_checked : IsChecked call
+  pub place : Place
+  pub verdict : verdict_of is_checked.program is_checked.point ≡ verdicts.Wide place
+
+-- where the words ask to check the point of a text in the program of a text, the verdict is told, unless the store
+-- failed or want of memory is answered; statuses 0, 1 and 11 come there only with the verdict, and it is the verdict's;
+-- status 1 comes only where the point that was read breaks something
 pub record CheckClause (call : Call) : Type 0 where
   pub always : (text point_text : List ℕ) (program : Program) (point : List ℚ) → AsksToCheck call text point_text
       → HasProgram text program → HasResult (point_reading program) point_text point
@@ -208,7 +239,7 @@ pub record CheckClause (call : Call) : Type 0 where
   pub exact : (model name : List ℕ) → call.job ≡ Some (Check model name)
       → call.status ≢ 3 → call.status ≢ 4 → call.status ≢ 5 → call.status ≢ 6
       → (c : IsChecked call) × (call.status ≡ check_status (checked c.program c.point))
-  pub broken : call.status ≡ 1 → IsChecked call
+  pub broken : call.status ≡ 1 → BreaksSome call
 
 -- status 2 comes only where the words are not accepted; where they aren't, usage is said or want of memory, and nothing
 -- is pulled
@@ -217,43 +248,69 @@ pub record UsageClause (call : Call) : Type 0 where
   pub always : call.job ≡ None → GivesPlain call Usage ⊎ GivesPlain call NoMemory
   pub untouched : call.job ≡ None → call.store_after ≡ call.store
 
+-- the text that is read behind the model's, up to a faulty one
+abbrev pub behind_up_to : TextFault → Job → Option (List ℕ)
+behind_up_to (Model fault) asked = None
+behind_up_to (Blocks fault) asked = second_of asked
+behind_up_to (Point fault) asked = second_of asked
+
+-- a fault is told, and the texts were pulled whole, in the order read, up to the faulty one and with it
+pub record PullsToFault (call : Call) (asked : Job) : Type 0 where
+  pub fault : TextFault
+  pub given : GivesPlain call (Refused fault)
+  pub pulled : ArePulled (model_of asked) (behind_up_to fault asked) call.store call.store_after
+
 -- status 3 comes only where the store's count of faults rose, or stands at its last value; with every other status but
--- 5 the count is as it was, and with 0, 1, 10 and 11 each text that the words name was pulled whole
+-- 5 the count is as it was; with 0, 1, 10 and 11 each text that the words name was pulled whole, and with 4 the texts
+-- up to the faulty one
 pub record ReadFaultClause (call : Call) : Type 0 where
   pub rose : call.status ≡ 3 → Rose call.store.faults call.store_after.faults
   pub sound : call.status ≢ 3 → call.status ≢ 5 → IsStoreSound call
   pub whole : (asked : Job) → call.job ≡ Some asked
       → call.status ≢ 3 → call.status ≢ 4 → call.status ≢ 5 → call.status ≢ 6
-      → ArePulled asked call.store call.store_after
+      → ArePulled (model_of asked) (second_of asked) call.store call.store_after
+  pub up_to_fault : (asked : Job) → call.job ≡ Some asked → call.status ≡ 4 → PullsToFault call asked
+
+-- the text of the model has a program, and that of the blocks its first fault at this line, of this kind
+pub record HasBlocksFault (text blocks_text : List ℕ) (line kind : ℕ) : Type 0 where
+  pub program : Program
+  pub is_program : HasProgram text program
+  pub first : HasLineFault (block_reading program) blocks_text line kind
+
+-- the text of the model has a program, and that of the point its first fault at this line, of this kind
+pub record HasPointFault (text point_text : List ℕ) (line kind : ℕ) : Type 0 where
+  pub program : Program
+  pub is_program : HasProgram text program
+  pub first : HasLineFault (point_reading program) point_text line kind
 
 -- the fault that is told is the first of its text, and the text before it has none
 abbrev pub IsFirstFault : Call → TextFault → Type 0
 IsFirstFault call (Model fault) =
     (text : List ℕ) → AsksOf call text → HasFault text fault.line (mps_kind_number fault.kind)
 IsFirstFault call (Blocks fault) =
-    (text blocks_text : List ℕ) (program : Program) → AsksWith call text blocks_text → HasProgram text program
-    → HasLineFault (block_reading program) blocks_text fault.line (block_kind_number fault.kind)
+    (text blocks_text : List ℕ) → AsksWith call text blocks_text
+    → HasBlocksFault text blocks_text fault.line (block_kind_number fault.kind)
 IsFirstFault call (Point fault) =
-    (text point_text : List ℕ) (program : Program) → AsksToCheck call text point_text → HasProgram text program
-    → HasLineFault (point_reading program) point_text fault.line (point_kind_number fault.kind)
+    (text point_text : List ℕ) → AsksToCheck call text point_text
+    → HasPointFault text point_text fault.line (point_kind_number fault.kind)
 
 -- a fault of this line and of this kind is told
 pub record TellsModelFault (call : Call) (line kind : ℕ) : Type 0 where
   pub fault : MpsFault
-  pub line : fault.line ≡ line
-  pub kind : mps_kind_number fault.kind ≡ kind
+  pub is_line : fault.line ≡ line
+  pub is_kind : mps_kind_number fault.kind ≡ kind
   pub given : GivesPlain call (Refused (Model fault))
 
 pub record TellsBlockFault (call : Call) (line kind : ℕ) : Type 0 where
   pub fault : BlockFault
-  pub line : fault.line ≡ line
-  pub kind : block_kind_number fault.kind ≡ kind
+  pub is_line : fault.line ≡ line
+  pub is_kind : block_kind_number fault.kind ≡ kind
   pub given : GivesPlain call (Refused (Blocks fault))
 
 pub record TellsPointFault (call : Call) (line kind : ℕ) : Type 0 where
   pub fault : PointFault
-  pub line : fault.line ≡ line
-  pub kind : point_kind_number fault.kind ≡ kind
+  pub is_line : fault.line ≡ line
+  pub is_kind : point_kind_number fault.kind ≡ kind
   pub given : GivesPlain call (Refused (Point fault))
 
 -- status 4 comes only where a text is faulty, and its first fault is told, that of the first faulty text in the order
@@ -286,14 +343,14 @@ pub record SpentLog (call : Call) : Type 0 where
   pub full : length (entries_of log) ≡ answered.nodes
   pub spent : IsSpent answered.program answered.nodes (entries_of log) answered.answers.figures.held
 
--- and it never comes where the words allow at least twice as many nodes as the box of the program has whole assignments,
--- less one
+-- and it never comes where the words allow at least twice as many nodes as the box of the program has whole
+-- assignments, less one
 pub record NodeLimitClause (call : Call) : Type 0 where
   pub spent : call.status ≡ 10 → SpentLog call
   pub ample : (text : List ℕ) (nodes : ℕ) (program : Program) (n : ℕ) → Asks call text nodes → HasProgram text program
       → assignments program.integral program.bounds ≡ Some n → max 1 (2 * n - 1) ≤ nodes → call.status ≢ 10
 
--- status 11 comes only where an overflow is shown, or where the test of a point says so
+-- a search has shown an overflow
 pub record OverflowLog (call : Call) : Type 0 where
   pub answered : IsAnswered call
   pub leaf : List ℚ
@@ -302,8 +359,9 @@ pub record OverflowLog (call : Call) : Type 0 where
   pub overflows :
       ShowsOverflow answered.program answered.answers.entries answered.answers.figures.held leaf place
 
+-- status 11 comes only where a search has shown an overflow, or where a sum overflows at the point that was read
 abbrev pub OverflowClause : Call → Type 0
-OverflowClause call = call.status ≡ 11 → OverflowLog call ⊎ IsChecked call
+OverflowClause call = call.status ≡ 11 → OverflowLog call ⊎ PointOverflows call
 
 -- status 6 comes without figures, before a program was read; or with figures that are as true as in any other answer
 abbrev pub MemoryClause : Call → Type 0

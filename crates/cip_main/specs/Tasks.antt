@@ -71,7 +71,8 @@ second_of (Check model point) = Some point
 -- the text of blocks, if one is named, was read, and it has blocks of the program
 abbrev pub TakesBlocks : Program → Option (List ℕ) → (old between new : StoreTells) → Type 0
 TakesBlocks program None old between new = new ≡ between
-TakesBlocks program (Some name) old between new = (parts : Parts) × ReadsBlocks program (old.holds name) between new parts
+TakesBlocks program (Some name) old between new =
+    (parts : Parts) × ReadsBlocks program (old.holds name) between new parts
 
 -- the words ask to solve the program of a text, which was read, within this budget of nodes
 pub record IsSolve (job : Option Job) (old new : StoreTells) (program : Program) (nodes : ℕ) : Type 0 where

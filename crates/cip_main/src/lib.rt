@@ -9,9 +9,9 @@ mod running;
 mod solving;
 mod tasks;
 
+pub use checking::check_and_report;
 pub use cip_solve::Log;
 pub use cip_words::Words;
-pub use checking::check_and_report;
 pub use laws::refusals_tell;
 pub use plain::{Plain, say};
 pub use refusals::TextFault;

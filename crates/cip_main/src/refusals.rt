@@ -1,6 +1,7 @@
 //! Faulty texts, and what is printed of them.
 ghost use Rattle.std.specs.Prelude.{◌≡◌, ◌≤◌, length};
-ghost use Rattle.cip_main.specs.Refusals.{mps_kind_text, block_kind_text, point_kind_text, text_name, line_of, kind_text};
+ghost use Rattle.cip_main.specs.Refusals.{mps_kind_text, block_kind_text, point_kind_text};
+ghost use Rattle.cip_main.specs.Refusals.{text_name, line_of, kind_text};
 
 use cip_blocks::{BlockFault, BlockKind};
 use cip_mps::{FaultKind, MpsFault};

@@ -112,9 +112,10 @@ fn take_blocks<S: Store>(
         (S.tells store.new))
         (TaskCause job old (S.tells store.new)) }
 {
-    if let Some(name) = blocks {
-        read_blocks(alloc, store, name, program)?;
-    }
+    let Some(name) = blocks else {
+        return Ok(());
+    };
+    let _blocks = read_blocks(alloc, store, name, program)?;
     Ok(())
 }
 
@@ -127,7 +128,8 @@ fn read_solve<S: Store>(
     nodes: u64,
 ) -> Result<Task, Plain>
     requires { 0 < nodes }
-    ensures { (job : Option Asked) → job ≡ Some (Solve model.now (option_map (λ text. text.now) blocks.entry) nodes)
+    ensures { (job : Option Asked)
+        → job ≡ Some (Solve model.now (option_map (λ text. text.now) blocks.entry) nodes)
         → MatchResult result
         (IsTask job (S.tells store.old) (S.tells store.new)) (TaskCause job (S.tells store.old) (S.tells store.new)) }
 {

@@ -1,9 +1,9 @@
 use Rattle.std.proofs.Common.{◌∙◌, ap, Some}
-use Rattle.cip_main.proofs.SolveJobs.{asks, some}
+use Rattle.cip_words.specs.WordsRead.{meant}
 use Rattle.cip_main.proofs.tasks.read_task.Goals as goal
 
-pub read_model-requires : goal.read_model-requires
-read_model-requires g c = some c.in_ok-model.field-0 c.in_ok-model.ensures.range
+pub returns-in-Solve : goal.returns-in-Solve
+returns-in-Solve g c = c.read_solve.ensures _ (c.in_ok-model.ensures.job ∙ ap Some (ap meant c.in-Solve.is))
 
-pub returns : goal.returns
-returns g c = c.read_model.ensures _ (c.in_ok-model.ensures.job ∙ ap Some (asks c.in_ok-model.field-0))
+pub returns-in-Check : goal.returns-in-Check
+returns-in-Check g c = c.read_check.ensures _ (c.in_ok-model.ensures.job ∙ ap Some (ap meant c.in-Check.is))

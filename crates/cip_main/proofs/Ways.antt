@@ -1,0 +1,67 @@
+-- The ways of a call, from the task that was read and what was done then.
+use Rattle.std.specs.Prelude.{◌≡◌, ℕ, List, Option, None, Some, IfSome}
+use Rattle.cip_rational.specs.Rational.{ℚ}
+use Rattle.cip_problem.specs.Program.{Program}
+use Rattle.cip_io.specs.Store.{StoreTells}
+use Rattle.cip_line_texts.specs.LineTexts.{HasResult}
+use Rattle.cip_block_rules.specs.BlockRules.{block_reading}
+use Rattle.cip_point_rules.specs.PointRules.{point_reading}
+use Rattle.cip_parts.specs.BlockParts.{Blocks as Parts}
+use Rattle.cip_input.specs.TextsRead.{ReadsText}
+use Rattle.cip_main.specs.declared.plain.Plain.{Plain}
+use Rattle.cip_main.specs.Tasks.{TakesBlocks, IsSolve, IsCheck}
+use Rattle.cip_main.specs.Running.{Call, BlocksAreRead, IsPulledBehind, TellsTruth, TellsVerdict, GivesPlain, gives_plain, gives_figures, gives_verdict, Runs}
+use Rattle.cip_main.proofs.Readings.{told, value_told}
+use Rattle.cip_main.proofs.Clauses.{runs}
+use Rattle.std.proofs.Common.{◌∙◌, ap, subst}
+
+-- blocks that were read are those of their text
+blocks_told : (program : Program) (text : Option (List ℕ)) (old new : StoreTells) (parts : Parts) → ReadsText (HasResult (block_reading program)) text old new parts → IfSome text (λ bytes. (parts : Parts) × HasResult (block_reading program) bytes parts)
+blocks_told program None old new parts r = tt
+blocks_told program (Some bytes) old new parts r = (parts, value_told (HasResult (block_reading program)) (Some bytes) old new parts r)
+
+are_read : (program : Program) (blocks : Option (List ℕ)) (old between new : StoreTells) → TakesBlocks program blocks old between new → BlocksAreRead program blocks old
+are_read program None old between new t = tt
+are_read program (Some name) old between new t = blocks_told program (old.holds name) between new t.0 t.1
+
+behind : (program : Program) (blocks : Option (List ℕ)) (old between new : StoreTells) → TakesBlocks program blocks old between new → IsPulledBehind blocks old between new
+behind program None old between new t = t
+behind program (Some name) old between new t = t.1.pulled
+
+none_failed : (program : Program) (blocks : Option (List ℕ)) (old between new : StoreTells) → TakesBlocks program blocks old between new → new.faults ≡ between.faults
+none_failed program None old between new t = ap (λ (store : StoreTells). store.faults) t
+none_failed program (Some name) old between new t = t.1.sound
+
+-- a program was read and solved
+pub answered : (call : Call) (program : Program) (nodes : ℕ) → IsSolve call.job call.store call.store_after program nodes → TellsTruth call program nodes → Runs call
+answered call program nodes s t = runs call (gives_figures (record {
+  model = s.model;
+  blocks = s.blocks;
+  nodes = nodes;
+  asked = s.asked;
+  program = program;
+  is_read = told _ program s.reads.is_read;
+  are_read = are_read program s.blocks call.store s.between call.store_after s.takes_blocks;
+  answers = t;
+  pulled = record { between = s.between; model_pulled = s.reads.pulled; second_pulled = behind program s.blocks call.store s.between call.store_after s.takes_blocks };
+  sound = none_failed program s.blocks call.store s.between call.store_after s.takes_blocks ∙ s.reads.sound;
+}))
+
+-- a point was read and checked
+pub verdict_told : (call : Call) (program : Program) (point shown : List ℚ) → IsCheck call.job call.store call.store_after program point → shown ≡ point → TellsVerdict call program shown → Runs call
+verdict_told call program point shown k e t = runs call (gives_verdict (record {
+  model = k.model;
+  name = k.name;
+  asked = k.asked;
+  program = program;
+  is_read = told _ program k.reads.is_read;
+  point = point;
+  is_point = value_told (HasResult (point_reading program)) (call.store.holds k.name) k.between call.store_after point k.reads_point;
+  verdict = subst (TellsVerdict call program) e t;
+  pulled = record { between = k.between; model_pulled = k.reads.pulled; second_pulled = k.reads_point.pulled };
+  sound = k.reads_point.sound ∙ k.reads.sound;
+}))
+
+-- there was no task
+pub plain_told : (call : Call) (answer : Plain) → GivesPlain call answer → Runs call
+plain_told call answer g = runs call (gives_plain answer g)
