@@ -52,8 +52,8 @@ fn tell<K: Sink>(program: &Program, answer: &Answer, out: &mut K) -> u8
 }
 
 /// Solves a program by at most so many nodes, and writes the answer with its figures, whatever the end; its status, or
-/// 5 where the sink failed. A search adds one log to `logs`, or none where memory was refused before it had room for one:
-/// then the answer is want of memory, with the bound of the root.
+/// 5 where the sink failed. A search adds one log to `logs`, or none where memory was refused before it had room for
+/// one: then the answer is want of memory, with the bound of the root.
 pub fn solve_and_report<K: Sink>(
     alloc: Global,
     program: &Program,
