@@ -47,23 +47,12 @@ pub struct Outcome {
 pub fn solve(alloc: Global, text: &[u8]) -> Result<Outcome, AllocError> {
     let mut store = MemoryStore::new(alloc, 4_096);
     store.add("M", text)?;
-    run_words(alloc, &["solve", "M"], &mut store, 1_000_000)
-}
-
-/// Runs these words over a store, with a sink of this room.
-pub fn run_words(
-    alloc: Global,
-    list: &[&str],
-    store: &mut MemoryStore,
-    room: usize,
-) -> Result<Outcome, AllocError> {
     let mut words = Words::new(alloc)?;
-    for word in list {
-        words.add(word)?;
-    }
-    let mut out = MemorySink::new(alloc, room)?;
+    words.add("solve")?;
+    words.add("M")?;
+    let mut out = MemorySink::new(alloc, 1_000_000)?;
     let mut logs = Vec::new(alloc);
-    let status = run(alloc, &words, store, &mut out, &mut logs);
+    let status = run(alloc, &words, &mut store, &mut out, &mut logs);
     let mut entries = Vec::new(alloc);
     for log in &logs {
         entries.push(log.taken.len())?;

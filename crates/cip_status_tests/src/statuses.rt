@@ -78,10 +78,12 @@ fn a_full_sink_has_a_prefix(rt: HostRuntime) -> Result<(), Fail> {
     Ok(())
 }
 
-const REFUSED_WORDS: [&[&str]; 14] = [
+const REFUSED_WORDS: [&[&str]; 16] = [
     &[],
     &["solve"],
     &["check", "M"],
+    &["check", "M", "P", "Q"],
+    &["check", "M", "P", "--nodes", "1"],
     &["solve", "M", "M"],
     &["solve", "M", "--nodes", "0"],
     &["solve", "M", "--nodes", "1099511627777"],
