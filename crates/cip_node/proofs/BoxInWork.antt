@@ -1,5 +1,5 @@
 -- The box in work as changes are made.
-use Rattle.std.proofs.Common.{◌≡◌, ℕ, ◌<◌, Bool, true, false, not, ◌&&◌, if◌then◌else◌, IfSome, List, [], ◌∷◌, ◌++◌, reverse, length, slice_set, slice_index_or, Option, None, Some, refl, sym, ap, ◌∙◌, subst, arith}
+use Rattle.std.proofs.Common.{◌≡◌, ◌<◌, Bool, true, false, not, ◌&&◌, if◌then◌else◌, IfSome, List, [], ◌∷◌, ◌++◌, reverse, length, Option, None, Some, refl, sym, ap, ◌∙◌, subst}
 use Rattle.std.proofs.lemmas.Bool.{both_ways}
 use Rattle.std.proofs.lemmas.List.{append_assoc, reverse-append, get_or-set_same, length-set}
 use Rattle.cip_rational.specs.Rational.{ℚ, ◌≤ℚ◌, le_test}
@@ -12,7 +12,6 @@ use Rattle.cip_lin.specs.declared.sides.Side.{Side}
 use Rattle.cip_lin.specs.declared.sides.Side.TheVariants.{Low, High}
 use Rattle.cip_domain.specs.Changes.{Change, is_as_strong, would_cross, with_side, tightened_sides, tightened, narrowed}
 use Rattle.cip_domain.specs.Domain.{tightening}
-use Rattle.cip_domain.specs.declared.stores.Tightened.{Tightened}
 use Rattle.cip_domain.specs.declared.stores.Tightened.TheVariants.{Yes, Same, Empty}
 use Rattle.cip_domain.proofs.Boxes.{narrowed-reverse}
 use Rattle.cip_tree.proofs.Within.{within_later, in_wider, within_itself}

@@ -1,9 +1,8 @@
 -- The boxes of nodes lie within the root's.
-use Rattle.std.proofs.Common.{◌≡◌, List, [], ◌++◌, sym, ap, subst}
+use Rattle.std.proofs.Common.{◌≡◌, [], subst}
 use Rattle.std.proofs.lemmas.List.{append-nil}
-use Rattle.cip_problem.specs.Program.{Sides, Program}
-use Rattle.cip_problem.specs.Log.{Node}
-use Rattle.cip_domain.specs.Changes.{Change, narrowed}
+use Rattle.cip_problem.specs.Program.{Program}
+use Rattle.cip_domain.specs.Changes.{narrowed}
 use Rattle.cip_tree.specs.Tracked.{IsWithin}
 use Rattle.cip_tree.specs.Nodes.{Nodes, TakenNode, node_changes, box_of}
 use Rattle.cip_tree.proofs.Within.{within_later, within_itself}

@@ -1,5 +1,5 @@
 -- Steps of the tree keep what holds of a search.
-use Rattle.std.proofs.Common.{◌≡◌, ◌⊎◌, ◌≢◌, inl, inr, ℕ, zero, suc, ◌+◌, ◌<◌, ◌≤◌, ◌^◌, ℤ, pos, ◌+ℤ◌, unsigned_abs, length, slice_set, IfSome, Bool, true, false, List, [], ◌∷◌, ◌++◌, reverse, filter, Option, None, Some, Contains, MatchOption, refl, sym, ap, ◌∙◌, subst, arith}
+use Rattle.std.proofs.Common.{◌≡◌, ◌≢◌, inl, inr, ℕ, zero, suc, ◌+◌, ◌<◌, ◌≤◌, ℤ, pos, ◌+ℤ◌, unsigned_abs, length, slice_set, IfSome, true, false, List, [], ◌∷◌, ◌++◌, reverse, filter, Option, None, Some, Contains, MatchOption, refl, sym, ap, ◌∙◌, subst, arith}
 use Rattle.std.specs.List.Sorted.{IsPermutation}
 use Rattle.std.proofs.lemmas.Bool.{cases_lt, cases_eq}
 use Rattle.std.proofs.lemmas.List.{get_or-set_same}
@@ -18,7 +18,7 @@ use Rattle.cip_search.proofs.Members.{here, later, here_or_later, kept_was_there
 use Rattle.cip_search.proofs.Kept as searching
 use Rattle.cip_search.proofs.Ended as ending
 use Rattle.cip_search.proofs.AsGiven as giving
-use Rattle.std.proofs.lemmas.List.Sorted.{Contains-permutation, IsPermutation-sym, IsPermutation-append_right}
+use Rattle.std.proofs.lemmas.List.Sorted.{Contains-permutation, IsPermutation-sym}
 use Rattle.cip_tree.specs.Nodes.{Nodes, Base, TakenNode, base_at, base_changes, box_of, shown}
 use Rattle.cip_tree.specs.Moves.{TakesFirst, IsSplit, is_cheaper}
 use Rattle.cip_tree.specs.Searched.{IsSearched}

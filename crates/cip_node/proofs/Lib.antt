@@ -1,4 +1,6 @@
+pub mod Begun
 pub mod BoxInWork
+pub mod EndLaws
 pub mod Inside
 pub mod KeptSteps
 pub mod LeafSettled
@@ -6,5 +8,6 @@ pub mod Looked
 pub mod NodeBound
 pub mod Offering
 pub mod OneLeaf
+pub mod ReadyLaws
 pub mod Rounded
 pub mod Ruled

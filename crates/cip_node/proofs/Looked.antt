@@ -1,5 +1,5 @@
 -- A box without a whole value has no improving point.
-use Rattle.std.proofs.Common.{◌≡◌, inl, inr, false, true, List, Option, Some, sym, ap, ◌∙◌, subst}
+use Rattle.std.proofs.Common.{inl, inr, false, List, Option, Some, ap, ◌∙◌, subst}
 use Rattle.std.proofs.lemmas.Option.{slice_get-get_or}
 use Rattle.cip_rational.specs.Rational.{ℚ, numerator}
 use Rattle.cip_rational.proofs.Rational.Whole.{whole_is}

@@ -1,11 +1,10 @@
 -- What the linear program of a node says of its bound.
-use Rattle.std.proofs.Common.{◌≡◌, ℕ, ◌<◌, List, length, get_or, Option, None, Some, IfSome, Contains, refl, sym, ap, ◌∙◌, subst}
+use Rattle.std.proofs.Common.{◌≡◌, ℕ, List, length, Option, None, Some, IfSome, refl, sym, ◌∙◌, subst}
 use Rattle.cip_rational.specs.Rational.{ℚ}
 use Rattle.cip_problem.specs.Program.{Sides, Program}
 use Rattle.cip_problem.specs.WellFormed.{columns}
 use Rattle.cip_problem.proofs.Points.AtPlaces.{IsInBox-long}
-use Rattle.cip_linear.specs.LinearProgram.{IsPoint, HasNoPoint}
-use Rattle.cip_cuts.specs.Improving.{IsBoundIn, HasNoImproving}
+use Rattle.cip_linear.specs.LinearProgram.{IsPoint}
 use Rattle.cip_leaves.specs.Searched.{NoMore}
 use Rattle.cip_search.specs.Relaxation.{IsRelaxedBound}
 use Rattle.cip_search.proofs.Relaxed.{greater}
@@ -13,7 +12,7 @@ use Rattle.cip_cert.specs.declared.rows.PoolRow.{PoolRow}
 use Rattle.cip_cert.specs.Lent.{Lent}
 use Rattle.cip_rows.specs.RowPools.{Pool, IsKept}
 use Rattle.cip_node_bounds.specs.NodeRows.{usable_rows}
-use Rattle.cip_node_bounds.specs.Relaxing.{node_program, ShowsLeast, ShowsFalling}
+use Rattle.cip_node_bounds.specs.Relaxing.{node_program, ShowsLeast}
 use Rattle.cip_node_bounds.specs.Telling.{IsValidPool, NodeProgramsTell}
 use Rattle.cip_node_bounds.proofs.Told.{told}
 use Rattle.cip_node.specs.KeptNodes.{IsPoolOf}

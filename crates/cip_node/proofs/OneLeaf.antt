@@ -1,16 +1,15 @@
 -- The only leaf of a box in which each whole column has one whole value.
-use Rattle.std.proofs.Common.{◌≡◌, ℕ, zero, suc, ◌+◌, ◌<◌, Bool, true, false, if◌then◌else◌, List, [], ◌∷◌, ◌++◌, take, get_or, length, Option, None, Some, IfSome, refl, sym, ap, ◌∙◌, subst, arith}
-use Rattle.std.specs.List.{AllZip}
-use Rattle.cip_rational.specs.Rational.{ℚ, ◌≤ℚ◌, integer, ceil, floor, IsWhole}
+use Rattle.std.proofs.Common.{◌≡◌, ℕ, zero, suc, ◌+◌, ◌<◌, Bool, true, false, if◌then◌else◌, List, [], ◌∷◌, ◌++◌, take, get_or, length, Option, None, Some, refl, ap, ◌∙◌, arith}
+use Rattle.cip_rational.specs.Rational.{ℚ, ceil, floor}
 use Rattle.cip_rational.proofs.Rational.Order.{≤ℚ_trans}
 use Rattle.cip_rational.proofs.Rational.Whole.{IsWhole-integer}
 use Rattle.cip_rational.proofs.Rational.Rounding.{le_ceil, integer_le, floor_le}
-use Rattle.cip_problem.specs.Program.{Sides, Program}
-use Rattle.cip_problem.specs.Box.{Between, sides_at, two_wholes_between}
+use Rattle.cip_problem.specs.Program.{Sides}
+use Rattle.cip_problem.specs.Box.{two_wholes_between}
 use Rattle.cip_problem.specs.Wholes.{HasWhole, AllHaveWholes}
 use Rattle.cip_problem.proofs.Wholes.Counts.{same_whole_of_test}
-use Rattle.cip_leaves.specs.Leaf.{at_wholes, IsWholeBetween, IsLeafIn, IsLeaf, IsOnlyLeaf}
-use Rattle.cip_tree.specs.Tracked.{AreAsStrong, IsWithin}
+use Rattle.cip_leaves.specs.Leaf.{IsWholeBetween, IsLeafIn, IsOnlyLeaf}
+use Rattle.cip_tree.specs.Tracked.{IsWithin}
 use Rattle.cip_node_rules.specs.OpenColumns.{is_open_at, PassesNowhere}
 use Rattle.cip_node_rules.proofs.Places.{order_of_whole}
 use Rattle.cip_node.specs.LeafValues.{least_above, least_values}

@@ -1,5 +1,5 @@
 -- Bounds that are rounded where costs are whole.
-use Rattle.std.proofs.Common.{◌≡◌, Bool, true, false, if◌then◌else◌, List, Option, None, Some, refl, sym, subst}
+use Rattle.std.proofs.Common.{◌≡◌, Bool, true, false, if◌then◌else◌, List, Option, Some, refl, sym, subst}
 use Rattle.cip_rational.specs.Rational.{ℚ, ◌≤ℚ◌, integer, ceil}
 use Rattle.cip_rational.proofs.Rational.Order.{≤ℚ_refl}
 use Rattle.cip_rational.proofs.Rational.Rounding.{le_ceil}

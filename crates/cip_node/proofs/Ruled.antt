@@ -1,12 +1,12 @@
 -- A split by the rules leaves a whole value on both sides of a near box.
-use Rattle.std.proofs.Common.{◌≡◌, inl, inr, ℕ, ◌+◌, ◌^◌, ◌≤◌, ℤ, Bool, true, List, Option, None, Some, subst, arith}
+use Rattle.std.proofs.Common.{◌≡◌, inl, inr, ℕ, ◌+◌, ℤ, Bool, true, List, Option, None, Some, subst, arith}
 use Rattle.std.proofs.lemmas.Bool.{and_parts}
 use Rattle.cip_rational.specs.Rational.{ℚ}
 use Rattle.cip_problem.specs.Activity.{value_at}
 use Rattle.cip_problem.specs.Program.{Sides, Program}
 use Rattle.cip_problem.specs.Box.{sides_at, two_wholes_between}
 use Rattle.cip_node_rules.specs.OpenColumns.{is_whole_at, is_open_at, is_fractional}
-use Rattle.cip_node_rules.specs.SplitRules.{IsSplitRule, AreNear, LeavesBoth}
+use Rattle.cip_node_rules.specs.SplitRules.{IsSplitRule, LeavesBoth}
 use Rattle.cip_node_rules.proofs.BothSides.{leave_both}
 use Rattle.cip_node.specs.KeptNodes.{farthest, IsNearBox}
 

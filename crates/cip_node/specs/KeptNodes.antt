@@ -1,6 +1,6 @@
 -- What holds of the tree and the point held of a search over a program between two steps. The program is searched
 -- itself: what it is reduced to is the program, and all comes back as it is.
-use Rattle.std.specs.Prelude.{◌≡◌, ℕ, ◌+◌, ◌^◌, ◌≤◌, true, List, [], ◌∷◌, Option, Some, option_map}
+use Rattle.std.specs.Prelude.{◌≡◌, ℕ, ◌+◌, ◌^◌, ◌≤◌, true, List, Option, option_map}
 use Rattle.std.specs.List.{Contains}
 use Rattle.cip_rational.specs.Rational.{ℚ}
 use Rattle.cip_problem.specs.Program.{Sides, Row, Program}

@@ -1,9 +1,8 @@
+pub mod Beginning
 pub mod Bounding
-pub mod Branching
+pub mod Cores
 pub mod Entering
 pub mod KeptNodes
-pub mod LeafEnds
 pub mod LeafValues
 pub mod Looking
-pub mod Opening
-pub mod Processing
+pub mod NodeEnds

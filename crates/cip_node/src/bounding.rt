@@ -54,8 +54,7 @@ impl<'a> Core<'a> {
         ensures same { shown self.new.tree node.now ≡ shown self.old.tree node.now }
         ensures holding { IsHolding self.new.program.now self.new.incumbent }
         ensures no_dearer { IsNoDearer (cost_held self.new.incumbent) (cost_held self.old.incumbent) }
-        ensures log { self.new.tree.log ≡ self.old.tree.log }
-        ensures ids { self.new.tree.ids ≡ self.old.tree.ids }
+        ensures tree { self.new.tree ≡ record self.old.tree { open_ = self.new.tree.open_; taken = self.new.tree.taken } }
         ensures frame { self.new ≡ record self.old { tree = self.new.tree; incumbent = self.new.incumbent } }
     {
         let _columns = self.program.columns();
@@ -107,8 +106,7 @@ impl<'a> Core<'a> {
         ensures same { shown self.new.tree node.now ≡ shown self.old.tree node.now }
         ensures holding { IsHolding self.new.program.now self.new.incumbent }
         ensures no_dearer { IsNoDearer (cost_held self.new.incumbent) (cost_held self.old.incumbent) }
-        ensures log { self.new.tree.log ≡ self.old.tree.log }
-        ensures ids { self.new.tree.ids ≡ self.old.tree.ids }
+        ensures tree { self.new.tree ≡ record self.old.tree { open_ = self.new.tree.open_; taken = self.new.tree.taken } }
         ensures frame { self.new ≡ record self.old { tree = self.new.tree; incumbent = self.new.incumbent } }
     {
         match point {
@@ -145,8 +143,7 @@ impl<'a> Core<'a> {
         ensures place { IsWorkplace self.new.program.now self.new.rows.rows.items
             (length self.new.scratch.row.entries) self.new.pool.columns }
         ensures no_dearer { IsNoDearer (cost_held self.new.incumbent) (cost_held self.old.incumbent) }
-        ensures log { self.new.tree.log ≡ self.old.tree.log }
-        ensures ids { self.new.tree.ids ≡ self.old.tree.ids }
+        ensures tree { self.new.tree ≡ record self.old.tree { open_ = self.new.tree.open_; taken = self.new.tree.taken } }
         ensures frame { self.new ≡ record self.old {
           rows = self.new.rows;
           scratch = self.new.scratch;

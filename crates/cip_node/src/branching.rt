@@ -1,28 +1,23 @@
 //! A node that is open is pruned or split.
-ghost use Rattle.std.specs.Prelude.{◌≡◌, ◌<◌, ◌^◌, ◌∷◌, [], true, ℕ, length, option_map, IfSome, MatchResult};
+ghost use Rattle.std.specs.Prelude.{◌≡◌, ◌<◌, ◌^◌, ◌∷◌, [], true, ℕ, length, option_map, Option, IfSome, MatchResult};
 ghost use Rattle.cip_problem.specs.Log.{matters};
 ghost use Rattle.cip_problem.specs.Wholes.{AllHaveWholes};
 ghost use Rattle.cip_problem.specs.WellFormed.{columns};
 ghost use Rattle.cip_tree.specs.Nodes.{IsTaken, box_of, shown};
+ghost use Rattle.cip_node_bounds.specs.declared.relaxed.Mark.{Mark};
 ghost use Rattle.cip_node_rules.specs.OpenColumns.{is_open_at, IsFirstColumn};
-ghost use Rattle.cip_node.specs.KeptNodes.{cost_held, IsSearchOf, IsKept};
-ghost use Rattle.cip_node.specs.Branching.{IsBranched};
+ghost use Rattle.cip_node.specs.Bounding.{IsAsGood};
+ghost use Rattle.cip_node.specs.Cores.{rows_lent, StaysRooted};
+ghost use Rattle.cip_node.specs.KeptNodes.{cost_held, IsKept};
+ghost use Rattle.cip_node.specs.NodeEnds.{IsEnd, IsOpenAgain};
 
 use crate::cores::Core;
+use crate::ends::NodeEnd;
 use crate::steps::held_cost;
 use cip_frac::Frac;
 use cip_node_rules::{Place, chosen_place};
 use cip_tree::Node;
 use std::alloc::AllocError;
-
-/// How a node ends that is open.
-#[derive(Clone, Copy, Debug, PartialEq, Eq)]
-pub enum Branched {
-    /// Its bound isn't below the cost held.
-    Pruned,
-    /// It was split into halves with these numbers.
-    Split(u64, u64),
-}
 
 /// Whether a bound matters beside the cost held.
 fn does_matter(held: Option<Frac>, bound: Option<Frac>) -> bool
@@ -47,12 +42,12 @@ fn values_of(point: &Option<Vec<Frac>>) -> Option<&[Frac]>
 impl<'a> Core<'a> {
     /// Closes a node whose bound isn't below the cost held, and splits any other by the rules, by the point of its
     /// linear program, if there is one; then open nodes that don't matter are let go. `Err` comes where memory was
-    /// refused; the node is open again then.
+    /// refused; the node is open again then. The bound is as good as that of the linear program, or a mark says why not.
     pub(crate) fn branch(
         &mut self,
         node: Node,
         point: &Option<Vec<Frac>>,
-    ) -> Result<Branched, AllocError>
+    ) -> Result<NodeEnd, AllocError>
         requires kept { IsKept self.old.program.now self.old.tree (cost_held self.old.incumbent)
             (shown self.old.tree node ∷ []) }
         requires taken { IsTaken self.old.tree node }
@@ -63,17 +58,20 @@ impl<'a> Core<'a> {
         requires open_column { (column : ℕ) × IsFirstColumn (is_open_at self.old.program.now.integral self.old.domain.box)
             (length self.old.program.now.integral) column }
         requires values { IfSome point.now (λ values. length values.items ≡ length self.old.domain.box) }
-        ensures branched { MatchResult result
-            (λ end. IsKept self.new.program.now self.new.tree (cost_held self.new.incumbent) []
-            × IsBranched self.new.program.now (cost_held self.new.incumbent) self.old.domain.box
-            (option_map (λ values. values.items) point.now) node self.old.tree.log self.new.tree.log end)
-            (λ _. IsSearchOf self.new.program.now self.new.tree (cost_held self.new.incumbent) []
-            × (self.new.tree.log ≡ self.old.tree.log)) }
+        ensures end { (mark : Option Mark)
+            → IsAsGood self.old.program.now (rows_lent self.old.program.now self.old.pool) (box_of self.old.tree node)
+            (length self.old.scratch.row.entries) node.bound mark
+            → MatchResult result
+            (IsEnd self.new.program.now (cost_held self.new.incumbent)
+            (rows_lent self.new.program.now self.new.pool) (length self.new.scratch.row.entries) self.old.tree
+            self.new.tree node mark)
+            (λ _. IsOpenAgain self.new.program.now (cost_held self.new.incumbent) self.old.tree self.new.tree node) }
+        ensures tree { StaysRooted self.old.tree self.new.tree }
         ensures frame { self.new ≡ record self.old { tree = self.new.tree } }
     {
         if !does_matter(held_cost(&self.incumbent), node.bound()) {
             self.close_pruned(node);
-            return Ok(Branched::Pruned);
+            return Ok(NodeEnd::Pruned);
         }
         let _columns = self.program.columns();
         let values = values_of(point);
@@ -82,7 +80,7 @@ impl<'a> Core<'a> {
             Some(Place { col, at }) => {
                 let (low, high) = self.split(node, col, at)?;
                 self.let_go();
-                Ok(Branched::Split(low, high))
+                Ok(NodeEnd::Split(low, high))
             }
         }
     }

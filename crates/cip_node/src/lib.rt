@@ -1,10 +1,12 @@
 //! The work on a node of a search.
 #![tactic(auto)]
 
+mod beginning;
 mod bounding;
 mod branching;
 mod cores;
 mod ending;
+mod ends;
 mod entering;
 mod leaves;
 mod looks;
@@ -12,8 +14,6 @@ mod process;
 mod settling;
 mod steps;
 
-pub use branching::Branched;
+pub use beginning::root_bound;
 pub use cores::Core;
-pub use ending::Opened;
-pub use process::NodeEnd;
-pub use settling::LeafEnd;
+pub use ends::{NodeEnd, NodeRecord};

@@ -1,75 +1,129 @@
 //! The work on a node.
-ghost use Rattle.std.specs.Prelude.{◌≡◌, ◌<◌, ◌^◌, ◌∷◌, [], true, length, None, MatchResult};
-ghost use Rattle.cip_cuts.specs.Cuts.{HasWholeCosts};
+ghost use Rattle.std.specs.Prelude.{◌≡◌, ◌<◌, ◌^◌, ◌∷◌, [], length, IfOk, IfSome, MatchResult};
 ghost use Rattle.cip_cuts.specs.Improving.{IsNoDearer};
-ghost use Rattle.cip_tree.specs.Nodes.{IsTaken, shown};
-ghost use Rattle.cip_node.specs.Entering.{first_box};
-ghost use Rattle.cip_node.specs.KeptNodes.{cost_held, IsSearchOf, IsKept, IsHolding, IsPoolOf, IsWorkplace};
-ghost use Rattle.cip_node.specs.Processing.{IsProcessed};
+ghost use Rattle.cip_tree.specs.Nodes.{IsTaken, box_of, shown};
+ghost use Rattle.cip_node_bounds.specs.Relaxing.{IsMark};
+ghost use Rattle.cip_node.specs.Cores.{IsReady, aged, rows_lent, StaysRooted};
+ghost use Rattle.cip_node.specs.KeptNodes.{cost_held, IsKept};
+ghost use Rattle.cip_node.specs.Looking.{IsLook};
+ghost use Rattle.cip_node.specs.NodeEnds.{IsEnd, IsOpenAgain};
 
 use crate::cores::Core;
-use crate::ending::Opened;
+use crate::ends::{NodeEnd, NodeRecord};
 use crate::looks::{Looked, look};
-use crate::settling::LeafEnd;
 use cip_tree::Node;
 use std::alloc::{AllocError, Global};
 
-/// How a node ended.
-#[derive(Debug, Drop)]
-pub enum NodeEnd {
-    /// Its box has no improving point.
-    Empty,
-    /// It is a leaf.
-    Leaf(LeafEnd),
-    /// A whole column has two whole values in its box.
-    Open(Opened),
-}
-
 impl<'a> Core<'a> {
-    /// Works on a node that was taken up, until it has ended. `Err` comes where memory was refused; the node is open
-    /// again then.
-    pub fn process(&mut self, alloc: Global, node: Node) -> Result<NodeEnd, AllocError>
+    /// Lets the oldest rows of the pool go, where it has too many.
+    fn age(&mut self)
+        requires ready { IsReady self.old }
+        ensures ready { IsReady self.new }
+        ensures frame { self.new ≡ record self.old { pool = aged self.old.pool } }
+    {
+        self.pool.age();
+    }
+
+    /// Makes the box of a node the box in work, and looks at it. `Err` comes where memory was refused.
+    fn look_at(&mut self, node: &Node) -> Result<Looked, AllocError>
+        requires kept { IsKept self.old.program.now self.old.tree (cost_held self.old.incumbent)
+            (shown self.old.tree node.now ∷ []) }
+        requires taken { IsTaken self.old.tree node.now }
+        requires ready { IsReady self.old }
+        ensures look { IfOk result
+            (IsLook self.new.program.now.integral self.new.domain.box (box_of self.new.tree node.now)) }
+        ensures ready { IsReady self.new }
+        ensures frame { self.new ≡ record self.old { domain = self.new.domain } }
+    {
+        let _columns = self.program.columns();
+        look(&mut self.domain, self.start, self.program, &self.tree, node)
+    }
+
+    /// Ends a node by the look of its box, which is the box in work. `Err` comes where memory was refused; the node is
+    /// open again then.
+    fn end(
+        &mut self,
+        alloc: Global,
+        node: Node,
+        looked: Looked,
+    ) -> Result<(NodeEnd, NodeRecord), AllocError>
         requires kept { IsKept self.old.program.now self.old.tree (cost_held self.old.incumbent)
             (shown self.old.tree node ∷ []) }
         requires taken { IsTaken self.old.tree node }
-        requires holding { IsHolding self.old.program.now self.old.incumbent }
-        requires start { self.old.start ≡ 0 }
-        requires first { first_box self.old.domain ≡ self.old.tree.root.box }
+        requires ready { IsReady self.old }
         requires few { self.old.tree.ids < 2 ^ 63 }
-        requires place { IsWorkplace self.old.program.now self.old.rows.rows.items
-            (length self.old.scratch.row.entries) self.old.pool.columns }
-        requires pool { IsPoolOf self.old.program.now (cost_held self.old.incumbent) self.old.pool.rows }
-        requires cutoff { self.old.cutoff ≡ None }
-        requires whole_costs { self.old.whole_costs ≡ true → HasWholeCosts self.old.program.now }
+        requires look { IsLook self.old.program.now.integral self.old.domain.box (box_of self.old.tree node) looked }
         ensures end { MatchResult result
-            (IsProcessed self.new.program.now self.new.tree (cost_held self.new.incumbent))
-            (λ _. IsSearchOf self.new.program.now self.new.tree (cost_held self.new.incumbent) []) }
-        ensures holding { IsHolding self.new.program.now self.new.incumbent }
+            (λ done. IsEnd self.new.program.now (cost_held self.new.incumbent)
+            (rows_lent self.new.program.now self.new.pool) (length self.new.scratch.row.entries) self.old.tree
+            self.new.tree node done.1.mark done.0)
+            (λ _. IsOpenAgain self.new.program.now (cost_held self.new.incumbent) self.old.tree self.new.tree node) }
+        ensures mark { IfOk result (λ done. IfSome done.1.mark (IsMark self.new.program.now
+            (rows_lent self.new.program.now self.new.pool) (box_of self.old.tree node)
+            (length self.new.scratch.row.entries))) }
+        ensures ready { IsReady self.new }
+        ensures no_dearer { IsNoDearer (cost_held self.new.incumbent) (cost_held self.old.incumbent) }
+        ensures tree { StaysRooted self.old.tree self.new.tree }
+        ensures frame { self.new ≡ record self.old {
+          rows = self.new.rows;
+          scratch = self.new.scratch;
+          tree = self.new.tree;
+          incumbent = self.new.incumbent;
+        } }
     {
         let _columns = self.program.columns();
-        match look(
-            &mut self.domain,
-            self.start,
-            self.program,
-            &self.tree,
-            &node,
-        ) {
+        match looked {
+            Looked::Empty => {
+                self.close_empty(node);
+                Ok((NodeEnd::Empty, NodeRecord { mark: None }))
+            }
+            Looked::Leaf => {
+                let end = self.end_leaf(alloc, node)?;
+                Ok((end, NodeRecord { mark: None }))
+            }
+            Looked::Open => self.end_open(alloc, node),
+        }
+    }
+
+    /// Works on a node that was taken up, until it has ended; what was met is told, too. The pool ages once. `Err` comes
+    /// where memory was refused; the node is open again then, with the bound that it had by then, and nothing is logged.
+    pub fn process(
+        &mut self,
+        alloc: Global,
+        node: Node,
+    ) -> Result<(NodeEnd, NodeRecord), AllocError>
+        requires kept { IsKept self.old.program.now self.old.tree (cost_held self.old.incumbent)
+            (shown self.old.tree node ∷ []) }
+        requires taken { IsTaken self.old.tree node }
+        requires ready { IsReady self.old }
+        requires few { self.old.tree.ids < 2 ^ 63 }
+        ensures end { MatchResult result
+            (λ done. IsEnd self.new.program.now (cost_held self.new.incumbent)
+            (rows_lent self.new.program.now self.new.pool) (length self.new.scratch.row.entries) self.old.tree
+            self.new.tree node done.1.mark done.0)
+            (λ _. IsOpenAgain self.new.program.now (cost_held self.new.incumbent) self.old.tree self.new.tree node) }
+        ensures mark { IfOk result (λ done. IfSome done.1.mark (IsMark self.new.program.now
+            (rows_lent self.new.program.now self.new.pool) (box_of self.old.tree node)
+            (length self.new.scratch.row.entries))) }
+        ensures ready { IsReady self.new }
+        ensures no_dearer { IsNoDearer (cost_held self.new.incumbent) (cost_held self.old.incumbent) }
+        ensures tree { StaysRooted self.old.tree self.new.tree }
+        ensures frame { self.new ≡ record self.old {
+          pool = aged self.old.pool;
+          domain = self.new.domain;
+          rows = self.new.rows;
+          scratch = self.new.scratch;
+          tree = self.new.tree;
+          incumbent = self.new.incumbent;
+        } }
+    {
+        self.age();
+        match self.look_at(&node) {
             Err(error) => {
                 self.go_back(node);
                 Err(error)
             }
-            Ok(Looked::Empty) => {
-                self.close_empty(node);
-                Ok(NodeEnd::Empty)
-            }
-            Ok(Looked::Leaf) => match self.end_leaf(alloc, node) {
-                Err(error) => Err(error),
-                Ok(end) => Ok(NodeEnd::Leaf(end)),
-            },
-            Ok(Looked::Open) => match self.end_open(alloc, node) {
-                Err(error) => Err(error),
-                Ok(end) => Ok(NodeEnd::Open(end)),
-            },
+            Ok(looked) => self.end(alloc, node, looked),
         }
     }
 }

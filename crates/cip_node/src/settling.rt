@@ -1,53 +1,22 @@
 //! A node that is a leaf ends.
-ghost use Rattle.std.specs.Prelude.{◌≡◌, ◌∷◌, []};
+ghost use Rattle.std.specs.Prelude.{◌≡◌, ◌∷◌, [], length, None};
 ghost use Rattle.cip_leaves.specs.Leaf.{IsLeaf, IsOnlyLeaf};
 ghost use Rattle.cip_leaf.specs.LeafAnswers.{IsLeafAnswer};
 ghost use Rattle.cip_cuts.specs.Improving.{IsNoDearer};
 ghost use Rattle.cip_tree.specs.Nodes.{IsTaken, box_of, shown};
-ghost use Rattle.cip_node.specs.KeptNodes.{cost_held, IsSearchOf, IsKept, IsHolding};
-ghost use Rattle.cip_node.specs.LeafEnds.{IsLeafEnd};
+ghost use Rattle.cip_node.specs.Cores.{rows_lent, StaysRooted};
+ghost use Rattle.cip_node.specs.KeptNodes.{cost_held, IsKept, IsHolding};
+ghost use Rattle.cip_node.specs.NodeEnds.{IsEnd};
 
 use crate::cores::Core;
+use crate::ends::NodeEnd;
 use crate::leaves::Solved;
-use cip_frac::Frac;
-use cip_leaf::{LeafAnswer, Shown};
+use cip_leaf::LeafAnswer;
 use cip_tree::Node;
 
-/// How a node ends that is a leaf.
-#[derive(Debug, Drop)]
-pub enum LeafEnd {
-    /// The leaf has no point.
-    Empty,
-    /// Its least cost isn't below the cost held.
-    Solved,
-    /// The leaf is wide, and was put aside.
-    Parked {
-        leaf: Vec<Frac>,
-        bound: Option<Frac>,
-        shown: Shown,
-    },
-    /// The cost falls without end from a point of the leaf along a ray.
-    Ray {
-        point: Vec<Frac>,
-        ray: Vec<Frac>,
-    },
-}
-
 impl<'a> Core<'a> {
-    /// Makes a node open again.
-    pub(crate) fn go_back(&mut self, node: Node)
-        requires kept { IsKept self.old.program.now self.old.tree (cost_held self.old.incumbent)
-            (shown self.old.tree node ∷ []) }
-        requires taken { IsTaken self.old.tree node }
-        ensures searched { IsSearchOf self.new.program.now self.new.tree (cost_held self.new.incumbent) [] }
-        ensures log { self.new.tree.log ≡ self.old.tree.log }
-        ensures frame { self.new ≡ record self.old { tree = self.new.tree } }
-    {
-        self.tree.put_back(node);
-    }
-
     /// Ends a node that is a leaf, by what is known of the leaf.
-    pub(crate) fn settle(&mut self, node: Node, solved: Solved) -> LeafEnd
+    pub(crate) fn settle(&mut self, node: Node, solved: Solved) -> NodeEnd
         requires kept { IsKept self.old.program.now self.old.tree (cost_held self.old.incumbent)
             (shown self.old.tree node ∷ []) }
         requires taken { IsTaken self.old.tree node }
@@ -55,9 +24,12 @@ impl<'a> Core<'a> {
         requires only { IsOnlyLeaf self.old.program.now.integral (box_of self.old.tree node) solved.values.items }
         requires leaf { IsLeaf self.old.program.now solved.values.items }
         requires answer { IsLeafAnswer self.old.program.now solved.values.items solved.answer }
-        ensures end { IsLeafEnd self.new.program.now self.new.tree (cost_held self.new.incumbent) result }
+        ensures end { IsEnd self.new.program.now (cost_held self.new.incumbent)
+            (rows_lent self.new.program.now self.new.pool) (length self.new.scratch.row.entries) self.old.tree
+            self.new.tree node None result }
         ensures holding { IsHolding self.new.program.now self.new.incumbent }
         ensures no_dearer { IsNoDearer (cost_held self.new.incumbent) (cost_held self.old.incumbent) }
+        ensures tree { StaysRooted self.old.tree self.new.tree }
         ensures frame { self.new ≡ record self.old { tree = self.new.tree; incumbent = self.new.incumbent } }
     {
         let Solved { values, answer } = solved;
@@ -66,22 +38,22 @@ impl<'a> Core<'a> {
                 let _columns = self.program.columns();
                 let _answer = self.offer(&node, point.as_slice());
                 self.close_empty(node);
-                LeafEnd::Solved
+                NodeEnd::Solved
             }
             LeafAnswer::NoPoint => {
                 self.close_empty(node);
-                LeafEnd::Empty
+                NodeEnd::Empty
             }
             LeafAnswer::Unbounded { point, ray } => {
                 let _columns = self.program.columns();
                 let _answer = self.offer(&node, point.as_slice());
-                self.go_back(node);
-                LeafEnd::Ray { point, ray }
+                self.park_endless(node);
+                NodeEnd::Ray { point, ray }
             }
             LeafAnswer::Wide { shown } => {
                 let bound = node.bound();
                 self.park(node);
-                LeafEnd::Parked {
+                NodeEnd::Parked {
                     leaf: values,
                     bound,
                     shown,

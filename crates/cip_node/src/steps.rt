@@ -1,6 +1,6 @@
 //! Steps of a search: each keeps what holds of it.
 ghost use Rattle.std.specs.Prelude.{◌≡◌, ◌<◌, ◌^◌, ◌+◌, ◌++◌, ◌∷◌, [], true, false, length, MatchBool, MatchOption, MatchResult};
-ghost use Rattle.cip_problem.specs.Log.{Split, Closed, Parked, matters};
+ghost use Rattle.cip_problem.specs.Log.{Split, Closed, Parked, AllFollow, matters};
 ghost use Rattle.cip_problem.specs.Wholes.{AllHaveWholes};
 ghost use Rattle.cip_problem.specs.Box.{sides_at};
 ghost use Rattle.cip_problem.specs.WellFormed.{columns};
@@ -9,11 +9,13 @@ ghost use Rattle.cip_incumbent.specs.HeldPoint.{offered, after_offer};
 ghost use Rattle.cip_node_rules.specs.OpenColumns.{is_whole_at};
 ghost use Rattle.cip_node_rules.specs.SplitRules.{LeavesBoth};
 ghost use Rattle.cip_cuts.specs.Improving.{IsBoundIn, HasNoImproving, IsNoDearer};
-ghost use Rattle.cip_leaves.specs.Searched.{NoMore};
+ghost use Rattle.cip_leaves.specs.Searched.{first_node, NoMore};
 ghost use Rattle.cip_leaf_programs.specs.WideLeaf.{IsWideLeaf};
 ghost use Rattle.cip_search.specs.SearchState.{stay, IsStuck};
 ghost use Rattle.cip_tree.specs.Nodes.{IsTaken, box_of, shown};
-ghost use Rattle.cip_node.specs.KeptNodes.{cost_held, farthest, IsSearchOf, IsKept, IsHolding};
+ghost use Rattle.cip_node.specs.KeptNodes.{cost_held, farthest, IsKept, IsHolding};
+ghost use Rattle.cip_node.specs.Cores.{IsReady};
+ghost use Rattle.cip_node.specs.NodeEnds.{IsOpenAgain};
 
 use crate::cores::Core;
 use cip_frac::Frac;
@@ -50,7 +52,8 @@ impl<'a> Core<'a> {
             (IsKept self.new.program.now self.new.tree (cost_held self.new.incumbent) [])
             (λ node. IsKept self.new.program.now self.new.tree (cost_held self.new.incumbent)
             (shown self.new.tree node ∷ [])) }
-        ensures log { self.new.tree.log ≡ self.old.tree.log }
+        ensures ready { IsReady self.old → IsReady self.new }
+        ensures tree { self.new.tree ≡ record self.old.tree { open_ = self.new.tree.open_; taken = self.new.tree.taken } }
         ensures frame { self.new ≡ record self.old { tree = self.new.tree } }
     {
         self.tree.next()
@@ -63,8 +66,10 @@ impl<'a> Core<'a> {
         requires taken { IsTaken self.old.tree node }
         requires empty { HasNoImproving self.old.program.now (cost_held self.old.incumbent) (box_of self.old.tree node) }
         ensures kept { IsKept self.new.program.now self.new.tree (cost_held self.new.incumbent) [] }
-        ensures log { self.new.tree.log
-            ≡ self.old.tree.log ++ record { node = node.number; bound = node.bound; end = Closed } ∷ [] }
+        ensures tree { self.new.tree ≡ record self.old.tree {
+          taken = self.new.tree.taken;
+          log = self.old.tree.log ++ record { node = node.number; bound = node.bound; end = Closed } ∷ [];
+        } }
         ensures frame { self.new ≡ record self.old { tree = self.new.tree } }
     {
         self.tree.close(node);
@@ -77,11 +82,43 @@ impl<'a> Core<'a> {
         requires taken { IsTaken self.old.tree node }
         requires pruned { matters (cost_held self.old.incumbent) node.bound ≡ false }
         ensures kept { IsKept self.new.program.now self.new.tree (cost_held self.new.incumbent) [] }
-        ensures log { self.new.tree.log
-            ≡ self.old.tree.log ++ record { node = node.number; bound = node.bound; end = Closed } ∷ [] }
+        ensures tree { self.new.tree ≡ record self.old.tree {
+          taken = self.new.tree.taken;
+          log = self.old.tree.log ++ record { node = node.number; bound = node.bound; end = Closed } ∷ [];
+        } }
         ensures frame { self.new ≡ record self.old { tree = self.new.tree } }
     {
         self.tree.close(node);
+    }
+
+    /// Makes a node open again.
+    pub(crate) fn go_back(&mut self, node: Node)
+        requires kept { IsKept self.old.program.now self.old.tree (cost_held self.old.incumbent)
+            (shown self.old.tree node ∷ []) }
+        requires taken { IsTaken self.old.tree node }
+        ensures again { IsOpenAgain self.new.program.now (cost_held self.new.incumbent) self.old.tree self.new.tree node }
+        ensures tree { self.new.tree ≡ record self.old.tree { open_ = self.new.tree.open_; taken = self.new.tree.taken } }
+        ensures frame { self.new ≡ record self.old { tree = self.new.tree } }
+    {
+        self.tree.put_back(node);
+    }
+
+    /// Puts a node aside from which the cost falls without end: the log is still one of the program.
+    pub(crate) fn park_endless(&mut self, node: Node)
+        requires kept { IsKept self.old.program.now self.old.tree (cost_held self.old.incumbent)
+            (shown self.old.tree node ∷ []) }
+        requires taken { IsTaken self.old.tree node }
+        ensures logged { AllFollow self.new.program.now.integral
+            (first_node self.new.program.now self.old.tree.root.bound ∷ []) [] self.new.tree.log }
+        ensures tree { self.new.tree ≡ record self.old.tree {
+          parked = self.old.tree.parked ++ shown self.old.tree node ∷ [];
+          taken = self.new.tree.taken;
+          log = self.old.tree.log ++ record { node = node.number; bound = node.bound; end = Parked } ∷ [];
+        } }
+        ensures frame { self.new ≡ record self.old { tree = self.new.tree } }
+    {
+        self.tree.park(node);
+        let _log = self.tree.log();
     }
 
     /// Puts a node aside that is a wide leaf.
@@ -91,9 +128,11 @@ impl<'a> Core<'a> {
         requires taken { IsTaken self.old.tree node }
         requires stuck { IsStuck self.old.program.now self.old.program.now stay IsWideLeaf (shown self.old.tree node) }
         ensures kept { IsKept self.new.program.now self.new.tree (cost_held self.new.incumbent) [] }
-        ensures parked { self.new.tree.parked ≡ self.old.tree.parked ++ shown self.old.tree node ∷ [] }
-        ensures log { self.new.tree.log
-            ≡ self.old.tree.log ++ record { node = node.number; bound = node.bound; end = Parked } ∷ [] }
+        ensures tree { self.new.tree ≡ record self.old.tree {
+          parked = self.old.tree.parked ++ shown self.old.tree node ∷ [];
+          taken = self.new.tree.taken;
+          log = self.old.tree.log ++ record { node = node.number; bound = node.bound; end = Parked } ∷ [];
+        } }
         ensures frame { self.new ≡ record self.old { tree = self.new.tree } }
     {
         self.tree.park(node);
@@ -123,8 +162,7 @@ impl<'a> Core<'a> {
     pub(crate) fn let_go(&mut self)
         requires kept { IsKept self.old.program.now self.old.tree (cost_held self.old.incumbent) [] }
         ensures kept { IsKept self.new.program.now self.new.tree (cost_held self.new.incumbent) [] }
-        ensures log { self.new.tree.log ≡ self.old.tree.log }
-        ensures ids { self.new.tree.ids ≡ self.old.tree.ids }
+        ensures tree { self.new.tree ≡ record self.old.tree { open_ = self.new.tree.open_; taken = self.new.tree.taken } }
         ensures frame { self.new ≡ record self.old { tree = self.new.tree } }
     {
         if let Some(cost) = held_cost(&self.incumbent) {
@@ -141,8 +179,7 @@ impl<'a> Core<'a> {
             (shown self.new.tree node.now ∷ []) }
         ensures taken { IsTaken self.new.tree node.now }
         ensures same { shown self.new.tree node.now ≡ shown self.old.tree node.now }
-        ensures log { self.new.tree.log ≡ self.old.tree.log }
-        ensures ids { self.new.tree.ids ≡ self.old.tree.ids }
+        ensures tree { self.new.tree ≡ record self.old.tree { open_ = self.new.tree.open_; taken = self.new.tree.taken } }
         ensures frame { self.new ≡ record self.old { tree = self.new.tree } }
     {
         if let Some(cost) = held_cost(&self.incumbent) {
@@ -184,8 +221,7 @@ impl<'a> Core<'a> {
         ensures same { shown self.new.tree node.now ≡ shown self.old.tree node.now }
         ensures holding { IsHolding self.new.program.now self.new.incumbent }
         ensures no_dearer { IsNoDearer (cost_held self.new.incumbent) (cost_held self.old.incumbent) }
-        ensures log { self.new.tree.log ≡ self.old.tree.log }
-        ensures ids { self.new.tree.ids ≡ self.old.tree.ids }
+        ensures tree { self.new.tree ≡ record self.old.tree { open_ = self.new.tree.open_; taken = self.new.tree.taken } }
         ensures frame { self.new ≡ record self.old { tree = self.new.tree; incumbent = self.new.incumbent } }
     {
         let answer = self.hold(node, point);
@@ -206,13 +242,18 @@ impl<'a> Core<'a> {
         requires both { LeavesBoth (sides_at (box_of self.old.tree node) col) (farthest self.old.tree.ids + 1) at }
         ensures split { MatchResult result
             (λ halves. IsKept self.new.program.now self.new.tree (cost_held self.new.incumbent) []
-            × (self.new.tree.log ≡ self.old.tree.log ++ record {
-              node = node.number;
-              bound = node.bound;
-              end = Split col at halves.0 halves.1;
-            } ∷ []))
-            (λ _. IsSearchOf self.new.program.now self.new.tree (cost_held self.new.incumbent) []
-            × (self.new.tree.log ≡ self.old.tree.log)) }
+            × (self.new.tree ≡ record self.old.tree {
+              open_ = self.new.tree.open_;
+              taken = self.new.tree.taken;
+              ids = self.old.tree.ids + 2;
+              log = self.old.tree.log ++ record {
+                node = node.number;
+                bound = node.bound;
+                end = Split col at halves.0 halves.1;
+              } ∷ [];
+            }))
+            (λ _. IsOpenAgain self.new.program.now (cost_held self.new.incumbent) self.old.tree self.new.tree node
+            × (self.new.tree ≡ record self.old.tree { open_ = self.new.tree.open_; taken = self.new.tree.taken })) }
         ensures frame { self.new ≡ record self.old { tree = self.new.tree } }
     {
         match self.tree.split(&node, col, at) {
@@ -221,7 +262,7 @@ impl<'a> Core<'a> {
                 Ok(halves)
             }
             Err(SplitFault::NoMemory) => {
-                self.tree.put_back(node);
+                self.go_back(node);
                 Err(AllocError)
             }
             Err(_) => unreachable!(),

@@ -1,4 +1,4 @@
-use Rattle.std.proofs.Common.{◌≡◌, length, ap, sym, ◌∙◌, subst}
+use Rattle.std.proofs.Common.{length, ap, sym, ◌∙◌, subst}
 use Rattle.cip_tree.specs.Nodes.{node_changes, box_of}
 use Rattle.cip_node.specs.Entering.{IsEntered}
 use Rattle.cip_node.proofs.BoxInWork.{narrowed_long}

@@ -1,4 +1,4 @@
-use Rattle.std.proofs.Common.{◌≡◌, ◌∙◌, Bool, true, false, Option, Some, sym, subst}
+use Rattle.std.proofs.Common.{◌≡◌, ◌∙◌, Bool, true, false, Some, sym, subst}
 use Rattle.std.specs.Prelude.{MatchBool}
 use Rattle.cip_rational.specs.Rational.{ℚ, le_test}
 use Rattle.cip_rational.proofs.Comparisons.{is_le-compare}

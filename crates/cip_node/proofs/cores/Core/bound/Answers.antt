@@ -1,5 +1,4 @@
-use Rattle.std.proofs.Common.{◌≡◌, List, length, Option, None, Some, IfSome, refl, sym, ap, ◌∙◌, subst}
-use Rattle.cip_rational.specs.Rational.{ℚ}
+use Rattle.std.proofs.Common.{◌≡◌, length, IfSome, sym, ap, ◌∙◌, subst}
 use Rattle.cip_problem.specs.WellFormed.{columns}
 use Rattle.cip_cuts.specs.Improving.{IsBoundIn, IsNoDearer}
 use Rattle.cip_search.specs.Relaxation.{IsRelaxedBound}

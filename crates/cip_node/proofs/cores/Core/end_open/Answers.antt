@@ -1,28 +1,57 @@
-use Rattle.std.proofs.Common.{◌≡◌, length, Option, None, sym, ◌∙◌, subst}
-use Rattle.std.specs.Prelude.{option_map}
+use Rattle.std.proofs.Common.{◌≡◌, length, sym, ◌∙◌, subst}
 use Rattle.cip_cuts.specs.Improving.{HasNoImproving}
 use Rattle.cip_tree.specs.Nodes.{box_of}
-use Rattle.cip_node.specs.KeptNodes.{cost_held}
 use Rattle.cip_node.specs.Bounding.{IsAsGood, IsBounded}
-use Rattle.cip_node.specs.Branching.{IsBranched}
+use Rattle.cip_node.specs.Cores.{rows_lent}
+use Rattle.cip_node.specs.KeptNodes.{cost_held}
+use Rattle.cip_node.proofs.EndLaws.{raised_work, end_from, open_from}
+use Rattle.cip_node.proofs.ReadyLaws.{ready_from, ready_tree}
 use Rattle.cip_node.proofs.cores.Core.end_open.Goals as goal
 
 pub close_empty-requires-clause-empty : goal.close_empty-requires-clause-empty
 close_empty-requires-clause-empty c =
     let e = subst (λ s. s.domain.box ≡ box_of c.bound.new.self.tree c.bound.new.node) (sym c.bound.ensures.frame) (c.requires.full.same ∙ sym c.bound.ensures.same) in
     subst (HasNoImproving c.bound.new.self.program.now (cost_held c.bound.new.self.incumbent)) e
-    (subst (IsBounded c.bound.new.self.program.now (cost_held c.bound.new.self.incumbent) (record { own = c.bound.new.self.program.now.rows; pool = c.bound.new.self.pool.rows; cutoff = None }) c.bound.new.self.domain.box (length c.bound.new.self.scratch.row.entries) c.bound.new.node.bound) c.in-Ok-Empty.field-0-is c.in-Ok-Empty.ensures.bounded)
+    (subst (IsBounded c.bound.new.self.program.now (cost_held c.bound.new.self.incumbent) (rows_lent c.bound.new.self.program.now c.bound.new.self.pool) c.bound.new.self.domain.box (length c.bound.new.self.scratch.row.entries) c.bound.new.node.bound) c.in-Ok-Empty.field-0-is c.in-Ok-Empty.ensures.bounded)
+
+pub returns-in-Err-clause-end : goal.returns-in-Err-clause-end
+returns-in-Err-clause-end c =
+    let w = raised_work c.args.self.now.tree c.bound.new.self.tree c.args.node c.bound.new.node c.bound.new.self.tree.open_ c.bound.new.self.tree.taken c.bound.new.node.bound c.bound.ensures.tree c.bound.ensures.node c.bound.ensures.own c.bound.ensures.same in
+    open_from c.args.self.now.tree c.bound.new.self.tree c.args.node c.bound.new.node w c.go_back.new.self.program.now (cost_held c.go_back.new.self.incumbent) c.go_back.new.self.tree c.go_back.ensures.again
+
+pub returns-in-Err-clause-ready : goal.returns-in-Err-clause-ready
+returns-in-Err-clause-ready c =
+    ready_tree c.bound.new.self c.go_back.new.self c.go_back.ensures.frame
+    (ready_from c.args.self.now c.bound.new.self c.bound.ensures.frame c.bound.ensures.place c.bound.ensures.holding c.bound.ensures.no_dearer c.requires.ready)
+
+pub returns-in-Ok-Empty-clause-ready : goal.returns-in-Ok-Empty-clause-ready
+returns-in-Ok-Empty-clause-ready c =
+    ready_tree c.bound.new.self c.close_empty.new.self c.close_empty.ensures.frame
+    (ready_from c.args.self.now c.bound.new.self c.bound.ensures.frame c.bound.ensures.place c.bound.ensures.holding c.bound.ensures.no_dearer c.requires.ready)
+
+pub returns-in_Err-error-in-Ok-Open-clause-end : goal.returns-in_Err-error-in-Ok-Open-clause-end
+returns-in_Err-error-in-Ok-Open-clause-end c =
+    let w = raised_work c.args.self.now.tree c.bound.new.self.tree c.args.node c.bound.new.node c.bound.new.self.tree.open_ c.bound.new.self.tree.taken c.bound.new.node.bound c.bound.ensures.tree c.bound.ensures.node c.bound.ensures.own c.bound.ensures.same in
+    let bounded = subst (IsBounded c.bound.new.self.program.now (cost_held c.bound.new.self.incumbent) (rows_lent c.bound.new.self.program.now c.bound.new.self.pool) c.bound.new.self.domain.box (length c.bound.new.self.scratch.row.entries) c.bound.new.node.bound) c.in-Ok-Open.field-0-is c.in-Ok-Open.ensures.bounded in
+    let e = subst (λ s. s.domain.box ≡ box_of c.bound.new.self.tree c.bound.new.node) (sym c.bound.ensures.frame) (c.requires.full.same ∙ sym c.bound.ensures.same) in
+    let good = subst (λ b. IsAsGood c.bound.new.self.program.now (rows_lent c.bound.new.self.program.now c.bound.new.self.pool) b (length c.bound.new.self.scratch.row.entries) c.bound.new.node.bound c.in-Ok-Open.mark) e bounded.1 in
+    open_from c.args.self.now.tree c.bound.new.self.tree c.args.node c.bound.new.node w c.branch-error.new.self.program.now (cost_held c.branch-error.new.self.incumbent) c.branch-error.new.self.tree (c.in_Err-error-in-Ok-Open.ensures.end c.in-Ok-Open.mark good)
+
+pub returns-in_Err-error-in-Ok-Open-clause-ready : goal.returns-in_Err-error-in-Ok-Open-clause-ready
+returns-in_Err-error-in-Ok-Open-clause-ready c =
+    ready_tree c.bound.new.self c.branch-error.new.self c.branch-error.ensures.frame
+    (ready_from c.args.self.now c.bound.new.self c.bound.ensures.frame c.bound.ensures.place c.bound.ensures.holding c.bound.ensures.no_dearer c.requires.ready)
 
 pub returns-clause-end : goal.returns-clause-end
 returns-clause-end c =
-    let good = subst (IsBounded c.bound.new.self.program.now (cost_held c.bound.new.self.incumbent) (record { own = c.bound.new.self.program.now.rows; pool = c.bound.new.self.pool.rows; cutoff = None }) c.bound.new.self.domain.box (length c.bound.new.self.scratch.row.entries) c.bound.new.node.bound) c.in-Ok-Open.field-0-is c.in-Ok-Open.ensures.bounded in
-    let values = option_map (λ v. v.items) c.in-Ok-Open.point in
-    record {
-      bound = c.bound.new.node.bound;
-      point = values;
-      branched_is =
-          subst (λ n. IsBranched c.branch-error.new.self.program.now (cost_held c.branch-error.new.self.incumbent) c.branch-error.new.self.domain.box values n c.args.self.now.tree.log c.branch-error.new.self.tree.log c.in_Ok-error-in-Ok-Open.branched) c.bound.ensures.node
-          (subst (λ l. IsBranched c.branch-error.new.self.program.now (cost_held c.branch-error.new.self.incumbent) c.branch-error.new.self.domain.box values c.bound.new.node l c.branch-error.new.self.tree.log c.in_Ok-error-in-Ok-Open.branched) c.bound.ensures.log
-          (subst (λ s. IsBranched c.branch-error.new.self.program.now (cost_held c.branch-error.new.self.incumbent) s.domain.box values c.bound.new.node c.bound.new.self.tree.log c.branch-error.new.self.tree.log c.in_Ok-error-in-Ok-Open.branched) (sym c.branch-error.ensures.frame) c.in_Ok-error-in-Ok-Open.ensures.branched.1));
-      good = subst (λ s. IsAsGood s.program.now (record { own = s.program.now.rows; pool = s.pool.rows; cutoff = None }) s.domain.box (length s.scratch.row.entries) c.bound.new.node.bound c.in-Ok-Open.mark) (sym c.branch-error.ensures.frame) good.1;
-    }
+    let w = raised_work c.args.self.now.tree c.bound.new.self.tree c.args.node c.bound.new.node c.bound.new.self.tree.open_ c.bound.new.self.tree.taken c.bound.new.node.bound c.bound.ensures.tree c.bound.ensures.node c.bound.ensures.own c.bound.ensures.same in
+    let bounded = subst (IsBounded c.bound.new.self.program.now (cost_held c.bound.new.self.incumbent) (rows_lent c.bound.new.self.program.now c.bound.new.self.pool) c.bound.new.self.domain.box (length c.bound.new.self.scratch.row.entries) c.bound.new.node.bound) c.in-Ok-Open.field-0-is c.in-Ok-Open.ensures.bounded in
+    let e = subst (λ s. s.domain.box ≡ box_of c.bound.new.self.tree c.bound.new.node) (sym c.bound.ensures.frame) (c.requires.full.same ∙ sym c.bound.ensures.same) in
+    let good = subst (λ b. IsAsGood c.bound.new.self.program.now (rows_lent c.bound.new.self.program.now c.bound.new.self.pool) b (length c.bound.new.self.scratch.row.entries) c.bound.new.node.bound c.in-Ok-Open.mark) e bounded.1 in
+    end_from c.args.self.now.tree c.bound.new.self.tree c.args.node c.bound.new.node w c.branch-error.new.self.program.now (cost_held c.branch-error.new.self.incumbent) (rows_lent c.branch-error.new.self.program.now c.branch-error.new.self.pool) (length c.branch-error.new.self.scratch.row.entries) c.branch-error.new.self.tree c.in-Ok-Open.mark c.in_Ok-error-in-Ok-Open.end
+    (c.in_Ok-error-in-Ok-Open.ensures.end c.in-Ok-Open.mark good)
+
+pub returns-clause-ready : goal.returns-clause-ready
+returns-clause-ready c =
+    ready_tree c.bound.new.self c.branch-error.new.self c.branch-error.ensures.frame
+    (ready_from c.args.self.now c.bound.new.self c.bound.ensures.frame c.bound.ensures.place c.bound.ensures.holding c.bound.ensures.no_dearer c.requires.ready)

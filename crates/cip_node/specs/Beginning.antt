@@ -1,0 +1,36 @@
+-- What a search begins with.
+use Rattle.std.specs.Prelude.{◌≡◌, ◌^◌, All, Option, None, Some, IfSome, option_map, pos}
+use Rattle.cip_rational.specs.Rational.{ℚ, integer, ceil, absolute, ◌<ℚ◌}
+use Rattle.cip_problem.specs.Program.{Sides, Program}
+use Rattle.cip_cuts.specs.Cuts.{HasWholeCosts}
+use Rattle.cip_lin.specs.declared.outcomes.Least.{Least}
+use Rattle.cip_lin.specs.declared.outcomes.Least.TheVariants.{Value, NoBound, Wide}
+use Rattle.cip_model.specs.Least.{least_cost_from}
+
+-- a least cost, if it has a value
+abbrev pub value_of : Least → Option ℚ
+value_of (Value value) = Some value
+value_of NoBound = None
+value_of Wide = None
+
+-- the box bound of a program, none where a side is open or a sum of it overflows
+abbrev pub root_value : Program → Option ℚ
+root_value program = value_of (least_cost_from program.constant program.costs program.bounds)
+
+-- the bound of the root: the box bound, rounded up where the cost of each point with whole values on whole columns is
+pub record IsRootBound (program : Program) (start : Option ℚ) : Type 0 where
+  pub whole : HasWholeCosts program → start ≡ option_map (λ bound. integer (ceil bound)) (root_value program)
+  pub plain : ¬ HasWholeCosts program → start ≡ root_value program
+
+-- a side, where it is there, has a size below 10^20
+abbrev pub IsNear : Option ℚ → Type 0
+IsNear side = IfSome side (λ value. absolute value <ℚ integer (pos (10 ^ 20)))
+
+-- so have both sides of a column
+pub record HasNearSides (sides : Sides) : Type 0 where
+  pub low : IsNear sides.low
+  pub high : IsNear sides.high
+
+-- so have the sides of all columns
+abbrev pub AreNearColumns : Program → Type 0
+AreNearColumns program = All HasNearSides program.bounds

@@ -1,0 +1,106 @@
+//! What a search begins with.
+ghost use Rattle.std.specs.Prelude.{◌≡◌, [], None, IfOk, IfSome, MatchBool};
+ghost use Rattle.cip_problem.specs.WellFormed.{columns};
+ghost use Rattle.cip_cuts.specs.Cuts.{HasWholeCosts};
+ghost use Rattle.cip_cuts.specs.Improving.{IsBoundIn};
+ghost use Rattle.cip_incumbent.specs.HeldPoint.{nothing_held};
+ghost use Rattle.cip_tree.specs.Moves.{IsNew};
+ghost use Rattle.cip_node.specs.Beginning.{IsRootBound, AreNearColumns};
+ghost use Rattle.cip_node.specs.Cores.{IsReady};
+ghost use Rattle.cip_node.specs.KeptNodes.{cost_held, IsKept};
+
+use crate::cores::Core;
+use cip_cert::Scratch;
+use cip_domain::DomainStore;
+use cip_frac::Frac;
+use cip_incumbent::Incumbent;
+use cip_lin::Least;
+use cip_model::Program;
+use cip_node_bounds::NodeRows;
+use cip_node_rules::{has_whole_costs, rounded_bound};
+use cip_rows::RowPool;
+use cip_tree::Tree;
+use std::alloc::{AllocError, Global};
+
+/// Whether the cost of each point with whole values on whole columns is a whole number.
+fn are_costs_whole(program: &Program) -> bool
+    ensures { MatchBool result (HasWholeCosts program.now) (¬ HasWholeCosts program.now) }
+{
+    let _columns = program.columns();
+    has_whole_costs(program.whole(), program.costs()) && program.constant().is_whole()
+}
+
+/// The box bound, rounded up where costs are whole; `None` where a side is open or a sum of it overflows.
+fn rounded_box_bound(program: &Program, whole_costs: bool) -> Option<Frac>
+    requires { MatchBool whole_costs (HasWholeCosts program.now) (¬ HasWholeCosts program.now) }
+    ensures root { IsRootBound program.now result }
+    ensures holds { IfSome result (IsBoundIn program.now None program.now.bounds) }
+{
+    let _columns = program.columns();
+    match program.box_bound(program.bounds()) {
+        Least::Value(bound) => Some(rounded_bound(bound, whole_costs)),
+        Least::NoBound | Least::Wide => None,
+    }
+}
+
+/// The bound of the root of a search: the box bound, rounded up where the cost of each point with whole values on whole
+/// columns is a whole number; `None` where a side is open or a sum of it overflows. No feasible point costs less.
+pub fn root_bound(program: &Program) -> Option<Frac>
+    ensures root { IsRootBound program.now result }
+    ensures holds { IfSome result (IsBoundIn program.now None program.now.bounds) }
+{
+    rounded_box_bound(program, are_costs_whole(program))
+}
+
+/// The tree of one open node, the root of the program.
+fn rooted_tree(alloc: Global, program: &Program) -> Result<Tree, AllocError>
+    requires near { AreNearColumns program.now }
+    ensures new { IfOk result (λ tree. IsNew tree program.now.bounds program.now.integral tree.root.bound) }
+    ensures root { IfOk result (λ tree. IsRootBound program.now tree.root.bound) }
+    ensures kept { IfOk result (λ tree. IsKept program.now tree None []) }
+{
+    let _columns = program.columns();
+    let bound = root_bound(program);
+    let root = program.bounds().copied(alloc)?;
+    Tree::new(alloc, root, program.whole(), bound)
+}
+
+impl<'a> Core<'a> {
+    /// What a search of a program begins with: its root is open, with the box bound, rounded up where all costs are
+    /// whole, or without a bound where a side is open or a sum of it overflows; the pool has no row, and no point is
+    /// held. `Err` comes where memory was refused.
+    pub fn new(alloc: Global, program: &'a Program) -> Result<Core<'a>, AllocError>
+        requires near { AreNearColumns program.now }
+        ensures ready { IfOk result IsReady }
+        ensures new { IfOk result (λ core. IsNew core.tree program.now.bounds program.now.integral core.tree.root.bound) }
+        ensures root { IfOk result (λ core. IsRootBound program.now core.tree.root.bound) }
+        ensures kept { IfOk result (λ core. IsKept program.now core.tree (cost_held core.incumbent) []) }
+        ensures whole_costs { IfOk result (λ core. MatchBool core.whole_costs (HasWholeCosts program.now)
+            (¬ HasWholeCosts program.now)) }
+        ensures held { IfOk result (λ core. core.incumbent ≡ nothing_held (columns program.now)) }
+        ensures pool { IfOk result (λ core. core.pool
+            ≡ record { columns = columns program.now; rows = []; next = 0 }) }
+        ensures program { IfOk result (λ core. core.program ≡ program.entry) }
+    {
+        let whole_costs = are_costs_whole(program);
+        let columns = program.columns();
+        let tree = rooted_tree(alloc, program)?;
+        let domain = DomainStore::new(alloc, program.bounds().copied(alloc)?);
+        let start = domain.mark();
+        let rows = NodeRows::new(alloc, program)?;
+        let scratch = Scratch::new(alloc, columns)?;
+        let incumbent = Incumbent::new(alloc, program)?;
+        Ok(Core {
+            program,
+            whole_costs,
+            pool: RowPool::new(alloc, columns),
+            cutoff: None,
+            domain,
+            start,
+            rows,
+            scratch,
+            tree,
+            incumbent,
+        })
+    }
+}
