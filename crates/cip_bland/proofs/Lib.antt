@@ -14,6 +14,7 @@ pub mod RayEnds
 pub mod RunFacts
 pub mod Searches
 pub mod SideCases
+pub mod StateEnds
 pub mod StateFacts
 pub mod StepCases
 pub mod Stretches

@@ -4,4 +4,5 @@ pub mod Headings
 pub mod MoveList
 pub mod NoRepeat
 pub mod Rule
+pub mod StateEnds
 pub mod Statements

@@ -6,6 +6,7 @@ mod steps;
 
 ghost use Rattle.cip_bland.specs.Examples.{Examples};
 ghost use Rattle.cip_bland.specs.NoRepeat.{ListsEnd, AnswersEnd};
+ghost use Rattle.cip_bland.specs.StateEnds.{EndsAreSound, NamedEndsAreEnds};
 ghost use Rattle.cip_bland.specs.Statements.{FirstIsState, MovesCanBeMade, StepsAreSound, RunsAreRight, AnswersAreRight};
 
 pub use steps::{Heading, Step};
@@ -25,6 +26,18 @@ pub fn moves_can_be_made()
 /// certificate that empties the box; and a ray keeps all sides while the cost falls along it.
 pub fn steps_are_sound()
     ensures { StepsAreSound }
+{}
+
+/// Whichever moves led to a state of a program that is an end, what the end answers is right: crossed sides, a variable
+/// outside that none repairs, no variable by which the cost falls, or one by which it falls and which has no way to a
+/// side.
+pub fn ends_are_sound()
+    ensures { EndsAreSound }
+{}
+
+/// Where the rule names an end, the state is that end.
+pub fn named_ends_are_ends()
+    ensures { NamedEndsAreEnds }
 {}
 
 /// The list of a state is the moves of the rule, all in range, up to an end, to the first move that is out of range, or
