@@ -9,3 +9,5 @@ pub mod SlackStart
 pub mod Systems
 pub mod Tabled
 pub mod WholeLists
+pub mod FreeMoves
+pub mod Held

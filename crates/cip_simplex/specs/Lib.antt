@@ -1,9 +1,11 @@
 pub mod Advances
 pub mod Certificates
+pub mod FreeMoves
 pub mod LpAnswers
 pub mod LpCode
 pub mod LpEntries
 pub mod LpShape
+pub mod Reached
 pub mod StartCode
 pub mod StartLaws
 pub mod Starts

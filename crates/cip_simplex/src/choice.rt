@@ -39,7 +39,7 @@ pub(crate) fn least_crossed(dict: &Dict) -> Option<u32>
 }
 
 /// Whether variable v is basic and outside its sides.
-fn is_outside(dict: &Dict, v: u32) -> bool
+pub(crate) fn is_outside(dict: &Dict, v: u32) -> bool
     requires { v < def.size dict.now }
     ensures { result ≡ rule.is_outside dict.now v }
 {
@@ -76,7 +76,7 @@ fn drives(dict: &Dict, entry: Frac, heading: Heading, k: u32) -> bool
 }
 
 /// Whether the basic variable i goes this way as variable k goes where it may.
-fn is_driving(dict: &Dict, i: u32, heading: Heading, k: u32) -> bool
+pub(crate) fn is_driving(dict: &Dict, i: u32, heading: Heading, k: u32) -> bool
     requires leaving { i < def.size dict.now }
     requires basic { def.is_basic dict.now i ≡ true }
     requires within { k < def.size dict.now }
@@ -111,7 +111,7 @@ pub(crate) fn least_repairing(dict: &Dict, i: u32) -> Option<u32>
 }
 
 /// Whether the cost falls as variable k goes where it may.
-fn improves(dict: &Dict, k: u32) -> bool
+pub(crate) fn improves(dict: &Dict, k: u32) -> bool
     requires { k < def.size dict.now }
     ensures { result ≡ rule.improves dict.now k }
 {

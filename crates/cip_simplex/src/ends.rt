@@ -3,6 +3,7 @@ ghost use Rattle.std.specs.Prelude.{◌≡◌, ◌+◌, ◌<◌, ◌≤◌, ◌^
 ghost use Rattle.cip_dictionary.specs.Tables.{table};
 ghost use Rattle.cip_dictionary.specs.Dictionary as def;
 ghost use Rattle.cip_bland.specs.Rule as rule;
+ghost use Rattle.cip_bland.specs.StateEnds.{IsEndAt};
 ghost use Rattle.cip_bland.specs.EndAnswers as answers;
 ghost use Rattle.cip_bland.specs.EndAnswers.{change_of, row_multiplier, answer_at};
 ghost use Rattle.cip_simplex.specs.Certificates as certificates;
@@ -213,7 +214,7 @@ fn unbounded(alloc: Global, dict: &Dict, j: u32, columns: usize) -> Result<LpAns
     Ok(LpAnswer::Unbounded { point, ray })
 }
 
-/// What a state answers at which this is the step; `Err` where memory was refused.
+/// What a state answers that is this end; `Err` where memory was refused.
 pub(crate) fn end_answer(
     alloc: Global,
     lp: &Lp,
@@ -221,7 +222,7 @@ pub(crate) fn end_answer(
     step: Step,
 ) -> Result<LpAnswer, AllocError>
     requires variables { def.size dict.now ≡ variables lp.now }
-    requires is_next { rule.next dict.now ≡ step }
+    requires is_end { IsEndAt dict.now step }
     ensures { IfOk result (IsAnswer (answer_at lp.now dict.now step)) }
 {
     let columns = lp.columns();

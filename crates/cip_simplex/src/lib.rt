@@ -3,9 +3,12 @@
 
 mod answers;
 mod begin;
+mod candidates;
 mod choice;
 mod combos;
 mod ends;
+mod greedy;
+mod greedy_steps;
 mod headings;
 mod laws;
 mod lp;
@@ -17,11 +20,14 @@ mod steps;
 mod ways;
 
 pub use answers::LpAnswer;
+pub use greedy::solve_greedily;
 pub use laws::{slack_is_first, starts_are_right};
 pub use lp::Lp;
 pub use solving::{solve, solve_from, solve_fully};
 pub use starts::Start;
 
+#[cfg(test)]
+mod greedy_tests;
 #[cfg(test)]
 mod random_tests;
 #[cfg(test)]

@@ -1,8 +1,9 @@
 //! Linear programs at random, each answer checked.
-ghost use Rattle.std.specs.Prelude.{◌<◌};
+ghost use Rattle.std.specs.Prelude.{◌≡◌, ◌<◌, length};
+ghost use Rattle.cip_simplex.specs.LpShape.{variables};
 
 use crate::slow_check::{Program, check_answer};
-use crate::{Lp, LpAnswer, Start, solve, solve_from};
+use crate::{Lp, LpAnswer, Start, solve, solve_from, solve_greedily};
 use cip_dictionary::Stand;
 use cip_frac::Frac;
 use cip_lin::{Bounds, Row, Sides, Term};
@@ -128,7 +129,29 @@ fn agree(first: &LpAnswer, second: &LpAnswer) -> bool {
     }
 }
 
-// solves from the first state and from a start at random, and checks both answers
+// a rule that makes few moves answers as the list does
+fn try_greedily(
+    alloc: Global,
+    lp: &Lp,
+    program: &Program,
+    start: &Start,
+    found: &LpAnswer,
+) -> Result<(), Fail>
+    requires { length start.now ≡ variables lp.now }
+{
+    let (first, _last) = solve_greedily(alloc, lp, start, 10000)?;
+    let Some(other) = first else {
+        return Err(Fail::new("no answer by few moves"));
+    };
+    check_answer(program, &other)?;
+    if agree(found, &other) {
+        Ok(())
+    } else {
+        Err(Fail::new("two answers by few moves"))
+    }
+}
+
+// solves from the first state and from a start at random, and checks all answers
 fn try_one(alloc: Global, random: &mut Random) -> Result<(), Fail> {
     let columns = random.below(9);
     let rows = random.rows(alloc, columns)?;
@@ -149,6 +172,7 @@ fn try_one(alloc: Global, random: &mut Random) -> Result<(), Fail> {
     if start.len() != bounds.len() + rows.len() {
         return Err(Fail::new("a start of another length"));
     }
+    try_greedily(alloc, &lp, &program, &start, &found)?;
     let (other, _last) = solve_from(alloc, &lp, &start, 10000)?;
     check_answer(&program, &other)?;
     if agree(&found, &other) {

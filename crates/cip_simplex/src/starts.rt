@@ -5,6 +5,7 @@ ghost use Rattle.cip_dictionary.specs.Dictionary as def;
 ghost use Rattle.cip_dictionary.specs.FirstState.{first_stand};
 ghost use Rattle.cip_dictionary.specs.ProgramState.{first_of_program};
 ghost use Rattle.cip_dict.specs.FirstLists.{stand_in};
+ghost use Rattle.cip_simplex.specs.LpShape.{variables};
 ghost use Rattle.cip_simplex.specs.Starts as definitions;
 
 use crate::lp::Lp;
@@ -106,7 +107,8 @@ impl Start {
     /// The start of the first state: rows are basic, and each column stands at its low side, else at its high side,
     /// else at 0. `Err` where memory was refused.
     pub fn slack(alloc: Global, lp: &Lp) -> Result<Start, AllocError>
-        ensures { IfOk result (λ start. start ≡ definitions.stands_of (first_of_program lp.now)) }
+        ensures stands { IfOk result (λ start. start ≡ definitions.stands_of (first_of_program lp.now)) }
+        ensures long { IfOk result (λ start. length start ≡ variables lp.now) }
     {
         let sides = lp.sides();
         let standing = first_stands(alloc, sides, lp.len())?;

@@ -124,7 +124,7 @@ fn carry_out(dict: &mut Dict, chosen: Move) -> Advance
 }
 
 /// The move by which j goes a way.
-fn move_by(j: u32, way: &Way) -> Move
+pub(crate) fn move_by(j: u32, way: &Way) -> Move
     ensures { result ≡ rule.move_by j way.now }
 {
     if way.variable == j {

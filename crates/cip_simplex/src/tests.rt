@@ -8,11 +8,11 @@ use cip_lin::{Bounds, Row, Sides, Term};
 use std::alloc::Global;
 use std::test::Fail;
 
-fn whole(value: i64) -> Frac {
+pub(crate) fn whole(value: i64) -> Frac {
     Frac::from(value)
 }
 
-fn between(low: i64, high: i64) -> Sides {
+pub(crate) fn between(low: i64, high: i64) -> Sides {
     Sides {
         low: Some(whole(low)),
         high: Some(whole(high)),
@@ -20,7 +20,7 @@ fn between(low: i64, high: i64) -> Sides {
 }
 
 // a row with these coefficients on the first columns
-fn row(
+pub(crate) fn row(
     alloc: Global,
     coefficients: &[i64],
     low: Option<i64>,
@@ -44,7 +44,7 @@ fn row(
 }
 
 // 2a + 3b + c <= 5, 4a + b + 2c <= 11, 3a + 4b + 2c <= 8
-fn three_rows(alloc: Global) -> Result<Vec<Row>, Fail> {
+pub(crate) fn three_rows(alloc: Global) -> Result<Vec<Row>, Fail> {
     let mut rows = Vec::new(alloc);
     rows.push(row(alloc, &[2, 3, 1], None, Some(5))?)?;
     rows.push(row(alloc, &[4, 1, 2], None, Some(11))?)?;
@@ -52,7 +52,7 @@ fn three_rows(alloc: Global) -> Result<Vec<Row>, Fail> {
     Ok(rows)
 }
 
-fn box_of(alloc: Global, columns: &[Sides]) -> Result<Bounds, Fail> {
+pub(crate) fn box_of(alloc: Global, columns: &[Sides]) -> Result<Bounds, Fail> {
     let mut bounds = Bounds::new(alloc, 0)?;
     for sides in columns {
         bounds.push(*sides)?;
@@ -89,7 +89,7 @@ fn solved_from(
     Ok(solve_from(alloc, &lp, &from, limit)?)
 }
 
-fn is_13(found: &LpAnswer) -> bool {
+pub(crate) fn is_13(found: &LpAnswer) -> bool {
     match found {
         LpAnswer::Optimal {
             point,

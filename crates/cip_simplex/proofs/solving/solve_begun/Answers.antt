@@ -18,5 +18,5 @@ returns-in_ok-slack-in-Err-OutOfRange c =
     let at = rw c.in-Err-OutOfRange.field-0-is at c.in-Err-OutOfRange.ensures in
     let same = from_out_of_range c.args.lp.now c.args.start.now c.args.limit c.in-Err-OutOfRange.field-0-0 at in (
       subst (λ (a : def.Answer). IsAnswer a (Wide c.new-moves.result)) (sym same.0) c.new-moves.ensures.items,
-      c.in_ok-slack-in-Err-OutOfRange.ensures ∙ ap stands_of (sym same.1),
+      c.in_ok-slack-in-Err-OutOfRange.ensures.stands ∙ ap stands_of (sym same.1),
     )

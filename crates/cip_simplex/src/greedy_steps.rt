@@ -1,0 +1,114 @@
+//! Steps by a rule that makes few moves.
+ghost use Rattle.std.specs.Prelude.{◌≡◌, ◌<◌, ◌^◌, IfSome};
+ghost use Rattle.cip_dictionary.specs.Dictionary as def;
+ghost use Rattle.cip_dictionary.specs.Exchange.{CanMove};
+ghost use Rattle.cip_bland.specs.Rule as rule;
+ghost use Rattle.cip_bland.specs.Statements.{IsStateOf};
+ghost use Rattle.cip_bland.specs.StateEnds.{Passes, IsInside, IsEndAt};
+ghost use Rattle.cip_simplex.specs.FreeMoves.{IsImprover, IsFreeChoice, IsFreeAdvance};
+
+use crate::candidates::{best_improving, best_repairing, worst_outside};
+use crate::choice::{least_crossed, outside_heading};
+use crate::headings::stand_ahead;
+use crate::lp::Lp;
+use crate::steps::{Advance, Choice, make, move_by};
+use crate::ways::shortest_way;
+use cip_bland::Step;
+use cip_dict::Dict;
+use cip_dictionary::Move;
+
+/// What is chosen where the basic variable i is outside its sides and leaves.
+fn pick_repair(dict: &Dict, i: u32) -> Choice
+    requires few { def.size dict.now < 2 ^ 32 }
+    requires outside { Passes dict.now (rule.is_outside dict.now) i }
+    ensures { IsFreeChoice dict.now result }
+{
+    match best_repairing(dict, i) {
+        None => Choice::Infeasible(i),
+        Some(j) => Choice::Repair(i, j, stand_ahead(outside_heading(dict, i))),
+    }
+}
+
+/// What is chosen where the values are a point.
+fn pick_improving(dict: &Dict) -> Choice
+    requires few { def.size dict.now < 2 ^ 32 }
+    requires point { IsInside dict.now }
+    ensures { IsFreeChoice dict.now result }
+{
+    match best_improving(dict) {
+        None => Choice::Optimum,
+        Some(j) => Choice::Improve(j),
+    }
+}
+
+/// What is chosen before ways are formed: while a basic variable is outside its sides, the one that is so by most
+/// leaves, and the one for which the cost rises by least enters; else the one by which the cost falls fastest enters.
+fn pick(dict: &Dict) -> Choice
+    requires { def.size dict.now < 2 ^ 32 }
+    ensures { IsFreeChoice dict.now result }
+{
+    if let Some(v) = least_crossed(dict) {
+        return Choice::Crossed(v);
+    }
+    match worst_outside(dict) {
+        Some(i) => pick_repair(dict, i),
+        None => pick_improving(dict),
+    }
+}
+
+/// Makes a move that can be made.
+fn make_chosen(dict: &mut Dict, chosen: Move) -> Advance
+    requires { CanMove dict.old chosen }
+    ensures { IsFreeAdvance dict.old dict.new result }
+{
+    if make(dict, chosen) {
+        Advance::Made(chosen)
+    } else {
+        Advance::Wide(chosen)
+    }
+}
+
+/// Makes the step of the shortest way of j, which lets the cost fall.
+fn descend(dict: &mut Dict, j: u32) -> Advance
+    requires few { def.size dict.old < 2 ^ 32 }
+    requires improver { IsImprover dict.old j }
+    ensures { IsFreeAdvance dict.old dict.new result }
+{
+    match shortest_way(dict, j) {
+        Err(wide) => Advance::Wide(wide),
+        Ok(None) => Advance::End(Step::Ray(j)),
+        Ok(Some(way)) => make_chosen(dict, move_by(j, &way)),
+    }
+}
+
+/// Makes the next step.
+fn take_chosen(dict: &mut Dict) -> Advance
+    requires { def.size dict.old < 2 ^ 32 }
+    ensures { IsFreeAdvance dict.old dict.new result }
+{
+    match pick(dict) {
+        Choice::Crossed(v) => Advance::End(Step::Crossed(v)),
+        Choice::Infeasible(i) => Advance::End(Step::Infeasible(i)),
+        Choice::Optimum => Advance::End(Step::Optimum),
+        Choice::Repair(i, j, to) => make_chosen(dict, Move::Exchange(i, j, to)),
+        Choice::Improve(j) => descend(dict, j),
+    }
+}
+
+/// Makes moves from a state of a linear program, at most so many, and answers the end that the last state is; none
+/// where a move is out of range or none may be made any more.
+pub(crate) fn descend_to_end(lp: &Lp, dict: &mut Dict, limit: u32) -> Option<Step>
+    requires { IsStateOf lp.now dict.old }
+    ensures state { IsStateOf lp.now dict.new }
+    ensures end { IfSome result (IsEndAt dict.new) }
+{
+    let _columns = lp.columns();
+    for _made in 0..limit {
+        match take_chosen(dict) {
+            Advance::Made(_) => {}
+            Advance::Wide(_) => return None,
+            Advance::End(step) => return Some(step),
+        }
+    }
+    None
+}
