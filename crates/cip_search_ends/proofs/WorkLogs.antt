@@ -36,7 +36,7 @@ marked_more (e ∷ log) (n ∷ ns) entry (inr h) = inr (marked_more log (n ∷ n
 pub none_relaxed : (program : Program) (start : Option ℚ) (marked : List ℕ) → AreRelaxed program start [] marked
 none_relaxed program start marked entry node c s n e = absurd (none_in entry c)
 
-later_given : (program : Program) (start : Option ℚ) (log : List Entry) (entry : Entry) (number : ℕ) (node : Node) → node_of (nodes_given program start log) number ≡ Some node → node_of (nodes_given program start (log ++ entry ∷ [])) number ≡ Some node
+pub later_given : (program : Program) (start : Option ℚ) (log : List Entry) (entry : Entry) (number : ℕ) (node : Node) → node_of (nodes_given program start log) number ≡ Some node → node_of (nodes_given program start (log ++ entry ∷ [])) number ≡ Some node
 later_given program start log entry number node h =
     subst (λ nodes. node_of nodes number ≡ Some node) (sym (given_more (first_node program start ∷ []) log entry))
     (node_of_kept (nodes_given program start log) (nodes_of (nodes_given program start log) entry) number node h)

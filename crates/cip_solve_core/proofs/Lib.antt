@@ -1,0 +1,11 @@
+pub mod AnswerLaws
+pub mod BegunLaws
+pub mod BoundLaws
+pub mod ComesTo
+pub mod FinishLaws
+pub mod FirstRows
+pub mod Fits
+pub mod LeastBounds
+pub mod TurnLaws
+pub mod WorkedNodes
+pub mod WorstLaws
