@@ -1,3 +1,4 @@
 pub mod NodeRows
 pub mod Relaxing
+pub mod Solving
 pub mod Telling

@@ -6,6 +6,7 @@ use Rattle.cip_problem.specs.Program.{Sides, Program}
 use Rattle.cip_linear.specs.LinearProgram.{LinearProgram, IsPoint, HasNoPoint, IsOptimal, IsRay}
 use Rattle.cip_lin.specs.declared.combos.Combo.{Combo}
 use Rattle.cip_bland.specs.EndAnswers.{Certificate, Optimal, NoPoint, OutOfRange, LimitReached, answer}
+use Rattle.cip_bland.specs.Statements.{IsRight}
 use Rattle.cip_cert.specs.Lent.{Lent, Multiples, multiples_of, count_of}
 use Rattle.cip_cert.specs.Checks.{lower_bound_of, emptied}
 use Rattle.cip_cert.specs.declared.faults.CutFault.{CutFault}
@@ -13,14 +14,11 @@ use Rattle.cip_cert.specs.declared.faults.CutFault.TheVariants.{Wide as TooWide}
 use Rattle.cip_cert.specs.declared.faults.Place.TheVariants.{Entry}
 use Rattle.cip_search.specs.Relaxation.{relaxation}
 use Rattle.cip_node_bounds.specs.NodeRows.{usable_rows, usable_ids, IsNamed}
+use Rattle.cip_node_bounds.specs.Solving.{most_moves}
 use Rattle.cip_node_bounds.specs.declared.relaxed.Mark.{Mark}
 use Rattle.cip_node_bounds.specs.declared.relaxed.Mark.TheVariants.{Wide, Limit, Refused}
 use Rattle.cip_node_bounds.specs.declared.relaxed.Relaxed.{Relaxed}
 use Rattle.cip_node_bounds.specs.declared.relaxed.Relaxed.TheVariants.{Bound, Falls, Empty, Unsolved}
-
--- the most moves of the linear program of a node
-abbrev pub most_moves : ℕ
-most_moves = 10000
 
 -- the linear program of a node with this box
 abbrev pub node_program : Program → Lent → List Sides → LinearProgram
@@ -39,16 +37,14 @@ IsCostFault program lent box columns combo cost fault =
 pub record IsOptimumFound
     (program : Program) (lent : Lent) (box : List Sides) (point : List ℚ) (combo : Combo) (cost : ℚ) : Type 0 where
   pub certificate : Certificate
-  pub answered : answer most_moves (node_program program lent box) ≡ Optimal point certificate cost
+  pub right : IsRight (node_program program lent box) (Optimal point certificate cost)
   pub named : IsNamed (length program.rows) (usable_ids box lent.pool) certificate combo
-  pub optimal : IsOptimal (node_program program lent box) point cost
 
 -- it was found that there is no point, with the combination that shows it
 pub record IsEmptinessFound (program : Program) (lent : Lent) (box : List Sides) (combo : Combo) : Type 0 where
   pub certificate : Certificate
-  pub answered : answer most_moves (node_program program lent box) ≡ NoPoint certificate
+  pub right : IsRight (node_program program lent box) (NoPoint certificate)
   pub named : IsNamed (length program.rows) (usable_ids box lent.pool) certificate combo
-  pub no_point : HasNoPoint (node_program program lent box)
 
 -- a check refuses the certificate of an optimum
 pub record RefusesOptimum

@@ -3,12 +3,10 @@ ghost use Rattle.std.specs.Prelude.{◌≡◌, ◌++◌, ◌≤◌, length, IfOk
 ghost use Rattle.cip_rational.specs.Rational.{◌+ℚ◌};
 ghost use Rattle.cip_problem.specs.WellFormed.{columns};
 ghost use Rattle.cip_problem.specs.Activity.{StandsBelow};
-ghost use Rattle.cip_bland.specs.EndAnswers.{answer};
-ghost use Rattle.cip_bland.specs.Statements.{IsRight};
-ghost use Rattle.cip_simplex.specs.LpAnswers.{IsAnswer};
 ghost use Rattle.cip_cert.specs.Lent.{lent_of, multiples_of, Fits};
 ghost use Rattle.cip_node_bounds.specs.NodeRows.{usable_rows, usable_ids, BeginWith};
-ghost use Rattle.cip_node_bounds.specs.Relaxing.{most_moves, node_program, IsCostFault, IsOptimumFound, IsEmptinessFound, IsRelaxed};
+ghost use Rattle.cip_node_bounds.specs.Solving.{IsSolved};
+ghost use Rattle.cip_node_bounds.specs.Relaxing.{node_program, IsCostFault, IsOptimumFound, IsEmptinessFound, IsRelaxed};
 
 use crate::names::name_combo;
 use crate::rows::NodeRows;
@@ -18,18 +16,21 @@ use cip_frac::Frac;
 use cip_lin::{Bounds, Combo, Row};
 use cip_model::Program;
 use cip_rows::RowPool;
-use cip_simplex::{Lp, LpAnswer, solve};
+use cip_simplex::{Lp, LpAnswer, Start, solve, solve_greedily};
 use std::alloc::{AllocError, Global};
 
-// The most moves of the linear program of a node.
+// The most moves of the linear program of a node by Bland's rule.
 const MOST_MOVES: u32 = 10_000;
+
+// And before by a rule that makes few.
+const FEW_MOVES: u32 = 2_000;
 
 /// Why the linear program of a node shows nothing.
 #[derive(Debug, Drop)]
 pub enum Mark {
-    /// These moves, the last of which is out of range.
+    /// These moves by Bland's rule, the last of which is out of range.
     Wide { moves: Vec<Move> },
-    /// As many moves as are made lead to no end.
+    /// As many moves by Bland's rule as are made lead to no end.
     Limit,
     /// This combination shows the optimum, or that there is no point, and the check refuses it, or its bound and the
     /// constant have no sum in the range, which is `Wide` past the last entry.
@@ -57,6 +58,19 @@ pub enum Relaxed {
     },
 }
 
+/// What a rule that makes few moves answers on a linear program from its first state; what Bland's list does, where that
+/// has no answer. `Err` where memory was refused.
+fn asked(alloc: Global, lp: &Lp) -> Result<LpAnswer, AllocError>
+    ensures { IfOk result (IsSolved lp.now) }
+{
+    let start = Start::slack(alloc, lp)?;
+    let (first, _last) = solve_greedily(alloc, lp, &start, FEW_MOVES)?;
+    match first {
+        Some(found) => Ok(found),
+        None => solve(alloc, lp, MOST_MOVES),
+    }
+}
+
 /// Solves a linear program of as few rows, at most so many as the limits of programs and pools allow.
 fn solved(
     alloc: Global,
@@ -68,18 +82,16 @@ fn solved(
     requires rows { rows.now ≡ program.now.rows ++ usable_rows bounds.now pool.now.rows }
     requires columns { length bounds.now ≡ columns program.now }
     requires pool { length bounds.now ≡ pool.now.columns }
-    ensures answer { IfOk result (IsAnswer (answer most_moves (record {
+    ensures { IfOk result (IsSolved (record {
       rows = rows.now;
       bounds = bounds.now;
       costs = program.now.costs;
-    }))) }
-    ensures right { IsRight (record { rows = rows.now; bounds = bounds.now; costs = program.now.costs })
-        (answer most_moves (record { rows = rows.now; bounds = bounds.now; costs = program.now.costs })) }
+    })) }
 {
     let _columns = program.columns();
     let _rows = pool.rows();
     let lp = Lp::new(rows, bounds, program.costs());
-    solve(alloc, &lp, MOST_MOVES)
+    asked(alloc, &lp)
 }
 
 /// The cost of an optimum with the constant, where the check accepts its combination and the sum is in the range.
@@ -173,9 +185,7 @@ fn judged(
     requires room { length bounds.now ≤ length scratch.old.row.entries }
     requires columns { length bounds.now ≡ columns program.now }
     requires ids { ids.now ≡ usable_ids bounds.now rows.now.pool.now }
-    requires answer { IsAnswer (answer most_moves (node_program program.now (lent_of rows.now) bounds.now)) found }
-    requires right { IsRight (node_program program.now (lent_of rows.now) bounds.now)
-        (answer most_moves (node_program program.now (lent_of rows.now) bounds.now)) }
+    requires solved { IsSolved (node_program program.now (lent_of rows.now) bounds.now) found }
     ensures relaxed { IsRelaxed program.now (lent_of rows.entry.now) bounds.now (length scratch.old.row.entries) result }
     ensures room { length scratch.new.row.entries ≡ length scratch.old.row.entries }
 {
@@ -206,10 +216,11 @@ fn judged(
 }
 
 /// Solves the linear program of a node over the rows of the program and those of the pool that may be used in its box,
-/// with at most 10,000 moves, and checks what that shows. `Bound` comes with a point of least cost and that cost with
-/// the constant, where the check accepts its combination; `Empty` where there is no point, and the check accepts that;
-/// `Falls` where the cost falls without end from a point; and `Unsolved` with its mark in all other cases. `Err` comes
-/// where memory was refused. The rows keep those of the program in front.
+/// with at most 2,000 moves by a rule that makes few and, where that has no answer, with at most 10,000 by Bland's, and
+/// checks what that shows. `Bound` comes with a point of least cost and that cost with the constant, where the check
+/// accepts its combination; `Empty` where there is no point, and the check accepts that; `Falls` where the cost falls
+/// without end from a point; and `Unsolved` with its mark in all other cases. `Err` comes where memory was refused. The
+/// rows keep those of the program in front.
 pub fn relax(
     alloc: Global,
     program: &Program,
