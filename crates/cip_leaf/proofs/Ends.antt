@@ -6,7 +6,7 @@ use Rattle.cip_rational.proofs.Linear.{linear_le}
 use Rattle.cip_problem.specs.Program.{Program}
 use Rattle.cip_problem.specs.WellFormed.{IsWellFormed, columns}
 use Rattle.cip_problem.specs.Points.{cost_of}
-use Rattle.cip_linear.specs.LinearProgram.{LinearProgram}
+use Rattle.cip_linear.specs.LinearProgram.{LinearProgram, IsOptimal}
 use Rattle.cip_bland.specs.EndAnswers as def
 use Rattle.cip_bland.specs.NoRepeat.{whole_answer}
 use Rattle.cip_bland.specs.Statements.{IsRight, ShowsOptimum}
@@ -42,28 +42,30 @@ module _ (program : Program) (leaf : List ℚ) (formed : IsWellFormed program) (
   pub optimum_point : (others : List ℚ) → EndsInOptimum program leaf others → IsPointOf program leaf (merged program.integral leaf others)
   optimum_point others e = point_back program leaf others formed is_leaf (shows others e).optimal.is_point
 
-  cheapest : (others other : List ℚ) → EndsInOptimum program leaf others → IsPointOf program leaf other → cost_of program (merged program.integral leaf others) ≤ℚ cost_of program other
-  cheapest others other e h =
-      let best = (shows others e).optimal in
+  cheapest : (others other : List ℚ) (number : ℚ) → IsOptimal linear others number → IsPointOf program leaf other → cost_of program (merged program.integral leaf others) ≤ℚ cost_of program other
+  cheapest others other number best h =
       let told = point_on program leaf other formed h in
       let xs = at_continuous program.integral other in
       let base = cost_of program (merged program.integral leaf []) in
-      let least : e.cost ≤ℚ dot linear.costs xs = best.least xs told.is_point in
-      let own : dot linear.costs others ≡ e.cost = best.cost_is in
+      let least : number ≤ℚ dot linear.costs xs = best.least xs told.is_point in
+      let own : dot linear.costs others ≡ number = best.cost_is in
       let first : cost_of program (merged program.integral leaf others) ≡ base +ℚ dot linear.costs others = cost_split program leaf others in
       let second : cost_of program (merged program.integral leaf xs) ≡ base +ℚ dot linear.costs xs = cost_split program leaf xs in
       let same : cost_of program other ≡ cost_of program (merged program.integral leaf xs) = ap (cost_of program) told.same in
       linear_le
-      (cost_of program (merged program.integral leaf others) ∷ cost_of program other ∷ cost_of program (merged program.integral leaf xs) ∷ base ∷ dot linear.costs others ∷ dot linear.costs xs ∷ e.cost ∷ [])
+      (cost_of program (merged program.integral leaf others) ∷ cost_of program other ∷ cost_of program (merged program.integral leaf xs) ∷ base ∷ dot linear.costs others ∷ dot linear.costs xs ∷ number ∷ [])
       (λ s w. omega (arith, s.le_out, s.same_out))
 
-  pub best_by : (others point : List ℚ) (cost : ℚ) → EndsInOptimum program leaf others → point ≡ merged program.integral leaf others → verdict_of program point ≡ Feasible cost → cost ≡ cost_of program point → IsBest program leaf point cost
-  best_by others point cost e p v c = record {
-    is_point = subst (IsPointOf program leaf) (sym p) (optimum_point others e);
+  pub best_on : (others point : List ℚ) (number cost : ℚ) → IsOptimal linear others number → point ≡ merged program.integral leaf others → verdict_of program point ≡ Feasible cost → cost ≡ cost_of program point → IsBest program leaf point cost
+  best_on others point number cost best p v c = record {
+    is_point = subst (IsPointOf program leaf) (sym p) (point_back program leaf others formed is_leaf best.is_point);
     found = v;
     cost_is = c;
-    least = λ other h. subst (λ t. t ≤ℚ cost_of program other) (sym (c ∙ ap (cost_of program) p)) (cheapest others other e h);
+    least = λ other h. subst (λ t. t ≤ℚ cost_of program other) (sym (c ∙ ap (cost_of program) p)) (cheapest others other number best h);
   }
+
+  pub best_by : (others point : List ℚ) (cost : ℚ) → EndsInOptimum program leaf others → point ≡ merged program.integral leaf others → verdict_of program point ≡ Feasible cost → cost ≡ cost_of program point → IsBest program leaf point cost
+  best_by others point cost e p v c = best_on others point e.cost cost (shows others e).optimal p v c
 
   -- no other verdict comes
   pub settled : (point : List ℚ) (verdict : Verdict) → IsPointOf program leaf point → verdict ≡ verdict_of program point → ((cost : ℚ) → ¬ (verdict ≡ Feasible cost)) → ((place : Place) → ¬ (verdict ≡ Wide place)) → ⊥

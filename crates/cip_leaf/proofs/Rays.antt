@@ -10,7 +10,7 @@ use Rattle.cip_problem.specs.Program.{Term, Sides, Row, Program}
 use Rattle.cip_problem.specs.WellFormed.{IsWellFormed}
 use Rattle.cip_problem.specs.Activity.{activity, value_at}
 use Rattle.cip_problem.specs.Points.{cost_of}
-use Rattle.cip_linear.specs.LinearProgram.{LinearProgram, StaysBetween, IsRay as IsLinearRay}
+use Rattle.cip_linear.specs.LinearProgram.{LinearProgram, IsPoint, StaysBetween, IsRay as IsLinearRay}
 use Rattle.cip_frac.specs.declared.operations.Wide.{Wide as Overflow}
 use Rattle.cip_frac.specs.Outcomes.{dot_from}
 use Rattle.cip_bland.specs.EndAnswers as def
@@ -138,10 +138,13 @@ module _ (program : Program) (leaf : List ℚ) (formed : IsWellFormed program) (
   endless_point : (others direction : List ℚ) → EndsInRay program leaf others direction → IsPointOf program leaf (merged program.integral leaf others)
   endless_point others direction e = point_back program leaf others formed is_leaf (shows others direction e).is_point
 
-  pub ray_of_leaf : (others direction point ray : List ℚ) → EndsInRay program leaf others direction → point ≡ merged program.integral leaf others → IsShownRay program point ray → IsRayOf program leaf point ray
-  ray_of_leaf others direction point ray e p h =
-      let there = subst (IsPointOf program leaf) (sym p) (endless_point others direction e) in
+  pub ray_on : (others point ray : List ℚ) → IsPoint linear others → point ≡ merged program.integral leaf others → IsShownRay program point ray → IsRayOf program leaf point ray
+  ray_on others point ray k p h =
+      let there = subst (IsPointOf program leaf) (sym p) (point_back program leaf others formed is_leaf k) in
       record { is_point = there; shown = h; falls = falls_along program point ray there.feasible h.is_ray }
+
+  pub ray_of_leaf : (others direction point ray : List ℚ) → EndsInRay program leaf others direction → point ≡ merged program.integral leaf others → IsShownRay program point ray → IsRayOf program leaf point ray
+  ray_of_leaf others direction point ray e p h = ray_on others point ray (shows others direction e).is_point p h
 
   at_point : (place : Place) (a : def.Answer) (others direction : List ℚ) → a ≡ def.Unbounded others direction → SumOverflows program program.constant (merged program.integral leaf others) (place_of place) → EndOverflows program leaf (place_of place) a
   at_point place a others direction e h = rw e (inl h)

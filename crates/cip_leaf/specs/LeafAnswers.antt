@@ -3,7 +3,7 @@ use Rattle.std.specs.Prelude.{◌≡◌, ℕ, List, length}
 use Rattle.cip_rational.specs.Rational.{ℚ, ◌≤ℚ◌}
 use Rattle.cip_problem.specs.Program.{Row, Program}
 use Rattle.cip_problem.specs.Points.{cost_of}
-use Rattle.cip_linear.specs.LinearProgram.{LinearProgram}
+use Rattle.cip_linear.specs.LinearProgram.{LinearProgram, IsOptimal}
 use Rattle.cip_dictionary.specs.declared.moves.Move.{Move}
 use Rattle.cip_bland.specs.EndAnswers.{Certificate, Optimal, Unbounded, OutOfRange}
 use Rattle.cip_bland.specs.NoRepeat.{whole_answer}
@@ -52,6 +52,11 @@ IsLeafAnswer program leaf (HasRay point ray) = IsRayOf program leaf point.items 
 IsLeafAnswer program leaf (Wide found) = wide_leaf.IsWideBy program leaf (shown_as found)
 
 -- ---- ends of the leaf's program
+
+-- these values are optimal in it
+pub record IsOptimalThere (program : Program) (leaf others : List ℚ) : Type 0 where
+  pub cost : ℚ
+  pub optimal : IsOptimal (program_of_leaf program leaf) others cost
 
 -- it ends in an optimum with these values
 pub record EndsInOptimum (program : Program) (leaf others : List ℚ) : Type 0 where

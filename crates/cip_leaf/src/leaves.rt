@@ -12,6 +12,7 @@ ghost use Rattle.cip_leaf.specs.LeafAnswers.{IsFirstAlong};
 ghost use Rattle.cip_leaf.specs.Parts.{IsProgramOf};
 
 use crate::answers::{LeafAnswer, Shown};
+use crate::few_moves::shown_by_few;
 use crate::first_values::first_wide;
 use crate::lists::{continuous_costs, continuous_sides, merged, new_numbers};
 use crate::rows::{RowsFault, rows_left};
@@ -151,7 +152,8 @@ fn out_of_range(alloc: Global, parts: &Parts, moves: usize) -> Result<LeafAnswer
     })
 }
 
-/// The answer on a leaf with this program; `Err` where memory was refused.
+/// The answer on a leaf with this program: what few moves show of it, and else how Bland's list ends. `Err` where memory
+/// was refused.
 fn answer_on(
     alloc: Global,
     program: &Program,
@@ -164,6 +166,9 @@ fn answer_on(
     ensures { IfOk result (IsLeafAnswer program.now wholes.now) }
 {
     let lp = Lp::new(parts.rows.as_slice(), &parts.bounds, parts.costs.as_slice());
+    if let Some(found) = shown_by_few(alloc, program, wholes, &lp)? {
+        return Ok(found);
+    }
     match solve_fully(alloc, &lp)? {
         LpAnswer::Optimal { point, .. } => optimum(alloc, program, wholes, point.as_slice()),
         LpAnswer::Infeasible { .. } => Ok(LeafAnswer::NoPoint),

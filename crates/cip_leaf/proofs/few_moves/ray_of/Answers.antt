@@ -1,0 +1,12 @@
+use Rattle.std.proofs.Common.{◌≡◌, rules}
+use Rattle.cip_leaf_programs.specs.LeafProgram.{merged}
+use Rattle.cip_model.specs.Rays.{IsShownRay}
+use Rattle.cip_leaf.proofs.Rays.{ray_on}
+use Rattle.cip_leaf.proofs.few_moves.ray_of.Goals as goal
+
+pub returns-then-check_ray : goal.returns-then-check_ray
+returns-then-check_ray c =
+    let program = c.args.program.now in
+    let p : c.in_ok-point.point.items ≡ merged program.integral c.args.leaf.now c.args.others.now = search rules in
+    let s : IsShownRay program c.in_ok-point.point.items c.in_ok-ray.ray.items = search rules in
+    ray_on program c.args.leaf.now c.whole.ensures.formed c.requires.leaf c.args.others.now c.in_ok-point.point.items c.in_ok-ray.ray.items c.requires.point p s
