@@ -69,7 +69,8 @@ pub record IsSolved (program : Program) (held : Option ℚ) (old new : Nodes) (n
 
 -- ---- split nodes
 
--- it was split by the rules, with a bound that is as good as that of its linear program, unless a mark says what that met
+-- it was split by the rules, with a bound that is as good as that of its linear program, unless a mark says what that
+-- met
 pub record IsHalved
     (program : Program) (held : Option ℚ) (lent : Lent) (room : ℕ) (old new : Nodes) (node : TakenNode)
     (mark : Option Mark) (low high : ℕ) : Type 0 where

@@ -72,7 +72,8 @@ impl<'a> Core<'a> {
     pub fn new(alloc: Global, program: &'a Program) -> Result<Core<'a>, AllocError>
         requires near { AreNearColumns program.now }
         ensures ready { IfOk result IsReady }
-        ensures new { IfOk result (λ core. IsNew core.tree program.now.bounds program.now.integral core.tree.root.bound) }
+        ensures new { IfOk result
+            (λ core. IsNew core.tree program.now.bounds program.now.integral core.tree.root.bound) }
         ensures root { IfOk result (λ core. IsRootBound program.now core.tree.root.bound) }
         ensures kept { IfOk result (λ core. IsKept program.now core.tree (cost_held core.incumbent) []) }
         ensures whole_costs { IfOk result (λ core. MatchBool core.whole_costs (HasWholeCosts program.now)

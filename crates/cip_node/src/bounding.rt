@@ -54,7 +54,10 @@ impl<'a> Core<'a> {
         ensures same { shown self.new.tree node.now ≡ shown self.old.tree node.now }
         ensures holding { IsHolding self.new.program.now self.new.incumbent }
         ensures no_dearer { IsNoDearer (cost_held self.new.incumbent) (cost_held self.old.incumbent) }
-        ensures tree { self.new.tree ≡ record self.old.tree { open_ = self.new.tree.open_; taken = self.new.tree.taken } }
+        ensures tree { self.new.tree ≡ record self.old.tree {
+          open_ = self.new.tree.open_;
+          taken = self.new.tree.taken;
+        } }
         ensures frame { self.new ≡ record self.old { tree = self.new.tree; incumbent = self.new.incumbent } }
     {
         let _columns = self.program.columns();
@@ -81,7 +84,8 @@ impl<'a> Core<'a> {
     fn raise_rounded(&self, node: &mut Node, bound: Frac)
         requires kept { IsKept self.now.program.now self.now.tree (cost_held self.now.incumbent)
             (shown self.now.tree node.old ∷ []) }
-        requires holds { IsBoundIn self.now.program.now (cost_held self.now.incumbent) (box_of self.now.tree node.old) bound }
+        requires holds { IsBoundIn self.now.program.now (cost_held self.now.incumbent)
+            (box_of self.now.tree node.old) bound }
         requires whole_costs { self.now.whole_costs ≡ true → HasWholeCosts self.now.program.now }
         ensures kept { IsKept self.now.program.now self.now.tree (cost_held self.now.incumbent)
             (shown self.now.tree node.new ∷ []) }
@@ -106,7 +110,10 @@ impl<'a> Core<'a> {
         ensures same { shown self.new.tree node.now ≡ shown self.old.tree node.now }
         ensures holding { IsHolding self.new.program.now self.new.incumbent }
         ensures no_dearer { IsNoDearer (cost_held self.new.incumbent) (cost_held self.old.incumbent) }
-        ensures tree { self.new.tree ≡ record self.old.tree { open_ = self.new.tree.open_; taken = self.new.tree.taken } }
+        ensures tree { self.new.tree ≡ record self.old.tree {
+          open_ = self.new.tree.open_;
+          taken = self.new.tree.taken;
+        } }
         ensures frame { self.new ≡ record self.old { tree = self.new.tree; incumbent = self.new.incumbent } }
     {
         match point {
@@ -143,7 +150,10 @@ impl<'a> Core<'a> {
         ensures place { IsWorkplace self.new.program.now self.new.rows.rows.items
             (length self.new.scratch.row.entries) self.new.pool.columns }
         ensures no_dearer { IsNoDearer (cost_held self.new.incumbent) (cost_held self.old.incumbent) }
-        ensures tree { self.new.tree ≡ record self.old.tree { open_ = self.new.tree.open_; taken = self.new.tree.taken } }
+        ensures tree { self.new.tree ≡ record self.old.tree {
+          open_ = self.new.tree.open_;
+          taken = self.new.tree.taken;
+        } }
         ensures frame { self.new ≡ record self.old {
           rows = self.new.rows;
           scratch = self.new.scratch;

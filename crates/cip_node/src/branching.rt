@@ -42,7 +42,8 @@ fn values_of(point: &Option<Vec<Frac>>) -> Option<&[Frac]>
 impl<'a> Core<'a> {
     /// Closes a node whose bound isn't below the cost held, and splits any other by the rules, by the point of its
     /// linear program, if there is one; then open nodes that don't matter are let go. `Err` comes where memory was
-    /// refused; the node is open again then. The bound is as good as that of the linear program, or a mark says why not.
+    /// refused; the node is open again then. With a mark that says why its bound isn't as good as that of the linear
+    /// program, if it isn't, the end is right.
     pub(crate) fn branch(
         &mut self,
         node: Node,
@@ -55,8 +56,8 @@ impl<'a> Core<'a> {
         requires box_in_work { self.old.domain.box ≡ box_of self.old.tree node }
         requires columns { length self.old.domain.box ≡ columns self.old.program.now }
         requires wholes { AllHaveWholes self.old.program.now.integral (box_of self.old.tree node) }
-        requires open_column { (column : ℕ) × IsFirstColumn (is_open_at self.old.program.now.integral self.old.domain.box)
-            (length self.old.program.now.integral) column }
+        requires open_column { (column : ℕ) × IsFirstColumn
+            (is_open_at self.old.program.now.integral self.old.domain.box) (length self.old.program.now.integral) column }
         requires values { IfSome point.now (λ values. length values.items ≡ length self.old.domain.box) }
         ensures end { (mark : Option Mark)
             → IsAsGood self.old.program.now (rows_lent self.old.program.now self.old.pool) (box_of self.old.tree node)

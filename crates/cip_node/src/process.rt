@@ -85,8 +85,9 @@ impl<'a> Core<'a> {
         }
     }
 
-    /// Works on a node that was taken up, until it has ended; what was met is told, too. The pool ages once. `Err` comes
-    /// where memory was refused; the node is open again then, with the bound that it had by then, and nothing is logged.
+    /// Works on a node that was taken up, until it has ended; what was met is told, too. The pool ages once. `Err`
+    /// comes where memory was refused; the node is open again then, with the bound that it had by then, and nothing is
+    /// logged.
     pub fn process(
         &mut self,
         alloc: Global,

@@ -53,7 +53,10 @@ impl<'a> Core<'a> {
             (λ node. IsKept self.new.program.now self.new.tree (cost_held self.new.incumbent)
             (shown self.new.tree node ∷ [])) }
         ensures ready { IsReady self.old → IsReady self.new }
-        ensures tree { self.new.tree ≡ record self.old.tree { open_ = self.new.tree.open_; taken = self.new.tree.taken } }
+        ensures tree { self.new.tree ≡ record self.old.tree {
+          open_ = self.new.tree.open_;
+          taken = self.new.tree.taken;
+        } }
         ensures frame { self.new ≡ record self.old { tree = self.new.tree } }
     {
         self.tree.next()
@@ -64,7 +67,8 @@ impl<'a> Core<'a> {
         requires kept { IsKept self.old.program.now self.old.tree (cost_held self.old.incumbent)
             (shown self.old.tree node ∷ []) }
         requires taken { IsTaken self.old.tree node }
-        requires empty { HasNoImproving self.old.program.now (cost_held self.old.incumbent) (box_of self.old.tree node) }
+        requires empty { HasNoImproving self.old.program.now (cost_held self.old.incumbent)
+            (box_of self.old.tree node) }
         ensures kept { IsKept self.new.program.now self.new.tree (cost_held self.new.incumbent) [] }
         ensures tree { self.new.tree ≡ record self.old.tree {
           taken = self.new.tree.taken;
@@ -96,28 +100,32 @@ impl<'a> Core<'a> {
         requires kept { IsKept self.old.program.now self.old.tree (cost_held self.old.incumbent)
             (shown self.old.tree node ∷ []) }
         requires taken { IsTaken self.old.tree node }
-        ensures again { IsOpenAgain self.new.program.now (cost_held self.new.incumbent) self.old.tree self.new.tree node }
-        ensures tree { self.new.tree ≡ record self.old.tree { open_ = self.new.tree.open_; taken = self.new.tree.taken } }
+        ensures again { IsOpenAgain self.new.program.now (cost_held self.new.incumbent) self.old.tree
+            self.new.tree node }
+        ensures tree { self.new.tree ≡ record self.old.tree {
+          open_ = self.new.tree.open_;
+          taken = self.new.tree.taken;
+        } }
         ensures frame { self.new ≡ record self.old { tree = self.new.tree } }
     {
         self.tree.put_back(node);
     }
 
     /// Puts a node aside from which the cost falls without end: the log is still one of the program.
-    pub(crate) fn park_endless(&mut self, node: Node)
+    pub(crate) fn park_endless(&mut self, endless: Node)
         requires kept { IsKept self.old.program.now self.old.tree (cost_held self.old.incumbent)
-            (shown self.old.tree node ∷ []) }
-        requires taken { IsTaken self.old.tree node }
+            (shown self.old.tree endless ∷ []) }
+        requires taken { IsTaken self.old.tree endless }
         ensures logged { AllFollow self.new.program.now.integral
             (first_node self.new.program.now self.old.tree.root.bound ∷ []) [] self.new.tree.log }
         ensures tree { self.new.tree ≡ record self.old.tree {
-          parked = self.old.tree.parked ++ shown self.old.tree node ∷ [];
+          parked = self.old.tree.parked ++ shown self.old.tree endless ∷ [];
           taken = self.new.tree.taken;
-          log = self.old.tree.log ++ record { node = node.number; bound = node.bound; end = Parked } ∷ [];
+          log = self.old.tree.log ++ record { node = endless.number; bound = endless.bound; end = Parked } ∷ [];
         } }
         ensures frame { self.new ≡ record self.old { tree = self.new.tree } }
     {
-        self.tree.park(node);
+        self.tree.park(endless);
         let _log = self.tree.log();
     }
 
@@ -144,7 +152,8 @@ impl<'a> Core<'a> {
     pub(crate) fn raise(&self, node: &mut Node, bound: Frac)
         requires kept { IsKept self.now.program.now self.now.tree (cost_held self.now.incumbent)
             (shown self.now.tree node.old ∷ []) }
-        requires holds { IsBoundIn self.now.program.now (cost_held self.now.incumbent) (box_of self.now.tree node.old) bound }
+        requires holds { IsBoundIn self.now.program.now (cost_held self.now.incumbent)
+            (box_of self.now.tree node.old) bound }
         ensures kept { IsKept self.now.program.now self.now.tree (cost_held self.now.incumbent)
             (shown self.now.tree node.new ∷ []) }
         ensures node { node.new ≡ record node.old { bound = node.new.bound } }
@@ -162,7 +171,10 @@ impl<'a> Core<'a> {
     pub(crate) fn let_go(&mut self)
         requires kept { IsKept self.old.program.now self.old.tree (cost_held self.old.incumbent) [] }
         ensures kept { IsKept self.new.program.now self.new.tree (cost_held self.new.incumbent) [] }
-        ensures tree { self.new.tree ≡ record self.old.tree { open_ = self.new.tree.open_; taken = self.new.tree.taken } }
+        ensures tree { self.new.tree ≡ record self.old.tree {
+          open_ = self.new.tree.open_;
+          taken = self.new.tree.taken;
+        } }
         ensures frame { self.new ≡ record self.old { tree = self.new.tree } }
     {
         if let Some(cost) = held_cost(&self.incumbent) {
@@ -179,7 +191,10 @@ impl<'a> Core<'a> {
             (shown self.new.tree node.now ∷ []) }
         ensures taken { IsTaken self.new.tree node.now }
         ensures same { shown self.new.tree node.now ≡ shown self.old.tree node.now }
-        ensures tree { self.new.tree ≡ record self.old.tree { open_ = self.new.tree.open_; taken = self.new.tree.taken } }
+        ensures tree { self.new.tree ≡ record self.old.tree {
+          open_ = self.new.tree.open_;
+          taken = self.new.tree.taken;
+        } }
         ensures frame { self.new ≡ record self.old { tree = self.new.tree } }
     {
         if let Some(cost) = held_cost(&self.incumbent) {
@@ -221,7 +236,10 @@ impl<'a> Core<'a> {
         ensures same { shown self.new.tree node.now ≡ shown self.old.tree node.now }
         ensures holding { IsHolding self.new.program.now self.new.incumbent }
         ensures no_dearer { IsNoDearer (cost_held self.new.incumbent) (cost_held self.old.incumbent) }
-        ensures tree { self.new.tree ≡ record self.old.tree { open_ = self.new.tree.open_; taken = self.new.tree.taken } }
+        ensures tree { self.new.tree ≡ record self.old.tree {
+          open_ = self.new.tree.open_;
+          taken = self.new.tree.taken;
+        } }
         ensures frame { self.new ≡ record self.old { tree = self.new.tree; incumbent = self.new.incumbent } }
     {
         let answer = self.hold(node, point);
