@@ -47,6 +47,7 @@ fn three_columns_cost_13_in_few_moves(rt: HostRuntime) -> Result<(), Fail> {
     let (none, start) = few_moves(rt.alloc(), &program, 0)?;
     assert!(rt; none.is_none());
     assert_eq!(rt; start.len(), 6);
+    assert_eq!(rt; start.fitted(rt.alloc(), 8)?.len(), 8);
     Ok(())
 }
 

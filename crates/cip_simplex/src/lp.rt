@@ -89,7 +89,7 @@ impl<'a> Lp<'a> {
     }
 
     /// The number of columns and rows.
-    pub(crate) fn len(&self) -> usize
+    pub fn len(&self) -> usize
         ensures { result ≡ shape.variables self.now }
     {
         self.bounds.len() + self.rows.len()

@@ -92,6 +92,30 @@ impl Start {
         self.standing[v as usize]
     }
 
+    /// Where a variable is to stand; `None` where it is to be basic, or this says nothing of it.
+    fn wish(&self, v: usize) -> Option<Stand>
+        ensures { result ≡ definitions.wish self.now v }
+    {
+        if v < self.standing.len() {
+            self.standing[v]
+        } else {
+            None
+        }
+    }
+
+    /// The start of so many variables that says the same of each as this one does; of those that this one has not, that
+    /// they are to be basic. `Err` where memory was refused.
+    pub fn fitted(&self, alloc: Global, n: usize) -> Result<Start, AllocError>
+        ensures same { IfOk result (λ start. start ≡ table n (definitions.wish self.now)) }
+        ensures long { IfOk result (λ start. length start ≡ n) }
+    {
+        let mut standing = Vec::new(alloc);
+        for v in 0..n {
+            standing.push(self.wish(v))?;
+        }
+        Ok(Start { standing })
+    }
+
     /// Where the variables are at a state; `Err` where memory was refused.
     pub(crate) fn at(alloc: Global, dict: &Dict) -> Result<Start, AllocError>
         requires { def.size dict.now < 2 ^ 32 }

@@ -1,0 +1,16 @@
+use Rattle.std.proofs.Common.{◌≡◌, arith, length, ◌∙◌, ◌++◌, ◌∷◌, [], sym, ap, ap₂}
+use Rattle.cip_dictionary.proofs.Tables.{length-table}
+use Rattle.cip_dict.proofs.Grown.{table_none, table_more}
+use Rattle.cip_simplex.specs.Starts.{wish}
+use Rattle.cip_simplex.proofs.starts.Start.fitted.Goals as goal
+
+pub loop-v-init : goal.loop-v-init
+loop-v-init c = c.new-standing.ensures.items ∙ table_none _
+
+pub loop-v-preserved : goal.loop-v-preserved
+loop-v-preserved c = c.in_ok-push.ensures.items ∙ ap₂ (λ xs x. xs ++ x ∷ []) c.loop-v.invariant c.wish.ensures ∙ sym (table_more c.loop-v.v _)
+
+pub returns-clause-long : goal.returns-clause-long
+returns-clause-long c =
+    let e : c.loop-v.v ≡ c.args.n = omega arith in
+    ap length c.loop-v.invariant ∙ length-table c.loop-v.v (wish c.args.self.now) ∙ e
