@@ -1,3 +1,4 @@
 pub mod Lists
 pub mod Solvable
+pub mod Solving
 pub mod Told

@@ -8,6 +8,7 @@ ghost use Rattle.cip_node_bounds.specs.NodeRows.{usable_rows, usable_ids, BeginW
 ghost use Rattle.cip_node_bounds.specs.Solving.{IsSolved};
 ghost use Rattle.cip_node_bounds.specs.Relaxing.{node_program, IsCostFault, IsOptimumFound, IsEmptinessFound, IsRelaxed};
 
+use crate::asking::asked;
 use crate::names::name_combo;
 use crate::rows::NodeRows;
 use cip_cert::{CutFault, Place, Rows, Scratch, empties, lower_bound};
@@ -16,14 +17,8 @@ use cip_frac::Frac;
 use cip_lin::{Bounds, Combo, Row};
 use cip_model::Program;
 use cip_rows::RowPool;
-use cip_simplex::{Lp, LpAnswer, Start, solve, solve_greedily};
+use cip_simplex::{Lp, LpAnswer, Start};
 use std::alloc::{AllocError, Global};
-
-// The most moves of the linear program of a node by Bland's rule.
-const MOST_MOVES: u32 = 10_000;
-
-// And before by a rule that makes few.
-const FEW_MOVES: u32 = 2_000;
 
 /// Why the linear program of a node shows nothing.
 #[derive(Debug, Drop)]
@@ -58,19 +53,6 @@ pub enum Relaxed {
     },
 }
 
-/// What a rule that makes few moves answers on a linear program from its first state; what Bland's list does, where that
-/// has no answer. `Err` where memory was refused.
-fn asked(alloc: Global, lp: &Lp) -> Result<LpAnswer, AllocError>
-    ensures { IfOk result (IsSolved lp.now) }
-{
-    let start = Start::slack(alloc, lp)?;
-    let (first, _last) = solve_greedily(alloc, lp, &start, FEW_MOVES)?;
-    match first {
-        Some(found) => Ok(found),
-        None => solve(alloc, lp, MOST_MOVES),
-    }
-}
-
 /// Solves a linear program of as few rows, at most so many as the limits of programs and pools allow.
 fn solved(
     alloc: Global,
@@ -78,20 +60,21 @@ fn solved(
     pool: &RowPool,
     rows: &[Row],
     bounds: &Bounds,
-) -> Result<LpAnswer, AllocError>
+    start: Option<&Start>,
+) -> Result<(LpAnswer, Start), AllocError>
     requires rows { rows.now ≡ program.now.rows ++ usable_rows bounds.now pool.now.rows }
     requires columns { length bounds.now ≡ columns program.now }
     requires pool { length bounds.now ≡ pool.now.columns }
-    ensures { IfOk result (IsSolved (record {
+    ensures { IfOk result (λ solved. IsSolved (record {
       rows = rows.now;
       bounds = bounds.now;
       costs = program.now.costs;
-    })) }
+    }) solved.0) }
 {
     let _columns = program.columns();
     let _rows = pool.rows();
     let lp = Lp::new(rows, bounds, program.costs());
-    asked(alloc, &lp)
+    asked(alloc, &lp, start)
 }
 
 /// The cost of an optimum with the constant, where the check accepts its combination and the sum is in the range.
@@ -215,6 +198,44 @@ fn judged(
     }
 }
 
+/// Solves the linear program of a node as `relax` does, but from a start: that of a node above, as its last one. Rows
+/// behind those that it knows are basic, and of one that knows more the others are passed over. Where few moves from
+/// there have no answer, the linear program is solved from the first state. Beside what it came to stands where the
+/// variables are then, to be the start of the nodes below. `Err` comes where memory was refused.
+pub fn relax_from(
+    alloc: Global,
+    program: &Program,
+    pool: &RowPool,
+    cutoff: &Option<Row>,
+    bounds: &Bounds,
+    start: Option<&Start>,
+    rows: &mut NodeRows,
+    scratch: &mut Scratch,
+) -> Result<(Relaxed, Start), AllocError>
+    requires own { BeginWith program.now rows.old.rows.items }
+    requires columns { length bounds.now ≡ columns program.now }
+    requires pool { length bounds.now ≡ pool.now.columns }
+    requires cutoff { IfSome cutoff.now (λ row. StandsBelow (length bounds.now) row.terms) }
+    requires room { length bounds.now ≤ length scratch.old.row.entries }
+    ensures relaxed { IfOk result (λ solved. IsRelaxed program.now
+        (record { own = program.now.rows; pool = pool.now.rows; cutoff = cutoff.now }) bounds.now
+        (length scratch.old.row.entries) solved.0) }
+    ensures own { BeginWith program.now rows.new.rows.items }
+    ensures room { length scratch.new.row.entries ≡ length scratch.old.row.entries }
+{
+    let _columns = program.columns();
+    rows.gather(alloc, program, pool, bounds)?;
+    let (found, last) = solved(alloc, program, pool, rows.rows.as_slice(), bounds, start)?;
+    let lent = Rows {
+        own: program.rows(),
+        pool: pool.rows(),
+        cutoff,
+        whole: program.whole(),
+    };
+    let relaxed = judged(&lent, program, rows.ids.as_slice(), bounds, found, scratch);
+    Ok((relaxed, last))
+}
+
 /// Solves the linear program of a node over the rows of the program and those of the pool that may be used in its box,
 /// with at most 2,000 moves by a rule that makes few and, where that has no answer, with at most 10,000 by Bland's, and
 /// checks what that shows. `Bound` comes with a point of least cost and that cost with the constant, where the check
@@ -241,14 +262,6 @@ pub fn relax(
     ensures own { BeginWith program.now rows.new.rows.items }
     ensures room { length scratch.new.row.entries ≡ length scratch.old.row.entries }
 {
-    let _columns = program.columns();
-    rows.gather(alloc, program, pool, bounds)?;
-    let found = solved(alloc, program, pool, rows.rows.as_slice(), bounds)?;
-    let lent = Rows {
-        own: program.rows(),
-        pool: pool.rows(),
-        cutoff,
-        whole: program.whole(),
-    };
-    Ok(judged(&lent, program, rows.ids.as_slice(), bounds, found, scratch))
+    let (relaxed, _last) = relax_from(alloc, program, pool, cutoff, bounds, None, rows, scratch)?;
+    Ok(relaxed)
 }
