@@ -49,7 +49,7 @@ fn descend_from(
 /// come back to a state, there are at most so many. There is no answer where the first state or a move is out of range,
 /// or as many moves lead to no end: then nothing is said of the program, and another rule is to be asked. Beside it
 /// stands where the variables are at the last state in range; at the first state, where that isn't. `Err` where memory
-/// was refused.
+/// was refused, or the dictionary would have more than 2^25 entries.
 pub fn solve_greedily(
     alloc: Global,
     lp: &Lp,

@@ -1,8 +1,8 @@
 //! Linear programs worked out by hand, solved with few moves.
 use crate::slow_check::{Program, check_answer};
 use crate::tests::{between, box_of, is_13, row, three_rows, whole};
-use crate::{Lp, LpAnswer, Start, solve_greedily};
-use cip_lin::Sides;
+use crate::{Lp, LpAnswer, Start, solve_fully, solve_greedily};
+use cip_lin::{Row, Sides};
 use std::alloc::Global;
 use std::test::Fail;
 
@@ -84,5 +84,31 @@ fn a_cost_falls_without_end_in_few_moves(rt: HostRuntime) -> Result<(), Fail> {
     };
     let found = answered(rt.alloc(), &program)?;
     assert!(rt; matches!(&found, LpAnswer::Unbounded { point: _, ray: _ }));
+    Ok(())
+}
+
+// whether memory is refused for it
+fn is_refused(alloc: Global, program: &Program) -> Result<bool, Fail> {
+    if !Lp::is_solvable(program.rows, program.bounds, program.costs) {
+        return Err(Fail::new("no linear program"));
+    }
+    let lp = Lp::new(program.rows, program.bounds, program.costs);
+    Ok(solve_fully(alloc, &lp).is_err())
+}
+
+// 5,800 rows on as many rows
+#[test]
+fn too_many_entries_are_refused(rt: HostRuntime) -> Result<(), Fail> {
+    let mut rows = Vec::new(rt.alloc());
+    for _ in 0..5800 {
+        rows.push(Row::empty(rt.alloc(), None, None))?;
+    }
+    let bounds = box_of(rt.alloc(), &[])?;
+    let program = Program {
+        rows: &rows,
+        bounds: &bounds,
+        costs: &[],
+    };
+    assert!(rt; is_refused(rt.alloc(), &program)?);
     Ok(())
 }
