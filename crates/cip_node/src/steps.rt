@@ -12,6 +12,7 @@ ghost use Rattle.cip_cuts.specs.Improving.{IsBoundIn, HasNoImproving, IsNoDearer
 ghost use Rattle.cip_leaves.specs.Searched.{first_node, NoMore};
 ghost use Rattle.cip_leaf_programs.specs.WideLeaf.{IsWideLeaf};
 ghost use Rattle.cip_search.specs.SearchState.{stay, IsStuck};
+ghost use Rattle.cip_tree.specs.Moves.{TakesFirst};
 ghost use Rattle.cip_tree.specs.Nodes.{IsTaken, box_of, shown};
 ghost use Rattle.cip_node.specs.KeptNodes.{cost_held, farthest, IsKept, IsHolding};
 ghost use Rattle.cip_node.specs.Cores.{IsReady};
@@ -48,6 +49,7 @@ impl<'a> Core<'a> {
     pub fn take(&mut self) -> Option<Node>
         requires kept { IsKept self.old.program.now self.old.tree (cost_held self.old.incumbent) [] }
         ensures taken { MatchOption result (self.old.tree.open_ ≡ []) (IsTaken self.new.tree) }
+        ensures first { MatchOption result (self.new.tree ≡ self.old.tree) (TakesFirst self.old.tree self.new.tree) }
         ensures kept { MatchOption result
             (IsKept self.new.program.now self.new.tree (cost_held self.new.incumbent) [])
             (λ node. IsKept self.new.program.now self.new.tree (cost_held self.new.incumbent)
