@@ -1,5 +1,6 @@
 pub mod Bounded
 pub mod ModelTexts
+pub mod NearSides
 pub mod Pulled
 pub mod Readings
 pub mod LineTextsRead

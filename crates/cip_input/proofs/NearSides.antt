@@ -1,0 +1,215 @@
+-- The sides of the columns of a text are near: a bound of a size of 10^20 or more is none.
+use Rattle.std.proofs.Common.{◌≡◌, ℕ, ◌^◌, Bool, true, false, cond, not, ◌&&◌, List, [], ◌∷◌, ◌++◌, Option, None, Some, refl, sym, subst}
+use Rattle.std.specs.Prelude.{All, pos, fold}
+use Rattle.std.specs.List.{AllByRecursion}
+use Rattle.std.specs.Str.{bytes_eq}
+use Rattle.std.proofs.lemmas.Bool.{cond_both}
+use Rattle.std.proofs.lemmas.List.Elements.{All-map}
+use Rattle.cip_rational.specs.Rational.{ℚ, integer, absolute, ratio, whole, negate, zeroℚ, oneℚ, ◌<ℚ◌, le_test, lt_test}
+use Rattle.cip_rational.proofs.Rational.Order.{lt_of_le_test}
+use Rattle.cip_syntax.specs.Lines.{Record, Section, Entry, lines}
+use Rattle.cip_number_text.specs.Numeral.{Numeral, Exact, NotANumber, Huge, TooFine, value_of, numeral_of, is_minus}
+use Rattle.cip_mps_rules.specs.MpsWords.{Part, NoPart, Title, Sense, Rows, Columns, RightSides, Ranges, Bounds, End, BoundKind, Low, High, Fixed, WholeLow, WholeHigh, Unbounded, NoLow, NoHigh, Binary, SemiContinuous, section_of, bound_kind_of, has_value, marker_of, is_infinity, is_negative, near_or_huge, bound_number}
+use Rattle.cip_mps_rules.specs.MpsSayings.{Saying, Skipped, Misplaced, ColumnLine, RightSideLine, RangeLine, BoundLine, Place, opening, section_said, sense_said, row_said, one_value, two_values, is_marker, marker_said, column_said, of_set, right_side_said, range_said, no_value, valued_bound, plain_bound, typed_bound, bound_said, fields_said, said, place_after, Numbered, records_from, Said, sayings_from, no_place}
+use Rattle.cip_mps_rules.specs.MpsFacts.{GivenColumn, GivenBound, Facts, no_facts, facts_with, bounds_in}
+use Rattle.cip_mps_rules.specs.MpsBounds.{Bounded, unbounded, with_bound, bounded_by, settled, bounds_of, all_bounds, column_sides}
+use Rattle.cip_mps_rules.specs.MpsProgram.{program_of}
+use Rattle.cip_mps_rules.specs.MpsStatements.{facts_after}
+use Rattle.cip_mps_steps.specs.MpsStepStatements.{is_far_value, ValuesAreTested}
+use Rattle.cip_input.specs.LimitedModels.{IsNear, HasNearSides}
+
+-- ---- 0 and 1
+
+zero_near : absolute zeroℚ <ℚ integer (pos (10 ^ 20))
+unfolding absolute lt_test le_test integer ratio whole negate zeroℚ
+zero_near = record { lt = tt }
+
+one_near : absolute oneℚ <ℚ integer (pos (10 ^ 20))
+unfolding absolute lt_test le_test integer ratio whole negate zeroℚ oneℚ
+one_near = record { lt = tt }
+
+nothing_near : absolute (ratio (pos 0) 1) <ℚ integer (pos (10 ^ 20))
+unfolding absolute lt_test le_test integer ratio whole negate zeroℚ
+nothing_near = record { lt = tt }
+
+-- ---- the value of a bound
+
+far_or_near : (far : Bool) (value : ℚ) → is_far_value value ≡ far → IsNear (cond far None (Some value))
+far_or_near true value e = tt
+far_or_near false value e = lt_of_le_test e
+
+none_near : (numeral : Numeral) → value_of numeral ≡ None → IsNear (value_of (near_or_huge numeral))
+none_near (Exact negative size below) e = absurd (cc)
+none_near NotANumber e = tt
+none_near (Huge negative) e = tt
+none_near TooFine e = tt
+
+near_of : (v : ValuesAreTested) (text : List ℕ) (o : Option ℚ) → value_of (numeral_of text) ≡ o → IsNear (value_of (near_or_huge (numeral_of text)))
+near_of v text None e = none_near (numeral_of text) e
+near_of v text (Some value) e = subst IsNear (sym (v.bound text value e)) (far_or_near (is_far_value value) value refl)
+
+bound_near : (v : ValuesAreTested) (text : List ℕ) → IsNear (value_of (bound_number text))
+bound_near v text =
+    cond_both (is_infinity text) (Huge (is_minus text)) (near_or_huge (numeral_of text)) (λ numeral. IsNear (value_of numeral))
+    (λ _. tt) (λ _. near_of v text (value_of (numeral_of text)) refl)
+
+-- ---- what lines say
+
+abbrev AreNear : List GivenBound → Type 0
+AreNear bounds = AllByRecursion (λ bound. IsNear (value_of bound.value)) bounds
+
+abbrev Near : Saying → Type 0
+Near saying = AreNear (bounds_in saying)
+
+set_near : (first : Option (List ℕ)) (set_name : List ℕ) (saying : Saying) → Near saying → Near (of_set first set_name saying)
+set_near None set_name saying h = h
+set_near (Some f) set_name saying h = cond_both (bytes_eq f set_name) saying Skipped Near (λ _. h) (λ _. tt)
+
+section_near : (words : List (List ℕ)) → Near (section_said words)
+section_near [] = tt
+section_near (word ∷ words) = go (section_of word)
+  where
+    go : (part : Option Part) → Near (opening part words)
+    go None = tt
+    go (Some part) = tt
+
+marker_near : (marker : Option Bool) → Near (marker_said marker)
+marker_near None = tt
+marker_near (Some begins) = tt
+
+sense_near : (words : List (List ℕ)) → Near (sense_said words)
+sense_near (word ∷ []) = tt
+sense_near other = tt
+
+row_near : (words : List (List ℕ)) → Near (row_said words)
+row_near (kind ∷ name ∷ []) = tt
+row_near other = tt
+
+column_near : (whole : Bool) (words : List (List ℕ)) → Near (column_said whole words)
+column_near whole (column ∷ row ∷ text ∷ []) =
+    cond_both (is_marker row text) (marker_said (marker_of text)) (ColumnLine column whole (one_value row text)) Near
+    (λ _. marker_near (marker_of text)) (λ _. tt)
+column_near whole (column ∷ row ∷ text ∷ other_row ∷ other_text ∷ []) = tt
+column_near whole other = tt
+
+right_side_near : (first : Option (List ℕ)) (words : List (List ℕ)) → Near (right_side_said first words)
+right_side_near first (row ∷ text ∷ []) = set_near first [] (RightSideLine [] (one_value row text)) tt
+right_side_near first (set_name ∷ row ∷ text ∷ []) = set_near first set_name (RightSideLine set_name (one_value row text)) tt
+right_side_near first (row ∷ text ∷ other_row ∷ other_text ∷ []) = set_near first [] (RightSideLine [] (two_values row text other_row other_text)) tt
+right_side_near first (set_name ∷ row ∷ text ∷ other_row ∷ other_text ∷ []) = set_near first set_name (RightSideLine set_name (two_values row text other_row other_text)) tt
+right_side_near first other = tt
+
+range_near : (first : Option (List ℕ)) (words : List (List ℕ)) → Near (range_said first words)
+range_near first (row ∷ text ∷ []) = set_near first [] (RangeLine [] (one_value row text)) tt
+range_near first (set_name ∷ row ∷ text ∷ []) = set_near first set_name (RangeLine set_name (one_value row text)) tt
+range_near first (row ∷ text ∷ other_row ∷ other_text ∷ []) = set_near first [] (RangeLine [] (two_values row text other_row other_text)) tt
+range_near first (set_name ∷ row ∷ text ∷ other_row ∷ other_text ∷ []) = set_near first set_name (RangeLine set_name (two_values row text other_row other_text)) tt
+range_near first other = tt
+
+valued_near : (v : ValuesAreTested) (first : Option (List ℕ)) (kind : BoundKind) (words : List (List ℕ)) → Near (valued_bound first kind words)
+valued_near v first kind (column ∷ text ∷ []) = set_near first [] (BoundLine kind [] column (bound_number text)) (bound_near v text, tt)
+valued_near v first kind (set_name ∷ column ∷ text ∷ []) = set_near first set_name (BoundLine kind set_name column (bound_number text)) (bound_near v text, tt)
+valued_near v first kind other = tt
+
+plain_near : (first : Option (List ℕ)) (kind : BoundKind) (words : List (List ℕ)) → Near (plain_bound first kind words)
+plain_near first kind (column ∷ []) = set_near first [] (BoundLine kind [] column no_value) (nothing_near, tt)
+plain_near first kind (set_name ∷ column ∷ []) = set_near first set_name (BoundLine kind set_name column no_value) (nothing_near, tt)
+plain_near first kind (set_name ∷ column ∷ text ∷ []) = set_near first set_name (BoundLine kind set_name column no_value) (nothing_near, tt)
+plain_near first kind other = tt
+
+typed_near : (v : ValuesAreTested) (first : Option (List ℕ)) (kind : Option BoundKind) (words : List (List ℕ)) → Near (typed_bound first kind words)
+typed_near v first None words = tt
+typed_near v first (Some kind) words =
+    cond_both (has_value kind) (valued_bound first kind words) (plain_bound first kind words) Near
+    (λ _. valued_near v first kind words) (λ _. plain_near first kind words)
+
+bounds_near : (v : ValuesAreTested) (first : Option (List ℕ)) (words : List (List ℕ)) → Near (bound_said first words)
+bounds_near v first [] = tt
+bounds_near v first (kind ∷ words) = typed_near v first (bound_kind_of kind) words
+
+fields_near : (v : ValuesAreTested) (part : Part) (place : Place) (words : List (List ℕ)) → Near (fields_said part place words)
+fields_near v NoPart place words = tt
+fields_near v Title place words = tt
+fields_near v Sense place words = cond_both place.sensed Misplaced (sense_said words) Near (λ _. tt) (λ _. sense_near words)
+fields_near v Rows place words = row_near words
+fields_near v Columns place words = column_near place.whole words
+fields_near v RightSides place words = right_side_near place.set_name words
+fields_near v Ranges place words = range_near place.set_name words
+fields_near v Bounds place words = bounds_near v place.set_name words
+fields_near v End place words = tt
+
+said_near : (v : ValuesAreTested) (place : Place) (content : Record) → Near (said place content)
+said_near v place (Section words) = section_near words
+said_near v place (Entry words) = fields_near v place.part place words
+
+sayings_near : (v : ValuesAreTested) (place : Place) (records : List Numbered) → AllByRecursion (λ (now : Said). Near now.saying) (sayings_from place records)
+sayings_near v place [] = tt
+sayings_near v place (r ∷ rs) = (said_near v place r.content, sayings_near v (place_after place (said place r.content)) rs)
+
+-- ---- the facts
+
+all_front : {X : Type 0} (P : X → Type 0) (xs ys : List X) → AllByRecursion P (xs ++ ys) → AllByRecursion P xs
+all_front P [] ys h = tt
+all_front P (x ∷ xs) ys h = (h.0, all_front P xs ys h.1)
+
+all_both : {X : Type 0} (P : X → Type 0) (xs ys : List X) → AllByRecursion P xs → AllByRecursion P ys → AllByRecursion P (xs ++ ys)
+all_both P [] ys h k = k
+all_both P (x ∷ xs) ys h k = (h.0, all_both P xs ys h.1 k)
+
+near_after : (said : List Said) (facts : Facts) → AreNear facts.bounds → AllByRecursion (λ (now : Said). Near now.saying) said → AreNear (facts_after facts said).bounds
+near_after [] facts h s = h
+near_after (now ∷ others) facts h s =
+    near_after others (facts_with facts now.saying)
+    (all_both (λ (bound : GivenBound). IsNear (value_of bound.value)) facts.bounds (bounds_in now.saying) h s.0) s.1
+
+-- ---- the sides of a column
+
+record NearBounded (b : Bounded) : Type 0 where
+  low : IsNear b.low
+  high : IsNear b.high
+
+opened : (away : Bool) (side : Option ℚ) → IsNear side → IsNear (cond away None side)
+opened true side h = tt
+opened false side h = h
+
+with_near : (b : Bounded) (kind : BoundKind) (value : Numeral) → NearBounded b → IsNear (value_of value) → NearBounded (with_bound b kind value)
+with_near b Low value n v = record { low = v; high = n.high }
+with_near b High value n v = record { low = opened (is_negative value && not b.low_set) b.low n.low; high = v }
+with_near b WholeLow value n v = record { low = v; high = n.high }
+with_near b WholeHigh value n v = record { low = opened (is_negative value && not b.low_set) b.low n.low; high = v }
+with_near b Fixed value n v = record { low = v; high = v }
+with_near b Unbounded value n v = record { low = tt; high = tt }
+with_near b NoLow value n v = record { low = tt; high = n.high }
+with_near b NoHigh value n v = record { low = n.low; high = tt }
+with_near b Binary value n v = record { low = zero_near; high = one_near }
+with_near b SemiContinuous value n v = n
+
+by_near : (column : List ℕ) (b : Bounded) (bound : GivenBound) → NearBounded b → IsNear (value_of bound.value) → NearBounded (bounded_by column b bound)
+by_near column b bound n v =
+    cond_both (bytes_eq column bound.column) (with_bound b bound.kind bound.value) b NearBounded
+    (λ _. with_near b bound.kind bound.value n v) (λ _. n)
+
+fold_near : (column : List ℕ) (bounds : List GivenBound) (b : Bounded) → AreNear bounds → NearBounded b → NearBounded (fold (bounded_by column) b bounds)
+fold_near column [] b h n = n
+fold_near column (bound ∷ bounds) b h n = fold_near column bounds (bounded_by column b bound) h.1 (by_near column b bound n h.0)
+
+settled_near : (b : Bounded) → NearBounded b → NearBounded (settled b)
+settled_near b n =
+    cond_both (b.whole && not b.named) (record b { low = Some zeroℚ; high = Some oneℚ }) b NearBounded
+    (λ _. record { low = zero_near; high = one_near }) (λ _. n)
+
+column_near_of : (facts : Facts) (column : GivenColumn) → AreNear facts.bounds → HasNearSides (column_sides (bounds_of facts column))
+column_near_of facts column h =
+    let n = settled_near _ (fold_near column.name facts.bounds (unbounded column.whole) h (record { low = zero_near; high = tt })) in
+    record { low = n.low; high = n.high }
+
+-- ---- the program
+
+pub sides_near : (v : ValuesAreTested) (text : List ℕ) (before : List Said) (now : Said) (after : List Said) → sayings_from no_place (records_from 1 (lines text)) ≡ before ++ now ∷ after → All HasNearSides (program_of (facts_after no_facts before)).bounds
+sides_near v text before now after e =
+    let all = sayings_near v no_place (records_from 1 (lines text)) in
+    let front = all_front (λ (now : Said). Near now.saying) before (now ∷ after) (subst (AllByRecursion (λ (now : Said). Near now.saying)) e all) in
+    let near : AreNear (facts_after no_facts before).bounds = near_after before no_facts tt front in
+    let facts = facts_after no_facts before in
+    All-map HasNearSides column_sides (all_bounds facts)
+    (All-map (λ (b : Bounded). HasNearSides (column_sides b)) (bounds_of facts) facts.columns (λ k d l. column_near_of facts _ near))
