@@ -22,12 +22,12 @@ use Rattle.cip_model.specs.Verdicts.{verdict_of}
 use Rattle.cip_main.specs.declared.refusals.TextFault.{TextFault}
 use Rattle.cip_main.specs.declared.refusals.TextFault.TheVariants.{Model, Blocks, Point}
 use Rattle.cip_answers.specs.Figures.{NodeLimit, NoMemory as LacksMemory, exit_status}
-use Rattle.cip_solve.proofs.AnswerLaws.{budget_suffices}
+use Rattle.cip_headline.specs.Headline.{IsSpent, EndsWith}
+use Rattle.cip_headline.proofs.Ends.{budgets_suffice}
 use Rattle.cip_main.specs.declared.plain.Plain.{Plain}
 use Rattle.cip_main.specs.declared.plain.Plain.TheVariants.{Usage, ReadFault, Refused, NoMemory}
 use Rattle.cip_main.specs.Answering.{IsLogged}
 use Rattle.cip_main.specs.Checking.{checked}
-use Rattle.cip_main.specs.Headline.{IsSpent, EndsWith}
 use Rattle.cip_main.specs.Plain.{plain_status}
 use Rattle.cip_main.specs.Running.{Call, IsStoreSound, IsSinkSound, GivesPlain, IsAnswered, IsChecked, TellsVerdict, ArePulled, BlocksAreRead, Ran, gives_plain, gives_figures, gives_verdict, IsStatus, write_fault, TellsTruth, Asks, AsksOf, AsksWith, AsksToCheck, RefusesBlocks, IsCutShort, Headline, BreaksSome, CheckClause, HasBlocksFault, HasPointFault, IsFirstFault, TellsModelFault, TellsBlockFault, TellsPointFault, UsageClause, behind_up_to, PullsToFault, ReadFaultClause, RefusedClause, WriteFaultClause, SpentLog, OverflowClause, MemoryClause, Runs}
 use Rattle.cip_main.specs.Saying.{Says}
@@ -474,18 +474,18 @@ write_fault_clause call (gives_verdict c) = write_fault_of call _ (said_verdict 
 not_lacking : NodeLimit ≡ LacksMemory → ⊥
 not_lacking e = cc
 
-spent_of : (call : Call) (a : IsAnswered call) → a.answers.figures.status ≡ NodeLimit → IsLogged call.logs call.logs_after a.answers.entries a.answers.figures.status → SpentLog call
+spent_of : (call : Call) (a : IsAnswered call) → a.answers.figures.status ≡ NodeLimit → IsLogged call.logs call.logs_after a.answers.entries a.answers.marks a.answers.figures.status → SpentLog call
 spent_of call a limit (inl l) =
-    let spent : IsSpent a.program a.nodes a.answers.entries a.answers.figures.held = subst (EndsWith a.program a.nodes a.answers.entries a.answers.figures.held) limit a.answers.are_true.ends in
+    let spent : IsSpent a.program a.answers.start a.nodes a.answers.entries a.answers.figures.held = subst (EndsWith a.program a.answers.start a.nodes a.answers.entries a.answers.figures) limit a.answers.are_true.ends in
     record {
       answered = a;
       limit = limit;
-      log = l.0;
-      added = l.1;
-      full = subst (λ es. length es ≡ a.nodes) l.2 spent.full;
-      spent = subst (λ es. IsSpent a.program a.nodes es a.answers.figures.held) l.2 spent;
+      log = l.log;
+      added = l.added;
+      full = subst (λ es. length es ≡ a.nodes) l.entries_are spent.full;
+      spent = subst (λ es. IsSpent a.program a.answers.start a.nodes es a.answers.figures.held) l.entries_are spent;
     }
-spent_of call a limit (inr n) = absurd (not_lacking (sym limit ∙ n.2))
+spent_of call a limit (inr n) = absurd (not_lacking (sym limit ∙ n.1))
 
 spent_log : (call : Call) → Ran call → call.status ≡ 10 → SpentLog call
 spent_log call (gives_plain answer g) e = absurd (plain_not_ten answer (own_answer call _ 10 (said_plain call answer g) e ten_five))
@@ -496,8 +496,8 @@ spent_log call (gives_figures a) e =
 no_limit : (call : Call) (program : Program) (nodes n : ℕ) → assignments program.integral program.bounds ≡ Some n → max 1 (2 * n - 1) ≤ nodes → TellsTruth call program nodes → call.status ≡ 10 → ⊥
 no_limit call program nodes n e l t ten =
     let limit = is_spent t.figures.status (own_answer call _ 10 (said call _ (exit_status t.figures.status) t.told) ten ten_five) in
-    let spent : IsSpent program nodes t.entries t.figures.held = subst (EndsWith program nodes t.entries t.figures.held) limit t.are_true.ends in
-    let short : length t.entries < max 1 (2 * n - 1) = budget_suffices program _ t.entries _ n t.are_true.logged spent.matter e in
+    let spent : IsSpent program t.start nodes t.entries t.figures.held = subst (EndsWith program t.start nodes t.entries t.figures) limit t.are_true.ends in
+    let short : length t.entries < max 1 (2 * n - 1) = budgets_suffice program t.start t.entries t.figures.held n t.are_true.logged spent.matter e in
     let full : length t.entries ≡ nodes = spent.full in
     omega (arith, short, full, l)
 
@@ -517,7 +517,7 @@ overflow_clause call (gives_figures a) e =
       leaf = shown.0;
       place = shown.1;
       shown = shown.2;
-      overflows = subst (EndsWith a.program a.nodes a.answers.entries a.answers.figures.held) shown.2 a.answers.are_true.ends;
+      overflows = subst (EndsWith a.program a.answers.start a.nodes a.answers.entries a.answers.figures) shown.2 a.answers.are_true.ends;
     })
 overflow_clause call (gives_verdict c) e =
     let shown = is_overflow c.program c.point (verdict_of c.program c.point) (own_answer call _ 11 (said_verdict call c) e eleven_five) in

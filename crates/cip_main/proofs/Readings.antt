@@ -2,7 +2,6 @@
 use Rattle.std.specs.Prelude.{◌≡◌, ◌<◌, ℕ, List, length, Option, None, Some, IfSome, Result, Ok, Err, IsErr, MatchResult, refl}
 use Rattle.std.specs.Result.{IsErrAnd}
 use Rattle.std.proofs.Common.{sym, ◌∙◌, subst, inl, inr}
-use Rattle.std.proofs.lemmas.List.Elements.{All-weaker}
 use Rattle.std.proofs.lemmas.Slice.Zip.{AllZip-long}
 use Rattle.cip_rational.specs.Rational.{ℚ}
 use Rattle.cip_problem.specs.Program.{Program}
@@ -15,7 +14,7 @@ use Rattle.cip_mps_rules.specs.MpsOutcome.{HasProgram}
 use Rattle.cip_mps_rules.specs.MpsStatements.{ProgramsAreWellFormed}
 use Rattle.cip_blocks.specs.BlockKinds.{kind_number as block_kind_number}
 use Rattle.cip_point.specs.PointKinds.{kind_number as point_kind_number}
-use Rattle.cip_input.specs.BoundedModels.{HasBothSides, ProgramsAreBounded}
+use Rattle.cip_input.specs.LimitedModels.{ProgramsAreLimited}
 use Rattle.cip_input.specs.TextsRead.{ReadsText, RefusesText}
 use Rattle.cip_input.specs.ModelsRead.{IsRead, Reads, ReadCause}
 use Rattle.cip_input.specs.BlocksRead.{ReadsBlocks, BlocksCause}
@@ -28,9 +27,7 @@ use Rattle.cip_input.specs.declared.points.UnreadPoint.{UnreadPoint}
 use Rattle.cip_input.specs.declared.points.UnreadPoint.TheVariants as point
 use Rattle.cip_io.specs.Store.{StoreTells}
 use Rattle.cip_words.specs.Jobs.{Job, Solve, Check}
-use Rattle.cip_solve.specs.Answering.{HasSides}
 use Rattle.cip_main.specs.declared.plain.Plain.{Plain}
-use Rattle.cip_main.specs.Answering.{IsSearchable}
 use Rattle.cip_parts.specs.BlockParts.{Blocks as Parts}
 use Rattle.cip_main.specs.Tasks.{plain_of, plain_of_blocks, plain_of_point, model_of, TakesBlocks, IsSolve, IsCheck, TaskCause}
 
@@ -42,14 +39,6 @@ told (Some bytes) program r = subst (λ t. HasProgram t program) (sym r.told) r.
 pub value_told : {X : Type 0} (HasValue : List ℕ → X → Type 0) (text : Option (List ℕ)) (old new : StoreTells) (value : X) → ReadsText HasValue text old new value → IfSome text (λ bytes. HasValue bytes value)
 value_told HasValue None old new value r = tt
 value_told HasValue (Some bytes) old new value r = subst (λ t. HasValue t value) (sym r.told) r.described
-
--- a search takes it
-pub searchable : (text : Option (List ℕ)) (program : Program) → ProgramsAreBounded → ProgramsAreWellFormed → IsRead text program → IsSearchable program
-searchable text program bounded formed r = record {
-  formed = formed r.bytes program r.described;
-  whole = (bounded r.bytes program r.described).whole;
-  sides = All-weaker HasBothSides HasSides (λ s h. record { low = h.low; high = h.high }) program.bounds (bounded r.bytes program r.described).sides;
-}
 
 -- the point of a text has a value for each column
 pub long : (text : Option (List ℕ)) (program : Program) (point_text : Option (List ℕ)) (old new : StoreTells) (point : List ℚ) → ProgramsAreWellFormed → PointsAreOfLines → IsRead text program → ReadsText (HasResult (point_reading program)) point_text old new point → length point ≡ columns program
@@ -113,15 +102,15 @@ pub no_blocks : (program : Program) (blocks : Option (List ℕ)) (old between : 
 no_blocks program blocks old between e = subst (λ b. TakesBlocks program b old between between) (sym e) refl
 
 -- a program to solve was read, with its blocks
-pub is_solve : (job : Option Job) (model : List ℕ) (blocks : Option (List ℕ)) (nodes : ℕ) (old between new : StoreTells) (program : Program) → ProgramsAreBounded → ProgramsAreWellFormed → 0 < nodes → job ≡ Some (Solve model blocks nodes) → Reads (old.holds model) old between program → TakesBlocks program blocks old between new → IsSolve job old new program nodes
-is_solve job model blocks nodes old between new program bounded formed some asked r b = record {
+pub is_solve : (job : Option Job) (model : List ℕ) (blocks : Option (List ℕ)) (nodes : ℕ) (old between new : StoreTells) (program : Program) → ProgramsAreLimited → 0 < nodes → job ≡ Some (Solve model blocks nodes) → Reads (old.holds model) old between program → TakesBlocks program blocks old between new → IsSolve job old new program nodes
+is_solve job model blocks nodes old between new program limited some asked r b = record {
   model = model;
   blocks = blocks;
   asked = asked;
   between = between;
   reads = r;
   takes_blocks = b;
-  searchable = searchable _ program bounded formed r.is_read;
+  limited = limited r.is_read.bytes program r.is_read.described;
   some = some;
 }
 

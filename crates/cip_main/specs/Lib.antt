@@ -1,6 +1,5 @@
 pub mod Answering
 pub mod Checking
-pub mod Headline
 pub mod Plain
 pub mod Refusals
 pub mod Running

@@ -14,14 +14,15 @@ use Rattle.cip_point_rules.specs.PointRules.{point_reading}
 use Rattle.cip_words.specs.Jobs.{Job, Solve, Check}
 use Rattle.cip_input.specs.TextPulls.{IsAllPulled}
 use Rattle.cip_answers.specs.Figures.{NodeLimit, Wide, Overflow}
+use Rattle.cip_headline.specs.Headline.{IsSpent, ShowsOverflow}
 use Rattle.cip_answers.specs.Checks.{check_text, check_status}
 use Rattle.cip_model.specs.Verdicts.{verdict_of}
 use Rattle.cip_model.specs.Meaning.{VerdictHolds}
 use Rattle.cip_model.specs.declared.verdicts.Place.{Place}
 use Rattle.cip_model.specs.declared.verdicts.Verdict.{Verdict}
 use Rattle.cip_model.specs.declared.verdicts.Verdict.TheVariants as verdicts
-use Rattle.cip_solve.specs.declared.logs.Log.{Log}
-use Rattle.cip_solve.specs.Logs.{entries_of}
+use Rattle.cip_solve_core.specs.declared.logs.Log.{Log}
+use Rattle.cip_solve_core.specs.Logs.{entries_of}
 use Rattle.cip_mps.specs.MpsFaultKinds.{kind_number as mps_kind_number}
 use Rattle.cip_mps.specs.declared.faults.MpsFault.{MpsFault}
 use Rattle.cip_blocks.specs.BlockKinds.{kind_number as block_kind_number}
@@ -34,7 +35,6 @@ use Rattle.cip_main.specs.declared.plain.Plain.{Plain}
 use Rattle.cip_main.specs.declared.plain.Plain.TheVariants.{Usage, ReadFault, Refused, NoMemory}
 use Rattle.cip_main.specs.Answering.{Answers}
 use Rattle.cip_main.specs.Checking.{checked}
-use Rattle.cip_main.specs.Headline.{IsSpent, ShowsOverflow}
 use Rattle.cip_main.specs.Plain.{plain_text, plain_status}
 use Rattle.cip_main.specs.Saying.{Says}
 use Rattle.cip_main.specs.Tasks.{TaskCause, model_of, second_of}
@@ -341,7 +341,8 @@ pub record SpentLog (call : Call) : Type 0 where
   pub log : Log
   pub added : call.logs_after ≡ call.logs ++ log ∷ []
   pub full : length (entries_of log) ≡ answered.nodes
-  pub spent : IsSpent answered.program answered.nodes (entries_of log) answered.answers.figures.held
+  pub spent :
+      IsSpent answered.program answered.answers.start answered.nodes (entries_of log) answered.answers.figures.held
 
 -- and it never comes where the words allow at least twice as many nodes as the box of the program has whole
 -- assignments, less one
@@ -357,7 +358,8 @@ pub record OverflowLog (call : Call) : Type 0 where
   pub place : Overflow
   pub shown : answered.answers.figures.status ≡ Wide leaf place
   pub overflows :
-      ShowsOverflow answered.program answered.answers.entries answered.answers.figures.held leaf place
+      ShowsOverflow answered.program answered.answers.start answered.answers.entries answered.answers.figures.held leaf
+      place
 
 -- status 11 comes only where a search has shown an overflow, or where a sum overflows at the point that was read
 abbrev pub OverflowClause : Call → Type 0

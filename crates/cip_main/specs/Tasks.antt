@@ -16,6 +16,7 @@ use Rattle.cip_point.specs.PointKinds.{kind_number as point_kind_number}
 use Rattle.cip_words.specs.Jobs.{Job, Solve, Check}
 use Rattle.cip_words.specs.declared.words.WordsFault.{WordsFault}
 use Rattle.cip_words.specs.declared.words.WordsFault.TheVariants as words
+use Rattle.cip_input.specs.LimitedModels.{IsLimited}
 use Rattle.cip_input.specs.TextsRead.{RefusesText}
 use Rattle.cip_input.specs.ModelsRead.{Reads, Refuses}
 use Rattle.cip_input.specs.BlocksRead.{ReadsBlocks}
@@ -31,7 +32,6 @@ use Rattle.cip_main.specs.declared.plain.Plain.{Plain}
 use Rattle.cip_main.specs.declared.plain.Plain.TheVariants.{Usage, ReadFault, Refused, NoMemory}
 use Rattle.cip_main.specs.declared.tasks.Task.{Task}
 use Rattle.cip_main.specs.declared.tasks.Task.TheVariants as task
-use Rattle.cip_main.specs.Answering.{IsSearchable}
 
 -- the answer that is given where a program was not read
 abbrev pub plain_of : Unread → Plain
@@ -82,7 +82,7 @@ pub record IsSolve (job : Option Job) (old new : StoreTells) (program : Program)
   pub between : StoreTells
   pub reads : Reads (old.holds model) old between program
   pub takes_blocks : TakesBlocks program blocks old between new
-  pub searchable : IsSearchable program
+  pub limited : IsLimited program
   pub some : 0 < nodes
 
 -- the words ask to check the point of a text in the program of a text, and both were read

@@ -7,13 +7,14 @@ use crate::plain::say;
 use crate::solving::solve_and_report;
 use crate::tasks::{Task, read_task};
 use cip_io::{Sink, Store};
-use cip_solve::Log;
+use cip_solve_core::Log;
 use cip_words::Words;
 use std::alloc::Global;
 
 /// Does all that the program does, and answers its exit status:
 ///
-/// - 0: an optimal point was printed, or that no point is feasible; or that the point to check is feasible;
+/// - 0: an optimal point was printed, or a point with a ray along which the cost falls without end, or that no point is
+///   feasible; or that the point to check is feasible;
 /// - 1: the point to check is not feasible, and what it breaks was printed;
 /// - 2: the words are not accepted, and nothing is pulled;
 /// - 3: the store failed;

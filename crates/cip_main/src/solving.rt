@@ -1,36 +1,25 @@
 //! Solving a program and reporting.
-ghost use Rattle.std.specs.Prelude.{◌≡◌, ◌<◌, ℕ, List, []};
+ghost use Rattle.std.specs.Prelude.{◌<◌};
+ghost use Rattle.cip_input.specs.LimitedModels.{IsLimited};
 ghost use Rattle.cip_answers.specs.Figures.{answer_text, exit_status, names_of};
 ghost use Rattle.cip_report.specs.Answers.{figures_of, AnswerFits};
-ghost use Rattle.cip_main.specs.Answering.{IsSearchable, Answers, Searched};
+ghost use Rattle.cip_main.specs.Answering.{Answers, Searched};
 ghost use Rattle.cip_main.specs.Saying.{Says};
 
 use cip_io::{Failed, Sink};
 use cip_model::Program;
-use cip_report::{Answer, Ended, report};
-use cip_solve::{Log, Options, root_bound, solve};
+use cip_report::{Answer, report};
+use cip_solve_core::{Log, Options, solve, unsearched};
 use std::alloc::Global;
-
-/// The answer where memory is refused before there is room for a log.
-fn no_search(program: &Program) -> Answer
-    requires { IsSearchable program.now }
-    ensures { (nodes : ℕ) (logs : List Log) → Searched program.now nodes logs logs result }
-{
-    Answer {
-        ended: Ended::NoMemory,
-        best: None,
-        bound: root_bound(program),
-    }
-}
 
 /// Searches a program, and adds the log.
 fn search(alloc: Global, program: &Program, nodes: u64, logs: &mut Vec<Log>) -> Answer
-    requires searchable { IsSearchable program.now }
+    requires limited { IsLimited program.now }
     requires some { 0 < nodes }
     ensures { Searched program.now nodes logs.old.items logs.new.items result }
 {
     if logs.reserve(1).is_err() {
-        return no_search(program);
+        return unsearched(program);
     }
     let mut log = Log::new(alloc);
     let answer = solve(alloc, program, &Options { nodes }, &mut log);
@@ -61,7 +50,7 @@ pub fn solve_and_report<K: Sink>(
     out: &mut K,
     logs: &mut Vec<Log>,
 ) -> u8
-    requires searchable { IsSearchable program.now }
+    requires limited { IsLimited program.now }
     requires some { 0 < nodes }
     ensures { Answers program.now nodes (K.tells out.old) (K.tells out.new) logs.old.items logs.new.items result }
 {

@@ -9,7 +9,7 @@ use crate::plain::Plain;
 use crate::refusals::TextFault;
 use cip_frac::Frac;
 use cip_input::{
-    Unread, UnreadBlocks, UnreadPoint, programs_are_bounded, read_blocks, read_point, read_program,
+    Unread, UnreadBlocks, UnreadPoint, programs_are_limited, read_blocks, read_point, read_program,
 };
 use cip_io::Store;
 use cip_model::Program;
@@ -23,7 +23,7 @@ use std::alloc::Global;
 pub enum Task {
     /// To solve a program.
     Solve {
-        /// The program: its columns are all whole, and both sides of each are there.
+        /// The program.
         program: Program,
         /// The most nodes that the search takes, from 1 to 2^40.
         nodes: u64,
@@ -135,8 +135,7 @@ fn read_solve<S: Store>(
 {
     let program = read_program(alloc, store, model)?;
     take_blocks(alloc, store, blocks, &program)?;
-    programs_are_bounded();
-    programs_are_well_formed();
+    programs_are_limited();
     Ok(Task::Solve { program, nodes })
 }
 

@@ -124,7 +124,7 @@ fn the_three_columns_are_solved(rt: HostRuntime) -> Result<(), Fail> {
 #[test]
 fn the_log_has_each_node(rt: HostRuntime) -> Result<(), Fail> {
     let outcome = solve(rt.alloc(), THREE_COLUMNS.as_bytes())?;
-    // 1,331 whole points, so 1,330 splits.
-    assert_eq!(rt; outcome.entries.as_slice(), [2_661].as_slice());
+    // The optimum of the root's linear program has whole values.
+    assert_eq!(rt; outcome.entries.as_slice(), [1].as_slice());
     Ok(())
 }

@@ -3,16 +3,12 @@ use crate::cases::run_words;
 use cip_io::MemoryStore;
 use std::test::Fail;
 
-/// As many as possible of 21 columns between 0 and 1, where twice their sum is at most 21. The box
-/// bound, 21, is never met, so each of the 2^21 points would be checked, in more than 4,000,000
-/// nodes. Columns go from 0 to 1, the last one first, so the first point with ten columns at 1 has
-/// the last ten.
+/// As few as possible of 21 columns between 0 and 1, where twice their sum is 21: no whole point, and the bound stays 11
+/// until all are split, in more than 1,000,000 nodes.
 const ODD: &str = "NAME odd
-OBJSENSE
- MAX
 ROWS
  N COST
- L R
+ E R
 COLUMNS
  M 'MARKER' 'INTORG'
  a COST 1 R 2
@@ -64,41 +60,16 @@ BOUNDS
 ENDATA
 ";
 
-const SPENT: &str = "status nodelimit
-cost 10
-bound 21
-a 0
-b 0
-c 0
-d 0
-e 0
-f 0
-g 0
-h 0
-i 0
-j 0
-k 0
-l 1
-m 1
-n 1
-o 1
-p 1
-q 1
-r 1
-s 1
-t 1
-u 1
-end
-";
+const SPENT: &str = "status nodelimit\ncost none\nbound 11\nend\n";
 
 #[test]
 fn the_node_budget_is_spent(rt: HostRuntime) -> Result<(), Fail> {
     let mut store = MemoryStore::new(rt.alloc(), 4_096);
     store.add("M", ODD.as_bytes())?;
-    let words = ["solve", "M", "--nodes", "20000"];
+    let words = ["solve", "M", "--nodes", "200"];
     let outcome = run_words(rt.alloc(), &words, &mut store, 4_096)?;
     assert_eq!(rt; outcome.taken.as_slice(), SPENT.as_bytes());
     assert_eq!(rt; outcome.status, 10);
-    assert_eq!(rt; outcome.entries.as_slice(), [20_000].as_slice());
+    assert_eq!(rt; outcome.entries.as_slice(), [200].as_slice());
     Ok(())
 }

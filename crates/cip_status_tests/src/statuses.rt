@@ -117,12 +117,30 @@ fn words_are_accepted(rt: HostRuntime) -> Result<(), Fail> {
     Ok(())
 }
 
-/// What is answered after one node: 5 times 10, 4 times 10 and 3 times 10 together are the box bound.
-const ONE_NODE: &str = "status nodelimit\ncost none\nbound 120\nend\n";
+/// MIN x + y + z, where 2x + 2y + 2z = 3, each 0 or 1: no whole point, and 3/2 is the least of the linear program.
+const HALVES: &str = "ROWS
+ N COST
+ E R1
+COLUMNS
+ x COST 1 R1 2
+ y COST 1 R1 2
+ z COST 1 R1 2
+RHS
+ RHS R1 3
+BOUNDS
+ BV B x
+ BV B y
+ BV B z
+ENDATA
+";
+
+/// What is answered after one node: the bound rounded up, as all costs are whole.
+const ONE_NODE: &str = "status nodelimit\ncost none\nbound 2\nend\n";
 
 #[test]
 fn as_many_nodes_are_taken_as_the_words_say(rt: HostRuntime) -> Result<(), Fail> {
-    let mut store = store_of(rt.alloc(), 4_096)?;
+    let mut store = MemoryStore::new(rt.alloc(), 4_096);
+    store.add("M", HALVES.as_bytes())?;
     let outcome = run_words(
         rt.alloc(),
         &["solve", "M", "--nodes", "1"],

@@ -12,5 +12,5 @@ returns-in_err-take_blocks g c = λ job asked.
 
 pub returns : goal.returns
 returns g c = λ job asked.
-    is_solve job c.args.model.now _ c.args.nodes _ _ _ _ c.programs_are_bounded.ensures c.programs_are_well_formed.ensures c.requires asked c.in_ok-program.ensures.answer
+    is_solve job c.args.model.now _ c.args.nodes _ _ _ _ c.programs_are_limited.ensures c.requires asked c.in_ok-program.ensures.answer
     (c.in_ok-take_blocks.ensures job c.args.model.now c.args.nodes _ asked c.in_ok-program.ensures.answer c.in_ok-program.ensures.holds)
