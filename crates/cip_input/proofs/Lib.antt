@@ -1,4 +1,3 @@
-pub mod Bounded
 pub mod ModelTexts
 pub mod NearSides
 pub mod Pulled

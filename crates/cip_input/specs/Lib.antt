@@ -1,6 +1,5 @@
 pub mod BlocksRead
 pub mod BlocksTaken
-pub mod BoundedModels
 pub mod LimitedModels
 pub mod ModelsRead
 pub mod PointsRead

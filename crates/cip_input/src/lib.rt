@@ -8,7 +8,7 @@ mod points;
 mod pulling;
 
 pub use block_texts::{UnreadBlocks, read_blocks};
-pub use laws::{programs_are_bounded, programs_are_limited};
+pub use laws::programs_are_limited;
 pub use models::{Unread, read_program};
 pub use points::{UnreadPoint, read_point};
 

@@ -67,7 +67,7 @@ pub enum FaultKind {
     /// RANGES on a row of type N.
     #[error("kind 20 RangeOnObjective")]
     RangeOnObjective,
-    /// A sense, a bound or a column that is not in the profile.
+    /// A sense or a bound that is not in the profile.
     #[error("kind 21 OutOfProfile")]
     OutOfProfile,
 }

@@ -2,7 +2,6 @@
 ghost use Rattle.std.specs.Prelude.{◌≡◌, true};
 ghost use Rattle.cip_number_text.specs.Numeral.{value_of};
 ghost use Rattle.cip_mps_lines.specs.MpsKinds.{bound_kind_in};
-ghost use Rattle.cip_mps_rules.specs.MpsRules.{is_unbounded};
 ghost use Rattle.cip_mps_rules.specs.MpsBounds.{unbounded, with_low, with_high, with_bound, made_whole, settled, column_sides};
 
 use cip_frac::Frac;
@@ -126,15 +125,6 @@ impl ColumnDraft {
         self.high = high;
         self.low_set = true;
         self.named = true;
-    }
-
-    /// Whether the column, at the end of the text, isn't whole or lacks a bound.
-    pub(crate) fn is_unbounded(self) -> bool
-        ensures { result ≡ is_unbounded (settled self) }
-    {
-        let is_binary = self.whole && !self.named;
-        let has_sides = self.low.is_some() && self.high.is_some();
-        !(self.whole && (is_binary || has_sides))
     }
 
     /// Whether the column is whole.

@@ -6,15 +6,13 @@ ghost use Rattle.cip_mps_lines.specs.MpsKinds.{part_of};
 ghost use Rattle.cip_mps_rules.specs.MpsWords as text;
 ghost use Rattle.cip_mps_rules.specs.MpsSayings.{Opens};
 ghost use Rattle.cip_mps_rules.specs.MpsFacts.{sense_words_in};
-ghost use Rattle.cip_mps_rules.specs.MpsBounds.{settled};
 ghost use Rattle.cip_mps_rules.specs.MpsProgram.{is_free};
-ghost use Rattle.cip_mps_rules.specs.MpsRules.{least, stands_behind, is_opened, has_many_words, is_unbounded};
+ghost use Rattle.cip_mps_rules.specs.MpsRules.{least, stands_behind, is_opened, has_many_words};
 ghost use Rattle.cip_mps_steps.specs.MpsSteps.{or_else};
 ghost use Rattle.cip_mps_steps.specs.MpsLineTests.{opening_tests, end_tests, sense_tests};
 ghost use Rattle.cip_mps_draft.specs.DraftLines.{section_tests, sense_said_on};
 ghost use Rattle.cip_mps_draft.specs.DraftStates.{kept};
 
-use crate::column_draft::ColumnDraft;
 use crate::draft::Draft;
 use crate::row_draft::RowDraft;
 use cip_mps_lines::{Part, sense_of};
@@ -83,13 +81,6 @@ fn any_free(rows: &[RowDraft]) -> bool
     rows.iter().any(|row| row.is_free())
 }
 
-/// Whether a column isn't whole or lacks a bound.
-fn any_unbounded(columns: &[ColumnDraft]) -> bool
-    ensures { result ≡ list_any (λ column. is_unbounded (settled column)) columns.now }
-{
-    columns.iter().any(|column| column.is_unbounded())
-}
-
 /// Whether a section line has a wrong number of words behind its first.
 fn is_miscounted(part: Part, words: &Fields<'_>) -> bool
     ensures { result ≡ has_many_words (part_of part) (fields_left words.now) }
@@ -154,13 +145,6 @@ impl Draft {
         any_free(self.rows.as_slice())
     }
 
-    /// Whether a column isn't whole or lacks a bound.
-    fn has_unbounded(&self) -> bool
-        ensures { result ≡ list_any is_unbounded (map settled self.now.columns.items) }
-    {
-        any_unbounded(self.columns.as_slice())
-    }
-
     /// The least kind of fault of a section line that isn't ENDATA.
     fn opening_fault(&self, part: Part, words: &Fields<'_>) -> Option<u32>
         ensures { result ≡ least (opening_tests (kept self.now) (part_of part) (fields_left words.now)) }
@@ -192,9 +176,6 @@ impl Draft {
         }
         if !self.has_objective() {
             return Some(16);
-        }
-        if self.has_unbounded() {
-            return Some(21);
         }
         None
     }

@@ -6,9 +6,8 @@ use Rattle.std.proofs.lemmas.Bool.{leb-true}
 use Rattle.std.proofs.Math.Nat.{le_trans, le_refl}
 use Rattle.cip_mps_rules.specs.MpsSayings.{Saying}
 use Rattle.cip_mps_rules.specs.MpsFacts.{Facts, row_names, column_names}
-use Rattle.cip_mps_rules.specs.MpsBounds.{all_bounds}
 use Rattle.cip_mps_rules.specs.MpsProgram.{constraints}
-use Rattle.cip_mps_rules.specs.MpsRules.{Rule, least, rules, fault_of, is_unknown_section, is_out_of_order, lacks_section, is_miscounted, numbers_in, has_huge_value, has_wide_side, names_unknown_row, names_unknown_column, repeats_row, repeats_value, splits_column, has_bad_row_type, has_bad_bound_type, is_bad_marker, lacks_objective, is_too_many, has_long_name, ranges_free_row, has_bad_sense, has_bad_bound, has_unbounded_column, kinds_of, entry_count}
+use Rattle.cip_mps_rules.specs.MpsRules.{Rule, least, rules, fault_of, is_unknown_section, is_out_of_order, lacks_section, is_miscounted, numbers_in, has_huge_value, has_wide_side, names_unknown_row, names_unknown_column, repeats_row, repeats_value, splits_column, has_bad_row_type, has_bad_bound_type, is_bad_marker, lacks_objective, is_too_many, has_long_name, ranges_free_row, has_bad_sense, has_bad_bound, kinds_of, entry_count}
 use Rattle.cip_mps_rules.specs.MpsWords.{is_no_number, is_too_fine}
 
 -- ---- tests
@@ -121,7 +120,6 @@ pub record Keeps (facts : Facts) (now : Saying) : Type 0 where
   pub short_name : has_long_name now ≡ false
   pub no_free_range : ranges_free_row facts.rows now ≡ false
   pub in_profile : (has_bad_sense now || has_bad_bound now) ≡ false
-  pub bounded : has_unbounded_column (all_bounds facts) now ≡ false
 
 pub keeps : (facts : Facts) (now : Saying) → fault_of facts now ≡ None → Keeps facts now
 keeps facts now e = go (kept (rules facts now) e)
@@ -148,5 +146,4 @@ keeps facts now e = go (kept (rules facts now) e)
       short_name = t.1.1.1.1.1.1.1.1.1.1.1.1.1.1.1.1.1.0;
       no_free_range = t.1.1.1.1.1.1.1.1.1.1.1.1.1.1.1.1.1.1.0;
       in_profile = t.1.1.1.1.1.1.1.1.1.1.1.1.1.1.1.1.1.1.1.0;
-      bounded = t.1.1.1.1.1.1.1.1.1.1.1.1.1.1.1.1.1.1.1.1.0;
     }

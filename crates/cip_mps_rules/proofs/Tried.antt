@@ -12,7 +12,7 @@ use Rattle.cip_rational.proofs.Rational.Ring.{negate_zero, sub_is}
 use Rattle.cip_problem.specs.Program.{Program}
 use Rattle.cip_number_text.specs.Numeral.{numeral_of}
 use Rattle.cip_mps_rules.specs.MpsOutcome.{outcome_of, Means}
-use Rattle.cip_mps_rules.specs.MpsExamples.{three_columns, three_columns_program, loose_text, loose_program, four_rows, row_sides_in, sides_of_four, integral, large_value, facts_in}
+use Rattle.cip_mps_rules.specs.MpsExamples.{three_columns, three_columns_program, loose_text, loose_program, open_text, open_program, four_rows, row_sides_in, sides_of_four, integral, large_value, facts_in}
 use Rattle.cip_mps_rules.specs.MpsSayings.{RangeLine, RightSideLine}
 use Rattle.cip_mps_rules.specs.MpsRules.{fault_of}
 
@@ -55,6 +55,13 @@ loose_read = refl
 
 pub loose_is : outcome_of loose_text ≡ Means loose_program
 loose_is = loose_read ∙ ap (λ x. Means (with_costs loose_program loose_program.costs x)) negate_minus_three
+
+open_read : outcome_of open_text ≡ Means (with_costs open_program open_program.costs (negate zeroℚ))
+unfolding numeral_of outcome_of
+open_read = refl
+
+pub open_is : outcome_of open_text ≡ Means open_program
+open_is = open_read ∙ ap (λ x. Means (with_costs open_program open_program.costs x)) negate_zero
 
 pub ranged : row_sides_in (four_rows (codes "RHS\n R1 10 R2 10\n R3 10\nRANGES\n R1 -4 R2 -4\n R3 4\n")) ≡ sides_of_four (Some (integral 6)) (Some (integral 10)) (Some (integral 10)) (Some (integral 14)) (Some (integral 10)) (Some (integral 14))
 unfolding numeral_of

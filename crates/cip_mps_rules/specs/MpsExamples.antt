@@ -88,10 +88,32 @@ loose_program = record {
   bounds = up_to 4 ∷ record { low = Some zeroℚ; high = Some oneℚ } ∷ [];
 }
 
+-- a continuous column without bound records, a free one, and a whole one without a high side
+abbrev pub open_text : List ℕ
+open_text =
+    codes "ROWS\n N COST\nCOLUMNS\n a COST 1\n b COST 2\n M 'MARKER' 'INTORG'\n c COST 3\n"
+    ++ codes "BOUNDS\n FR B b\n PL B c\nENDATA\n"
+
+-- a + 2 b + 3 c is to be least, for a at least 0 and c whole and at least 0
+abbrev pub open_program : Program
+open_program = record {
+  column_names = codes "a" ∷ codes "b" ∷ codes "c" ∷ [];
+  row_names = [];
+  rows = [];
+  costs = integral 1 ∷ integral 2 ∷ integral 3 ∷ [];
+  constant = zeroℚ;
+  maximized = false;
+  integral = false ∷ false ∷ true ∷ [];
+  bounds =
+      record { low = Some zeroℚ; high = None } ∷ record { low = None; high = None }
+      ∷ record { low = Some zeroℚ; high = None } ∷ [];
+}
+
 -- texts with their programs
 pub record TextsHavePrograms : Type 0 where
   pub three_columns : outcome_of three_columns ≡ Means three_columns_program
   pub loose : outcome_of loose_text ≡ Means loose_program
+  pub open_columns : outcome_of open_text ≡ Means open_program
 
 -- ---- faults
 
@@ -150,8 +172,6 @@ pub record EachKindIsFound : Type 0 where
   pub kind20_range : IsFaulty (with_columns (codes "RANGES\n A COST 1\n")) 9 20
   pub kind21_bound : IsFaulty (with_bounds (codes " SC B a 1\n")) 10 21
   pub kind21_sense : IsFaulty (codes "OBJSENSE\n BEST\n") 2 21
-  pub kind21_open : IsFaulty (with_bounds (codes " PL B a\nENDATA\n")) 11 21
-  pub kind21_fractional : IsFaulty (with_rows (codes "COLUMNS\n a R1 1\nBOUNDS\n UP a 1\nENDATA\n")) 9 21
 
 -- ---- readings: sections and lines
 

@@ -2,7 +2,7 @@
 -- and at what this line says. At a line the least kind counts whose rule is broken.
 --     rules facts saying      the rules, by rising kind; kind 17, no ENDATA, is that of a text
 --     fault_of facts saying      the least kind that is broken
-use Rattle.std.specs.Prelude.{ℕ, ◌+◌, ◌==◌, nat_lt, nat_le, Bool, true, false, not, ◌&&◌, ◌||◌, if◌then◌else◌, List, [], ◌∷◌, ◌++◌, length, map, Option, None, Some, is_some, is_none}
+use Rattle.std.specs.Prelude.{ℕ, ◌+◌, ◌==◌, nat_lt, nat_le, Bool, true, false, not, ◌&&◌, ◌||◌, if◌then◌else◌, List, [], ◌∷◌, ◌++◌, length, map, Option, None, Some, is_none}
 use Rattle.std.specs.List.{filter, list_any}
 use Rattle.std.specs.Str.{bytes_eq}
 use Rattle.cip_rational.specs.Rational.{ℚ}
@@ -12,7 +12,6 @@ use Rattle.cip_number_text.specs.Numeral.{Numeral}
 use Rattle.cip_mps_rules.specs.MpsWords.{Part, Title, Sense, Rows, Columns, End, RowKind, BoundKind, Low, High, Fixed, WholeLow, WholeHigh, SemiContinuous, rank, part_number, is_in, number_in, is_zero, is_negative, is_no_number, is_huge, is_too_fine, sense_of}
 use Rattle.cip_mps_rules.specs.MpsSayings.{Value, Saying, UnknownSection, Opens, Misplaced, Miscounted, RowLine, ColumnLine, BadMarker, RightSideLine, RangeLine, BoundLine, BadBound}
 use Rattle.cip_mps_rules.specs.MpsFacts.{GivenRow, Coefficient, Facts, row_names, column_names, coefficients_in, right_sides_in, ranges_in, sense_words_in}
-use Rattle.cip_mps_rules.specs.MpsBounds.{Bounded, all_bounds}
 use Rattle.cip_mps_rules.specs.MpsProgram.{is_free, constraints, moves_low, unsigned, number, right_side, first_value}
 
 -- a kind of fault, and whether its rule is broken
@@ -261,21 +260,13 @@ abbrev pub has_bad_bound : Saying → Bool
 has_bad_bound (BoundLine kind set_name column value) = is_semicontinuous kind || is_no_bound kind value
 has_bad_bound other = false
 
--- a column that isn't whole, or lacks a bound
-abbrev pub is_unbounded : Bounded → Bool
-is_unbounded b = not (b.whole && is_some b.low && is_some b.high)
-
--- ENDATA where some column is such: a refusal of its own, which goes as continuous and open columns come
-abbrev pub has_unbounded_column : List Bounded → Saying → Bool
-has_unbounded_column bounds now = is_end now && list_any is_unbounded bounds
-
 -- ---- the list of rules
 
 -- the types of the rows
 abbrev pub kinds_of : Facts → List RowKind
 kinds_of facts = map (λ row. row.kind) facts.rows
 
--- the rules of all kinds on one line, kind 21 in two parts
+-- the rules of all kinds on one line
 abbrev pub rules : Facts → Saying → List Rule
 rules facts now =
     rule 1 (is_unknown_section now)
@@ -298,7 +289,6 @@ rules facts now =
     ∷ rule 19 (has_long_name now)
     ∷ rule 20 (ranges_free_row facts.rows now)
     ∷ rule 21 (has_bad_sense now || has_bad_bound now)
-    ∷ rule 21 (has_unbounded_column (all_bounds facts) now)
     ∷ []
 
 -- the least kind whose rule is broken

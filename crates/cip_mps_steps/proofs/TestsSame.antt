@@ -14,12 +14,11 @@ use Rattle.cip_number_text.proofs.InRange.{IsSound}
 use Rattle.cip_mps_rules.specs.MpsWords.{RowKind, Free, AtMost, AtLeast, EqualTo, is_in, number_in, is_huge}
 use Rattle.cip_mps_rules.specs.MpsSayings.{Place, Value, Saying, ColumnLine, RightSideLine, RangeLine}
 use Rattle.cip_mps_rules.specs.MpsFacts.{GivenRow, Coefficient, Facts, row_names, column_names}
-use Rattle.cip_mps_rules.specs.MpsBounds.{settled}
 use Rattle.cip_mps_rules.specs.MpsProgram.{number, number_or_zero, first_value, right_side, moves_low, unsigned, is_free}
-use Rattle.cip_mps_rules.specs.MpsRules.{Rule, rule, least, rules, fault_of, row_in, side_overflows, row_overflows, has_wide_row, has_wide_side, has_huge_value, has_twins, has_coefficient, has_value_for, repeats_value, ranges_free_row, is_free_row, lacks_objective, has_unbounded_column, values_in}
+use Rattle.cip_mps_rules.specs.MpsRules.{Rule, rule, least, rules, fault_of, row_in, side_overflows, row_overflows, has_wide_row, has_wide_side, has_huge_value, has_twins, has_coefficient, has_value_for, repeats_value, ranges_free_row, is_free_row, lacks_objective, values_in}
 use Rattle.cip_mps_rules.proofs.Quiet.{left_false, right_false, or_false}
 use Rattle.cip_mps_rules.proofs.MpsNames.{same_bytes, other_bytes, number_same}
-use Rattle.cip_mps_steps.specs.MpsState.{held_on, held_of, value_for, row_read, bounds_so_far, state_of, row_at, moves_low_side}
+use Rattle.cip_mps_steps.specs.MpsState.{held_on, held_of, value_for, row_read, state_of, row_at, moves_low_side}
 use Rattle.cip_mps_steps.specs.MpsSteps.{or_else, moved_overflows, overflows_with, has_wide_side_now, holds, has_right_side, has_range, repeats_value_now, is_free_at, ranges_free_row_now, tests}
 use Rattle.cip_mps_steps.proofs.Told.{IsTold, AreSound, told_sound, told_near, is_negative_is, absolute_is}
 use Rattle.cip_mps_steps.proofs.LookUps.{all_append, all_weaker, none_number, row_by_number, row_in_name, row_in_none}
@@ -276,4 +275,4 @@ tests_same place facts now g s = all.same
         chain (eleven_is place facts now g) (λ _. chain refl (λ _. chain refl (λ _. chain refl (λ _. chain refl (λ _.
         chain (ap (λ kinds. lacks_objective kinds now) (map_twice (λ row. row.kind) (row_read facts) facts.rows)) (λ _.
         chain refl (λ _. chain refl (λ _. chain (twenty_is place facts now) (λ _. chain refl (λ _.
-        chain (ap (λ bounds. has_unbounded_column bounds now) (map_twice settled (bounds_so_far facts) facts.columns)) (λ _. record { same = refl })))))))))))))))))))))
+        record { same = refl }))))))))))))))))))))

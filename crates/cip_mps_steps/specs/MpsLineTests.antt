@@ -6,9 +6,8 @@ use Rattle.cip_number_text.specs.Numeral.{Numeral}
 use Rattle.cip_mps_rules.specs.MpsWords.{Part, Rows, Columns, End, RowKind, BoundKind, number_in, is_in, is_no_number, is_huge, is_too_fine, sense_of}
 use Rattle.cip_mps_rules.specs.MpsSayings.{Value, Opens, ColumnLine}
 use Rattle.cip_mps_rules.specs.MpsFacts.{coefficients_in, sense_words_in}
-use Rattle.cip_mps_rules.specs.MpsBounds.{settled}
 use Rattle.cip_mps_rules.specs.MpsProgram.{is_free}
-use Rattle.cip_mps_rules.specs.MpsRules.{Rule, rule, stands_behind, is_opened, has_many_words, has_twins, is_before_last, is_no_bound, is_semicontinuous, is_unbounded, entry_count}
+use Rattle.cip_mps_rules.specs.MpsRules.{Rule, rule, stands_behind, is_opened, has_many_words, has_twins, is_before_last, is_no_bound, is_semicontinuous, entry_count}
 use Rattle.cip_mps_steps.specs.MpsState.{State, row_at, value_for}
 use Rattle.cip_mps_steps.specs.MpsSteps.{overflows_with, holds, has_right_side, has_range, is_free_at}
 
@@ -29,7 +28,6 @@ end_tests state words =
     ∷ rule 3 (not (is_opened state.opened Rows && is_opened state.opened Columns))
     ∷ rule 4 (nat_lt 0 (length words))
     ∷ rule 16 (not (list_any is_free (map (λ row. row.kind) state.rows)))
-    ∷ rule 21 (list_any is_unbounded (map settled state.columns))
     ∷ []
 
 -- ---- lines of OBJSENSE and ROWS

@@ -10,9 +10,9 @@ use Rattle.cip_syntax.specs.Lines.{Record, record_of}
 use Rattle.cip_mps_rules.specs.MpsWords.{RowKind, number_in, is_in, is_no_number, is_too_fine}
 use Rattle.cip_mps_rules.specs.MpsSayings.{Value, Saying, RowLine, ColumnLine, RightSideLine, RangeLine, BoundLine, said, place_after}
 use Rattle.cip_mps_rules.specs.MpsFacts.{parts_in, senses_in, coefficients_in}
-use Rattle.cip_mps_rules.specs.MpsBounds.{Bounded, unbounded, with_bound, settled}
+use Rattle.cip_mps_rules.specs.MpsBounds.{Bounded, unbounded, with_bound}
 use Rattle.cip_mps_rules.specs.MpsProgram.{number, is_free}
-use Rattle.cip_mps_rules.specs.MpsRules.{Rule, rule, least, is_unknown_section, is_out_of_order, lacks_section, is_miscounted, numbers_in, has_huge_value, names_unknown_row, names_unknown_column, repeats_row, has_twins, splits_column, has_bad_row_type, has_bad_bound_type, is_bad_marker, lacks_objective, is_too_many, has_long_name, has_bad_sense, has_bad_bound, has_unbounded_column, is_end, entry_count}
+use Rattle.cip_mps_rules.specs.MpsRules.{Rule, rule, least, is_unknown_section, is_out_of_order, lacks_section, is_miscounted, numbers_in, has_huge_value, names_unknown_row, names_unknown_column, repeats_row, has_twins, splits_column, has_bad_row_type, has_bad_bound_type, is_bad_marker, lacks_objective, is_too_many, has_long_name, has_bad_sense, has_bad_bound, is_end, entry_count}
 use Rattle.cip_mps_rules.specs.MpsOutcome.{Outcome, Means, Faulty}
 use Rattle.cip_mps_steps.specs.MpsState.{RowRead, State, no_row, row_at, first_of, value_for, moves_low_side, program_from}
 
@@ -105,7 +105,6 @@ tests state now =
     ∷ rule 19 (has_long_name now)
     ∷ rule 20 (ranges_free_row_now state now)
     ∷ rule 21 (has_bad_sense now || has_bad_bound now)
-    ∷ rule 21 (has_unbounded_column (map settled state.columns) now)
     ∷ []
 
 -- ---- puts

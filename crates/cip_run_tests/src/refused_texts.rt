@@ -12,7 +12,7 @@ fn refuses(alloc: Global, text: &[u8], fault: &str) -> Result<bool, AllocError> 
 }
 
 /// A part of the three-column text, what stands in its place, and what is told.
-const EDITS: [(&str, &str, &str); 12] = [
+const EDITS: [(&str, &str, &str); 11] = [
     ("ENDATA\n", "", "line 25\nkind 17 NoEnd"),
     (
         " UP B c 10\n",
@@ -44,12 +44,6 @@ const EDITS: [(&str, &str, &str); 12] = [
     (" N COST\n", "", "line 10\nkind 8 UnknownRow"),
     ("NAME chvatal\n", "Name\n", "line 1\nkind 1 UnknownSection"),
     ("'INTORG'", "'INTERN'", "line 10\nkind 15 BadMarker"),
-    // No column is whole now, which is told at ENDATA.
-    (
-        " M1 'MARKER' 'INTORG'\n",
-        "",
-        "line 24\nkind 21 OutOfProfile",
-    ),
 ];
 
 #[test]

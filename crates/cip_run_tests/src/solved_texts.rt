@@ -3,7 +3,7 @@ use crate::cases::{THREE_COLUMNS, THREE_SOLVED, answers, edited, solve};
 use std::test::Fail;
 
 /// A part of the three-column text, what stands in its place, and the answer.
-const EDITS: [(&str, &str, &str); 8] = [
+const EDITS: [(&str, &str, &str); 9] = [
     ("NAME chvatal\n", "", THREE_SOLVED),
     ("ROWS\n", "* a comment\n\n \t\r\nROWS \t\r\n", THREE_SOLVED),
     ("ENDATA\n", "ENDATA\nanything\n", THREE_SOLVED),
@@ -21,6 +21,8 @@ const EDITS: [(&str, &str, &str); 8] = [
         "",
         "status optimal\ncost 9\nbound 9\na 1\nb 1\nc 0\nend\n",
     ),
+    // No column is whole now: the optimum of the linear program is the same point.
+    (" M1 'MARKER' 'INTORG'\n", "", THREE_SOLVED),
     // Records of another set are skipped, so that R1 stays at most 5.
     (
         " RHS R1 5 R2 11\n",

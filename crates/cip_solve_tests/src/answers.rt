@@ -1,9 +1,8 @@
 //! What searches answer.
-ghost use Rattle.std.specs.Prelude.{◌<◌};
-ghost use Rattle.cip_input.specs.BoundedModels.{IsBounded};
+ghost use Rattle.std.specs.Prelude.{◌≡◌, ◌<◌, true, All};
+ghost use Rattle.cip_solve.specs.Answering.{HasSides};
 
 use cip_frac::Frac;
-use cip_input::programs_are_bounded;
 use cip_model::{Place, Program};
 use cip_mps::read_mps;
 use cip_report::{Answer, Ended, Held, Shown};
@@ -33,9 +32,28 @@ const WIDE: &str =
 const EMPTY: &str =
     "ROWS\n N COST\nCOLUMNS\n M 'MARKER' 'INTORG'\n x COST 1\nBOUNDS\n LO B x 3\n UP B x 2\nENDATA\n";
 
+/// Each column is whole.
+fn are_whole(program: &Program) -> bool
+    ensures { result ≡ true → All (λ whole. whole ≡ true) program.now.integral }
+{
+    program.whole().iter().all(|whole| *whole)
+}
+
+/// Each column has a low and a high side.
+fn have_sides(program: &Program) -> bool
+    ensures { result ≡ true → All HasSides program.now.bounds }
+{
+    program
+        .bounds()
+        .as_slice()
+        .iter()
+        .all(|sides| sides.low.is_some() && sides.high.is_some())
+}
+
 /// Searches a program whose columns are all whole, between sides that are there.
 fn answer_of(alloc: Global, program: &Program, nodes: u64) -> Answer
-    requires bounded { IsBounded program.now }
+    requires whole { All (λ whole. whole ≡ true) program.now.integral }
+    requires sides { All HasSides program.now.bounds }
     requires nodes { 0 < nodes }
 {
     let mut log = Log::new(alloc);
@@ -46,9 +64,11 @@ fn answer_of(alloc: Global, program: &Program, nodes: u64) -> Answer
 fn search(alloc: Global, text: &str, nodes: u64) -> Option<Answer>
     requires { 0 < nodes }
 {
-    programs_are_bounded();
     match read_mps(alloc, text.as_bytes()) {
-        Ok(program) => Some(answer_of(alloc, &program, nodes)),
+        Ok(program) if are_whole(&program) && have_sides(&program) => {
+            Some(answer_of(alloc, &program, nodes))
+        }
+        Ok(_) => None,
         Err(_) => None,
     }
 }

@@ -77,30 +77,24 @@ const BEHIND_COLUMN: [Case; 11] = [
 ];
 
 /// Behind a bound.
-const BEHIND_BOUND: [Case; 7] = [
+const BEHIND_BOUND: [Case; 6] = [
     (" UP B b 1\n", 10, 9),
     (" XX B a 1\n", 10, 14),
     (" SC B a 1\n", 10, 21),
     (" UP B a -inf\n", 10, 21),
     (" UP C b x\n", 11, 17),
-    (" PL B a\nENDATA\n", 11, 21),
     ("\n* x\n", 12, 17),
 ];
 
 /// Whole texts.
-const WHOLE: [Case; 7] = [
+const WHOLE: [Case; 6] = [
     ("", 1, 17),
     ("ROWS\n L R1\nCOLUMNS\nENDATA\n", 4, 16),
     ("OBJSENSE\n BEST\n", 2, 21),
     ("OBJSENSE MAX\n x y\n", 2, 2),
     ("OBJSENSE BEST x\n", 1, 4),
     ("\n N COST\n", 2, 2),
-    (NO_HIGH_SIDE, 8, 21),
 ];
-
-/// A column between markers whose low bound leaves it without a high one.
-const NO_HIGH_SIDE: &str =
-    "ROWS\n N COST\nCOLUMNS\n M 'MARKER' 'INTORG'\n x COST 1\nBOUNDS\n LO B x 0\nENDATA\n";
 
 #[test]
 fn kinds_of_sections_and_rows(rt: HostRuntime) {

@@ -21,6 +21,13 @@ const MADE_WHOLE: &str =
     "ROWS\n N COST\nCOLUMNS\n M 'MARKER' 'INTORG'\n M 'MARKER' 'INTEND'\n x COST 1\n\
     BOUNDS\n UI B x 4\nENDATA\n";
 
+/// A column between markers whose low bound leaves it without a high one.
+const NO_HIGH_SIDE: &str = "ROWS\n N COST\nCOLUMNS\n M 'MARKER' 'INTORG'\n x COST 1\n\
+    BOUNDS\n LO B x 0\nENDATA\n";
+
+/// A continuous column with a negative high bound.
+const NEGATIVE: &str = "ROWS\n N COST\nCOLUMNS\n x COST 1\nBOUNDS\n UP B x -3\nENDATA\n";
+
 /// A side as a whole number; none where it is open.
 fn number(side: Option<Frac>) -> Option<i128> {
     match side {
@@ -38,9 +45,9 @@ fn has_row_between(program: &Program, low: Option<i128>, high: Option<i128>) -> 
 }
 
 /// The first column lies between these sides.
-fn has_column_between(program: &Program, low: i128, high: i128) -> bool {
+fn has_column_between(program: &Program, low: Option<i128>, high: Option<i128>) -> bool {
     match program.bounds().as_slice().first() {
-        Some(sides) => number(sides.low) == Some(low) && number(sides.high) == Some(high),
+        Some(sides) => number(sides.low) == low && number(sides.high) == high,
         None => false,
     }
 }
@@ -54,7 +61,7 @@ fn gives_row(alloc: Global, text: &str, low: Option<i128>, high: Option<i128>) -
 }
 
 /// The first column of the program of a text lies between these sides.
-fn gives_column(alloc: Global, text: &str, low: i128, high: i128) -> bool {
+fn gives_column(alloc: Global, text: &str, low: Option<i128>, high: Option<i128>) -> bool {
     match read_mps(alloc, text.as_bytes()) {
         Ok(program) => has_column_between(&program, low, high),
         Err(_) => false,
@@ -78,5 +85,15 @@ fn second_set_of_right_sides(rt: HostRuntime) {
 
 #[test]
 fn bound_makes_whole(rt: HostRuntime) {
-    assert!(rt; gives_column(rt.alloc(), MADE_WHOLE, 0, 4));
+    assert!(rt; gives_column(rt.alloc(), MADE_WHOLE, Some(0), Some(4)));
+}
+
+#[test]
+fn column_without_a_high_side(rt: HostRuntime) {
+    assert!(rt; gives_column(rt.alloc(), NO_HIGH_SIDE, Some(0), None));
+}
+
+#[test]
+fn negative_high_side(rt: HostRuntime) {
+    assert!(rt; gives_column(rt.alloc(), NEGATIVE, None, Some(-3)));
 }

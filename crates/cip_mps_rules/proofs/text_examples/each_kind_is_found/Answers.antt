@@ -35,6 +35,4 @@ returns c = record {
   kind20_range = refl;
   kind21_bound = refl;
   kind21_sense = refl;
-  kind21_open = refl;
-  kind21_fractional = refl;
 }

@@ -8,4 +8,5 @@ unfolding numeral_of outcome_of
 returns c = record {
   three_columns = tried.three_columns_is;
   loose = tried.loose_is;
+  open_columns = tried.open_is;
 }
