@@ -11,11 +11,11 @@ use Rattle.cip_report.specs.Answers.{AnswerFits, figures_of, status_of}
 use Rattle.cip_report.specs.declared.figures.Ended.{Ended}
 use Rattle.cip_report.specs.declared.figures.Ended.TheVariants.{NoMemory as LacksMemory}
 use Rattle.cip_report.specs.declared.figures.Answer.{Answer}
-use Rattle.cip_solve_core.specs.AnswerOf.{answer_of}
-use Rattle.cip_solve_core.specs.Logs.{numbers_of}
-use Rattle.cip_solve_core.specs.Solved.{IsSolved}
-use Rattle.cip_solve_core.specs.declared.logs.Log.{Log}
-use Rattle.cip_solve_core.proofs.Fits.{answer_fits}
+use Rattle.cip_solve.specs.AnswerOf.{answer_of}
+use Rattle.cip_solve.specs.Logs.{numbers_of}
+use Rattle.cip_solve.specs.Solved.{IsSolved}
+use Rattle.cip_solve.specs.declared.logs.Log.{Log}
+use Rattle.cip_solve.proofs.Fits.{answer_fits}
 use Rattle.cip_main.specs.Answering.{AddsLog, AddsNone, IsLogged, Searched, Answers}
 use Rattle.cip_main.specs.Saying.{Says}
 use Rattle.cip_main.proofs.TrueFigures.{lacks, are_true}

@@ -21,8 +21,8 @@ use Rattle.cip_model.specs.Meaning.{VerdictHolds}
 use Rattle.cip_model.specs.declared.verdicts.Place.{Place}
 use Rattle.cip_model.specs.declared.verdicts.Verdict.{Verdict}
 use Rattle.cip_model.specs.declared.verdicts.Verdict.TheVariants as verdicts
-use Rattle.cip_solve_core.specs.declared.logs.Log.{Log}
-use Rattle.cip_solve_core.specs.Logs.{entries_of}
+use Rattle.cip_solve.specs.declared.logs.Log.{Log}
+use Rattle.cip_solve.specs.Logs.{entries_of}
 use Rattle.cip_mps.specs.MpsFaultKinds.{kind_number as mps_kind_number}
 use Rattle.cip_mps.specs.declared.faults.MpsFault.{MpsFault}
 use Rattle.cip_blocks.specs.BlockKinds.{kind_number as block_kind_number}

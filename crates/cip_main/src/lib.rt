@@ -10,7 +10,7 @@ mod solving;
 mod tasks;
 
 pub use checking::check_and_report;
-pub use cip_solve_core::Log;
+pub use cip_solve::Log;
 pub use cip_words::Words;
 pub use laws::refusals_tell;
 pub use plain::{Plain, say};

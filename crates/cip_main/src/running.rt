@@ -7,7 +7,7 @@ use crate::plain::say;
 use crate::solving::solve_and_report;
 use crate::tasks::{Task, read_task};
 use cip_io::{Sink, Store};
-use cip_solve_core::Log;
+use cip_solve::Log;
 use cip_words::Words;
 use std::alloc::Global;
 

@@ -9,7 +9,7 @@ ghost use Rattle.cip_main.specs.Saying.{Says};
 use cip_io::{Failed, Sink};
 use cip_model::Program;
 use cip_report::{Answer, report};
-use cip_solve_core::{Log, Options, solve, unsearched};
+use cip_solve::{Log, Options, solve, unsearched};
 use std::alloc::Global;
 
 /// Searches a program, and adds the log.

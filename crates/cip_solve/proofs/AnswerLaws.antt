@@ -1,138 +1,126 @@
--- Laws of what a search answers.
-use Rattle.std.proofs.Common.{◌≡◌, ◌≢◌, inl, inr, ℕ, zero, suc, ◌<◌, ◌≤◌, ◌*◌, ◌-◌, Bool, true, false, List, [], ◌∷◌, ◌++◌, length, Option, None, Some, IfSome, refl, sym, ap, ◌∙◌, subst, arith, slice_get}
-use Rattle.std.specs.Prelude.{max, IsSome}
-use Rattle.std.proofs.lemmas.List.{length-append}
-use Rattle.std.proofs.lemmas.Option.{none-some}
-use Rattle.std.proofs.lemmas.Slice.Zip.{AllZip-long}
-use Rattle.cip_rational.specs.Rational.{ℚ}
-use Rattle.cip_problem.specs.Program.{Row, Program}
-use Rattle.cip_problem.specs.WellFormed.{IsWellFormed, columns}
-use Rattle.cip_problem.proofs.Points.AtPlaces.{IsInBox-long}
-use Rattle.cip_problem.specs.Log.{Closed, Entry, IsLog}
-use Rattle.cip_problem.proofs.Log.Length.{log_is_short}
-use Rattle.cip_leaves.specs.Leaf.{at_wholes, IsWholeBetween}
-use Rattle.cip_leaves.specs.Wide.{IsWideAt}
-use Rattle.cip_leaves.specs.Searched.{first_node}
-use Rattle.cip_leaves.proofs.Points.{all_wholes}
-use Rattle.cip_model.specs.Meaning.{VerdictHolds}
-use Rattle.cip_model.specs.Verdicts.{verdict_of}
-use Rattle.cip_model.proofs.Meaning.Point.{verdict_holds, feasible_or_wide}
-use Rattle.cip_model.specs.declared.verdicts.Place.{Place}
-use Rattle.cip_model.specs.declared.verdicts.Place.TheVariants.{Row as AtRow, Cost}
-use Rattle.cip_report.specs.Answers.{StandsAmong, EndedFits}
-use Rattle.cip_report.specs.declared.figures.Ended.{Ended}
-use Rattle.cip_report.specs.declared.figures.Ended.TheVariants.{Optimal, Infeasible, Unbounded, NodeLimit, Wide, NoMemory}
-use Rattle.cip_report.specs.declared.figures.Shown.TheVariants.{Place as ShownPlace, Moves as ShownMoves}
+-- The answers of a search are right.
+use Rattle.std.proofs.Common.{◌≡◌, ◌≢◌, inl, inr, ℕ, Bool, true, false, List, [], Option, None, Some, IfSome, refl, sym, ap, ◌∙◌, subst, if◌then◌else◌}
+use Rattle.std.specs.Prelude.{option_map}
+use Rattle.cip_rational.specs.Rational.{ℚ, ◌≤ℚ◌}
+use Rattle.cip_rational.proofs.Rational.Order.{≤ℚ_antisymm}
+use Rattle.cip_problem.specs.Program.{Program}
+use Rattle.cip_problem.specs.Points.{IsLowerBound}
+use Rattle.cip_problem.specs.Log.{Entry}
+use Rattle.cip_cuts.specs.Improving.{IsNoDearer}
+use Rattle.cip_leaves.specs.Searched.{NoMore, IsOneOf, IsLeast, IsCovered}
+use Rattle.cip_leaves.proofs.Covers.{bound_holds}
+use Rattle.cip_leaf_programs.specs.WideLeaf.{IsWideLeaf}
+use Rattle.cip_incumbent.specs.HeldPoint.{HeldPoint, HoldsPointOf}
+use Rattle.cip_search.specs.SearchState.{State, stay, all_nodes, IsSearch, IsAsGiven}
+use Rattle.cip_search.specs.Endings.{IsLeastBound}
+use Rattle.cip_search.proofs.Bounds.{there_later, no_more_same}
+use Rattle.cip_search.proofs.Logs as logs
+use Rattle.cip_search.proofs.Relaxed.{no_more_trans}
+use Rattle.cip_search_ends.specs.SearchEnds as ends
+use Rattle.cip_search_ends.specs.SearchEnds.{AreTrueEntries, IsTrueEntry, IsAnswer}
+use Rattle.cip_search_ends.specs.EndLaws.{ComesTo}
+use Rattle.cip_search_ends.proofs.EndsRight.{ends_are_right}
 use Rattle.cip_report.specs.declared.figures.Held.{Held}
-use Rattle.cip_solve.specs.Answering.{IsHeld, best_cost, EndsAs}
-use Rattle.cip_solve.specs.Settling.{place_of}
-use Rattle.cip_solve.specs.Statements.{BudgetsSuffice, EndsAreExact, AnswersFit, LeavesAreChecked}
-use Rattle.cip_solve.proofs.OneMore.{follow_more}
-use Rattle.cip_solve.proofs.Alike.{is_log, is_log_from}
-use Rattle.cip_solve.proofs.WideLeaves.{overflows_wide}
+use Rattle.cip_solve.specs.AnswerOf.{held_of}
+use Rattle.cip_solve.specs.Bounds.{is_no_more, capped}
+use Rattle.cip_solve.specs.Stopping.{WasLeast, BestIs}
+use Rattle.cip_solve.proofs.BoundLaws.{no_more_tells, more_below}
 
--- ---- budgets
+-- ---- the point
 
--- an open node can be closed
-pub budget_suffices : BudgetsSuffice
-budget_suffices program start log held n h o e =
-    let entry : Entry = record { node = o.node.number; bound = None; end = Closed } in
-    let more : IsLog program (log ++ entry ∷ []) =
-    is_log program start (log ++ entry ∷ [])
-    (follow_more program.integral (first_node program start ∷ []) [] log entry o.node (is_log_from program start log h) o.left.given (λ k. omega (arith, k.1)) o.left.not_taken tt) in
-    let short : length (log ++ entry ∷ []) ≤ max 1 (2 * n - 1) = log_is_short program (log ++ entry ∷ []) n more e in
-    omega (arith, short, length-append log (entry ∷ []))
+abbrev pub cost_of_best : Option HeldPoint → Option ℚ
+cost_of_best best = option_map (λ h. h.cost) best
 
--- ---- ends
+pub same_cost : (best : Option HeldPoint) (held : Option Held) → BestIs best held → cost_of_best best ≡ ends.cost_held (option_map held_of held)
+same_cost best None e = ap cost_of_best e
+same_cost best (Some held) e = ap cost_of_best e
 
-not_none : (held : Option ℚ) → IsSome held → held ≢ None
-not_none None h e = absurd (cc)
-not_none (Some cost) h e = absurd (cc)
+pub is_point : (program : Program) (columns : ℕ) (best : Option HeldPoint) (held : Option Held) → HoldsPointOf program (record { columns = columns; best = best }) → BestIs best held → IfSome (option_map held_of held) (ends.IsHeldPoint program)
+is_point program columns best None h e = tt
+is_point program columns best (Some held) h e =
+    let k = subst (λ b. HoldsPointOf program (record { columns = columns; best = b })) e h in
+    record { feasible = k.feasible; cost = k.cost }
 
-pub ends_exclude : EndsAreExact
-ends_exclude program nodes log held Optimal Optimal h k n m = refl
-ends_exclude program nodes log held Optimal Infeasible h k n m = absurd (not_none held h.2 k.2)
-ends_exclude program nodes log held Optimal NodeLimit h k n m = absurd (h.0 k.1)
-ends_exclude program nodes log held Optimal (Wide leaf (ShownPlace place)) h k n m = absurd (h.1 k.1)
-ends_exclude program nodes log held Optimal (Wide leaf (ShownMoves number)) h k n m = absurd k.2
-ends_exclude program nodes log held Optimal (Unbounded ray) h k n m = absurd k
-ends_exclude program nodes log held Optimal NoMemory h k n m = absurd (m refl)
-ends_exclude program nodes log held Infeasible Optimal h k n m = absurd (not_none held k.2 h.2)
-ends_exclude program nodes log held Infeasible Infeasible h k n m = refl
-ends_exclude program nodes log held Infeasible NodeLimit h k n m = absurd (h.0 k.1)
-ends_exclude program nodes log held Infeasible (Wide leaf (ShownPlace place)) h k n m = absurd (h.1 k.1)
-ends_exclude program nodes log held Infeasible (Wide leaf (ShownMoves number)) h k n m = absurd k.2
-ends_exclude program nodes log held Infeasible (Unbounded ray) h k n m = absurd k
-ends_exclude program nodes log held Infeasible NoMemory h k n m = absurd (m refl)
-ends_exclude program nodes log held NodeLimit Optimal h k n m = absurd (k.0 h.1)
-ends_exclude program nodes log held NodeLimit Infeasible h k n m = absurd (k.0 h.1)
-ends_exclude program nodes log held NodeLimit NodeLimit h k n m = refl
-ends_exclude program nodes log held NodeLimit (Wide leaf (ShownPlace place)) h k n m = absurd (k.0 h.1)
-ends_exclude program nodes log held NodeLimit (Wide leaf (ShownMoves number)) h k n m = absurd k.2
-ends_exclude program nodes log held NodeLimit (Unbounded ray) h k n m = absurd k
-ends_exclude program nodes log held NodeLimit NoMemory h k n m = absurd (m refl)
-ends_exclude program nodes log held (Wide leaf (ShownPlace place)) Optimal h k n m = absurd (k.1 h.1)
-ends_exclude program nodes log held (Wide leaf (ShownPlace place)) Infeasible h k n m = absurd (k.1 h.1)
-ends_exclude program nodes log held (Wide leaf (ShownPlace place)) NodeLimit h k n m = absurd (h.0 k.1)
-ends_exclude program nodes log held (Wide leaf (ShownPlace place)) (Wide other (ShownPlace there)) h k n m = refl
-ends_exclude program nodes log held (Wide leaf (ShownPlace place)) (Wide other (ShownMoves number)) h k n m = absurd k.2
-ends_exclude program nodes log held (Wide leaf (ShownPlace place)) (Unbounded ray) h k n m = absurd k
-ends_exclude program nodes log held (Wide leaf (ShownPlace place)) NoMemory h k n m = absurd (m refl)
-ends_exclude program nodes log held (Wide leaf (ShownMoves number)) other h k n m = absurd h.2
-ends_exclude program nodes log held (Unbounded ray) other h k n m = absurd h
-ends_exclude program nodes log held NoMemory other h k n m = absurd (n refl)
+-- ---- a search that stands still
 
--- ---- answers are printed
+abbrev Right : Program → Option ℚ → ℕ → List Entry → ends.Answer → Type 0
+Right program start nodes log answer = IsAnswer program start nodes log answer
 
-point_fits : (program : Program) (best : Option Held) → IsWellFormed program → IfSome best (IsHeld program) → IfSome best (λ held. length held.point.items ≡ columns program)
-point_fits program None formed h = tt
-point_fits program (Some held) formed h = IsInBox-long program.bounds held.point.items h.feasible.within ∙ formed.bounds
+-- ---- refused memory
 
--- as many names of whole columns as sides of such
-as_many : {X Y : Type 0} (integral : List Bool) (xs : List X) (ys : List Y) → length xs ≡ length ys → length (at_wholes integral xs) ≡ length (at_wholes integral ys)
-as_many [] xs ys e = refl
-as_many (w ∷ ws) [] [] e = refl
-as_many (w ∷ ws) [] (y ∷ ys) e = absurd (omega (arith, e))
-as_many (w ∷ ws) (x ∷ xs) [] e = absurd (omega (arith, e))
-as_many (true ∷ ws) (x ∷ xs) (y ∷ ys) e = ap suc (as_many ws xs ys (omega (arith, e)))
-as_many (false ∷ ws) (x ∷ xs) (y ∷ ys) e = as_many ws xs ys (omega (arith, e))
+module _ (program : Program) (start : Option ℚ) (log : List Entry) where
+  earlier_true : (now before : Option ℚ) → IsNoDearer now before → AreTrueEntries program start log before → AreTrueEntries program start log now
+  earlier_true now before d t entry node c e =
+      let k = t entry node c e in
+      record { kept = k.kept; holds = there_later program now before entry.bound node.box d k.holds; parked = k.parked }
 
-row_below : (rows : List Row) (number : ℕ) (row : Row) → slice_get rows number ≡ Some row → number < length rows
-row_below [] number row e = absurd (none-some row e)
-row_below (r ∷ rs) zero row e = omega arith
-row_below (r ∷ rs) (suc number) row e = let l = row_below rs number row e in omega (arith, l)
+  -- beside a cost held that has fallen the least bound is the lesser of that and the one before
+  still_one : (now before bound : Option ℚ) → IsOneOf program start log before bound → (cost : ℚ) → now ≡ Some cost → ((c : ℚ) → before ≡ Some c → bound ≡ Some c → bound ≡ Some cost) → IsOneOf program start log now bound
+  still_one now before bound (inl c) cost e f = inl (record { cost = cost; is_held = e; is_bound = f c.cost c.is_held c.is_bound })
+  still_one now before bound (inr o) cost e f = inr o
 
-stands_there : (program : Program) (leaf : List ℚ) (place : Place) → IsWellFormed program → IsWideAt program leaf (place_of place) → StandsAmong (length program.row_names) (ShownPlace place)
-stands_there program leaf (AtRow number) formed h = let l = row_below program.rows number h.row h.is_row in omega (arith, l, formed.row_names)
-stands_there program leaf Cost formed h = tt
+  same_by : (now before bound : Option ℚ) (cost : ℚ) → now ≡ Some cost → IsNoDearer now before → NoMore bound (Some cost) → (c : ℚ) → before ≡ Some c → bound ≡ Some c → bound ≡ Some cost
+  same_by now before bound cost e d n c f g =
+      let below : cost ≤ℚ c = subst (λ t. IsNoDearer t (Some c)) e (subst (IsNoDearer now) f d) in
+      let above : c ≤ℚ cost = subst (λ t. NoMore t (Some cost)) g n in
+      g ∙ ap Some (≤ℚ_antisymm above below)
 
-ended_fits : (program : Program) (nodes : ℕ) (log : List Entry) (held : Option ℚ) (ended : Ended) → IsWellFormed program → EndsAs program nodes log held ended → EndedFits program ended
-ended_fits program nodes log held Optimal formed h = tt
-ended_fits program nodes log held Infeasible formed h = tt
-ended_fits program nodes log held (Unbounded ray) formed h = absurd h
-ended_fits program nodes log held NodeLimit formed h = tt
-ended_fits program nodes log held (Wide leaf (ShownPlace place)) formed h =
-    let long : length leaf.items ≡ length (at_wholes program.integral program.bounds) = AllZip-long IsWholeBetween (at_wholes program.integral program.bounds) leaf.items h.2.is_leaf in
-    (long ∙ as_many program.integral program.bounds program.column_names (formed.bounds ∙ sym formed.column_names), stands_there program leaf.items place formed h.2.wide)
-ended_fits program nodes log held (Wide leaf (ShownMoves number)) formed h = absurd h.2
-ended_fits program nodes log held NoMemory formed h = tt
+  others_least : (now before bound : Option ℚ) (cost : ℚ) → now ≡ Some cost → IsLeast program start log before bound → NoMore bound (Some cost) → (other : Option ℚ) → IsOneOf program start log now other → NoMore bound other
+  others_least now before bound cost e l n other (inl c) = subst (NoMore bound) (sym e ∙ (c.is_held ∙ sym c.is_bound)) n
+  others_least now before bound cost e l n other (inr o) = l.least other (inr o)
 
-pub answer_fits : AnswersFit
-answer_fits program nodes log answer formed h = record {
-  point = point_fits program answer.best formed h.point;
-  ended = ended_fits program nodes log (best_cost answer) answer.ended formed h.ends;
-}
+  others_cost : (now before bound : Option ℚ) (cost : ℚ) → now ≡ Some cost → IsLeast program start log before bound → NoMore (Some cost) bound → (other : Option ℚ) → IsOneOf program start log now other → NoMore (Some cost) other
+  others_cost now before bound cost e l n other (inl c) = no_more_same (Some cost) other (sym e ∙ (c.is_held ∙ sym c.is_bound))
+  others_cost now before bound cost e l n other (inr o) = no_more_trans (Some cost) bound other n (l.least other (inr o))
 
--- ---- leaves are checked
+  capped_by : (before bound : Option ℚ) (cost : ℚ) (test : Bool) → is_no_more bound (Some cost) ≡ test → IsNoDearer (Some cost) before → IsLeast program start log before bound → IsLeast program start log (Some cost) (if test then bound else Some cost)
+  capped_by before bound cost true t d l =
+      let n = no_more_tells bound (Some cost) t in
+      record {
+        one = still_one (Some cost) before bound l.one cost refl (same_by (Some cost) before bound cost refl d n);
+        least = others_least (Some cost) before bound cost refl l n;
+      }
+  capped_by before bound cost false t d l = record {
+    one = inl (record { cost = cost; is_held = refl; is_bound = refl });
+    least = others_cost (Some cost) before bound cost refl l (more_below bound (Some cost) t);
+  }
 
-pub leaf_checked : LeavesAreChecked
-leaf_checked program leaf formed whole is_leaf narrow =
-    let same = all_wholes program.integral program.bounds whole (formed.bounds ∙ sym formed.integral) in
-    let long : length leaf ≡ columns program = AllZip-long IsWholeBetween (at_wholes program.integral program.bounds) leaf is_leaf ∙ ap length same ∙ formed.bounds in
-    let holds = verdict_holds program leaf formed long in (
-      λ e. (subst (VerdictHolds program leaf) e holds).0,
-      λ f. elim (feasible_or_wide program leaf (verdict_of program leaf) holds f) [
-        | inl e ↦ e
-        | inr wide ↦ absurd (narrow (place_of wide.0, overflows_wide program leaf wide.0 formed whole long (subst (VerdictHolds program leaf) wide.1 holds)))
-      ],
-    )
+  pub capped_least : (now before bound : Option ℚ) → IsNoDearer now before → IsLeast program start log before bound → IsLeast program start log now (capped now bound)
+  capped_least None None bound d l = l
+  capped_least None (Some before) bound d l = absurd d
+  capped_least (Some cost) before bound d l = capped_by before bound cost (is_no_more bound (Some cost)) refl d l
+
+module _ (program : Program) (start : Option ℚ) (nodes : ℕ) (state : State) (s : IsSearch program program stay IsWideLeaf start state) where
+  cover_there : (held : Option ends.Held) → state.held ≡ ends.cost_held held → IsCovered program start state.log (ends.cost_held held)
+  cover_there held e = subst (λ h. IsCovered program start state.log h) e (logs.covered program program stay IsWideLeaf start state s)
+
+  bound_below : (held : Option ends.Held) (bound : Option ℚ) → state.held ≡ ends.cost_held held → IsLeast program start state.log (ends.cost_held held) bound → IfSome bound (IsLowerBound program)
+  bound_below held None e l = tt
+  bound_below held (Some b) e l = bound_holds program start state.log (ends.cost_held held) b (cover_there held e) l
+
+  -- where memory was refused
+  pub refused_is_right : (held : Option ends.Held) (bound : Option ℚ) → state.held ≡ ends.cost_held held → IfSome held (ends.IsHeldPoint program) → WasLeast program start state.log state.held bound → IsAnswer program start nodes state.log (record { ended = ends.NoMemory; held = held; bound = capped (ends.cost_held held) bound })
+  refused_is_right held bound e p was =
+      let d : IsNoDearer (ends.cost_held held) was.before = subst (λ h. IsNoDearer h was.before) e was.no_dearer in
+      let l = capped_least program start state.log (ends.cost_held held) was.before bound d was.least in
+      record {
+        point = p;
+        end_ = record {
+          least = λ f. l;
+          no_bound = λ f. absurd (cc);
+          bound = bound_below held (capped (ends.cost_held held) bound) e l;
+          infeasible = λ f. absurd (cc);
+          agree = λ f. absurd (cc);
+          wide = λ leaf shown f. absurd (cc);
+          ends = tt;
+          cover = cover_there held e;
+          entries = earlier_true program start state.log (ends.cost_held held) was.before d was.entries;
+        };
+        logged = logs.is_log program program stay IsWideLeaf start state s;
+      }
+
+-- where it stands still
+pub still_is_right : (program : Program) (start : Option ℚ) (nodes : ℕ) (state : State) (held : Option ends.Held) (bound : Option ℚ) (ended : ends.Ended) → IsSearch program program stay IsWideLeaf start state → IsAsGiven program start state → state.work ≡ [] → state.held ≡ ends.cost_held held → IfSome held (ends.IsHeldPoint program) → ComesTo program nodes state ended → (ended ≢ ends.Infeasible → IsLeastBound state.held (all_nodes state) bound) → (ended ≡ ends.Infeasible → bound ≡ None) → IsAnswer program start nodes state.log (record { ended = ended; held = held; bound = bound })
+still_is_right program start nodes state held bound ended s g idle e p comes least none =
+    ends_are_right program start nodes state (record { ended = ended; held = held; bound = bound }) s g
+    (record { idle = idle; held = e; point = p; comes = comes; least = least; no_bound = none })

@@ -1,11 +1,7 @@
-pub mod Answering
-pub mod Boxes
-pub mod Kept
+pub mod AnswerOf
+pub mod Bounds
 pub mod Logs
-pub mod RootBound
 pub mod Searching
-pub mod Settling
-pub mod Splits
-pub mod Stacked
-pub mod Start
-pub mod Statements
+pub mod Solved
+pub mod Stopping
+pub mod Worst

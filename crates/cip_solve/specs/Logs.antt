@@ -1,18 +1,22 @@
--- The log of a search as entries.
-use Rattle.std.specs.Prelude.{List, map}
-use Rattle.cip_problem.specs.Log.{End, Split, Closed, Parked, Entry}
-use Rattle.cip_solve.specs.declared.logs.End.{End as LoggedEnd}
-use Rattle.cip_solve.specs.declared.logs.End.TheVariants.{Split as LoggedSplit, Closed as LoggedClosed, Parked as LoggedParked}
-use Rattle.cip_solve.specs.declared.logs.Logged.{Logged}
+-- What a search did, as the definitions have it.
+use Rattle.std.specs.Prelude.{ℕ, List, [], ◌∷◌, map, Option, None, Some}
+use Rattle.cip_problem.specs.Log.{Entry}
+use Rattle.cip_tree.specs.Entries as tree
+use Rattle.cip_node_bounds.specs.declared.relaxed.Mark.{Mark}
 use Rattle.cip_solve.specs.declared.logs.Log.{Log}
 
-abbrev pub end_of : LoggedEnd → End
-end_of (LoggedSplit column at low high) = Split column at low high
-end_of LoggedClosed = Closed
-end_of LoggedParked = Parked
-
-abbrev pub logged_entry : Logged → Entry
-logged_entry logged = record { node = logged.id; bound = logged.bound; end = end_of logged.end }
-
+-- the entries
 abbrev pub entries_of : Log → List Entry
-entries_of log = map logged_entry log.taken.items
+entries_of log = tree.entries_of log.taken.items
+
+-- the numbers of marked nodes
+abbrev pub numbers_of : List (ℕ × Mark) → List ℕ
+numbers_of marks = map (λ mark. mark.0) marks
+
+abbrev pub marked_in : Log → List ℕ
+marked_in log = numbers_of log.marks.items
+
+-- the mark of a node of this number, if it has one
+abbrev pub marks_by : ℕ → Option Mark → List (ℕ × Mark)
+marks_by number None = []
+marks_by number (Some mark) = (number, mark) ∷ []

@@ -1,42 +1,106 @@
--- What holds of a search between two nodes.
-use Rattle.std.specs.Prelude.{◌≡◌, ◌≢◌, ℕ, ◌≤◌, true, ◌⊎◌, List, [], ◌∷◌, Option, None, Some, All, Contains, ⊤}
+-- What holds of a search between two nodes, and how it stops.
+use Rattle.std.specs.Prelude.{◌≡◌, ◌≢◌, ℕ, ◌+◌, ◌*◌, ◌<◌, ◌≤◌, List, [], Option, None, Some, IfSome, length}
 use Rattle.cip_rational.specs.Rational.{ℚ}
-use Rattle.cip_problem.specs.Program.{Sides, Program}
-use Rattle.cip_problem.specs.Box.{IsInBox}
-use Rattle.cip_problem.specs.Log.{Entry, Node, node_of, AllFollow, matters}
-use Rattle.cip_cuts.specs.Improving.{IsImproving}
-use Rattle.cip_leaves.specs.Searched.{first_node, nodes_given, IsLeftOpen, IsParkedLeaf, IsInParked, HasWideLeaf}
-use Rattle.cip_solve.specs.Splits.{IsRange}
+use Rattle.cip_problem.specs.Program.{Program}
+use Rattle.cip_problem.specs.Points.{IsFeasible, IsLowerBound}
+use Rattle.cip_problem.specs.Log.{Entry, IsLog}
+use Rattle.cip_model.specs.Rays.{IsShownRay}
+use Rattle.cip_incumbent.specs.HeldPoint.{Holding}
+use Rattle.cip_leaf_programs.specs.WideLeaf.{Shown}
+use Rattle.cip_leaf.specs.LeafAnswers.{shown_as}
+use Rattle.cip_search_ends.specs.SearchAnswers.{AreRelaxed, AreOfEntries, IsParkedLast}
+use Rattle.cip_tree.specs.Nodes.{Nodes}
+use Rattle.cip_node_bounds.specs.declared.relaxed.Mark.{Mark}
+use Rattle.cip_node.specs.KeptNodes.{cost_held, IsSearchOf, IsKept, IsHolding}
+use Rattle.cip_node.specs.declared.ends.NodeEnd.{NodeEnd}
+use Rattle.cip_node.specs.declared.ends.NodeEnd.TheVariants as by
+use Rattle.cip_solve.specs.AnswerOf.{shown_of}
+use Rattle.cip_solve.specs.Logs.{numbers_of}
+use Rattle.cip_solve.specs.Solved.{AreMet}
+use Rattle.cip_solve.specs.Stopping.{WasLeast}
+use Rattle.cip_solve.specs.Worst.{IsWorst, IsWorse}
+use Rattle.cip_solve.specs.declared.worst.Worst.{Worst}
+use Rattle.cip_solve.specs.declared.turns.Stop.{Stop}
+use Rattle.cip_solve.specs.declared.turns.Stop.TheVariants as kinds
 
--- a relation of each element to each later one
-abbrev pub Pairwise : {X : Type 0} → (X → X → Type 0) → List X → Type 0
-Pairwise R [] = ⊤
-Pairwise R (x ∷ xs) = All (R x) xs × Pairwise R xs
+-- ---- between two nodes
 
--- a point lies in the box of one of the nodes
-abbrev pub IsInOne : List Node → List ℚ → Type 0
-IsInOne [] point = ⊥
-IsInOne (node ∷ nodes) point = IsInBox node.box point ⊎ IsInOne nodes point
+-- with no node in work: the nodes are those of a search whose root had this bound, the point held is one of the
+-- program, the worst parked leaf is known, the numbers given are few, and the root is open before a node was taken
+pub record IsStill
+    (program : Program) (start : Option ℚ) (tree : Nodes) (holding : Holding) (worst : Option Worst) : Type 0 where
+  pub kept : IsKept program tree (cost_held holding) []
+  pub start_is : tree.root.bound ≡ start
+  pub is_held : IsHolding program holding
+  pub is_worst : IsWorst program tree.parked worst
+  pub counted : tree.ids ≤ 1 + 2 * length tree.log
+  pub begun : tree.log ≡ [] → tree.open_ ≢ []
 
--- each column has a whole value between its sides, and the box lies inside that of the program
-pub record IsInner (program : Program) (box : List Sides) : Type 0 where
-  pub ranges : All IsRange box
-  pub within : (point : List ℚ) → IsInBox box point → IsInBox program.bounds point
+-- nodes were split by bounds that are as good as their linear programs', unless they are marked; and marks are of nodes
+-- that were taken, and say what their linear programs met
+pub record IsTold (program : Program) (start : Option ℚ) (log : List Entry) (marks : List (ℕ × Mark)) : Type 0 where
+  pub work : AreRelaxed program start log (numbers_of marks)
+  pub are_of : AreOfEntries log (numbers_of marks)
+  pub met : AreMet program start log marks
 
--- the log is right; the nodes are open in it and have different numbers, all below `ids`, and the bound;
--- each improving point lies in one of their boxes or in that of a parked leaf; as long as the bound matters, no other
--- node is open; entries have the bound, and parked ones are wide leaves
-pub record Searching
-    (program : Program) (log : List Entry) (bound held : Option ℚ) (ids : ℕ) (nodes : List Node) : Type 0 where
-  pub logged : AllFollow program.integral (first_node program bound ∷ []) [] log
-  pub are_open : All (IsLeftOpen program bound log) nodes
-  pub apart : Pairwise (λ node other. node.number ≢ other.number) nodes
-  pub fresh : (number : ℕ) → ids ≤ number → node_of (nodes_given program bound log) number ≡ None
-  pub bounded : (number : ℕ) (node : Node)
-      → node_of (nodes_given program bound log) number ≡ Some node → node.bound ≡ bound
-  pub cover : (point : List ℚ)
-      → IsImproving program held point → IsInOne nodes point ⊎ IsInParked program bound log point
-  pub complete : matters held bound ≡ true
-      → (node : Node) → IsLeftOpen program bound log node → Contains nodes node
-  pub entries : (entry : Entry) → Contains log entry → entry.bound ≡ bound
-  pub parked : (entry : Entry) (node : Node) → IsParkedLeaf program bound log entry node → HasWideLeaf program node
+-- ---- how it stops
+
+-- the cost falls without end from a feasible point along a ray, and no sum of its test overflows
+pub record IsEndless (program : Program) (point ray : List ℚ) : Type 0 where
+  pub feasible : IsFeasible program point
+  pub shown : IsShownRay program point ray
+
+-- no node is open, or the budget is spent
+pub record StopsStill
+    (program : Program) (start : Option ℚ) (nodes : ℕ) (tree : Nodes) (holding : Holding) (worst : Option Worst)
+    : Type 0 where
+  pub still : IsStill program start tree holding worst
+  pub spent : tree.open_ ≢ [] → length tree.log ≡ nodes
+
+-- the last node showed a ray
+pub record StopsEndless (program : Program) (log : List Entry) (point ray : List ℚ) : Type 0 where
+  pub logged : IsLog program log
+  pub last : IsParkedLast log
+  pub falls : IsEndless program point ray
+
+-- memory was refused, and this was the least bound before
+pub record StopsRefused
+    (program : Program) (start : Option ℚ) (tree : Nodes) (holding : Holding) (bound : Option ℚ) : Type 0 where
+  pub searched : IsSearchOf program tree (cost_held holding) []
+  pub start_is : tree.root.bound ≡ start
+  pub was_least : WasLeast program start tree.log (cost_held holding) bound
+
+abbrev pub StopsAs : Program → Option ℚ → ℕ → Nodes → Holding → Option Worst → Stop → Type 0
+StopsAs program start nodes tree holding worst kinds.Still = StopsStill program start nodes tree holding worst
+StopsAs program start nodes tree holding worst (kinds.Endless point ray) =
+    StopsEndless program tree.log point.items ray.items
+StopsAs program start nodes tree holding worst (kinds.NoMemory bound) = StopsRefused program start tree holding bound
+
+-- however it stops: some nodes could be taken, and no more were; the root's bound holds, and the log tells of the work
+pub record IsWithin
+    (program : Program) (start : Option ℚ) (nodes : ℕ) (log : List Entry) (marks : List (ℕ × Mark)) : Type 0 where
+  pub some : 0 < nodes
+  pub most : length log ≤ nodes
+  pub lower : IfSome start (IsLowerBound program)
+  pub told : IsTold program start log marks
+
+-- ---- what is kept of a node that ended
+
+-- the worse of the worst leaf so far and of this one was kept
+pub record IsWorseOf
+    (old : Option Worst) (leaf : List ℚ) (bound : Option ℚ) (shown : Shown) (new : Option Worst) : Type 0 where
+  pub parked : Worst
+  pub leaf_is : parked.leaf.items ≡ leaf
+  pub bound_is : parked.bound ≡ bound
+  pub shown_is : shown_of parked.shown ≡ shown
+  pub worse : IsWorse old parked new
+
+-- by how a node ended the worst leaf changes, or the search stops
+abbrev pub IsKeptAs : Option Worst → Option Worst → NodeEnd → Option Stop → Type 0
+IsKeptAs old new by.Pruned stop = (new ≡ old) × (stop ≡ None)
+IsKeptAs old new by.Empty stop = (new ≡ old) × (stop ≡ None)
+IsKeptAs old new by.Solved stop = (new ≡ old) × (stop ≡ None)
+IsKeptAs old new (by.Split low high) stop = (new ≡ old) × (stop ≡ None)
+IsKeptAs old new (by.Parked leaf bound shown) stop =
+    IsWorseOf old leaf.items bound (shown_as shown) new × (stop ≡ None)
+IsKeptAs old new (by.Ray point ray) stop = stop ≡ Some (kinds.Endless point ray)

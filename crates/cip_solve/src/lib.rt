@@ -1,14 +1,13 @@
-//! The search over a program whose columns are all whole, between finite sides, and its log.
+//! The search for a point of least cost, over the work on nodes.
 #![tactic(auto)]
 
-mod boxes;
-mod found;
-mod laws;
+mod bounds;
+mod ends;
+mod finish;
 mod logs;
-mod search;
-mod splits;
-mod stack;
+mod solving;
+mod turns;
+mod worst;
 
-pub use laws::{answers_fit, budgets_suffice, ends_are_exact, leaves_are_checked};
-pub use logs::{End, Log, Logged};
-pub use search::{Options, root_bound, solve};
+pub use logs::Log;
+pub use solving::{Options, solve, unsearched};

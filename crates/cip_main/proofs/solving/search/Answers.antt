@@ -1,5 +1,5 @@
 use Rattle.std.proofs.Common.{◌≡◌, ◌++◌, ◌∷◌, [], refl, sym, subst, inl, rules}
-use Rattle.cip_solve_core.specs.Logs.{entries_of}
+use Rattle.cip_solve.specs.Logs.{entries_of}
 use Rattle.cip_main.specs.Answering.{Searched}
 use Rattle.cip_main.proofs.Searches.{not_searched}
 use Rattle.cip_main.proofs.solving.search.Goals as goal

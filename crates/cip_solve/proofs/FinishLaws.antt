@@ -1,0 +1,181 @@
+-- The answers of a search, by how it stops.
+use Rattle.std.proofs.Common.{◌≡◌, ◌≢◌, ℕ, ◌<◌, false, List, [], ◌++◌, length, Option, None, Some, IfSome, MatchOption, refl, sym, ap, ◌∙◌, subst, arith, true≢false}
+use Rattle.std.specs.Prelude.{option_map}
+use Rattle.cip_rational.specs.Rational.{ℚ}
+use Rattle.std.proofs.lemmas.Slice.Zip.{AllZip-long}
+use Rattle.cip_problem.specs.Program.{Sides, Program}
+use Rattle.cip_problem.specs.WellFormed.{IsWellFormed, columns}
+use Rattle.cip_problem.specs.Points.{cost_of}
+use Rattle.cip_problem.specs.Log.{Entry}
+use Rattle.cip_linear.specs.LinearProgram.{StaysBetween}
+use Rattle.cip_problem.proofs.Points.AtPlaces.{IsInBox-long}
+use Rattle.cip_model.proofs.Meaning.Ray.{falls_along}
+use Rattle.cip_incumbent.specs.HeldPoint.{HeldPoint, Holding, IsHeldOf}
+use Rattle.cip_search.specs.Endings.{IsLeastBound}
+use Rattle.cip_search_ends.specs.SearchEnds as ends
+use Rattle.cip_search_ends.specs.SearchEnds.{IsAnswer}
+use Rattle.cip_search_ends.specs.SearchAnswers.{IsParkedLast, IsSearchAnswer}
+use Rattle.cip_search_ends.proofs.StartBounds.{answer_above}
+use Rattle.cip_tree.specs.Moves as tree
+use Rattle.cip_tree.specs.Nodes.{Nodes}
+use Rattle.cip_node_bounds.specs.declared.relaxed.Mark.{Mark}
+use Rattle.cip_node.specs.KeptNodes.{cost_held, state_of, IsHolding}
+use Rattle.cip_report.specs.declared.figures.Ended.{Ended}
+use Rattle.cip_report.specs.declared.figures.Ended.TheVariants.{Optimal, Infeasible, Unbounded, NodeLimit, Wide, NoMemory}
+use Rattle.cip_report.specs.declared.figures.Held.{Held}
+use Rattle.cip_solve.specs.AnswerOf.{held_of, ended_of}
+use Rattle.cip_solve.specs.Bounds.{least_of, bound_held, flat, capped}
+use Rattle.cip_solve.specs.Logs.{numbers_of}
+use Rattle.cip_solve.specs.Stopping.{one_matters, EndsBy, WasLeast, BestIs}
+use Rattle.cip_solve.specs.Worst.{worst_bound}
+use Rattle.cip_solve.specs.Searching.{IsStill, IsEndless, StopsStill, StopsEndless, StopsRefused, IsWithin}
+use Rattle.cip_solve.specs.declared.worst.Worst.{Worst}
+use Rattle.cip_solve.proofs.AnswerLaws.{same_cost, is_point, refused_is_right, still_is_right}
+use Rattle.cip_solve.proofs.ComesTo.{open_least, parked_least, least_of_all, comes_to}
+use Rattle.cip_solve.proofs.TurnLaws.{flat_least, not_empty}
+
+-- ---- room for the point held
+
+held_long : (program : Program) (best : Option HeldPoint) (n : ℕ) → IsWellFormed program → IfSome best (IsHeldOf program) → n ≡ columns program → IfSome best (λ held. length held.point ≡ n)
+held_long program None n formed h e = tt
+held_long program (Some held) n formed h e = IsInBox-long program.bounds held.point h.feasible.within ∙ formed.bounds ∙ sym e
+
+pub held_room : (program : Program) (holding : Holding) (n : ℕ) → IsWellFormed program → IsHolding program holding → n ≡ columns program → IfSome holding.best (λ held. length held.point ≡ n)
+held_room program holding n formed h e = held_long program holding.best n formed h.feasible e
+
+-- ---- what each answer has
+
+within_right : (program : Program) (start : Option ℚ) (nodes : ℕ) (log : List Entry) (marks : List (ℕ × Mark)) (answer : ends.Answer) → IsWithin program start nodes log marks → IsAnswer program start nodes log answer → (log ≡ [] → answer.ended ≡ ends.NoMemory) → ((ray : List ℚ) → answer.ended ≡ ends.Unbounded ray → (length ray ≡ columns program) × IsParkedLast log) → IsSearchAnswer program start nodes log (numbers_of marks) answer
+within_right program start nodes log marks answer w a s r = record {
+  right = a;
+  within = w.most;
+  bound = answer_above program start nodes log answer w.lower a;
+  searched = s;
+  long = λ ray e. (r ray e).0;
+  ray = λ ray e. (r ray e).1;
+  work = w.told.work;
+  marks = w.told.are_of;
+}
+
+-- ---- it stands still
+
+least_none : (a b : Option (Option ℚ)) → least_of a b ≡ None → (a ≡ None) × (b ≡ None)
+least_none None None e = (refl, refl)
+least_none None (Some b) e = absurd (cc)
+least_none (Some a) None e = absurd (cc)
+least_none (Some a) (Some b) e = absurd (cc)
+
+held_none : (held : Option ℚ) → bound_held held ≡ None → held ≡ None
+held_none None e = refl
+held_none (Some cost) e = absurd (cc)
+
+worst_none : (worst : Option Worst) → worst_bound worst ≡ None → worst ≡ None
+worst_none None e = refl
+worst_none (Some worst) e = absurd (cc)
+
+nothing_ends : (ended : Ended) → EndsBy None None None ended → ended_of ended ≡ ends.Infeasible
+nothing_ends Optimal h = absurd (let s = h.2 in cc)
+nothing_ends Infeasible h = refl
+nothing_ends (Unbounded ray) h = absurd h
+nothing_ends NodeLimit h = absurd (true≢false (sym h))
+nothing_ends (Wide leaf shown) h = absurd (let s = h.1.is_worst in cc)
+nothing_ends NoMemory h = absurd h
+
+ended_none : (held : Option ℚ) (waiting : Option (Option ℚ)) (worst : Option Worst) (ended : Ended) → least_of (bound_held held) (least_of waiting (worst_bound worst)) ≡ None → EndsBy held waiting worst ended → ended_of ended ≡ ends.Infeasible
+ended_none held waiting worst ended e h =
+    let first = least_none (bound_held held) (least_of waiting (worst_bound worst)) e in
+    let second = least_none waiting (worst_bound worst) first.1 in
+    nothing_ends ended
+    (subst (λ t. EndsBy t None None ended) (held_none held first.0)
+    (subst (λ t. EndsBy held t None ended) second.0
+    (subst (λ t. EndsBy held waiting t ended) (worst_none worst second.1) h)))
+
+quiet_none : (bound : Option (Option ℚ)) → one_matters None bound ≡ false → bound ≡ None
+quiet_none None e = refl
+quiet_none (Some bound) e = absurd (true≢false e)
+
+no_bound : (held : Option ℚ) (waiting : Option (Option ℚ)) (worst : Option Worst) (ended : Ended) → ended_of ended ≡ ends.Infeasible → EndsBy held waiting worst ended → flat (least_of (bound_held held) (least_of waiting (worst_bound worst))) ≡ None
+no_bound held waiting worst Optimal e h = absurd (cc)
+no_bound held waiting worst Infeasible e h =
+    let first : waiting ≡ None = quiet_none waiting (ap (λ t. one_matters t waiting) (sym h.2) ∙ h.0) in
+    let second : worst_bound worst ≡ None = quiet_none (worst_bound worst) (ap (λ t. one_matters t (worst_bound worst)) (sym h.2) ∙ h.1) in
+    ap (λ t. flat (least_of (bound_held t) (least_of waiting (worst_bound worst)))) h.2
+    ∙ (ap (λ t. flat (least_of None (least_of t (worst_bound worst)))) first ∙ ap flat second)
+no_bound held waiting worst (Unbounded ray) e h = absurd h
+no_bound held waiting worst NodeLimit e h = absurd (cc)
+no_bound held waiting worst (Wide leaf shown) e h = absurd (cc)
+no_bound held waiting worst NoMemory e h = absurd h
+
+still_there : (program : Program) (nodes : ℕ) (tree_ : Nodes) (holding : Holding) (worst : Option Worst) (waiting : Option (Option ℚ)) (best : Option Held) (bound : Option ℚ) (ended : Ended) → IsStill program tree_.root.bound tree_ holding worst → (tree_.open_ ≢ [] → length tree_.log ≡ nodes) → MatchOption waiting (tree_.open_ ≡ []) (λ b. tree.IsLeastBound b tree_.open_) → bound ≡ flat (least_of (bound_held (cost_held holding)) (least_of waiting (worst_bound worst))) → EndsBy (cost_held holding) waiting worst ended → BestIs holding.best best → IsAnswer program tree_.root.bound nodes tree_.log (record { ended = ended_of ended; held = option_map held_of best; bound = bound })
+still_there program nodes tree_ holding worst waiting best bound ended k spent m b e is =
+    let held = cost_held holding in
+    let state = state_of tree_ held [] in
+    let all = least_of (bound_held held) (least_of waiting (worst_bound worst)) in
+    let o = open_least tree_.open_ waiting m in
+    still_is_right program tree_.root.bound nodes state (option_map held_of best) bound (ended_of ended) k.kept.searched k.kept.as_given refl (same_cost holding.best best is) (is_point program holding.columns holding.best best k.is_held.feasible is)
+    (comes_to program nodes state refl waiting worst o k.is_worst spent ended e)
+    (λ n. subst (IsLeastBound held (tree_.open_ ++ tree_.parked)) (sym b)
+    (flat_least held tree_.open_ tree_.parked all (λ f. n (ended_none held waiting worst ended f e))
+    (least_of_all held tree_.open_ tree_.parked waiting (worst_bound worst) o (parked_least program tree_.parked worst k.is_worst))))
+    (λ f. b ∙ no_bound held waiting worst ended f e)
+
+not_endless : (held : Option ℚ) (waiting : Option (Option ℚ)) (worst : Option Worst) (ended : Ended) (ray : List ℚ) → EndsBy held waiting worst ended → ¬ (ended_of ended ≡ ends.Unbounded ray)
+not_endless held waiting worst Optimal ray h e = cc
+not_endless held waiting worst Infeasible ray h e = cc
+not_endless held waiting worst (Unbounded other) ray h e = h
+not_endless held waiting worst NodeLimit ray h e = cc
+not_endless held waiting worst (Wide leaf shown) ray h e = cc
+not_endless held waiting worst NoMemory ray h e = h
+
+-- a node was taken
+some_taken : (program : Program) (start : Option ℚ) (nodes : ℕ) (tree_ : Nodes) (holding : Holding) (worst : Option Worst) → 0 < nodes → StopsStill program start nodes tree_ holding worst → tree_.log ≢ []
+some_taken program start nodes tree_ holding worst l k e = omega (arith, l, k.spent (k.still.begun e), ap length e)
+
+pub still_right : (program : Program) (nodes : ℕ) (marks : List (ℕ × Mark)) (tree_ : Nodes) (holding : Holding) (worst : Option Worst) (waiting : Option (Option ℚ)) (best : Option Held) (bound : Option ℚ) (ended : Ended) → StopsStill program tree_.root.bound nodes tree_ holding worst → IsWithin program tree_.root.bound nodes tree_.log marks → MatchOption waiting (tree_.open_ ≡ []) (λ b. tree.IsLeastBound b tree_.open_) → bound ≡ flat (least_of (bound_held (cost_held holding)) (least_of waiting (worst_bound worst))) → EndsBy (cost_held holding) waiting worst ended → BestIs holding.best best → IsSearchAnswer program tree_.root.bound nodes tree_.log (numbers_of marks) (record { ended = ended_of ended; held = option_map held_of best; bound = bound })
+still_right program nodes marks tree_ holding worst waiting best bound ended k w m b e is =
+    within_right program tree_.root.bound nodes tree_.log marks (record { ended = ended_of ended; held = option_map held_of best; bound = bound }) w
+    (still_there program nodes tree_ holding worst waiting best bound ended k.still k.spent m b e is)
+    (λ f. absurd (some_taken program tree_.root.bound nodes tree_ holding worst w.some k f))
+    (λ ray f. absurd (not_endless (cost_held holding) waiting worst ended ray e f))
+
+-- ---- the other stops
+
+parked_some : (log : List Entry) → IsParkedLast log → log ≢ []
+parked_some log p e = not_empty p.before p.entry (sym p.placed ∙ e)
+
+endless_there : (program : Program) (start : Option ℚ) (nodes : ℕ) (log : List Entry) (cost : ℚ) (point ray : List ℚ) → StopsEndless program log point ray → cost ≡ cost_of program point → IsAnswer program start nodes log (record { ended = ends.Unbounded ray; held = Some (record { cost = cost; point = point }); bound = None })
+endless_there program start nodes log cost point ray k e =
+    let a = falls_along program point ray k.falls.feasible k.falls.shown.is_ray in
+    record {
+      point = record { feasible = k.falls.feasible; cost = e };
+      end_ = record { held = record { cost = cost; point = point }; is_held = refl; falls = record { points = a.points; cost = a.cost; falls = a.falls }; no_bound = refl };
+      logged = k.logged;
+    }
+
+ray_long : (program : Program) (point ray : List ℚ) → IsWellFormed program → IsEndless program point ray → length ray ≡ columns program
+ray_long program point ray formed e =
+    AllZip-long (λ (sides : Sides) (change : ℚ). StaysBetween sides.low sides.high change) program.bounds ray e.shown.is_ray.within ∙ formed.bounds
+
+same_ray : (ray other : List ℚ) → ends.Unbounded ray ≡ ends.Unbounded other → ray ≡ other
+same_ray ray other e = cc
+
+pub endless_right : (program : Program) (start : Option ℚ) (nodes : ℕ) (log : List Entry) (marks : List (ℕ × Mark)) (cost : ℚ) (point ray : List ℚ) → IsWellFormed program → StopsEndless program log point ray → IsWithin program start nodes log marks → cost ≡ cost_of program point → IsSearchAnswer program start nodes log (numbers_of marks) (record { ended = ends.Unbounded ray; held = Some (record { cost = cost; point = point }); bound = None })
+endless_right program start nodes log marks cost point ray formed k w e =
+    within_right program start nodes log marks (record { ended = ends.Unbounded ray; held = Some (record { cost = cost; point = point }); bound = None }) w
+    (endless_there program start nodes log cost point ray k e)
+    (λ f. absurd (parked_some log k.last f))
+    (λ other f. (subst (λ r. length r ≡ columns program) (same_ray ray other f) (ray_long program point ray formed k.falls), k.last))
+
+refused_there : (program : Program) (start : Option ℚ) (nodes : ℕ) (tree_ : Nodes) (holding : Holding) (best : Option Held) (bound last : Option ℚ) → StopsRefused program start tree_ holding bound → IsHolding program holding → BestIs holding.best best → last ≡ capped (cost_held holding) bound → IsAnswer program start nodes tree_.log (record { ended = ends.NoMemory; held = option_map held_of best; bound = last })
+refused_there program start nodes tree_ holding best bound last k h is e =
+    let held = option_map held_of best in
+    let same : cost_held holding ≡ ends.cost_held held = same_cost holding.best best is in
+    let right = refused_is_right program tree_.root.bound nodes (state_of tree_ (cost_held holding) []) k.searched held bound same (is_point program holding.columns holding.best best h.feasible is) (subst (λ s. WasLeast program s tree_.log (cost_held holding) bound) (sym k.start_is) k.was_least) in
+    subst (λ s. IsAnswer program s nodes tree_.log (record { ended = ends.NoMemory; held = held; bound = last })) k.start_is
+    (subst (λ t. IsAnswer program tree_.root.bound nodes tree_.log (record { ended = ends.NoMemory; held = held; bound = t })) (sym (e ∙ ap (λ t. capped t bound) same)) right)
+
+pub refused_right : (program : Program) (start : Option ℚ) (nodes : ℕ) (marks : List (ℕ × Mark)) (tree_ : Nodes) (holding : Holding) (best : Option Held) (bound last : Option ℚ) → StopsRefused program start tree_ holding bound → IsHolding program holding → IsWithin program start nodes tree_.log marks → BestIs holding.best best → last ≡ capped (cost_held holding) bound → IsSearchAnswer program start nodes tree_.log (numbers_of marks) (record { ended = ends.NoMemory; held = option_map held_of best; bound = last })
+refused_right program start nodes marks tree_ holding best bound last k h w is e =
+    within_right program start nodes tree_.log marks (record { ended = ends.NoMemory; held = option_map held_of best; bound = last }) w
+    (refused_there program start nodes tree_ holding best bound last k h is e)
+    (λ f. refl) (λ ray f. absurd (cc))

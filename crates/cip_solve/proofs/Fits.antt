@@ -1,0 +1,89 @@
+-- An answer fits its program, so that it can be printed.
+use Rattle.std.proofs.Common.{◌≡◌, inl, inr, ℕ, zero, suc, ◌<◌, Bool, true, false, List, [], ◌∷◌, length, Option, None, Some, IfSome, refl, sym, ap, ◌∙◌, subst, arith, slice_get}
+use Rattle.std.specs.Prelude.{option_map}
+use Rattle.std.proofs.lemmas.Option.{none-some}
+use Rattle.std.proofs.lemmas.Slice.Zip.{AllZip-long}
+use Rattle.cip_rational.specs.Rational.{ℚ}
+use Rattle.cip_problem.specs.Program.{Row, Program}
+use Rattle.cip_problem.specs.WellFormed.{IsWellFormed, columns}
+use Rattle.cip_problem.proofs.Points.AtPlaces.{IsInBox-long}
+use Rattle.cip_problem.specs.Log.{Entry}
+use Rattle.cip_bland.specs.EndAnswers as linear
+use Rattle.cip_bland.specs.NoRepeat.{whole_answer}
+use Rattle.cip_leaves.specs.Leaf.{at_wholes, IsWholeBetween, IsLeaf}
+use Rattle.cip_leaves.specs.Wide.{InRow}
+use Rattle.cip_leaf_programs.specs.LeafProgram.{program_of_leaf}
+use Rattle.cip_leaf_programs.specs.WideLeaf.{AtPlace, EndOverflows, IsWideBy}
+use Rattle.cip_model.specs.declared.verdicts.Place.TheVariants.{Row as AtRow, Cost}
+use Rattle.cip_search_ends.specs.SearchEnds as ends
+use Rattle.cip_search_ends.specs.SearchEnds.{IsHeldPoint, EndHolds}
+use Rattle.cip_search_ends.specs.SearchAnswers.{IsSearchAnswer}
+use Rattle.cip_report.specs.Answers.{StandsAmong, EndedFits, AnswerFits}
+use Rattle.cip_report.specs.declared.figures.Ended.{Ended}
+use Rattle.cip_report.specs.declared.figures.Ended.TheVariants.{Optimal, Infeasible, Unbounded, NodeLimit, Wide, NoMemory}
+use Rattle.cip_report.specs.declared.figures.Shown.{Shown}
+use Rattle.cip_report.specs.declared.figures.Shown.TheVariants.{Place, Moves}
+use Rattle.cip_report.specs.declared.figures.Held.{Held}
+use Rattle.cip_report.specs.declared.figures.Answer.{Answer}
+use Rattle.cip_solve.specs.AnswerOf.{shown_of, ended_of, held_of, answer_of}
+use Rattle.cip_solve.proofs.FirstRows.{first_row_there}
+
+point_fits : (program : Program) (best : Option Held) → IsWellFormed program → IfSome (option_map held_of best) (IsHeldPoint program) → IfSome best (λ held. length held.point.items ≡ columns program)
+point_fits program None formed h = tt
+point_fits program (Some held) formed h = IsInBox-long program.bounds held.point.items h.feasible.within ∙ formed.bounds
+
+-- ---- the leaf that is shown
+
+row_below : (rows : List Row) (number : ℕ) (row : Row) → slice_get rows number ≡ Some row → number < length rows
+row_below [] number row e = absurd (none-some row e)
+row_below (r ∷ rs) zero row e = omega arith
+row_below (r ∷ rs) (suc number) row e = let l = row_below rs number row e in omega (arith, l)
+
+end_row : (program : Program) (leaf : List ℚ) (number : ℕ) (answer : linear.Answer) → EndOverflows program leaf (InRow number) answer → number < length program.rows
+end_row program leaf number (linear.Optimal others certificate cost) h = row_below program.rows number h.row h.is_row
+end_row program leaf number (linear.NoPoint certificate) h = absurd h
+end_row program leaf number (linear.Unbounded others direction) (inl h) = row_below program.rows number h.row h.is_row
+end_row program leaf number (linear.Unbounded others direction) (inr h) = row_below program.rows number h.row h.is_row
+end_row program leaf number (linear.OutOfRange moves) h = absurd h
+end_row program leaf number linear.LimitReached h = absurd h
+
+row_there : (program : Program) (leaf : List ℚ) (number : ℕ) → IsWideBy program leaf (AtPlace (InRow number)) → number < length program.rows
+row_there program leaf number (inl h) = row_below program.rows number h.row h.is_row
+row_there program leaf number (inr (inl h)) = first_row_there program leaf number h
+row_there program leaf number (inr (inr h)) = end_row program leaf number (whole_answer (program_of_leaf program leaf)) h
+
+stands_there : (program : Program) (leaf : List ℚ) (shown : Shown) → IsWellFormed program → IsWideBy program leaf (shown_of shown) → StandsAmong (length program.row_names) shown
+stands_there program leaf (Place (AtRow number)) formed h = let l = row_there program leaf number h in omega (arith, l, formed.row_names)
+stands_there program leaf (Place Cost) formed h = tt
+stands_there program leaf (Moves number) formed h = tt
+
+-- as many names of whole columns as sides of such
+as_many : {X Y : Type 0} (integral : List Bool) (xs : List X) (ys : List Y) → length xs ≡ length ys → length (at_wholes integral xs) ≡ length (at_wholes integral ys)
+as_many [] xs ys e = refl
+as_many (w ∷ ws) [] [] e = refl
+as_many (w ∷ ws) [] (y ∷ ys) e = absurd (omega (arith, e))
+as_many (w ∷ ws) (x ∷ xs) [] e = absurd (omega (arith, e))
+as_many (true ∷ ws) (x ∷ xs) (y ∷ ys) e = ap suc (as_many ws xs ys (omega (arith, e)))
+as_many (false ∷ ws) (x ∷ xs) (y ∷ ys) e = as_many ws xs ys (omega (arith, e))
+
+leaf_long : (program : Program) (leaf : List ℚ) → IsWellFormed program → IsLeaf program leaf → length leaf ≡ length (at_wholes program.integral program.column_names)
+leaf_long program leaf formed h =
+    AllZip-long IsWholeBetween (at_wholes program.integral program.bounds) leaf h ∙ as_many program.integral program.bounds program.column_names (formed.bounds ∙ sym formed.column_names)
+
+-- ---- the end
+
+ended_fits : (program : Program) (start : Option ℚ) (nodes : ℕ) (log : List Entry) (answer : ends.Answer) (ended : Ended) → IsWellFormed program → answer.ended ≡ ended_of ended → ((ray : List ℚ) → answer.ended ≡ ends.Unbounded ray → length ray ≡ columns program) → EndHolds program start nodes log answer (ended_of ended) → EndedFits program ended
+ended_fits program start nodes log answer Optimal formed e r h = tt
+ended_fits program start nodes log answer Infeasible formed e r h = tt
+ended_fits program start nodes log answer (Unbounded ray) formed e r h = r ray.items e ∙ sym formed.column_names
+ended_fits program start nodes log answer NodeLimit formed e r h = tt
+ended_fits program start nodes log answer (Wide leaf shown) formed e r h =
+    let k = (subst (ends.EndsAs program start nodes log answer.held) e h.ends).2 in
+    (leaf_long program leaf.items formed k.is_leaf, stands_there program leaf.items shown formed k.wide)
+ended_fits program start nodes log answer NoMemory formed e r h = tt
+
+pub answer_fits : (program : Program) (start : Option ℚ) (nodes : ℕ) (log : List Entry) (marked : List ℕ) (answer : Answer) → IsWellFormed program → IsSearchAnswer program start nodes log marked (answer_of answer) → AnswerFits program answer
+answer_fits program start nodes log marked answer formed h = record {
+  point = point_fits program answer.best formed h.right.point;
+  ended = ended_fits program start nodes log (answer_of answer) answer.ended formed refl h.long h.right.end_;
+}

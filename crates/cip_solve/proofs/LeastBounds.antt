@@ -1,0 +1,58 @@
+-- The least bound of a search that stands still.
+use Rattle.std.proofs.Common.{◌≡◌, ◌⊎◌, inl, inr, true, false, Bool, Option, None, Some, refl, sym, ◌∙◌, subst, if◌then◌else◌}
+use Rattle.cip_rational.specs.Rational.{ℚ}
+use Rattle.cip_leaves.specs.Searched.{NoMore, IsCostHeld}
+use Rattle.cip_search.proofs.Bounds.{no_more_itself}
+use Rattle.cip_search.proofs.Relaxed.{no_more_trans}
+use Rattle.cip_solve.specs.Bounds.{is_no_more, least_of, bound_held}
+use Rattle.cip_solve.proofs.BoundLaws.{no_more_tells, more_below}
+
+-- the least of some bounds, if there are any
+abbrev pub IsLeastAmong : (Option ℚ → Type 0) → Option (Option ℚ) → Type 0
+IsLeastAmong Among None = (other : Option ℚ) → ¬ Among other
+IsLeastAmong Among (Some bound) = Among bound × ((other : Option ℚ) → Among other → NoMore bound other)
+
+lesser_by : (P Q : Option ℚ → Type 0) (bound other : Option ℚ) (test : Bool) → is_no_more bound other ≡ test → IsLeastAmong P (Some bound) → IsLeastAmong Q (Some other) → IsLeastAmong (λ o. P o ⊎ Q o) (Some (if test then bound else other))
+lesser_by P Q bound other true e p q = (
+  inl p.0,
+  λ o c. elim c [
+    | inl a ↦ p.1 o a
+    | inr b ↦ no_more_trans bound other o (no_more_tells bound other e) (q.1 o b)
+  ],
+)
+lesser_by P Q bound other false e p q = (
+  inr q.0,
+  λ o c. elim c [
+    | inl a ↦ no_more_trans other bound o (more_below bound other e) (p.1 o a)
+    | inr b ↦ q.1 o b
+  ],
+)
+
+pub least_both : (P Q : Option ℚ → Type 0) (bound other : Option (Option ℚ)) → IsLeastAmong P bound → IsLeastAmong Q other → IsLeastAmong (λ o. P o ⊎ Q o) (least_of bound other)
+least_both P Q None None p q = λ o c. elim c [
+  | inl a ↦ p o a
+  | inr b ↦ q o b
+]
+least_both P Q None (Some other) p q = (
+  inr q.0,
+  λ o c. elim c [
+    | inl a ↦ absurd (p o a)
+    | inr b ↦ q.1 o b
+  ],
+)
+least_both P Q (Some bound) None p q = (
+  inl p.0,
+  λ o c. elim c [
+    | inl a ↦ p.1 o a
+    | inr b ↦ absurd (q o b)
+  ],
+)
+least_both P Q (Some bound) (Some other) p q = lesser_by P Q bound other (is_no_more bound other) refl p q
+
+-- the cost held
+pub least_held : (held : Option ℚ) → IsLeastAmong (IsCostHeld held) (bound_held held)
+least_held None = λ o c. absurd (let e : None ≡ Some c.cost = c.is_held in cc)
+least_held (Some cost) = (
+  record { cost = cost; is_held = refl; is_bound = refl },
+  λ o c. subst (NoMore (Some cost)) (c.is_held ∙ sym c.is_bound) (no_more_itself (Some cost)),
+)

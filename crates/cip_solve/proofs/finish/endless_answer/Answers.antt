@@ -1,0 +1,16 @@
+use Rattle.std.proofs.Common.{length, ◌∙◌, ap, subst}
+use Rattle.cip_problem.specs.Points.{cost_of}
+use Rattle.cip_problem.proofs.Points.AtPlaces.{IsInBox-long}
+use Rattle.cip_model.specs.Meaning.{VerdictHolds}
+use Rattle.cip_solve.proofs.FinishLaws.{endless_right}
+use Rattle.cip_solve.proofs.finish.endless_answer.Goals as goal
+
+pub check-requires : goal.check-requires
+check-requires c =
+    ap length c.as_slice.ensures.value ∙ IsInBox-long c.args.program.now.bounds c.args.point.items c.requires.feasible.within ∙ c.columns-columns.ensures.formed.bounds
+
+pub returns : goal.returns
+returns c = λ start nodes log marks k w.
+    let told = subst (VerdictHolds c.args.program.now c.as_slice.result.now) c.in-Feasible.is c.check.ensures.meaning in
+    endless_right c.args.program.now start nodes log marks c.in-Feasible.cost c.args.point.items c.args.ray.items c.columns-columns.ensures.formed k w
+    (told.1 ∙ ap (cost_of c.args.program.now) c.as_slice.ensures.value)

@@ -1,0 +1,163 @@
+//! The answer of a search that has stopped.
+ghost use Rattle.std.specs.Prelude.{◌≡◌, ℕ, List, Option, [], ◌<◌, length, None, IfSome};
+ghost use Rattle.cip_rational.specs.Rational.{ℚ};
+ghost use Rattle.cip_problem.specs.Points.{IsLowerBound};
+ghost use Rattle.cip_problem.specs.Log.{Entry};
+ghost use Rattle.cip_problem.specs.WellFormed.{columns};
+ghost use Rattle.cip_search_ends.specs.SearchAnswers.{IsSearchAnswer};
+ghost use Rattle.cip_tree.specs.Nodes.{Nodes};
+ghost use Rattle.cip_node_bounds.specs.declared.relaxed.Mark.{Mark};
+ghost use Rattle.cip_node.specs.Cores.{IsReady};
+ghost use Rattle.cip_node.specs.KeptNodes.{IsHolding};
+ghost use Rattle.cip_solve.specs.AnswerOf.{answer_of};
+ghost use Rattle.cip_solve.specs.Logs.{entries_of, marked_in, numbers_of};
+ghost use Rattle.cip_solve.specs.Searching.{IsStill, IsTold, IsEndless, StopsStill, StopsEndless, StopsRefused, StopsAs, IsWithin};
+ghost use Rattle.cip_solve.specs.Solved.{AreMet};
+ghost use Rattle.cip_solve.specs.Stopping.{BestIs};
+
+use crate::bounds::{capped, flat};
+use crate::ends::ended_by;
+use crate::logs::Log;
+use crate::turns::{Search, Stop, held_cost, least_left};
+use crate::worst::Worst;
+use cip_frac::Frac;
+use cip_incumbent::Incumbent;
+use cip_model::{Program, Verdict};
+use cip_node::Core;
+use cip_report::{Answer, Ended, Held};
+use cip_tree::Tree;
+use std::alloc::Global;
+
+/// The point held with its cost, if there is one, written to a list of as many values.
+fn held_of(incumbent: &Incumbent, mut point: Vec<Frac>) -> Option<Held>
+    requires { IfSome incumbent.now.best (λ held. length held.point ≡ length point.items) }
+    ensures { BestIs incumbent.now.best result }
+{
+    match incumbent.held() {
+        None => None,
+        Some((cost, values)) => {
+            point.as_mut_slice().copy_from_slice(values);
+            Some(Held { cost, point })
+        }
+    }
+}
+
+/// The answer of a search that stands still, its point written to a list of as many values.
+fn still_answer(
+    tree: &Tree,
+    incumbent: &Incumbent,
+    worst: Option<Worst>,
+    point: Vec<Frac>,
+) -> Answer
+    requires { IfSome incumbent.now.best (λ held. length held.point ≡ length point.items) }
+    ensures { (program : Program) (nodes : ℕ) (marks : List (ℕ × Mark))
+        → StopsStill program tree.now.root.bound nodes tree.now incumbent.now worst
+        → IsWithin program tree.now.root.bound nodes tree.now.log marks
+        → IsSearchAnswer program tree.now.root.bound nodes tree.now.log (numbers_of marks) (answer_of result) }
+{
+    let held = held_cost(incumbent);
+    let waiting = tree.bound();
+    let bound = flat(least_left(held, waiting, &worst));
+    let ended = ended_by(&held, &waiting, worst);
+    let best = held_of(incumbent, point);
+    Answer { ended, best, bound }
+}
+
+/// The answer where the cost falls without end from a point along a ray.
+fn endless_answer(program: &Program, point: Vec<Frac>, ray: Vec<Frac>) -> Answer
+    requires { IsEndless program.now point.items ray.items }
+    ensures { (start : Option ℚ) (nodes : ℕ) (log : List Entry) (marks : List (ℕ × Mark))
+        → StopsEndless program.now log point.items ray.items → IsWithin program.now start nodes log marks
+        → IsSearchAnswer program.now start nodes log (numbers_of marks) (answer_of result) }
+{
+    let _columns = program.columns();
+    match program.check(point.as_slice()) {
+        Verdict::Feasible(cost) => Answer {
+            ended: Ended::Unbounded { ray },
+            best: Some(Held { cost, point }),
+            bound: None,
+        },
+        _ => unreachable!(),
+    }
+}
+
+/// The answer after memory was refused, with the least bound before, its point written to a list of as many values.
+fn refused_answer(incumbent: &Incumbent, bound: Option<Frac>, point: Vec<Frac>) -> Answer
+    requires { IfSome incumbent.now.best (λ held. length held.point ≡ length point.items) }
+    ensures { (program : Program) (start : Option ℚ) (nodes : ℕ) (tree : Nodes) (marks : List (ℕ × Mark))
+        → StopsRefused program start tree incumbent.now bound → IsHolding program incumbent.now
+        → IsWithin program start nodes tree.log marks
+        → IsSearchAnswer program start nodes tree.log (numbers_of marks) (answer_of result) }
+{
+    let bound = capped(held_cost(incumbent), bound);
+    let best = held_of(incumbent, point);
+    Answer {
+        ended: Ended::NoMemory,
+        best,
+        bound,
+    }
+}
+
+impl<'a> Search<'a> {
+    /// The answer of a search that stopped so, its point written to a list of as many values; what it did is left in
+    /// the log.
+    fn finish(self, stop: Stop, nodes: u64, point: Vec<Frac>, log: &mut Log) -> Answer
+        requires stop { StopsAs self.core.program.now self.core.tree.root.bound nodes self.core.tree
+            self.core.incumbent self.worst stop }
+        requires within { IsWithin self.core.program.now self.core.tree.root.bound nodes self.core.tree.log
+            self.marks.items }
+        requires holding { IsHolding self.core.program.now self.core.incumbent }
+        requires point { length point.items ≡ columns self.core.program.now }
+        ensures right { IsSearchAnswer self.entry.core.program.now self.entry.core.tree.root.bound nodes
+            (entries_of log.new) (marked_in log.new) (answer_of result) }
+        ensures met { AreMet self.entry.core.program.now self.entry.core.tree.root.bound (entries_of log.new)
+            log.new.marks.items }
+    {
+        let _nodes = nodes;
+        let Search { core, worst, marks } = self;
+        let Core {
+            program,
+            tree,
+            incumbent,
+            ..
+        } = core;
+        let _columns = program.columns();
+        let answer = match stop {
+            Stop::Still => still_answer(&tree, &incumbent, worst, point),
+            Stop::Endless { point, ray } => endless_answer(program, point, ray),
+            Stop::NoMemory { bound } => refused_answer(&incumbent, bound, point),
+        };
+        log.taken = tree.take_log();
+        log.marks = marks;
+        answer
+    }
+}
+
+/// Searches from a core on that has taken no node, and takes at most so many; the point that is found is written to a
+/// list of as many values, and what was done is left in the log.
+pub(crate) fn search_from(
+    core: Core<'_>,
+    alloc: Global,
+    nodes: u64,
+    point: Vec<Frac>,
+    log: &mut Log,
+) -> Answer
+    requires still { IsStill core.program.now core.tree.root.bound core.tree core.incumbent None }
+    requires empty { core.tree.log ≡ [] }
+    requires ready { IsReady core }
+    requires bare { core.pool.rows ≡ [] }
+    requires lower { IfSome core.tree.root.bound (IsLowerBound core.program.now) }
+    requires some { 0 < nodes }
+    requires point { length point.items ≡ columns core.program.now }
+    ensures right { IsSearchAnswer core.entry.program.now core.entry.tree.root.bound nodes (entries_of log.new)
+        (marked_in log.new) (answer_of result) }
+    ensures met { AreMet core.entry.program.now core.entry.tree.root.bound (entries_of log.new) log.new.marks.items }
+{
+    let mut search = Search {
+        core,
+        worst: None,
+        marks: Vec::new(alloc),
+    };
+    let stop = search.explore(alloc, nodes);
+    search.finish(stop, nodes, point, log)
+}

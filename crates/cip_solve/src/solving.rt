@@ -1,0 +1,52 @@
+//! Solving a program.
+ghost use Rattle.std.specs.Prelude.{◌≡◌, ℕ, [], ◌<◌};
+ghost use Rattle.cip_node.specs.Beginning.{AreNearColumns};
+ghost use Rattle.cip_solve.specs.AnswerOf.{answer_of};
+ghost use Rattle.cip_solve.specs.Logs.{entries_of};
+ghost use Rattle.cip_solve.specs.Solved.{IsSolved};
+
+use crate::finish::search_from;
+use crate::logs::Log;
+use cip_frac::Frac;
+use cip_model::Program;
+use cip_node::{Core, root_bound};
+use cip_report::{Answer, Ended};
+use std::alloc::Global;
+
+/// What a search may do.
+#[derive(Clone, Copy, Debug, PartialEq, Eq)]
+pub struct Options {
+    /// The most nodes that it takes, at least 1.
+    pub nodes: u64,
+}
+
+/// The answer where memory is refused before a node is taken: want of memory, with the bound of the root.
+pub fn unsearched(program: &Program) -> Answer
+    ensures { (nodes : ℕ) → IsSolved program.now nodes [] [] (answer_of result) }
+{
+    Answer {
+        ended: Ended::NoMemory,
+        best: None,
+        bound: root_bound(program),
+    }
+}
+
+/// Searches for a feasible point of least cost, over at most so many nodes; what was done is left in the log, in place
+/// of what it held. The answer is `NodeLimit` exactly where as many nodes were taken and an open one matters, and
+/// `NoMemory` where memory was refused; the point that was found by then is answered all the same.
+pub fn solve(alloc: Global, program: &Program, options: &Options, log: &mut Log) -> Answer
+    requires near { AreNearColumns program.now }
+    requires some { 0 < options.now.nodes }
+    ensures { IsSolved program.now options.now.nodes (entries_of log.new) log.new.marks.items (answer_of result) }
+{
+    log.taken.clear();
+    log.marks.clear();
+    let columns = program.columns();
+    let Ok(point) = vec![in alloc; Frac::zero(); columns] else {
+        return unsearched(program);
+    };
+    match Core::new(alloc, program) {
+        Err(_) => unsearched(program),
+        Ok(core) => search_from(core, alloc, options.nodes, point, log),
+    }
+}

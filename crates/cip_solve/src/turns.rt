@@ -1,0 +1,170 @@
+//! A search over the nodes, from one to the next.
+ghost use Rattle.std.specs.Prelude.{◌≡◌, ℕ, ◌+◌, ◌<◌, ◌≤◌, [], ◌++◌, length, MatchOption, vec_len, vec_capacity};
+ghost use Rattle.cip_node.specs.Cores.{IsReady};
+ghost use Rattle.cip_node.specs.KeptNodes.{cost_held};
+ghost use Rattle.cip_solve.specs.Bounds.{least_of, bound_held};
+ghost use Rattle.cip_solve.specs.Logs.{marks_by};
+ghost use Rattle.cip_solve.specs.Searching.{IsStill, IsTold, IsKeptAs, StopsAs};
+ghost use Rattle.cip_solve.specs.Worst.{worst_bound};
+
+use crate::bounds::{bound_held, flat, least_of};
+use crate::worst::{Worst, printed_shown, worse, worst_bound};
+use cip_frac::Frac;
+use cip_incumbent::Incumbent;
+use cip_node::{Core, NodeEnd, NodeRecord};
+use cip_node_bounds::Mark;
+use std::alloc::Global;
+
+/// How a search stops.
+#[derive(Debug, Drop)]
+pub(crate) enum Stop {
+    /// No node is open, or the budget is spent.
+    Still,
+    /// The cost falls without end from a point along a ray.
+    Endless { point: Vec<Frac>, ray: Vec<Frac> },
+    /// Memory was refused, and before that this was the least bound.
+    NoMemory { bound: Option<Frac> },
+}
+
+/// The cost held, if a point is.
+pub(crate) fn held_cost(incumbent: &Incumbent) -> Option<Frac>
+    ensures { result ≡ cost_held incumbent.now }
+{
+    match incumbent.held() {
+        None => None,
+        Some((cost, _)) => Some(cost),
+    }
+}
+
+/// The least of the cost held, of the least bound of open nodes, and of the bound of the worst leaf.
+pub(crate) fn least_left(
+    held: Option<Frac>,
+    waiting: Option<Option<Frac>>,
+    worst: &Option<Worst>,
+) -> Option<Option<Frac>>
+    ensures { result ≡ least_of (bound_held held) (least_of waiting (worst_bound worst.now)) }
+{
+    least_of(bound_held(held), least_of(waiting, worst_bound(worst)))
+}
+
+/// A search: what it works with, the worst parked leaf, and the marks so far.
+#[derive(Drop)]
+pub(crate) struct Search<'a> {
+    pub(crate) core: Core<'a>,
+    pub(crate) worst: Option<Worst>,
+    pub(crate) marks: Vec<(u64, Mark)>,
+}
+
+impl<'a> Search<'a> {
+    /// Keeps the mark of a node, for which there is room.
+    fn note(&mut self, number: u64, mark: Option<Mark>)
+        requires { vec_len self.old.marks < vec_capacity self.old.marks }
+        ensures core { self.new.core ≡ self.old.core }
+        ensures worst { self.new.worst ≡ self.old.worst }
+        ensures marked { self.new.marks.items ≡ self.old.marks.items ++ marks_by number mark }
+    {
+        if let Some(mark) = mark {
+            let _ = self.marks.push((number, mark));
+        }
+    }
+
+    /// Keeps what the end of a node comes to; how the search stops by it.
+    fn keep(&mut self, end: NodeEnd) -> Option<Stop>
+        ensures core { self.new.core ≡ self.old.core }
+        ensures marks { self.new.marks ≡ self.old.marks }
+        ensures kept { IsKeptAs self.old.worst self.new.worst end result }
+    {
+        match end {
+            NodeEnd::Parked { leaf, bound, shown } => {
+                let shown = printed_shown(shown);
+                let before = self.worst.take();
+                self.worst = worse(before, Worst { leaf, bound, shown });
+                None
+            }
+            NodeEnd::Ray { point, ray } => Some(Stop::Endless { point, ray }),
+            NodeEnd::Pruned | NodeEnd::Empty | NodeEnd::Solved | NodeEnd::Split(_, _) => None,
+        }
+    }
+
+    /// Keeps what was met in the work on a node, for which there is room, and what its end comes to; how the search
+    /// stops by it.
+    fn settle(&mut self, number: u64, done: (NodeEnd, NodeRecord)) -> Option<Stop>
+        requires { vec_len self.old.marks < vec_capacity self.old.marks }
+        ensures core { self.new.core ≡ self.old.core }
+        ensures marked { self.new.marks.items ≡ self.old.marks.items ++ marks_by number done.1.mark }
+        ensures kept { IsKeptAs self.old.worst self.new.worst done.0 result }
+    {
+        let (end, record) = done;
+        let NodeRecord { mark } = record;
+        self.note(number, mark);
+        self.keep(end)
+    }
+
+    /// Takes up a node and works on it; how the search stops, if it does.
+    fn turn(&mut self, alloc: Global) -> Option<Stop>
+        requires still { IsStill self.old.core.program.now self.old.core.tree.root.bound self.old.core.tree
+            self.old.core.incumbent self.old.worst }
+        requires told { IsTold self.old.core.program.now self.old.core.tree.root.bound self.old.core.tree.log
+            self.old.marks.items }
+        requires ready { IsReady self.old.core }
+        requires bare { self.old.core.pool.rows ≡ [] }
+        ensures ready { IsReady self.new.core }
+        ensures bare { self.new.core.pool.rows ≡ [] }
+        ensures program { self.new.core.program ≡ self.old.core.program }
+        ensures root { self.new.core.tree.root ≡ self.old.core.tree.root }
+        ensures longer { length self.new.core.tree.log ≤ length self.old.core.tree.log + 1 }
+        ensures told { IsTold self.new.core.program.now self.new.core.tree.root.bound self.new.core.tree.log
+            self.new.marks.items }
+        ensures turned { (nodes : ℕ) → MatchOption result
+            (IsStill self.new.core.program.now self.new.core.tree.root.bound self.new.core.tree
+            self.new.core.incumbent self.new.worst
+            × (length self.new.core.tree.log ≡ length self.old.core.tree.log + 1))
+            (StopsAs self.new.core.program.now self.new.core.tree.root.bound nodes self.new.core.tree
+            self.new.core.incumbent self.new.worst) }
+    {
+        let waiting = self.core.tree.bound();
+        if waiting.is_none() {
+            return Some(Stop::Still);
+        }
+        let bound = flat(least_left(held_cost(&self.core.incumbent), waiting, &self.worst));
+        if self.marks.reserve(1).is_err() {
+            return Some(Stop::NoMemory { bound });
+        }
+        let _entries = self.core.tree.log().len();
+        let Some(node) = self.core.take() else {
+            return Some(Stop::Still);
+        };
+        let number = node.id();
+        match self.core.process(alloc, node) {
+            Err(_) => Some(Stop::NoMemory { bound }),
+            Ok(done) => self.settle(number, done),
+        }
+    }
+
+    /// Takes up open nodes, at most so many; how the search stops.
+    pub(crate) fn explore(&mut self, alloc: Global, nodes: u64) -> Stop
+        requires still { IsStill self.old.core.program.now self.old.core.tree.root.bound self.old.core.tree
+            self.old.core.incumbent self.old.worst }
+        requires told { IsTold self.old.core.program.now self.old.core.tree.root.bound self.old.core.tree.log
+            self.old.marks.items }
+        requires empty { self.old.core.tree.log ≡ [] }
+        requires ready { IsReady self.old.core }
+        requires bare { self.old.core.pool.rows ≡ [] }
+        ensures ready { IsReady self.new.core }
+        ensures bare { self.new.core.pool.rows ≡ [] }
+        ensures program { self.new.core.program ≡ self.old.core.program }
+        ensures root { self.new.core.tree.root ≡ self.old.core.tree.root }
+        ensures most { length self.new.core.tree.log ≤ nodes }
+        ensures told { IsTold self.new.core.program.now self.new.core.tree.root.bound self.new.core.tree.log
+            self.new.marks.items }
+        ensures stopped { StopsAs self.new.core.program.now self.new.core.tree.root.bound nodes self.new.core.tree
+            self.new.core.incumbent self.new.worst result }
+    {
+        for _ in 0..nodes {
+            if let Some(stop) = self.turn(alloc) {
+                return stop;
+            }
+        }
+        Stop::Still
+    }
+}

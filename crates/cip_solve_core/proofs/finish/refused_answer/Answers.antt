@@ -1,9 +1,0 @@
-use Rattle.std.proofs.Common.{◌∙◌, ap}
-use Rattle.cip_solve_core.specs.Bounds.{capped}
-use Rattle.cip_solve_core.proofs.FinishLaws.{refused_right}
-use Rattle.cip_solve_core.proofs.finish.refused_answer.Goals as goal
-
-pub returns : goal.returns
-returns c = λ program start nodes tree marks k h w.
-    refused_right program start nodes marks tree c.args.incumbent.now c.held_of-best.result c.args.bound c.capped-bound.result k h w c.held_of-best.ensures
-    (c.capped-bound.ensures ∙ ap (λ h. capped h c.args.bound) c.held_cost.ensures)
