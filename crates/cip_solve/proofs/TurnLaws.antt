@@ -187,10 +187,6 @@ module _ (program : Program) (old mid new : Nodes) (before after : Holding) (wor
         (was_least program old before after worst waiting bound new.log k m n e (refused_log a) d);
   }
 
-  pub refused_told : (marks : List (ℕ × Mark)) → StaysRooted mid new → IsOpenAgain program (cost_held after) mid new node → IsTold program old.root.bound old.log marks → IsTold program new.root.bound new.log marks
-  refused_told marks r a t =
-      subst (λ (x : Node). IsTold program x.bound new.log marks) (sym (turn_root r)) (subst (λ l. IsTold program old.root.bound l marks) (sym (refused_log a)) t)
-
 -- ---- all that is worked with
 
 module _ (old mid new : Core) (taken : mid ≡ record old { tree = mid.tree }) (framed : new ≡ record mid { pool = aged mid.pool; domain = new.domain; rows = new.rows; scratch = new.scratch; tree = new.tree; incumbent = new.incumbent }) (is_mid : mid.tree ≡ taken_up old.tree mid.tree.open_ mid.tree.taken) (worst : Option Worst) (node : TakenNode) (k : IsStill old.program.now old.tree.root.bound old.tree old.incumbent worst) (held : IsHolding new.program.now new.incumbent) where
@@ -225,10 +221,6 @@ module _ (old mid new : Core) (taken : mid ≡ record old { tree = mid.tree }) (
     core_refused waiting bound m n e d =
         refused_turn new.program.now old.tree mid.tree new.tree old.incumbent new.incumbent worst node still_there held is_mid waiting bound m n e
         (subst (λ i. IsNoDearer (cost_held new.incumbent) (cost_held i)) same_held d) rooted again
-
-    pub core_refused_told : (marks : List (ℕ × Mark)) → IsTold old.program.now old.tree.root.bound old.tree.log marks → IsTold new.program.now new.tree.root.bound new.tree.log marks
-    core_refused_told marks t =
-        refused_told new.program.now old.tree mid.tree new.tree old.incumbent new.incumbent worst node still_there held is_mid marks rooted again (told_there marks t)
 
   -- it ended
   module _ (kept : IsKept mid.program.now mid.tree (cost_held mid.incumbent) (shown mid.tree node ∷ [])) (rooted : StaysRooted mid.tree new.tree) (lent : Lent) (room : ℕ) (mark : Option Mark) (end : NodeEnd) (ended : IsEnd new.program.now (cost_held new.incumbent) lent room mid.tree new.tree node mark end) where

@@ -3,5 +3,6 @@ pub mod Bounds
 pub mod Logs
 pub mod Searching
 pub mod Solved
+pub mod Statements
 pub mod Stopping
 pub mod Worst

@@ -4,10 +4,12 @@
 mod bounds;
 mod ends;
 mod finish;
+mod laws;
 mod logs;
 mod solving;
 mod turns;
 mod worst;
 
+pub use laws::answers_fit;
 pub use logs::Log;
 pub use solving::{Options, solve, unsearched};

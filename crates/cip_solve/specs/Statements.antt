@@ -1,0 +1,16 @@
+-- A law of what solving a program comes to, as one statement: the function of `src/laws.rt` has it as contract.
+use Rattle.std.specs.Prelude.{ℕ, List}
+use Rattle.cip_problem.specs.Program.{Program}
+use Rattle.cip_problem.specs.WellFormed.{IsWellFormed}
+use Rattle.cip_problem.specs.Log.{Entry}
+use Rattle.cip_node_bounds.specs.declared.relaxed.Mark.{Mark}
+use Rattle.cip_report.specs.Answers.{AnswerFits}
+use Rattle.cip_report.specs.declared.figures.Answer.{Answer}
+use Rattle.cip_solve.specs.AnswerOf.{answer_of}
+use Rattle.cip_solve.specs.Solved.{IsSolved}
+
+-- an answer can be printed
+abbrev pub AnswersFit : Type 0
+AnswersFit =
+    (program : Program) (nodes : ℕ) (log : List Entry) (marks : List (ℕ × Mark)) (answer : Answer)
+    → IsWellFormed program → IsSolved program nodes log marks (answer_of answer) → AnswerFits program answer
