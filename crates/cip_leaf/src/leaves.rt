@@ -152,8 +152,8 @@ fn out_of_range(alloc: Global, parts: &Parts, moves: usize) -> Result<LeafAnswer
     })
 }
 
-/// The answer on a leaf with this program: what few moves show of it, and else how Bland's list ends. `Err` where memory
-/// was refused.
+/// The answer on a leaf with this program: what few moves show of it, and else how Bland's list ends. `Err` where
+/// memory was refused.
 fn answer_on(
     alloc: Global,
     program: &Program,

@@ -12,8 +12,8 @@ const MOST_MOVES: u32 = 10_000;
 // And before by a rule that makes few.
 const FEW_MOVES: u32 = 2_000;
 
-/// What a rule that makes few moves answers on a linear program from its first state; what Bland's list does, where that
-/// has no answer; and where the variables are then. `Err` where memory was refused.
+/// What a rule that makes few moves answers on a linear program from its first state; what Bland's list does, where
+/// that has no answer; and where the variables are then. `Err` where memory was refused.
 fn asked_afresh(alloc: Global, lp: &Lp) -> Result<(LpAnswer, Start), AllocError>
     ensures { IfOk result (λ asked. IsSolved lp.now asked.0) }
 {
@@ -28,8 +28,8 @@ fn asked_afresh(alloc: Global, lp: &Lp) -> Result<(LpAnswer, Start), AllocError>
     }
 }
 
-/// What a rule that makes few moves answers on a linear program from a start; where that has no answer, what is answered
-/// from the first state; and where the variables are then. `Err` where memory was refused.
+/// What a rule that makes few moves answers on a linear program from a start; where that has no answer, what is
+/// answered from the first state; and where the variables are then. `Err` where memory was refused.
 fn asked_at(alloc: Global, lp: &Lp, start: &Start) -> Result<(LpAnswer, Start), AllocError>
     requires { length start.now ≡ variables lp.now }
     ensures { IfOk result (λ asked. IsSolved lp.now asked.0) }
