@@ -5,3 +5,4 @@ pub mod FirstPlaces
 pub mod Rays
 pub mod Steps
 pub mod Sums
+pub mod WholeLeaves

@@ -16,6 +16,7 @@ use crate::few_moves::shown_by_few;
 use crate::first_values::first_wide;
 use crate::lists::{continuous_costs, continuous_sides, merged, new_numbers};
 use crate::rows::{RowsFault, rows_left};
+use crate::whole_leaves::{are_all_whole, tested};
 use cip_frac::Frac;
 use cip_lin::{Bounds, Row};
 use cip_model::{Place, Program, Verdict};
@@ -183,12 +184,16 @@ fn answer_on(
 /// What is known of a leaf of a program, given by its values, which are whole and lie within the bounds, one for each
 /// whole column by rising column: a point of least cost, that there is none, that the cost falls without end, or that
 /// the leaf is wide. `NoPoint` comes exactly where the leaf has no point and the answer isn't `Wide`; `Wide` comes only
-/// where the leaf is wide by what is shown. `Err` where memory was refused.
+/// where the leaf is wide by what is shown. Where no column is continuous, the test of its one point says which, and no
+/// program is made of it. `Err` where memory was refused.
 pub fn leaf(alloc: Global, program: &Program, wholes: &[Frac]) -> Result<LeafAnswer, AllocError>
     requires { IsLeaf program.now wholes.now }
     ensures { IfOk result (IsLeafAnswer program.now wholes.now) }
 {
     let _columns = program.columns();
+    if are_all_whole(program.whole()) {
+        return tested(alloc, program, wholes);
+    }
     match parts_of_leaf(alloc, program, wholes) {
         Ok(parts) => answer_on(alloc, program, wholes, &parts),
         Err(RowsFault::Wide(number)) => Ok(LeafAnswer::Wide {

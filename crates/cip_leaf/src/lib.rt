@@ -7,6 +7,7 @@ mod first_values;
 mod leaves;
 mod lists;
 mod rows;
+mod whole_leaves;
 
 pub use answers::{LeafAnswer, Shown};
 pub use leaves::leaf;

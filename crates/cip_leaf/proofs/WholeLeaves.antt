@@ -1,0 +1,66 @@
+-- Leaves of a program whose columns are all whole: each has one point.
+use Rattle.std.proofs.Common.{◌≡◌, inl, Bool, true, false, suc, List, [], ◌∷◌, length, map, Some, All, refl, sym, ap, ◌∙◌, subst, arith}
+use Rattle.std.proofs.lemmas.List.Elements.{All-head, All-tail}
+use Rattle.cip_rational.specs.Rational.{ℚ, ◌≤ℚ◌}
+use Rattle.cip_rational.proofs.Rational.Order.{≤ℚ_refl}
+use Rattle.cip_problem.specs.Program.{Sides, Program}
+use Rattle.cip_problem.specs.WellFormed.{IsWellFormed, columns}
+use Rattle.cip_problem.specs.Points.{IsFeasible, cost_of}
+use Rattle.cip_leaves.specs.Leaf.{IsLeaf, IsLeafIn, IsPointOf, at_wholes}
+use Rattle.cip_leaves.specs.Wide.{Place as WidePlace, InRow, InCost, fixed_values, IsWideAt}
+use Rattle.cip_leaves.proofs.Points.{all_wholes, whole_leaf}
+use Rattle.cip_leaf_programs.specs.WideLeaf.{AtPlace, SumOverflows, IsWideBy}
+use Rattle.cip_model.specs.declared.verdicts.Place.{Place}
+use Rattle.cip_model.specs.declared.verdicts.Verdict.{Verdict}
+use Rattle.cip_model.specs.declared.verdicts.Verdict.TheVariants.{Feasible, Wide}
+use Rattle.cip_model.specs.Meaning.{Overflows}
+use Rattle.cip_model.specs.Verdicts.{verdict_of}
+use Rattle.cip_leaf.specs.LeafAnswers.{place_of, IsBest}
+use Rattle.cip_leaf.proofs.Sums.{point_overflows}
+use Rattle.cip_leaf.proofs.Ends.{settled}
+
+-- ---- the one point
+
+all_fixed : (integral : List Bool) (leaf : List ℚ) → All (λ whole. whole ≡ true) integral → length leaf ≡ length integral → fixed_values integral leaf ≡ map Some leaf
+all_fixed [] [] h e = refl
+all_fixed [] (v ∷ vs) h e = absurd (omega (arith, e))
+all_fixed (true ∷ ws) [] h e = absurd (omega (arith, e))
+all_fixed (true ∷ ws) (v ∷ vs) h e = ap (λ t. Some v ∷ t) (all_fixed ws vs (All-tail (λ whole. whole ≡ true) true ws h) (omega (arith, e)))
+all_fixed (false ∷ ws) leaf h e = let f : false ≡ true = All-head (λ whole. whole ≡ true) false ws h in absurd (cc)
+
+leaf-long : (integral : List Bool) (box : List Sides) (leaf : List ℚ) → All (λ whole. whole ≡ true) integral → length integral ≡ length box → IsLeafIn integral box leaf → length leaf ≡ length integral
+leaf-long [] box [] h e k = refl
+leaf-long [] box (v ∷ vs) h e k = absurd k
+leaf-long (w ∷ ws) [] leaf h e k = absurd (omega (arith, e))
+leaf-long (true ∷ ws) (s ∷ ss) [] h e k = absurd k
+leaf-long (true ∷ ws) (s ∷ ss) (v ∷ vs) h e k = ap suc (leaf-long ws ss vs (All-tail (λ whole. whole ≡ true) true ws h) (omega (arith, e)) k.1)
+leaf-long (false ∷ ws) (s ∷ ss) leaf h e k = let f : false ≡ true = All-head (λ whole. whole ≡ true) false ws h in absurd (cc)
+
+module _ (program : Program) (leaf : List ℚ) (formed : IsWellFormed program) (whole : All (λ whole. whole ≡ true) program.integral) (is_leaf : IsLeaf program leaf) where
+  same_long : length leaf ≡ length program.integral
+  same_long = leaf-long program.integral program.bounds leaf whole (formed.integral ∙ sym formed.bounds) is_leaf
+
+  pub long : length leaf ≡ columns program
+  long = same_long ∙ formed.integral
+
+  -- a leaf has no other point
+  one : (point : List ℚ) → IsPointOf program leaf point → point ≡ leaf
+  one point h = whole_leaf program leaf point whole (formed.integral ∙ sym formed.bounds) h
+
+  pub best : (point : List ℚ) (cost : ℚ) → point ≡ leaf → IsFeasible program leaf → verdict_of program leaf ≡ Feasible cost → cost ≡ cost_of program leaf → IsBest program leaf point cost
+  best point cost e feasible v c = record {
+    is_point = record { feasible = subst (IsFeasible program) (sym e) feasible; values = ap (λ p. at_wholes program.integral p) e ∙ all_wholes program.integral leaf whole same_long };
+    found = ap (verdict_of program) e ∙ v;
+    cost_is = c ∙ ap (cost_of program) (sym e);
+    least = λ other h. subst (λ p. cost ≤ℚ cost_of program p) (sym (one other h)) (subst (λ n. cost ≤ℚ n) c (≤ℚ_refl cost));
+  }
+
+  sum_wide : (place : WidePlace) → SumOverflows program program.constant leaf place → IsWideAt program leaf place
+  sum_wide (InRow number) h = record { row = h.row; is_row = h.is_row; wide = (let f = all_fixed program.integral leaf whole same_long in let o = h.overflows in rw (f, o) refl) }
+  sum_wide InCost h = let f = all_fixed program.integral leaf whole same_long in rw f h
+
+  pub wide : (place : Place) → Overflows program leaf place → IsWideBy program leaf (AtPlace (place_of place))
+  wide place h = inl (sum_wide (place_of place) (point_overflows program formed leaf long place h))
+
+  pub no_point : (verdict : Verdict) → verdict ≡ verdict_of program leaf → ((cost : ℚ) → ¬ (verdict ≡ Feasible cost)) → ((place : Place) → ¬ (verdict ≡ Wide place)) → (point : List ℚ) → ¬ IsPointOf program leaf point
+  no_point verdict v f w point h = settled program leaf formed is_leaf leaf verdict (subst (IsPointOf program leaf) (one point h) h) v f w

@@ -1,0 +1,40 @@
+//! Leaves of a program whose columns are all whole.
+ghost use Rattle.std.specs.Prelude.{◌≡◌, true, All, IfOk, MatchBool};
+ghost use Rattle.cip_leaves.specs.Leaf.{IsLeaf};
+ghost use Rattle.cip_leaf.specs.LeafAnswers.{IsLeafAnswer};
+
+use crate::answers::{LeafAnswer, Shown};
+use cip_frac::Frac;
+use cip_model::{Program, Verdict};
+use std::alloc::{AllocError, Global};
+
+/// Whether no column is continuous.
+pub(crate) fn are_all_whole(whole: &[bool]) -> bool
+    ensures { MatchBool result (All (λ whole. whole ≡ true) whole.now) (¬ All (λ whole. whole ≡ true) whole.now) }
+{
+    !whole.contains(&false)
+}
+
+/// What is known of a leaf where no column is continuous: what the test of its one point says. `Err` where memory was
+/// refused.
+pub(crate) fn tested(
+    alloc: Global,
+    program: &Program,
+    leaf: &[Frac],
+) -> Result<LeafAnswer, AllocError>
+    requires leaf { IsLeaf program.now leaf.now }
+    requires whole { All (λ whole. whole ≡ true) program.now.integral }
+    ensures { IfOk result (IsLeafAnswer program.now leaf.now) }
+{
+    let _columns = program.columns();
+    match program.check(leaf) {
+        Verdict::Feasible(cost) => Ok(LeafAnswer::Best {
+            point: leaf.to_vec(alloc)?,
+            cost,
+        }),
+        Verdict::Wide { place } => Ok(LeafAnswer::Wide {
+            shown: Shown::Place(place),
+        }),
+        _ => Ok(LeafAnswer::NoPoint),
+    }
+}
