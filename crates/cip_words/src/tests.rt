@@ -5,7 +5,14 @@ use std::test::Fail;
 /// Whether these words ask for so many nodes at most, over the text `M`; 0 where they are refused.
 fn asks(words: &Words, nodes: u64) -> bool {
     match words.job() {
-        Ok(Job::Solve { model, nodes: told }) => model == "M" && told == nodes,
+        Ok(
+            Job::Solve {
+                model,
+                blocks: _,
+                nodes: told,
+            },
+        ) => model == "M" && told == nodes,
+        Ok(Job::Check { .. }) => false,
         Err(fault) => nodes == 0 && fault == WordsFault::Refused,
     }
 }
