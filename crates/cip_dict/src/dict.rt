@@ -13,6 +13,7 @@ use crate::fault::{FirstFault, OutOfRange};
 use crate::first::{all_sides, lists_for, room_for, stands};
 use crate::flip::{plan_flip, take_flip};
 use crate::lists::{Lists, Room};
+use crate::spare::Spare;
 use cip_dictionary::Stand;
 use cip_frac::Frac;
 use cip_lin::Sides;
@@ -48,9 +49,11 @@ impl Dict {
     /// The first state of a linear program: each row is basic, and each column stands at its low side, else at its high
     /// side, else at 0. An entry is a row, a column and the coefficient there; of two that name the same, the last
     /// counts. Sides and costs go by the numbers of rows and columns. `OutOfRange` comes exactly where an operation
-    /// leaves the range, and names the place of the first; `NoMemory` where a growth was refused.
+    /// leaves the range, and names the place of the first; `NoMemory` where a growth was refused. Its lists are those
+    /// that are spare, filled anew, and new ones where there are too few.
     pub fn first(
         alloc: Global,
+        spare: &mut Spare,
         entries: &[(u32, u32, Frac)],
         row_sides: &[Sides],
         column_sides: &[Sides],
@@ -65,20 +68,41 @@ impl Dict {
             (IsFirstFault p) }
     {
         let n = column_sides.len() + row_sides.len();
-        let places = stands(alloc, column_sides, n)?;
+        let places = stands(alloc, spare, column_sides, n)?;
         let standing = places.as_slice();
-        let found = match lists_for(alloc, standing, entries, row_sides, column_sides, costs) {
+        let found = match lists_for(
+            alloc,
+            spare,
+            standing,
+            entries,
+            row_sides,
+            column_sides,
+            costs,
+        ) {
             Ok(found) => found,
             Err(fault) => return Err(fault),
         };
-        let room = room_for(alloc, standing)?;
-        let sides = all_sides(alloc, column_sides, row_sides)?;
+        let room = room_for(alloc, spare, standing)?;
+        let sides = all_sides(alloc, spare, column_sides, row_sides)?;
         Ok(Dict {
             sides,
             standing: places,
             lists: found,
             room,
         })
+    }
+
+    /// Keeps the lists, so that the next dictionary can be made of them.
+    pub fn give_back(self, spare: &mut Spare) {
+        spare.keep_sides(self.sides);
+        spare.keep_stands(self.standing);
+        spare.keep_forms(self.lists.rows);
+        spare.keep_numbers(self.lists.costs);
+        spare.keep_numbers(self.lists.values);
+        spare.keep_form(self.room.entering);
+        spare.keep_forms(self.room.rows);
+        spare.keep_numbers(self.room.costs);
+        spare.keep_numbers(self.room.values);
     }
 
     /// The number of variables. And the state is consistent: rows stand on nonbasic variables alone, and the values are

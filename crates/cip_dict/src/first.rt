@@ -19,6 +19,7 @@ use crate::fault::{FirstFault, OutOfRange};
 use crate::forms::Form;
 use crate::lines::is_basic;
 use crate::lists::{Lists, Room};
+use crate::spare::Spare;
 use crate::values::value_of;
 use cip_dictionary::{Line, Stand};
 use cip_frac::Frac;
@@ -50,12 +51,13 @@ fn stand_of(columns: &[Sides], v: usize) -> Option<Stand>
 /// Where all n variables stand at first; `Err` where the memory was refused.
 pub(crate) fn stands(
     alloc: Global,
+    spare: &mut Spare,
     columns: &[Sides],
     n: usize,
 ) -> Result<Vec<Option<Stand>>, AllocError>
     ensures { IfOk result (λ standing. standing.items ≡ table n (stand_in columns.now)) }
 {
-    let mut standing = Vec::new(alloc);
+    let mut standing = spare.stands(alloc);
     for v in 0..n {
         standing.push(stand_of(columns, v))?;
     }
@@ -63,36 +65,37 @@ pub(crate) fn stands(
 }
 
 /// A row of zeros for a basic variable, and none for another; `Err` where the memory was refused.
-fn empty_row(alloc: Global, standing: &[Option<Stand>], v: usize) -> Result<Form, AllocError>
+fn empty_row(
+    alloc: Global,
+    spare: &mut Spare,
+    standing: &[Option<Stand>],
+    v: usize,
+) -> Result<Form, AllocError>
     requires { v < length standing.now }
     ensures { IfOk result (λ form. form ≡ replicate (row_length standing.now v) zeroℚ) }
 {
     if is_basic(standing, v) {
-        Form::zeros(alloc, standing.len())
+        Form::zeros(alloc, spare, standing.len())
     } else {
         Ok(Form::none(alloc))
     }
 }
 
 /// A row of zeros for each basic variable, and none for the others; `Err` where the memory was refused.
-fn empty_rows(alloc: Global, standing: &[Option<Stand>]) -> Result<Vec<Form>, AllocError>
+fn empty_rows(
+    alloc: Global,
+    spare: &mut Spare,
+    standing: &[Option<Stand>],
+) -> Result<Vec<Form>, AllocError>
     ensures { IfOk result (λ rows. rows.items
         ≡ table (length standing.now) (λ v. replicate (row_length standing.now v) zeroℚ)) }
 {
-    let mut rows = Vec::new(alloc);
+    let mut rows = spare.forms(alloc);
     for v in 0..standing.len() {
-        let row = empty_row(alloc, standing, v)?;
+        let row = empty_row(alloc, spare, standing, v)?;
         rows.push(row)?;
     }
     Ok(rows)
-}
-
-/// So many zeros; `Err` where the memory was refused.
-fn zeros(alloc: Global, n: usize) -> Result<Vec<Frac>, AllocError>
-    ensures { IfOk result (λ numbers. numbers.items ≡ replicate n zeroℚ) }
-{
-    let numbers = vec![in alloc; Frac::zero(); n]?;
-    Ok(numbers)
 }
 
 /// Puts an entry into its row, which is that of the variable past the columns by its number.
@@ -118,10 +121,15 @@ fn cost_of(costs: &[Frac], k: usize) -> Frac
 }
 
 /// The costs of all n variables; `Err` where the memory was refused.
-fn all_costs(alloc: Global, costs: &[Frac], n: usize) -> Result<Vec<Frac>, AllocError>
+fn all_costs(
+    alloc: Global,
+    spare: &mut Spare,
+    costs: &[Frac],
+    n: usize,
+) -> Result<Vec<Frac>, AllocError>
     ensures { IfOk result (λ all. all.items ≡ table n (cost_in costs.now)) }
 {
-    let mut all = Vec::new(alloc);
+    let mut all = spare.numbers(alloc);
     for k in 0..n {
         all.push(cost_of(costs, k))?;
     }
@@ -191,10 +199,14 @@ fn column_at(columns: &[Sides], k: usize) -> Frac
 }
 
 /// The values of the columns at first; `Err` where the memory was refused.
-fn column_values(alloc: Global, columns: &[Sides]) -> Result<Vec<Frac>, AllocError>
+fn column_values(
+    alloc: Global,
+    spare: &mut Spare,
+    columns: &[Sides],
+) -> Result<Vec<Frac>, AllocError>
     ensures { IfOk result (λ values. values.items ≡ table (length columns.now) (column_value columns.now)) }
 {
-    let mut values = Vec::new(alloc);
+    let mut values = spare.numbers(alloc);
     for k in 0..columns.len() {
         values.push(column_at(columns, k))?;
     }
@@ -258,6 +270,7 @@ fn row_values(
 /// The rows of all variables at first; `Err` where the memory was refused.
 fn filled_rows(
     alloc: Global,
+    spare: &mut Spare,
     standing: &[Option<Stand>],
     columns: &[Sides],
     entries: &[(u32, u32, Frac)],
@@ -269,7 +282,7 @@ fn filled_rows(
     ensures { IfOk result (λ rows. rows.items
         ≡ table (length columns.now + m) (row_of_entries (length columns.now) m entries.now)) }
 {
-    let mut rows = empty_rows(alloc, standing)?;
+    let mut rows = empty_rows(alloc, spare, standing)?;
     put_entries(columns.len(), entries, rows.as_mut_slice(), m);
     Ok(rows)
 }
@@ -308,6 +321,7 @@ fn rows_and_cost(
 /// All values at first, and the cost: those of the columns, of the rows and of the cost, in this order.
 fn all_values(
     alloc: Global,
+    spare: &mut Spare,
     columns: &[Sides],
     m: usize,
     rows: &[Form],
@@ -324,10 +338,12 @@ fn all_values(
         × (all.1 ≡ form (length columns.now) (value_at costs.now) (value_at (column_values_of columns.now))))
         (IsRowFault (value_operations columns.now m rows.now costs.now)) }
 {
-    let at = column_values(alloc, columns)?;
+    let at = column_values(alloc, spare, columns)?;
     let begun = at.as_slice();
-    let mut values = Vec::from_slice(alloc, begun)?;
-    match rows_and_cost(columns.len(), m, rows, costs, begun, &mut values) {
+    let mut values = spare.copied(alloc, begun)?;
+    let found = rows_and_cost(columns.len(), m, rows, costs, begun, &mut values);
+    spare.keep_numbers(at);
+    match found {
         Ok(cost) => Ok((values, cost)),
         Err(fault) => Err(fault),
     }
@@ -336,24 +352,30 @@ fn all_values(
 /// The sides of the columns and, after them, of the rows; `Err` where the memory was refused.
 pub(crate) fn all_sides(
     alloc: Global,
+    spare: &mut Spare,
     columns: &[Sides],
     rows: &[Sides],
 ) -> Result<Vec<Sides>, AllocError>
     ensures { IfOk result (λ sides. sides.items ≡ columns.now ++ rows.now) }
 {
-    let mut sides = Vec::from_slice(alloc, columns)?;
+    let mut sides = spare.sides(alloc);
+    sides.extend_from_slice(columns)?;
     sides.extend_from_slice(rows)?;
     Ok(sides)
 }
 
 /// Room for what a move writes; `Err` where the memory was refused.
-pub(crate) fn room_for(alloc: Global, standing: &[Option<Stand>]) -> Result<Room, AllocError>
+pub(crate) fn room_for(
+    alloc: Global,
+    spare: &mut Spare,
+    standing: &[Option<Stand>],
+) -> Result<Room, AllocError>
     ensures { IfOk result (λ room. HasRoom standing.now room) }
 {
-    let entering = Form::zeros(alloc, standing.len())?;
-    let rows = empty_rows(alloc, standing)?;
-    let costs = zeros(alloc, standing.len())?;
-    let values = zeros(alloc, standing.len())?;
+    let entering = Form::zeros(alloc, spare, standing.len())?;
+    let rows = empty_rows(alloc, spare, standing)?;
+    let costs = spare.zeros(alloc, standing.len())?;
+    let values = spare.zeros(alloc, standing.len())?;
     Ok(Room {
         entering,
         rows,
@@ -365,6 +387,7 @@ pub(crate) fn room_for(alloc: Global, standing: &[Option<Stand>]) -> Result<Room
 /// The lists of the first state of a linear program, where all stand as they do at first.
 pub(crate) fn lists_for(
     alloc: Global,
+    spare: &mut Spare,
     standing: &[Option<Stand>],
     entries: &[(u32, u32, Frac)],
     row_sides: &[Sides],
@@ -384,11 +407,11 @@ pub(crate) fn lists_for(
         (IsFirstFault p) }
 {
     let m = row_sides.len();
-    let rows = filled_rows(alloc, standing, column_sides, entries, m)?;
-    let all = all_costs(alloc, costs, standing.len())?;
+    let rows = filled_rows(alloc, spare, standing, column_sides, entries, m)?;
+    let all = all_costs(alloc, spare, costs, standing.len())?;
     let lines = rows.as_slice();
     let own = all.as_slice();
-    match all_values(alloc, column_sides, m, lines, own) {
+    match all_values(alloc, spare, column_sides, m, lines, own) {
         Ok((values, cost)) => Ok(Lists {
             rows,
             costs: all,

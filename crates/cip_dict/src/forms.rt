@@ -3,6 +3,7 @@ ghost use Rattle.std.specs.Prelude.{◌≡◌, ◌<◌, [], length, IfOk, replic
 ghost use Rattle.cip_rational.specs.Rational.{zeroℚ};
 ghost use Rattle.cip_problem.specs.Activity.{value_at};
 
+use crate::spare::Spare;
 use cip_frac::Frac;
 use std::alloc::{AllocError, Global};
 use std::marker::Model;
@@ -27,10 +28,10 @@ impl Model for Form {
 
 impl Form {
     /// So many entries of 0; `Err` where the memory for them was refused.
-    pub(crate) fn zeros(alloc: Global, len: usize) -> Result<Form, AllocError>
+    pub(crate) fn zeros(alloc: Global, spare: &mut Spare, len: usize) -> Result<Form, AllocError>
         ensures { IfOk result (λ form. form ≡ replicate len zeroℚ) }
     {
-        let entries = vec![in alloc; Frac::zero(); len]?;
+        let entries = spare.zeros(alloc, len)?;
         Ok(Form { entries })
     }
 

@@ -11,11 +11,13 @@ mod forms;
 mod lines;
 mod lists;
 mod rows;
+mod spare;
 mod values;
 
 pub use cip_dictionary::{Line, Move, Place, Stand};
 pub use dict::Dict;
 pub use fault::{FirstFault, OutOfRange};
+pub use spare::Spare;
 
 #[cfg(test)]
 mod tests;

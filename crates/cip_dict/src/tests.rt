@@ -24,10 +24,17 @@ fn between(low: i64, high: i64) -> Sides {
 
 // x from 0 to 4 and y from 0, the row r = 2x - 3y from 1, and the cost x + y
 fn small(alloc: Global) -> Result<Dict, FirstFault> {
+    let mut spare = Spare::new(alloc);
+    small_of(alloc, &mut spare)
+}
+
+// the same of lists that are spare
+fn small_of(alloc: Global, spare: &mut Spare) -> Result<Dict, FirstFault> {
     let entries = [(0, 0, Frac::from(2)), (0, 1, Frac::from(-3))];
     let costs = [Frac::from(1), Frac::from(1)];
     Dict::first(
         alloc,
+        spare,
         &entries,
         &[from(1)],
         &[between(0, 4), from(0)],
@@ -122,5 +129,23 @@ fn a_flip_goes_to_the_other_side(rt: HostRuntime) -> Result<(), Fail> {
     assert_eq!(rt; value_of(&dict, 2), ratio(8, 1));
     assert_eq!(rt; Some(dict.cost()), ratio(4, 1));
     assert_eq!(rt; flip(&mut dict, 1), None);
+    Ok(())
+}
+
+#[test]
+fn lists_that_were_used_hold_nothing(rt: HostRuntime) -> Result<(), Fail> {
+    let mut spare = Spare::new(rt.alloc());
+    let Ok(mut dict) = small_of(rt.alloc(), &mut spare) else {
+        return Err(Fail::new("a first state"));
+    };
+    assert_eq!(rt; exchange(&mut dict, 2, 0, Stand::Low), Some(Ok(())));
+    dict.give_back(&mut spare);
+    let Ok(again) = small_of(rt.alloc(), &mut spare) else {
+        return Err(Fail::new("a first state"));
+    };
+    assert_eq!(rt; entry_at(&again, 2, 0), ratio(2, 1));
+    assert_eq!(rt; entry_at(&again, 2, 1), ratio(-3, 1));
+    assert_eq!(rt; entry_at(&again, 2, 2), ratio(0, 1));
+    assert_eq!(rt; value_of(&again, 2), ratio(0, 1));
     Ok(())
 }

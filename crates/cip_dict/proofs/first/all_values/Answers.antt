@@ -4,8 +4,8 @@ use Rattle.cip_dictionary.proofs.Tables.{length-table}
 use Rattle.cip_dict.specs.FirstLists.{column_values_of, column_value, row_form}
 use Rattle.cip_dict.proofs.first.all_values.Goals as goal
 
-pub rows_and_cost-requires-clause-at_long : goal.rows_and_cost-requires-clause-at_long
-rows_and_cost-requires-clause-at_long c =
+pub rows_and_cost-found-requires-clause-at_long : goal.rows_and_cost-found-requires-clause-at_long
+rows_and_cost-found-requires-clause-at_long c =
     let at : c.as_slice-begun.result.now ≡ column_values_of c.args.columns.now = c.as_slice-begun.ensures.value ∙ c.in_ok-at.ensures in
     let long : length c.as_slice-begun.result.now ≡ length c.args.columns.now = ap length at ∙ length-table (length c.args.columns.now) (column_value c.args.columns.now) in
     omega (arith, long)
@@ -14,4 +14,4 @@ pub returns-in-Ok : goal.returns-in-Ok
 returns-in-Ok c =
     let at : c.as_slice-begun.result.now ≡ column_values_of c.args.columns.now = c.as_slice-begun.ensures.value ∙ c.in_ok-at.ensures in
     let e = rw at at c.in-Ok.ensures in
-    (e.0, e.1 ∙ ap (λ xs. xs ++ table c.args.m (row_form (length c.args.columns.now) c.args.rows.now (column_values_of c.args.columns.now))) (c.in_ok-values.ensures.items ∙ at), e.2)
+    (e.0, e.1 ∙ ap (λ xs. xs ++ table c.args.m (row_form (length c.args.columns.now) c.args.rows.now (column_values_of c.args.columns.now))) (c.in_ok-values.ensures ∙ at), e.2)

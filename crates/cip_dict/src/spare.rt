@@ -1,0 +1,129 @@
+//! Lists of dictionaries that are done with.
+ghost use Rattle.std.specs.Prelude.{◌≡◌, [], IfOk, replicate};
+ghost use Rattle.cip_rational.specs.Rational.{zeroℚ};
+
+use crate::forms::Form;
+use cip_dictionary::Stand;
+use cip_frac::Frac;
+use cip_lin::Sides;
+use std::alloc::{AllocError, Global};
+
+/// Lists of dictionaries that are done with, to be filled anew, so that little is allocated for the next one. What
+/// they held is of no account.
+#[derive(Debug, Drop)]
+pub struct Spare {
+    numbers: Vec<Vec<Frac>>,
+    forms: Vec<Vec<Form>>,
+    stands: Vec<Vec<Option<Stand>>>,
+    sides: Vec<Vec<Sides>>,
+}
+
+impl Spare {
+    /// None so far.
+    pub fn new(alloc: Global) -> Spare {
+        Spare {
+            numbers: Vec::new(alloc),
+            forms: Vec::new(alloc),
+            stands: Vec::new(alloc),
+            sides: Vec::new(alloc),
+        }
+    }
+
+    /// An empty list of numbers.
+    pub(crate) fn numbers(&mut self, alloc: Global) -> Vec<Frac>
+        ensures { result.items ≡ [] }
+    {
+        let Some(mut list) = self.numbers.pop() else {
+            return Vec::new(alloc);
+        };
+        list.clear();
+        list
+    }
+
+    /// So many zeros; `Err` where the memory was refused.
+    pub(crate) fn zeros(&mut self, alloc: Global, n: usize) -> Result<Vec<Frac>, AllocError>
+        ensures { IfOk result (λ numbers. numbers.items ≡ replicate n zeroℚ) }
+    {
+        let mut numbers = self.numbers(alloc);
+        numbers.resize(n, Frac::zero())?;
+        Ok(numbers)
+    }
+
+    /// These numbers; `Err` where the memory was refused.
+    pub(crate) fn copied(
+        &mut self,
+        alloc: Global,
+        numbers: &[Frac],
+    ) -> Result<Vec<Frac>, AllocError>
+        ensures { IfOk result (λ copy. copy.items ≡ numbers.now) }
+    {
+        let mut copy = self.numbers(alloc);
+        copy.extend_from_slice(numbers)?;
+        Ok(copy)
+    }
+
+    /// An empty list of lines.
+    pub(crate) fn forms(&mut self, alloc: Global) -> Vec<Form>
+        ensures { result.items ≡ [] }
+    {
+        let Some(mut list) = self.forms.pop() else {
+            return Vec::new(alloc);
+        };
+        list.clear();
+        list
+    }
+
+    /// An empty list of places where variables stand.
+    pub(crate) fn stands(&mut self, alloc: Global) -> Vec<Option<Stand>>
+        ensures { result.items ≡ [] }
+    {
+        let Some(mut list) = self.stands.pop() else {
+            return Vec::new(alloc);
+        };
+        list.clear();
+        list
+    }
+
+    /// An empty list of sides.
+    pub(crate) fn sides(&mut self, alloc: Global) -> Vec<Sides>
+        ensures { result.items ≡ [] }
+    {
+        let Some(mut list) = self.sides.pop() else {
+            return Vec::new(alloc);
+        };
+        list.clear();
+        list
+    }
+
+    /// Keeps a list of numbers; lets it go where no room was given for it.
+    pub(crate) fn keep_numbers(&mut self, list: Vec<Frac>) {
+        let _kept = self.numbers.push(list).is_ok();
+    }
+
+    /// Keeps a list of lines and the entries of each that has some.
+    pub(crate) fn keep_forms(&mut self, mut list: Vec<Form>) {
+        for _ in 0..list.len() {
+            if let Some(form) = list.pop() {
+                self.keep_form(form);
+            }
+        }
+        let _kept = self.forms.push(list).is_ok();
+    }
+
+    /// Keeps the entries of a line that has some.
+    pub(crate) fn keep_form(&mut self, form: Form) {
+        if form.entries.len() > 0 {
+            self.keep_numbers(form.entries);
+        }
+    }
+
+    /// Keeps a list of places where variables stand.
+    pub(crate) fn keep_stands(&mut self, list: Vec<Option<Stand>>) {
+        let _kept = self.stands.push(list).is_ok();
+    }
+
+    /// Keeps a list of sides.
+    pub(crate) fn keep_sides(&mut self, list: Vec<Sides>) {
+        let _kept = self.sides.push(list).is_ok();
+    }
+}
