@@ -10,6 +10,7 @@ ghost use Rattle.cip_simplex.specs.LpShape.{variables, most_entries};
 ghost use Rattle.cip_simplex.specs.LpEntries.{entry_of, entries_in};
 
 use crate::lp::Lp;
+use crate::solver::Solver;
 use cip_dict::{Dict, FirstFault};
 use cip_frac::Frac;
 use cip_lin::{Row, Sides, Term};
@@ -32,17 +33,18 @@ fn put_entries(
     Ok(())
 }
 
-/// The entries of all rows, which have their terms by rising column; `Err` where the memory was refused.
-fn entries_of(alloc: Global, rows: &[Row]) -> Result<Vec<(u32, u32, Frac)>, AllocError>
+/// Makes a list that of the entries of all rows, which have their terms by rising column; `Err` where a growth was
+/// refused.
+fn gather_entries(rows: &[Row], entries: &mut Vec<(u32, u32, Frac)>) -> Result<(), AllocError>
     requires { length rows.now < 2 ^ 32 }
-    ensures { IfOk result (λ entries. (entries.items ≡ entries_in rows.now)
+    ensures { IfOk result (λ _. (entries.new.items ≡ entries_in rows.now)
         × ((r : ℕ) → r < length rows.now → AreTerms (terms_at rows.now r))) }
 {
-    let mut entries = Vec::new(alloc);
+    entries.clear();
     for r in 0..rows.len() {
-        put_entries(&mut entries, r as u32, rows[r].terms())?;
+        put_entries(entries, r as u32, rows[r].terms())?;
     }
-    Ok(entries)
+    Ok(())
 }
 
 /// The sides of a row.
@@ -55,15 +57,15 @@ fn sides_of(row: &Row) -> Sides
     }
 }
 
-/// The sides of all rows; `Err` where the memory was refused.
-fn all_sides(alloc: Global, rows: &[Row]) -> Result<Vec<Sides>, AllocError>
-    ensures { IfOk result (λ sides. sides.items ≡ map row_sides rows.now) }
+/// Makes a list that of the sides of all rows; `Err` where a growth was refused.
+fn gather_sides(rows: &[Row], sides: &mut Vec<Sides>) -> Result<(), AllocError>
+    ensures { IfOk result (λ _. sides.new.items ≡ map row_sides rows.now) }
 {
-    let mut sides = Vec::new(alloc);
+    sides.clear();
     for row in rows {
         sides.push(sides_of(row))?;
     }
-    Ok(sides)
+    Ok(())
 }
 
 /// Whether a dictionary of a linear program, which has an entry for each row on each column and each row, has at most
@@ -80,7 +82,7 @@ fn is_held(lp: &Lp) -> bool
 /// The first state of a linear program: rows are basic, and each column stands at its low side, else at its high side,
 /// else at 0. `OutOfRange` comes only where an operation of its values leaves the range; `NoMemory` where memory was
 /// refused, or the dictionary would have more than 2^25 entries.
-pub(crate) fn first_state(alloc: Global, lp: &Lp) -> Result<Dict, FirstFault>
+pub(crate) fn first_state(alloc: Global, solver: &mut Solver, lp: &Lp) -> Result<Dict, FirstFault>
     ensures { MatchResult result
         (λ dict. (first_overflow (first_operations (system_of lp.now)) ≡ None) × (dict ≡ first_of_program lp.now))
         (IsFirstFault (system_of lp.now)) }
@@ -88,12 +90,13 @@ pub(crate) fn first_state(alloc: Global, lp: &Lp) -> Result<Dict, FirstFault>
     if !is_held(lp) {
         return Err(FirstFault::NoMemory);
     }
-    let entries = entries_of(alloc, lp.rows())?;
-    let sides = all_sides(alloc, lp.rows())?;
+    gather_entries(lp.rows(), &mut solver.entries)?;
+    gather_sides(lp.rows(), &mut solver.sides)?;
     Dict::first(
         alloc,
-        entries.as_slice(),
-        sides.as_slice(),
+        &mut solver.spare,
+        solver.entries.as_slice(),
+        solver.sides.as_slice(),
         lp.sides(),
         lp.costs(),
     )

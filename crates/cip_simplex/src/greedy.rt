@@ -10,6 +10,7 @@ use crate::begin::first_state;
 use crate::ends::end_answer;
 use crate::greedy_steps::descend_to_end;
 use crate::lp::Lp;
+use crate::solver::Solver;
 use crate::start_moves::begin_at;
 use crate::starts::Start;
 use cip_dict::{Dict, FirstFault};
@@ -52,6 +53,7 @@ fn descend_from(
 /// was refused, or the dictionary would have more than 2^25 entries.
 pub fn solve_greedily(
     alloc: Global,
+    solver: &mut Solver,
     lp: &Lp,
     start: &Start,
     limit: u32,
@@ -59,10 +61,11 @@ pub fn solve_greedily(
     requires { length start.now ≡ variables lp.now }
     ensures { IfOk result (λ solved. IsReached lp.now solved.0 solved.1) }
 {
-    match first_state(alloc, lp) {
+    match first_state(alloc, solver, lp) {
         Ok(mut dict) => {
             let found = descend_from(alloc, lp, &mut dict, start, limit)?;
             let last = Start::at(alloc, &dict)?;
+            dict.give_back(&mut solver.spare);
             Ok((found, last))
         }
         Err(FirstFault::OutOfRange { place: _ }) => {

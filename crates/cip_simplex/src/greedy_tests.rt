@@ -1,7 +1,7 @@
 //! Linear programs worked out by hand, solved with few moves.
 use crate::slow_check::{Program, check_answer};
 use crate::tests::{between, box_of, is_13, row, three_rows, whole};
-use crate::{Lp, LpAnswer, Start, solve_fully, solve_greedily};
+use crate::{Lp, LpAnswer, Solver, Start, solve_fully, solve_greedily};
 use cip_lin::{Row, Sides};
 use std::alloc::Global;
 use std::test::Fail;
@@ -17,7 +17,8 @@ fn few_moves(
     }
     let lp = Lp::new(program.rows, program.bounds, program.costs);
     let start = Start::slack(alloc, &lp)?;
-    Ok(solve_greedily(alloc, &lp, &start, limit)?)
+    let mut solver = Solver::new(alloc);
+    Ok(solve_greedily(alloc, &mut solver, &lp, &start, limit)?)
 }
 
 // its answer, which is there and right
@@ -93,7 +94,8 @@ fn is_refused(alloc: Global, program: &Program) -> Result<bool, Fail> {
         return Err(Fail::new("no linear program"));
     }
     let lp = Lp::new(program.rows, program.bounds, program.costs);
-    Ok(solve_fully(alloc, &lp).is_err())
+    let mut solver = Solver::new(alloc);
+    Ok(solve_fully(alloc, &mut solver, &lp).is_err())
 }
 
 // 5,800 rows on as many rows

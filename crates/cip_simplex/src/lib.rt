@@ -13,6 +13,7 @@ mod headings;
 mod laws;
 mod lp;
 mod runs;
+mod solver;
 mod solving;
 mod start_moves;
 mod starts;
@@ -23,6 +24,7 @@ pub use answers::LpAnswer;
 pub use greedy::solve_greedily;
 pub use laws::{slack_is_first, starts_are_right};
 pub use lp::Lp;
+pub use solver::Solver;
 pub use solving::{solve, solve_from, solve_fully};
 pub use starts::Start;
 

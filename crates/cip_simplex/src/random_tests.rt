@@ -3,7 +3,7 @@ ghost use Rattle.std.specs.Prelude.{◌≡◌, ◌<◌, length};
 ghost use Rattle.cip_simplex.specs.LpShape.{variables};
 
 use crate::slow_check::{Program, check_answer};
-use crate::{Lp, LpAnswer, Start, solve, solve_from, solve_greedily};
+use crate::{Lp, LpAnswer, Solver, Start, solve, solve_from, solve_greedily};
 use cip_dictionary::Stand;
 use cip_frac::Frac;
 use cip_lin::{Bounds, Row, Sides, Term};
@@ -132,6 +132,7 @@ fn agree(first: &LpAnswer, second: &LpAnswer) -> bool {
 // a rule that makes few moves answers as the list does
 fn try_greedily(
     alloc: Global,
+    solver: &mut Solver,
     lp: &Lp,
     program: &Program,
     start: &Start,
@@ -139,7 +140,7 @@ fn try_greedily(
 ) -> Result<(), Fail>
     requires { length start.now ≡ variables lp.now }
 {
-    let (first, _last) = solve_greedily(alloc, lp, start, 10000)?;
+    let (first, _last) = solve_greedily(alloc, solver, lp, start, 10000)?;
     let Some(other) = first else {
         return Err(Fail::new("no answer by few moves"));
     };
@@ -152,7 +153,7 @@ fn try_greedily(
 }
 
 // solves from the first state and from a start at random, and checks all answers
-fn try_one(alloc: Global, random: &mut Random) -> Result<(), Fail> {
+fn try_one(alloc: Global, solver: &mut Solver, random: &mut Random) -> Result<(), Fail> {
     let columns = random.below(9);
     let rows = random.rows(alloc, columns)?;
     let bounds = random.bounds(alloc, columns)?;
@@ -166,14 +167,14 @@ fn try_one(alloc: Global, random: &mut Random) -> Result<(), Fail> {
         bounds: &bounds,
         costs: &costs,
     };
-    let found = solve(alloc, &lp, 10000)?;
+    let found = solve(alloc, solver, &lp, 10000)?;
     check_answer(&program, &found)?;
     let start = random.start(alloc, bounds.len() + rows.len())?;
     if start.len() != bounds.len() + rows.len() {
         return Err(Fail::new("a start of another length"));
     }
-    try_greedily(alloc, &lp, &program, &start, &found)?;
-    let (other, _last) = solve_from(alloc, &lp, &start, 10000)?;
+    try_greedily(alloc, solver, &lp, &program, &start, &found)?;
+    let (other, _last) = solve_from(alloc, solver, &lp, &start, 10000)?;
     check_answer(&program, &other)?;
     if agree(&found, &other) {
         Ok(())
@@ -185,8 +186,9 @@ fn try_one(alloc: Global, random: &mut Random) -> Result<(), Fail> {
 #[test]
 fn a_thousand_programs_are_answered_right(rt: HostRuntime) -> Result<(), Fail> {
     let mut random = Random { state: 20260727 };
+    let mut solver = Solver::new(rt.alloc());
     for _ in 0..1000 {
-        try_one(rt.alloc(), &mut random)?;
+        try_one(rt.alloc(), &mut solver, &mut random)?;
     }
     Ok(())
 }

@@ -16,6 +16,7 @@ use crate::begin::first_state;
 use crate::ends::end_answer;
 use crate::lp::Lp;
 use crate::runs::{make_all_moves, make_moves};
+use crate::solver::Solver;
 use crate::start_moves::begin_at;
 use crate::starts::Start;
 use crate::steps::Ending;
@@ -53,13 +54,22 @@ pub(crate) fn solve_on(
 /// `Wide` comes exactly where the first state is out of range, and then names no move, or where a move within the limit
 /// is; `Limit` exactly where as many moves, all in range, lead to a state that is no end. `Err` where memory was
 /// refused, or the dictionary would have more than 2^25 entries: one for each row on each column and each row.
-pub fn solve(alloc: Global, lp: &Lp, limit: u32) -> Result<LpAnswer, AllocError>
+pub fn solve(
+    alloc: Global,
+    solver: &mut Solver,
+    lp: &Lp,
+    limit: u32,
+) -> Result<LpAnswer, AllocError>
     ensures answer { IfOk result (IsAnswer (answer limit lp.now)) }
     ensures right { IsRight lp.now (answer limit lp.now) }
 {
     let _columns = lp.columns();
-    match first_state(alloc, lp) {
-        Ok(mut dict) => solve_on(alloc, lp, &mut dict, Vec::new(alloc), limit),
+    match first_state(alloc, solver, lp) {
+        Ok(mut dict) => {
+            let found = solve_on(alloc, lp, &mut dict, Vec::new(alloc), limit);
+            dict.give_back(&mut solver.spare);
+            found
+        }
         Err(FirstFault::OutOfRange { place: _ }) => Ok(LpAnswer::Wide {
             moves: Vec::new(alloc),
         }),
@@ -96,6 +106,7 @@ fn solve_at(
 /// What `solve_from` answers, and where the variables are at the last state in range. `Err` where memory was refused.
 fn solve_begun(
     alloc: Global,
+    solver: &mut Solver,
     lp: &Lp,
     start: &Start,
     limit: u32,
@@ -104,10 +115,11 @@ fn solve_begun(
     ensures { IfOk result (λ solved. IsAnswer (answer_from limit lp.now start.now) solved.0
         × (solved.1 ≡ stands_of (last_from limit lp.now start.now))) }
 {
-    match first_state(alloc, lp) {
+    match first_state(alloc, solver, lp) {
         Ok(mut dict) => {
             let found = solve_at(alloc, lp, &mut dict, start, limit)?;
             let last = Start::at(alloc, &dict)?;
+            dict.give_back(&mut solver.spare);
             Ok((found, last))
         }
         Err(FirstFault::OutOfRange { place: _ }) => {
@@ -128,6 +140,7 @@ fn solve_begun(
 /// dictionary would have more than 2^25 entries.
 pub fn solve_from(
     alloc: Global,
+    solver: &mut Solver,
     lp: &Lp,
     start: &Start,
     limit: u32,
@@ -138,7 +151,7 @@ pub fn solve_from(
     ensures right { IsRight lp.now (answer_from limit lp.now start.now) }
 {
     let _columns = lp.columns();
-    solve_begun(alloc, lp, start, limit)
+    solve_begun(alloc, solver, lp, start, limit)
 }
 
 /// Makes all moves of the rule from a state of a linear program, and answers what their end does. `Err` where memory
@@ -162,20 +175,24 @@ fn solve_all(alloc: Global, lp: &Lp, dict: &mut Dict) -> Result<LpAnswer, AllocE
 /// Solves a linear program by the simplex method, from its first state, with as many moves by Bland's rule as there
 /// are: no state comes twice, so they end, and `Limit` is never answered. `Err` where memory was refused, or the
 /// dictionary would have more than 2^25 entries.
-pub fn solve_fully(alloc: Global, lp: &Lp) -> Result<LpAnswer, AllocError>
+pub fn solve_fully(alloc: Global, solver: &mut Solver, lp: &Lp) -> Result<LpAnswer, AllocError>
     ensures answer { IfOk result (IsAnswer (whole_answer lp.now)) }
     ensures whole { WholeAnswerHolds lp.now }
 {
     let _columns = lp.columns();
-    solve_wholly(alloc, lp)
+    solve_wholly(alloc, solver, lp)
 }
 
 /// What `solve_fully` answers.
-fn solve_wholly(alloc: Global, lp: &Lp) -> Result<LpAnswer, AllocError>
+fn solve_wholly(alloc: Global, solver: &mut Solver, lp: &Lp) -> Result<LpAnswer, AllocError>
     ensures { IfOk result (IsAnswer (whole_answer lp.now)) }
 {
-    match first_state(alloc, lp) {
-        Ok(mut dict) => solve_all(alloc, lp, &mut dict),
+    match first_state(alloc, solver, lp) {
+        Ok(mut dict) => {
+            let found = solve_all(alloc, lp, &mut dict);
+            dict.give_back(&mut solver.spare);
+            found
+        }
         Err(FirstFault::OutOfRange { place: _ }) => Ok(LpAnswer::Wide {
             moves: Vec::new(alloc),
         }),

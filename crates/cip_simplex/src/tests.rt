@@ -2,7 +2,7 @@
 ghost use Rattle.std.specs.Prelude.{◌≡◌, length};
 
 use crate::slow_check::{Program, check_answer};
-use crate::{Lp, LpAnswer, Start, solve, solve_from, solve_fully};
+use crate::{Lp, LpAnswer, Solver, Start, solve, solve_from, solve_fully};
 use cip_frac::Frac;
 use cip_lin::{Bounds, Row, Sides, Term};
 use std::alloc::Global;
@@ -65,7 +65,8 @@ fn solved(alloc: Global, program: &Program, limit: u32) -> Result<LpAnswer, Fail
         return Err(Fail::new("no linear program"));
     }
     let lp = Lp::new(program.rows, program.bounds, program.costs);
-    Ok(solve(alloc, &lp, limit)?)
+    let mut solver = Solver::new(alloc);
+    Ok(solve(alloc, &mut solver, &lp, limit)?)
 }
 
 // its answer after so many moves, and where variables are then, from a start, or from the first state
@@ -86,7 +87,8 @@ fn solved_from(
     if from.len() != program.bounds.len() + program.rows.len() {
         return Err(Fail::new("a start of another length"));
     }
-    Ok(solve_from(alloc, &lp, &from, limit)?)
+    let mut solver = Solver::new(alloc);
+    Ok(solve_from(alloc, &mut solver, &lp, &from, limit)?)
 }
 
 pub(crate) fn is_13(found: &LpAnswer) -> bool {
@@ -205,7 +207,8 @@ fn wholly_solved(alloc: Global, program: &Program) -> Result<LpAnswer, Fail> {
         return Err(Fail::new("no linear program"));
     }
     let lp = Lp::new(program.rows, program.bounds, program.costs);
-    Ok(solve_fully(alloc, &lp)?)
+    let mut solver = Solver::new(alloc);
+    Ok(solve_fully(alloc, &mut solver, &lp)?)
 }
 
 #[test]

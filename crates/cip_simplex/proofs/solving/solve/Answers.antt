@@ -7,11 +7,11 @@ use Rattle.cip_simplex.specs.declared.answers.LpAnswer.TheVariants.{Wide}
 use Rattle.cip_simplex.proofs.Solved.{first_size, answer_out_of_range, answered}
 use Rattle.cip_simplex.proofs.solving.solve.Goals as goal
 
-pub solve_on-requires : goal.solve_on-requires
-solve_on-requires c = ap size c.in-Ok.ensures.1 ∙ first_size c.args.lp.now
+pub solve_on-found-requires : goal.solve_on-found-requires
+solve_on-found-requires c = ap size c.in-Ok.ensures.1 ∙ first_size c.args.lp.now
 
 pub returns-in-Ok-clause-answer : goal.returns-in-Ok-clause-answer
-returns-in-Ok-clause-answer c = answered c.args.lp.now c.args.limit c.new.result.items c.in-Ok.dict c.solve_on.new.dict c.solve_on.result c.in-Ok.ensures.0 c.in-Ok.ensures.1 c.new.ensures.items c.solve_on.ensures.answer
+returns-in-Ok-clause-answer c = answered c.args.lp.now c.args.limit c.new.result.items c.in-Ok.dict c.solve_on-found.new.dict c.solve_on-found.result c.in-Ok.ensures.0 c.in-Ok.ensures.1 c.new.ensures.items c.solve_on-found.ensures.answer
 
 pub returns-in-Ok-clause-right : goal.returns-in-Ok-clause-right
 returns-in-Ok-clause-right c = answers_are_right c.args.lp.now c.args.limit c.columns-columns.ensures.solvable.proper

@@ -8,14 +8,14 @@ use Rattle.cip_simplex.specs.declared.answers.LpAnswer.TheVariants.{Wide}
 use Rattle.cip_simplex.proofs.Solved.{first_size, whole_out_of_range, wholly_answered}
 use Rattle.cip_simplex.proofs.solving.solve_wholly.Goals as goal
 
-pub solve_all-requires-clause-state : goal.solve_all-requires-clause-state
-solve_all-requires-clause-state c = subst (IsStateOf c.args.lp.now) (sym c.in-Ok.ensures.1) (first_is_state c.args.lp.now)
+pub solve_all-found-requires-clause-state : goal.solve_all-found-requires-clause-state
+solve_all-found-requires-clause-state c = subst (IsStateOf c.args.lp.now) (sym c.in-Ok.ensures.1) (first_is_state c.args.lp.now)
 
-pub solve_all-requires-clause-variables : goal.solve_all-requires-clause-variables
-solve_all-requires-clause-variables c = ap size c.in-Ok.ensures.1 ∙ first_size c.args.lp.now
+pub solve_all-found-requires-clause-variables : goal.solve_all-found-requires-clause-variables
+solve_all-found-requires-clause-variables c = ap size c.in-Ok.ensures.1 ∙ first_size c.args.lp.now
 
 pub returns-in-Ok : goal.returns-in-Ok
-returns-in-Ok c = wholly_answered c.args.lp.now c.in-Ok.dict c.solve_all.result c.in-Ok.ensures.0 c.in-Ok.ensures.1 c.solve_all.ensures
+returns-in-Ok c = wholly_answered c.args.lp.now c.in-Ok.dict c.solve_all-found.result c.in-Ok.ensures.0 c.in-Ok.ensures.1 c.solve_all-found.ensures
 
 pub returns-in-Err-OutOfRange : goal.returns-in-Err-OutOfRange
 returns-in-Err-OutOfRange c =

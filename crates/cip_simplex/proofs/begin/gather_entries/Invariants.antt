@@ -3,7 +3,7 @@ use Rattle.cip_problem.specs.RowTerms.{AreTerms}
 use Rattle.cip_dictionary.specs.Tables.{each}
 use Rattle.cip_dictionary.specs.ProgramState.{terms_at}
 use Rattle.cip_simplex.specs.LpEntries.{row_entries}
-use Rattle.cip_simplex.proofs.begin.entries_of.Given as goal
+use Rattle.cip_simplex.proofs.begin.gather_entries.Given as goal
 
 abbrev pub invariant-loop-r : goal.invariant-loop-r
 invariant-loop-r l = record {
