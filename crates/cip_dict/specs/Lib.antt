@@ -2,6 +2,7 @@ pub mod DictionaryCode
 pub mod Entries
 pub mod FirstLists
 pub mod Lists
+pub mod MoveFaults
 pub mod Row
 pub mod State
 pub mod Values

@@ -5,11 +5,12 @@ ghost use Rattle.cip_dictionary.specs.Dictionary as def;
 ghost use Rattle.cip_dictionary.specs.Exchange.{CanExchange, exchanged, CanFlip, flipped};
 ghost use Rattle.cip_dictionary.specs.FirstState.{first, first_operations};
 ghost use Rattle.cip_dict.specs.Entries.{AreWithin, system_in, IsFirstFault};
+ghost use Rattle.cip_dict.specs.MoveFaults.{IsMoveFault};
 ghost use Rattle.cip_dictionary.specs.Operations.{first_overflow};
 ghost use Rattle.cip_dictionary.specs.MoveOperations.{exchange_operations, flip_operations};
 
 use crate::exchange::{plan, take_over};
-use crate::fault::{FirstFault, OutOfRange};
+use crate::fault::{FirstFault, MoveFault, OutOfRange};
 use crate::first::{all_sides, lists_for, room_for, stands};
 use crate::flip::{plan_flip, take_flip};
 use crate::lists::{Lists, Room};
@@ -164,15 +165,15 @@ impl Dict {
     }
 
     /// Exchanges the basic variable i, which leaves to `stand`, and the nonbasic j, which enters. The entry of i on j
-    /// isn't 0, and i has the side of `stand`, or none for `Zero`. `OutOfRange` comes exactly where an operation of the
-    /// exchange leaves the range, and names the place of the first; then the state is as before.
-    pub fn exchange(&mut self, i: u32, j: u32, stand: Stand) -> Result<(), OutOfRange>
+    /// isn't 0, and i has the side of `stand`, or none for `Zero`. `OutOfRange` comes only where an operation of the
+    /// exchange leaves the range, and names the place of the first; `NoMemory` where a growth was refused. After either
+    /// the state is as before.
+    pub fn exchange(&mut self, i: u32, j: u32, stand: Stand) -> Result<(), MoveFault>
         requires { CanExchange self.old i j stand }
         ensures { MatchResult result
             (λ _. (first_overflow (exchange_operations self.old i j stand) ≡ None)
             × (self.new ≡ exchanged self.old i j stand))
-            (λ fault. (first_overflow (exchange_operations self.old i j stand) ≡ Some fault.place)
-            × (self.new ≡ self.old)) }
+            (λ fault. IsMoveFault (exchange_operations self.old i j stand) fault × (self.new ≡ self.old)) }
     {
         let sides = self.sides.as_slice();
         let standing = self.standing.as_slice();
@@ -182,7 +183,7 @@ impl Dict {
                 take_over(&mut self.standing, i, j, stand, cost, lists, &mut self.room);
                 Ok(())
             }
-            Err(fault) => Err(fault),
+            Err(fault) => Err(MoveFault::OutOfRange { place: fault.place }),
         }
     }
 

@@ -9,6 +9,26 @@ pub struct OutOfRange {
     pub place: Place,
 }
 
+/// Why an exchange isn't made.
+#[derive(Clone, Copy, Debug, PartialEq, Eq)]
+pub enum MoveFault {
+    /// The first operation that leaves the range of fractions is formed there.
+    OutOfRange { place: Place },
+    /// A growth was refused.
+    NoMemory,
+}
+
+impl From<AllocError> for MoveFault {
+    ghost use Rattle.std.specs.Prelude.{◌≡◌};
+    ghost use Rattle.cip_dict.specs.declared.fault.MoveFault.{MoveFault};
+
+    ghost from_gives = { λ _ fault. fault ≡ MoveFault.NoMemory };
+
+    fn from(_error: AllocError) -> MoveFault {
+        MoveFault::NoMemory
+    }
+}
+
 /// Why there is no first state.
 #[derive(Clone, Copy, Debug, PartialEq, Eq)]
 pub enum FirstFault {

@@ -16,7 +16,7 @@ mod values;
 
 pub use cip_dictionary::{Line, Move, Place, Stand};
 pub use dict::Dict;
-pub use fault::{FirstFault, OutOfRange};
+pub use fault::{FirstFault, MoveFault, OutOfRange};
 pub use spare::Spare;
 
 #[cfg(test)]

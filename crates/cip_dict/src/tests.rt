@@ -70,7 +70,7 @@ fn can_stand(sides: Sides, to: Stand) -> bool
 }
 
 // an exchange, where it can be made
-fn exchange(dict: &mut Dict, i: u32, j: u32, to: Stand) -> Option<Result<(), OutOfRange>> {
+fn exchange(dict: &mut Dict, i: u32, j: u32, to: Stand) -> Option<Result<(), MoveFault>> {
     let len = dict.len();
     if (i as usize) >= len || (j as usize) >= len {
         return None;
