@@ -35,7 +35,7 @@ fn descend_from(
     if begin_at(start, dict, lp, &mut moves)?.is_some() {
         return Ok(None);
     }
-    let Some(step) = descend_to_end(lp, dict, limit) else {
+    let Some(step) = descend_to_end(lp, dict, limit)? else {
         return Ok(None);
     };
     let found = end_answer(alloc, lp, dict, step)?;

@@ -1,5 +1,5 @@
 //! Steps by a rule that makes few moves.
-ghost use Rattle.std.specs.Prelude.{◌≡◌, ◌<◌, ◌^◌, IfSome};
+ghost use Rattle.std.specs.Prelude.{◌≡◌, ◌<◌, ◌^◌, IfOk, IfSome};
 ghost use Rattle.cip_dictionary.specs.Dictionary as def;
 ghost use Rattle.cip_dictionary.specs.Exchange.{CanMove};
 ghost use Rattle.cip_bland.specs.Rule as rule;
@@ -16,6 +16,7 @@ use crate::ways::shortest_way;
 use cip_bland::Step;
 use cip_dict::Dict;
 use cip_dictionary::Move;
+use std::alloc::AllocError;
 
 /// What is chosen where the basic variable i is outside its sides and leaves.
 fn pick_repair(dict: &Dict, i: u32) -> Choice
@@ -56,59 +57,63 @@ fn pick(dict: &Dict) -> Choice
     }
 }
 
-/// Makes a move that can be made.
-fn make_chosen(dict: &mut Dict, chosen: Move) -> Advance
+/// Makes a move that can be made. `Err` where memory was refused.
+fn make_chosen(dict: &mut Dict, chosen: Move) -> Result<Advance, AllocError>
     requires { CanMove dict.old chosen }
-    ensures { IsFreeAdvance dict.old dict.new result }
+    ensures { IfOk result (IsFreeAdvance dict.old dict.new) }
 {
-    if make(dict, chosen) {
-        Advance::Made(chosen)
+    if make(dict, chosen)? {
+        Ok(Advance::Made(chosen))
     } else {
-        Advance::Wide(chosen)
+        Ok(Advance::Wide(chosen))
     }
 }
 
-/// Makes the step of the shortest way of j, which lets the cost fall.
-fn descend(dict: &mut Dict, j: u32) -> Advance
+/// Makes the step of the shortest way of j, which lets the cost fall. `Err` where memory was refused.
+fn descend(dict: &mut Dict, j: u32) -> Result<Advance, AllocError>
     requires few { def.size dict.old < 2 ^ 32 }
     requires improver { IsImprover dict.old j }
-    ensures { IsFreeAdvance dict.old dict.new result }
+    ensures { IfOk result (IsFreeAdvance dict.old dict.new) }
 {
     match shortest_way(dict, j) {
-        Err(wide) => Advance::Wide(wide),
-        Ok(None) => Advance::End(Step::Ray(j)),
+        Err(wide) => Ok(Advance::Wide(wide)),
+        Ok(None) => Ok(Advance::End(Step::Ray(j))),
         Ok(Some(way)) => make_chosen(dict, move_by(j, &way)),
     }
 }
 
-/// Makes the next step.
-fn take_chosen(dict: &mut Dict) -> Advance
+/// Makes the next step. `Err` where memory was refused.
+fn take_chosen(dict: &mut Dict) -> Result<Advance, AllocError>
     requires { def.size dict.old < 2 ^ 32 }
-    ensures { IsFreeAdvance dict.old dict.new result }
+    ensures { IfOk result (IsFreeAdvance dict.old dict.new) }
 {
     match pick(dict) {
-        Choice::Crossed(v) => Advance::End(Step::Crossed(v)),
-        Choice::Infeasible(i) => Advance::End(Step::Infeasible(i)),
-        Choice::Optimum => Advance::End(Step::Optimum),
+        Choice::Crossed(v) => Ok(Advance::End(Step::Crossed(v))),
+        Choice::Infeasible(i) => Ok(Advance::End(Step::Infeasible(i))),
+        Choice::Optimum => Ok(Advance::End(Step::Optimum)),
         Choice::Repair(i, j, to) => make_chosen(dict, Move::Exchange(i, j, to)),
         Choice::Improve(j) => descend(dict, j),
     }
 }
 
 /// Makes moves from a state of a linear program, at most so many, and answers the end that the last state is; none
-/// where a move is out of range or none may be made any more.
-pub(crate) fn descend_to_end(lp: &Lp, dict: &mut Dict, limit: u32) -> Option<Step>
+/// where a move is out of range or none may be made any more. `Err` where memory was refused.
+pub(crate) fn descend_to_end(
+    lp: &Lp,
+    dict: &mut Dict,
+    limit: u32,
+) -> Result<Option<Step>, AllocError>
     requires { IsStateOf lp.now dict.old }
-    ensures state { IsStateOf lp.now dict.new }
-    ensures end { IfSome result (IsEndAt dict.new) }
+    ensures state { IfOk result (λ _. IsStateOf lp.now dict.new) }
+    ensures end { IfOk result (λ found. IfSome found (IsEndAt dict.new)) }
 {
     let _columns = lp.columns();
     for _made in 0..limit {
-        match take_chosen(dict) {
+        match take_chosen(dict)? {
             Advance::Made(_) => {}
-            Advance::Wide(_) => return None,
-            Advance::End(step) => return Some(step),
+            Advance::Wide(_) => return Ok(None),
+            Advance::End(step) => return Ok(Some(step)),
         }
     }
-    None
+    Ok(None)
 }

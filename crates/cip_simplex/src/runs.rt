@@ -13,7 +13,7 @@ use cip_dictionary::Move;
 use std::alloc::AllocError;
 
 /// Makes the moves of the rule, at most so many, and puts each at the end of the list of moves. The state is then the
-/// last one. `Err` where a growth of the list was refused.
+/// last one. `Err` where memory was refused.
 pub(crate) fn make_moves(
     dict: &mut Dict,
     limit: u32,
@@ -25,7 +25,7 @@ pub(crate) fn make_moves(
     ensures variables { IfOk result (λ _. def.size dict.new ≡ def.size dict.old) }
 {
     for _made in 0..limit {
-        match take_step(dict) {
+        match take_step(dict)? {
             Advance::Made(chosen) => moves.push(chosen)?,
             Advance::Wide(wide) => return Ok(Ending::Overflows(wide)),
             Advance::End(step) => return Ok(Ending::Ends(step)),
@@ -35,7 +35,7 @@ pub(crate) fn make_moves(
 }
 
 /// Makes the moves of the rule from a state of a linear program until they end, and puts each at the end of the list of
-/// moves. The state is then the last one. `Err` where a growth of the list was refused.
+/// moves. The state is then the last one. `Err` where memory was refused.
 pub(crate) fn make_all_moves(
     lp: &Lp,
     dict: &mut Dict,
@@ -48,7 +48,7 @@ pub(crate) fn make_all_moves(
 {
     let _columns = lp.columns();
     'steps: loop {
-        match take_step(dict) {
+        match take_step(dict)? {
             Advance::Made(chosen) => moves.push(chosen)?,
             Advance::Wide(wide) => return Ok(Ending::Overflows(wide)),
             Advance::End(step) => return Ok(Ending::Ends(step)),

@@ -118,7 +118,7 @@ fn flipping_move(start: &Start, dict: &Dict, v: u32) -> Option<Move>
 }
 
 /// Makes a move, where there is one, and puts it at the end of the list of moves; answers the move where it is out of
-/// range, and then the state is as before. `Err` where a growth of the list was refused.
+/// range, and then the state is as before. `Err` where memory was refused.
 fn make_next(
     dict: &mut Dict,
     chosen: Option<Move>,
@@ -133,7 +133,7 @@ fn make_next(
     let Some(next) = chosen else {
         return Ok(None);
     };
-    if make(dict, next) {
+    if make(dict, next)? {
         moves.push(next)?;
         Ok(None)
     } else {
@@ -142,7 +142,7 @@ fn make_next(
 }
 
 /// Makes the entering moves of so many columns, by rising number, and puts each at the end of the list of moves;
-/// answers the first that is out of range, at which it stops. `Err` where a growth of the list was refused.
+/// answers the first that is out of range, at which it stops. `Err` where memory was refused.
 fn enter_columns(
     start: &Start,
     dict: &mut Dict,
@@ -167,7 +167,7 @@ fn enter_columns(
 }
 
 /// Makes the flipping moves of n variables, by rising number, and puts each at the end of the list of moves; answers
-/// the first that is out of range, at which it stops. `Err` where a growth of the list was refused.
+/// the first that is out of range, at which it stops. `Err` where memory was refused.
 fn flip_variables(
     start: &Start,
     dict: &mut Dict,
@@ -192,8 +192,7 @@ fn flip_variables(
 }
 
 /// Makes the moves of a start at the first state of a linear program, and puts each at the end of the list of moves,
-/// which is empty; answers the first that is out of range, at which it stops. `Err` where a growth of the list was
-/// refused.
+/// which is empty; answers the first that is out of range, at which it stops. `Err` where memory was refused.
 pub(crate) fn begin_at(
     start: &Start,
     dict: &mut Dict,

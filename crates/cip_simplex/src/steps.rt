@@ -1,5 +1,5 @@
 //! One step by Bland's rule: what is chosen, and the move that is made.
-ghost use Rattle.std.specs.Prelude.{◌≡◌, ◌<◌, ◌^◌, true, false, None, Some, MatchBool};
+ghost use Rattle.std.specs.Prelude.{◌≡◌, ◌<◌, ◌^◌, true, false, None, Some, IfOk, MatchBool};
 ghost use Rattle.cip_dictionary.specs.Tables.{least};
 ghost use Rattle.cip_dictionary.specs.Dictionary as def;
 ghost use Rattle.cip_dictionary.specs.Exchange.{after, CanMove};
@@ -14,8 +14,9 @@ use crate::choice::{
 use crate::headings::stand_ahead;
 use crate::ways::{Way, has_way, shortest_way};
 use cip_bland::Step;
-use cip_dict::Dict;
+use cip_dict::{Dict, MoveFault};
 use cip_dictionary::{Move, Stand};
+use std::alloc::AllocError;
 
 /// What the rule says at a state before ways are formed.
 #[derive(Debug, Drop)]
@@ -95,31 +96,34 @@ fn choose(dict: &Dict) -> Choice
 }
 
 /// Makes a move: `true`, and the state is the one after it; `false` exactly where an operation of it is out of range,
-/// and the state is as it was.
-pub(crate) fn make(dict: &mut Dict, chosen: Move) -> bool
+/// and the state is as it was. `Err` where memory was refused.
+pub(crate) fn make(dict: &mut Dict, chosen: Move) -> Result<bool, AllocError>
     requires { CanMove dict.old chosen }
-    ensures { MatchBool result
+    ensures { IfOk result (λ made. MatchBool made
         ((is_out_of_range (move_operations dict.old chosen) ≡ false) × (dict.new ≡ after dict.old chosen))
-        ((is_out_of_range (move_operations dict.old chosen) ≡ true) × (dict.new ≡ dict.old)) }
+        ((is_out_of_range (move_operations dict.old chosen) ≡ true) × (dict.new ≡ dict.old))) }
 {
-    let made = match chosen {
-        Move::Exchange(i, j, to) => dict.exchange(i, j, to),
-        Move::Flip(j) => dict.flip(j),
-    };
-    made.is_ok()
+    match chosen {
+        Move::Exchange(i, j, to) => match dict.exchange(i, j, to) {
+            Ok(()) => Ok(true),
+            Err(MoveFault::OutOfRange { place: _ }) => Ok(false),
+            Err(MoveFault::NoMemory) => Err(AllocError),
+        },
+        Move::Flip(j) => Ok(dict.flip(j).is_ok()),
+    }
 }
 
-/// Makes the next move, whose ways are in range.
-fn carry_out(dict: &mut Dict, chosen: Move) -> Advance
+/// Makes the next move, whose ways are in range. `Err` where memory was refused.
+fn carry_out(dict: &mut Dict, chosen: Move) -> Result<Advance, AllocError>
     requires can { CanMove dict.old chosen }
     requires is_next { rule.next dict.old ≡ Step.Makes chosen }
     requires ways_fit { wide_way_of dict.old chosen (rule.least_outside dict.old) ≡ None }
-    ensures { IsAdvance dict.old dict.new result }
+    ensures { IfOk result (IsAdvance dict.old dict.new) }
 {
-    if make(dict, chosen) {
-        Advance::Made(chosen)
+    if make(dict, chosen)? {
+        Ok(Advance::Made(chosen))
     } else {
-        Advance::Wide(chosen)
+        Ok(Advance::Wide(chosen))
     }
 }
 
@@ -134,28 +138,28 @@ pub(crate) fn move_by(j: u32, way: &Way) -> Move
     }
 }
 
-/// Makes the step of the shortest way of j, which lets the cost fall.
-fn improve(dict: &mut Dict, j: u32) -> Advance
+/// Makes the step of the shortest way of j, which lets the cost fall. `Err` where memory was refused.
+fn improve(dict: &mut Dict, j: u32) -> Result<Advance, AllocError>
     requires few { def.size dict.old < 2 ^ 32 }
     requires improves { Improves dict.old j }
-    ensures { IsAdvance dict.old dict.new result }
+    ensures { IfOk result (IsAdvance dict.old dict.new) }
 {
     match shortest_way(dict, j) {
-        Err(wide) => Advance::Wide(wide),
-        Ok(None) => Advance::End(Step::Ray(j)),
+        Err(wide) => Ok(Advance::Wide(wide)),
+        Ok(None) => Ok(Advance::End(Step::Ray(j))),
         Ok(Some(way)) => carry_out(dict, move_by(j, &way)),
     }
 }
 
-/// Makes the next step.
-pub(crate) fn take_step(dict: &mut Dict) -> Advance
+/// Makes the next step. `Err` where memory was refused.
+pub(crate) fn take_step(dict: &mut Dict) -> Result<Advance, AllocError>
     requires { def.size dict.old < 2 ^ 32 }
-    ensures { IsAdvance dict.old dict.new result }
+    ensures { IfOk result (IsAdvance dict.old dict.new) }
 {
     match choose(dict) {
-        Choice::Crossed(v) => Advance::End(Step::Crossed(v)),
-        Choice::Infeasible(i) => Advance::End(Step::Infeasible(i)),
-        Choice::Optimum => Advance::End(Step::Optimum),
+        Choice::Crossed(v) => Ok(Advance::End(Step::Crossed(v))),
+        Choice::Infeasible(i) => Ok(Advance::End(Step::Infeasible(i))),
+        Choice::Optimum => Ok(Advance::End(Step::Optimum)),
         Choice::Repair(i, j, to) => carry_out(dict, Move::Exchange(i, j, to)),
         Choice::Improve(j) => improve(dict, j),
     }

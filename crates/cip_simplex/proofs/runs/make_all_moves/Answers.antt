@@ -8,18 +8,18 @@ pub take_step-requires : goal.take_step-requires
 take_step-requires c = omega (arith, state_size c.args.lp.now c.steps.dict c.steps.invariant.state, c.steps.invariant.solvable.few)
 
 pub steps-smaller : goal.steps-smaller
-steps-smaller c = fewer c.args.lp.now c.steps.invariant.solvable.proper c.steps.dict c.steps.invariant.state c.take_step.new.dict c.in-Made.chosen c.in-Made.ensures
+steps-smaller c = fewer c.args.lp.now c.steps.invariant.solvable.proper c.steps.dict c.steps.invariant.state c.take_step.new.dict c.in-Made.chosen (rw c.in-Made.is at c.in_ok-chosen.ensures)
 
 pub steps-preserved : goal.steps-preserved
 steps-preserved c = record {
   solvable = c.steps.invariant.solvable;
-  state = made_state c.args.lp.now c.steps.invariant.solvable.proper c.steps.dict c.steps.invariant.state c.take_step.new.dict c.in-Made.chosen c.in-Made.ensures;
-  variables = made_size c.steps.dict c.take_step.new.dict c.in-Made.chosen c.in-Made.ensures ∙ c.steps.invariant.variables;
-  so_far = whole_made c.args.lp.now c.steps.invariant.solvable.proper c.steps.dict c.steps.invariant.state c.steps.moves.items _ c.steps.invariant.so_far c.take_step.new.dict c.in-Made.chosen c.push.new.self.items c.in-Made.ensures c.in_ok-push-in-Made.ensures.items;
+  state = made_state c.args.lp.now c.steps.invariant.solvable.proper c.steps.dict c.steps.invariant.state c.take_step.new.dict c.in-Made.chosen (rw c.in-Made.is at c.in_ok-chosen.ensures);
+  variables = made_size c.steps.dict c.take_step.new.dict c.in-Made.chosen (rw c.in-Made.is at c.in_ok-chosen.ensures) ∙ c.steps.invariant.variables;
+  so_far = whole_made c.args.lp.now c.steps.invariant.solvable.proper c.steps.dict c.steps.invariant.state c.steps.moves.items _ c.steps.invariant.so_far c.take_step.new.dict c.in-Made.chosen c.push.new.self.items (rw c.in-Made.is at c.in_ok-chosen.ensures) c.in_ok-push-in-Made.ensures.items;
 }
 
 pub returns-in-Wide-clause-run : goal.returns-in-Wide-clause-run
-returns-in-Wide-clause-run c = whole_wide c.args.lp.now c.steps.invariant.solvable.proper c.steps.dict c.steps.invariant.state c.steps.moves.items _ c.steps.invariant.so_far c.take_step.new.dict c.in-Wide.wide c.in-Wide.ensures
+returns-in-Wide-clause-run c = whole_wide c.args.lp.now c.steps.invariant.solvable.proper c.steps.dict c.steps.invariant.state c.steps.moves.items _ c.steps.invariant.so_far c.take_step.new.dict c.in-Wide.wide (rw c.in-Wide.is at c.in_ok-chosen.ensures)
 
 pub returns-in-End-clause-run : goal.returns-in-End-clause-run
-returns-in-End-clause-run c = whole_ended c.args.lp.now c.steps.invariant.solvable.proper c.steps.dict c.steps.invariant.state c.steps.moves.items _ c.steps.invariant.so_far c.take_step.new.dict c.in-End.step c.in-End.ensures
+returns-in-End-clause-run c = whole_ended c.args.lp.now c.steps.invariant.solvable.proper c.steps.dict c.steps.invariant.state c.steps.moves.items _ c.steps.invariant.so_far c.take_step.new.dict c.in-End.step (rw c.in-End.is at c.in_ok-chosen.ensures)

@@ -4,15 +4,15 @@ use Rattle.cip_simplex.proofs.Lists.{made_size, one_made, all_wide, all_ended, a
 use Rattle.cip_simplex.proofs.runs.make_moves.Goals as goal
 
 pub returns-in-Wide-clause-run : goal.returns-in-Wide-clause-run
-returns-in-Wide-clause-run c = all_wide c.args.limit c.loop-made._made c.loop-made.dict c.loop-made.moves.items _ c.loop-made-test.true c.loop-made.invariant.so_far c.take_step.new.dict c.in-Wide.wide c.in-Wide.ensures
+returns-in-Wide-clause-run c = all_wide c.args.limit c.loop-made._made c.loop-made.dict c.loop-made.moves.items _ c.loop-made-test.true c.loop-made.invariant.so_far c.take_step.new.dict c.in-Wide.wide (rw c.in-Wide.is at c.in_ok-chosen.ensures)
 
 pub returns-in-End-clause-run : goal.returns-in-End-clause-run
-returns-in-End-clause-run c = all_ended c.args.limit c.loop-made._made c.loop-made.dict c.loop-made.moves.items _ c.loop-made-test.true c.loop-made.invariant.so_far c.take_step.new.dict c.in-End.step c.in-End.ensures
+returns-in-End-clause-run c = all_ended c.args.limit c.loop-made._made c.loop-made.dict c.loop-made.moves.items _ c.loop-made-test.true c.loop-made.invariant.so_far c.take_step.new.dict c.in-End.step (rw c.in-End.is at c.in_ok-chosen.ensures)
 
 pub loop-made-preserved : goal.loop-made-preserved
 loop-made-preserved c = record {
-  variables = made_size c.loop-made.dict c.take_step.new.dict c.in-Made.chosen c.in-Made.ensures ∙ c.loop-made.invariant.variables;
-  so_far = one_made c.args.limit c.loop-made._made c.loop-made.dict c.loop-made.moves.items _ c.loop-made-test.true c.loop-made.invariant.so_far c.take_step.new.dict c.in-Made.chosen c.push.new.self.items c.in-Made.ensures c.in_ok-push-in-Made.ensures.items;
+  variables = made_size c.loop-made.dict c.take_step.new.dict c.in-Made.chosen (rw c.in-Made.is at c.in_ok-chosen.ensures) ∙ c.loop-made.invariant.variables;
+  so_far = one_made c.args.limit c.loop-made._made c.loop-made.dict c.loop-made.moves.items _ c.loop-made-test.true c.loop-made.invariant.so_far c.take_step.new.dict c.in-Made.chosen c.push.new.self.items (rw c.in-Made.is at c.in_ok-chosen.ensures) c.in_ok-push-in-Made.ensures.items;
 }
 
 pub returns-clause-run : goal.returns-clause-run
