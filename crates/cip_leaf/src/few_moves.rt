@@ -10,7 +10,7 @@ use crate::answers::LeafAnswer;
 use crate::lists::merged;
 use cip_frac::Frac;
 use cip_model::{Program, Verdict};
-use cip_simplex::{Lp, LpAnswer, Start, solve_greedily};
+use cip_simplex::{Lp, LpAnswer, Solver, Start, solve_greedily};
 use std::alloc::{AllocError, Global};
 
 // The most moves of a rule that makes few.
@@ -60,6 +60,7 @@ fn ray_of(
 /// it shows is out of range. `Err` where memory was refused.
 pub(crate) fn shown_by_few(
     alloc: Global,
+    solver: &mut Solver,
     program: &Program,
     leaf: &[Frac],
     lp: &Lp,
@@ -70,7 +71,7 @@ pub(crate) fn shown_by_few(
     ensures { IfOk result (λ found. IfSome found (IsLeafAnswer program.now leaf.now)) }
 {
     let start = Start::slack(alloc, lp)?;
-    let (first, _last) = solve_greedily(alloc, lp, &start, FEW_MOVES)?;
+    let (first, _last) = solve_greedily(alloc, solver, lp, &start, FEW_MOVES)?;
     let Some(found) = first else {
         return Ok(None);
     };

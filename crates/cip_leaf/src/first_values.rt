@@ -11,7 +11,7 @@ ghost use Rattle.cip_leaf_programs.specs.WideLeaf.{FirstValueOverflows};
 ghost use Rattle.cip_leaf.specs.FirstPlaces.{line_of, IsValueLine};
 ghost use Rattle.cip_leaf.specs.LeafAnswers.{place_of};
 
-use cip_dict::{Dict, FirstFault, Line};
+use cip_dict::{Dict, FirstFault, Line, Spare};
 use cip_frac::Frac;
 use cip_lin::{Bounds, Row, Sides, Term};
 use cip_model::Place;
@@ -85,8 +85,10 @@ pub(crate) fn first_wide(
 {
     let entries = entries_of(alloc, rows)?;
     let sides = all_sides(alloc, rows)?;
+    let mut spare = Spare::new(alloc);
     match Dict::first(
         alloc,
+        &mut spare,
         entries.as_slice(),
         sides.as_slice(),
         bounds.as_slice(),

@@ -20,7 +20,7 @@ use crate::whole_leaves::{are_all_whole, tested};
 use cip_frac::Frac;
 use cip_lin::{Bounds, Row};
 use cip_model::{Place, Program, Verdict};
-use cip_simplex::{Lp, LpAnswer, solve_fully};
+use cip_simplex::{Lp, LpAnswer, Solver, solve_fully};
 use std::alloc::{AllocError, Global};
 
 /// The lists of a leaf's program.
@@ -167,10 +167,11 @@ fn answer_on(
     ensures { IfOk result (IsLeafAnswer program.now wholes.now) }
 {
     let lp = Lp::new(parts.rows.as_slice(), &parts.bounds, parts.costs.as_slice());
-    if let Some(found) = shown_by_few(alloc, program, wholes, &lp)? {
+    let mut solver = Solver::new(alloc);
+    if let Some(found) = shown_by_few(alloc, &mut solver, program, wholes, &lp)? {
         return Ok(found);
     }
-    match solve_fully(alloc, &lp)? {
+    match solve_fully(alloc, &mut solver, &lp)? {
         LpAnswer::Optimal { point, .. } => optimum(alloc, program, wholes, point.as_slice()),
         LpAnswer::Infeasible { .. } => Ok(LeafAnswer::NoPoint),
         LpAnswer::Unbounded { point, ray } => {

@@ -3,7 +3,7 @@ ghost use Rattle.std.specs.Prelude.{◌≡◌, length, IfOk};
 ghost use Rattle.cip_simplex.specs.LpShape.{variables};
 ghost use Rattle.cip_node_bounds.specs.Solving.{IsSolved};
 
-use cip_simplex::{Lp, LpAnswer, Start, solve_from, solve_greedily};
+use cip_simplex::{Lp, LpAnswer, Solver, Start, solve_from, solve_greedily};
 use std::alloc::{AllocError, Global};
 
 // The most moves of the linear program of a node by Bland's rule.
@@ -14,15 +14,19 @@ const FEW_MOVES: u32 = 2_000;
 
 /// What a rule that makes few moves answers on a linear program from its first state; what Bland's list does, where
 /// that has no answer; and where the variables are then. `Err` where memory was refused.
-fn asked_afresh(alloc: Global, lp: &Lp) -> Result<(LpAnswer, Start), AllocError>
+fn asked_afresh(
+    alloc: Global,
+    solver: &mut Solver,
+    lp: &Lp,
+) -> Result<(LpAnswer, Start), AllocError>
     ensures { IfOk result (λ asked. IsSolved lp.now asked.0) }
 {
     let slack = Start::slack(alloc, lp)?;
-    let (first, last) = solve_greedily(alloc, lp, &slack, FEW_MOVES)?;
+    let (first, last) = solve_greedily(alloc, solver, lp, &slack, FEW_MOVES)?;
     match first {
         Some(found) => Ok((found, last)),
         None => {
-            let (listed, end) = solve_from(alloc, lp, &slack, MOST_MOVES)?;
+            let (listed, end) = solve_from(alloc, solver, lp, &slack, MOST_MOVES)?;
             Ok((listed, end))
         }
     }
@@ -30,14 +34,19 @@ fn asked_afresh(alloc: Global, lp: &Lp) -> Result<(LpAnswer, Start), AllocError>
 
 /// What a rule that makes few moves answers on a linear program from a start; where that has no answer, what is
 /// answered from the first state; and where the variables are then. `Err` where memory was refused.
-fn asked_at(alloc: Global, lp: &Lp, start: &Start) -> Result<(LpAnswer, Start), AllocError>
+fn asked_at(
+    alloc: Global,
+    solver: &mut Solver,
+    lp: &Lp,
+    start: &Start,
+) -> Result<(LpAnswer, Start), AllocError>
     requires { length start.now ≡ variables lp.now }
     ensures { IfOk result (λ asked. IsSolved lp.now asked.0) }
 {
-    let (first, last) = solve_greedily(alloc, lp, start, FEW_MOVES)?;
+    let (first, last) = solve_greedily(alloc, solver, lp, start, FEW_MOVES)?;
     match first {
         Some(found) => Ok((found, last)),
-        None => asked_afresh(alloc, lp),
+        None => asked_afresh(alloc, solver, lp),
     }
 }
 
@@ -45,15 +54,16 @@ fn asked_at(alloc: Global, lp: &Lp, start: &Start) -> Result<(LpAnswer, Start), 
 /// is none; and where the variables are then. `Err` where memory was refused.
 pub(crate) fn asked(
     alloc: Global,
+    solver: &mut Solver,
     lp: &Lp,
     start: Option<&Start>,
 ) -> Result<(LpAnswer, Start), AllocError>
     ensures { IfOk result (λ asked. IsSolved lp.now asked.0) }
 {
     let Some(before) = start else {
-        return asked_afresh(alloc, lp);
+        return asked_afresh(alloc, solver, lp);
     };
     let _columns = lp.columns();
     let fitted = before.fitted(alloc, lp.len())?;
-    asked_at(alloc, lp, &fitted)
+    asked_at(alloc, solver, lp, &fitted)
 }

@@ -17,7 +17,7 @@ use cip_frac::Frac;
 use cip_lin::{Bounds, Combo, Row};
 use cip_model::Program;
 use cip_rows::RowPool;
-use cip_simplex::{Lp, LpAnswer, Start};
+use cip_simplex::{Lp, LpAnswer, Solver, Start};
 use std::alloc::{AllocError, Global};
 
 /// Why the linear program of a node shows nothing.
@@ -56,6 +56,7 @@ pub enum Relaxed {
 /// Solves a linear program of as few rows, at most so many as the limits of programs and pools allow.
 fn solved(
     alloc: Global,
+    solver: &mut Solver,
     program: &Program,
     pool: &RowPool,
     rows: &[Row],
@@ -74,7 +75,7 @@ fn solved(
     let _columns = program.columns();
     let _rows = pool.rows();
     let lp = Lp::new(rows, bounds, program.costs());
-    asked(alloc, &lp, start)
+    asked(alloc, solver, &lp, start)
 }
 
 /// The cost of an optimum with the constant, where the check accepts its combination and the sum is in the range.
@@ -225,7 +226,9 @@ pub fn relax_from(
 {
     let _columns = program.columns();
     rows.gather(alloc, program, pool, bounds)?;
-    let (found, last) = solved(alloc, program, pool, rows.rows.as_slice(), bounds, start)?;
+    let own = rows.rows.as_slice();
+    let solver = &mut rows.solver;
+    let (found, last) = solved(alloc, solver, program, pool, own, bounds, start)?;
     let lent = Rows {
         own: program.rows(),
         pool: pool.rows(),

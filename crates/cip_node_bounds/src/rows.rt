@@ -6,15 +6,19 @@ ghost use Rattle.cip_node_bounds.specs.NodeRows.{usable_rows, usable_ids, BeginW
 use cip_lin::{Bounds, Row};
 use cip_model::Program;
 use cip_rows::RowPool;
+use cip_simplex::Solver;
 use std::alloc::{AllocError, Global};
 
-/// The rows of a program, which stay, and behind them those of the pool that a node may use, with their ids.
+/// What is kept from node to node: the rows of a program, which stay, and behind them those of the pool that a node may
+/// use, with their ids; and what solves linear programs of these rows.
 #[derive(Debug, Drop)]
 pub struct NodeRows {
     /// The rows.
     pub rows: Vec<Row>,
     /// The ids of those behind the program's.
     pub ids: Vec<u64>,
+    /// Solves the linear programs.
+    pub solver: Solver,
 }
 
 /// A row of its own with the same terms and sides; `Err` where memory was refused.
@@ -45,7 +49,8 @@ impl NodeRows {
         let mut rows = Vec::new(alloc);
         put_own(alloc, program.rows(), &mut rows)?;
         let ids = Vec::new(alloc);
-        Ok(NodeRows { rows, ids })
+        let solver = Solver::new(alloc);
+        Ok(NodeRows { rows, ids, solver })
     }
 
     /// Puts the rows of the pool that may be used in a box behind those of the program, in place of those that stand

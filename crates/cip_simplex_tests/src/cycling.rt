@@ -2,7 +2,7 @@
 //! 1/2 x1 - 90 x2 - 1/50 x3 + 3 x4 <= 0 and x3 <= 1, a row: the least cost is -1/20, at 1/25, 0, 1, 0.
 use cip_frac::Frac;
 use cip_lin::{Bounds, Row, Sides, Term};
-use cip_simplex::{Lp, LpAnswer, solve_fully};
+use cip_simplex::{Lp, LpAnswer, Solver, solve_fully};
 use std::alloc::Global;
 use std::test::Fail;
 
@@ -79,7 +79,8 @@ fn solved(alloc: Global, rows: &[Row], bounds: &Bounds, costs: &[Frac]) -> Resul
         return Err(Fail::new("no linear program"));
     }
     let lp = Lp::new(rows, bounds, costs);
-    Ok(solve_fully(alloc, &lp)?)
+    let mut solver = Solver::new(alloc);
+    Ok(solve_fully(alloc, &mut solver, &lp)?)
 }
 
 fn is_optimum(found: &LpAnswer, least: Frac, first: Frac) -> bool {
