@@ -15,7 +15,7 @@ use Rattle.cip_search.specs.SearchState.{State, stay, unended, all_nodes, IsSear
 use Rattle.cip_search.specs.Endings.{OneMatters, NoneMatters, HasWidePoint, IsLeastBound}
 use Rattle.cip_search.proofs.Logs.{is_log, covered, least, open_matter, parked_matter}
 use Rattle.cip_search.proofs.Told.{no_point, wide}
-use Rattle.cip_search_ends.specs.SearchEnds.{Ended, Optimal, Infeasible, Unbounded, NodeLimit, Wide, NoMemory, Held, Answer, cost_held, EndsAs, Agrees, IsCheaper, IsSettled, EndHolds, AreTrueEntries}
+use Rattle.cip_search_ends.specs.SearchEnds.{Ended, Optimal, Infeasible, Unbounded, NodeLimit, Gap, Wide, NoMemory, Held, Answer, cost_held, EndsAs, Agrees, IsCheaper, IsSettled, EndHolds, AreTrueEntries}
 use Rattle.cip_search_ends.proofs.ShownNode.{shown_leaf, true_entries}
 use Rattle.cip_search_ends.specs.EndLaws.{ComesTo, IsAnswerOf, EndsAreRight}
 
@@ -57,7 +57,7 @@ cheaper_there : (program : Program) (held : Option Held) (point : List ℚ) → 
 cheaper_there program None point h = tt
 cheaper_there program (Some held) point h = h
 
-module _ (program : Program) (start : Option ℚ) (nodes : ℕ) (state : State) (answer : Answer) (s : IsSearch program program stay IsWideLeaf start state) (g : IsAsGiven program start state) (a : IsAnswerOf program nodes state answer) where
+module _ (program : Program) (start : Option ℚ) (nodes : ℕ) (asked : Option ℚ) (state : State) (answer : Answer) (s : IsSearch program program stay IsWideLeaf start state) (g : IsAsGiven program start state) (a : IsAnswerOf program nodes asked state answer) where
   idle_nodes : unended state ≡ state.open_
   idle_nodes = ap (λ w. w ++ state.open_) a.idle
 
@@ -106,6 +106,7 @@ module _ (program : Program) (start : Option ℚ) (nodes : ℕ) (state : State) 
   bound_of Infeasible e = no_bound_below answer.bound (a.no_bound e)
   bound_of (Unbounded ray) e = bound_below answer.bound (least_there (λ f. absurd (let t = sym e ∙ f in cc)))
   bound_of NodeLimit e = bound_below answer.bound (least_there (λ f. absurd (let t = sym e ∙ f in cc)))
+  bound_of Gap e = bound_below answer.bound (least_there (λ f. absurd (let t = sym e ∙ f in cc)))
   bound_of (Wide leaf shown) e = bound_below answer.bound (least_there (λ f. absurd (let t = sym e ∙ f in cc)))
   bound_of NoMemory e = bound_below answer.bound (least_there (λ f. absurd (let t = sym e ∙ f in cc)))
 
@@ -116,6 +117,7 @@ module _ (program : Program) (start : Option ℚ) (nodes : ℕ) (state : State) 
       (quiet_open (empty_list state.open_ parts.0), quiet_parked (empty_list state.parked parts.1), none_there answer.held (sym a.held ∙ c.1))
   ends_as (Unbounded ray) c = absurd c
   ends_as NodeLimit c = (c.0, loud_open c.1)
+  ends_as Gap c = some_there answer.held (subst IsSome a.held c)
   ends_as (Wide leaf shown) c = (quiet_open c.0, loud_parked c.1, shown_leaf program start state s g leaf shown c.2)
   ends_as NoMemory c = tt
 
@@ -137,7 +139,7 @@ module _ (program : Program) (start : Option ℚ) (nodes : ℕ) (state : State) 
       let c : ComesTo program nodes state Infeasible = subst (ComesTo program nodes state) e a.comes in
       no_point program program stay IsWideLeaf start state s c.1 c.0
 
-  settled : IsSettled program start nodes state.log answer
+  settled : IsSettled program start nodes asked state.log answer
   settled = record {
     least = least_there;
     no_bound = a.no_bound;
@@ -146,21 +148,23 @@ module _ (program : Program) (start : Option ℚ) (nodes : ℕ) (state : State) 
     agree = agrees;
     wide = wide_points;
     ends = ends_as answer.ended a.comes;
+    gap = a.gap;
     cover = cover_there;
     entries = subst (λ h. AreTrueEntries program start state.log h) a.held (true_entries program start state s g);
   }
 
-  end_holds : (ended : Ended) → ComesTo program nodes state ended → EndHolds program start nodes state.log answer ended
+  end_holds : (ended : Ended) → ComesTo program nodes state ended → EndHolds program start nodes asked state.log answer ended
   end_holds Optimal c = settled
   end_holds Infeasible c = settled
   end_holds (Unbounded ray) c = absurd c
   end_holds NodeLimit c = settled
+  end_holds Gap c = settled
   end_holds (Wide leaf shown) c = settled
   end_holds NoMemory c = settled
 
 pub ends_are_right : EndsAreRight
-ends_are_right program start nodes state answer s g a = record {
+ends_are_right program start nodes asked state answer s g a = record {
   point = a.point;
-  end_ = end_holds program start nodes state answer s g a answer.ended a.comes;
+  end_ = end_holds program start nodes asked state answer s g a answer.ended a.comes;
   logged = is_log program program stay IsWideLeaf start state s;
 }

@@ -11,7 +11,7 @@ use Rattle.cip_search.proofs.Bounds.{no_more_same}
 use Rattle.cip_search.proofs.Members.{none_in, here, later, here_or_later, only_one}
 use Rattle.cip_search.proofs.OneMore.{node_of_among, node_of_kept, given_kept}
 use Rattle.cip_search.proofs.Relaxed.{no_more_trans}
-use Rattle.cip_search_ends.specs.SearchEnds.{Ended, Optimal, Infeasible, Unbounded, NodeLimit, Wide, NoMemory, Answer, Held, cost_held, IsHeldPoint, IsSettled, EndHolds, IsAnswer}
+use Rattle.cip_search_ends.specs.SearchEnds.{Ended, Optimal, Infeasible, Unbounded, NodeLimit, Gap, Wide, NoMemory, Answer, Held, cost_held, IsHeldPoint, IsSettled, EndHolds, IsAnswer}
 use Rattle.cip_search_ends.specs.SearchAnswers.{TellsBound}
 
 -- ---- nodes and entries
@@ -62,15 +62,16 @@ held_above program start (Some held) cost l p e = subst (λ c. NoMore start c) e
 
 -- ---- the answer
 
-end_settled : (program : Program) (start : Option ℚ) (nodes : ℕ) (log : List Entry) (answer : Answer) (ended : Ended) → TellsBound ended → EndHolds program start nodes log answer ended → IsSettled program start nodes log answer
-end_settled program start nodes log answer Optimal t h = h
-end_settled program start nodes log answer Infeasible t h = h
-end_settled program start nodes log answer (Unbounded ray) t h = absurd t
-end_settled program start nodes log answer NodeLimit t h = h
-end_settled program start nodes log answer (Wide leaf shown) t h = h
-end_settled program start nodes log answer NoMemory t h = h
+end_settled : (program : Program) (start : Option ℚ) (nodes : ℕ) (asked : Option ℚ) (log : List Entry) (answer : Answer) (ended : Ended) → TellsBound ended → EndHolds program start nodes asked log answer ended → IsSettled program start nodes asked log answer
+end_settled program start nodes asked log answer Optimal t h = h
+end_settled program start nodes asked log answer Infeasible t h = h
+end_settled program start nodes asked log answer (Unbounded ray) t h = absurd t
+end_settled program start nodes asked log answer NodeLimit t h = h
+end_settled program start nodes asked log answer Gap t h = h
+end_settled program start nodes asked log answer (Wide leaf shown) t h = h
+end_settled program start nodes asked log answer NoMemory t h = h
 
-module _ (program : Program) (start : Option ℚ) (nodes : ℕ) (log : List Entry) (answer : Answer) (lower : IfSome start (IsLowerBound program)) (a : IsAnswer program start nodes log answer) (s : IsSettled program start nodes log answer) where
+module _ (program : Program) (start : Option ℚ) (nodes : ℕ) (asked : Option ℚ) (log : List Entry) (answer : Answer) (lower : IfSome start (IsLowerBound program)) (a : IsAnswer program start nodes asked log answer) (s : IsSettled program start nodes asked log answer) where
   above : AreAbove start (nodes_given program start log) log
   above = all_above start program.integral (first_node program start ∷ []) [] log (is_log_from program start log a.logged)
       (λ entry node c e. (s.entries entry node c e).kept)
@@ -83,7 +84,7 @@ module _ (program : Program) (start : Option ℚ) (nodes : ℕ) (log : List Entr
   one_above bound (inr (inr c)) = subst (NoMore start) (sym c.is_bound) (above.entries_above c.entry c.among)
 
 -- the bound that is answered isn't below that of the root
-pub answer_above : (program : Program) (start : Option ℚ) (nodes : ℕ) (log : List Entry) (answer : Answer) → IfSome start (IsLowerBound program) → IsAnswer program start nodes log answer → TellsBound answer.ended → NoMore start answer.bound
-answer_above program start nodes log answer lower a t =
-    let s = end_settled program start nodes log answer answer.ended t a.end_ in
-    one_above program start nodes log answer lower a s answer.bound (s.least (λ e. absurd (subst TellsBound e t))).one
+pub answer_above : (program : Program) (start : Option ℚ) (nodes : ℕ) (asked : Option ℚ) (log : List Entry) (answer : Answer) → IfSome start (IsLowerBound program) → IsAnswer program start nodes asked log answer → TellsBound answer.ended → NoMore start answer.bound
+answer_above program start nodes asked log answer lower a t =
+    let s = end_settled program start nodes asked log answer answer.ended t a.end_ in
+    one_above program start nodes asked log answer lower a s answer.bound (s.least (λ e. absurd (subst TellsBound e t))).one

@@ -8,7 +8,7 @@ use Rattle.cip_problem.specs.WellFormed.{columns}
 use Rattle.cip_problem.specs.Log.{End, Split, Closed, Parked, Entry, Node, node_of}
 use Rattle.cip_leaves.specs.Searched.{NoMore, nodes_given}
 use Rattle.cip_search.specs.Relaxation.{IsRelaxedBound}
-use Rattle.cip_search_ends.specs.SearchEnds.{Ended, Optimal, Infeasible, Unbounded, NodeLimit, Wide, NoMemory, Answer, IsAnswer}
+use Rattle.cip_search_ends.specs.SearchEnds.{Ended, Optimal, Infeasible, Unbounded, NodeLimit, Gap, Wide, NoMemory, Answer, IsAnswer}
 
 -- after this end a bound is told, if the root has one
 abbrev pub TellsBound : Ended → Type 0
@@ -16,6 +16,7 @@ TellsBound Optimal = ⊤
 TellsBound Infeasible = ⊥
 TellsBound (Unbounded ray) = ⊥
 TellsBound NodeLimit = ⊤
+TellsBound Gap = ⊤
 TellsBound (Wide leaf shown) = ⊤
 TellsBound NoMemory = ⊤
 
@@ -50,10 +51,10 @@ AreOfEntries (entry ∷ log) (number ∷ numbers) =
 -- ---- the answer
 
 pub record IsSearchAnswer
-    (program : Program) (start : Option ℚ) (nodes : ℕ) (log : List Entry) (marked : List ℕ) (answer : Answer)
-    : Type 0 where
+    (program : Program) (start : Option ℚ) (nodes : ℕ) (asked : Option ℚ) (log : List Entry) (marked : List ℕ)
+    (answer : Answer) : Type 0 where
   -- the answer is right beside the log
-  pub right : IsAnswer program start nodes log answer
+  pub right : IsAnswer program start nodes asked log answer
   -- no more nodes were taken than the budget allows
   pub within : length log ≤ nodes
   -- the bound is not below that of the root; so it is left out only where the root has none

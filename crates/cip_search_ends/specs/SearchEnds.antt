@@ -1,8 +1,10 @@
 -- How a search over a program with continuous columns ends, and what its answer says: of the point, the cost, the bound
--- and the end. All figures are those of the minimised form; `start` is the bound of the root, and `nodes` the budget.
-use Rattle.std.specs.Prelude.{◌≡◌, ◌≢◌, ℕ, List, Option, None, Some, IfSome, IsSome, option_map, length, ⊤}
+-- and the end. All figures are those of the minimised form; `start` is the bound of the root, `nodes` the budget, and
+-- `asked` the gap that was asked for, if one was.
+use Rattle.std.specs.Prelude.{◌≡◌, ◌≢◌, ◌↔◌, ℕ, false, List, Option, None, Some, IfSome, IsSome, option_map, length, ⊤}
 use Rattle.std.specs.List.{Contains}
-use Rattle.cip_rational.specs.Rational.{ℚ, ◌+ℚ◌, ◌*ℚ◌, zeroℚ, ◌≤ℚ◌, ◌<ℚ◌}
+use Rattle.cip_rational.specs.Rational.{ℚ, ◌+ℚ◌, ◌-ℚ◌, ◌*ℚ◌, zeroℚ, ◌≤ℚ◌, ◌<ℚ◌}
+use Rattle.cip_rational.specs.Range.{difference_overflows}
 use Rattle.cip_rational.specs.Sums.{dot}
 use Rattle.cip_problem.specs.Program.{Program}
 use Rattle.cip_problem.specs.Points.{IsFeasible, cost_of, IsLowerBound}
@@ -20,6 +22,7 @@ pub data Ended : Type 0 where
   Infeasible : Ended
   Unbounded : (ray : List ℚ) → Ended
   NodeLimit : Ended
+  Gap : Ended
   Wide : (leaf : List ℚ) (shown : Shown) → Ended
   NoMemory : Ended
 
@@ -59,6 +62,19 @@ pub record FallsWithoutEnd (program : Program) (point ray : List ℚ) : Type 0 w
   pub cost : (far : ℚ) → cost_of program (moved point far ray) ≡ cost_of program point +ℚ far *ℚ dot program.costs ray
   pub falls : dot program.costs ray <ℚ zeroℚ
 
+-- a gap was asked for, and it is reached: a point is held, there is a bound, and the cost less the bound is in range,
+-- above 0 and at most the gap
+pub record ReachesGap (asked : Option ℚ) (held : Option Held) (bound : Option ℚ) : Type 0 where
+  pub gap : ℚ
+  pub is_asked : asked ≡ Some gap
+  pub point : Held
+  pub is_held : held ≡ Some point
+  pub least : ℚ
+  pub is_bound : bound ≡ Some least
+  pub fits : difference_overflows point.cost least ≡ false
+  pub above : least <ℚ point.cost
+  pub most : point.cost -ℚ least ≤ℚ gap
+
 -- no open node matters beside the point held
 abbrev pub NoneOpen : Program → Option ℚ → List Entry → Option Held → Type 0
 NoneOpen program start log held = ¬ OpenMatters program start log (cost_held held)
@@ -72,6 +88,7 @@ EndsAs program start nodes log held Infeasible =
 EndsAs program start nodes log held (Unbounded ray) = ⊥
 EndsAs program start nodes log held NodeLimit =
     (length log ≡ nodes) × OpenMatters program start log (cost_held held)
+EndsAs program start nodes log held Gap = IsSome held
 EndsAs program start nodes log held (Wide leaf shown) =
     NoneOpen program start log held × ParkedMatters log (cost_held held) × IsShownLeaf program start log leaf shown
 EndsAs program start nodes log held NoMemory = ⊤
@@ -102,7 +119,8 @@ AreTrueEntries program start log held =
 
 -- an answer is right that isn't unbounded
 pub record IsSettled
-    (program : Program) (start : Option ℚ) (nodes : ℕ) (log : List Entry) (answer : Answer) : Type 0 where
+    (program : Program) (start : Option ℚ) (nodes : ℕ) (asked : Option ℚ) (log : List Entry) (answer : Answer)
+    : Type 0 where
   -- the bound is the least of the cost held and of the bounds of open nodes and parked leaves; after infeasible there
   -- is none; no feasible point costs less
   pub least : answer.ended ≢ Infeasible → IsLeast program start log (cost_held answer.held) answer.bound
@@ -118,6 +136,8 @@ pub record IsSettled
       → HasWidePoint program IsWideLeaf (cost_of program point)
   -- each end comes where what it says holds
   pub ends : EndsAs program start nodes log answer.held answer.ended
+  -- want of memory aside, a gap is answered exactly where it is reached
+  pub gap : answer.ended ≢ NoMemory → (answer.ended ≡ Gap) ↔ ReachesGap asked answer.held answer.bound
   -- each improving point lies in the box of an open node or of a parked leaf
   pub cover : IsCovered program start log (cost_held answer.held)
   -- each entry of the log is a true one
@@ -130,17 +150,19 @@ pub record IsUnbounded (program : Program) (answer : Answer) (ray : List ℚ) : 
   pub falls : FallsWithoutEnd program held.point ray
   pub no_bound : answer.bound ≡ None
 
-abbrev pub EndHolds : Program → Option ℚ → (nodes : ℕ) → List Entry → Answer → Ended → Type 0
-EndHolds program start nodes log answer Optimal = IsSettled program start nodes log answer
-EndHolds program start nodes log answer Infeasible = IsSettled program start nodes log answer
-EndHolds program start nodes log answer (Unbounded ray) = IsUnbounded program answer ray
-EndHolds program start nodes log answer NodeLimit = IsSettled program start nodes log answer
-EndHolds program start nodes log answer (Wide leaf shown) = IsSettled program start nodes log answer
-EndHolds program start nodes log answer NoMemory = IsSettled program start nodes log answer
+abbrev pub EndHolds : Program → Option ℚ → (nodes : ℕ) → (asked : Option ℚ) → List Entry → Answer → Ended → Type 0
+EndHolds program start nodes asked log answer Optimal = IsSettled program start nodes asked log answer
+EndHolds program start nodes asked log answer Infeasible = IsSettled program start nodes asked log answer
+EndHolds program start nodes asked log answer (Unbounded ray) = IsUnbounded program answer ray
+EndHolds program start nodes asked log answer NodeLimit = IsSettled program start nodes asked log answer
+EndHolds program start nodes asked log answer Gap = IsSettled program start nodes asked log answer
+EndHolds program start nodes asked log answer (Wide leaf shown) = IsSettled program start nodes asked log answer
+EndHolds program start nodes asked log answer NoMemory = IsSettled program start nodes asked log answer
 
 -- an answer is right, beside the log of its search
 pub record IsAnswer
-    (program : Program) (start : Option ℚ) (nodes : ℕ) (log : List Entry) (answer : Answer) : Type 0 where
+    (program : Program) (start : Option ℚ) (nodes : ℕ) (asked : Option ℚ) (log : List Entry) (answer : Answer)
+    : Type 0 where
   pub point : IfSome answer.held (IsHeldPoint program)
-  pub end_ : EndHolds program start nodes log answer answer.ended
+  pub end_ : EndHolds program start nodes asked log answer answer.ended
   pub logged : IsLog program log
