@@ -12,7 +12,7 @@ use lib.Chars.{codes}
 use Rattle.cip_rational.specs.Rational.{ℚ}
 use Rattle.cip_numerals.specs.NumberText.{natural_text, fraction_text}
 use Rattle.cip_numerals.proofs.NumberText.{natural_text_injective, fraction_text_plain, fraction_text_injective, IsFractionByte}
-use Rattle.cip_answers.specs.Figures.{Overflow, AtRow, AtCost, AtMoves, Status, Optimal, Infeasible, Unbounded, NodeLimit, Wide, NoMemory, Held, Figures, Names, FitNames, status_word, line, end_line, figure_text, point_lines, held_cost, held_lines, cost_lines, leaf_name, leaf_lines, ray_name, ray_lines, overflow_text, shown_lines, unless_infeasible, figure_lines, answer_text, usage_text, read_fault_text, no_memory_text, refusal_text}
+use Rattle.cip_answers.specs.Figures.{Overflow, AtRow, AtCost, AtMoves, Status, Optimal, Infeasible, Unbounded, NodeLimit, Gap, Wide, NoMemory, Held, Figures, Names, FitNames, status_word, line, end_line, figure_text, point_lines, held_cost, held_lines, cost_lines, leaf_name, leaf_lines, ray_name, ray_lines, overflow_text, shown_lines, unless_infeasible, figure_lines, answer_text, usage_text, read_fault_text, no_memory_text, refusal_text}
 
 -- texts that the test tells apart
 pub apart : (text other : List ℕ) → bytes_eq text other ≡ false → bytes_eq other other ≡ true → text ≢ other
@@ -107,6 +107,7 @@ status_word-no_feed Optimal = HasNoFeed-from_test (codes "optimal") refl
 status_word-no_feed Infeasible = HasNoFeed-from_test (codes "infeasible") refl
 status_word-no_feed (Unbounded ray) = HasNoFeed-from_test (codes "unbounded") refl
 status_word-no_feed NodeLimit = HasNoFeed-from_test (codes "nodelimit") refl
+status_word-no_feed Gap = HasNoFeed-from_test (codes "gap") refl
 status_word-no_feed (Wide leaf place) = HasNoFeed-from_test (codes "wide") refl
 status_word-no_feed NoMemory = HasNoFeed-from_test (codes "nomemory") refl
 
@@ -243,13 +244,14 @@ word_kind word =
     if bytes_eq word (codes "optimal") then 0
     else (if bytes_eq word (codes "infeasible") then 1
     else (if bytes_eq word (codes "nodelimit") then 2 else (if bytes_eq word (codes "wide") then 3
-    else (if bytes_eq word (codes "unbounded") then 5 else 4))))
+    else (if bytes_eq word (codes "unbounded") then 5 else (if bytes_eq word (codes "gap") then 6 else 4)))))
 
 kind : Status → ℕ
 kind Optimal = 0
 kind Infeasible = 1
 kind (Unbounded ray) = 5
 kind NodeLimit = 2
+kind Gap = 6
 kind (Wide leaf place) = 3
 kind NoMemory = 4
 
@@ -259,6 +261,7 @@ kind_of_word Optimal = refl
 kind_of_word Infeasible = refl
 kind_of_word (Unbounded ray) = refl
 kind_of_word NodeLimit = refl
+kind_of_word Gap = refl
 kind_of_word (Wide leaf place) = refl
 kind_of_word NoMemory = refl
 
@@ -286,6 +289,7 @@ module _ (names : Names) (held held' : Option Held) (bound bound' : Option ℚ) 
       let parts = lines_parted names.columns (first (Unbounded ray)) (second (Unbounded ray')) _ _ p.point q.point e in
       same_figures (first (Unbounded ray)) (second (Unbounded ray')) (ray_parted names.columns ray ray' p.end_.0 q.end_.0 parts.after) parts.held parts.bound
   alike NodeLimit NodeLimit p q k e = lines_alike NodeLimit [] p q e
+  alike Gap Gap p q k e = lines_alike Gap [] p q e
   alike (Wide leaf place) (Wide leaf' place') p q k e =
       let parts = lines_parted names.columns (first (Wide leaf place)) (second (Wide leaf' place')) _ _ p.point q.point e in
       same_figures (first (Wide leaf place)) (second (Wide leaf' place')) (shown_parted names.wholes leaf leaf' place place' p.end_ q.end_ parts.after) parts.held parts.bound
@@ -316,6 +320,7 @@ not_usage Optimal e = apart (codes "optimal") (codes "usage") refl refl e
 not_usage Infeasible e = apart (codes "infeasible") (codes "usage") refl refl e
 not_usage (Unbounded ray) e = apart (codes "unbounded") (codes "usage") refl refl e
 not_usage NodeLimit e = apart (codes "nodelimit") (codes "usage") refl refl e
+not_usage Gap e = apart (codes "gap") (codes "usage") refl refl e
 not_usage (Wide leaf place) e = apart (codes "wide") (codes "usage") refl refl e
 not_usage NoMemory e = apart (codes "nomemory") (codes "usage") refl refl e
 
@@ -324,6 +329,7 @@ not_read_fault Optimal e = apart (codes "optimal") (codes "readfault") refl refl
 not_read_fault Infeasible e = apart (codes "infeasible") (codes "readfault") refl refl e
 not_read_fault (Unbounded ray) e = apart (codes "unbounded") (codes "readfault") refl refl e
 not_read_fault NodeLimit e = apart (codes "nodelimit") (codes "readfault") refl refl e
+not_read_fault Gap e = apart (codes "gap") (codes "readfault") refl refl e
 not_read_fault (Wide leaf place) e = apart (codes "wide") (codes "readfault") refl refl e
 not_read_fault NoMemory e = apart (codes "nomemory") (codes "readfault") refl refl e
 
@@ -332,6 +338,7 @@ not_refused Optimal e = apart (codes "optimal") (codes "refused") refl refl e
 not_refused Infeasible e = apart (codes "infeasible") (codes "refused") refl refl e
 not_refused (Unbounded ray) e = apart (codes "unbounded") (codes "refused") refl refl e
 not_refused NodeLimit e = apart (codes "nodelimit") (codes "refused") refl refl e
+not_refused Gap e = apart (codes "gap") (codes "refused") refl refl e
 not_refused (Wide leaf place) e = apart (codes "wide") (codes "refused") refl refl e
 not_refused NoMemory e = apart (codes "nomemory") (codes "refused") refl refl e
 

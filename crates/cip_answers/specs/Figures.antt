@@ -19,6 +19,7 @@ pub data Status : Type 0 where
   Infeasible : Status
   Unbounded : (ray : List ℚ) → Status
   NodeLimit : Status
+  Gap : Status
   Wide : (leaf : List ℚ) (place : Overflow) → Status
   NoMemory : Status
 
@@ -39,6 +40,7 @@ status_word Optimal = codes "optimal"
 status_word Infeasible = codes "infeasible"
 status_word (Unbounded ray) = codes "unbounded"
 status_word NodeLimit = codes "nodelimit"
+status_word Gap = codes "gap"
 status_word (Wide leaf place) = codes "wide"
 status_word NoMemory = codes "nomemory"
 
@@ -48,6 +50,7 @@ exit_status Optimal = 0
 exit_status Infeasible = 0
 exit_status (Unbounded ray) = 0
 exit_status NodeLimit = 10
+exit_status Gap = 13
 exit_status (Wide leaf place) = 11
 exit_status NoMemory = 6
 
@@ -124,6 +127,7 @@ shown_lines names Optimal = []
 shown_lines names Infeasible = []
 shown_lines names (Unbounded ray) = ray_lines names.columns ray
 shown_lines names NodeLimit = []
+shown_lines names Gap = []
 shown_lines names (Wide leaf place) = leaf_lines names.wholes leaf ++ line (codes "overflow") (overflow_text place)
 shown_lines names NoMemory = []
 
@@ -133,6 +137,7 @@ unless_infeasible Optimal text = text
 unless_infeasible Infeasible text = []
 unless_infeasible (Unbounded ray) text = text
 unless_infeasible NodeLimit text = text
+unless_infeasible Gap text = text
 unless_infeasible (Wide leaf place) text = text
 unless_infeasible NoMemory text = text
 
@@ -149,6 +154,7 @@ EndFits names figures Optimal = ⊤
 EndFits names figures Infeasible = (figures.held ≡ None) × (figures.bound ≡ None)
 EndFits names figures (Unbounded ray) = (length ray ≡ length names.columns) × (figures.bound ≡ None)
 EndFits names figures NodeLimit = ⊤
+EndFits names figures Gap = ⊤
 EndFits names figures (Wide leaf place) = length leaf ≡ length names.wholes
 EndFits names figures NoMemory = ⊤
 

@@ -3,12 +3,12 @@ use Rattle.std.specs.Prelude.{◌≡◌, ◌<◌, ℕ, List, [], option_map, sli
 use Rattle.cip_problem.specs.Program.{Program}
 use Rattle.cip_problem.specs.WellFormed.{columns}
 use Rattle.cip_problem.specs.Points.{printed}
-use Rattle.cip_answers.specs.Figures.{Overflow, AtRow, AtCost, AtMoves, Status, Optimal, Infeasible, Unbounded, NodeLimit, Wide, NoMemory, Figures, Held, names_of}
+use Rattle.cip_answers.specs.Figures.{Overflow, AtRow, AtCost, AtMoves, Status, Optimal, Infeasible, Unbounded, NodeLimit, Gap, Wide, NoMemory, Figures, Held, names_of}
 use Rattle.cip_model.specs.declared.verdicts.Place.TheVariants.{Row, Cost}
 use Rattle.cip_report.specs.declared.figures.Shown.{Shown}
 use Rattle.cip_report.specs.declared.figures.Shown.TheVariants.{Place, Moves}
 use Rattle.cip_report.specs.declared.figures.Ended.{Ended}
-use Rattle.cip_report.specs.declared.figures.Ended.TheVariants.{Optimal as EndedOptimal, Infeasible as EndedInfeasible, Unbounded as EndedUnbounded, NodeLimit as EndedNodeLimit, Wide as EndedWide, NoMemory as EndedNoMemory}
+use Rattle.cip_report.specs.declared.figures.Ended.TheVariants.{Optimal as EndedOptimal, Infeasible as EndedInfeasible, Unbounded as EndedUnbounded, NodeLimit as EndedNodeLimit, Gap as EndedGap, Wide as EndedWide, NoMemory as EndedNoMemory}
 use Rattle.cip_report.specs.declared.figures.Held.{Held as HeldPoint}
 use Rattle.cip_report.specs.declared.figures.Answer.{Answer}
 
@@ -24,6 +24,7 @@ status_of rows EndedOptimal = Optimal
 status_of rows EndedInfeasible = Infeasible
 status_of rows (EndedUnbounded ray) = Unbounded ray.items
 status_of rows EndedNodeLimit = NodeLimit
+status_of rows EndedGap = Gap
 status_of rows (EndedWide leaf shown) = Wide leaf.items (overflow_of rows shown)
 status_of rows EndedNoMemory = NoMemory
 
@@ -49,6 +50,7 @@ EndedFits program EndedOptimal = ⊤
 EndedFits program EndedInfeasible = ⊤
 EndedFits program (EndedUnbounded ray) = length ray.items ≡ length program.column_names
 EndedFits program EndedNodeLimit = ⊤
+EndedFits program EndedGap = ⊤
 EndedFits program (EndedWide leaf shown) =
     (length leaf.items ≡ length (names_of program).wholes) × StandsAmong (length program.row_names) shown
 EndedFits program EndedNoMemory = ⊤

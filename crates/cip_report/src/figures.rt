@@ -29,6 +29,8 @@ pub enum Ended {
     },
     /// The node budget is spent, and an open node matters.
     NodeLimit,
+    /// The cost less the bound is above 0 and at most the gap that was asked for.
+    Gap,
     /// No node that matters is open, and points that are better than the one held can only be those of leaves that
     /// overflow.
     Wide {
@@ -51,6 +53,7 @@ impl Ended {
             Ended::Infeasible => "infeasible",
             Ended::Unbounded { .. } => "unbounded",
             Ended::NodeLimit => "nodelimit",
+            Ended::Gap => "gap",
             Ended::Wide { .. } => "wide",
             Ended::NoMemory => "nomemory",
         }
@@ -65,6 +68,7 @@ impl Ended {
             Ended::Infeasible => 0,
             Ended::Unbounded { .. } => 0,
             Ended::NodeLimit => 10,
+            Ended::Gap => 13,
             Ended::Wide { .. } => 11,
             Ended::NoMemory => 6,
         }
