@@ -5,6 +5,7 @@ pub mod ComesTo
 pub mod FinishLaws
 pub mod FirstRows
 pub mod Fits
+pub mod GapLaws
 pub mod LeastBounds
 pub mod TurnLaws
 pub mod WorkedNodes

@@ -1,5 +1,6 @@
 pub mod AnswerOf
 pub mod Bounds
+pub mod Gaps
 pub mod Logs
 pub mod Searching
 pub mod Solved

@@ -4,6 +4,7 @@
 mod bounds;
 mod ends;
 mod finish;
+mod gaps;
 mod laws;
 mod logs;
 mod solving;
