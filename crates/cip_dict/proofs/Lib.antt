@@ -9,4 +9,5 @@ pub mod LeastBasic
 pub mod Loops
 pub mod Puts
 pub mod RowLists
+pub mod SparseLines
 pub mod Unchanged

@@ -4,6 +4,7 @@ pub mod FirstLists
 pub mod Lists
 pub mod MoveFaults
 pub mod Row
+pub mod SparseLines
 pub mod State
 pub mod Values
 pub mod Written

@@ -8,6 +8,7 @@ mod fault;
 mod first;
 mod flip;
 mod forms;
+mod laws;
 mod lines;
 mod lists;
 mod rows;
@@ -17,6 +18,7 @@ mod values;
 pub use cip_dictionary::{Line, Move, Place, Stand};
 pub use dict::Dict;
 pub use fault::{FirstFault, MoveFault, OutOfRange};
+pub use laws::sparse_lines_tell;
 pub use spare::Spare;
 
 #[cfg(test)]
