@@ -7,6 +7,8 @@ pub mod Formed
 pub mod Grown
 pub mod LeastBasic
 pub mod Loops
+pub mod Places
+pub mod PutEntries
 pub mod Puts
 pub mod RowLists
 pub mod SparseLines

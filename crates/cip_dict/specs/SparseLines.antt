@@ -31,6 +31,24 @@ abbrev pub kept_of : ℕ → (ℕ → ℚ) → List Kept
 kept_of zero f = []
 kept_of (suc n) f = kept_of n f ++ kept_at n (f n)
 
+-- ---- going from entry to entry
+
+-- the entries before place p are on variables below k, and the first from there on, if there is one, isn't
+abbrev pub IsPlace : ℕ → List Kept → ℕ → Type 0
+IsPlace k [] zero = ⊤
+IsPlace k [] (suc p) = ⊥
+IsPlace k (e ∷ es) zero = k ≤ e.0
+IsPlace k (e ∷ es) (suc p) = (e.0 < k) × IsPlace k es p
+
+-- the next variable from `from` on, of those on which one of two lines has an entry: from its places there both lines
+-- go on at this variable, and have no entries between
+pub record IsNext (row new : List Kept) (here there from next : ℕ) : Type 0 where
+  pub order : from ≤ next
+  pub row_place : IsPlace next row here
+  pub new_place : IsPlace next new there
+  pub row_none : (k : ℕ) → from ≤ k → k < next → entry_on row k ≡ zeroℚ
+  pub new_none : (k : ℕ) → from ≤ k → k < next → entry_on new k ≡ zeroℚ
+
 -- ---- what is said of them, as one statement
 
 -- the dense line of what is kept of a line is that line; and numbers that are 0, and operations that there are none of,

@@ -8,6 +8,7 @@ mod fault;
 mod first;
 mod flip;
 mod forms;
+mod kept;
 mod laws;
 mod lines;
 mod lists;

@@ -1,0 +1,14 @@
+use Rattle.std.proofs.Common.{ℕ, ◌<◌, ◌≤◌, ◌-◌, length, get_or}
+use Rattle.cip_dict.specs.SparseLines.{Kept}
+use Rattle.cip_dict.proofs.kept.place_from.Given as goal
+
+abbrev pub invariant-loop-low : goal.invariant-loop-low
+invariant-loop-low l = record {
+  order : l.low ≤ l.high;
+  within : l.high ≤ length l.entries;
+  before : (a : ℕ) (d : Kept) → a < l.low → (get_or l.entries a d).0 < l.k;
+  after : (a : ℕ) (d : Kept) → l.high ≤ a → a < length l.entries → l.k ≤ (get_or l.entries a d).0;
+}
+
+abbrev pub decreases-loop-low : goal.decreases-loop-low
+decreases-loop-low l = l.high - l.low
