@@ -1,9 +1,10 @@
 -- Operations one list after another, and rows that are written by a list for a function.
 use Rattle.std.proofs.Common.{◌≡◌, ℕ, zero, suc, ◌<◌, ◌==◌, Bool, cond, not, ◌&&◌, List, [], ◌++◌, length, Option, None, Some, Result, Ok, Err, MatchResult, refl, sym, ap, ap₂, ◌∙◌, arith}
+use Rattle.std.proofs.lemmas.Bool.{eq-eqb}
 use Rattle.cip_rational.specs.Rational.{ℚ, zeroℚ}
 use Rattle.cip_problem.specs.Activity.{value_at}
 use Rattle.cip_dictionary.specs.Tables.{table, each}
-use Rattle.cip_dictionary.specs.Exchange.{is_absent, substituted_at, substituted}
+use Rattle.cip_dictionary.specs.Exchange.{is_absent, solved_at, solved, substituted_at, substituted}
 use Rattle.cip_dictionary.specs.Operations.{Placed, first_overflow, entry_place}
 use Rattle.cip_dictionary.specs.MoveOperations.{substituted_operations_at, substituted_operations}
 use Rattle.cip_dictionary.specs.declared.places.Line.{Line}
@@ -54,3 +55,8 @@ module _ (standing : List (Option Stand)) (i j : ℕ) (q : ℚ) (new : List ℚ)
   pub written_new : (rows out : ℕ → List ℚ) → table (length standing) (λ v. written_form standing i j q (value_at new) v (rows v) (out v)) ≡ table (length standing) (λ v. written_form standing i j q f v (rows v) (out v))
   written_new rows out =
       table_same (length standing) _ _ [] (λ v l. ap (λ xs. cond (form_changes standing i j v (rows v)) xs (out v)) (table_new (length standing) new f e (basic_in standing) i j q (value_at (rows v))))
+
+-- the row of the variable that enters has q on the one that leaves
+pub leaving_entry : (n : ℕ) (basic : ℕ → Bool) (i j : ℕ) (q : ℚ) (row : ℕ → ℚ) (new : List ℚ) → new ≡ table n (solved basic i j q row) → i < n → value_at new i ≡ q
+leaving_entry n basic i j q row new e l =
+    table_read n new (solved basic i j q row) e i l ∙ ap (λ t. solved_at t (is_absent basic j i) q (row i)) (eq-eqb i i refl)

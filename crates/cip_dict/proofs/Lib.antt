@@ -1,12 +1,16 @@
 pub mod After
 pub mod Begun
 pub mod Chains
+pub mod Dense
 pub mod Exchanged
 pub mod Flipped
+pub mod FormSums
 pub mod Formed
 pub mod Grown
+pub mod KeptLoops
 pub mod LeastBasic
 pub mod Loops
+pub mod MoveFaults
 pub mod Places
 pub mod PutEntries
 pub mod Puts

@@ -128,7 +128,7 @@ less_after es m k e least n kept l h a d b w =
 
 -- ---- the variable of the entry at a place
 
-at_least : (k : ℕ) (es : List Kept) (p : ℕ) (d : Kept) → IsPlace k es p → p < length es → k ≤ (get_or es p d).0
+pub at_least : (k : ℕ) (es : List Kept) (p : ℕ) (d : Kept) → IsPlace k es p → p < length es → k ≤ (get_or es p d).0
 at_least k [] p d i l = absurd (omega (arith, l))
 at_least k (e ∷ es) zero d i l = i
 at_least k (e ∷ es) (suc p) d i l = at_least k es p d i.1 (omega (arith, l))

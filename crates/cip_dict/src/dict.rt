@@ -183,7 +183,7 @@ impl Dict {
                 take_over(&mut self.standing, i, j, stand, cost, lists, &mut self.room);
                 Ok(())
             }
-            Err(fault) => Err(MoveFault::OutOfRange { place: fault.place }),
+            Err(fault) => Err(fault),
         }
     }
 

@@ -4,7 +4,7 @@ ghost use Rattle.cip_rational.specs.Rational.{zeroℚ, inverse};
 ghost use Rattle.cip_problem.specs.Box.{sides_at};
 ghost use Rattle.cip_problem.specs.Activity.{value_at};
 ghost use Rattle.cip_dictionary.specs.Tables.{table, each};
-ghost use Rattle.cip_dictionary.specs.Operations.{first_overflow};
+ghost use Rattle.cip_dictionary.specs.Operations.{first_overflow, is_zero};
 ghost use Rattle.cip_dictionary.specs.Exchange.{solved, substituted};
 ghost use Rattle.cip_dictionary.specs.MoveOperations.{solved_operations, substituted_operations};
 ghost use Rattle.cip_dict.specs.Lists.{basic_in, entry_in};
@@ -12,13 +12,15 @@ ghost use Rattle.cip_dict.specs.Row.{row_in, form_operations_in, written_form, t
 ghost use Rattle.cip_dictionary.specs.Dictionary.{standing_value};
 ghost use Rattle.cip_dictionary.specs.Exchange.{CanExchange, exchanged};
 ghost use Rattle.cip_dictionary.specs.MoveOperations.{exchange_operations};
+ghost use Rattle.cip_dict.specs.MoveFaults.{IsMoveFault};
 ghost use Rattle.cip_dict.specs.State.{state, HasLists, HasRoom};
 ghost use Rattle.cip_dict.specs.Written.{entering_in, other_operations, OthersWritten, lines_operations, LinesWritten, moves_operations, MovesWritten, step_in, values_operations, IsPlanned, entered_form, IsTakenOver};
 
+use crate::costs::write_costs;
 use crate::entries::{step_to, sum};
-use crate::fault::OutOfRange;
+use crate::fault::{MoveFault, OutOfRange};
 use crate::forms::Form;
-use crate::lines::{write_solved, write_substituted};
+use crate::lines::write_solved;
 use crate::lists::{Lists, Room};
 use crate::rows::{take_rows, write_rows};
 use crate::values::{value_of, write_moved};
@@ -34,8 +36,9 @@ fn write_others(
     q: Frac,
     lists: &Lists,
     room: &mut Room,
-) -> Result<(), OutOfRange>
+) -> Result<(), MoveFault>
     requires few { length standing.now < 2 ^ 32 }
+    requires leaving { i < length standing.now }
     requires entering { j < length standing.now }
     requires lists_long { HasLists standing.now lists.now }
     requires room_long { HasRoom standing.now room.old }
@@ -43,64 +46,20 @@ fn write_others(
     ensures written { MatchResult result
         (λ _. (first_overflow (other_operations standing.now i j q lists.now) ≡ None)
         × OthersWritten standing.now i j q lists.now room.old room.new)
-        (λ fault. first_overflow (other_operations standing.now i j q lists.now) ≡ Some fault.place) }
+        (IsMoveFault (other_operations standing.now i j q lists.now)) }
     ensures long { HasRoom standing.now room.new }
 {
-    let new = room.entering.as_slice();
-    match write_rows(
-        standing,
-        i,
-        j,
-        q,
-        new,
-        lists.rows.as_slice(),
-        room.rows.as_mut_slice(),
-    ) {
+    let new = &room.entering;
+    let rows = lists.rows.as_slice();
+    match write_rows(standing, i, j, q, new, rows, room.rows.as_mut_slice()) {
         Ok(()) => (),
         Err(fault) => return Err(fault),
     }
     let costs = lists.costs.as_slice();
-    write_substituted(
-        Line::Cost,
-        standing,
-        i,
-        j,
-        q,
-        new,
-        costs,
-        room.costs.as_mut_slice(),
-    )
-}
-
-/// Writes the row of the variable j that enters, by that of i, which leaves.
-fn write_entering(
-    standing: &[Option<Stand>],
-    i: u32,
-    j: u32,
-    q: Frac,
-    row: &Form,
-    entering: &mut Form,
-) -> Result<(), OutOfRange>
-    requires few { length standing.now < 2 ^ 32 }
-    requires row_long { length row.now ≡ length standing.now }
-    requires entering_long { length entering.old ≡ length standing.now }
-    ensures written { let operations =
-        each (length standing.now)
-        (solved_operations (Line.Row j) (basic_in standing.now) i j q (value_at row.now)) in
-        MatchResult result
-        (λ _. (first_overflow operations ≡ None)
-        × (entering.new ≡ table (length standing.now) (solved (basic_in standing.now) i j q (value_at row.now))))
-        (λ fault. first_overflow operations ≡ Some fault.place) }
-    ensures long { length entering.new ≡ length entering.old }
-{
-    write_solved(
-        standing,
-        i,
-        j,
-        q,
-        row.as_slice(),
-        entering.entries.as_mut_slice(),
-    )
+    match write_costs(standing, i, j, q, new, costs, room.costs.as_mut_slice()) {
+        Ok(()) => Ok(()),
+        Err(fault) => Err(MoveFault::OutOfRange { place: fault.place }),
+    }
 }
 
 /// Writes the row of the variable j that enters, the rows that change, and the row of the cost; i leaves, and q is 1
@@ -112,21 +71,22 @@ fn write_lines(
     q: Frac,
     lists: &Lists,
     room: &mut Room,
-) -> Result<(), OutOfRange>
+) -> Result<(), MoveFault>
     requires few { length standing.now < 2 ^ 32 }
     requires leaving { i < length standing.now }
     requires basic { basic_in standing.now i ≡ true }
+    requires nonzero { is_zero q ≡ false }
     requires entering { j < length standing.now }
     requires lists_long { HasLists standing.now lists.now }
     requires room_long { HasRoom standing.now room.old }
     ensures written { MatchResult result
         (λ _. (first_overflow (lines_operations standing.now i j q lists.now) ≡ None)
         × LinesWritten standing.now i j q lists.now room.old room.new)
-        (λ fault. first_overflow (lines_operations standing.now i j q lists.now) ≡ Some fault.place) }
+        (IsMoveFault (lines_operations standing.now i j q lists.now)) }
     ensures long { HasRoom standing.now room.new }
 {
     let row = &lists.rows[i as usize];
-    match write_entering(standing, i, j, q, row, &mut room.entering) {
+    match write_solved(standing, i, j, q, row, &mut room.entering) {
         Ok(()) => (),
         Err(fault) => return Err(fault),
     }
@@ -214,7 +174,8 @@ fn pivot_of(rows: &[Form], i: u32, j: u32) -> Frac
     requires within { i < length rows.now }
     requires long { j < length (row_in rows.now i) }
     requires nonzero { entry_in rows.now i j ≢ zeroℚ }
-    ensures { result ≡ inverse (entry_in rows.now i j) }
+    ensures value { result ≡ inverse (entry_in rows.now i j) }
+    ensures nonzero { is_zero result ≡ false }
 {
     rows[i as usize].entry(j).reciprocal()
 }
@@ -236,7 +197,7 @@ pub(crate) fn plan(
     j: u32,
     to: Stand,
     room: &mut Room,
-) -> Result<Frac, OutOfRange>
+) -> Result<Frac, MoveFault>
     requires few { length standing.now < 2 ^ 32 }
     requires sides_long { length sides.now ≡ length standing.now }
     requires lists_long { HasLists standing.now lists.now }
@@ -245,7 +206,7 @@ pub(crate) fn plan(
     ensures written { let d = state sides.now standing.now lists.now in
         MatchResult result
         (λ cost. (first_overflow (exchange_operations d i j to) ≡ None) × IsPlanned d i j to room.new cost)
-        (λ fault. first_overflow (exchange_operations d i j to) ≡ Some fault.place) }
+        (IsMoveFault (exchange_operations d i j to)) }
     ensures long { HasRoom standing.now room.new }
 {
     let q = pivot_of(lists.rows.as_slice(), i, j);
@@ -254,7 +215,10 @@ pub(crate) fn plan(
         Err(fault) => return Err(fault),
     }
     let side = side_of(sides, i, to);
-    write_values(standing, i, j, side, q, lists, room)
+    match write_values(standing, i, j, side, q, lists, room) {
+        Ok(cost) => Ok(cost),
+        Err(fault) => Err(MoveFault::OutOfRange { place: fault.place }),
+    }
 }
 
 /// Puts the row of the variable j that enters into the place of j, and lets that of i go.

@@ -1,5 +1,5 @@
 //! The first state of a linear program.
-ghost use Rattle.std.specs.Prelude.{◌≡◌, ℕ, ◌+◌, ◌-◌, ◌<◌, ◌≤◌, ◌^◌, ◌++◌, [], length, Some, None, MatchResult, IfOk, replicate, slice_set, slice_index_or, if◌then◌else◌};
+ghost use Rattle.std.specs.Prelude.{◌≡◌, ℕ, ◌+◌, ◌-◌, ◌<◌, ◌≤◌, ◌^◌, ◌++◌, [], length, Some, None, MatchResult, IfOk, OnOk, replicate, slice_set, slice_index_or, if◌then◌else◌};
 ghost use Rattle.cip_rational.specs.Rational.{zeroℚ, ◌+ℚ◌, ◌*ℚ◌};
 ghost use Rattle.cip_problem.specs.Activity.{value_at};
 ghost use Rattle.cip_problem.specs.Box.{sides_at};
@@ -64,20 +64,15 @@ pub(crate) fn stands(
     Ok(standing)
 }
 
-/// A row of zeros for a basic variable, and none for another; `Err` where the memory was refused.
-fn empty_row(
-    alloc: Global,
-    spare: &mut Spare,
-    standing: &[Option<Stand>],
-    v: usize,
-) -> Result<Form, AllocError>
+/// A row of zeros for a basic variable, and none for another.
+fn empty_row(alloc: Global, spare: &mut Spare, standing: &[Option<Stand>], v: usize) -> Form
     requires { v < length standing.now }
-    ensures { IfOk result (λ form. form ≡ replicate (row_length standing.now v) zeroℚ) }
+    ensures { result ≡ replicate (row_length standing.now v) zeroℚ }
 {
     if is_basic(standing, v) {
         Form::zeros(alloc, spare, standing.len())
     } else {
-        Ok(Form::none(alloc))
+        Form::none(alloc)
     }
 }
 
@@ -92,21 +87,22 @@ fn empty_rows(
 {
     let mut rows = spare.forms(alloc);
     for v in 0..standing.len() {
-        let row = empty_row(alloc, spare, standing, v)?;
+        let row = empty_row(alloc, spare, standing, v);
         rows.push(row)?;
     }
     Ok(rows)
 }
 
-/// Puts an entry into its row, which is that of the variable past the columns by its number.
-fn put_entry(columns: usize, entry: (u32, u32, Frac), rows: &mut [Form])
+/// Puts an entry into its row, which is that of the variable past the columns by its number. `Err` where the memory was
+/// refused.
+fn put_entry(columns: usize, entry: (u32, u32, Frac), rows: &mut [Form]) -> Result<(), AllocError>
     requires row { columns + entry.0 < length rows.old }
     requires column { entry.1 < length (row_in rows.old (columns + entry.0)) }
-    ensures { rows.new ≡ slice_set rows.old (columns + entry.0)
-        (slice_set (row_in rows.old (columns + entry.0)) entry.1 entry.2) }
+    ensures { OnOk result (rows.new ≡ slice_set rows.old (columns + entry.0)
+        (slice_set (row_in rows.old (columns + entry.0)) entry.1 entry.2)) }
 {
     let row = &mut rows[columns + entry.0 as usize];
-    row.entries[entry.1 as usize] = entry.2;
+    row.set(entry.1, entry.2)
 }
 
 /// The cost of variable k: that of a column, and 0 for a row.
@@ -174,20 +170,26 @@ fn form_value(line: Line, n: usize, row: &[Frac], values: &[Frac]) -> Result<Fra
 }
 
 /// Puts all entries into their rows, which are those of the variables past the columns by their numbers. The last that
-/// names a row and a column counts.
-fn put_entries(columns: usize, entries: &[(u32, u32, Frac)], rows: &mut [Form], m: usize)
+/// names a row and a column counts. `Err` where the memory was refused.
+fn put_entries(
+    columns: usize,
+    entries: &[(u32, u32, Frac)],
+    rows: &mut [Form],
+    m: usize,
+) -> Result<(), AllocError>
     requires count { columns + m ≡ length rows.old }
     requires within { AreWithin m columns entries.now }
     requires long { (v : ℕ) → columns ≤ v → v < length rows.old → columns ≤ length (row_in rows.old v) }
-    ensures put { (v k : ℕ) → columns ≤ v → v < length rows.old → value_at (row_in rows.new v) k
-        ≡ entry_from (value_at (row_in rows.old v) k) entries.now (v - columns) k }
-    ensures rest { (v : ℕ) → v < columns → row_in rows.new v ≡ row_in rows.old v }
+    ensures put { OnOk result ((v k : ℕ) → columns ≤ v → v < length rows.old → value_at (row_in rows.new v) k
+        ≡ entry_from (value_at (row_in rows.old v) k) entries.now (v - columns) k) }
+    ensures rest { OnOk result ((v : ℕ) → v < columns → row_in rows.new v ≡ row_in rows.old v) }
     ensures count { length rows.new ≡ length rows.old }
-    ensures long { (v : ℕ) → length (row_in rows.new v) ≡ length (row_in rows.old v) }
+    ensures long { OnOk result ((v : ℕ) → length (row_in rows.new v) ≡ length (row_in rows.old v)) }
 {
     for entry in entries {
-        put_entry(columns, *entry, rows);
+        put_entry(columns, *entry, rows)?;
     }
+    Ok(())
 }
 
 /// The value of column k at first.
@@ -213,14 +215,6 @@ fn column_values(
     Ok(values)
 }
 
-/// The row of a variable.
-fn row_at(rows: &[Form], v: usize) -> &[Frac]
-    requires { v < length rows.now }
-    ensures { result.now ≡ row_in rows.now v }
-{
-    rows[v].as_slice()
-}
-
 /// The value of row r at first, where the columns have these values.
 fn row_value(columns: usize, r: usize, rows: &[Form], at: &[Frac]) -> Result<Frac, OutOfRange>
     requires few { columns + r < 2 ^ 32 }
@@ -233,7 +227,7 @@ fn row_value(columns: usize, r: usize, rows: &[Form], at: &[Frac]) -> Result<Fra
         (λ fault. first_overflow operations ≡ Some fault.place) }
 {
     let line = Line::Row((columns + r) as u32);
-    form_value(line, columns, row_at(rows, columns + r), at)
+    rows[columns + r].value(line, columns, at)
 }
 
 /// Puts the values of the m rows, by rising number, at the end; the columns have the values `at`.
@@ -283,7 +277,7 @@ fn filled_rows(
         ≡ table (length columns.now + m) (row_of_entries (length columns.now) m entries.now)) }
 {
     let mut rows = empty_rows(alloc, spare, standing)?;
-    put_entries(columns.len(), entries, rows.as_mut_slice(), m);
+    put_entries(columns.len(), entries, rows.as_mut_slice(), m)?;
     Ok(rows)
 }
 
@@ -372,7 +366,7 @@ pub(crate) fn room_for(
 ) -> Result<Room, AllocError>
     ensures { IfOk result (λ room. HasRoom standing.now room) }
 {
-    let entering = Form::zeros(alloc, spare, standing.len())?;
+    let entering = Form::zeros(alloc, spare, standing.len());
     let rows = empty_rows(alloc, spare, standing)?;
     let costs = spare.zeros(alloc, standing.len())?;
     let values = spare.zeros(alloc, standing.len())?;

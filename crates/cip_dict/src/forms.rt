@@ -1,17 +1,27 @@
 //! A line of a dictionary: its entries on all variables.
-ghost use Rattle.std.specs.Prelude.{◌≡◌, ◌<◌, [], length, IfOk, replicate};
+ghost use Rattle.std.specs.Prelude.{◌≡◌, ◌<◌, ◌≤◌, [], length, Some, None, OnOk, MatchResult, replicate, slice_set};
 ghost use Rattle.cip_rational.specs.Rational.{zeroℚ};
 ghost use Rattle.cip_problem.specs.Activity.{value_at};
+ghost use Rattle.cip_dictionary.specs.Tables.{form};
+ghost use Rattle.cip_dictionary.specs.FirstState.{form_operations};
+ghost use Rattle.cip_dictionary.specs.Operations.{first_overflow};
 
+use crate::fault::OutOfRange;
+use crate::form_values::entries_value;
+use crate::kept::{entry_of, put_entry};
 use crate::spare::Spare;
+use cip_dictionary::Line;
 use cip_frac::Frac;
 use std::alloc::{AllocError, Global};
 use std::marker::Model;
 
-/// The entries of a line on all variables; none where a variable has no line.
+/// The entries of a line on all variables; none where a variable has no line. Those that aren't 0 are kept, each with
+/// its variable, by rising variable.
 #[derive(Debug, Drop)]
 pub(crate) struct Form {
-    pub(crate) entries: Vec<Frac>,
+    pub(crate) entries: Vec<(u32, Frac)>,
+    /// The number of variables.
+    pub(crate) len: usize,
 }
 
 impl Model for Form {
@@ -23,16 +33,20 @@ impl Model for Form {
 
     ghost coded = { coded_list coded_ℚ };
 
-    ghost view = { λ f. f.entries.items };
+    ghost use Rattle.cip_dict.specs.SparseLines.{dense, AreKept};
+
+    ghost view = { λ f. dense f.len f.entries.items };
+
+    ghost invariant = { λ f. AreKept 0 f.len f.entries.items };
 }
 
 impl Form {
-    /// So many entries of 0; `Err` where the memory for them was refused.
-    pub(crate) fn zeros(alloc: Global, spare: &mut Spare, len: usize) -> Result<Form, AllocError>
-        ensures { IfOk result (λ form. form ≡ replicate len zeroℚ) }
+    /// So many entries of 0.
+    pub(crate) fn zeros(alloc: Global, spare: &mut Spare, len: usize) -> Form
+        ensures { result ≡ replicate len zeroℚ }
     {
-        let entries = spare.zeros(alloc, len)?;
-        Ok(Form { entries })
+        let entries = spare.entries(alloc);
+        Form { entries, len }
     }
 
     /// No entries.
@@ -41,23 +55,35 @@ impl Form {
     {
         Form {
             entries: Vec::new(alloc),
+            len: 0,
         }
     }
 
-    /// The entries by variable.
-    #[inline(always)]
-    pub(crate) fn as_slice(&self) -> &[Frac]
-        ensures { result.now ≡ self.now }
-    {
-        self.entries.as_slice()
-    }
-
     /// The entry on a variable.
-    #[inline(always)]
     pub(crate) fn entry(&self, k: u32) -> Frac
         requires { k < length self.now }
         ensures { result ≡ value_at self.now k }
     {
-        self.entries[k as usize]
+        entry_of(self.entries.as_slice(), k)
+    }
+
+    /// Puts the entry on a variable. `Err` where memory was refused.
+    pub(crate) fn set(&mut self, k: u32, entry: Frac) -> Result<(), AllocError>
+        requires { k < length self.old }
+        ensures { OnOk result (self.new ≡ slice_set self.old k entry) }
+    {
+        put_entry(&mut self.entries, k, entry)
+    }
+
+    /// The value on the first n variables: the products of entries and values, added one after another.
+    pub(crate) fn value(&self, line: Line, n: usize, values: &[Frac]) -> Result<Frac, OutOfRange>
+        requires row_long { n ≤ length self.now }
+        requires values_long { n ≤ length values.now }
+        ensures { let operations = form_operations line n (value_at self.now) (value_at values.now) in
+            MatchResult result
+            (λ v. (first_overflow operations ≡ None) × (v ≡ form n (value_at self.now) (value_at values.now)))
+            (λ fault. first_overflow operations ≡ Some fault.place) }
+    {
+        entries_value(line, n, self.entries.as_slice(), values)
     }
 }

@@ -1,12 +1,14 @@
 //! Dictionaries of the simplex method over exact fractions.
 #![tactic(auto)]
 
+mod costs;
 mod dict;
 mod entries;
 mod exchange;
 mod fault;
 mod first;
 mod flip;
+mod form_values;
 mod forms;
 mod kept;
 mod laws;

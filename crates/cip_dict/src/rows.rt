@@ -1,14 +1,15 @@
 //! The rows of basic variables in an exchange.
-ghost use Rattle.std.specs.Prelude.{◌≡◌, ℕ, ◌<◌, ◌^◌, true, [], length, Some, None, MatchResult, slice_index_or, if◌then◌else◌};
+ghost use Rattle.std.specs.Prelude.{◌≡◌, ℕ, ◌<◌, ◌^◌, true, [], length, None, MatchResult, slice_index_or, if◌then◌else◌};
 ghost use Rattle.cip_problem.specs.Activity.{value_at};
 ghost use Rattle.cip_dictionary.specs.Tables.{table, each};
 ghost use Rattle.cip_dictionary.specs.Operations.{first_overflow};
 ghost use Rattle.cip_dictionary.specs.Exchange.{substituted};
 ghost use Rattle.cip_dict.specs.Lists.{basic_in};
+ghost use Rattle.cip_dict.specs.MoveFaults.{IsMoveFault};
 ghost use Rattle.cip_dict.specs.Row.{form_changes, form_operations_in, written_form, taken_form, row_in, HasRows};
 
 use crate::entries::vanishes;
-use crate::fault::OutOfRange;
+use crate::fault::MoveFault;
 use crate::forms::Form;
 use crate::lines::{is_basic, write_substituted};
 use cip_dictionary::{Line, Stand};
@@ -31,36 +32,28 @@ fn write_row(
     i: u32,
     j: u32,
     q: Frac,
-    new: &[Frac],
+    new: &Form,
     v: usize,
     row: &Form,
     out: &mut Form,
-) -> Result<(), OutOfRange>
+) -> Result<(), MoveFault>
     requires few { length standing.now < 2 ^ 32 }
     requires within { v < length standing.now }
     requires entering { j < length standing.now }
+    requires leaving { i < length standing.now }
     requires new_long { length new.now ≡ length standing.now }
+    requires is_leaving { value_at new.now i ≡ q }
     requires row_long { basic_in standing.now v ≡ true → length row.now ≡ length standing.now }
     requires out_long { basic_in standing.now v ≡ true → length out.old ≡ length standing.now }
     ensures written { MatchResult result
         (λ _. (first_overflow (form_operations_in standing.now i j q (value_at new.now) v row.now) ≡ None)
         × (out.new ≡ written_form standing.now i j q (value_at new.now) v row.now out.old))
-        (λ fault. first_overflow (form_operations_in standing.now i j q (value_at new.now) v row.now)
-        ≡ Some fault.place) }
+        (IsMoveFault (form_operations_in standing.now i j q (value_at new.now) v row.now)) }
     ensures long { length out.new ≡ length out.old }
 {
     if is_changed(standing, i, j, v, row) {
         let line = Line::Row(v as u32);
-        write_substituted(
-            line,
-            standing,
-            i,
-            j,
-            q,
-            new,
-            row.as_slice(),
-            out.entries.as_mut_slice(),
-        )
+        write_substituted(line, standing, i, j, q, new, row, out)
     } else {
         Ok(())
     }
@@ -73,13 +66,15 @@ pub(crate) fn write_rows(
     i: u32,
     j: u32,
     q: Frac,
-    new: &[Frac],
+    new: &Form,
     rows: &[Form],
     out: &mut [Form],
-) -> Result<(), OutOfRange>
+) -> Result<(), MoveFault>
     requires few { length standing.now < 2 ^ 32 }
     requires entering { j < length standing.now }
+    requires leaving { i < length standing.now }
     requires new_long { length new.now ≡ length standing.now }
+    requires is_leaving { value_at new.now i ≡ q }
     requires rows_long { HasRows standing.now rows.now }
     requires out_long { HasRows standing.now out.old }
     ensures written { let operations =
@@ -89,7 +84,7 @@ pub(crate) fn write_rows(
         (λ _. (first_overflow operations ≡ None)
         × (out.new ≡ table (length standing.now)
         (λ v. written_form standing.now i j q (value_at new.now) v (row_in rows.now v) (row_in out.old v))))
-        (λ fault. first_overflow operations ≡ Some fault.place) }
+        (IsMoveFault operations) }
     ensures long { HasRows standing.now out.new }
 {
     for v in 0..standing.len() {

@@ -13,6 +13,7 @@ use std::alloc::{AllocError, Global};
 #[derive(Debug, Drop)]
 pub struct Spare {
     numbers: Vec<Vec<Frac>>,
+    entries: Vec<Vec<(u32, Frac)>>,
     forms: Vec<Vec<Form>>,
     stands: Vec<Vec<Option<Stand>>>,
     sides: Vec<Vec<Sides>>,
@@ -23,6 +24,7 @@ impl Spare {
     pub fn new(alloc: Global) -> Spare {
         Spare {
             numbers: Vec::new(alloc),
+            entries: Vec::new(alloc),
             forms: Vec::new(alloc),
             stands: Vec::new(alloc),
             sides: Vec::new(alloc),
@@ -60,6 +62,17 @@ impl Spare {
         let mut copy = self.numbers(alloc);
         copy.extend_from_slice(numbers)?;
         Ok(copy)
+    }
+
+    /// An empty list of entries.
+    pub(crate) fn entries(&mut self, alloc: Global) -> Vec<(u32, Frac)>
+        ensures { result.items ≡ [] }
+    {
+        let Some(mut list) = self.entries.pop() else {
+            return Vec::new(alloc);
+        };
+        list.clear();
+        list
     }
 
     /// An empty list of lines.
@@ -100,7 +113,7 @@ impl Spare {
         let _kept = self.numbers.push(list).is_ok();
     }
 
-    /// Keeps a list of lines and the entries of each that has some.
+    /// Keeps a list of lines and the list of entries of each that has some.
     pub(crate) fn keep_forms(&mut self, mut list: Vec<Form>) {
         for _ in 0..list.len() {
             if let Some(form) = list.pop() {
@@ -110,10 +123,10 @@ impl Spare {
         let _kept = self.forms.push(list).is_ok();
     }
 
-    /// Keeps the entries of a line that has some.
+    /// Keeps the list of entries of a line that has room for some.
     pub(crate) fn keep_form(&mut self, form: Form) {
-        if form.entries.len() > 0 {
-            self.keep_numbers(form.entries);
+        if form.entries.capacity() > 0 {
+            let _kept = self.entries.push(form.entries).is_ok();
         }
     }
 

@@ -13,8 +13,8 @@ loop-entry-preserved c =
     let at_least = c.requires.long (c.args.columns + e.0) (omega arith) (omega (arith, within.0, c.requires.count)) in
     let column_there : e.1 < length (row_in c.loop-entry.rows (c.args.columns + e.0)) = omega (arith, within.1, same_long, at_least) in
     record {
-      put = λ v k lv l. put_more c.args.columns e c.loop-entry.rows row_there column_there c.args.entries.now c.loop-entry.entry-index c.put_entry.new.rows c.loop-entry-test.true c.entry-item.is c.put_entry.ensures v k lv ∙ c.loop-entry.invariant.put v k lv l;
-      rest = λ v l. put_rest c.args.columns e c.loop-entry.rows row_there column_there c.put_entry.new.rows c.put_entry.ensures v l ∙ c.loop-entry.invariant.rest v l;
-      count = ap length c.put_entry.ensures ∙ length-set c.loop-entry.rows (c.args.columns + e.0) (set (row_in c.loop-entry.rows (c.args.columns + e.0)) e.1 e.2) ∙ c.loop-entry.invariant.count;
-      long = λ v. put_long c.args.columns e c.loop-entry.rows row_there column_there c.put_entry.new.rows c.put_entry.ensures v ∙ c.loop-entry.invariant.long v;
+      put = λ v k lv l. put_more c.args.columns e c.loop-entry.rows row_there column_there c.args.entries.now c.loop-entry.entry-index c.put_entry.new.rows c.loop-entry-test.true c.entry-item.is c.in_ok-put_entry.ensures v k lv ∙ c.loop-entry.invariant.put v k lv l;
+      rest = λ v l. put_rest c.args.columns e c.loop-entry.rows row_there column_there c.put_entry.new.rows c.in_ok-put_entry.ensures v l ∙ c.loop-entry.invariant.rest v l;
+      count = ap length c.in_ok-put_entry.ensures ∙ length-set c.loop-entry.rows (c.args.columns + e.0) (set (row_in c.loop-entry.rows (c.args.columns + e.0)) e.1 e.2) ∙ c.loop-entry.invariant.count;
+      long = λ v. put_long c.args.columns e c.loop-entry.rows row_there column_there c.put_entry.new.rows c.in_ok-put_entry.ensures v ∙ c.loop-entry.invariant.long v;
     }

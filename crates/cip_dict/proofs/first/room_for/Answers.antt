@@ -6,7 +6,7 @@ use Rattle.cip_dict.proofs.first.room_for.Goals as goal
 
 pub returns : goal.returns
 returns c = record {
-  entering = ap length c.in_ok-entering.ensures ∙ length-replicate (length c.args.standing.now) zeroℚ;
+  entering = ap length c.zeros-entering.ensures ∙ length-replicate (length c.args.standing.now) zeroℚ;
   rows = empty_has_rows c.args.standing.now c.in_ok-rows.rows.items c.in_ok-rows.ensures;
   costs = ap length c.in_ok-costs.ensures ∙ length-replicate (length c.args.standing.now) zeroℚ;
   values = ap length c.in_ok-values.ensures ∙ length-replicate (length c.args.standing.now) zeroℚ;

@@ -1,17 +1,29 @@
-use Rattle.std.proofs.Common.{arith, length}
-use Rattle.cip_rational.specs.Rational.{zeroℚ}
-use Rattle.cip_dictionary.proofs.Overflow.{first_more, first_at}
-use Rattle.cip_dict.proofs.Loops.{written_more, loop_end}
+use Rattle.std.proofs.Common.{length, arith, sym, ◌∙◌}
+use Rattle.cip_dict.specs.Lists.{basic_in}
+use Rattle.cip_dict.proofs.Dense.{substituted_written, dense_kept, dense_long, dense_read}
 use Rattle.cip_dict.proofs.lines.write_substituted.Goals as goal
 
-pub returns-in-Err : goal.returns-in-Err
-returns-in-Err c = first_at (length c.args.standing.now) c.loop-k.k _ c.in-Err.fault.place c.loop-k-test.true c.loop-k.invariant.fits c.in-Err.ensures
+pub substitute_entries-requires-clause-row_kept : goal.substitute_entries-requires-clause-row_kept
+substitute_entries-requires-clause-row_kept c =
+    rw c.as_slice-entries.ensures.value (dense_kept c.row.inside.len (length c.args.standing.now) c.row.inside.entries.items c.args.row.now c.row.view_is c.requires.row_long c.row.invariant)
 
-pub loop-k-preserved : goal.loop-k-preserved
-loop-k-preserved c = record {
-  fits = first_more c.loop-k.k _ c.loop-k.invariant.fits c.in-Ok.ensures.0;
-  written = written_more _ c.loop-k.out c.loop-k.k c.substitute_on.new.entry zeroℚ (omega arith) c.loop-k.invariant.written c.in-Ok.ensures.1;
-}
+pub substitute_entries-requires-clause-new_kept : goal.substitute_entries-requires-clause-new_kept
+substitute_entries-requires-clause-new_kept c =
+    rw c.as_slice-entering.ensures.value (dense_kept c.new.inside.len (length c.args.standing.now) c.new.inside.entries.items c.args.new.now c.new.view_is c.requires.new_long c.new.invariant)
 
-pub returns : goal.returns
-returns c = loop_end (length c.args.standing.now) c.loop-k.k _ _ c.loop-k.out zeroℚ (omega arith) (omega arith) (omega arith) c.loop-k.invariant.fits c.loop-k.invariant.written
+pub substitute_entries-requires-clause-leaving : goal.substitute_entries-requires-clause-leaving
+substitute_entries-requires-clause-leaving c =
+    rw c.as_slice-entering.ensures.value (sym (dense_read c.new.inside.len c.new.inside.entries.items c.args.new.now c.args.i c.new.view_is (omega (arith, c.requires.leaving, c.requires.new_long))) ∙ c.requires.is_leaving)
+
+pub substitute_entries-requires-clause-on : goal.substitute_entries-requires-clause-on
+substitute_entries-requires-clause-on c =
+    rw c.as_slice-entries.ensures.value (c.entry-b.ensures ∙ dense_read c.row.inside.len c.row.inside.entries.items c.args.row.now c.args.j c.row.view_is (omega (arith, c.requires.entering, c.requires.row_long)))
+
+pub returns-clause-written : goal.returns-clause-written
+returns-clause-written c =
+    substituted_written (length c.args.standing.now) (basic_in c.args.standing.now) c.args.i c.args.j c.args.q c.row.inside.len c.row.inside.entries.items c.args.row.now c.row.view_is c.requires.row_long c.substitute_entries.new.out.items c.substitute_entries.result
+    c.args.line c.new.inside.len c.new.inside.entries.items c.args.new.now c.new.view_is c.requires.new_long c.requires.entering
+    (rw (c.as_slice-entries.ensures.value, c.as_slice-entering.ensures.value) at c.substitute_entries.ensures.written)
+
+pub returns-clause-long : goal.returns-clause-long
+returns-clause-long c = dense_long _ _

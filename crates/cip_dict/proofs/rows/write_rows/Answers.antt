@@ -1,15 +1,16 @@
 use Rattle.std.proofs.Common.{arith, length, ◌<◌, ◌≡◌, [], get_or, ◌∙◌, ap, sym}
 use Rattle.std.proofs.lemmas.List.{get_or-set_other}
-use Rattle.cip_dictionary.proofs.Overflow.{first_more, first_at}
+use Rattle.cip_dictionary.proofs.Overflow.{first_more}
 use Rattle.cip_dict.specs.Row.{row_in}
 use Rattle.cip_dict.proofs.Loops.{written_more, loop_end}
+use Rattle.cip_dict.proofs.MoveFaults.{fault_at}
 use Rattle.cip_dict.proofs.RowLists.{row_read, HasRows-set}
 use Rattle.cip_dict.proofs.rows.write_rows.Goals as goal
 
 pub returns-in-Err-clause-written : goal.returns-in-Err-clause-written
 returns-in-Err-clause-written c =
     let r : c.index-rows-v.result ≡ row_in c.args.rows.now c.loop-v.v = row_read c.args.rows.now c.loop-v.v c.index-rows-v.result (omega (arith, c.requires.rows_long.each_one)) c.index-rows-v.is in
-    first_at (length c.args.standing.now) c.loop-v.v _ c.in-Err.fault.place c.loop-v-test.true c.loop-v.invariant.fits (rw r at c.in-Err.ensures.written)
+    fault_at (length c.args.standing.now) c.loop-v.v _ c.in-Err.fault c.loop-v-test.true c.loop-v.invariant.fits (rw r at c.in-Err.ensures.written)
 
 pub loop-v-preserved : goal.loop-v-preserved
 loop-v-preserved c =

@@ -5,11 +5,14 @@ use Rattle.cip_dictionary.specs.Tables.{each}
 use Rattle.cip_dictionary.specs.Operations.{first_overflow}
 use Rattle.cip_dictionary.specs.Exchange.{substituted}
 use Rattle.cip_dictionary.specs.MoveOperations.{substituted_operations}
+use Rattle.cip_dictionary.specs.declared.places.Line.TheVariants.{Cost}
 use Rattle.cip_dict.specs.Lists.{basic_in}
-use Rattle.cip_dict.proofs.lines.write_substituted.Given as goal
+use Rattle.cip_dict.specs.SparseLines.{entry_on, IsPlace}
+use Rattle.cip_dict.proofs.costs.substitute_costs.Given as goal
 
 abbrev pub invariant-loop-k : goal.invariant-loop-k
 invariant-loop-k l = record {
-  fits : first_overflow (each l.k (substituted_operations l.line (basic_in l.standing) l.i l.j l.q (value_at l.new) (value_at l.row))) ≡ None;
-  written : (k : ℕ) → k < l.k → get_or l.out k zeroℚ ≡ substituted (basic_in l.standing) l.i l.j l.q (value_at l.new) (value_at l.row) k;
+  place : IsPlace l.k l.new l.there;
+  fits : first_overflow (each l.k (substituted_operations Cost (basic_in l.standing) l.i l.j l.q (entry_on l.new) (value_at l.costs))) ≡ None;
+  written : (k : ℕ) → k < l.k → get_or l.out k zeroℚ ≡ substituted (basic_in l.standing) l.i l.j l.q (entry_on l.new) (value_at l.costs) k;
 }

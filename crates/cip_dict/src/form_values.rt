@@ -1,0 +1,68 @@
+//! The values of forms, by their entries that aren't 0.
+ghost use Rattle.std.specs.Prelude.{◌≡◌, ℕ, ◌<◌, ◌≤◌, ◌&&◌, ◌==◌, true, false, length, slice_index_or, Some, None, MatchResult};
+ghost use Rattle.cip_rational.specs.Rational.{◌+ℚ◌, ◌*ℚ◌};
+ghost use Rattle.cip_problem.specs.Activity.{value_at};
+ghost use Rattle.cip_dictionary.specs.Tables.{form};
+ghost use Rattle.cip_dictionary.specs.FirstState.{form_operations};
+ghost use Rattle.cip_dictionary.specs.Operations.{first_overflow, value_place, sum_at};
+ghost use Rattle.cip_dict.specs.SparseLines.{Kept, entry_on, AreKept};
+
+use crate::entries::sum;
+use crate::fault::OutOfRange;
+use crate::values::value_of;
+use cip_dictionary::Line;
+use cip_frac::Frac;
+
+/// A sum with the product of an entry and the value of its variable.
+#[inline(always)]
+fn entry_step(
+    line: Line,
+    total: Frac,
+    entry: (u32, Frac),
+    values: &[Frac],
+) -> Result<Frac, OutOfRange>
+    requires { entry.0 < length values.now }
+    ensures { let operations = sum_at (value_place line) total entry.1 (value_at values.now entry.0) in
+        MatchResult result
+        (λ v. (first_overflow operations ≡ None) × (v ≡ total +ℚ entry.1 *ℚ value_at values.now entry.0))
+        (λ fault. first_overflow operations ≡ Some fault.place) }
+{
+    sum(value_of(line), total, entry.1, values[entry.0 as usize])
+}
+
+/// Whether there is an entry at a place, on one of the first n variables.
+#[inline(always)]
+fn is_within(entries: &[(u32, Frac)], place: usize, n: usize) -> bool
+    ensures within { result ≡ true → place < length entries.now }
+    ensures below { result ≡ true → (d : Kept) → (slice_index_or entries.now place d).0 < n }
+    ensures past { result ≡ false → (d : Kept) → place < length entries.now
+        → n ≤ (slice_index_or entries.now place d).0 }
+{
+    place < entries.len() && (entries[place].0 as usize) < n
+}
+
+/// The value of a form on the first n variables, by its entries that aren't 0: the products added one after another.
+pub(crate) fn entries_value(
+    line: Line,
+    n: usize,
+    entries: &[(u32, Frac)],
+    values: &[Frac],
+) -> Result<Frac, OutOfRange>
+    requires kept { (len : ℕ) × AreKept 0 len entries.now }
+    requires values_long { n ≤ length values.now }
+    ensures { let operations = form_operations line n (entry_on entries.now) (value_at values.now) in
+        MatchResult result
+        (λ v. (first_overflow operations ≡ None) × (v ≡ form n (entry_on entries.now) (value_at values.now)))
+        (λ fault. first_overflow operations ≡ Some fault.place) }
+{
+    let mut total = Frac::zero();
+    let mut place = 0;
+    'places: while is_within(entries, place, n) {
+        match entry_step(line, total, entries[place], values) {
+            Ok(value) => total = value,
+            Err(fault) => return Err(fault),
+        }
+        place += 1;
+    }
+    Ok(total)
+}
