@@ -83,7 +83,7 @@ impl Dict {
             Ok(found) => found,
             Err(fault) => return Err(fault),
         };
-        let room = room_for(alloc, spare, standing)?;
+        let room = room_for(alloc, spare, standing, found.rows.as_slice())?;
         let sides = all_sides(alloc, spare, column_sides, row_sides)?;
         Ok(Dict {
             sides,

@@ -19,7 +19,7 @@ ghost use Rattle.cip_dict.specs.Written.{entering_in, other_operations, OthersWr
 use crate::costs::write_costs;
 use crate::entries::{step_to, sum};
 use crate::fault::{MoveFault, OutOfRange};
-use crate::forms::Form;
+use crate::forms::{Form, count_room};
 use crate::lines::write_solved;
 use crate::lists::{Lists, Room};
 use crate::rows::{take_rows, write_rows};
@@ -51,7 +51,8 @@ fn write_others(
 {
     let new = &room.entering;
     let rows = lists.rows.as_slice();
-    match write_rows(standing, i, j, q, new, rows, room.rows.as_mut_slice()) {
+    let others = room.rows.as_mut_slice();
+    match write_rows(standing, i, j, q, new, rows, others, &mut room.held) {
         Ok(()) => (),
         Err(fault) => return Err(fault),
     }
@@ -59,6 +60,40 @@ fn write_others(
     match write_costs(standing, i, j, q, new, costs, room.costs.as_mut_slice()) {
         Ok(()) => Ok(()),
         Err(fault) => Err(MoveFault::OutOfRange { place: fault.place }),
+    }
+}
+
+/// Writes the row of the variable j that enters, by that of i, which leaves, and counts what it has room for then.
+fn write_entering(
+    standing: &[Option<Stand>],
+    i: u32,
+    j: u32,
+    q: Frac,
+    row: &Form,
+    entering: &mut Form,
+    held: &mut usize,
+) -> Result<(), MoveFault>
+    requires few { length standing.now < 2 ^ 32 }
+    requires leaving { i < length standing.now }
+    requires nonzero { is_zero q ≡ false }
+    requires row_long { length row.now ≡ length standing.now }
+    ensures written { let operations =
+        each (length standing.now)
+        (solved_operations (Line.Row j) (basic_in standing.now) i j q (value_at row.now)) in
+        MatchResult result
+        (λ _. (first_overflow operations ≡ None)
+        × (entering.new ≡ table (length standing.now) (solved (basic_in standing.now) i j q (value_at row.now))))
+        (IsMoveFault operations) }
+    ensures long { length entering.new ≡ length standing.now }
+{
+    let before = entering.room();
+    match write_solved(standing, i, j, q, row, entering) {
+        Ok(()) => (),
+        Err(fault) => return Err(fault),
+    }
+    match count_room(entering, before, held) {
+        Ok(()) => Ok(()),
+        Err(_) => Err(MoveFault::NoMemory),
     }
 }
 
@@ -86,7 +121,7 @@ fn write_lines(
     ensures long { HasRoom standing.now room.new }
 {
     let row = &lists.rows[i as usize];
-    match write_solved(standing, i, j, q, row, &mut room.entering) {
+    match write_entering(standing, i, j, q, row, &mut room.entering, &mut room.held) {
         Ok(()) => (),
         Err(fault) => return Err(fault),
     }

@@ -16,7 +16,7 @@ ghost use Rattle.cip_dict.specs.State.{state, HasLists, HasRoom};
 use crate::entries::sum;
 use crate::exchange::value_at_stand;
 use crate::fault::{FirstFault, OutOfRange};
-use crate::forms::Form;
+use crate::forms::{Form, room_of};
 use crate::lines::is_basic;
 use crate::lists::{Lists, Room};
 use crate::spare::Spare;
@@ -358,11 +358,12 @@ pub(crate) fn all_sides(
     Ok(sides)
 }
 
-/// Room for what a move writes; `Err` where the memory was refused.
+/// Room for what a move writes, beside these rows; `Err` where the memory was refused.
 pub(crate) fn room_for(
     alloc: Global,
     spare: &mut Spare,
     standing: &[Option<Stand>],
+    lines: &[Form],
 ) -> Result<Room, AllocError>
     ensures { IfOk result (λ room. HasRoom standing.now room) }
 {
@@ -370,7 +371,9 @@ pub(crate) fn room_for(
     let rows = empty_rows(alloc, spare, standing)?;
     let costs = spare.zeros(alloc, standing.len())?;
     let values = spare.zeros(alloc, standing.len())?;
+    let held = room_of(lines).saturating_add(room_of(rows.as_slice()));
     Ok(Room {
+        held: held.saturating_add(entering.room()),
         entering,
         rows,
         costs,

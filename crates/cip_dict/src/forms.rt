@@ -15,6 +15,10 @@ use cip_frac::Frac;
 use std::alloc::{AllocError, Global};
 use std::marker::Model;
 
+/// The most entries that the lines of a dictionary and the room beside them may hold: a host lends more memory than it
+/// has, and then ends the program.
+const MOST_ROOM: usize = 1 << 26;
+
 /// The entries of a line on all variables; none where a variable has no line. Those that aren't 0 are kept, each with
 /// its variable, by rising variable.
 #[derive(Debug, Drop)]
@@ -59,6 +63,12 @@ impl Form {
         }
     }
 
+    /// How many entries it has room for.
+    #[inline(always)]
+    pub(crate) fn room(&self) -> usize {
+        self.entries.capacity()
+    }
+
     /// The entry on a variable.
     pub(crate) fn entry(&self, k: u32) -> Frac
         requires { k < length self.now }
@@ -85,5 +95,25 @@ impl Form {
             (λ fault. first_overflow operations ≡ Some fault.place) }
     {
         entries_value(line, n, self.entries.as_slice(), values)
+    }
+}
+
+/// How many entries lines have room for, and at most `usize::MAX`.
+pub(crate) fn room_of(forms: &[Form]) -> usize {
+    let mut room = 0_usize;
+    for form in forms {
+        room = room.saturating_add(form.room());
+    }
+    room
+}
+
+/// Counts what a line has room for now, where it had room for fewer entries before. `NoMemory` where all lines have
+/// room for more than `MOST_ROOM` then.
+pub(crate) fn count_room(form: &Form, before: usize, held: &mut usize) -> Result<(), AllocError> {
+    *held = held.saturating_add(form.room().saturating_sub(before));
+    if *held > MOST_ROOM {
+        Err(AllocError)
+    } else {
+        Ok(())
     }
 }

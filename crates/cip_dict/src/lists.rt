@@ -22,4 +22,6 @@ pub(crate) struct Room {
     pub(crate) rows: Vec<Form>,
     pub(crate) costs: Vec<Frac>,
     pub(crate) values: Vec<Frac>,
+    /// How many entries the lists of the rows and these have room for, and at most `usize::MAX`.
+    pub(crate) held: usize,
 }

@@ -10,7 +10,7 @@ ghost use Rattle.cip_dict.specs.Row.{form_changes, form_operations_in, written_f
 
 use crate::entries::vanishes;
 use crate::fault::MoveFault;
-use crate::forms::Form;
+use crate::forms::{Form, count_room};
 use crate::lines::{is_basic, write_substituted};
 use cip_dictionary::{Line, Stand};
 use cip_frac::Frac;
@@ -59,6 +59,43 @@ fn write_row(
     }
 }
 
+/// Writes the row of variable v, where it changes, and counts what it has room for then.
+fn write_counted(
+    standing: &[Option<Stand>],
+    i: u32,
+    j: u32,
+    q: Frac,
+    new: &Form,
+    v: usize,
+    row: &Form,
+    out: &mut Form,
+    held: &mut usize,
+) -> Result<(), MoveFault>
+    requires few { length standing.now < 2 ^ 32 }
+    requires within { v < length standing.now }
+    requires entering { j < length standing.now }
+    requires leaving { i < length standing.now }
+    requires new_long { length new.now ≡ length standing.now }
+    requires is_leaving { value_at new.now i ≡ q }
+    requires row_long { basic_in standing.now v ≡ true → length row.now ≡ length standing.now }
+    requires out_long { basic_in standing.now v ≡ true → length out.old ≡ length standing.now }
+    ensures written { MatchResult result
+        (λ _. (first_overflow (form_operations_in standing.now i j q (value_at new.now) v row.now) ≡ None)
+        × (out.new ≡ written_form standing.now i j q (value_at new.now) v row.now out.old))
+        (IsMoveFault (form_operations_in standing.now i j q (value_at new.now) v row.now)) }
+    ensures long { length out.new ≡ length out.old }
+{
+    let before = out.room();
+    match write_row(standing, i, j, q, new, v, row, out) {
+        Ok(()) => (),
+        Err(fault) => return Err(fault),
+    }
+    match count_room(out, before, held) {
+        Ok(()) => Ok(()),
+        Err(_) => Err(MoveFault::NoMemory),
+    }
+}
+
 /// Writes the rows that change; `new` is the row of the variable j that enters, and i leaves. Rows that don't change
 /// are left alone, and all keep their lengths.
 pub(crate) fn write_rows(
@@ -69,6 +106,7 @@ pub(crate) fn write_rows(
     new: &Form,
     rows: &[Form],
     out: &mut [Form],
+    held: &mut usize,
 ) -> Result<(), MoveFault>
     requires few { length standing.now < 2 ^ 32 }
     requires entering { j < length standing.now }
@@ -88,7 +126,7 @@ pub(crate) fn write_rows(
     ensures long { HasRows standing.now out.new }
 {
     for v in 0..standing.len() {
-        match write_row(standing, i, j, q, new, v, &rows[v], &mut out[v]) {
+        match write_counted(standing, i, j, q, new, v, &rows[v], &mut out[v], held) {
             Ok(()) => (),
             Err(fault) => return Err(fault),
         }

@@ -8,6 +8,9 @@ use cip_frac::Frac;
 use cip_lin::Sides;
 use std::alloc::{AllocError, Global};
 
+/// The most entries that a list may have room for to be kept.
+const MOST_SPARE: usize = 64;
+
 /// Lists of dictionaries that are done with, to be filled anew, so that little is allocated for the next one. What
 /// they held is of no account.
 #[derive(Debug, Drop)]
@@ -123,9 +126,11 @@ impl Spare {
         let _kept = self.forms.push(list).is_ok();
     }
 
-    /// Keeps the list of entries of a line that has room for some.
+    /// Keeps the list of entries of a line that has room for some. One with room for many goes: else the lists would
+    /// come to have room for as many as the longest line that each of them ever was.
     pub(crate) fn keep_form(&mut self, form: Form) {
-        if form.entries.capacity() > 0 {
+        let room = form.room();
+        if room > 0 && room <= MOST_SPARE {
             let _kept = self.entries.push(form.entries).is_ok();
         }
     }

@@ -25,7 +25,7 @@ returns-in-Err-clause-written c =
 
 pub returns-in-Ok-write_costs-clause-written : goal.returns-in-Ok-write_costs-clause-written
 returns-in-Ok-write_costs-clause-written c =
-    let rows = rw (c.as_slice-rows.ensures.value, c.as_mut_slice.ensures.value) at c.in-Ok.ensures.written in
+    let rows = rw (c.as_slice-rows.ensures.value, c.as_mut_slice-others.ensures.value) at c.in-Ok.ensures.written in
     let costs = rw c.as_slice-costs.ensures.value at c.in-Ok-write_costs.ensures in
     let line = line_new (length c.args.standing.now) c.args.room.now.entering (entering_in c.args.standing.now c.args.i c.args.j c.args.q c.args.lists.now) c.requires.is_entering {X = Unit {0}} Cost (basic_in c.args.standing.now) c.args.i c.args.j c.args.q (value_at c.args.lists.now.costs.items) c.write_costs.new.out (Ok tt) costs in (
       overflow-append _ _ (ap first_overflow (sym (form_operations_new c.args.standing.now c.args.i c.args.j c.args.q c.args.room.now.entering _ c.requires.is_entering (row_in c.args.lists.now.rows.items))) ∙ rows.0) ∙ line.0,
@@ -38,7 +38,7 @@ returns-in-Ok-write_costs-clause-written c =
 
 pub returns-in-Err-write_costs-clause-written : goal.returns-in-Err-write_costs-clause-written
 returns-in-Err-write_costs-clause-written c =
-    let rows = rw (c.as_slice-rows.ensures.value, c.as_mut_slice.ensures.value) at c.in-Ok.ensures.written in
+    let rows = rw (c.as_slice-rows.ensures.value, c.as_mut_slice-others.ensures.value) at c.in-Ok.ensures.written in
     let costs = rw c.as_slice-costs.ensures.value at c.in-Err-write_costs.ensures in
     overflow-append _ _ (ap first_overflow (sym (form_operations_new c.args.standing.now c.args.i c.args.j c.args.q c.args.room.now.entering _ c.requires.is_entering (row_in c.args.lists.now.rows.items))) ∙ rows.0)
     ∙ line_new (length c.args.standing.now) c.args.room.now.entering (entering_in c.args.standing.now c.args.i c.args.j c.args.q c.args.lists.now) c.requires.is_entering {X = Unit {0}} Cost (basic_in c.args.standing.now) c.args.i c.args.j c.args.q (value_at c.args.lists.now.costs.items) c.write_costs.new.out (Err c.in-Err-write_costs.fault) costs

@@ -20,9 +20,9 @@ loop-v-preserved c =
     let o : get_or c.loop-v.out c.loop-v.v c.index-out-v.result ≡ row_in c.args.out.now c.loop-v.v = sym c.index-out-v.is ∙ here ∙ c.loop-v.invariant.rest c.loop-v.v (omega arith) in
     record {
       fits = first_more c.loop-v.v _ c.loop-v.invariant.fits (rw r at c.in-Ok.ensures.written.0);
-      written = written_more _ c.loop-v.out c.loop-v.v c.write_row.new.out [] within c.loop-v.invariant.written (rw (r, o) at c.in-Ok.ensures.written.1);
-      rest = λ m l. get_or-set_other c.loop-v.out c.loop-v.v m c.write_row.new.out [] (λ (e : m ≡ c.loop-v.v). omega (arith, l, e)) ∙ c.loop-v.invariant.rest m (omega (arith, l));
-      long = HasRows-set c.args.standing.now c.loop-v.out c.loop-v.v c.write_row.new.out c.loop-v.invariant.long (c.in-Ok.ensures.long ∙ ap length (sym c.index-out-v.is ∙ here)) within;
+      written = written_more _ c.loop-v.out c.loop-v.v c.write_counted.new.out [] within c.loop-v.invariant.written (rw (r, o) at c.in-Ok.ensures.written.1);
+      rest = λ m l. get_or-set_other c.loop-v.out c.loop-v.v m c.write_counted.new.out [] (λ (e : m ≡ c.loop-v.v). omega (arith, l, e)) ∙ c.loop-v.invariant.rest m (omega (arith, l));
+      long = HasRows-set c.args.standing.now c.loop-v.out c.loop-v.v c.write_counted.new.out c.loop-v.invariant.long (c.in-Ok.ensures.long ∙ ap length (sym c.index-out-v.is ∙ here)) within;
     }
 
 pub returns-clause-written : goal.returns-clause-written
