@@ -1,6 +1,6 @@
 -- Loops from entry to entry keep what one over all variables would, and form it in the same order.
 use Rattle.std.proofs.Common.{◌≡◌, ◌≢◌, ℕ, zero, suc, ◌+◌, ◌-◌, ◌<◌, ◌≤◌, ◌==◌, Bool, true, false, cond, not, ◌&&◌, List, [], ◌∷◌, ◌++◌, length, None, Some, refl, sym, ap, ◌∙◌, subst, inl, inr, arith, add-one}
-use Rattle.std.proofs.lemmas.Bool.{cases_eq, eq-eqb, ne_eqb, eqb-true, cases_Bool}
+use Rattle.std.proofs.lemmas.Bool.{cases_eq, cases_lt, eq-eqb, ne_eqb, eqb-true, cases_Bool}
 use Rattle.std.proofs.lemmas.List.{append-nil}
 use Rattle.cip_rational.specs.Rational.{ℚ, zeroℚ, ◌*ℚ◌}
 use Rattle.cip_problem.specs.Activity.{value_at}
@@ -14,7 +14,8 @@ use Rattle.cip_dictionary.proofs.Overflow.{overflow-append}
 use Rattle.cip_dictionary.proofs.Tables.{at_table}
 use Rattle.cip_dictionary.proofs.Zeros.{is_zero_of, nonzero_of}
 use Rattle.cip_dict.specs.SparseLines.{Kept, entry_on, dense, kept_at, kept_of, AreKept}
-use Rattle.cip_dict.proofs.SparseLines.{sparse_lines_tell}
+use Rattle.cip_dict.proofs.SparseLines.{sparse_lines_tell, entry_kept}
+use Rattle.cip_dict.proofs.Places.{passed, met, none_below}
 use Rattle.cip_dict.proofs.Formed.{product_zero_right, sum_zero_right}
 use Rattle.cip_dict.proofs.Unchanged.{solved_none}
 
@@ -32,7 +33,7 @@ one_kept : (n : ℕ) (f : ℕ → ℚ) (b : Bool) → is_zero (f n) ≡ b → Ar
 one_kept n f true e h = rw append-nil (raise (kept_of n f) 0 n (suc n) h (omega arith))
 one_kept n f false e h = append_kept (kept_of n f) 0 n (suc n) (f n) h (omega arith) (omega arith) (nonzero_of (f n) e)
 
-all_kept : (n : ℕ) (f : ℕ → ℚ) → AreKept 0 n (kept_of n f)
+pub all_kept : (n : ℕ) (f : ℕ → ℚ) → AreKept 0 n (kept_of n f)
 all_kept zero f = tt
 all_kept (suc n) f = one_kept n f (is_zero (f n)) refl (all_kept n f)
 
@@ -83,3 +84,36 @@ pub only_leaving : (n i k : ℕ) (q : ℚ) (es : List Kept) → es ≡ (i, q) �
 only_leaving n i k q es e kept h s =
     let one : AreKept 0 n ((i, q) ∷ []) = subst (λ xs. AreKept 0 n xs) e kept in
     one.2 (sym (ap (λ t. cond t q zeroℚ) (eq-eqb i k (sym s))) ∙ sym (ap (λ xs. entry_on xs k) e) ∙ h)
+
+-- ---- a line is kept in one way
+
+zero_before : (e : Kept) (es : List Kept) (l n k : ℕ) → AreKept l n (e ∷ es) → k < e.0 → entry_on (e ∷ es) k ≡ zeroℚ
+zero_before e es l n k h w = none_below (e ∷ es) e.0 n k (omega arith, h.1, h.2, h.3) w
+
+pub kept_once : (es fs : List Kept) (l m n : ℕ) → AreKept l n es → AreKept m n fs → ((k : ℕ) → k < n → entry_on es k ≡ entry_on fs k) → es ≡ fs
+kept_once [] [] l m n h h' same = refl
+kept_once [] (f ∷ fs) l m n h h' same = absurd (h'.2 (sym (met f fs f.0 refl) ∙ sym (same f.0 h'.1)))
+kept_once (e ∷ es) [] l m n h h' same = absurd (h.2 (sym (met e es e.0 refl) ∙ same e.0 h.1))
+kept_once (e ∷ es) (f ∷ fs) l m n h h' same =
+    elim (cases_lt e.0 f.0) [
+      | inl low ↦ absurd (h.2 (sym (met e es e.0 refl) ∙ same e.0 h.1 ∙ zero_before f fs m n e.0 h' low))
+      | inr high ↦
+          elim (cases_eq e.0 f.0) [
+            | inl at ↦ (let number : e.1 ≡ f.1 = sym (met e es e.0 refl) ∙ same e.0 h.1 ∙ met f fs e.0 (sym at) in
+                let head : e ≡ f = pair_same e f at number in
+                let rest : es ≡ fs = kept_once es fs (suc e.0) (suc f.0) n h.3 h'.3 (λ k lk. elim (cases_lt e.0 k) [
+                  | inl past ↦ sym (passed e es k (λ (s : e.0 ≡ k). absurd (omega (arith, s, past)))) ∙ same k lk ∙ passed f fs k (λ (s : f.0 ≡ k). absurd (omega (arith, s, past, at)))
+                  | inr before ↦ none_below es (suc e.0) n k h.3 (omega (arith, before)) ∙ sym (none_below fs (suc f.0) n k h'.3 (omega (arith, before, at)))
+                ]) in
+                ap (λ (x : Kept). x ∷ es) head ∙ ap (λ xs. f ∷ xs) rest)
+            | inr ne ↦ absurd (h'.2 (sym (met f fs f.0 refl) ∙ sym (same f.0 h'.1) ∙ zero_before e es l n f.0 h (omega (arith, high, ne))))
+          ]
+    ]
+  where
+    pair_same : (e f : Kept) → e.0 ≡ f.0 → e.1 ≡ f.1 → e ≡ f
+    pair_same e f p q = ap (λ k. (k, e.1)) p ∙ ap (λ q. (f.0, q)) q
+
+-- what is kept of a line is what it keeps
+pub kept_back : (len n : ℕ) (es : List Kept) (f : ℕ → ℚ) → len ≡ n → AreKept 0 len es → ((k : ℕ) → k < n → f k ≡ entry_on es k) → es ≡ kept_of n f
+kept_back len n es f s h same =
+    kept_once es (kept_of n f) 0 0 n (subst (λ (m : ℕ). AreKept 0 m es) s h) (all_kept n f) (λ k l. sym (entry_kept n f k l ∙ same k l))

@@ -8,6 +8,7 @@ pub mod FormSums
 pub mod Formed
 pub mod Grown
 pub mod KeptLoops
+pub mod KeptRows
 pub mod LeastBasic
 pub mod Loops
 pub mod MoveFaults

@@ -1,11 +1,12 @@
 //! Dictionaries: the states of the simplex method, and the moves from one to the next.
-ghost use Rattle.std.specs.Prelude.{◌≡◌, ◌+◌, ◌<◌, ◌^◌, length, true, Some, None, MatchResult};
+ghost use Rattle.std.specs.Prelude.{◌≡◌, ◌+◌, ◌<◌, ◌^◌, length, true, Some, None, MatchResult, slice_index_or};
 ghost use Rattle.cip_problem.specs.Box.{sides_at};
 ghost use Rattle.cip_dictionary.specs.Dictionary as def;
 ghost use Rattle.cip_dictionary.specs.Exchange.{CanExchange, exchanged, CanFlip, flipped};
 ghost use Rattle.cip_dictionary.specs.FirstState.{first, first_operations};
 ghost use Rattle.cip_dict.specs.Entries.{AreWithin, system_in, IsFirstFault};
 ghost use Rattle.cip_dict.specs.MoveFaults.{IsMoveFault};
+ghost use Rattle.cip_dict.specs.SparseLines.{Kept, kept_of};
 ghost use Rattle.cip_dictionary.specs.Operations.{first_overflow};
 ghost use Rattle.cip_dictionary.specs.MoveOperations.{exchange_operations, flip_operations};
 
@@ -123,6 +124,26 @@ impl Dict {
         ensures { result ≡ def.entry self.now i j }
     {
         self.lists.rows[i as usize].entry(j)
+    }
+
+    /// On how many variables the basic variable i has an entry that isn't 0.
+    pub fn row_len(&self, i: u32) -> usize
+        requires within { i < def.size self.now }
+        requires basic { def.is_basic self.now i ≡ true }
+        ensures { result ≡ length (kept_of (def.size self.now) (def.entry self.now i)) }
+    {
+        self.lists.rows[i as usize].kept_len()
+    }
+
+    /// An entry of the basic variable i that isn't 0, with the variable on which it stands, by rising variable: the
+    /// first at 0.
+    pub fn row_entry(&self, i: u32, at: usize) -> (u32, Frac)
+        requires within { i < def.size self.now }
+        requires basic { def.is_basic self.now i ≡ true }
+        requires there { at < length (kept_of (def.size self.now) (def.entry self.now i)) }
+        ensures { (d : Kept) → result ≡ slice_index_or (kept_of (def.size self.now) (def.entry self.now i)) at d }
+    {
+        self.lists.rows[i as usize].kept_at(at)
     }
 
     /// The value of a variable.

@@ -1,14 +1,15 @@
 //! A line of a dictionary: its entries on all variables.
-ghost use Rattle.std.specs.Prelude.{◌≡◌, ◌<◌, ◌≤◌, [], length, Some, None, OnOk, MatchResult, replicate, slice_set};
+ghost use Rattle.std.specs.Prelude.{◌≡◌, ◌<◌, ◌≤◌, [], length, Some, None, OnOk, MatchResult, replicate, slice_set, slice_index_or};
 ghost use Rattle.cip_rational.specs.Rational.{zeroℚ};
 ghost use Rattle.cip_problem.specs.Activity.{value_at};
 ghost use Rattle.cip_dictionary.specs.Tables.{form};
 ghost use Rattle.cip_dictionary.specs.FirstState.{form_operations};
 ghost use Rattle.cip_dictionary.specs.Operations.{first_overflow};
+ghost use Rattle.cip_dict.specs.SparseLines.{Kept, kept_of};
 
 use crate::fault::OutOfRange;
 use crate::form_values::entries_value;
-use crate::kept::{entry_of, put_entry};
+use crate::kept::{entry_at, entry_of, put_entry};
 use crate::spare::Spare;
 use cip_dictionary::Line;
 use cip_frac::Frac;
@@ -75,6 +76,21 @@ impl Form {
         ensures { result ≡ value_at self.now k }
     {
         entry_of(self.entries.as_slice(), k)
+    }
+
+    /// How many entries aren't 0.
+    pub(crate) fn kept_len(&self) -> usize
+        ensures { result ≡ length (kept_of (length self.now) (value_at self.now)) }
+    {
+        self.entries.len()
+    }
+
+    /// An entry that isn't 0, with its variable, by rising variable.
+    pub(crate) fn kept_at(&self, at: usize) -> (u32, Frac)
+        requires { at < length (kept_of (length self.now) (value_at self.now)) }
+        ensures { (d : Kept) → result ≡ slice_index_or (kept_of (length self.now) (value_at self.now)) at d }
+    {
+        entry_at(self.entries.as_slice(), at)
     }
 
     /// Puts the entry on a variable. `Err` where memory was refused.

@@ -60,6 +60,15 @@ pub(crate) fn entry_of(entries: &[(u32, Frac)], k: u32) -> Frac
     entry_from(entries, place_from(entries, k), k)
 }
 
+/// The entry at a place, with its variable.
+#[inline(always)]
+pub(crate) fn entry_at(entries: &[(u32, Frac)], place: usize) -> (u32, Frac)
+    requires { place < length entries.now }
+    ensures { (d : Kept) → result ≡ slice_index_or entries.now place d }
+{
+    entries[place]
+}
+
 /// The place of the variable after k, where that of k is known.
 #[inline(always)]
 pub(crate) fn place_past(entries: &[(u32, Frac)], place: usize, k: u32) -> usize
