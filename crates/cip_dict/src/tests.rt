@@ -1,6 +1,7 @@
 //! Dictionaries of small programs, worked out by hand.
 ghost use Rattle.std.specs.Prelude.{◌≡◌, true};
 ghost use Rattle.cip_dictionary.specs.Dictionary.{CanStand};
+ghost use Rattle.cip_dict.specs.Entries.{AreWithin};
 
 use super::*;
 use cip_frac::Frac;
@@ -147,5 +148,96 @@ fn lists_that_were_used_hold_nothing(rt: HostRuntime) -> Result<(), Fail> {
     assert_eq!(rt; entry_at(&again, 2, 1), ratio(-3, 1));
     assert_eq!(rt; entry_at(&again, 2, 2), ratio(0, 1));
     assert_eq!(rt; value_of(&again, 2), ratio(0, 1));
+    Ok(())
+}
+
+// x and y from 0 with the cost x + y, the row r from 1 and the row s from 0, by their entries
+fn two_rows(alloc: Global, entries: &[(u32, u32, Frac)]) -> Option<Dict>
+    requires { AreWithin 2 2 entries.now }
+{
+    let mut spare = Spare::new(alloc);
+    let costs = [Frac::from(1), Frac::from(1)];
+    let rows = [from(1), from(0)];
+    let columns = [from(0), from(0)];
+    match Dict::first(alloc, &mut spare, entries, &rows, &columns, &costs) {
+        Ok(dict) => Some(dict),
+        Err(_) => None,
+    }
+}
+
+// an entry that a row keeps, where it keeps so many
+fn kept_entry(dict: &Dict, i: u32, at: usize) -> Option<(u32, Frac)> {
+    if (i as usize) >= dict.len() || dict.stand(i).is_some() || at >= dict.row_len(i) {
+        return None;
+    }
+    Some(dict.row_entry(i, at))
+}
+
+fn pair(k: u32, p: i128, q: i128) -> Option<(u32, Frac)> {
+    match Frac::new(p, q) {
+        Ok(entry) => Some((k, entry)),
+        Err(_) => None,
+    }
+}
+
+// s = x, where x = 1/2 r + 3/2 y
+#[test]
+fn a_row_grows(rt: HostRuntime) -> Result<(), Fail> {
+    let entries = [
+        (0, 0, Frac::from(2)),
+        (0, 1, Frac::from(-3)),
+        (1, 0, Frac::from(1)),
+    ];
+    let Some(mut dict) = two_rows(rt.alloc(), &entries) else {
+        return Err(Fail::new("a first state"));
+    };
+    assert_eq!(rt; kept_entry(&dict, 3, 0), pair(0, 1, 1));
+    assert_eq!(rt; kept_entry(&dict, 3, 1), None);
+    assert_eq!(rt; exchange(&mut dict, 2, 0, Stand::Low), Some(Ok(())));
+    assert_eq!(rt; kept_entry(&dict, 3, 0), pair(1, 3, 2));
+    assert_eq!(rt; kept_entry(&dict, 3, 1), pair(2, 1, 2));
+    assert_eq!(rt; kept_entry(&dict, 3, 2), None);
+    Ok(())
+}
+
+// r = x + y and s = x + y, so s = r where x has entered for r
+#[test]
+fn an_entry_that_cancels_is_not_kept(rt: HostRuntime) -> Result<(), Fail> {
+    let entries = [
+        (0, 0, Frac::from(1)),
+        (0, 1, Frac::from(1)),
+        (1, 0, Frac::from(1)),
+        (1, 1, Frac::from(1)),
+    ];
+    let Some(mut dict) = two_rows(rt.alloc(), &entries) else {
+        return Err(Fail::new("a first state"));
+    };
+    assert_eq!(rt; exchange(&mut dict, 2, 0, Stand::Low), Some(Ok(())));
+    assert_eq!(rt; kept_entry(&dict, 3, 0), pair(2, 1, 1));
+    assert_eq!(rt; kept_entry(&dict, 3, 1), None);
+    assert_eq!(rt; kept_entry(&dict, 0, 0), pair(1, -1, 1));
+    assert_eq!(rt; kept_entry(&dict, 0, 1), pair(2, 1, 1));
+    assert_eq!(rt; kept_entry(&dict, 0, 2), None);
+    Ok(())
+}
+
+// entries come in any order, the last of two counts, and 0 isn't kept
+#[test]
+fn entries_are_put_in_order(rt: HostRuntime) -> Result<(), Fail> {
+    let entries = [
+        (1, 1, Frac::from(5)),
+        (0, 1, Frac::from(-3)),
+        (0, 0, Frac::from(2)),
+        (1, 0, Frac::from(4)),
+        (0, 1, Frac::from(0)),
+        (1, 1, Frac::from(7)),
+    ];
+    let Some(dict) = two_rows(rt.alloc(), &entries) else {
+        return Err(Fail::new("a first state"));
+    };
+    assert_eq!(rt; kept_entry(&dict, 2, 0), pair(0, 2, 1));
+    assert_eq!(rt; kept_entry(&dict, 2, 1), None);
+    assert_eq!(rt; kept_entry(&dict, 3, 0), pair(0, 4, 1));
+    assert_eq!(rt; kept_entry(&dict, 3, 1), pair(1, 7, 1));
     Ok(())
 }
