@@ -1,11 +1,10 @@
 -- What the look of a node's box comes to.
-use Rattle.std.specs.Prelude.{◌≡◌, ℕ, List, length}
+use Rattle.std.specs.Prelude.{◌≡◌, ◌⊎◌, ℕ, Bool, List, length}
+use Rattle.cip_rational.specs.Rational.{ℚ}
 use Rattle.cip_problem.specs.Program.{Sides}
+use Rattle.cip_problem.specs.Box.{IsInBox}
 use Rattle.cip_problem.specs.Wholes.{AllHaveWholes}
 use Rattle.cip_node_rules.specs.OpenColumns.{is_open_at, IsFirstColumn, PassesNowhere, LacksWhole}
-use Rattle.cip_rational.specs.Rational.{ℚ}
-use Rattle.cip_problem.specs.Box.{IsInBox}
-use Rattle.std.specs.Prelude.{Bool, ◌⊎◌}
 use Rattle.cip_node.specs.declared.looks.Looked.{Looked}
 use Rattle.cip_node.specs.declared.looks.Looked.TheVariants.{Empty, Leaf, Open}
 
