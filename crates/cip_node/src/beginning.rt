@@ -10,6 +10,7 @@ ghost use Rattle.cip_node.specs.Cores.{IsReady};
 ghost use Rattle.cip_node.specs.KeptNodes.{cost_held, IsKept};
 
 use crate::cores::Core;
+use crate::starts::Starts;
 use cip_cert::Scratch;
 use cip_domain::DomainStore;
 use cip_frac::Frac;
@@ -100,6 +101,7 @@ impl<'a> Core<'a> {
             start,
             rows,
             scratch,
+            starts: Starts::new(alloc),
             tree,
             incumbent,
         })

@@ -11,13 +11,14 @@ ghost use Rattle.cip_node.specs.Bounding.{IsBounded};
 
 use crate::cores::Core;
 use cip_frac::Frac;
-use cip_node_bounds::{Mark, Relaxed, relax};
+use cip_node_bounds::{Mark, Relaxed, relax_from};
 use cip_node_rules::{are_whole, rounded_bound};
 use cip_tree::Node;
 use std::alloc::{AllocError, Global};
 
 impl<'a> Core<'a> {
-    /// Solves the linear program of the box in work. `Err` comes where memory was refused.
+    /// Solves the linear program of the box in work, from the start of the node in work. `Err` comes where memory was
+    /// refused.
     pub(crate) fn relaxed(&mut self, alloc: Global) -> Result<Relaxed, AllocError>
         requires place { IsWorkplace self.old.program.now self.old.rows.rows.items
             (length self.old.scratch.row.entries) self.old.pool.columns }
@@ -28,17 +29,24 @@ impl<'a> Core<'a> {
             (length self.new.scratch.row.entries)) }
         ensures place { IsWorkplace self.new.program.now self.new.rows.rows.items
             (length self.new.scratch.row.entries) self.new.pool.columns }
-        ensures frame { self.new ≡ record self.old { rows = self.new.rows; scratch = self.new.scratch } }
+        ensures frame { self.new ≡ record self.old {
+          rows = self.new.rows;
+          scratch = self.new.scratch;
+          starts = self.new.starts;
+        } }
     {
-        relax(
+        let (relaxed, last) = relax_from(
             alloc,
             self.program,
             &self.pool,
             &self.cutoff,
             self.domain.bounds(),
+            self.starts.given(),
             &mut self.rows,
             &mut self.scratch,
-        )
+        )?;
+        self.starts.hold(last);
+        Ok(relaxed)
     }
 
     /// Offers a point of a linear program, if it has whole values on whole columns.
@@ -157,6 +165,7 @@ impl<'a> Core<'a> {
         ensures frame { self.new ≡ record self.old {
           rows = self.new.rows;
           scratch = self.new.scratch;
+          starts = self.new.starts;
           tree = self.new.tree;
           incumbent = self.new.incumbent;
         } }

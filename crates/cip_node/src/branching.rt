@@ -68,7 +68,7 @@ impl<'a> Core<'a> {
             self.new.tree node mark)
             (λ _. IsOpenAgain self.new.program.now (cost_held self.new.incumbent) self.old.tree self.new.tree node) }
         ensures tree { StaysRooted self.old.tree self.new.tree }
-        ensures frame { self.new ≡ record self.old { tree = self.new.tree } }
+        ensures frame { self.new ≡ record self.old { tree = self.new.tree; starts = self.new.starts } }
     {
         if !does_matter(held_cost(&self.incumbent), node.bound()) {
             self.close_pruned(node);
@@ -81,6 +81,8 @@ impl<'a> Core<'a> {
             Some(Place { col, at }) => {
                 let (low, high) = self.split(node, col, at)?;
                 self.let_go();
+                let waiting = self.tree.open_count();
+                self.starts.hand_on(low, waiting);
                 Ok(NodeEnd::Split(low, high))
             }
         }

@@ -1,4 +1,5 @@
 //! What a search works with.
+use crate::starts::Starts;
 use cip_cert::Scratch;
 use cip_domain::{DomainStore, Mark};
 use cip_incumbent::Incumbent;
@@ -27,6 +28,8 @@ pub struct Core<'a> {
     pub rows: NodeRows,
     /// What checks work in.
     pub scratch: Scratch,
+    /// Where the linear programs of nodes start.
+    pub starts: Starts,
     /// The nodes, with the log.
     pub tree: Tree,
     /// The point held.

@@ -78,6 +78,7 @@ impl<'a> Core<'a> {
         ensures frame { self.new ≡ record self.old {
           rows = self.new.rows;
           scratch = self.new.scratch;
+          starts = self.new.starts;
           tree = self.new.tree;
           incumbent = self.new.incumbent;
         } }

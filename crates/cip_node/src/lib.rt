@@ -12,8 +12,10 @@ mod leaves;
 mod looks;
 mod process;
 mod settling;
+mod starts;
 mod steps;
 
 pub use beginning::root_bound;
 pub use cores::Core;
 pub use ends::{NodeEnd, NodeRecord};
+pub use starts::Starts;

@@ -15,13 +15,14 @@ use cip_tree::Node;
 use std::alloc::{AllocError, Global};
 
 impl<'a> Core<'a> {
-    /// Lets the oldest rows of the pool go, where it has too many.
-    fn age(&mut self)
+    /// Turns to a node: the oldest rows of the pool go, where it has too many, and the start of the node before.
+    fn turn_to(&mut self, node: &Node)
         requires ready { IsReady self.old }
         ensures ready { IsReady self.new }
-        ensures frame { self.new ≡ record self.old { pool = aged self.old.pool } }
+        ensures frame { self.new ≡ record self.old { pool = aged self.old.pool; starts = self.new.starts } }
     {
         self.pool.age();
+        self.starts.turn_to(node.id());
     }
 
     /// Makes the box of a node the box in work, and looks at it. `Err` comes where memory was refused.
@@ -67,6 +68,7 @@ impl<'a> Core<'a> {
         ensures frame { self.new ≡ record self.old {
           rows = self.new.rows;
           scratch = self.new.scratch;
+          starts = self.new.starts;
           tree = self.new.tree;
           incumbent = self.new.incumbent;
         } }
@@ -114,11 +116,12 @@ impl<'a> Core<'a> {
           domain = self.new.domain;
           rows = self.new.rows;
           scratch = self.new.scratch;
+          starts = self.new.starts;
           tree = self.new.tree;
           incumbent = self.new.incumbent;
         } }
     {
-        self.age();
+        self.turn_to(&node);
         match self.look_at(&node) {
             Err(error) => {
                 self.go_back(node);

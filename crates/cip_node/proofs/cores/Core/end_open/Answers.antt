@@ -5,7 +5,7 @@ use Rattle.cip_node.specs.Bounding.{IsAsGood, IsBounded}
 use Rattle.cip_node.specs.Cores.{rows_lent}
 use Rattle.cip_node.specs.KeptNodes.{cost_held}
 use Rattle.cip_node.proofs.EndLaws.{raised_work, end_from, open_from}
-use Rattle.cip_node.proofs.ReadyLaws.{ready_from, ready_tree}
+use Rattle.cip_node.proofs.ReadyLaws.{ready_from, ready_started, ready_tree}
 use Rattle.cip_node.proofs.cores.Core.end_open.Goals as goal
 
 pub close_empty-requires-clause-empty : goal.close_empty-requires-clause-empty
@@ -39,7 +39,7 @@ returns-in_Err-error-in-Ok-Open-clause-end c =
 
 pub returns-in_Err-error-in-Ok-Open-clause-ready : goal.returns-in_Err-error-in-Ok-Open-clause-ready
 returns-in_Err-error-in-Ok-Open-clause-ready c =
-    ready_tree c.bound.new.self c.branch-error.new.self c.branch-error.ensures.frame
+    ready_started c.bound.new.self c.branch-error.new.self c.branch-error.ensures.frame
     (ready_from c.args.self.now c.bound.new.self c.bound.ensures.frame c.bound.ensures.place c.bound.ensures.holding c.bound.ensures.no_dearer c.requires.ready)
 
 pub returns-clause-end : goal.returns-clause-end
@@ -53,5 +53,5 @@ returns-clause-end c =
 
 pub returns-clause-ready : goal.returns-clause-ready
 returns-clause-ready c =
-    ready_tree c.bound.new.self c.branch-error.new.self c.branch-error.ensures.frame
+    ready_started c.bound.new.self c.branch-error.new.self c.branch-error.ensures.frame
     (ready_from c.args.self.now c.bound.new.self c.bound.ensures.frame c.bound.ensures.place c.bound.ensures.holding c.bound.ensures.no_dearer c.requires.ready)

@@ -12,4 +12,4 @@ pub returns-in-Err-clause-no_dearer : goal.returns-in-Err-clause-no_dearer
 returns-in-Err-clause-no_dearer c =
     subst (λ s. IsNoDearer (cost_held s.incumbent) (cost_held c.args.self.now.incumbent)) (sym c.go_back.ensures.frame)
     (subst (λ s. IsNoDearer (cost_held s.incumbent) (cost_held c.args.self.now.incumbent)) (sym c.look_at.ensures.frame)
-    (subst (λ s. IsNoDearer (cost_held s.incumbent) (cost_held c.args.self.now.incumbent)) (sym c.age.ensures.frame) (itself (cost_held c.args.self.now.incumbent))))
+    (subst (λ s. IsNoDearer (cost_held s.incumbent) (cost_held c.args.self.now.incumbent)) (sym c.turn_to.ensures.frame) (itself (cost_held c.args.self.now.incumbent))))
