@@ -19,8 +19,8 @@ use cip_node_rules::{Place, chosen_place};
 use cip_tree::Node;
 use std::alloc::AllocError;
 
-/// Whether a bound matters beside the cost held.
-fn does_matter(held: Option<Frac>, bound: Option<Frac>) -> bool
+/// Whether a bound matters beside the cost held, as it does where it is below that, or where one of them isn't there.
+pub fn does_matter(held: Option<Frac>, bound: Option<Frac>) -> bool
     ensures { result ≡ matters held bound }
 {
     match (held, bound) {

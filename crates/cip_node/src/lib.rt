@@ -16,6 +16,8 @@ mod starts;
 mod steps;
 
 pub use beginning::root_bound;
+pub use branching::does_matter;
 pub use cores::Core;
 pub use ends::{NodeEnd, NodeRecord};
 pub use starts::Starts;
+pub use steps::held_cost;

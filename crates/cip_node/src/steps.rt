@@ -35,7 +35,7 @@ fn is_weaker(own: Option<Frac>, bound: Frac) -> bool
 }
 
 /// The cost held, if a point is.
-pub(crate) fn held_cost(incumbent: &Incumbent) -> Option<Frac>
+pub fn held_cost(incumbent: &Incumbent) -> Option<Frac>
     ensures { result ≡ cost_held incumbent.now }
 {
     match incumbent.held() {
