@@ -6,4 +6,6 @@ mod ends;
 #[cfg(test)]
 mod programs;
 #[cfg(test)]
+mod starting;
+#[cfg(test)]
 mod works;
