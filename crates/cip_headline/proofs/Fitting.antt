@@ -10,7 +10,7 @@ use Rattle.cip_problem.proofs.Points.AtPlaces.{IsInBox-long}
 use Rattle.cip_problem.specs.Log.{Entry}
 use Rattle.cip_leaves.specs.Leaf.{at_wholes, IsLeaf, IsWholeBetween}
 use Rattle.cip_leaf_programs.specs.WideLeaf.{Shown}
-use Rattle.cip_search_ends.specs.SearchEnds.{Ended, Optimal, Infeasible, Unbounded, NodeLimit, Wide, NoMemory, Held, Answer, IsHeldPoint, EndsAs, IsSettled, EndHolds}
+use Rattle.cip_search_ends.specs.SearchEnds.{Ended, Optimal, Infeasible, Unbounded, NodeLimit, Gap, Wide, NoMemory, Held, Answer, IsHeldPoint, EndsAs, IsSettled, EndHolds}
 use Rattle.cip_answers.specs.Figures.{EndFits, FitNames, names_of}
 use Rattle.cip_headline.specs.Printed.{IsPrintable, status_of, printed_held, figures_of}
 
@@ -37,22 +37,23 @@ leaf_fits program leaf formed h =
     let long : length leaf ≡ length (at_wholes program.integral program.bounds) = AllZip-long IsWholeBetween (at_wholes program.integral program.bounds) leaf h in
     long ∙ as_many program.integral program.bounds program.column_names (formed.bounds ∙ sym formed.column_names)
 
-module _ (program : Program) (box start : Option ℚ) (nodes : ℕ) (log : List Entry) (answer : Answer) (formed : IsWellFormed program) where
-  infeasible_held : answer.ended ≡ Infeasible → IsSettled program start nodes log answer → answer.held ≡ None
+module _ (program : Program) (box start : Option ℚ) (nodes : ℕ) (asked : Option ℚ) (log : List Entry) (answer : Answer) (formed : IsWellFormed program) where
+  infeasible_held : answer.ended ≡ Infeasible → IsSettled program start nodes asked log answer → answer.held ≡ None
   infeasible_held e s = (subst (EndsAs program start nodes log answer.held) e s.ends).2
 
-  shown_leaf : (leaf : List ℚ) (shown : Shown) → answer.ended ≡ Wide leaf shown → IsSettled program start nodes log answer → IsLeaf program leaf
+  shown_leaf : (leaf : List ℚ) (shown : Shown) → answer.ended ≡ Wide leaf shown → IsSettled program start nodes asked log answer → IsLeaf program leaf
   shown_leaf leaf shown e s = (subst (EndsAs program start nodes log answer.held) e s.ends).2.is_leaf
 
-  end_fits : (ended : Ended) → answer.ended ≡ ended → EndHolds program start nodes log answer ended → ((ray : List ℚ) → ended ≡ Unbounded ray → length ray ≡ columns program) → EndFits (names_of program) (figures_of program answer) (status_of program.row_names ended)
+  end_fits : (ended : Ended) → answer.ended ≡ ended → EndHolds program start nodes asked log answer ended → ((ray : List ℚ) → ended ≡ Unbounded ray → length ray ≡ columns program) → EndFits (names_of program) (figures_of program answer) (status_of program.row_names ended)
   end_fits Optimal e h n = tt
   end_fits Infeasible e h n = (none_held (printed_held program) answer.held (infeasible_held e h), none_held (printed program) answer.bound (h.no_bound e))
   end_fits (Unbounded ray) e h n = (n ray refl ∙ sym formed.column_names, none_held (printed program) answer.bound h.no_bound)
   end_fits NodeLimit e h n = tt
+  end_fits Gap e h n = tt
   end_fits (Wide leaf shown) e h n = leaf_fits program leaf formed (shown_leaf leaf shown e h)
   end_fits NoMemory e h n = tt
 
-  pub fits : IsPrintable program box start nodes log answer → FitNames (names_of program) (figures_of program answer)
+  pub fits : IsPrintable program box start nodes asked log answer → FitNames (names_of program) (figures_of program answer)
   fits p = record {
     point = point_fits program answer.held formed p.right.point;
     end_ = end_fits answer.ended refl p.right.end_ p.ray;

@@ -9,22 +9,22 @@ use Rattle.cip_problem.specs.Log.{Entry, IsLog}
 use Rattle.cip_answers.specs.Headline.{IsTrueRay}
 use Rattle.cip_answers.specs.Figures.{Figures, Held, Status, status_word}
 use Rattle.cip_search_ends.specs.SearchEnds.{Answer}
-use Rattle.cip_headline.specs.Headline.{HasOpen, EndsWith, EndsItself, AreTrue}
+use Rattle.cip_headline.specs.Headline.{HasOpen, EndsWith, EndsItself, AgreeAtLast, AreTrue}
 use Rattle.cip_headline.specs.Printed.{IsPrintable, figures_of}
 
 -- the figures that are printed of a right answer are true
 abbrev pub FiguresAreTrue : Type 0
 FiguresAreTrue =
-    (program : Program) (box start : Option ℚ) (nodes : ℕ) (log : List Entry) (answer : Answer)
-    → IsWellFormed program → IsPrintable program box start nodes log answer
-    → AreTrue program box start nodes log (figures_of program answer)
+    (program : Program) (box start : Option ℚ) (nodes : ℕ) (asked : Option ℚ) (log : List Entry) (answer : Answer)
+    → IsWellFormed program → IsPrintable program box start nodes asked log answer
+    → AreTrue program box start nodes asked log (figures_of program answer)
 
--- no two ends that come by what is left of a search say what holds
+-- no two ends that come by themselves say what holds, as long as cost and bound agree where nothing is left
 abbrev pub EndsExclude : Type 0
 EndsExclude =
-    (program : Program) (start : Option ℚ) (nodes : ℕ) (log : List Entry) (figures : Figures) (status other : Status)
-    → EndsItself status → EndsItself other
-    → EndsWith program start nodes log figures status → EndsWith program start nodes log figures other
+    (program : Program) (start : Option ℚ) (nodes : ℕ) (asked : Option ℚ) (log : List Entry) (figures : Figures)
+    (status other : Status) → AgreeAtLast program start log figures → EndsItself status → EndsItself other
+    → EndsWith program start nodes asked log figures status → EndsWith program start nodes asked log figures other
     → status_word status ≡ status_word other
 
 -- with an open node that matters a log is shorter than the most nodes that a search takes

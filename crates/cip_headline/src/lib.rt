@@ -11,7 +11,7 @@ pub fn figures_are_true()
     ensures { FiguresAreTrue }
 {}
 
-/// Optimal, infeasible, spent node budget and shown overflow: what two of these say never holds at once.
+/// Optimal, infeasible, spent node budget, reached gap and shown overflow: what two of these say never holds at once.
 pub fn ends_exclude()
     ensures { EndsExclude }
 {}
