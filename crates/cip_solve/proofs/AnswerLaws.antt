@@ -1,5 +1,5 @@
 -- The answers of a search are right.
-use Rattle.std.proofs.Common.{◌≡◌, ◌≢◌, inl, inr, ℕ, Bool, true, false, List, [], Option, None, Some, IfSome, refl, sym, ap, ◌∙◌, subst, if◌then◌else◌}
+use Rattle.std.proofs.Common.{◌≡◌, ◌≢◌, ◌↔◌, inl, inr, ℕ, Bool, true, false, List, [], Option, None, Some, IfSome, refl, sym, ap, ◌∙◌, subst, if◌then◌else◌}
 use Rattle.std.specs.Prelude.{option_map}
 use Rattle.cip_rational.specs.Rational.{ℚ, ◌≤ℚ◌}
 use Rattle.cip_rational.proofs.Rational.Order.{≤ℚ_antisymm}
@@ -40,11 +40,6 @@ is_point program columns best None h e = tt
 is_point program columns best (Some held) h e =
     let k = subst (λ b. HoldsPointOf program (record { columns = columns; best = b })) e h in
     record { feasible = k.feasible; cost = k.cost }
-
--- ---- a search that stands still
-
-abbrev Right : Program → Option ℚ → ℕ → List Entry → ends.Answer → Type 0
-Right program start nodes log answer = IsAnswer program start nodes log answer
 
 -- ---- refused memory
 
@@ -90,7 +85,7 @@ module _ (program : Program) (start : Option ℚ) (log : List Entry) where
   capped_least None (Some before) bound d l = absurd d
   capped_least (Some cost) before bound d l = capped_by before bound cost (is_no_more bound (Some cost)) refl d l
 
-module _ (program : Program) (start : Option ℚ) (nodes : ℕ) (state : State) (s : IsSearch program program stay IsWideLeaf start state) where
+module _ (program : Program) (start : Option ℚ) (nodes : ℕ) (asked : Option ℚ) (state : State) (s : IsSearch program program stay IsWideLeaf start state) where
   cover_there : (held : Option ends.Held) → state.held ≡ ends.cost_held held → IsCovered program start state.log (ends.cost_held held)
   cover_there held e = subst (λ h. IsCovered program start state.log h) e (logs.covered program program stay IsWideLeaf start state s)
 
@@ -99,7 +94,7 @@ module _ (program : Program) (start : Option ℚ) (nodes : ℕ) (state : State) 
   bound_below held (Some b) e l = bound_holds program start state.log (ends.cost_held held) b (cover_there held e) l
 
   -- where memory was refused
-  pub refused_is_right : (held : Option ends.Held) (bound : Option ℚ) → state.held ≡ ends.cost_held held → IfSome held (ends.IsHeldPoint program) → WasLeast program start state.log state.held bound → IsAnswer program start nodes state.log (record { ended = ends.NoMemory; held = held; bound = capped (ends.cost_held held) bound })
+  pub refused_is_right : (held : Option ends.Held) (bound : Option ℚ) → state.held ≡ ends.cost_held held → IfSome held (ends.IsHeldPoint program) → WasLeast program start state.log state.held bound → IsAnswer program start nodes asked state.log (record { ended = ends.NoMemory; held = held; bound = capped (ends.cost_held held) bound })
   refused_is_right held bound e p was =
       let d : IsNoDearer (ends.cost_held held) was.before = subst (λ h. IsNoDearer h was.before) e was.no_dearer in
       let l = capped_least program start state.log (ends.cost_held held) was.before bound d was.least in
@@ -113,6 +108,7 @@ module _ (program : Program) (start : Option ℚ) (nodes : ℕ) (state : State) 
           agree = λ f. absurd (cc);
           wide = λ leaf shown f. absurd (cc);
           ends = tt;
+          gap = λ f. absurd (f refl);
           cover = cover_there held e;
           entries = earlier_true program start state.log (ends.cost_held held) was.before d was.entries;
         };
@@ -120,7 +116,7 @@ module _ (program : Program) (start : Option ℚ) (nodes : ℕ) (state : State) 
       }
 
 -- where it stands still
-pub still_is_right : (program : Program) (start : Option ℚ) (nodes : ℕ) (state : State) (held : Option ends.Held) (bound : Option ℚ) (ended : ends.Ended) → IsSearch program program stay IsWideLeaf start state → IsAsGiven program start state → state.work ≡ [] → state.held ≡ ends.cost_held held → IfSome held (ends.IsHeldPoint program) → ComesTo program nodes state ended → (ended ≢ ends.Infeasible → IsLeastBound state.held (all_nodes state) bound) → (ended ≡ ends.Infeasible → bound ≡ None) → IsAnswer program start nodes state.log (record { ended = ended; held = held; bound = bound })
-still_is_right program start nodes state held bound ended s g idle e p comes least none =
-    ends_are_right program start nodes state (record { ended = ended; held = held; bound = bound }) s g
-    (record { idle = idle; held = e; point = p; comes = comes; least = least; no_bound = none })
+pub still_is_right : (program : Program) (start : Option ℚ) (nodes : ℕ) (asked : Option ℚ) (state : State) (held : Option ends.Held) (bound : Option ℚ) (ended : ends.Ended) → IsSearch program program stay IsWideLeaf start state → IsAsGiven program start state → state.work ≡ [] → state.held ≡ ends.cost_held held → IfSome held (ends.IsHeldPoint program) → ComesTo program nodes state ended → (ended ≢ ends.Infeasible → IsLeastBound state.held (all_nodes state) bound) → (ended ≡ ends.Infeasible → bound ≡ None) → (ended ≢ ends.NoMemory → (ended ≡ ends.Gap) ↔ ends.ReachesGap asked held bound) → IsAnswer program start nodes asked state.log (record { ended = ended; held = held; bound = bound })
+still_is_right program start nodes asked state held bound ended s g idle e p comes least none gap =
+    ends_are_right program start nodes asked state (record { ended = ended; held = held; bound = bound }) s g
+    (record { idle = idle; held = e; point = p; comes = comes; least = least; no_bound = none; gap = gap })

@@ -99,9 +99,9 @@ module _ (program : Program) (start : Option ℚ) (holds : IfSome start (IsBound
     entries = true_entries program start state searched given;
   }
 
-  pub nothing_searched : (nodes : ℕ) → IsSearchAnswer program start nodes [] [] (record { ended = ends.NoMemory; held = None; bound = start })
-  nothing_searched nodes = record {
-    right = refused_is_right program start nodes state searched None start refl tt was_least;
+  pub nothing_searched : (nodes : ℕ) (asked : Option ℚ) → IsSearchAnswer program start nodes asked [] [] (record { ended = ends.NoMemory; held = None; bound = start })
+  nothing_searched nodes asked = record {
+    right = refused_is_right program start nodes asked state searched None start refl tt was_least;
     within = omega arith;
     bound = λ t. no_more_itself start;
     searched = λ e. refl;

@@ -15,7 +15,7 @@ use Rattle.cip_search.proofs.Members.{none_in, here}
 use Rattle.cip_search_ends.specs.EndLaws.{IsShownNode, ComesTo}
 use Rattle.cip_report.specs.declared.figures.Shown.{Shown}
 use Rattle.cip_report.specs.declared.figures.Ended.{Ended}
-use Rattle.cip_report.specs.declared.figures.Ended.TheVariants.{Optimal, Infeasible, Unbounded, NodeLimit, Wide, NoMemory}
+use Rattle.cip_report.specs.declared.figures.Ended.TheVariants.{Optimal, Infeasible, Unbounded, NodeLimit, Gap, Wide, NoMemory}
 use Rattle.cip_solve.specs.AnswerOf.{shown_of, ended_of}
 use Rattle.cip_solve.specs.Bounds.{least_of, bound_held}
 use Rattle.cip_solve.specs.Stopping.{one_matters, IsShownWorst, EndsBy}
@@ -135,6 +135,7 @@ module _ (program : Program) (nodes : â„•) (state : State) (idle : state.work â‰
   comes_to NodeLimit h =
       let m = loud state.held state.open_ open_ o h in
       (spent (some_open m), m)
+  comes_to Gap h = absurd h
   comes_to (Wide leaf shown) h = (
     quiet state.held state.open_ open_ o h.0,
     loud state.held state.parked (worst_bound worst) p (worst_loud leaf.items shown h.1),

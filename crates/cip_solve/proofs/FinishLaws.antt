@@ -1,5 +1,5 @@
 -- The answers of a search, by how it stops.
-use Rattle.std.proofs.Common.{◌≡◌, ◌≢◌, ℕ, ◌<◌, false, List, [], ◌++◌, length, Option, None, Some, IfSome, MatchOption, refl, sym, ap, ◌∙◌, subst, arith, true≢false}
+use Rattle.std.proofs.Common.{◌≡◌, ◌≢◌, ℕ, ◌<◌, true, false, Bool, inl, inr, List, [], ◌++◌, length, Option, None, Some, IfSome, MatchOption, refl, sym, ap, ◌∙◌, subst, arith, true≢false}
 use Rattle.std.specs.Prelude.{option_map}
 use Rattle.cip_rational.specs.Rational.{ℚ}
 use Rattle.std.proofs.lemmas.Slice.Zip.{AllZip-long}
@@ -21,18 +21,21 @@ use Rattle.cip_tree.specs.Nodes.{Nodes}
 use Rattle.cip_node_bounds.specs.declared.relaxed.Mark.{Mark}
 use Rattle.cip_node.specs.KeptNodes.{cost_held, state_of, IsHolding}
 use Rattle.cip_report.specs.declared.figures.Ended.{Ended}
-use Rattle.cip_report.specs.declared.figures.Ended.TheVariants.{Optimal, Infeasible, Unbounded, NodeLimit, Wide, NoMemory}
+use Rattle.cip_report.specs.declared.figures.Ended.TheVariants.{Optimal, Infeasible, Unbounded, NodeLimit, Gap, Wide, NoMemory}
 use Rattle.cip_report.specs.declared.figures.Held.{Held}
 use Rattle.cip_solve.specs.AnswerOf.{held_of, ended_of}
 use Rattle.cip_solve.specs.Bounds.{least_of, bound_held, flat, capped}
+use Rattle.cip_solve.specs.Gaps.{reaches_gap}
 use Rattle.cip_solve.specs.Logs.{numbers_of}
 use Rattle.cip_solve.specs.Stopping.{one_matters, EndsBy, WasLeast, BestIs}
 use Rattle.cip_solve.specs.Worst.{worst_bound}
-use Rattle.cip_solve.specs.Searching.{IsStill, IsEndless, StopsStill, StopsEndless, StopsRefused, IsWithin}
+use Rattle.cip_solve.specs.Searching.{IsEndless, IsNear, StopsStill, StopsEndless, StopsRefused, IsWithin}
 use Rattle.cip_solve.specs.declared.worst.Worst.{Worst}
 use Rattle.cip_solve.proofs.AnswerLaws.{same_cost, is_point, refused_is_right, still_is_right}
 use Rattle.cip_solve.proofs.ComesTo.{open_least, parked_least, least_of_all, comes_to}
-use Rattle.cip_solve.proofs.TurnLaws.{flat_least, not_empty}
+use Rattle.cip_solve.proofs.GapLaws.{gap_reached, reached_gap}
+use Rattle.cip_solve.proofs.LeastBounds.{same_least}
+use Rattle.cip_solve.proofs.TurnLaws.{flat_least, not_empty, some_held, held_there, least_there}
 
 -- ---- room for the point held
 
@@ -45,11 +48,11 @@ held_room program holding n formed h e = held_long program holding.best n formed
 
 -- ---- what each answer has
 
-within_right : (program : Program) (start : Option ℚ) (nodes : ℕ) (log : List Entry) (marks : List (ℕ × Mark)) (answer : ends.Answer) → IsWithin program start nodes log marks → IsAnswer program start nodes log answer → (log ≡ [] → answer.ended ≡ ends.NoMemory) → ((ray : List ℚ) → answer.ended ≡ ends.Unbounded ray → (length ray ≡ columns program) × IsParkedLast log) → IsSearchAnswer program start nodes log (numbers_of marks) answer
-within_right program start nodes log marks answer w a s r = record {
+within_right : (program : Program) (start : Option ℚ) (nodes : ℕ) (asked : Option ℚ) (log : List Entry) (marks : List (ℕ × Mark)) (answer : ends.Answer) → IsWithin program start nodes log marks → IsAnswer program start nodes asked log answer → (log ≡ [] → answer.ended ≡ ends.NoMemory) → ((ray : List ℚ) → answer.ended ≡ ends.Unbounded ray → (length ray ≡ columns program) × IsParkedLast log) → IsSearchAnswer program start nodes asked log (numbers_of marks) answer
+within_right program start nodes asked log marks answer w a s r = record {
   right = a;
   within = w.most;
-  bound = answer_above program start nodes log answer w.lower a;
+  bound = answer_above program start nodes asked log answer w.lower a;
   searched = s;
   long = λ ray e. (r ray e).0;
   ray = λ ray e. (r ray e).1;
@@ -78,6 +81,7 @@ nothing_ends Optimal h = absurd (let s = h.2 in cc)
 nothing_ends Infeasible h = refl
 nothing_ends (Unbounded ray) h = absurd h
 nothing_ends NodeLimit h = absurd (true≢false (sym h))
+nothing_ends Gap h = absurd h
 nothing_ends (Wide leaf shown) h = absurd (let s = h.1.is_worst in cc)
 nothing_ends NoMemory h = absurd h
 
@@ -103,48 +107,113 @@ no_bound held waiting worst Infeasible e h =
     ∙ (ap (λ t. flat (least_of None (least_of t (worst_bound worst)))) first ∙ ap flat second)
 no_bound held waiting worst (Unbounded ray) e h = absurd h
 no_bound held waiting worst NodeLimit e h = absurd (cc)
+no_bound held waiting worst Gap e h = absurd h
 no_bound held waiting worst (Wide leaf shown) e h = absurd (cc)
 no_bound held waiting worst NoMemory e h = absurd h
 
-still_there : (program : Program) (nodes : ℕ) (tree_ : Nodes) (holding : Holding) (worst : Option Worst) (waiting : Option (Option ℚ)) (best : Option Held) (bound : Option ℚ) (ended : Ended) → IsStill program tree_.root.bound tree_ holding worst → (tree_.open_ ≢ [] → length tree_.log ≡ nodes) → MatchOption waiting (tree_.open_ ≡ []) (λ b. tree.IsLeastBound b tree_.open_) → bound ≡ flat (least_of (bound_held (cost_held holding)) (least_of waiting (worst_bound worst))) → EndsBy (cost_held holding) waiting worst ended → BestIs holding.best best → IsAnswer program tree_.root.bound nodes tree_.log (record { ended = ended_of ended; held = option_map held_of best; bound = bound })
-still_there program nodes tree_ holding worst waiting best bound ended k spent m b e is =
-    let held = cost_held holding in
-    let state = state_of tree_ held [] in
-    let all = least_of (bound_held held) (least_of waiting (worst_bound worst)) in
-    let o = open_least tree_.open_ waiting m in
-    still_is_right program tree_.root.bound nodes state (option_map held_of best) bound (ended_of ended) k.kept.searched k.kept.as_given refl (same_cost holding.best best is) (is_point program holding.columns holding.best best k.is_held.feasible is)
-    (comes_to program nodes state refl waiting worst o k.is_worst spent ended e)
-    (λ n. subst (IsLeastBound held (tree_.open_ ++ tree_.parked)) (sym b)
-    (flat_least held tree_.open_ tree_.parked all (λ f. n (ended_none held waiting worst ended f e))
-    (least_of_all held tree_.open_ tree_.parked waiting (worst_bound worst) o (parked_least program tree_.parked worst k.is_worst))))
-    (λ f. b ∙ no_bound held waiting worst ended f e)
+-- the gap that was asked for isn't reached
+not_gap : (held : Option ℚ) (waiting : Option (Option ℚ)) (worst : Option Worst) (ended : Ended) → EndsBy held waiting worst ended → ¬ (ended_of ended ≡ ends.Gap)
+not_gap held waiting worst Optimal h e = cc
+not_gap held waiting worst Infeasible h e = cc
+not_gap held waiting worst (Unbounded ray) h e = h
+not_gap held waiting worst NodeLimit h e = cc
+not_gap held waiting worst Gap h e = h
+not_gap held waiting worst (Wide leaf shown) h e = cc
+not_gap held waiting worst NoMemory h e = h
 
 not_endless : (held : Option ℚ) (waiting : Option (Option ℚ)) (worst : Option Worst) (ended : Ended) (ray : List ℚ) → EndsBy held waiting worst ended → ¬ (ended_of ended ≡ ends.Unbounded ray)
 not_endless held waiting worst Optimal ray h e = cc
 not_endless held waiting worst Infeasible ray h e = cc
 not_endless held waiting worst (Unbounded other) ray h e = h
 not_endless held waiting worst NodeLimit ray h e = cc
+not_endless held waiting worst Gap ray h e = h
 not_endless held waiting worst (Wide leaf shown) ray h e = cc
 not_endless held waiting worst NoMemory ray h e = h
 
--- a node was taken
-some_taken : (program : Program) (start : Option ℚ) (nodes : ℕ) (tree_ : Nodes) (holding : Holding) (worst : Option Worst) → 0 < nodes → StopsStill program start nodes tree_ holding worst → tree_.log ≢ []
-some_taken program start nodes tree_ holding worst l k e = omega (arith, l, k.spent (k.still.begun e), ap length e)
+-- ---- it stands still: what each end says of the gap that was asked for
 
-pub still_right : (program : Program) (nodes : ℕ) (marks : List (ℕ × Mark)) (tree_ : Nodes) (holding : Holding) (worst : Option Worst) (waiting : Option (Option ℚ)) (best : Option Held) (bound : Option ℚ) (ended : Ended) → StopsStill program tree_.root.bound nodes tree_ holding worst → IsWithin program tree_.root.bound nodes tree_.log marks → MatchOption waiting (tree_.open_ ≡ []) (λ b. tree.IsLeastBound b tree_.open_) → bound ≡ flat (least_of (bound_held (cost_held holding)) (least_of waiting (worst_bound worst))) → EndsBy (cost_held holding) waiting worst ended → BestIs holding.best best → IsSearchAnswer program tree_.root.bound nodes tree_.log (numbers_of marks) (record { ended = ended_of ended; held = option_map held_of best; bound = bound })
-still_right program nodes marks tree_ holding worst waiting best bound ended k w m b e is =
-    within_right program tree_.root.bound nodes tree_.log marks (record { ended = ended_of ended; held = option_map held_of best; bound = bound }) w
-    (still_there program nodes tree_ holding worst waiting best bound ended k.still k.spent m b e is)
-    (λ f. absurd (some_taken program tree_.root.bound nodes tree_ holding worst w.some k f))
-    (λ ray f. absurd (not_endless (cost_held holding) waiting worst ended ray e f))
+module _ (program : Program) (nodes : ℕ) (asked : Option ℚ) (tree_ : Nodes) (holding : Holding) (worst : Option Worst) (waiting : Option (Option ℚ)) (best : Option Held) (bound : Option ℚ) (k : StopsStill program tree_.root.bound nodes asked tree_ holding worst) (m : MatchOption waiting (tree_.open_ ≡ []) (λ b. tree.IsLeastBound b tree_.open_)) (b : bound ≡ flat (least_of (bound_held (cost_held holding)) (least_of waiting (worst_bound worst)))) (is : BestIs holding.best best) where
+  abbrev held : Option ℚ
+  held = cost_held holding
+
+  abbrev told : Option ends.Held
+  told = option_map held_of best
+
+  same : held ≡ ends.cost_held told
+  same = same_cost holding.best best is
+
+  reached_there : reaches_gap asked held bound ≡ true → ends.ReachesGap asked told bound
+  reached_there t = gap_reached asked told bound (ap (λ h. reaches_gap asked h bound) (sym same) ∙ t)
+
+  reached_back : ends.ReachesGap asked told bound → reaches_gap asked held bound ≡ true
+  reached_back r = ap (λ h. reaches_gap asked h bound) same ∙ reached_gap asked told bound r
+
+  -- it isn't reached: the budget is spent where a node is open
+  spent_there : reaches_gap asked held bound ≡ false → tree_.open_ ≢ [] → length tree_.log ≡ nodes
+  spent_there f n = elim (k.spent n) [
+    | inl e ↦ e
+    | inr near ↦ absurd (true≢false (sym (near_there near.1) ∙ f))
+  ]
+    where
+      near_there : IsNear asked tree_ holding → reaches_gap asked held bound ≡ true
+      near_there near =
+          let l = least_there program tree_ holding worst waiting bound (held_there asked held near.bound near.reached) k.still.is_worst m b in
+          ap (reaches_gap asked held) (same_least held (tree_.open_ ++ tree_.parked) bound near.bound l near.least) ∙ near.reached
+
+  far_right : (ended : Ended) → reaches_gap asked held bound ≡ false → EndsBy held waiting worst ended → IsAnswer program tree_.root.bound nodes asked tree_.log (record { ended = ended_of ended; held = told; bound = bound })
+  far_right ended f e =
+      let state = state_of tree_ held [] in
+      let all = least_of (bound_held held) (least_of waiting (worst_bound worst)) in
+      let o = open_least tree_.open_ waiting m in
+      still_is_right program tree_.root.bound nodes asked state told bound (ended_of ended) k.still.kept.searched k.still.kept.as_given refl same (is_point program holding.columns holding.best best k.still.is_held.feasible is)
+      (comes_to program nodes state refl waiting worst o k.still.is_worst (spent_there f) ended e)
+      (λ n. subst (IsLeastBound held (tree_.open_ ++ tree_.parked)) (sym b)
+      (flat_least held tree_.open_ tree_.parked all (λ g. n (ended_none held waiting worst ended g e))
+      (least_of_all held tree_.open_ tree_.parked waiting (worst_bound worst) o (parked_least program tree_.parked worst k.still.is_worst))))
+      (λ g. b ∙ no_bound held waiting worst ended g e)
+      (λ n. (λ g. absurd (not_gap held waiting worst ended e g), λ r. absurd (true≢false (sym (reached_back r) ∙ f))))
+
+  near_right : reaches_gap asked held bound ≡ true → IsAnswer program tree_.root.bound nodes asked tree_.log (record { ended = ends.Gap; held = told; bound = bound })
+  near_right t =
+      still_is_right program tree_.root.bound nodes asked (state_of tree_ held []) told bound ends.Gap k.still.kept.searched k.still.kept.as_given refl same (is_point program holding.columns holding.best best k.still.is_held.feasible is)
+      (some_held held (held_there asked held bound t))
+      (λ n. least_there program tree_ holding worst waiting bound (held_there asked held bound t) k.still.is_worst m b)
+      (λ g. absurd (cc))
+      (λ n. (λ g. reached_there t, λ r. refl))
+
+  -- by the test
+  by_test : (ended : Ended) (test : Bool) → reaches_gap asked held bound ≡ test → (reaches_gap asked held bound ≡ true → ended ≡ Gap) → (reaches_gap asked held bound ≡ false → EndsBy held waiting worst ended) → IsAnswer program tree_.root.bound nodes asked tree_.log (record { ended = ended_of ended; held = told; bound = bound })
+  by_test ended true t n f =
+      subst (λ e. IsAnswer program tree_.root.bound nodes asked tree_.log (record { ended = ended_of e; held = told; bound = bound })) (sym (n t)) (near_right t)
+  by_test ended false t n f = far_right ended t (f t)
+
+  -- and it isn't unbounded
+  no_ray : (ended : Ended) (test : Bool) → reaches_gap asked held bound ≡ test → (reaches_gap asked held bound ≡ true → ended ≡ Gap) → (reaches_gap asked held bound ≡ false → EndsBy held waiting worst ended) → (ray : List ℚ) → ¬ (ended_of ended ≡ ends.Unbounded ray)
+  no_ray ended true t n f ray e = let g : ends.Gap ≡ ends.Unbounded ray = sym (ap ended_of (n t)) ∙ e in cc
+  no_ray ended false t n f ray e = not_endless held waiting worst ended ray (f t) e
+
+-- a node was taken
+some_taken : (program : Program) (start : Option ℚ) (nodes : ℕ) (asked : Option ℚ) (tree_ : Nodes) (holding : Holding) (worst : Option Worst) → 0 < nodes → StopsStill program start nodes asked tree_ holding worst → tree_.log ≢ []
+some_taken program start nodes asked tree_ holding worst l k e = elim (k.spent (k.still.begun e)) [
+  | inl f ↦ omega (arith, l, f, ap length e)
+  | inr near ↦ near.0 e
+]
+
+pub still_right : (program : Program) (nodes : ℕ) (asked : Option ℚ) (marks : List (ℕ × Mark)) (tree_ : Nodes) (holding : Holding) (worst : Option Worst) (waiting : Option (Option ℚ)) (best : Option Held) (bound : Option ℚ) (ended : Ended) → StopsStill program tree_.root.bound nodes asked tree_ holding worst → IsWithin program tree_.root.bound nodes tree_.log marks → MatchOption waiting (tree_.open_ ≡ []) (λ b. tree.IsLeastBound b tree_.open_) → bound ≡ flat (least_of (bound_held (cost_held holding)) (least_of waiting (worst_bound worst))) → (reaches_gap asked (cost_held holding) bound ≡ true → ended ≡ Gap) → (reaches_gap asked (cost_held holding) bound ≡ false → EndsBy (cost_held holding) waiting worst ended) → BestIs holding.best best → IsSearchAnswer program tree_.root.bound nodes asked tree_.log (numbers_of marks) (record { ended = ended_of ended; held = option_map held_of best; bound = bound })
+still_right program nodes asked marks tree_ holding worst waiting best bound ended k w m b n f is =
+    let test = reaches_gap asked (cost_held holding) bound in
+    within_right program tree_.root.bound nodes asked tree_.log marks (record { ended = ended_of ended; held = option_map held_of best; bound = bound }) w
+    (by_test program nodes asked tree_ holding worst waiting best bound k m b is ended test refl n f)
+    (λ g. absurd (some_taken program tree_.root.bound nodes asked tree_ holding worst w.some k g))
+    (λ ray g. absurd (no_ray program nodes asked tree_ holding worst waiting best bound k m b is ended test refl n f ray g))
 
 -- ---- the other stops
 
 parked_some : (log : List Entry) → IsParkedLast log → log ≢ []
 parked_some log p e = not_empty p.before p.entry (sym p.placed ∙ e)
 
-endless_there : (program : Program) (start : Option ℚ) (nodes : ℕ) (log : List Entry) (cost : ℚ) (point ray : List ℚ) → StopsEndless program log point ray → cost ≡ cost_of program point → IsAnswer program start nodes log (record { ended = ends.Unbounded ray; held = Some (record { cost = cost; point = point }); bound = None })
-endless_there program start nodes log cost point ray k e =
+endless_there : (program : Program) (start : Option ℚ) (nodes : ℕ) (asked : Option ℚ) (log : List Entry) (cost : ℚ) (point ray : List ℚ) → StopsEndless program log point ray → cost ≡ cost_of program point → IsAnswer program start nodes asked log (record { ended = ends.Unbounded ray; held = Some (record { cost = cost; point = point }); bound = None })
+endless_there program start nodes asked log cost point ray k e =
     let a = falls_along program point ray k.falls.feasible k.falls.shown.is_ray in
     record {
       point = record { feasible = k.falls.feasible; cost = e };
@@ -159,23 +228,23 @@ ray_long program point ray formed e =
 same_ray : (ray other : List ℚ) → ends.Unbounded ray ≡ ends.Unbounded other → ray ≡ other
 same_ray ray other e = cc
 
-pub endless_right : (program : Program) (start : Option ℚ) (nodes : ℕ) (log : List Entry) (marks : List (ℕ × Mark)) (cost : ℚ) (point ray : List ℚ) → IsWellFormed program → StopsEndless program log point ray → IsWithin program start nodes log marks → cost ≡ cost_of program point → IsSearchAnswer program start nodes log (numbers_of marks) (record { ended = ends.Unbounded ray; held = Some (record { cost = cost; point = point }); bound = None })
-endless_right program start nodes log marks cost point ray formed k w e =
-    within_right program start nodes log marks (record { ended = ends.Unbounded ray; held = Some (record { cost = cost; point = point }); bound = None }) w
-    (endless_there program start nodes log cost point ray k e)
+pub endless_right : (program : Program) (start : Option ℚ) (nodes : ℕ) (asked : Option ℚ) (log : List Entry) (marks : List (ℕ × Mark)) (cost : ℚ) (point ray : List ℚ) → IsWellFormed program → StopsEndless program log point ray → IsWithin program start nodes log marks → cost ≡ cost_of program point → IsSearchAnswer program start nodes asked log (numbers_of marks) (record { ended = ends.Unbounded ray; held = Some (record { cost = cost; point = point }); bound = None })
+endless_right program start nodes asked log marks cost point ray formed k w e =
+    within_right program start nodes asked log marks (record { ended = ends.Unbounded ray; held = Some (record { cost = cost; point = point }); bound = None }) w
+    (endless_there program start nodes asked log cost point ray k e)
     (λ f. absurd (parked_some log k.last f))
     (λ other f. (subst (λ r. length r ≡ columns program) (same_ray ray other f) (ray_long program point ray formed k.falls), k.last))
 
-refused_there : (program : Program) (start : Option ℚ) (nodes : ℕ) (tree_ : Nodes) (holding : Holding) (best : Option Held) (bound last : Option ℚ) → StopsRefused program start tree_ holding bound → IsHolding program holding → BestIs holding.best best → last ≡ capped (cost_held holding) bound → IsAnswer program start nodes tree_.log (record { ended = ends.NoMemory; held = option_map held_of best; bound = last })
-refused_there program start nodes tree_ holding best bound last k h is e =
+refused_there : (program : Program) (start : Option ℚ) (nodes : ℕ) (asked : Option ℚ) (tree_ : Nodes) (holding : Holding) (best : Option Held) (bound last : Option ℚ) → StopsRefused program start tree_ holding bound → IsHolding program holding → BestIs holding.best best → last ≡ capped (cost_held holding) bound → IsAnswer program start nodes asked tree_.log (record { ended = ends.NoMemory; held = option_map held_of best; bound = last })
+refused_there program start nodes asked tree_ holding best bound last k h is e =
     let held = option_map held_of best in
     let same : cost_held holding ≡ ends.cost_held held = same_cost holding.best best is in
-    let right = refused_is_right program tree_.root.bound nodes (state_of tree_ (cost_held holding) []) k.searched held bound same (is_point program holding.columns holding.best best h.feasible is) (subst (λ s. WasLeast program s tree_.log (cost_held holding) bound) (sym k.start_is) k.was_least) in
-    subst (λ s. IsAnswer program s nodes tree_.log (record { ended = ends.NoMemory; held = held; bound = last })) k.start_is
-    (subst (λ t. IsAnswer program tree_.root.bound nodes tree_.log (record { ended = ends.NoMemory; held = held; bound = t })) (sym (e ∙ ap (λ t. capped t bound) same)) right)
+    let right = refused_is_right program tree_.root.bound nodes asked (state_of tree_ (cost_held holding) []) k.searched held bound same (is_point program holding.columns holding.best best h.feasible is) (subst (λ s. WasLeast program s tree_.log (cost_held holding) bound) (sym k.start_is) k.was_least) in
+    subst (λ s. IsAnswer program s nodes asked tree_.log (record { ended = ends.NoMemory; held = held; bound = last })) k.start_is
+    (subst (λ t. IsAnswer program tree_.root.bound nodes asked tree_.log (record { ended = ends.NoMemory; held = held; bound = t })) (sym (e ∙ ap (λ t. capped t bound) same)) right)
 
-pub refused_right : (program : Program) (start : Option ℚ) (nodes : ℕ) (marks : List (ℕ × Mark)) (tree_ : Nodes) (holding : Holding) (best : Option Held) (bound last : Option ℚ) → StopsRefused program start tree_ holding bound → IsHolding program holding → IsWithin program start nodes tree_.log marks → BestIs holding.best best → last ≡ capped (cost_held holding) bound → IsSearchAnswer program start nodes tree_.log (numbers_of marks) (record { ended = ends.NoMemory; held = option_map held_of best; bound = last })
-refused_right program start nodes marks tree_ holding best bound last k h w is e =
-    within_right program start nodes tree_.log marks (record { ended = ends.NoMemory; held = option_map held_of best; bound = last }) w
-    (refused_there program start nodes tree_ holding best bound last k h is e)
+pub refused_right : (program : Program) (start : Option ℚ) (nodes : ℕ) (asked : Option ℚ) (marks : List (ℕ × Mark)) (tree_ : Nodes) (holding : Holding) (best : Option Held) (bound last : Option ℚ) → StopsRefused program start tree_ holding bound → IsHolding program holding → IsWithin program start nodes tree_.log marks → BestIs holding.best best → last ≡ capped (cost_held holding) bound → IsSearchAnswer program start nodes asked tree_.log (numbers_of marks) (record { ended = ends.NoMemory; held = option_map held_of best; bound = last })
+refused_right program start nodes asked marks tree_ holding best bound last k h w is e =
+    within_right program start nodes asked tree_.log marks (record { ended = ends.NoMemory; held = option_map held_of best; bound = last }) w
+    (refused_there program start nodes asked tree_ holding best bound last k h is e)
     (λ f. refl) (λ ray f. absurd (cc))

@@ -20,7 +20,7 @@ use Rattle.cip_search_ends.specs.SearchEnds.{IsHeldPoint, EndHolds}
 use Rattle.cip_search_ends.specs.SearchAnswers.{IsSearchAnswer}
 use Rattle.cip_report.specs.Answers.{StandsAmong, EndedFits, AnswerFits}
 use Rattle.cip_report.specs.declared.figures.Ended.{Ended}
-use Rattle.cip_report.specs.declared.figures.Ended.TheVariants.{Optimal, Infeasible, Unbounded, NodeLimit, Wide, NoMemory}
+use Rattle.cip_report.specs.declared.figures.Ended.TheVariants.{Optimal, Infeasible, Unbounded, NodeLimit, Gap, Wide, NoMemory}
 use Rattle.cip_report.specs.declared.figures.Shown.{Shown}
 use Rattle.cip_report.specs.declared.figures.Shown.TheVariants.{Place, Moves}
 use Rattle.cip_report.specs.declared.figures.Held.{Held}
@@ -72,18 +72,19 @@ leaf_long program leaf formed h =
 
 -- ---- the end
 
-ended_fits : (program : Program) (start : Option ℚ) (nodes : ℕ) (log : List Entry) (answer : ends.Answer) (ended : Ended) → IsWellFormed program → answer.ended ≡ ended_of ended → ((ray : List ℚ) → answer.ended ≡ ends.Unbounded ray → length ray ≡ columns program) → EndHolds program start nodes log answer (ended_of ended) → EndedFits program ended
-ended_fits program start nodes log answer Optimal formed e r h = tt
-ended_fits program start nodes log answer Infeasible formed e r h = tt
-ended_fits program start nodes log answer (Unbounded ray) formed e r h = r ray.items e ∙ sym formed.column_names
-ended_fits program start nodes log answer NodeLimit formed e r h = tt
-ended_fits program start nodes log answer (Wide leaf shown) formed e r h =
+ended_fits : (program : Program) (start : Option ℚ) (nodes : ℕ) (asked : Option ℚ) (log : List Entry) (answer : ends.Answer) (ended : Ended) → IsWellFormed program → answer.ended ≡ ended_of ended → ((ray : List ℚ) → answer.ended ≡ ends.Unbounded ray → length ray ≡ columns program) → EndHolds program start nodes asked log answer (ended_of ended) → EndedFits program ended
+ended_fits program start nodes asked log answer Optimal formed e r h = tt
+ended_fits program start nodes asked log answer Infeasible formed e r h = tt
+ended_fits program start nodes asked log answer (Unbounded ray) formed e r h = r ray.items e ∙ sym formed.column_names
+ended_fits program start nodes asked log answer NodeLimit formed e r h = tt
+ended_fits program start nodes asked log answer Gap formed e r h = tt
+ended_fits program start nodes asked log answer (Wide leaf shown) formed e r h =
     let k = (subst (ends.EndsAs program start nodes log answer.held) e h.ends).2 in
     (leaf_long program leaf.items formed k.is_leaf, stands_there program leaf.items shown formed k.wide)
-ended_fits program start nodes log answer NoMemory formed e r h = tt
+ended_fits program start nodes asked log answer NoMemory formed e r h = tt
 
-pub answer_fits : (program : Program) (start : Option ℚ) (nodes : ℕ) (log : List Entry) (marked : List ℕ) (answer : Answer) → IsWellFormed program → IsSearchAnswer program start nodes log marked (answer_of answer) → AnswerFits program answer
-answer_fits program start nodes log marked answer formed h = record {
+pub answer_fits : (program : Program) (start : Option ℚ) (nodes : ℕ) (asked : Option ℚ) (log : List Entry) (marked : List ℕ) (answer : Answer) → IsWellFormed program → IsSearchAnswer program start nodes asked log marked (answer_of answer) → AnswerFits program answer
+answer_fits program start nodes asked log marked answer formed h = record {
   point = point_fits program answer.best formed h.right.point;
-  ended = ended_fits program start nodes log (answer_of answer) answer.ended formed refl h.long h.right.end_;
+  ended = ended_fits program start nodes asked log (answer_of answer) answer.ended formed refl h.long h.right.end_;
 }

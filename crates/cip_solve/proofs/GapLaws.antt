@@ -1,6 +1,6 @@
 -- A gap is reached exactly where the test says so.
-use Rattle.std.proofs.Common.{◌≡◌, ◌↔◌, Bool, true, false, not, ◌&&◌, Option, None, Some, refl, sym, ap, ◌∙◌, true≢false}
-use Rattle.cip_rational.specs.Rational.{ℚ, ◌-ℚ◌, ◌≤ℚ◌, ◌<ℚ◌, lt_test, le_test}
+use Rattle.std.proofs.Common.{◌≡◌, Bool, true, false, not, ◌&&◌, Option, None, Some, refl, sym, ap, ◌∙◌, true≢false}
+use Rattle.cip_rational.specs.Rational.{ℚ, ◌-ℚ◌, lt_test, le_test}
 use Rattle.cip_rational.specs.Range.{difference_overflows}
 use Rattle.cip_rational.proofs.Rational.Order.{test_of_lt, lt_of_test, test_of_le, le_of_test}
 use Rattle.cip_search_ends.specs.SearchEnds as ends

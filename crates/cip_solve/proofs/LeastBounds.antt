@@ -1,7 +1,11 @@
 -- The least bound of a search that stands still.
-use Rattle.std.proofs.Common.{◌≡◌, ◌⊎◌, inl, inr, true, false, Bool, Option, None, Some, refl, sym, ◌∙◌, subst, if◌then◌else◌}
+use Rattle.std.proofs.Common.{◌≡◌, ◌⊎◌, inl, inr, true, false, Bool, Option, None, Some, refl, sym, ap, ◌∙◌, subst, if◌then◌else◌}
+use Rattle.std.specs.Prelude.{List}
 use Rattle.cip_rational.specs.Rational.{ℚ}
+use Rattle.cip_rational.proofs.Rational.Order.{≤ℚ_antisymm}
+use Rattle.cip_problem.specs.Log.{Node}
 use Rattle.cip_leaves.specs.Searched.{NoMore, IsCostHeld}
+use Rattle.cip_search.specs.Endings.{IsBoundOfOne, IsLeastBound}
 use Rattle.cip_search.proofs.Bounds.{no_more_itself}
 use Rattle.cip_search.proofs.Relaxed.{no_more_trans}
 use Rattle.cip_solve.specs.Bounds.{is_no_more, least_of, bound_held}
@@ -56,3 +60,19 @@ least_held (Some cost) = (
   record { cost = cost; is_held = refl; is_bound = refl },
   λ o c. subst (NoMore (Some cost)) (c.is_held ∙ sym c.is_bound) (no_more_itself (Some cost)),
 )
+
+-- ---- there is one least bound
+
+no_more_both : (bound other : Option ℚ) → NoMore bound other → NoMore other bound → bound ≡ other
+no_more_both None None n m = refl
+no_more_both None (Some other) n m = absurd m
+no_more_both (Some bound) None n m = absurd n
+no_more_both (Some bound) (Some other) n m = ap Some (≤ℚ_antisymm n m)
+
+no_more_one : (held : Option ℚ) (nodes : List Node) (bound other : Option ℚ) → IsLeastBound held nodes bound → IsCostHeld held other ⊎ IsBoundOfOne nodes other → NoMore bound other
+no_more_one held nodes bound other l (inl c) = subst (NoMore bound) (sym c.is_bound) (l.cost c.cost c.is_held)
+no_more_one held nodes bound other l (inr b) = subst (NoMore bound) (sym b.is_bound) (l.each b.node b.among)
+
+pub same_least : (held : Option ℚ) (nodes : List Node) (bound other : Option ℚ) → IsLeastBound held nodes bound → IsLeastBound held nodes other → bound ≡ other
+same_least held nodes bound other l m =
+    no_more_both bound other (no_more_one held nodes bound other l m.one) (no_more_one held nodes other bound m l.one)

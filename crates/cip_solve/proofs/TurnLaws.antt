@@ -1,9 +1,10 @@
 -- A search from one node to the next.
-use Rattle.std.proofs.Common.{◌≡◌, ◌≢◌, ℕ, ◌+◌, ◌-◌, drop, IfSome, Bool, false, not, is_some, true≢false, List, [], ◌∷◌, ◌++◌, length, Option, None, Some, MatchOption, refl, sym, ap, ◌∙◌, subst, arith}
+use Rattle.std.proofs.Common.{◌≡◌, ◌≢◌, ℕ, ◌+◌, ◌-◌, ◌≤◌, drop, IfSome, Bool, true, false, not, is_some, IsSome, true≢false, List, [], ◌∷◌, ◌++◌, length, Option, None, Some, MatchOption, refl, sym, ap, ◌∙◌, subst, arith}
 use Rattle.std.proofs.Math.Seq.{drop-nil}
 use Rattle.cip_rational.specs.Rational.{ℚ}
 use Rattle.cip_rational.proofs.Rational.Order.{≤ℚ_refl}
 use Rattle.cip_problem.specs.Program.{Program}
+use Rattle.cip_problem.specs.WellFormed.{columns}
 use Rattle.cip_problem.specs.Log.{End, Split, Closed, Parked, Entry, Node}
 use Rattle.cip_cert.specs.Lent.{Lent}
 use Rattle.cip_cuts.specs.Improving.{IsNoDearer}
@@ -27,9 +28,10 @@ use Rattle.cip_node.specs.declared.cores.Core.{Core}
 use Rattle.cip_node.specs.declared.ends.NodeEnd.{NodeEnd}
 use Rattle.cip_node.specs.declared.ends.NodeEnd.TheVariants as by
 use Rattle.cip_solve.specs.Bounds.{least_of, bound_held, flat}
+use Rattle.cip_solve.specs.Gaps.{reaches_gap}
 use Rattle.cip_solve.specs.Logs.{marks_by}
 use Rattle.cip_solve.specs.Solved.{own_rows}
-use Rattle.cip_solve.specs.Searching.{IsStill, IsTold, StopsEndless, StopsRefused, StopsAs, IsKeptAs}
+use Rattle.cip_solve.specs.Searching.{IsStill, IsTold, IsNear, StopsEndless, StopsRefused, StopsAs, IsKeptAs}
 use Rattle.cip_solve.specs.Stopping.{WasLeast}
 use Rattle.cip_solve.specs.Worst.{IsWorst, worst_bound}
 use Rattle.cip_solve.specs.declared.worst.Worst.{Worst}
@@ -56,6 +58,38 @@ waiting_least program tree_ held worst None m n w = absurd (n refl)
 waiting_least program tree_ held worst (Some b) m n w =
     flat_least held tree_.open_ tree_.parked (least_of (bound_held held) (least_of (Some b) (worst_bound worst))) (some_left held b (worst_bound worst))
     (least_of_all held tree_.open_ tree_.parked (Some b) (worst_bound worst) (open_least tree_.open_ (Some b) m) (parked_least program tree_.parked worst w))
+
+-- ---- the gap that was asked for is reached
+
+-- then a point is held
+pub held_there : (asked held bound : Option ℚ) → reaches_gap asked held bound ≡ true → held ≢ None
+held_there None held bound e f = absurd (true≢false (sym e))
+held_there (Some gap) None bound e f = absurd (true≢false (sym e))
+held_there (Some gap) (Some cost) bound e f = absurd (cc)
+
+pub some_held : (held : Option ℚ) → held ≢ None → IsSome held
+some_held None n = absurd (n refl)
+some_held (Some cost) n = refl
+
+held_left : (held : Option ℚ) (other : Option (Option ℚ)) → held ≢ None → least_of (bound_held held) other ≢ None
+held_left None other n e = n refl
+held_left (Some cost) None n e = absurd (cc)
+held_left (Some cost) (Some bound) n e = absurd (cc)
+
+pub least_there : (program : Program) (tree_ : Nodes) (holding : Holding) (worst : Option Worst) (waiting : Option (Option ℚ)) (bound : Option ℚ) → cost_held holding ≢ None → IsWorst program tree_.parked worst → MatchOption waiting (tree_.open_ ≡ []) (λ b. tree.IsLeastBound b tree_.open_) → bound ≡ flat (least_of (bound_held (cost_held holding)) (least_of waiting (worst_bound worst))) → IsLeastBound (cost_held holding) (tree_.open_ ++ tree_.parked) bound
+least_there program tree_ holding worst waiting bound n w m e =
+    let held = cost_held holding in
+    let others = least_of waiting (worst_bound worst) in
+    subst (IsLeastBound held (tree_.open_ ++ tree_.parked)) (sym e)
+    (flat_least held tree_.open_ tree_.parked (least_of (bound_held held) others) (held_left held others n)
+    (least_of_all held tree_.open_ tree_.parked waiting (worst_bound worst) (open_least tree_.open_ waiting m) (parked_least program tree_.parked worst w)))
+
+pub near_there : (program : Program) (start : Option ℚ) (asked : Option ℚ) (tree_ : Nodes) (holding : Holding) (worst : Option Worst) (waiting : Option (Option ℚ)) (bound : Option ℚ) → IsStill program start tree_ holding worst → MatchOption waiting (tree_.open_ ≡ []) (λ b. tree.IsLeastBound b tree_.open_) → bound ≡ flat (least_of (bound_held (cost_held holding)) (least_of waiting (worst_bound worst))) → reaches_gap asked (cost_held holding) bound ≡ true → IsNear asked tree_ holding
+near_there program start asked tree_ holding worst waiting bound k m e t = record {
+  bound = bound;
+  least = least_there program tree_ holding worst waiting bound (held_there asked (cost_held holding) bound t) k.is_worst m e;
+  reached = t;
+}
 
 -- ---- memory was refused
 
@@ -125,9 +159,9 @@ module _ (program : Program) (old : Nodes) (open_ : List Node) (taken : List (Op
   quiet_after next bound end e p n s =
       still_after next bound end e s (subst (λ l. IsWorst program l next) (sym p) (subst (IsWorst program old.parked) (sym n) k.is_worst))
 
-  abbrev Turned : ℕ → Option Worst → Option Stop → Type 0
-  Turned nodes next stop =
-      MatchOption stop (IsStill program new.root.bound new after next × (length new.log ≡ length old.log + 1)) (StopsAs program new.root.bound nodes new after next)
+  abbrev Turned : ℕ → Option ℚ → Option Worst → Option Stop → Type 0
+  Turned nodes asked next stop =
+      MatchOption stop (IsStill program new.root.bound new after next × (length new.log ≡ length old.log + 1)) (StopsAs program new.root.bound nodes asked new after next)
 
   endless_after : (point ray : List ℚ) → EndsEndless program (taken_up old open_ taken) new node point ray → StopsEndless program new.log point ray
   endless_after point ray e = record {
@@ -136,32 +170,32 @@ module _ (program : Program) (old : Nodes) (open_ : List Node) (taken : List (Op
     falls = record { feasible = e.feasible; shown = e.shown };
   }
 
-  turned_by : (nodes : ℕ) (lent : Lent) (room : ℕ) (mark : Option Mark) (next : Option Worst) (stop : Option Stop) (end : NodeEnd) → IsKeptAs worst next end stop → IsEnd program (cost_held after) lent room (taken_up old open_ taken) new node mark end → Turned nodes next stop
-  turned_by nodes lent room mark next stop by.Pruned a h = subst (Turned nodes next) (sym a.1) (quiet_after next h.bound Closed h.entry h.entry.parked a.0 h.kept)
-  turned_by nodes lent room mark next stop by.Empty a h = subst (Turned nodes next) (sym a.1) (quiet_after next h.bound Closed h.entry h.entry.parked a.0 h.kept)
-  turned_by nodes lent room mark next stop by.Solved a h = subst (Turned nodes next) (sym a.1) (quiet_after next h.bound Closed h.entry h.entry.parked a.0 h.kept)
-  turned_by nodes lent room mark next stop (by.Split low high) a h =
-      subst (Turned nodes next) (sym a.1) (quiet_after next h.bound (Split h.column h.at low high) h.entry h.entry.parked a.0 h.kept)
-  turned_by nodes lent room mark next stop (by.Parked leaf bound shown) a h =
-      subst (Turned nodes next) (sym a.1)
+  turned_by : (nodes : ℕ) (asked : Option ℚ) (lent : Lent) (room : ℕ) (mark : Option Mark) (next : Option Worst) (stop : Option Stop) (end : NodeEnd) → IsKeptAs worst next end stop → IsEnd program (cost_held after) lent room (taken_up old open_ taken) new node mark end → Turned nodes asked next stop
+  turned_by nodes asked lent room mark next stop by.Pruned a h = subst (Turned nodes asked next) (sym a.1) (quiet_after next h.bound Closed h.entry h.entry.parked a.0 h.kept)
+  turned_by nodes asked lent room mark next stop by.Empty a h = subst (Turned nodes asked next) (sym a.1) (quiet_after next h.bound Closed h.entry h.entry.parked a.0 h.kept)
+  turned_by nodes asked lent room mark next stop by.Solved a h = subst (Turned nodes asked next) (sym a.1) (quiet_after next h.bound Closed h.entry h.entry.parked a.0 h.kept)
+  turned_by nodes asked lent room mark next stop (by.Split low high) a h =
+      subst (Turned nodes asked next) (sym a.1) (quiet_after next h.bound (Split h.column h.at low high) h.entry h.entry.parked a.0 h.kept)
+  turned_by nodes asked lent room mark next stop (by.Parked leaf bound shown) a h =
+      subst (Turned nodes asked next) (sym a.1)
       (still_after next bound Parked h.entry h.kept (worst_more program (cost_held after) (taken_up old open_ taken) new node leaf.items bound (shown_as shown) worst next h k.is_worst a.0))
-  turned_by nodes lent room mark next stop (by.Ray point ray) a h = subst (Turned nodes next) (sym a) (endless_after point.items ray.items h)
+  turned_by nodes asked lent room mark next stop (by.Ray point ray) a h = subst (Turned nodes asked next) (sym a) (endless_after point.items ray.items h)
 
 -- ---- a turn
 
 module _ (program : Program) (old mid new : Nodes) (before after : Holding) (worst : Option Worst) (node : TakenNode) (k : IsStill program old.root.bound old before worst) (held : IsHolding program after) (is_mid : mid ≡ taken_up old mid.open_ mid.taken) where
   -- it ended
-  pub worked_turn : (lent : Lent) (room : ℕ) (mark : Option Mark) (next : Option Worst) (stop : Option Stop) (end : NodeEnd) → IsWorked program lent room mid new before after node mark end → IsKeptAs worst next end stop → (nodes : ℕ) → MatchOption stop (IsStill program new.root.bound new after next × (length new.log ≡ length old.log + 1)) (StopsAs program new.root.bound nodes new after next)
-  worked_turn lent room mark next stop end w a nodes =
+  pub worked_turn : (lent : Lent) (room : ℕ) (mark : Option Mark) (next : Option Worst) (stop : Option Stop) (end : NodeEnd) → IsWorked program lent room mid new before after node mark end → IsKeptAs worst next end stop → (nodes : ℕ) (asked : Option ℚ) → MatchOption stop (IsStill program new.root.bound new after next × (length new.log ≡ length old.log + 1)) (StopsAs program new.root.bound nodes asked new after next)
+  worked_turn lent room mark next stop end w a nodes asked =
       let h = subst (λ m. IsWorked program lent room m new before after node mark end) is_mid w in
-      turned_by program old mid.open_ mid.taken new before after worst node k held h.rooted nodes lent room mark next stop end a h.ended
+      turned_by program old mid.open_ mid.taken new before after worst node k held h.rooted nodes asked lent room mark next stop end a h.ended
 
-  pub worked_told : (lent : Lent) (room : ℕ) (mark : Option Mark) (end : NodeEnd) (marks : List (ℕ × Mark)) → IsWorked program lent room mid new before after node mark end → IfSome mark (IsMark program (own_rows program) (box_of mid node) room) → IsTold program old.root.bound old.log marks → IsTold program new.root.bound new.log (marks ++ marks_by node.number mark)
-  worked_told lent room mark end marks w m t =
+  pub worked_told : (lent : Lent) (room : ℕ) (mark : Option Mark) (end : NodeEnd) (marks : List (ℕ × Mark)) → columns program ≤ room → IsWorked program lent room mid new before after node mark end → IfSome mark (IsMark program (own_rows program) (box_of mid node) room) → IsTold program old.root.bound old.log marks → IsTold program new.root.bound new.log (marks ++ marks_by node.number mark)
+  worked_told lent room mark end marks r w m t =
       let up = taken_up old mid.open_ mid.taken in
       let h = subst (λ m. IsWorked program lent room m new before after node mark end) is_mid w in
       subst (λ (n : Node). IsTold program n.bound new.log (marks ++ marks_by node.number mark)) (sym h.rooted.root)
-      (told_more program lent room up new (cost_held before) node mark marks h.kept (entry_of_end program (cost_held after) lent room up new node mark end h.ended)
+      (told_more program lent room up new (cost_held before) node mark marks r h.kept (entry_of_end program (cost_held after) lent room up new node mark end h.ended)
       (subst (λ m. IfSome mark (IsMark program (own_rows program) (box_of m node) room)) is_mid m) t)
 
   pub worked_longer : (lent : Lent) (room : ℕ) (mark : Option Mark) (end : NodeEnd) → IsWorked program lent room mid new before after node mark end → length new.log ≡ length old.log + 1
@@ -227,17 +261,17 @@ module _ (old mid new : Core) (taken : mid ≡ record old { tree = mid.tree }) (
     worked : IsWorked new.program.now lent room mid.tree new.tree old.incumbent new.incumbent node mark end
     worked = record { kept = kept_there kept; rooted = rooted; ended = ended }
 
-    pub core_turn : (next : Option Worst) (stop : Option Stop) → IsKeptAs worst next end stop → (nodes : ℕ) → MatchOption stop (IsStill new.program.now new.tree.root.bound new.tree new.incumbent next × (length new.tree.log ≡ length old.tree.log + 1)) (StopsAs new.program.now new.tree.root.bound nodes new.tree new.incumbent next)
-    core_turn next stop a nodes =
-        worked_turn new.program.now old.tree mid.tree new.tree old.incumbent new.incumbent worst node still_there held is_mid lent room mark next stop end worked a nodes
+    pub core_turn : (next : Option Worst) (stop : Option Stop) → IsKeptAs worst next end stop → (nodes : ℕ) (asked : Option ℚ) → MatchOption stop (IsStill new.program.now new.tree.root.bound new.tree new.incumbent next × (length new.tree.log ≡ length old.tree.log + 1)) (StopsAs new.program.now new.tree.root.bound nodes asked new.tree new.incumbent next)
+    core_turn next stop a nodes asked =
+        worked_turn new.program.now old.tree mid.tree new.tree old.incumbent new.incumbent worst node still_there held is_mid lent room mark next stop end worked a nodes asked
 
-    pub core_told : (marks : List (ℕ × Mark)) → IfSome mark (IsMark new.program.now (own_rows new.program.now) (box_of mid.tree node) room) → IsTold old.program.now old.tree.root.bound old.tree.log marks → IsTold new.program.now new.tree.root.bound new.tree.log (marks ++ marks_by node.number mark)
-    core_told marks m t =
-        worked_told new.program.now old.tree mid.tree new.tree old.incumbent new.incumbent worst node still_there held is_mid lent room mark end marks worked m (told_there marks t)
+    pub core_told : (marks : List (ℕ × Mark)) → columns new.program.now ≤ room → IfSome mark (IsMark new.program.now (own_rows new.program.now) (box_of mid.tree node) room) → IsTold old.program.now old.tree.root.bound old.tree.log marks → IsTold new.program.now new.tree.root.bound new.tree.log (marks ++ marks_by node.number mark)
+    core_told marks r m t =
+        worked_told new.program.now old.tree mid.tree new.tree old.incumbent new.incumbent worst node still_there held is_mid lent room mark end marks r worked m (told_there marks t)
 
     pub core_longer : length new.tree.log ≡ length old.tree.log + 1
     core_longer = worked_longer new.program.now old.tree mid.tree new.tree old.incumbent new.incumbent worst node still_there held is_mid lent room mark end worked
 
 -- no node is open
-pub nothing_open : (program : Program) (start : Option ℚ) (nodes : ℕ) (old : Nodes) (holding : Holding) (worst : Option Worst) → old.open_ ≡ [] → IsStill program start old holding worst → StopsAs program start nodes old holding worst Still
-nothing_open program start nodes old holding worst o k = record { still = k; spent = λ n. absurd (n o) }
+pub nothing_open : (program : Program) (start : Option ℚ) (nodes : ℕ) (asked : Option ℚ) (old : Nodes) (holding : Holding) (worst : Option Worst) → old.open_ ≡ [] → IsStill program start old holding worst → StopsAs program start nodes asked old holding worst Still
+nothing_open program start nodes asked old holding worst o k = record { still = k; spent = λ n. absurd (n o) }

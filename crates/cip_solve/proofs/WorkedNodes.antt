@@ -1,9 +1,10 @@
 -- What the end of a node says of the log, and of the worst parked leaf.
-use Rattle.std.proofs.Common.{◌≡◌, inl, inr, ℕ, ◌+◌, List, [], ◌∷◌, ◌++◌, length, Option, None, Some, IfSome, Contains, refl, sym, ap, subst, arith, length-append}
+use Rattle.std.proofs.Common.{◌≡◌, inl, inr, ℕ, ◌+◌, ◌≤◌, List, [], ◌∷◌, ◌++◌, length, Option, None, Some, IfSome, Contains, refl, sym, ap, subst, arith, length-append}
 use Rattle.std.proofs.lemmas.List.{append-nil, map-append}
 use Rattle.std.proofs.lemmas.List.Elements.{Contains-push, Contains-push_cases}
 use Rattle.cip_rational.specs.Rational.{ℚ}
 use Rattle.cip_problem.specs.Program.{Sides, Program}
+use Rattle.cip_problem.specs.WellFormed.{columns}
 use Rattle.cip_problem.specs.Box.{IsInBox}
 use Rattle.cip_problem.specs.Log.{End, Split, Closed, Parked, Entry, Node}
 use Rattle.cip_cert.specs.Lent.{Lent}
@@ -76,6 +77,7 @@ met_later program start log entry number mark h = record {
   node = h.node;
   given = later_given program start log entry number h.node h.given;
   room = h.room;
+  wide = h.wide;
   is_mark = h.is_mark;
 }
 
@@ -88,16 +90,16 @@ met_more program start log entry marks (Some mark) h m marked c =
       | inr e ↦ subst (λ (t : ℕ × Mark). IsMet program start log t.0 t.1) e m
     ])
 
-met_here : (program : Program) (tree : Nodes) (held : Option ℚ) (node : TakenNode) (room : ℕ) (mark : Option Mark) → IsKept program tree held (shown tree node ∷ []) → IfSome mark (IsMark program (own_rows program) (box_of tree node) room) → IfSome mark (IsMet program tree.root.bound tree.log node.number)
-met_here program tree held node room None k m = tt
-met_here program tree held node room (Some mark) k m =
+met_here : (program : Program) (tree : Nodes) (held : Option ℚ) (node : TakenNode) (room : ℕ) (mark : Option Mark) → columns program ≤ room → IsKept program tree held (shown tree node ∷ []) → IfSome mark (IsMark program (own_rows program) (box_of tree node) room) → IfSome mark (IsMet program tree.root.bound tree.log node.number)
+met_here program tree held node room None r k m = tt
+met_here program tree held node room (Some mark) r k m =
     let g = given_taken program tree held node k in
     let same : box_of tree node ≡ g.given.box = k.as_given.boxes (shown tree node) g.given (here (shown tree node) (tree.open_ ++ tree.parked)) g.found in
-    record { node = g.given; given = g.found; room = room; is_mark = subst (λ b. IsMark program (own_rows program) b room mark) same m }
+    record { node = g.given; given = g.found; room = room; wide = r; is_mark = subst (λ b. IsMark program (own_rows program) b room mark) same m }
 
 -- once the node has ended
-pub told_more : (program : Program) (lent : Lent) (room : ℕ) (old new : Nodes) (held : Option ℚ) (node : TakenNode) (mark : Option Mark) (marks : List (ℕ × Mark)) → IsKept program old held (shown old node ∷ []) → HasEntry program lent room old new node mark → IfSome mark (IsMark program (own_rows program) (box_of old node) room) → IsTold program old.root.bound old.log marks → IsTold program old.root.bound new.log (marks ++ marks_by node.number mark)
-told_more program lent room old new held node mark marks k h m t =
+pub told_more : (program : Program) (lent : Lent) (room : ℕ) (old new : Nodes) (held : Option ℚ) (node : TakenNode) (mark : Option Mark) (marks : List (ℕ × Mark)) → columns program ≤ room → IsKept program old held (shown old node ∷ []) → HasEntry program lent room old new node mark → IfSome mark (IsMark program (own_rows program) (box_of old node) room) → IsTold program old.root.bound old.log marks → IsTold program old.root.bound new.log (marks ++ marks_by node.number mark)
+told_more program lent room old new held node mark marks r k h m t =
     let entry : Entry = record { node = node.number; bound = h.bound; end = h.end } in
     let g = given_taken program old held node k in
     let more = marks_by node.number mark in
@@ -107,7 +109,7 @@ told_more program lent room old new held node mark marks k h m t =
           (relaxed_more program old.root.bound old.log (numbers_of marks) (numbers_of more) entry g.given k.searched.logged g.found t.work
           (λ s n. good_relaxed program lent (box_of old node) g.given.box room h.bound mark (numbers_of marks) node.number g.holds (h.good s) n));
       are_of = subst (AreOfEntries (old.log ++ entry ∷ [])) numbers (marks_more old.log (numbers_of marks) entry mark t.are_of);
-      met = met_more program old.root.bound old.log entry marks mark t.met (met_here program old held node room mark k m);
+      met = met_more program old.root.bound old.log entry marks mark t.met (met_here program old held node room mark r k m);
     })
 
 -- ---- the worst leaf

@@ -5,7 +5,7 @@ use Rattle.cip_leaf.specs.LeafAnswers.{place_of}
 use Rattle.cip_report.specs.declared.figures.Shown.{Shown}
 use Rattle.cip_report.specs.declared.figures.Shown.TheVariants.{Place, Moves}
 use Rattle.cip_report.specs.declared.figures.Ended.{Ended}
-use Rattle.cip_report.specs.declared.figures.Ended.TheVariants.{Optimal, Infeasible, Unbounded, NodeLimit, Wide, NoMemory}
+use Rattle.cip_report.specs.declared.figures.Ended.TheVariants.{Optimal, Infeasible, Unbounded, NodeLimit, Gap, Wide, NoMemory}
 use Rattle.cip_report.specs.declared.figures.Held.{Held}
 use Rattle.cip_report.specs.declared.figures.Answer.{Answer}
 use Rattle.cip_search_ends.specs.SearchEnds as ends
@@ -19,6 +19,7 @@ ended_of Optimal = ends.Optimal
 ended_of Infeasible = ends.Infeasible
 ended_of (Unbounded ray) = ends.Unbounded ray.items
 ended_of NodeLimit = ends.NodeLimit
+ended_of Gap = ends.Gap
 ended_of (Wide leaf shown) = ends.Wide leaf.items (shown_of shown)
 ended_of NoMemory = ends.NoMemory
 

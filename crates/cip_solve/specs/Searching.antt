@@ -1,5 +1,5 @@
 -- What holds of a search between two nodes, and how it stops.
-use Rattle.std.specs.Prelude.{◌≡◌, ◌≢◌, ℕ, ◌+◌, ◌*◌, ◌<◌, ◌≤◌, List, [], Option, None, Some, IfSome, length}
+use Rattle.std.specs.Prelude.{◌≡◌, ◌≢◌, ◌⊎◌, ℕ, ◌+◌, ◌*◌, ◌<◌, ◌≤◌, true, List, [], ◌++◌, Option, None, Some, IfSome, length}
 use Rattle.cip_rational.specs.Rational.{ℚ}
 use Rattle.cip_problem.specs.Program.{Program}
 use Rattle.cip_problem.specs.Points.{IsFeasible, IsLowerBound}
@@ -8,6 +8,7 @@ use Rattle.cip_model.specs.Rays.{IsShownRay}
 use Rattle.cip_incumbent.specs.HeldPoint.{Holding}
 use Rattle.cip_leaf_programs.specs.WideLeaf.{Shown}
 use Rattle.cip_leaf.specs.LeafAnswers.{shown_as}
+use Rattle.cip_search.specs.Endings.{IsLeastBound}
 use Rattle.cip_search_ends.specs.SearchAnswers.{AreRelaxed, AreOfEntries, IsParkedLast}
 use Rattle.cip_tree.specs.Nodes.{Nodes}
 use Rattle.cip_node_bounds.specs.declared.relaxed.Mark.{Mark}
@@ -15,6 +16,7 @@ use Rattle.cip_node.specs.KeptNodes.{cost_held, IsSearchOf, IsKept, IsHolding}
 use Rattle.cip_node.specs.declared.ends.NodeEnd.{NodeEnd}
 use Rattle.cip_node.specs.declared.ends.NodeEnd.TheVariants as by
 use Rattle.cip_solve.specs.AnswerOf.{shown_of}
+use Rattle.cip_solve.specs.Gaps.{reaches_gap}
 use Rattle.cip_solve.specs.Logs.{numbers_of}
 use Rattle.cip_solve.specs.Solved.{AreMet}
 use Rattle.cip_solve.specs.Stopping.{WasLeast}
@@ -50,12 +52,18 @@ pub record IsEndless (program : Program) (point ray : List ℚ) : Type 0 where
   pub feasible : IsFeasible program point
   pub shown : IsShownRay program point ray
 
--- no node is open, or the budget is spent
+-- a gap that was asked for is reached by the cost held and the least bound
+pub record IsNear (asked : Option ℚ) (tree : Nodes) (holding : Holding) : Type 0 where
+  pub bound : Option ℚ
+  pub least : IsLeastBound (cost_held holding) (tree.open_ ++ tree.parked) bound
+  pub reached : reaches_gap asked (cost_held holding) bound ≡ true
+
+-- no node is open, or the budget is spent, or after a node has ended the gap that was asked for is reached
 pub record StopsStill
-    (program : Program) (start : Option ℚ) (nodes : ℕ) (tree : Nodes) (holding : Holding) (worst : Option Worst)
-    : Type 0 where
+    (program : Program) (start : Option ℚ) (nodes : ℕ) (asked : Option ℚ) (tree : Nodes) (holding : Holding)
+    (worst : Option Worst) : Type 0 where
   pub still : IsStill program start tree holding worst
-  pub spent : tree.open_ ≢ [] → length tree.log ≡ nodes
+  pub spent : tree.open_ ≢ [] → (length tree.log ≡ nodes) ⊎ ((tree.log ≢ []) × IsNear asked tree holding)
 
 -- the last node showed a ray
 pub record StopsEndless (program : Program) (log : List Entry) (point ray : List ℚ) : Type 0 where
@@ -70,11 +78,13 @@ pub record StopsRefused
   pub start_is : tree.root.bound ≡ start
   pub was_least : WasLeast program start tree.log (cost_held holding) bound
 
-abbrev pub StopsAs : Program → Option ℚ → ℕ → Nodes → Holding → Option Worst → Stop → Type 0
-StopsAs program start nodes tree holding worst kinds.Still = StopsStill program start nodes tree holding worst
-StopsAs program start nodes tree holding worst (kinds.Endless point ray) =
+abbrev pub StopsAs : Program → Option ℚ → ℕ → (asked : Option ℚ) → Nodes → Holding → Option Worst → Stop → Type 0
+StopsAs program start nodes asked tree holding worst kinds.Still =
+    StopsStill program start nodes asked tree holding worst
+StopsAs program start nodes asked tree holding worst (kinds.Endless point ray) =
     StopsEndless program tree.log point.items ray.items
-StopsAs program start nodes tree holding worst (kinds.NoMemory bound) = StopsRefused program start tree holding bound
+StopsAs program start nodes asked tree holding worst (kinds.NoMemory bound) =
+    StopsRefused program start tree holding bound
 
 -- however it stops: some nodes could be taken, and no more were; the root's bound holds, and the log tells of the work
 pub record IsWithin

@@ -1,8 +1,9 @@
 -- What solving a program comes to.
-use Rattle.std.specs.Prelude.{◌≡◌, ℕ, List, [], Option, None, Some}
+use Rattle.std.specs.Prelude.{◌≡◌, ℕ, ◌≤◌, List, [], Option, None, Some}
 use Rattle.std.specs.List.{Contains}
 use Rattle.cip_rational.specs.Rational.{ℚ}
 use Rattle.cip_problem.specs.Program.{Program}
+use Rattle.cip_problem.specs.WellFormed.{columns}
 use Rattle.cip_problem.specs.Log.{Entry, Node, node_of}
 use Rattle.cip_cert.specs.Lent.{Lent}
 use Rattle.cip_leaves.specs.Searched.{nodes_given}
@@ -17,11 +18,12 @@ use Rattle.cip_solve.specs.Logs.{numbers_of}
 abbrev pub own_rows : Program → Lent
 own_rows program = record { own = program.rows; pool = []; cutoff = None }
 
--- the linear program of the node that the log gave this number met what a mark says
+-- the linear program of the node that the log gave this number met what a mark says, with room for all columns
 pub record IsMet (program : Program) (start : Option ℚ) (log : List Entry) (number : ℕ) (mark : Mark) : Type 0 where
   pub node : Node
   pub given : node_of (nodes_given program start log) number ≡ Some node
   pub room : ℕ
+  pub wide : columns program ≤ room
   pub is_mark : IsMark program (own_rows program) node.box room mark
 
 -- so it is of all marks
@@ -29,11 +31,13 @@ abbrev pub AreMet : Program → Option ℚ → List Entry → List (ℕ × Mark)
 AreMet program start log marks =
     (marked : ℕ × Mark) → Contains marks marked → IsMet program start log marked.0 marked.1
 
--- the answer of a search from the root's bound on, with its log and the marks of nodes by their numbers
+-- the answer of a search from the root's bound on, with its log and the marks of nodes by their numbers; `nodes` is the
+-- budget, and `asked` the gap that was asked for, if one was
 pub record IsSolved
-    (program : Program) (nodes : ℕ) (log : List Entry) (marks : List (ℕ × Mark)) (answer : Answer) : Type 0 where
+    (program : Program) (nodes : ℕ) (asked : Option ℚ) (log : List Entry) (marks : List (ℕ × Mark)) (answer : Answer)
+    : Type 0 where
   pub start : Option ℚ
   pub root : IsRootBound program start
-  pub right : IsSearchAnswer program start nodes log (numbers_of marks) answer
+  pub right : IsSearchAnswer program start nodes asked log (numbers_of marks) answer
   -- marks say what the linear programs of their nodes met
   pub met : AreMet program start log marks

@@ -1,5 +1,6 @@
 -- A law of what solving a program comes to, as one statement: the function of `src/laws.rt` has it as contract.
-use Rattle.std.specs.Prelude.{ℕ, List}
+use Rattle.std.specs.Prelude.{ℕ, List, Option}
+use Rattle.cip_rational.specs.Rational.{ℚ}
 use Rattle.cip_problem.specs.Program.{Program}
 use Rattle.cip_problem.specs.WellFormed.{IsWellFormed}
 use Rattle.cip_problem.specs.Log.{Entry}
@@ -12,5 +13,5 @@ use Rattle.cip_solve.specs.Solved.{IsSolved}
 -- an answer can be printed
 abbrev pub AnswersFit : Type 0
 AnswersFit =
-    (program : Program) (nodes : ℕ) (log : List Entry) (marks : List (ℕ × Mark)) (answer : Answer)
-    → IsWellFormed program → IsSolved program nodes log marks (answer_of answer) → AnswerFits program answer
+    (program : Program) (nodes : ℕ) (asked : Option ℚ) (log : List Entry) (marks : List (ℕ × Mark)) (answer : Answer)
+    → IsWellFormed program → IsSolved program nodes asked log marks (answer_of answer) → AnswerFits program answer

@@ -16,8 +16,9 @@ ghost use Rattle.cip_solve.specs.Solved.{AreMet};
 ghost use Rattle.cip_solve.specs.Stopping.{BestIs};
 
 use crate::bounds::{capped, flat};
-use crate::ends::ended_by;
+use crate::ends::ended_at;
 use crate::logs::Log;
+use crate::solving::Options;
 use crate::turns::{Search, Stop, held_cost, least_left};
 use crate::worst::Worst;
 use cip_frac::Frac;
@@ -47,18 +48,20 @@ fn still_answer(
     tree: &Tree,
     incumbent: &Incumbent,
     worst: Option<Worst>,
+    asked: &Option<Frac>,
     point: Vec<Frac>,
 ) -> Answer
     requires { IfSome incumbent.now.best (λ held. length held.point ≡ length point.items) }
     ensures { (program : Program) (nodes : ℕ) (marks : List (ℕ × Mark))
-        → StopsStill program tree.now.root.bound nodes tree.now incumbent.now worst
+        → StopsStill program tree.now.root.bound nodes asked.now tree.now incumbent.now worst
         → IsWithin program tree.now.root.bound nodes tree.now.log marks
-        → IsSearchAnswer program tree.now.root.bound nodes tree.now.log (numbers_of marks) (answer_of result) }
+        → IsSearchAnswer program tree.now.root.bound nodes asked.now tree.now.log (numbers_of marks)
+        (answer_of result) }
 {
     let held = held_cost(incumbent);
     let waiting = tree.bound();
     let bound = flat(least_left(held, waiting, &worst));
-    let ended = ended_by(&held, &waiting, worst);
+    let ended = ended_at(asked, &bound, &held, &waiting, worst);
     let best = held_of(incumbent, point);
     Answer { ended, best, bound }
 }
@@ -66,9 +69,9 @@ fn still_answer(
 /// The answer where the cost falls without end from a point along a ray.
 fn endless_answer(program: &Program, point: Vec<Frac>, ray: Vec<Frac>) -> Answer
     requires { IsEndless program.now point.items ray.items }
-    ensures { (start : Option ℚ) (nodes : ℕ) (log : List Entry) (marks : List (ℕ × Mark))
+    ensures { (start : Option ℚ) (nodes : ℕ) (asked : Option ℚ) (log : List Entry) (marks : List (ℕ × Mark))
         → StopsEndless program.now log point.items ray.items → IsWithin program.now start nodes log marks
-        → IsSearchAnswer program.now start nodes log (numbers_of marks) (answer_of result) }
+        → IsSearchAnswer program.now start nodes asked log (numbers_of marks) (answer_of result) }
 {
     let _columns = program.columns();
     match program.check(point.as_slice()) {
@@ -84,10 +87,11 @@ fn endless_answer(program: &Program, point: Vec<Frac>, ray: Vec<Frac>) -> Answer
 /// The answer after memory was refused, with the least bound before, its point written to a list of as many values.
 fn refused_answer(incumbent: &Incumbent, bound: Option<Frac>, point: Vec<Frac>) -> Answer
     requires { IfSome incumbent.now.best (λ held. length held.point ≡ length point.items) }
-    ensures { (program : Program) (start : Option ℚ) (nodes : ℕ) (tree : Nodes) (marks : List (ℕ × Mark))
+    ensures { (program : Program) (start : Option ℚ) (nodes : ℕ) (asked : Option ℚ) (tree : Nodes)
+        (marks : List (ℕ × Mark))
         → StopsRefused program start tree incumbent.now bound → IsHolding program incumbent.now
         → IsWithin program start nodes tree.log marks
-        → IsSearchAnswer program start nodes tree.log (numbers_of marks) (answer_of result) }
+        → IsSearchAnswer program start nodes asked tree.log (numbers_of marks) (answer_of result) }
 {
     let bound = capped(held_cost(incumbent), bound);
     let best = held_of(incumbent, point);
@@ -101,19 +105,18 @@ fn refused_answer(incumbent: &Incumbent, bound: Option<Frac>, point: Vec<Frac>) 
 impl<'a> Search<'a> {
     /// The answer of a search that stopped so, its point written to a list of as many values; what it did is left in
     /// the log.
-    fn finish(self, stop: Stop, nodes: u64, point: Vec<Frac>, log: &mut Log) -> Answer
-        requires stop { StopsAs self.core.program.now self.core.tree.root.bound nodes self.core.tree
-            self.core.incumbent self.worst stop }
-        requires within { IsWithin self.core.program.now self.core.tree.root.bound nodes self.core.tree.log
-            self.marks.items }
+    fn finish(self, stop: Stop, options: &Options, point: Vec<Frac>, log: &mut Log) -> Answer
+        requires stop { StopsAs self.core.program.now self.core.tree.root.bound options.now.nodes options.now.gap
+            self.core.tree self.core.incumbent self.worst stop }
+        requires within { IsWithin self.core.program.now self.core.tree.root.bound options.now.nodes
+            self.core.tree.log self.marks.items }
         requires holding { IsHolding self.core.program.now self.core.incumbent }
         requires point { length point.items ≡ columns self.core.program.now }
-        ensures right { IsSearchAnswer self.entry.core.program.now self.entry.core.tree.root.bound nodes
-            (entries_of log.new) (marked_in log.new) (answer_of result) }
+        ensures right { IsSearchAnswer self.entry.core.program.now self.entry.core.tree.root.bound options.now.nodes
+            options.now.gap (entries_of log.new) (marked_in log.new) (answer_of result) }
         ensures met { AreMet self.entry.core.program.now self.entry.core.tree.root.bound (entries_of log.new)
             log.new.marks.items }
     {
-        let _nodes = nodes;
         let Search { core, worst, marks } = self;
         let Core {
             program,
@@ -123,7 +126,7 @@ impl<'a> Search<'a> {
         } = core;
         let _columns = program.columns();
         let answer = match stop {
-            Stop::Still => still_answer(&tree, &incumbent, worst, point),
+            Stop::Still => still_answer(&tree, &incumbent, worst, &options.gap, point),
             Stop::Endless { point, ray } => endless_answer(program, point, ray),
             Stop::NoMemory { bound } => refused_answer(&incumbent, bound, point),
         };
@@ -133,12 +136,12 @@ impl<'a> Search<'a> {
     }
 }
 
-/// Searches from a core on that has taken no node, and takes at most so many; the point that is found is written to a
+/// Searches from a core on that has taken no node, as its options say; the point that is found is written to a
 /// list of as many values, and what was done is left in the log.
 pub(crate) fn search_from(
     core: Core<'_>,
     alloc: Global,
-    nodes: u64,
+    options: &Options,
     point: Vec<Frac>,
     log: &mut Log,
 ) -> Answer
@@ -147,10 +150,10 @@ pub(crate) fn search_from(
     requires ready { IsReady core }
     requires bare { core.pool.rows ≡ [] }
     requires lower { IfSome core.tree.root.bound (IsLowerBound core.program.now) }
-    requires some { 0 < nodes }
+    requires some { 0 < options.now.nodes }
     requires point { length point.items ≡ columns core.program.now }
-    ensures right { IsSearchAnswer core.entry.program.now core.entry.tree.root.bound nodes (entries_of log.new)
-        (marked_in log.new) (answer_of result) }
+    ensures right { IsSearchAnswer core.entry.program.now core.entry.tree.root.bound options.now.nodes
+        options.now.gap (entries_of log.new) (marked_in log.new) (answer_of result) }
     ensures met { AreMet core.entry.program.now core.entry.tree.root.bound (entries_of log.new) log.new.marks.items }
 {
     let mut search = Search {
@@ -158,6 +161,6 @@ pub(crate) fn search_from(
         worst: None,
         marks: Vec::new(alloc),
     };
-    let stop = search.explore(alloc, nodes);
-    search.finish(stop, nodes, point, log)
+    let stop = search.explore(alloc, options.nodes, &options.gap);
+    search.finish(stop, options, point, log)
 }

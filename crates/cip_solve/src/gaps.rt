@@ -15,11 +15,11 @@ fn is_near_enough(gap: Frac, cost: Frac, bound: Frac) -> bool
 }
 
 /// Whether a gap was asked for, a point of this cost is held, there is a bound, and they are near enough.
-pub(crate) fn reaches_gap(asked: Option<Frac>, held: Option<Frac>, bound: Option<Frac>) -> bool
-    ensures { result ≡ reaches_gap asked held bound }
+pub(crate) fn reaches_gap(asked: &Option<Frac>, held: &Option<Frac>, bound: &Option<Frac>) -> bool
+    ensures { result ≡ reaches_gap asked.now held.now bound.now }
 {
     match (asked, held, bound) {
-        (Some(gap), Some(cost), Some(bound)) => is_near_enough(gap, cost, bound),
+        (Some(gap), Some(cost), Some(bound)) => is_near_enough(*gap, *cost, *bound),
         _ => false,
     }
 }

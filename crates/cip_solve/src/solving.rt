@@ -1,5 +1,6 @@
 //! Solving a program.
-ghost use Rattle.std.specs.Prelude.{◌≡◌, ℕ, [], ◌<◌};
+ghost use Rattle.std.specs.Prelude.{◌≡◌, ℕ, Option, [], ◌<◌};
+ghost use Rattle.cip_rational.specs.Rational.{ℚ};
 ghost use Rattle.cip_node.specs.Beginning.{AreNearColumns};
 ghost use Rattle.cip_solve.specs.AnswerOf.{answer_of};
 ghost use Rattle.cip_solve.specs.Logs.{entries_of};
@@ -18,11 +19,14 @@ use std::alloc::Global;
 pub struct Options {
     /// The most nodes that it takes, at least 1.
     pub nodes: u64,
+    /// The gap that is asked for, if one is, in the units of the cost: the search ends once a point is held, a bound is
+    /// there, and the cost less the bound is in range, above 0 and at most this.
+    pub gap: Option<Frac>,
 }
 
 /// The answer where memory is refused before a node is taken: want of memory, with the bound of the root.
 pub fn unsearched(program: &Program) -> Answer
-    ensures { (nodes : ℕ) → IsSolved program.now nodes [] [] (answer_of result) }
+    ensures { (nodes : ℕ) (asked : Option ℚ) → IsSolved program.now nodes asked [] [] (answer_of result) }
 {
     Answer {
         ended: Ended::NoMemory,
@@ -32,12 +36,14 @@ pub fn unsearched(program: &Program) -> Answer
 }
 
 /// Searches for a feasible point of least cost, over at most so many nodes; what was done is left in the log, in place
-/// of what it held. The answer is `NodeLimit` exactly where as many nodes were taken and an open one matters, and
-/// `NoMemory` where memory was refused; the point that was found by then is answered all the same.
+/// of what it held. After each node has ended, and before the next is taken, it is seen whether the gap that was asked
+/// for is reached, and then the answer is `Gap`. Else it is `NodeLimit` exactly where as many nodes were taken and an
+/// open one matters; and `NoMemory` where memory was refused, with the point that was found by then.
 pub fn solve(alloc: Global, program: &Program, options: &Options, log: &mut Log) -> Answer
     requires near { AreNearColumns program.now }
     requires some { 0 < options.now.nodes }
-    ensures { IsSolved program.now options.now.nodes (entries_of log.new) log.new.marks.items (answer_of result) }
+    ensures { IsSolved program.now options.now.nodes options.now.gap (entries_of log.new) log.new.marks.items
+        (answer_of result) }
 {
     log.taken.clear();
     log.marks.clear();
@@ -47,6 +53,6 @@ pub fn solve(alloc: Global, program: &Program, options: &Options, log: &mut Log)
     };
     match Core::new(alloc, program) {
         Err(_) => unsearched(program),
-        Ok(core) => search_from(core, alloc, options.nodes, point, log),
+        Ok(core) => search_from(core, alloc, options, point, log),
     }
 }

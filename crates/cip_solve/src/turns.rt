@@ -1,13 +1,15 @@
 //! A search over the nodes, from one to the next.
-ghost use Rattle.std.specs.Prelude.{◌≡◌, ℕ, ◌+◌, ◌<◌, ◌≤◌, [], ◌++◌, length, MatchOption, vec_len, vec_capacity};
+ghost use Rattle.std.specs.Prelude.{◌≡◌, ℕ, ◌+◌, ◌<◌, ◌≤◌, true, Option, [], ◌++◌, length, MatchOption, vec_len, vec_capacity};
+ghost use Rattle.cip_rational.specs.Rational.{ℚ};
 ghost use Rattle.cip_node.specs.Cores.{IsReady};
 ghost use Rattle.cip_node.specs.KeptNodes.{cost_held};
 ghost use Rattle.cip_solve.specs.Bounds.{least_of, bound_held};
 ghost use Rattle.cip_solve.specs.Logs.{marks_by};
-ghost use Rattle.cip_solve.specs.Searching.{IsStill, IsTold, IsKeptAs, StopsAs};
+ghost use Rattle.cip_solve.specs.Searching.{IsStill, IsTold, IsKeptAs, IsNear, StopsAs};
 ghost use Rattle.cip_solve.specs.Worst.{worst_bound};
 
 use crate::bounds::{bound_held, flat, least_of};
+use crate::gaps::reaches_gap;
 use crate::worst::{Worst, printed_shown, worse, worst_bound};
 use cip_frac::Frac;
 use cip_incumbent::Incumbent;
@@ -18,7 +20,7 @@ use std::alloc::Global;
 /// How a search stops.
 #[derive(Debug, Drop)]
 pub(crate) enum Stop {
-    /// No node is open, or the budget is spent.
+    /// No node is open, the budget is spent, or the gap that was asked for is reached.
     Still,
     /// The cost falls without end from a point along a ray.
     Endless { point: Vec<Frac>, ray: Vec<Frac> },
@@ -115,11 +117,11 @@ impl<'a> Search<'a> {
         ensures longer { length self.new.core.tree.log ≤ length self.old.core.tree.log + 1 }
         ensures told { IsTold self.new.core.program.now self.new.core.tree.root.bound self.new.core.tree.log
             self.new.marks.items }
-        ensures turned { (nodes : ℕ) → MatchOption result
+        ensures turned { (nodes : ℕ) (asked : Option ℚ) → MatchOption result
             (IsStill self.new.core.program.now self.new.core.tree.root.bound self.new.core.tree
             self.new.core.incumbent self.new.worst
             × (length self.new.core.tree.log ≡ length self.old.core.tree.log + 1))
-            (StopsAs self.new.core.program.now self.new.core.tree.root.bound nodes self.new.core.tree
+            (StopsAs self.new.core.program.now self.new.core.tree.root.bound nodes asked self.new.core.tree
             self.new.core.incumbent self.new.worst) }
     {
         let waiting = self.core.tree.bound();
@@ -141,8 +143,22 @@ impl<'a> Search<'a> {
         }
     }
 
-    /// Takes up open nodes, at most so many; how the search stops.
-    pub(crate) fn explore(&mut self, alloc: Global, nodes: u64) -> Stop
+    /// Whether the gap that was asked for is reached.
+    fn is_near(&self, asked: &Option<Frac>) -> bool
+        requires { IsStill self.now.core.program.now self.now.core.tree.root.bound self.now.core.tree
+            self.now.core.incumbent self.now.worst }
+        ensures { result ≡ true → IsNear asked.now self.now.core.tree self.now.core.incumbent }
+    {
+        if asked.is_none() {
+            return false;
+        }
+        let held = held_cost(&self.core.incumbent);
+        let bound = flat(least_left(held, self.core.tree.bound(), &self.worst));
+        reaches_gap(asked, &held, &bound)
+    }
+
+    /// Takes up open nodes, at most so many, until the gap that was asked for is reached; how the search stops.
+    pub(crate) fn explore(&mut self, alloc: Global, nodes: u64, asked: &Option<Frac>) -> Stop
         requires still { IsStill self.old.core.program.now self.old.core.tree.root.bound self.old.core.tree
             self.old.core.incumbent self.old.worst }
         requires told { IsTold self.old.core.program.now self.old.core.tree.root.bound self.old.core.tree.log
@@ -157,12 +173,15 @@ impl<'a> Search<'a> {
         ensures most { length self.new.core.tree.log ≤ nodes }
         ensures told { IsTold self.new.core.program.now self.new.core.tree.root.bound self.new.core.tree.log
             self.new.marks.items }
-        ensures stopped { StopsAs self.new.core.program.now self.new.core.tree.root.bound nodes self.new.core.tree
-            self.new.core.incumbent self.new.worst result }
+        ensures stopped { StopsAs self.new.core.program.now self.new.core.tree.root.bound nodes asked.now
+            self.new.core.tree self.new.core.incumbent self.new.worst result }
     {
         for _ in 0..nodes {
             if let Some(stop) = self.turn(alloc) {
                 return stop;
+            }
+            if self.is_near(asked) {
+                return Stop::Still;
             }
         }
         Stop::Still

@@ -21,6 +21,6 @@ returns-in-Ok-new c =
     record {
       start = core.tree.root.bound;
       root = e.root;
-      right = subst (λ p. IsSearchAnswer p.now core.tree.root.bound c.args.options.now.nodes (entries_of log) (marked_in log) (answer_of c.search_from.result)) e.program c.search_from.ensures.right;
+      right = subst (λ p. IsSearchAnswer p.now core.tree.root.bound c.args.options.now.nodes c.args.options.now.gap (entries_of log) (marked_in log) (answer_of c.search_from.result)) e.program c.search_from.ensures.right;
       met = subst (λ p. AreMet p.now core.tree.root.bound (entries_of log) log.marks.items) e.program c.search_from.ensures.met;
     }

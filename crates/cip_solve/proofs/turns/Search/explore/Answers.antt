@@ -1,12 +1,12 @@
-use Rattle.std.proofs.Common.{◌+◌, ◌∙◌, ap}
+use Rattle.std.proofs.Common.{◌+◌, ◌∙◌, None, ap, arith, length, inr}
 use Rattle.cip_solve.proofs.turns.Search.explore.Goals as goal
 
 pub returns-in-Some-clause-stopped : goal.returns-in-Some-clause-stopped
-returns-in-Some-clause-stopped c = c.in-Some.ensures.turned c.args.nodes
+returns-in-Some-clause-stopped c = c.in-Some.ensures.turned c.args.nodes c.args.asked.now
 
 pub loop-preserved : goal.loop-preserved
 loop-preserved c =
-    let next = c.in_default.ensures.turned 0 in
+    let next = c.in_default.ensures.turned 0 None in
     record {
       still = next.0;
       told = c.turn.ensures.told;
@@ -15,4 +15,15 @@ loop-preserved c =
       program = c.turn.ensures.program ∙ c.loop.invariant.program;
       root = c.turn.ensures.root ∙ c.loop.invariant.root;
       longer = next.1 ∙ ap (λ n. n + 1) c.loop.invariant.longer;
+    }
+
+pub is_near-requires : goal.is_near-requires
+is_near-requires c = (c.in_default.ensures.turned 0 None).0
+
+pub returns-then-is_near-clause-stopped : goal.returns-then-is_near-clause-stopped
+returns-then-is_near-clause-stopped c =
+    let next = c.in_default.ensures.turned 0 None in
+    record {
+      still = next.0;
+      spent = λ n. inr (λ e. absurd (omega (arith, next.1, ap length e)), c.is_near.ensures c.if-is_near.true);
     }
