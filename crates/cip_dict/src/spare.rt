@@ -8,8 +8,8 @@ use cip_frac::Frac;
 use cip_lin::Sides;
 use std::alloc::{AllocError, Global};
 
-/// The most entries that a list may have room for to be kept.
-const MOST_SPARE: usize = 64;
+/// The most entries that all lists that are kept may have room for.
+const MOST_SPARE: usize = 1 << 21;
 
 /// Lists of dictionaries that are done with, to be filled anew, so that little is allocated for the next one. What
 /// they held is of no account.
@@ -17,6 +17,8 @@ const MOST_SPARE: usize = 64;
 pub struct Spare {
     numbers: Vec<Vec<Frac>>,
     entries: Vec<Vec<(u32, Frac)>>,
+    /// How many entries those lists have room for, and at most `usize::MAX`.
+    room: usize,
     forms: Vec<Vec<Form>>,
     stands: Vec<Vec<Option<Stand>>>,
     sides: Vec<Vec<Sides>>,
@@ -28,6 +30,7 @@ impl Spare {
         Spare {
             numbers: Vec::new(alloc),
             entries: Vec::new(alloc),
+            room: 0,
             forms: Vec::new(alloc),
             stands: Vec::new(alloc),
             sides: Vec::new(alloc),
@@ -74,6 +77,7 @@ impl Spare {
         let Some(mut list) = self.entries.pop() else {
             return Vec::new(alloc);
         };
+        self.room = self.room.saturating_sub(list.capacity());
         list.clear();
         list
     }
@@ -126,12 +130,13 @@ impl Spare {
         let _kept = self.forms.push(list).is_ok();
     }
 
-    /// Keeps the list of entries of a line that has room for some. One with room for many goes: else the lists would
-    /// come to have room for as many as the longest line that each of them ever was.
+    /// Keeps the list of entries of a line that has room for some; lets it go where all that are kept would then have
+    /// room for more than `MOST_SPARE`: else the lists would come to have room for as many as the longest line that
+    /// each of them ever was.
     pub(crate) fn keep_form(&mut self, form: Form) {
-        let room = form.room();
-        if room > 0 && room <= MOST_SPARE {
-            let _kept = self.entries.push(form.entries).is_ok();
+        let room = self.room.saturating_add(form.room());
+        if form.room() > 0 && room <= MOST_SPARE && self.entries.push(form.entries).is_ok() {
+            self.room = room;
         }
     }
 
