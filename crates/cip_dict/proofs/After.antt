@@ -7,12 +7,15 @@ use Rattle.cip_problem.specs.Program.{Sides}
 use Rattle.cip_dictionary.specs.Dictionary.{Dictionary, is_basic}
 use Rattle.cip_dictionary.specs.Exchange.{exchanged, CanExchange}
 use Rattle.cip_dictionary.specs.declared.moves.Stand.{Stand}
+use Rattle.cip_dictionary.specs.Tables.{table}
+use Rattle.cip_dictionary.proofs.Tables.{length-table}
 use Rattle.cip_dictionary.proofs.Kept.{exchanges_keep}
 use Rattle.cip_dict.specs.declared.lists.Lists.{Lists}
 use Rattle.cip_dict.specs.declared.lists.Room.{Room}
 use Rattle.cip_dict.specs.Lists.{basic_in}
 use Rattle.cip_dict.specs.Row.{row_in, row_length, HasRows, HasRowsAfter}
 use Rattle.cip_dict.specs.State.{state, HasRoom, IsShaped}
+use Rattle.cip_dict.specs.Values.{taken_value}
 use Rattle.cip_dict.specs.Written.{entered_form, IsPlanned, IsTakenOver}
 use Rattle.cip_dict.proofs.Exchanged.{rows_after, stands_after}
 
@@ -81,7 +84,7 @@ taken_over sides standing lists old room i j to cost later new rest s r h p t =
     let stands = t.stands ∙ stands_after d i j to s.consistent h m s.lists_long.rows in
     let rows = rows_after d i j to s.consistent h m s.lists_long.rows room.rows.items p.rows room.entering _ new.rows.items p.entering refl (t.long.each_one ∙ m) (λ v l. t.rows v (omega (arith, l, m))) in
     let costs = t.costs ∙ p.costs in
-    let values = t.values ∙ p.values in
+    let values = t.values ∙ ap (λ n. table n (taken_value standing j lists.values.items room.values.items)) m ∙ p.values in
     let cost_is = t.cost_is ∙ p.cost_is in
     let same : state sides later new ≡ exchanged d i j to = λ k. record { sides = sides; standing = stands k; rows = rows k; costs = costs k; values = values k; cost = cost_is k } in
     let long : length later ≡ length standing = ap length t.stands ∙ later_long standing i j to li lj ne in
@@ -91,8 +94,8 @@ taken_over sides standing lists old room i j to cost later new rest s r h p t =
       record {
         few = rw long s.few;
         sides_long = s.sides_long ∙ sym long;
-        lists_long = record { rows = has_rows; costs = ap length t.costs ∙ r.costs ∙ sym long; values = ap length t.values ∙ r.values ∙ sym long };
-        room_long = record { entering = t.rest_entering ∙ sym long; rows = rest_rows; costs = ap length t.rest_costs ∙ s.lists_long.costs ∙ sym long; values = ap length t.rest_values ∙ s.lists_long.values ∙ sym long };
+        lists_long = record { rows = has_rows; costs = ap length t.costs ∙ r.costs ∙ sym long; values = ap length t.values ∙ length-table (length standing) (taken_value standing j lists.values.items room.values.items) ∙ sym long };
+        room_long = record { entering = t.rest_entering ∙ sym long; rows = rest_rows; costs = ap length t.rest_costs ∙ s.lists_long.costs ∙ sym long; values = t.rest_values ∙ sym long };
         consistent = rw same (exchanges_keep d i j to s.consistent h).consistent;
       },
     )

@@ -20,6 +20,7 @@ use Rattle.cip_dictionary.proofs.Zeros.{zero_of}
 use Rattle.cip_dict.specs.declared.lists.Lists.{Lists}
 use Rattle.cip_dict.specs.Row.{form_changes, row_in, HasRows, taken_form, written_form}
 use Rattle.cip_dict.specs.State.{state}
+use Rattle.cip_dict.specs.Values.{taken_value}
 use Rattle.cip_dict.specs.declared.lists.Room.{Room}
 use Rattle.cip_dict.specs.Written.{lines_operations, values_operations, entered_form, LinesWritten, MovesWritten, step_in, IsPlanned}
 
@@ -154,6 +155,6 @@ planned sides standing lists i j to before between later cost e l m =
           ∙ ap (λ t. cond t (table (length standing) (exchanged_row d i j (entry d v))) (row_in before.rows.items v)) changes
           ∙ ap (λ n. table n (exchanged_row d i j (entry d v))) (sym e);
       costs = m.costs ∙ l.costs ∙ ap (λ n. table n (exchanged_row d i j (cost_entry d))) (sym e);
-      values = m.values ∙ ap (λ n. table n (moved d j (step d i j to))) (sym e);
+      values = ap (λ n. table n (taken_value standing j lists.values.items later.values.items)) e ∙ m.values ∙ ap (λ n. table n (moved d j (step d i j to))) (sym e);
       cost_is = m.cost_is;
     }

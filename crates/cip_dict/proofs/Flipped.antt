@@ -15,13 +15,14 @@ use Rattle.cip_dictionary.specs.Operations.{Placed, Difference, placed, value_pl
 use Rattle.cip_dictionary.specs.MoveOperations.{first_line, flipped_operations, cost_operations, flip_operations}
 use Rattle.cip_dictionary.specs.declared.moves.Stand.{Stand}
 use Rattle.cip_dictionary.specs.declared.places.Place.{Place}
-use Rattle.cip_dictionary.proofs.Tables.{same_table}
+use Rattle.cip_dictionary.proofs.Tables.{same_table, length-table}
 use Rattle.cip_dictionary.proofs.Kept.{flips_keep}
 use Rattle.cip_dict.specs.declared.lists.Lists.{Lists}
 use Rattle.cip_dict.specs.declared.lists.Room.{Room}
 use Rattle.cip_dict.specs.Lists.{basic_in}
 use Rattle.cip_dict.specs.Row.{HasRows}
 use Rattle.cip_dict.specs.State.{state, HasRoom, IsShaped}
+use Rattle.cip_dict.specs.Values.{taken_value}
 use Rattle.cip_dict.specs.Written.{flips_operations, MovesWritten, IsFlipPlanned, IsFlipTaken}
 
 -- ---- the operations
@@ -38,7 +39,7 @@ flip_planned sides standing lists j old new cost e m = record {
   entering = m.entering;
   rows = m.rows;
   costs = m.costs;
-  values = m.values ∙ ap (λ n. table n (moved (state sides standing lists) j (way (state sides standing lists) j))) (sym e);
+  values = ap (λ n. table n (taken_value standing j lists.values.items new.values.items)) e ∙ m.values ∙ ap (λ n. table n (moved (state sides standing lists) j (way (state sides standing lists) j))) (sym e);
   cost_is = m.cost_is;
 }
 
@@ -78,7 +79,7 @@ flip_taken sides standing lists old room j cost later new rest s r h p t =
     let l : j < length standing = omega (arith, h.within, m) in
     let to : Stand = other_stand (stand d j) in
     let stands = t.stands ∙ flip_stands d j m h.within in
-    let values = t.values ∙ p.values in
+    let values = t.values ∙ ap (λ n. table n (taken_value standing j lists.values.items room.values.items)) m ∙ p.values in
     let cost_is = t.cost_is ∙ p.cost_is in
     let same : state sides later new ≡ flipped d j = λ k. record { sides = sides; standing = stands k; rows = t.rows k; costs = t.costs k; values = values k; cost = cost_is k } in
     let long : length later ≡ length standing = ap length t.stands ∙ length-set standing j (Some to) in
@@ -88,8 +89,8 @@ flip_taken sides standing lists old room j cost later new rest s r h p t =
       record {
         few = rw long s.few;
         sides_long = s.sides_long ∙ sym long;
-        lists_long = record { rows = has_rows; costs = ap length t.costs ∙ s.lists_long.costs ∙ sym long; values = ap length t.values ∙ r.values ∙ sym long };
-        room_long = record { entering = ap length t.rest_entering ∙ r.entering ∙ sym long; rows = rest_rows; costs = ap length t.rest_costs ∙ r.costs ∙ sym long; values = ap length t.rest_values ∙ s.lists_long.values ∙ sym long };
+        lists_long = record { rows = has_rows; costs = ap length t.costs ∙ s.lists_long.costs ∙ sym long; values = ap length t.values ∙ length-table (length standing) (taken_value standing j lists.values.items room.values.items) ∙ sym long };
+        room_long = record { entering = ap length t.rest_entering ∙ r.entering ∙ sym long; rows = rest_rows; costs = ap length t.rest_costs ∙ r.costs ∙ sym long; values = t.rest_values ∙ sym long };
         consistent = rw same (flips_keep d j s.consistent h).consistent;
       },
     )

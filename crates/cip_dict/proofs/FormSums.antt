@@ -1,10 +1,10 @@
 -- The value of a form by its entries that aren't 0.
-use Rattle.std.proofs.Common.{◌≡◌, ℕ, zero, suc, ◌+◌, ◌-◌, ◌<◌, ◌≤◌, List, length, get_or, None, Some, Result, Ok, Err, MatchResult, refl, sym, ap, ◌∙◌, subst, arith}
+use Rattle.std.proofs.Common.{◌≡◌, ℕ, zero, suc, ◌+◌, ◌-◌, ◌<◌, ◌≤◌, List, length, get_or, None, Some, Result, Ok, Err, MatchResult, refl, sym, ap, ◌∙◌, arith}
 use Rattle.cip_rational.specs.Rational.{ℚ, zeroℚ, ◌+ℚ◌, ◌*ℚ◌}
 use Rattle.cip_rational.proofs.Rational.Ring.{+ℚ-zero, zero-*ℚ}
-use Rattle.cip_dictionary.specs.Tables.{each, form}
+use Rattle.cip_dictionary.specs.Tables.{form}
 use Rattle.cip_dictionary.specs.FirstState.{form_operations}
-use Rattle.cip_dictionary.specs.Operations.{Placed, first_overflow, value_place, sum_at}
+use Rattle.cip_dictionary.specs.Operations.{first_overflow, value_place, sum_at}
 use Rattle.cip_dictionary.specs.declared.places.Line.{Line}
 use Rattle.cip_dictionary.specs.declared.places.Place.{Place}
 use Rattle.cip_dictionary.proofs.Overflow.{overflow-append, first_at}

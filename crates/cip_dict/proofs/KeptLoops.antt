@@ -1,19 +1,17 @@
 -- Loops from entry to entry keep what one over all variables would, and form it in the same order.
-use Rattle.std.proofs.Common.{◌≡◌, ◌≢◌, ℕ, zero, suc, ◌+◌, ◌-◌, ◌<◌, ◌≤◌, ◌==◌, Bool, true, false, cond, not, ◌&&◌, List, [], ◌∷◌, ◌++◌, length, None, Some, refl, sym, ap, ◌∙◌, subst, inl, inr, arith, add-one}
-use Rattle.std.proofs.lemmas.Bool.{cases_eq, cases_lt, eq-eqb, ne_eqb, eqb-true, cases_Bool}
+use Rattle.std.proofs.Common.{◌≡◌, ◌≢◌, ℕ, zero, suc, ◌+◌, ◌-◌, ◌<◌, ◌≤◌, ◌==◌, Bool, true, false, cond, List, [], ◌∷◌, ◌++◌, None, refl, sym, ap, ◌∙◌, subst, inl, inr, arith}
+use Rattle.std.proofs.lemmas.Bool.{cases_eq, cases_lt, eq-eqb, ne_eqb, eqb-true}
 use Rattle.std.proofs.lemmas.List.{append-nil}
-use Rattle.cip_rational.specs.Rational.{ℚ, zeroℚ, ◌*ℚ◌}
-use Rattle.cip_problem.specs.Activity.{value_at}
-use Rattle.cip_dictionary.specs.Tables.{table, each}
+use Rattle.cip_rational.specs.Rational.{ℚ, zeroℚ}
+use Rattle.cip_dictionary.specs.Tables.{each}
 use Rattle.cip_dictionary.specs.Exchange.{is_absent, solved, substituted_at, substituted}
 use Rattle.cip_dictionary.specs.Operations.{Placed, first_overflow, is_zero, entry_place}
 use Rattle.cip_dictionary.specs.MoveOperations.{solved_operations, substituted_operations_at, substituted_operations}
 use Rattle.cip_dictionary.specs.declared.places.Line.{Line}
 use Rattle.cip_dictionary.specs.declared.places.Place.{Place}
 use Rattle.cip_dictionary.proofs.Overflow.{overflow-append}
-use Rattle.cip_dictionary.proofs.Tables.{at_table}
 use Rattle.cip_dictionary.proofs.Zeros.{is_zero_of, nonzero_of}
-use Rattle.cip_dict.specs.SparseLines.{Kept, entry_on, dense, kept_at, kept_of, AreKept}
+use Rattle.cip_dict.specs.SparseLines.{Kept, entry_on, kept_at, kept_of, AreKept}
 use Rattle.cip_dict.proofs.SparseLines.{sparse_lines_tell, entry_kept}
 use Rattle.cip_dict.proofs.Places.{passed, met, none_below}
 use Rattle.cip_dict.proofs.Formed.{product_zero_right, sum_zero_right}

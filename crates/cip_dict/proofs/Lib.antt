@@ -17,4 +17,5 @@ pub mod PutEntries
 pub mod Puts
 pub mod RowLists
 pub mod SparseLines
+pub mod TakenValues
 pub mod Unchanged

@@ -1,5 +1,5 @@
 -- Faults of a part of the operations are those of all.
-use Rattle.std.proofs.Common.{◌≡◌, ℕ, ◌<◌, List, ◌++◌, None, Some, Result, Ok, Err, MatchResult, ap, ◌∙◌}
+use Rattle.std.proofs.Common.{◌≡◌, ℕ, ◌<◌, List, ◌++◌, None, Result, Ok, Err, MatchResult, ◌∙◌}
 use Rattle.cip_dictionary.specs.Tables.{each}
 use Rattle.cip_dictionary.specs.Operations.{Placed, first_overflow}
 use Rattle.cip_dictionary.proofs.Overflow.{overflow-append, overflow-found, first_at}

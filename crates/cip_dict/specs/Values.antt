@@ -1,5 +1,5 @@
 -- The values of a dictionary after a variable has moved, by its lists.
-use Rattle.std.specs.Prelude.{ℕ, ◌==◌, List, [], Option, if◌then◌else◌}
+use Rattle.std.specs.Prelude.{ℕ, ◌==◌, Bool, ◌||◌, List, [], Option, if◌then◌else◌}
 use Rattle.cip_rational.specs.Rational.{ℚ}
 use Rattle.cip_problem.specs.Activity.{value_at}
 use Rattle.cip_dictionary.specs.Exchange.{moved_at}
@@ -23,3 +23,12 @@ moved_operations_in standing rows j t values v =
 abbrev pub flipped_operations_in : List (Option Stand) → List (List ℚ) → ℕ → ℚ → List ℚ → ℕ → List Placed
 flipped_operations_in standing rows j t values v =
     if basic_in standing v then sum_at (value_place (Row v)) (value_at values v) (entry_in rows v j) t else []
+
+-- whether the value of v may change as j moves: it is basic, or j
+abbrev pub value_moves : List (Option Stand) → ℕ → ℕ → Bool
+value_moves standing j v = basic_in standing v || (v == j)
+
+-- the value of v after those that may change have been taken from another list
+abbrev pub taken_value : List (Option Stand) → ℕ → List ℚ → List ℚ → ℕ → ℚ
+taken_value standing j values other v =
+    if value_moves standing j v then value_at other v else value_at values v

@@ -13,7 +13,7 @@ use Rattle.cip_dict.specs.declared.lists.Lists.{Lists}
 use Rattle.cip_dict.specs.declared.lists.Room.{Room}
 use Rattle.cip_dict.specs.Lists.{basic_in, entry_in}
 use Rattle.cip_dict.specs.Row.{row_in, form_changes, form_operations_in, written_form, taken_form, HasRowsAfter}
-use Rattle.cip_dict.specs.Values.{moved_in, moved_operations_in, flipped_operations_in}
+use Rattle.cip_dict.specs.Values.{moved_in, moved_operations_in, flipped_operations_in, taken_value}
 
 -- the row of the variable j that enters, where i leaves and q is 1 over its entry on j
 abbrev pub entering_in : List (Option Stand) → ℕ → ℕ → ℚ → Lists → ℕ → ℚ
@@ -67,13 +67,13 @@ moves_operations standing j t lists =
     each (length standing) (moved_operations_in standing lists.rows.items j t lists.values.items)
     ++ sum_at (value_place Cost) lists.cost (value_at lists.costs.items j) t
 
--- the values are written, and the cost is this; the room for rows is as it was
+-- the values of basic variables and of j are written, and the cost is this; the room for rows is as it was
 pub record MovesWritten
     (standing : List (Option Stand)) (j : ℕ) (t : ℚ) (lists : Lists) (old new : Room) (cost : ℚ) : Type 0 where
   pub entering : new.entering ≡ old.entering
   pub rows : new.rows.items ≡ old.rows.items
   pub costs : new.costs.items ≡ old.costs.items
-  pub values : new.values.items
+  pub values : table (length standing) (taken_value standing j lists.values.items new.values.items)
       ≡ table (length standing) (moved_in standing lists.rows.items j t lists.values.items)
   pub cost_is : cost ≡ lists.cost +ℚ value_at lists.costs.items j *ℚ t
 
@@ -97,7 +97,8 @@ pub record IsPlanned (d : Dictionary) (i j : ℕ) (to : Stand) (room : Room) (co
   pub rows : (v : ℕ) → v < size d → form_changes d.standing i j v (row_in d.rows v) ≡ true
       → row_in room.rows.items v ≡ table (size d) (exchanged_row d i j (entry d v))
   pub costs : room.costs.items ≡ table (size d) (exchanged_row d i j (cost_entry d))
-  pub values : room.values.items ≡ table (size d) (moved d j (step d i j to))
+  pub values : table (size d) (taken_value d.standing j d.values room.values.items)
+      ≡ table (size d) (moved d j (step d i j to))
   pub cost_is : cost ≡ moved_cost d j (step d i j to)
 
 -- row v after `new` has come in for i, whose place j has taken
@@ -114,13 +115,14 @@ pub record IsTakenOver
       ≡ entered_form i j (table (length standing) (taken_form standing i j lists.rows.items room.rows.items))
       room.entering v
   pub costs : new.costs.items ≡ room.costs.items
-  pub values : new.values.items ≡ room.values.items
+  pub values : new.values.items
+      ≡ table (length standing) (taken_value standing j lists.values.items room.values.items)
   pub cost_is : new.cost ≡ cost
   pub long : HasRowsAfter standing i j new.rows.items
   pub rest_long : HasRowsAfter standing i j rest.rows.items
   pub rest_entering : length rest.entering ≡ length standing
   pub rest_costs : rest.costs.items ≡ lists.costs.items
-  pub rest_values : rest.values.items ≡ lists.values.items
+  pub rest_values : length rest.values.items ≡ length standing
 
 -- ---- a flip
 
@@ -135,7 +137,8 @@ pub record IsFlipPlanned (d : Dictionary) (j : ℕ) (old new : Room) (cost : ℚ
   pub entering : new.entering ≡ old.entering
   pub rows : new.rows.items ≡ old.rows.items
   pub costs : new.costs.items ≡ old.costs.items
-  pub values : new.values.items ≡ table (size d) (moved d j (way d j))
+  pub values : table (size d) (taken_value d.standing j d.values new.values.items)
+      ≡ table (size d) (moved d j (way d j))
   pub cost_is : cost ≡ moved_cost d j (way d j)
 
 -- what a flip wrote has come in for what it replaces
@@ -145,9 +148,10 @@ pub record IsFlipTaken
   pub stands : later ≡ slice_set standing j (Some (other_stand (slice_index_or standing j None)))
   pub rows : new.rows.items ≡ lists.rows.items
   pub costs : new.costs.items ≡ lists.costs.items
-  pub values : new.values.items ≡ room.values.items
+  pub values : new.values.items
+      ≡ table (length standing) (taken_value standing j lists.values.items room.values.items)
   pub cost_is : new.cost ≡ cost
   pub rest_entering : rest.entering ≡ room.entering
   pub rest_rows : rest.rows.items ≡ room.rows.items
   pub rest_costs : rest.costs.items ≡ room.costs.items
-  pub rest_values : rest.values.items ≡ lists.values.items
+  pub rest_values : length rest.values.items ≡ length standing

@@ -23,7 +23,7 @@ use crate::forms::{Form, count_room};
 use crate::lines::write_solved;
 use crate::lists::{Lists, Room};
 use crate::rows::{take_rows, write_rows};
-use crate::values::{value_of, write_moved};
+use crate::values::{take_values, value_of, write_moved};
 use cip_dictionary::{Line, Stand};
 use cip_frac::Frac;
 use cip_lin::Sides;
@@ -333,9 +333,11 @@ pub(crate) fn take_over(
 {
     let rows = lists.rows.as_mut_slice();
     let other = room.rows.as_mut_slice();
-    take_over_rows(standing.as_slice(), i, j, rows, other, &mut room.entering);
+    let places = standing.as_slice();
+    take_over_rows(places, i, j, rows, other, &mut room.entering);
     std::mem::swap(&mut lists.costs, &mut room.costs);
-    std::mem::swap(&mut lists.values, &mut room.values);
+    let moved = room.values.as_slice();
+    take_values(places, j, lists.values.as_mut_slice(), moved);
     lists.cost = cost;
     standing[i as usize] = Some(to);
     standing[j as usize] = None;

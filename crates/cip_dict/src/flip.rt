@@ -17,7 +17,7 @@ use crate::exchange::{number, side_of};
 use crate::fault::OutOfRange;
 use crate::lines::is_basic;
 use crate::lists::{Lists, Room};
-use crate::values::{value_of, write_flipped};
+use crate::values::{take_values, value_of, write_flipped};
 use cip_dictionary::{Line, Stand};
 use cip_frac::Frac;
 use cip_lin::Sides;
@@ -131,10 +131,13 @@ pub(crate) fn take_flip(
     lists: &mut Lists,
     room: &mut Room,
 )
-    requires { j < length standing.old.items }
+    requires flips { j < length standing.old.items }
+    requires lists_long { HasLists standing.old.items lists.old }
+    requires room_long { HasRoom standing.old.items room.old }
     ensures { IsFlipTaken standing.old.items j cost lists.old room.old standing.new.items lists.new room.new }
 {
-    std::mem::swap(&mut lists.values, &mut room.values);
+    let moved = room.values.as_slice();
+    take_values(standing.as_slice(), j, lists.values.as_mut_slice(), moved);
     lists.cost = cost;
     let other = other_of(standing[j as usize]);
     standing[j as usize] = Some(other);

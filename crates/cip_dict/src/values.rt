@@ -1,12 +1,12 @@
 //! The values of a dictionary after a variable has moved.
-ghost use Rattle.std.specs.Prelude.{◌≡◌, ◌==◌, ◌&&◌, not, ◌<◌, ◌^◌, true, false, length, Some, None, MatchResult};
+ghost use Rattle.std.specs.Prelude.{◌≡◌, ◌<◌, ◌^◌, true, false, length, Some, None, MatchResult, if◌then◌else◌};
 ghost use Rattle.cip_rational.specs.Rational.{◌+ℚ◌};
 ghost use Rattle.cip_problem.specs.Activity.{value_at};
 ghost use Rattle.cip_dictionary.specs.Tables.{table, each};
 ghost use Rattle.cip_dictionary.specs.Operations.{first_overflow};
 ghost use Rattle.cip_dict.specs.Lists.{basic_in, entry_in};
 ghost use Rattle.cip_dict.specs.Row.{HasRows};
-ghost use Rattle.cip_dict.specs.Values.{moved_in, moved_operations_in, flipped_operations_in};
+ghost use Rattle.cip_dict.specs.Values.{moved_in, moved_operations_in, flipped_operations_in, value_moves, taken_value};
 
 use crate::entries::{moved_value, sum};
 use crate::fault::OutOfRange;
@@ -73,16 +73,16 @@ fn moved_on(
     )
 }
 
-/// Whether a variable's value stays as j moves: it is another one, and isn't basic.
+/// Whether a variable's value may change as j moves: it is basic, or j.
 #[inline(always)]
-fn is_left(standing: &[Option<Stand>], j: u32, v: usize) -> bool
+fn is_moved(standing: &[Option<Stand>], j: u32, v: usize) -> bool
     requires { v < length standing.now }
-    ensures { result ≡ (not (basic_in standing.now v) && not (v == j)) }
+    ensures { result ≡ value_moves standing.now j v }
 {
-    !is_basic(standing, v) && v != j as usize
+    is_basic(standing, v) || v == j as usize
 }
 
-/// Writes the value of variable v after j, which isn't basic, has moved by t.
+/// Writes the value of variable v after j, which isn't basic, has moved by t, if it may change.
 #[inline(always)]
 fn move_on(
     standing: &[Option<Stand>],
@@ -100,11 +100,11 @@ fn move_on(
     requires values_long { length values.now ≡ length standing.now }
     ensures { MatchResult result
         (λ _. (first_overflow (moved_operations_in standing.now rows.now j t values.now v) ≡ None)
-        × (value.new ≡ moved_in standing.now rows.now j t values.now v))
+        × ((if value_moves standing.now j v then value.new else value_at values.now v)
+        ≡ moved_in standing.now rows.now j t values.now v))
         (λ fault. first_overflow (moved_operations_in standing.now rows.now j t values.now v) ≡ Some fault.place) }
 {
-    if is_left(standing, j, v) {
-        *value = number_at(values, v);
+    if !is_moved(standing, j, v) {
         return Ok(());
     }
     match moved_on(standing, rows, j, t, values, v) {
@@ -116,7 +116,7 @@ fn move_on(
     }
 }
 
-/// Writes the values after j, which enters, has moved by t.
+/// Writes the values of basic variables and of j after j, which enters, has moved by t.
 pub(crate) fn write_moved(
     standing: &[Option<Stand>],
     rows: &[Form],
@@ -130,12 +130,14 @@ pub(crate) fn write_moved(
     requires rows_long { HasRows standing.now rows.now }
     requires values_long { length values.now ≡ length standing.now }
     requires out_long { length out.old ≡ length standing.now }
-    ensures { let operations =
+    ensures written { let operations =
         each (length standing.now) (moved_operations_in standing.now rows.now j t values.now) in
         MatchResult result
         (λ _. (first_overflow operations ≡ None)
-        × (out.new ≡ table (length standing.now) (moved_in standing.now rows.now j t values.now)))
+        × (table (length standing.now) (taken_value standing.now j values.now out.new)
+        ≡ table (length standing.now) (moved_in standing.now rows.now j t values.now)))
         (λ fault. first_overflow operations ≡ Some fault.place) }
+    ensures long { length out.new ≡ length out.old }
 {
     for v in 0..standing.len() {
         match move_on(standing, rows, j, t, values, v, &mut out[v]) {
@@ -177,7 +179,44 @@ fn flipped_on(
     moved_value(place, false, is_basic(standing, v), t, values[v], entry)
 }
 
-/// Writes the values after j, which isn't basic, has flipped by t to a side.
+/// Writes the value of variable v after j, which isn't basic, has flipped by t to a side, if it may change.
+#[inline(always)]
+fn flip_on(
+    standing: &[Option<Stand>],
+    rows: &[Form],
+    j: u32,
+    t: Frac,
+    side: Frac,
+    values: &[Frac],
+    v: usize,
+    value: &mut Frac,
+) -> Result<(), OutOfRange>
+    requires few { length standing.now < 2 ^ 32 }
+    requires flips { j < length standing.now }
+    requires nonbasic { basic_in standing.now j ≡ false }
+    requires arrives { side ≡ value_at values.now j +ℚ t }
+    requires within { v < length standing.now }
+    requires rows_long { HasRows standing.now rows.now }
+    requires values_long { length values.now ≡ length standing.now }
+    ensures { MatchResult result
+        (λ _. (first_overflow (flipped_operations_in standing.now rows.now j t values.now v) ≡ None)
+        × ((if value_moves standing.now j v then value.new else value_at values.now v)
+        ≡ moved_in standing.now rows.now j t values.now v))
+        (λ fault. first_overflow (flipped_operations_in standing.now rows.now j t values.now v) ≡ Some fault.place) }
+{
+    if !is_moved(standing, j, v) {
+        return Ok(());
+    }
+    match flipped_on(standing, rows, j, t, side, values, v) {
+        Ok(moved) => {
+            *value = moved;
+            Ok(())
+        }
+        Err(fault) => Err(fault),
+    }
+}
+
+/// Writes the values of basic variables and of j after j, which isn't basic, has flipped by t to a side.
 pub(crate) fn write_flipped(
     standing: &[Option<Stand>],
     rows: &[Form],
@@ -194,18 +233,33 @@ pub(crate) fn write_flipped(
     requires rows_long { HasRows standing.now rows.now }
     requires values_long { length values.now ≡ length standing.now }
     requires out_long { length out.old ≡ length standing.now }
-    ensures { let operations =
+    ensures written { let operations =
         each (length standing.now) (flipped_operations_in standing.now rows.now j t values.now) in
         MatchResult result
         (λ _. (first_overflow operations ≡ None)
-        × (out.new ≡ table (length standing.now) (moved_in standing.now rows.now j t values.now)))
+        × (table (length standing.now) (taken_value standing.now j values.now out.new)
+        ≡ table (length standing.now) (moved_in standing.now rows.now j t values.now)))
         (λ fault. first_overflow operations ≡ Some fault.place) }
+    ensures long { length out.new ≡ length out.old }
 {
     for v in 0..standing.len() {
-        match flipped_on(standing, rows, j, t, side, values, v) {
-            Ok(value) => out[v] = value,
+        match flip_on(standing, rows, j, t, side, values, v, &mut out[v]) {
+            Ok(()) => (),
             Err(fault) => return Err(fault),
         }
     }
     Ok(())
+}
+
+/// Takes the values of basic variables and of j from another list.
+pub(crate) fn take_values(standing: &[Option<Stand>], j: u32, values: &mut [Frac], other: &[Frac])
+    requires values_long { length values.old ≡ length standing.now }
+    requires other_long { length other.now ≡ length standing.now }
+    ensures { values.new ≡ table (length standing.now) (taken_value standing.now j values.old other.now) }
+{
+    for v in 0..standing.len() {
+        if is_moved(standing, j, v) {
+            values[v] = number_at(other, v);
+        }
+    }
 }

@@ -1,11 +1,8 @@
 use Rattle.std.proofs.Common.{◌≡◌, ◌∙◌, ap}
-use Rattle.cip_problem.specs.Box.{sides_at}
-use Rattle.cip_dictionary.specs.Dictionary.{standing_value}
 use Rattle.cip_dictionary.specs.Exchange.{pivot}
 use Rattle.cip_dictionary.specs.Operations.{first_overflow}
 use Rattle.cip_dictionary.proofs.Overflow.{overflow-append}
 use Rattle.cip_dict.specs.State.{state}
-use Rattle.cip_dict.specs.Written.{MovesWritten, step_in}
 use Rattle.cip_dict.proofs.MoveFaults.{fault_found, fault_same}
 use Rattle.cip_dict.proofs.Exchanged.{exchange_split, planned}
 use Rattle.cip_dict.proofs.exchange.plan.Goals as goal

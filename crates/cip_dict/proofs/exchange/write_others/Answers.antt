@@ -1,6 +1,5 @@
-use Rattle.std.proofs.Common.{◌≡◌, ◌∙◌, Ok, Err, sym, ap, length, refl, arith}
+use Rattle.std.proofs.Common.{◌∙◌, Ok, Err, sym, ap, length, refl, arith}
 use Rattle.cip_problem.specs.Activity.{value_at}
-use Rattle.cip_dictionary.specs.Tables.{table}
 use Rattle.cip_dictionary.specs.Operations.{first_overflow}
 use Rattle.cip_dictionary.specs.declared.places.Line.TheVariants.{Cost}
 use Rattle.cip_dictionary.specs.Exchange.{substituted}

@@ -1,4 +1,4 @@
-use Rattle.std.proofs.Common.{◌≡◌, ℕ, ◌<◌, refl, length, get_or, arith, add-one, suc}
+use Rattle.std.proofs.Common.{◌≡◌, ◌<◌, refl, length, get_or, arith, add-one, suc}
 use Rattle.cip_problem.specs.Activity.{value_at}
 use Rattle.cip_dict.specs.SparseLines.{Kept, entry_on}
 use Rattle.cip_dict.proofs.Places.{place_zero, entry_between}

@@ -1,5 +1,4 @@
 use Rattle.std.proofs.Common.{◌∙◌, sym}
-use Rattle.cip_rational.specs.Rational.{zeroℚ}
 use Rattle.cip_dict.proofs.Places.{entry_hit, entry_miss}
 use Rattle.cip_dict.proofs.kept.entry_from.Goals as goal
 

@@ -1,6 +1,3 @@
-use Rattle.std.proofs.Common.{◌∙◌, add-one, ap}
-use Rattle.cip_rational.specs.Rational.{zeroℚ}
-use Rattle.cip_dict.specs.SparseLines.{entry_on, AreKept}
 use Rattle.cip_dict.proofs.PutEntries.{remove_entry, remove_kept, gone_already}
 use Rattle.cip_dict.proofs.kept.let_go_at.Goals as goal
 

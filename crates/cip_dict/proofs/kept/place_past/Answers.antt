@@ -1,4 +1,4 @@
-use Rattle.std.proofs.Common.{add-one, length, ◌<◌, arith}
+use Rattle.std.proofs.Common.{add-one}
 use Rattle.cip_rational.specs.Rational.{zeroℚ}
 use Rattle.cip_dict.proofs.Places.{place_hit, place_miss}
 use Rattle.cip_dict.proofs.kept.place_past.Goals as goal

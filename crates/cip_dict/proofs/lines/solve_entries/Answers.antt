@@ -1,4 +1,4 @@
-use Rattle.std.proofs.Common.{◌≡◌, ℕ, ◌∙◌, refl, length, arith, suc}
+use Rattle.std.proofs.Common.{◌∙◌, refl, length, arith, suc}
 use Rattle.cip_dictionary.specs.Exchange.{solved}
 use Rattle.cip_dictionary.specs.MoveOperations.{solved_operations}
 use Rattle.cip_dictionary.specs.declared.places.Line.TheVariants.{Row}

@@ -1,4 +1,4 @@
-use Rattle.std.proofs.Common.{◌≡◌, ℕ, ◌∙◌, refl, length, arith, suc}
+use Rattle.std.proofs.Common.{◌∙◌, refl, length, arith, suc}
 use Rattle.cip_dictionary.specs.Exchange.{substituted}
 use Rattle.cip_dictionary.specs.MoveOperations.{substituted_operations}
 use Rattle.cip_dict.specs.Lists.{basic_in}

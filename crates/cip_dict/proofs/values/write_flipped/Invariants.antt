@@ -1,12 +1,12 @@
-use Rattle.std.proofs.Common.{◌≡◌, ℕ, ◌<◌, None, get_or}
-use Rattle.cip_rational.specs.Rational.{zeroℚ}
+use Rattle.std.proofs.Common.{◌≡◌, ℕ, ◌<◌, None, length}
 use Rattle.cip_dictionary.specs.Tables.{each}
 use Rattle.cip_dictionary.specs.Operations.{first_overflow}
-use Rattle.cip_dict.specs.Values.{moved_in, flipped_operations_in}
+use Rattle.cip_dict.specs.Values.{moved_in, flipped_operations_in, taken_value}
 use Rattle.cip_dict.proofs.values.write_flipped.Given as goal
 
 abbrev pub invariant-loop-v : goal.invariant-loop-v
 invariant-loop-v l = record {
   fits : first_overflow (each l.v (flipped_operations_in l.standing l.rows l.j l.t l.values)) ≡ None;
-  written : (k : ℕ) → k < l.v → get_or l.out k zeroℚ ≡ moved_in l.standing l.rows l.j l.t l.values k;
+  written : (k : ℕ) → k < l.v → taken_value l.standing l.j l.values l.out k ≡ moved_in l.standing l.rows l.j l.t l.values k;
+  long : length l.out ≡ length l.initial.out;
 }

@@ -1,7 +1,5 @@
-use Rattle.std.proofs.Common.{◌≡◌, ◌<◌, ◌∙◌, List, ap, sym, subst, length, get_or}
-use Rattle.cip_problem.specs.Activity.{value_at}
-use Rattle.cip_dictionary.specs.Dictionary.{size, entry}
-use Rattle.cip_dict.specs.SparseLines.{Kept, kept_of}
+use Rattle.std.proofs.Common.{◌<◌, ◌∙◌, List, ap, sym, subst, length, get_or}
+use Rattle.cip_dict.specs.SparseLines.{Kept}
 use Rattle.cip_dict.proofs.KeptRows.{row_kept}
 use Rattle.cip_dict.proofs.dict.Dict.row_entry.Goals as goal
 

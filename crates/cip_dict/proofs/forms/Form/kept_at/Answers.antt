@@ -1,6 +1,6 @@
-use Rattle.std.proofs.Common.{◌≡◌, ◌<◌, ◌∙◌, refl, ap, subst, sym, length, get_or, arith}
+use Rattle.std.proofs.Common.{◌≡◌, ◌<◌, ◌∙◌, refl, ap, subst, sym, length, get_or}
 use Rattle.cip_problem.specs.Activity.{value_at}
-use Rattle.cip_dict.specs.SparseLines.{Kept, kept_of}
+use Rattle.cip_dict.specs.SparseLines.{kept_of}
 use Rattle.cip_dict.proofs.Dense.{dense_len, dense_read}
 use Rattle.cip_dict.proofs.KeptLoops.{kept_back}
 use Rattle.cip_dict.proofs.forms.Form.kept_at.Goals as goal

@@ -1,4 +1,4 @@
-use Rattle.std.proofs.Common.{◌≡◌, ◌<◌, ◌∙◌, sym, ap, length, arith, set}
+use Rattle.std.proofs.Common.{◌≡◌, ◌∙◌, sym, ap, length, arith, set}
 use Rattle.cip_dict.proofs.Dense.{dense_long, dense_set, on_ok}
 use Rattle.cip_dict.proofs.forms.Form.set.Goals as goal
 
