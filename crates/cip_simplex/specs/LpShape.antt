@@ -6,10 +6,6 @@ use Rattle.cip_linear.specs.LinearProgram.{LinearProgram, IsProper}
 abbrev pub variables : LinearProgram → ℕ
 variables program = length program.bounds + length program.rows
 
--- the most entries of a dictionary
-abbrev pub most_entries : ℕ
-most_entries = 33554432
-
 -- each column has a cost, rows stand on columns of the program, and there are fewer than 2^32 columns and rows
 pub record IsSolvable (program : LinearProgram) : Type 0 where
   pub proper : IsProper program

@@ -1,12 +1,11 @@
 //! The first state of a linear program.
-ghost use Rattle.std.specs.Prelude.{◌≡◌, ◌↔◌, IsTrue, ℕ, ◌*◌, ◌<◌, ◌≤◌, ◌^◌, ◌++◌, length, map, Some, None, IfOk, MatchResult};
+ghost use Rattle.std.specs.Prelude.{◌≡◌, ℕ, ◌<◌, ◌^◌, ◌++◌, length, map, None, IfOk, MatchResult};
 ghost use Rattle.cip_problem.specs.RowTerms.{AreTerms};
 ghost use Rattle.cip_linear.specs.Multipliers.{row_sides};
 ghost use Rattle.cip_dictionary.specs.Operations.{first_overflow};
 ghost use Rattle.cip_dictionary.specs.FirstState.{first_operations};
 ghost use Rattle.cip_dictionary.specs.ProgramState.{terms_at, system_of, first_of_program};
 ghost use Rattle.cip_dict.specs.Entries.{IsFirstFault};
-ghost use Rattle.cip_simplex.specs.LpShape.{variables, most_entries};
 ghost use Rattle.cip_simplex.specs.LpEntries.{entry_of, entries_in};
 
 use crate::lp::Lp;
@@ -15,9 +14,6 @@ use cip_dict::{Dict, FirstFault};
 use cip_frac::Frac;
 use cip_lin::{Row, Sides, Term};
 use std::alloc::{AllocError, Global};
-
-// The most entries of a dictionary.
-const MOST_ENTRIES: usize = 1 << 25;
 
 /// Puts the entries of row r at the end; `Err` where a growth was refused.
 fn put_entries(
@@ -68,28 +64,14 @@ fn gather_sides(rows: &[Row], sides: &mut Vec<Sides>) -> Result<(), AllocError>
     Ok(())
 }
 
-/// Whether a dictionary of a linear program, which has an entry for each row on each column and each row, has at most
-/// 2^25.
-fn is_held(lp: &Lp) -> bool
-    ensures { IsTrue result ↔ length lp.now.rows * variables lp.now ≤ most_entries }
-{
-    match lp.rows().len().checked_mul(lp.len()) {
-        Some(entries) => entries <= MOST_ENTRIES,
-        None => false,
-    }
-}
-
 /// The first state of a linear program: rows are basic, and each column stands at its low side, else at its high side,
 /// else at 0. `OutOfRange` comes only where an operation of its values leaves the range; `NoMemory` where memory was
-/// refused, or the dictionary would have more than 2^25 entries.
+/// refused.
 pub(crate) fn first_state(alloc: Global, solver: &mut Solver, lp: &Lp) -> Result<Dict, FirstFault>
     ensures { MatchResult result
         (λ dict. (first_overflow (first_operations (system_of lp.now)) ≡ None) × (dict ≡ first_of_program lp.now))
         (IsFirstFault (system_of lp.now)) }
 {
-    if !is_held(lp) {
-        return Err(FirstFault::NoMemory);
-    }
     gather_entries(lp.rows(), &mut solver.entries)?;
     gather_sides(lp.rows(), &mut solver.sides)?;
     Dict::first(

@@ -47,10 +47,10 @@ fn descend_from(
 /// sides, the one that is so by most leaves to the side that it breaks, and of those that bring it nearer the one
 /// enters for which the cost rises by least; else the one by which the cost falls fastest goes its shortest way. What
 /// it answers is right; which of several optima, certificates or rays that is may change with the choice. As such moves
-/// may come back to a state, there are at most so many. There is no answer where the first state or a move is out of range,
-/// or as many moves lead to no end: then nothing is said of the program, and another rule is to be asked. Beside it
-/// stands where the variables are at the last state in range; at the first state, where that isn't. `Err` where memory
-/// was refused, or the dictionary would have more than 2^25 entries.
+/// may come back to a state, there are at most so many. There is no answer where the first state or a move is out of
+/// range, or as many moves lead to no end: then nothing is said of the program, and another rule is to be asked. Beside
+/// it stands where the variables are at the last state in range; at the first state, where that isn't. `Err` where
+/// memory was refused.
 pub fn solve_greedily(
     alloc: Global,
     solver: &mut Solver,

@@ -88,19 +88,9 @@ fn a_cost_falls_without_end_in_few_moves(rt: HostRuntime) -> Result<(), Fail> {
     Ok(())
 }
 
-// whether memory is refused for it
-fn is_refused(alloc: Global, program: &Program) -> Result<bool, Fail> {
-    if !Lp::is_solvable(program.rows, program.bounds, program.costs) {
-        return Err(Fail::new("no linear program"));
-    }
-    let lp = Lp::new(program.rows, program.bounds, program.costs);
-    let mut solver = Solver::new(alloc);
-    Ok(solve_fully(alloc, &mut solver, &lp).is_err())
-}
-
-// 5,800 rows on as many rows
+// 5,800 rows on as many rows, all of which are basic
 #[test]
-fn too_many_entries_are_refused(rt: HostRuntime) -> Result<(), Fail> {
+fn many_rows_without_columns_are_solved(rt: HostRuntime) -> Result<(), Fail> {
     let mut rows = Vec::new(rt.alloc());
     for _ in 0..5800 {
         rows.push(Row::empty(rt.alloc(), None, None))?;
@@ -111,6 +101,16 @@ fn too_many_entries_are_refused(rt: HostRuntime) -> Result<(), Fail> {
         bounds: &bounds,
         costs: &[],
     };
-    assert!(rt; is_refused(rt.alloc(), &program)?);
+    let found = answered(rt.alloc(), &program)?;
+    assert!(rt;
+        matches!(
+            &found,
+            LpAnswer::Optimal {
+                point: _,
+                combo: _,
+                cost: _
+            }
+        )
+    );
     Ok(())
 }

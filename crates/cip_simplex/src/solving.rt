@@ -53,7 +53,7 @@ pub(crate) fn solve_on(
 /// Solves a linear program by the simplex method, from its first state, with at most so many moves by Bland's rule.
 /// `Wide` comes exactly where the first state is out of range, and then names no move, or where a move within the limit
 /// is; `Limit` exactly where as many moves, all in range, lead to a state that is no end. `Err` where memory was
-/// refused, or the dictionary would have more than 2^25 entries: one for each row on each column and each row.
+/// refused.
 pub fn solve(
     alloc: Global,
     solver: &mut Solver,
@@ -136,8 +136,7 @@ fn solve_begun(
 /// from the state to which the start's moves lead: `Wide` comes exactly where the first state is out of range, and then
 /// names no move, or where a move of the start or a move within the limit is, and then names those of the start too;
 /// `Limit` exactly where as many moves by the rule lead to a state that is no end. Beside it stands where the variables
-/// are at the last state in range; at the first state, where that isn't. `Err` where memory was refused, or the
-/// dictionary would have more than 2^25 entries.
+/// are at the last state in range; at the first state, where that isn't. `Err` where memory was refused.
 pub fn solve_from(
     alloc: Global,
     solver: &mut Solver,
@@ -173,8 +172,7 @@ fn solve_all(alloc: Global, lp: &Lp, dict: &mut Dict) -> Result<LpAnswer, AllocE
 }
 
 /// Solves a linear program by the simplex method, from its first state, with as many moves by Bland's rule as there
-/// are: no state comes twice, so they end, and `Limit` is never answered. `Err` where memory was refused, or the
-/// dictionary would have more than 2^25 entries.
+/// are: no state comes twice, so they end, and `Limit` is never answered. `Err` where memory was refused.
 pub fn solve_fully(alloc: Global, solver: &mut Solver, lp: &Lp) -> Result<LpAnswer, AllocError>
     ensures answer { IfOk result (IsAnswer (whole_answer lp.now)) }
     ensures whole { WholeAnswerHolds lp.now }
