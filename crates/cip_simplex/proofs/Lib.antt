@@ -10,4 +10,5 @@ pub mod Systems
 pub mod Tabled
 pub mod WholeLists
 pub mod FreeMoves
+pub mod RowPasses
 pub mod Held

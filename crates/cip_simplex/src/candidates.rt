@@ -5,7 +5,7 @@ ghost use Rattle.cip_bland.specs.Rule as rule;
 ghost use Rattle.cip_bland.specs.StateEnds.{Passes};
 ghost use Rattle.cip_simplex.specs.FreeMoves as free;
 
-use crate::choice::{improves, is_driving, is_outside, outside_heading};
+use crate::choice::{drives, improves, is_outside, outside_heading};
 use crate::headings::{back_of, is_below, outside_way};
 use cip_bland::Heading;
 use cip_dict::Dict;
@@ -121,17 +121,14 @@ fn saving(cost: Frac, entry: Frac) -> Option<Frac> {
     }
 }
 
-/// Variable k as one that may enter, where it takes the basic variable i this way as it goes where it may.
-fn entering_at(dict: &Dict, i: u32, heading: Heading, k: u32) -> Option<Candidate>
-    requires leaving { i < def.size dict.now }
-    requires basic { def.is_basic dict.now i ≡ true }
-    requires within { k < def.size dict.now }
-    ensures { free.IsCandidate (rule.drives dict.now (def.entry dict.now i) heading) k result }
+/// Variable k as one that may enter, where it takes what has this entry on it this way as it goes where it may.
+fn entering_at(dict: &Dict, heading: Heading, k: u32, entry: Frac) -> Option<Candidate>
+    requires { k < def.size dict.now }
+    ensures { free.IsCandidate (rule.drives dict.now (λ _. entry) heading) k result }
 {
-    if !is_driving(dict, i, heading, k) {
+    if !drives(dict, entry, heading, k) {
         return None;
     }
-    let entry = dict.entry(i, k);
     Some(Candidate {
         variable: k,
         rate: saving(dict.cost_entry(k), entry),
@@ -148,8 +145,9 @@ fn best_driving(dict: &Dict, i: u32, heading: Heading) -> Option<u32>
     ensures { free.IsPicked dict.now (rule.drives dict.now (def.entry dict.now i) heading) result }
 {
     let mut best = None;
-    for k in 0..dict.len() {
-        best = better(best, entering_at(dict, i, heading, k as u32));
+    for at in 0..dict.row_len(i) {
+        let (k, entry) = dict.row_entry(i, at);
+        best = better(best, entering_at(dict, heading, k, entry));
     }
     variable_of(best)
 }

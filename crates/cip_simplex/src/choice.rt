@@ -68,7 +68,7 @@ pub(crate) fn outside_heading(dict: &Dict, i: u32) -> Heading
 }
 
 /// Whether variable k may go the way by which what has this entry on it goes a way.
-fn drives(dict: &Dict, entry: Frac, heading: Heading, k: u32) -> bool
+pub(crate) fn drives(dict: &Dict, entry: Frac, heading: Heading, k: u32) -> bool
     requires { k < def.size dict.now }
     ensures { result ≡ rule.drives dict.now (λ _. entry) heading k }
 {
@@ -76,7 +76,7 @@ fn drives(dict: &Dict, entry: Frac, heading: Heading, k: u32) -> bool
 }
 
 /// Whether the basic variable i goes this way as variable k goes where it may.
-pub(crate) fn is_driving(dict: &Dict, i: u32, heading: Heading, k: u32) -> bool
+fn is_driving(dict: &Dict, i: u32, heading: Heading, k: u32) -> bool
     requires leaving { i < def.size dict.now }
     requires basic { def.is_basic dict.now i ≡ true }
     requires within { k < def.size dict.now }

@@ -1,0 +1,106 @@
+-- Passes over the entries of a row that aren't 0.
+use Rattle.std.proofs.Common.{◌≡◌, ℕ, suc, ◌+◌, ◌<◌, ◌≤◌, Bool, true, false, not, ◌&&◌, List, Option, None, Some, length, get_or, refl, sym, ap, ◌∙◌, subst, inl, inr, arith, add-one}
+use Rattle.std.proofs.lemmas.Bool.{cases_lt}
+use Rattle.cip_rational.specs.Rational.{ℚ, zeroℚ}
+use Rattle.cip_dictionary.specs.Dictionary.{Dictionary, size, entry}
+use Rattle.cip_dictionary.proofs.Zeros.{is_zero_of}
+use Rattle.cip_bland.specs.declared.steps.Heading.{Heading}
+use Rattle.cip_bland.specs.Headings.{heading_for}
+use Rattle.cip_bland.specs.Rule.{may_go, drives}
+use Rattle.cip_dict.specs.SparseLines.{Kept, entry_on, AreKept, kept_of, IsPlace}
+use Rattle.cip_dict.proofs.SparseLines.{entry_kept}
+use Rattle.cip_dict.proofs.KeptLoops.{are_kept}
+use Rattle.cip_dict.proofs.Places.{place_zero, place_up, place_hit, entry_hit, entry_between, at_least, all_below}
+use Rattle.cip_simplex.specs.FreeMoves.{IsCandidate, IsOneOf, IsFound}
+use Rattle.cip_simplex.specs.declared.candidates.Candidate.{Candidate}
+use Rattle.cip_simplex.proofs.FreeMoves.{found_more}
+
+-- what was found before this place of what is kept: up to some variable
+abbrev pub IsSearched : (ℕ → Bool) → ℕ → List Kept → ℕ → Option Candidate → Type 0
+IsSearched test n es at best = (m : ℕ) × (m ≤ n) × IsPlace m es at × IsFound test m best
+
+-- the entries of a row, and a test that no variable passes on which there is none
+module _ (n : ℕ) (f : ℕ → ℚ) (test : ℕ → Bool) (silent : (k : ℕ) → f k ≡ zeroℚ → test k ≡ false) where
+  es : List Kept
+  es = kept_of n f
+
+  kept : AreKept 0 n (kept_of n f)
+  kept = are_kept n n f (kept_of n f) refl (omega arith)
+
+  gap_found : (m k : ℕ) (best : Option Candidate) → IsFound test m best → m ≤ k → ((v : ℕ) → m ≤ v → v < k → test v ≡ false) → IsFound test k best
+  gap_found m k None h l none = λ v w.
+      elim (cases_lt v m) [
+        | inl b ↦ h v b
+        | inr b ↦ none v b w
+      ]
+  gap_found m k (Some c) h l none = (omega (arith, h.0, l), h.1)
+
+  -- the variable of an entry, and the entry
+  below : (at : ℕ) (e : Kept) → at < length (kept_of n f) → ((d : Kept) → e ≡ get_or (kept_of n f) at d) → e.0 < n
+  below at e l is =
+      let s : e.0 ≡ (get_or (kept_of n f) at e).0 = ap (λ (p : Kept). p.0) (is e) in
+      let b : (get_or (kept_of n f) at e).0 < n = all_below (kept_of n f) 0 n at e kept l in
+      omega (arith, s, b)
+
+  up : (m at : ℕ) (e : Kept) → IsPlace m (kept_of n f) at → at < length (kept_of n f) → ((d : Kept) → e ≡ get_or (kept_of n f) at d) → m ≤ e.0
+  up m at e i l is =
+      let s : e.0 ≡ (get_or (kept_of n f) at e).0 = ap (λ (p : Kept). p.0) (is e) in
+      let b : m ≤ (get_or (kept_of n f) at e).0 = at_least m (kept_of n f) at e i l in
+      omega (arith, s, b)
+
+  place : (m at : ℕ) (e : Kept) → IsPlace m (kept_of n f) at → at < length (kept_of n f) → ((d : Kept) → e ≡ get_or (kept_of n f) at d) → IsPlace e.0 (kept_of n f) at
+  place m at e i l is =
+      place_up m e.0 (kept_of n f) at i (up m at e i l is)
+      (λ d w. let s : e.0 ≡ (get_or (kept_of n f) at d).0 = ap (λ (p : Kept). p.0) (is d) in omega (arith, s))
+
+  own : (m at : ℕ) (e : Kept) → IsPlace m (kept_of n f) at → at < length (kept_of n f) → ((d : Kept) → e ≡ get_or (kept_of n f) at d) → e.1 ≡ f e.0
+  own m at e i l is =
+      ap (λ (p : Kept). p.1) (is e)
+      ∙ sym (entry_hit e.0 (kept_of n f) at e (place m at e i l is) l (sym (ap (λ (p : Kept). p.0) (is e))))
+      ∙ entry_kept n f e.0 (below at e l is)
+
+  none_between : (m at : ℕ) (e : Kept) → IsPlace m (kept_of n f) at → at < length (kept_of n f) → ((d : Kept) → e ≡ get_or (kept_of n f) at d) → (v : ℕ) → m ≤ v → v < e.0 → test v ≡ false
+  none_between m at e i l is v a b =
+      let u : e.0 < n = below at e l is in
+      silent v
+      (sym (entry_kept n f v (omega (arith, b, u)))
+      ∙ entry_between m v (kept_of n f) at 0 n kept i a (λ d w. let s : e.0 ≡ (get_or (kept_of n f) at d).0 = ap (λ (p : Kept). p.0) (is d) in omega (arith, b, s)))
+
+  pub search_begun : IsSearched test n (kept_of n f) 0 None
+  search_begun = (0, omega arith, place_zero (kept_of n f), λ v l. absurd (omega (arith, l)))
+
+  pub search_more : (at : ℕ) (e : Kept) (best next chosen : Option Candidate) → IsSearched test n (kept_of n f) at best → at < length (kept_of n f) → ((d : Kept) → e ≡ get_or (kept_of n f) at d) → IsCandidate test e.0 next → IsOneOf best next chosen → IsSearched test n (kept_of n f) (at + 1) chosen
+  search_more at e best next chosen s l is here both =
+      let u : e.0 < n = below at e l is in
+      let hit : IsPlace (suc e.0) (kept_of n f) (suc at) = place_hit e.0 (kept_of n f) at 0 n e kept (place s.0 at e s.2 l is) l (sym (ap (λ (p : Kept). p.0) (is e))) in
+      let before : IsFound test e.0 best = gap_found s.0 e.0 best s.3 (up s.0 at e s.2 l is) (none_between s.0 at e s.2 l is) in
+      let found : IsFound test (e.0 + 1) chosen = found_more test e.0 best next chosen before here both in
+      (e.0 + 1, omega (arith, u), rw (add-one, add-one) hit, found)
+
+  pub search_ended : (at : ℕ) (best : Option Candidate) → length (kept_of n f) ≤ at → IsSearched test n (kept_of n f) at best → IsFound test n best
+  search_ended at best l s =
+      gap_found s.0 n best s.3 s.1
+      (λ v a b. silent v (sym (entry_kept n f v b) ∙ entry_between s.0 v (kept_of n f) at 0 n kept s.2 a (λ d w. absurd (omega (arith, w, l)))))
+
+-- the row of i, which is to go this way
+module _ (d : Dictionary) (i : ℕ) (heading : Heading) where
+  silent : (k : ℕ) → entry d i k ≡ zeroℚ → drives d (entry d i) heading k ≡ false
+  silent k z = ap (λ b. not b && may_go d k (heading_for heading (entry d i k))) (is_zero_of (entry d i k) z)
+
+  same_candidate : (q : ℚ) (k : ℕ) (next : Option Candidate) → q ≡ entry d i k → IsCandidate (drives d (λ _. q) heading) k next → IsCandidate (drives d (entry d i) heading) k next
+  same_candidate q k None e h = subst (λ t. drives d (λ _. t) heading k ≡ false) e h
+  same_candidate q k (Some c) e h = (h.0, subst (λ t. drives d (λ _. t) heading k ≡ true) e h.1)
+
+  pub driving_below : (at : ℕ) (e : Kept) → at < length (kept_of (size d) (entry d i)) → ((x : Kept) → e ≡ get_or (kept_of (size d) (entry d i)) at x) → e.0 < size d
+  driving_below at e l is = below (size d) (entry d i) (drives d (entry d i) heading) silent at e l is
+
+  pub driving_begun : IsSearched (drives d (entry d i) heading) (size d) (kept_of (size d) (entry d i)) 0 None
+  driving_begun = search_begun (size d) (entry d i) (drives d (entry d i) heading) silent
+
+  pub driving_more : (at : ℕ) (e : Kept) (best next chosen : Option Candidate) → IsSearched (drives d (entry d i) heading) (size d) (kept_of (size d) (entry d i)) at best → at < length (kept_of (size d) (entry d i)) → ((x : Kept) → e ≡ get_or (kept_of (size d) (entry d i)) at x) → IsCandidate (drives d (λ _. e.1) heading) e.0 next → IsOneOf best next chosen → IsSearched (drives d (entry d i) heading) (size d) (kept_of (size d) (entry d i)) (at + 1) chosen
+  driving_more at e best next chosen s l is here both =
+      let o : e.1 ≡ entry d i e.0 = own (size d) (entry d i) (drives d (entry d i) heading) silent s.0 at e s.2 l is in
+      search_more (size d) (entry d i) (drives d (entry d i) heading) silent at e best next chosen s l is (same_candidate e.1 e.0 next o here) both
+
+  pub driving_ended : (at : ℕ) (best : Option Candidate) → length (kept_of (size d) (entry d i)) ≤ at → IsSearched (drives d (entry d i) heading) (size d) (kept_of (size d) (entry d i)) at best → IsFound (drives d (entry d i) heading) (size d) best
+  driving_ended at best l s = search_ended (size d) (entry d i) (drives d (entry d i) heading) silent at best l s
