@@ -68,13 +68,15 @@ impl Incumbent {
         ensures held { HoldsPointOf program.now self.old → HoldsPointOf program.now self.new }
     {
         match program.check(point) {
-            Verdict::Feasible(cost) => self.take_cheaper(cost, point),
+            Verdict::Feasible(cost) => self.offer_at(cost, point),
             verdict => Offered::Breaks(verdict),
         }
     }
 
-    // Holds the point, where this cost is less than that held.
-    fn take_cheaper(&mut self, cost: Frac, point: &[Frac]) -> Offered
+    /// Offers a point that is known to be feasible, at this cost, which isn't tested again. `Taken` comes exactly where
+    /// that is less than the cost held, or none is held, and then it is held at this cost; else `NotBetter` comes, and
+    /// what is held stays as it was.
+    pub fn offer_at(&mut self, cost: Frac, point: &[Frac]) -> Offered
         requires { length point.now ≡ self.old.columns }
         ensures answer { result ≡ taken_if (is_cheaper cost self.old.best) }
         ensures after { self.new ≡ after_taking result cost point.now self.old }

@@ -1,14 +1,17 @@
 -- What a point that is taken means for a search.
-use Rattle.std.proofs.Common.{◌≡◌, ℕ, Bool, true, false, List, Option, None, Some, refl, sym, subst}
+use Rattle.std.proofs.Common.{◌≡◌, ◌∙◌, ℕ, Bool, true, false, List, length, Option, None, Some, refl, sym, ap, subst}
 use Rattle.cip_rational.specs.Rational.{ℚ, ◌≤ℚ◌}
 use Rattle.cip_rational.proofs.Rational.Order.{≤ℚ_refl, ≤ℚ_of_lt, lt_of_test}
 use Rattle.cip_problem.specs.Program.{Program}
-use Rattle.cip_problem.specs.Points.{cost_of}
+use Rattle.cip_problem.specs.Points.{IsFeasible, cost_of}
+use Rattle.cip_problem.specs.WellFormed.{IsWellFormed, columns}
 use Rattle.cip_cuts.specs.Improving.{IsNoDearer}
 use Rattle.cip_model.specs.Meaning.{VerdictHolds}
+use Rattle.cip_model.specs.Verdicts.{verdict_of}
+use Rattle.cip_model.proofs.Meaning.Point.{verdict_holds}
 use Rattle.cip_model.specs.declared.verdicts.Verdict.{Verdict}
 use Rattle.cip_model.specs.declared.verdicts.Verdict.TheVariants.{Feasible, BreaksBound, BreaksWhole, BreaksRow, Wide}
-use Rattle.cip_incumbent.specs.HeldPoint.{HeldPoint, Holding, is_cheaper, taken_if, offered, after_offer, IsHeldOf, HoldsPointOf}
+use Rattle.cip_incumbent.specs.HeldPoint.{HeldPoint, Holding, is_cheaper, taken_if, offered, after_taking, after_offer, IsHeldOf, HoldsPointOf}
 use Rattle.cip_incumbent.specs.declared.offers.Offered.{Offered}
 use Rattle.cip_incumbent.specs.declared.offers.Offered.TheVariants.{Taken, NotBetter, Breaks}
 use Rattle.cip_search.specs.SearchState.{IsAttained}
@@ -53,3 +56,26 @@ pub no_dearer_after : (program : Program) (old new : Holding) (answer : Offered)
 no_dearer_after program old new Taken point verdict h e f = subst (λ t. IsNoDearer (cost_held t) (cost_held old)) (sym f) (taken_no_dearer program point old verdict h (sym e))
 no_dearer_after program old new NotBetter point verdict h e f = subst (λ t. IsNoDearer (cost_held t) (cost_held old)) (sym f) (itself (cost_held old))
 no_dearer_after program old new (Breaks v) point verdict h e f = subst (λ t. IsNoDearer (cost_held t) (cost_held old)) (sym f) (itself (cost_held old))
+
+-- the point held is still one of the program
+pub holding_after : (program : Program) (old new : Holding) (answer : Offered) (point : List ℚ) → IsFeasible program point → new ≡ after_offer answer program point old → HoldsPointOf program old → HoldsPointOf program new
+holding_after program old new Taken point h f k = subst (HoldsPointOf program) (sym f) (record { feasible = h; cost = refl })
+holding_after program old new NotBetter point h f k = subst (HoldsPointOf program) (sym f) k
+holding_after program old new (Breaks v) point h f k = subst (HoldsPointOf program) (sym f) k
+
+-- so it has as much room
+pub room_after : (program : Program) (old new : Holding) (answer : Offered) (point : List ℚ) → new ≡ after_offer answer program point old → old.columns ≡ columns program → new.columns ≡ columns program
+room_after program old new Taken point f r = ap (λ (t : Holding). t.columns) f ∙ r
+room_after program old new NotBetter point f r = ap (λ (t : Holding). t.columns) f ∙ r
+room_after program old new (Breaks v) point f r = ap (λ (t : Holding). t.columns) f ∙ r
+
+-- a point that is feasible at this cost is offered: that is what a test of it comes to
+module _ (program : Program) (old new : Holding) (answer : Offered) (point : List ℚ) (cost : ℚ) (formed : IsWellFormed program) (long : length point ≡ columns program) (found : verdict_of program point ≡ Feasible cost) (is_answer : answer ≡ taken_if (is_cheaper cost old.best)) (is_after : new ≡ after_taking answer cost point old) where
+  pub known : VerdictHolds program point (Feasible cost)
+  known = subst (VerdictHolds program point) found (verdict_holds program point formed long)
+
+  pub known_answer : answer ≡ offered old.best (verdict_of program point)
+  known_answer = is_answer ∙ ap (offered old.best) (sym found)
+
+  pub known_after : new ≡ after_offer answer program point old
+  known_after = subst (λ t. new ≡ after_taking answer t point old) known.1 is_after

@@ -34,9 +34,9 @@ impl<'a> Core<'a> {
     {
         let Solved { values, answer } = solved;
         match answer {
-            LeafAnswer::Best { point, cost: _ } => {
+            LeafAnswer::Best { point, cost } => {
                 let _columns = self.program.columns();
-                let _answer = self.offer(&node, point.as_slice());
+                let _answer = self.offer_at(&node, cost, point.as_slice());
                 self.close_empty(node);
                 NodeEnd::Solved
             }

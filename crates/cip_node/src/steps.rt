@@ -5,6 +5,7 @@ ghost use Rattle.cip_problem.specs.Wholes.{AllHaveWholes};
 ghost use Rattle.cip_problem.specs.Box.{sides_at};
 ghost use Rattle.cip_problem.specs.WellFormed.{columns};
 ghost use Rattle.cip_model.specs.Verdicts.{verdict_of};
+ghost use Rattle.cip_model.specs.declared.verdicts.Verdict.TheVariants.{Feasible};
 ghost use Rattle.cip_incumbent.specs.HeldPoint.{offered, after_offer};
 ghost use Rattle.cip_node_rules.specs.OpenColumns.{is_whole_at};
 ghost use Rattle.cip_node_rules.specs.SplitRules.{LeavesBoth};
@@ -222,6 +223,26 @@ impl<'a> Core<'a> {
         self.incumbent.offer(self.program, point)
     }
 
+    /// Holds a point that is known to be feasible at this cost, if that is less than the cost held; the nodes are as they
+    /// were.
+    fn hold_at(&mut self, node: &Node, cost: Frac, point: &[Frac]) -> Offered
+        requires kept { IsKept self.old.program.now self.old.tree (cost_held self.old.incumbent)
+            (shown self.old.tree node.now ∷ []) }
+        requires holding { IsHolding self.old.program.now self.old.incumbent }
+        requires values { length point.now ≡ columns self.old.program.now }
+        requires found { verdict_of self.old.program.now point.now ≡ Feasible cost }
+        ensures answer { result ≡ offered self.old.incumbent.best (verdict_of self.old.program.now point.now) }
+        ensures after { self.new.incumbent ≡ after_offer result self.old.program.now point.now self.old.incumbent }
+        ensures kept { IsKept self.new.program.now self.new.tree (cost_held self.new.incumbent)
+            (shown self.new.tree node.now ∷ []) }
+        ensures holding { IsHolding self.new.program.now self.new.incumbent }
+        ensures no_dearer { IsNoDearer (cost_held self.new.incumbent) (cost_held self.old.incumbent) }
+        ensures frame { self.new ≡ record self.old { incumbent = self.new.incumbent } }
+    {
+        let _columns = self.program.columns();
+        self.incumbent.offer_at(cost, point)
+    }
+
     /// Offers a point, while a node is in work: it is held, if it is feasible and cheaper than the point held, and then
     /// open nodes that don't matter any more are let go.
     pub(crate) fn offer(&mut self, node: &Node, point: &[Frac]) -> Offered
@@ -245,7 +266,38 @@ impl<'a> Core<'a> {
         ensures frame { self.new ≡ record self.old { tree = self.new.tree; incumbent = self.new.incumbent } }
     {
         let answer = self.hold(node, point);
-        self.let_go_beside(node);
+        if matches!(answer, Offered::Taken) {
+            self.let_go_beside(node);
+        }
+        answer
+    }
+
+    /// Offers a point that is known to be feasible at this cost, as `offer` does, and doesn't test it again.
+    pub(crate) fn offer_at(&mut self, node: &Node, cost: Frac, point: &[Frac]) -> Offered
+        requires kept { IsKept self.old.program.now self.old.tree (cost_held self.old.incumbent)
+            (shown self.old.tree node.now ∷ []) }
+        requires taken { IsTaken self.old.tree node.now }
+        requires holding { IsHolding self.old.program.now self.old.incumbent }
+        requires values { length point.now ≡ columns self.old.program.now }
+        requires found { verdict_of self.old.program.now point.now ≡ Feasible cost }
+        ensures answer { result ≡ offered self.old.incumbent.best (verdict_of self.old.program.now point.now) }
+        ensures after { self.new.incumbent ≡ after_offer result self.old.program.now point.now self.old.incumbent }
+        ensures kept { IsKept self.new.program.now self.new.tree (cost_held self.new.incumbent)
+            (shown self.new.tree node.now ∷ []) }
+        ensures taken { IsTaken self.new.tree node.now }
+        ensures same { shown self.new.tree node.now ≡ shown self.old.tree node.now }
+        ensures holding { IsHolding self.new.program.now self.new.incumbent }
+        ensures no_dearer { IsNoDearer (cost_held self.new.incumbent) (cost_held self.old.incumbent) }
+        ensures tree { self.new.tree ≡ record self.old.tree {
+          open_ = self.new.tree.open_;
+          taken = self.new.tree.taken;
+        } }
+        ensures frame { self.new ≡ record self.old { tree = self.new.tree; incumbent = self.new.incumbent } }
+    {
+        let answer = self.hold_at(node, cost, point);
+        if matches!(answer, Offered::Taken) {
+            self.let_go_beside(node);
+        }
         answer
     }
 

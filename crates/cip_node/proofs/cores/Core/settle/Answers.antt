@@ -4,6 +4,7 @@ use Rattle.cip_leaves.specs.Searched.{first_node}
 use Rattle.cip_problem.proofs.Points.AtPlaces.{IsInBox-long}
 use Rattle.cip_cuts.specs.Improving.{HasNoImproving, IsNoDearer}
 use Rattle.cip_leaf.specs.LeafAnswers.{IsBest, IsLeafAnswer, shown_as}
+use Rattle.cip_model.specs.Verdicts.{verdict_of}
 use Rattle.cip_tree.specs.Nodes.{box_of}
 use Rattle.cip_node.specs.KeptNodes.{cost_held, IsKept}
 use Rattle.cip_node.specs.NodeEnds.{IsEmptied, IsSolved, IsAside, IsEndless}
@@ -12,26 +13,31 @@ use Rattle.cip_node.proofs.Offering.{itself}
 use Rattle.cip_node.proofs.LeafSettled.{none_there, best_settles}
 use Rattle.cip_node.proofs.cores.Core.settle.Goals as goal
 
-pub offer-answer-requires-clause-values : goal.offer-answer-requires-clause-values
-offer-answer-requires-clause-values c =
+pub offer_at-answer-requires-clause-values : goal.offer_at-answer-requires-clause-values
+offer_at-answer-requires-clause-values c =
     let r = subst (IsLeafAnswer c.args.self.now.program.now c.args.solved.values.items) c.in-Best.is c.requires.answer in
     ap length c.as_slice.ensures.value ∙ IsInBox-long c.args.self.now.program.now.bounds c.in-Best.point.items r.is_point.feasible.within ∙ c.columns-columns.ensures.formed.bounds
+
+pub offer_at-answer-requires-clause-found : goal.offer_at-answer-requires-clause-found
+offer_at-answer-requires-clause-found c =
+    let r = subst (IsLeafAnswer c.args.self.now.program.now c.args.solved.values.items) c.in-Best.is c.requires.answer in
+    ap (verdict_of c.args.self.now.program.now) c.as_slice.ensures.value ∙ r.found
 
 pub close_empty-requires-clause-empty : goal.close_empty-requires-clause-empty
 close_empty-requires-clause-empty c =
     let r = subst (IsLeafAnswer c.args.self.now.program.now c.args.solved.values.items) c.in-Best.is c.requires.answer in
     let b = subst (λ p. IsBest c.args.self.now.program.now c.args.solved.values.items p c.in-Best.cost) (sym c.as_slice.ensures.value) r in
-    let none = best_settles c.args.self.now.program.now (box_of c.args.self.now.tree c.args.node) c.args.solved.values.items c.as_slice.result.now c.in-Best.cost c.args.self.now.incumbent c.offer-answer.new.self.incumbent c.offer-answer.result c.requires.only b c.offer-answer.ensures.answer c.offer-answer.ensures.after in
-    subst (λ s. HasNoImproving s.program.now (cost_held c.offer-answer.new.self.incumbent) (box_of c.offer-answer.new.self.tree c.args.node)) (sym c.offer-answer.ensures.frame)
-    (subst (HasNoImproving c.args.self.now.program.now (cost_held c.offer-answer.new.self.incumbent)) (sym (ap (λ (n : Node). n.box) c.offer-answer.ensures.same)) none)
+    let none = best_settles c.args.self.now.program.now (box_of c.args.self.now.tree c.args.node) c.args.solved.values.items c.as_slice.result.now c.in-Best.cost c.args.self.now.incumbent c.offer_at-answer.new.self.incumbent c.offer_at-answer.result c.requires.only b c.offer_at-answer.ensures.answer c.offer_at-answer.ensures.after in
+    subst (λ s. HasNoImproving s.program.now (cost_held c.offer_at-answer.new.self.incumbent) (box_of c.offer_at-answer.new.self.tree c.args.node)) (sym c.offer_at-answer.ensures.frame)
+    (subst (HasNoImproving c.args.self.now.program.now (cost_held c.offer_at-answer.new.self.incumbent)) (sym (ap (λ (n : Node). n.box) c.offer_at-answer.ensures.same)) none)
 
 pub close_empty-requires-in-NoPoint-clause-empty : goal.close_empty-requires-in-NoPoint-clause-empty
 close_empty-requires-in-NoPoint-clause-empty c =
     none_there c.args.self.now.program.now (cost_held c.args.self.now.incumbent) (box_of c.args.self.now.tree c.args.node) c.args.solved.values.items c.requires.only
     (subst (IsLeafAnswer c.args.self.now.program.now c.args.solved.values.items) c.in-NoPoint.is c.requires.answer)
 
-pub offer-answer-requires-in-Unbounded-clause-values : goal.offer-answer-requires-in-Unbounded-clause-values
-offer-answer-requires-in-Unbounded-clause-values c =
+pub offer-answer-requires-clause-values : goal.offer-answer-requires-clause-values
+offer-answer-requires-clause-values c =
     let r = subst (IsLeafAnswer c.args.self.now.program.now c.args.solved.values.items) c.in-Unbounded.is c.requires.answer in
     ap length c.as_slice-in-Unbounded.ensures.value ∙ IsInBox-long c.args.self.now.program.now.bounds c.in-Unbounded.point.items r.is_point.feasible.within ∙ c.columns-columns-in-Unbounded.ensures.formed.bounds
 
@@ -45,13 +51,13 @@ pub returns-in-Best-clause-end : goal.returns-in-Best-clause-end
 returns-in-Best-clause-end c =
     let r = subst (IsLeafAnswer c.args.self.now.program.now c.args.solved.values.items) c.in-Best.is c.requires.answer in
     let b = subst (λ p. IsBest c.args.self.now.program.now c.args.solved.values.items p c.in-Best.cost) (sym c.as_slice.ensures.value) r in
-    let none = best_settles c.args.self.now.program.now (box_of c.args.self.now.tree c.args.node) c.args.solved.values.items c.as_slice.result.now c.in-Best.cost c.args.self.now.incumbent c.offer-answer.new.self.incumbent c.offer-answer.result c.requires.only b c.offer-answer.ensures.answer c.offer-answer.ensures.after in
-    let kept = subst (λ s. IsKept s.program.now c.close_empty.new.self.tree (cost_held c.offer-answer.new.self.incumbent) []) c.offer-answer.ensures.frame
+    let none = best_settles c.args.self.now.program.now (box_of c.args.self.now.tree c.args.node) c.args.solved.values.items c.as_slice.result.now c.in-Best.cost c.args.self.now.incumbent c.offer_at-answer.new.self.incumbent c.offer_at-answer.result c.requires.only b c.offer_at-answer.ensures.answer c.offer_at-answer.ensures.after in
+    let kept = subst (λ s. IsKept s.program.now c.close_empty.new.self.tree (cost_held c.offer_at-answer.new.self.incumbent) []) c.offer_at-answer.ensures.frame
     (subst (λ s. IsKept s.program.now c.close_empty.new.self.tree (cost_held s.incumbent) []) c.close_empty.ensures.frame c.close_empty.ensures.kept) in
     subst (λ s. IsSolved s.program.now (cost_held s.incumbent) c.args.self.now.tree c.close_empty.new.self.tree c.args.node) (sym c.close_empty.ensures.frame)
-    (subst (λ s. IsSolved s.program.now (cost_held c.offer-answer.new.self.incumbent) c.args.self.now.tree c.close_empty.new.self.tree c.args.node) (sym c.offer-answer.ensures.frame)
-    (solved_end c.args.self.now.program.now (cost_held c.offer-answer.new.self.incumbent) c.args.self.now.tree c.offer-answer.new.self.tree c.close_empty.new.self.tree c.args.node c.close_empty.new.self.tree.taken c.args.solved.values.items c.in-Best.point.items
-    (same_work c.args.self.now.tree c.offer-answer.new.self.tree c.args.node c.offer-answer.new.self.tree.open_ c.offer-answer.new.self.tree.taken c.offer-answer.ensures.tree c.offer-answer.ensures.same)
+    (subst (λ s. IsSolved s.program.now (cost_held c.offer_at-answer.new.self.incumbent) c.args.self.now.tree c.close_empty.new.self.tree c.args.node) (sym c.offer_at-answer.ensures.frame)
+    (solved_end c.args.self.now.program.now (cost_held c.offer_at-answer.new.self.incumbent) c.args.self.now.tree c.offer_at-answer.new.self.tree c.close_empty.new.self.tree c.args.node c.close_empty.new.self.tree.taken c.args.solved.values.items c.in-Best.point.items
+    (same_work c.args.self.now.tree c.offer_at-answer.new.self.tree c.args.node c.offer_at-answer.new.self.tree.open_ c.offer_at-answer.new.self.tree.taken c.offer_at-answer.ensures.tree c.offer_at-answer.ensures.same)
     c.close_empty.ensures.tree kept c.requires.only r.is_point none))
 
 pub returns-in-NoPoint-clause-end : goal.returns-in-NoPoint-clause-end
@@ -65,14 +71,14 @@ returns-in-NoPoint-clause-end c =
 pub returns-in-Unbounded-clause-end : goal.returns-in-Unbounded-clause-end
 returns-in-Unbounded-clause-end c =
     let r = subst (IsLeafAnswer c.args.self.now.program.now c.args.solved.values.items) c.in-Unbounded.is c.requires.answer in
-    let bound = c.offer-answer-in-Unbounded.new.self.tree.root.bound in
+    let bound = c.offer-answer.new.self.tree.root.bound in
     let log = c.park_endless.new.self.tree.log in
-    let logged = subst (λ s. AllFollow s.program.now.integral (first_node s.program.now bound ∷ []) [] log) c.offer-answer-in-Unbounded.ensures.frame
+    let logged = subst (λ s. AllFollow s.program.now.integral (first_node s.program.now bound ∷ []) [] log) c.offer-answer.ensures.frame
     (subst (λ s. AllFollow s.program.now.integral (first_node s.program.now bound ∷ []) [] log) c.park_endless.ensures.frame c.park_endless.ensures.logged) in
     subst (λ s. IsEndless s.program.now c.args.self.now.tree c.park_endless.new.self.tree c.args.node c.in-Unbounded.point.items c.in-Unbounded.ray.items) (sym c.park_endless.ensures.frame)
-    (subst (λ s. IsEndless s.program.now c.args.self.now.tree c.park_endless.new.self.tree c.args.node c.in-Unbounded.point.items c.in-Unbounded.ray.items) (sym c.offer-answer-in-Unbounded.ensures.frame)
-    (endless_end c.args.self.now.program.now c.args.self.now.tree c.offer-answer-in-Unbounded.new.self.tree c.park_endless.new.self.tree c.args.node c.park_endless.new.self.tree.taken c.in-Unbounded.point.items c.in-Unbounded.ray.items
-    (same_work c.args.self.now.tree c.offer-answer-in-Unbounded.new.self.tree c.args.node c.offer-answer-in-Unbounded.new.self.tree.open_ c.offer-answer-in-Unbounded.new.self.tree.taken c.offer-answer-in-Unbounded.ensures.tree c.offer-answer-in-Unbounded.ensures.same)
+    (subst (λ s. IsEndless s.program.now c.args.self.now.tree c.park_endless.new.self.tree c.args.node c.in-Unbounded.point.items c.in-Unbounded.ray.items) (sym c.offer-answer.ensures.frame)
+    (endless_end c.args.self.now.program.now c.args.self.now.tree c.offer-answer.new.self.tree c.park_endless.new.self.tree c.args.node c.park_endless.new.self.tree.taken c.in-Unbounded.point.items c.in-Unbounded.ray.items
+    (same_work c.args.self.now.tree c.offer-answer.new.self.tree c.args.node c.offer-answer.new.self.tree.open_ c.offer-answer.new.self.tree.taken c.offer-answer.ensures.tree c.offer-answer.ensures.same)
     c.park_endless.ensures.tree logged r.is_point.feasible r.shown))
 
 pub returns-in-Wide-clause-end : goal.returns-in-Wide-clause-end
