@@ -5,21 +5,21 @@ use Rattle.clap.proofs.OnLiterals.{clap_on_literals}
 use Rattle.cip_words.specs.Jobs.{Solve, Check, cip_command, job_of}
 
 -- `solve` and a name ask for the usual number of nodes
-pub usual : job_of (codes "solve" ∷ codes "M" ∷ []) ≡ Some (Solve (codes "M") None 1000000)
+pub usual : job_of (codes "solve" ∷ codes "M" ∷ []) ≡ Some (Solve (codes "M") None (record { nodes = 1000000; gap = None }))
 unfolding clap_on_literals cip_command job_of
 usual = refl
 
 -- as many nodes as `--nodes` says, before the name or behind it
-pub five : job_of (codes "solve" ∷ codes "--nodes=5" ∷ codes "M" ∷ []) ≡ Some (Solve (codes "M") None 5)
+pub five : job_of (codes "solve" ∷ codes "--nodes=5" ∷ codes "M" ∷ []) ≡ Some (Solve (codes "M") None (record { nodes = 5; gap = None }))
 unfolding clap_on_literals cip_command job_of
 five = refl
 
-pub most : job_of (codes "solve" ∷ codes "M" ∷ codes "--nodes" ∷ codes "1099511627776" ∷ []) ≡ Some (Solve (codes "M") None 1099511627776)
+pub most : job_of (codes "solve" ∷ codes "M" ∷ codes "--nodes" ∷ codes "1099511627776" ∷ []) ≡ Some (Solve (codes "M") None (record { nodes = 1099511627776; gap = None }))
 unfolding clap_on_literals cip_command job_of
 most = refl
 
 -- `--plain` changes nothing of the job
-pub plain : job_of (codes "solve" ∷ codes "M" ∷ codes "--plain" ∷ []) ≡ Some (Solve (codes "M") None 1000000)
+pub plain : job_of (codes "solve" ∷ codes "M" ∷ codes "--plain" ∷ []) ≡ Some (Solve (codes "M") None (record { nodes = 1000000; gap = None }))
 unfolding clap_on_literals cip_command job_of
 plain = refl
 
@@ -66,7 +66,7 @@ unfolding clap_on_literals cip_command job_of
 version = refl
 
 -- the blocks of a text, and a point that is to be checked
-pub blocks : job_of (codes "solve" ∷ codes "M" ∷ codes "--blocks" ∷ codes "B" ∷ []) ≡ Some (Solve (codes "M") (Some (codes "B")) 1000000)
+pub blocks : job_of (codes "solve" ∷ codes "M" ∷ codes "--blocks" ∷ codes "B" ∷ []) ≡ Some (Solve (codes "M") (Some (codes "B")) (record { nodes = 1000000; gap = None }))
 unfolding clap_on_literals cip_command job_of
 blocks = refl
 

@@ -11,7 +11,14 @@ use Rattle.clap.specs.ValueTests.{is_unsigned_in}
 use Rattle.clap.specs.Values.{IsUnsignedIn}
 use Rattle.clap.specs.declared.builder.value_parser.ValueParser.TheVariants as vp
 use Rattle.clap.proofs.ValueTestLemmas.{accepts-Accepts, Accepts-accepts}
-use Rattle.cip_words.specs.Jobs.{Job, Solve, Check, AsksForSome, cip_command, check_behind, check_with, job_at, job_behind, job_of, solve_with, most_nodes, nodes_of, unless_faulty, usual_nodes}
+use Rattle.std.proofs.lemmas.Option.{same_Some}
+use Rattle.cip_rational.specs.Rational.{ℚ, zeroℚ, le_test}
+use Rattle.cip_number_text.specs.Numeral.{value_of}
+use Rattle.cip_number_text.specs.FractionText.{fraction_of}
+use Rattle.cip_text.specs.NumberFaults.{faulty}
+use Rattle.cip_text.specs.declared.number_text.NumberFault.{NumberFault}
+use Rattle.cip_text.specs.declared.number_text.NumberFault.TheVariants.{NotANumber, Huge, TooFine}
+use Rattle.cip_words.specs.Jobs.{Limits, Job, Solve, Check, AsksForSome, at_least_zero, gap_of, cip_command, check_behind, check_with, job_at, job_behind, job_of, solve_with, most_nodes, nodes_of, unless_faulty, usual_nodes}
 
 number_of : (same : Bool) (text : List ℕ) → is_unsigned_in 1 most_nodes text ≡ same → nodes_of (Some text) ≡ (if same then Some (digits_value 10 (without_leading_plus text)) else None)
 number_of same text e = ap (λ (b : Bool). if b then Some (digits_value 10 (without_leading_plus text)) else None) e
@@ -29,21 +36,46 @@ no_nodes text n = number_of false text (is_not (is_unsigned_in 1 most_nodes text
     is_not true e = absurd (n (accepts-Accepts false (vp.Unsigned 1 most_nodes) text e))
     is_not false e = refl
 
+-- ---- the gap that a word says
+
+-- a number is at least 0 where the test says so
+pub gap_by : (gap zero : ℚ) (test same : Bool) → zero ≡ zeroℚ → test ≡ le_test zero gap → test ≡ same → (if same then Some gap else None) ≡ at_least_zero (Some gap)
+gap_by gap zero test same z t e =
+    ap (λ (b : Bool). if b then Some gap else None) (sym e ∙ (t ∙ ap (λ x. le_test x gap) z))
+
+no_value : (fault : NumberFault) → value_of (faulty fault) ≡ None
+no_value NotANumber = refl
+no_value (Huge negative) = refl
+no_value TooFine = refl
+
+-- a faulty text says none
+pub no_fraction : (text : List ℕ) (fault : NumberFault) → fraction_of text ≡ faulty fault → None ≡ at_least_zero (value_of (fraction_of text))
+no_fraction text fault e = sym (ap (λ n. at_least_zero (value_of n)) e ∙ ap at_least_zero (no_value fault))
+
 -- ---- the job of what stands behind `solve`, or `check`
 
-solve_from : (f : Found) (model blocks nodes : Option (List ℕ)) → model ≡ first_value f (codes "model") → blocks ≡ first_value f (codes "blocks") → nodes ≡ first_value f (codes "nodes") → job_behind (rows_of f) ≡ solve_with model blocks (nodes_of nodes)
-solve_from f model blocks nodes m b n =
-    ap (λ (x : Option (List ℕ)). solve_with x (first_of (codes "blocks") (rows_of f)) (nodes_of (first_of (codes "nodes") (rows_of f)))) (sym (first_value-rows f (codes "model")) ∙ sym m)
-    ∙ ap₂ (λ (x y : Option (List ℕ)). solve_with model x (nodes_of y)) (sym (first_value-rows f (codes "blocks")) ∙ sym b) (sym (first_value-rows f (codes "nodes")) ∙ sym n)
+solve_from : (f : Found) (model blocks nodes gap : Option (List ℕ)) → model ≡ first_value f (codes "model") → blocks ≡ first_value f (codes "blocks") → nodes ≡ first_value f (codes "nodes") → gap ≡ first_value f (codes "gap") → job_behind (rows_of f) ≡ solve_with model blocks (nodes_of nodes) (gap_of gap)
+solve_from f model blocks nodes gap m b n g =
+    ap (λ (x : Option (List ℕ)). solve_with x (first_of (codes "blocks") (rows_of f)) (nodes_of (first_of (codes "nodes") (rows_of f))) (gap_of (first_of (codes "gap") (rows_of f)))) (sym (first_value-rows f (codes "model")) ∙ sym m)
+    ∙ (ap₂ (λ (x y : Option (List ℕ)). solve_with model x (nodes_of y) (gap_of (first_of (codes "gap") (rows_of f)))) (sym (first_value-rows f (codes "blocks")) ∙ sym b) (sym (first_value-rows f (codes "nodes")) ∙ sym n)
+    ∙ ap (λ (x : Option (List ℕ)). solve_with model blocks (nodes_of nodes) (gap_of x)) (sym (first_value-rows f (codes "gap")) ∙ sym g))
 
-pub full_job : (f : Found) (model : List ℕ) (blocks word : Option (List ℕ)) (nodes : ℕ) → Some model ≡ first_value f (codes "model") → blocks ≡ first_value f (codes "blocks") → word ≡ first_value f (codes "nodes") → Some nodes ≡ nodes_of word → job_behind (rows_of f) ≡ Some (Solve model blocks nodes)
-full_job f model blocks word nodes m b n e = solve_from f (Some model) blocks word m b n ∙ sym (ap (solve_with (Some model) blocks) e)
+pub full_job : (f : Found) (model : List ℕ) (blocks word other : Option (List ℕ)) (nodes : ℕ) (gap : Option ℚ) → Some model ≡ first_value f (codes "model") → blocks ≡ first_value f (codes "blocks") → word ≡ first_value f (codes "nodes") → other ≡ first_value f (codes "gap") → Some nodes ≡ nodes_of word → Some gap ≡ gap_of other → job_behind (rows_of f) ≡ Some (Solve model blocks (record { nodes = nodes; gap = gap }))
+full_job f model blocks word other nodes gap m b n g e h =
+    solve_from f (Some model) blocks word other m b n g ∙ (sym (ap (λ t. solve_with (Some model) blocks t (gap_of other)) e) ∙ sym (ap (solve_with (Some model) blocks (Some nodes)) h))
 
 pub no_number : (f : Found) (model : List ℕ) (word : Option (List ℕ)) → Some model ≡ first_value f (codes "model") → word ≡ first_value f (codes "nodes") → None ≡ nodes_of word → job_behind (rows_of f) ≡ None
-no_number f model word m n e = solve_from f (Some model) (first_value f (codes "blocks")) word m refl n ∙ sym (ap (solve_with (Some model) _) e)
+no_number f model word m n e =
+    let gap = first_value f (codes "gap") in
+    solve_from f (Some model) (first_value f (codes "blocks")) word gap m refl n refl ∙ sym (ap (λ t. solve_with (Some model) (first_value f (codes "blocks")) t (gap_of gap)) e)
+
+pub no_gap : (f : Found) (model : List ℕ) (word other : Option (List ℕ)) (nodes : ℕ) → Some model ≡ first_value f (codes "model") → word ≡ first_value f (codes "nodes") → other ≡ first_value f (codes "gap") → Some nodes ≡ nodes_of word → None ≡ gap_of other → job_behind (rows_of f) ≡ None
+no_gap f model word other nodes m n g e h =
+    let blocks = first_value f (codes "blocks") in
+    solve_from f (Some model) blocks word other m refl n g ∙ (sym (ap (λ t. solve_with (Some model) blocks t (gap_of other)) e) ∙ sym (ap (solve_with (Some model) blocks (Some nodes)) h))
 
 pub no_model : (f : Found) → None ≡ first_value f (codes "model") → job_behind (rows_of f) ≡ None
-no_model f m = solve_from f None (first_value f (codes "blocks")) (first_value f (codes "nodes")) m refl refl
+no_model f m = solve_from f None (first_value f (codes "blocks")) (first_value f (codes "nodes")) (first_value f (codes "gap")) m refl refl refl
 
 check_from : (f : Found) (model point : Option (List ℕ)) → model ≡ first_value f (codes "model") → point ≡ first_value f (codes "point") → check_behind (rows_of f) ≡ check_with model point
 check_from f model point m n = ap₂ (λ (model point : Option (List ℕ)). check_with model point) (sym (first_value-rows f (codes "model")) ∙ sym m) (sym (first_value-rows f (codes "point")) ∙ sym n)
@@ -73,13 +105,18 @@ nodes_range : (word : Option (List ℕ)) (nodes : ℕ) → nodes_of word ≡ Som
 nodes_range None nodes h = usual_range nodes h
 nodes_range (Some text) nodes h = range_of text nodes (is_unsigned_in 1 most_nodes text) refl h
 
-job_range : (model blocks : Option (List ℕ)) (nodes : Option ℕ) (word : Option (List ℕ)) (job : Job) → nodes_of word ≡ nodes → solve_with model blocks nodes ≡ Some job → AsksForSome job
-job_range (Some model) blocks (Some nodes) word (Solve told others n) w h =
-    let same : nodes ≡ n = cc in
-    nodes_range word n (w ∙ ap Some same)
-job_range (Some model) blocks (Some nodes) word (Check told point) w h = tt
-job_range (Some model) blocks None word job w h = absurd (cc)
-job_range None blocks nodes word job w h = absurd (cc)
+limits_same : (model other : List ℕ) (blocks others : Option (List ℕ)) (x y : Limits) → Solve model blocks x ≡ Solve other others y → x ≡ y
+limits_same model other blocks others x y e = cc
+
+job_range : (model blocks : Option (List ℕ)) (nodes : Option ℕ) (gap : Option (Option ℚ)) (word : Option (List ℕ)) (job : Job) → nodes_of word ≡ nodes → solve_with model blocks nodes gap ≡ Some job → AsksForSome job
+job_range (Some model) blocks (Some nodes) (Some gap) word (Solve told others limits) w h =
+    let asked : Limits = record { nodes = nodes; gap = gap } in
+    let same : nodes ≡ limits.nodes = ap (λ (l : Limits). l.nodes) (limits_same model told blocks others asked limits (same_Some _ _ h)) in
+    nodes_range word limits.nodes (w ∙ ap Some same)
+job_range (Some model) blocks (Some nodes) (Some gap) word (Check told point) w h = tt
+job_range (Some model) blocks (Some nodes) None word job w h = absurd (cc)
+job_range (Some model) blocks None gap word job w h = absurd (cc)
+job_range None blocks nodes gap word job w h = absurd (cc)
 
 check_range : (model point : Option (List ℕ)) (job : Job) → check_with model point ≡ Some job → AsksForSome job
 check_range (Some model) (Some point) (Solve told others n) h = absurd (cc)
@@ -92,7 +129,7 @@ at_check entered true job h = check_range _ _ job h
 at_check entered false job h = absurd (cc)
 
 at_range : (entered : Text × List Row) (same : Bool) (job : Job) → (if same then job_behind entered.1 else (if bytes_eq entered.0 (codes "check") then check_behind entered.1 else None)) ≡ Some job → AsksForSome job
-at_range entered true job h = job_range _ _ _ (first_of (codes "nodes") entered.1) job refl h
+at_range entered true job h = job_range _ _ _ _ (first_of (codes "nodes") entered.1) job refl h
 at_range entered false job h = at_check entered (bytes_eq entered.0 (codes "check")) job h
 
 entered_range : (entered : Option (Text × List Row)) (job : Job) → option_and_then job_at entered ≡ Some job → AsksForSome job

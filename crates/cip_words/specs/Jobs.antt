@@ -1,21 +1,30 @@
 -- The words of a command line, without the program's name, and the jobs that they mean.
---     cip_command      the command, as `clap` has it: `solve MODEL [--blocks FILE] [--nodes N] [--plain]` and
+--     cip_command      the command, as `clap` has it: `solve MODEL [--blocks FILE] [--nodes N] [--gap G] [--plain]` and
 --                      `check MODEL POINT`
 --     job_of words      the job of the words, where they are accepted
 use lib.Chars.{codes}
-use Rattle.std.specs.Prelude.{⊤, ℕ, ◌≤◌, true, List, [], ◌∷◌, Option, None, Some, option_and_then, if◌then◌else◌}
+use Rattle.std.specs.Prelude.{⊤, ℕ, ◌≤◌, true, List, [], ◌∷◌, Option, None, Some}
+use Rattle.std.specs.Prelude.{option_map, option_and_then, if◌then◌else◌}
 use Rattle.std.specs.Str.{bytes_eq}
 use Rattle.std.specs.Str.Parse.{digits_value, without_leading_plus}
 use Rattle.clap.specs.Words.{App, Kinds, Row, Rule, Text, fault_of, first_of, new_app, new_rule, subcommand_of}
 use Rattle.clap.specs.Words.{with_rule, with_subcommand}
 use Rattle.clap.specs.Simple.{on_top}
 use Rattle.clap.specs.ValueTests.{is_unsigned_in}
+use Rattle.cip_rational.specs.Rational.{ℚ, zeroℚ, le_test}
+use Rattle.cip_number_text.specs.Numeral.{value_of}
+use Rattle.cip_number_text.specs.FractionText.{fraction_of}
 use Rattle.clap.specs.declared.builder.action.ArgAction.TheVariants.{SetTrue}
 
+-- what ends a search early: so many nodes, and a gap, if one is asked for
+pub record Limits : Type 0 where
+  pub nodes : ℕ
+  pub gap : Option ℚ
+
 -- what the words ask for: to solve the program of the text of this name, with the blocks of another text, if one is
--- named, by so many nodes at most; or to check the point of a text in the program of a text
+-- named, within limits; or to check the point of a text in the program of a text
 pub data Job : Type 0 where
-  Solve : (model : List ℕ) (blocks : Option (List ℕ)) (nodes : ℕ) → Job
+  Solve : (model : List ℕ) (blocks : Option (List ℕ)) (limits : Limits) → Job
   Check : (model point : List ℕ) → Job
 
 -- the nodes of a search where nothing is said of them, and the most that can be asked for, 2 ^ 40
@@ -43,13 +52,19 @@ blocks_rule = record (new_rule (codes "blocks")) { long = Some (codes "blocks") 
 abbrev pub nodes_rule : Rule
 nodes_rule = record (new_rule (codes "nodes")) { long = Some (codes "nodes") }
 
+-- `--gap G`, which may be there
+abbrev pub gap_rule : Rule
+gap_rule = record (new_rule (codes "gap")) { long = Some (codes "gap") }
+
 -- `--plain`, which may be there
 abbrev pub plain_rule : Rule
 plain_rule = record (new_rule (codes "plain")) { long = Some (codes "plain"); action = Some SetTrue }
 
 abbrev pub solve_command : App
 solve_command =
-    with_rule (with_rule (with_rule (with_rule (new_app (codes "solve")) model_rule) blocks_rule) nodes_rule) plain_rule
+    with_rule
+    (with_rule (with_rule (with_rule (with_rule (new_app (codes "solve")) model_rule) blocks_rule) nodes_rule) gap_rule)
+    plain_rule
 
 abbrev pub check_command : App
 check_command = with_rule (with_rule (new_app (codes "check")) model_rule) point_rule
@@ -69,10 +84,21 @@ nodes_of None = Some usual_nodes
 nodes_of (Some text) =
     if is_unsigned_in 1 most_nodes text then Some (digits_value 10 (without_leading_plus text)) else None
 
-abbrev pub solve_with : (model blocks : Option Text) (nodes : Option ℕ) → Option Job
-solve_with (Some model) blocks (Some nodes) = Some (Solve model blocks nodes)
-solve_with (Some model) blocks None = None
-solve_with None blocks nodes = None
+-- G: a text of a fraction that is at least 0; without a word no gap is asked for
+abbrev pub at_least_zero : Option ℚ → Option ℚ
+at_least_zero None = None
+at_least_zero (Some gap) = if le_test zeroℚ gap then Some gap else None
+
+abbrev pub gap_of : Option Text → Option (Option ℚ)
+gap_of None = Some None
+gap_of (Some text) = option_map Some (at_least_zero (value_of (fraction_of text)))
+
+abbrev pub solve_with : (model blocks : Option Text) (nodes : Option ℕ) (gap : Option (Option ℚ)) → Option Job
+solve_with (Some model) blocks (Some nodes) (Some gap) =
+    Some (Solve model blocks (record { nodes = nodes; gap = gap }))
+solve_with (Some model) blocks (Some nodes) None = None
+solve_with (Some model) blocks None gap = None
+solve_with None blocks nodes gap = None
 
 abbrev pub check_with : (model point : Option Text) → Option Job
 check_with (Some model) (Some point) = Some (Check model point)
@@ -83,7 +109,7 @@ check_with None point = None
 abbrev pub job_behind : List Row → Option Job
 job_behind rows =
     solve_with (first_of (codes "model") rows) (first_of (codes "blocks") rows)
-    (nodes_of (first_of (codes "nodes") rows))
+    (nodes_of (first_of (codes "nodes") rows)) (gap_of (first_of (codes "gap") rows))
 
 abbrev pub check_behind : List Row → Option Job
 check_behind rows = check_with (first_of (codes "model") rows) (first_of (codes "point") rows)
@@ -99,11 +125,11 @@ abbrev pub unless_faulty : Kinds → Option Job → Option Job
 unless_faulty [] job = job
 unless_faulty (kind ∷ kinds) job = None
 
--- the job of the words, where they are accepted: the command takes them, and the number of nodes is one
+-- the job of the words, where they are accepted: the command takes them, the number of nodes is one, and so is the gap
 unfoldable pub job_of : List (List ℕ) → Option Job
 job_of words = unless_faulty (fault_of cip_command words) (option_and_then job_at (subcommand_of cip_command words))
 
 -- a job to solve asks for 1 node at least, and at most the most
 abbrev pub AsksForSome : Job → Type 0
-AsksForSome (Solve model blocks nodes) = (1 ≤ nodes) × (nodes ≤ most_nodes)
+AsksForSome (Solve model blocks limits) = (1 ≤ limits.nodes) × (limits.nodes ≤ most_nodes)
 AsksForSome (Check model point) = ⊤

@@ -10,6 +10,7 @@ fn asks(words: &Words, nodes: u64) -> bool {
                 model,
                 blocks: _,
                 nodes: told,
+                gap: _,
             },
         ) => model == "M" && told == nodes,
         Ok(Job::Check { .. }) => false,
@@ -17,7 +18,7 @@ fn asks(words: &Words, nodes: u64) -> bool {
     }
 }
 
-const CASES: [(&[&str], u64); 19] = [
+const CASES: [(&[&str], u64); 24] = [
     (&["solve", "M"], 1_000_000),
     (&["solve", "M", "--nodes", "5"], 5),
     (&["solve", "--nodes=7", "--plain", "M"], 7),
@@ -40,6 +41,11 @@ const CASES: [(&[&str], u64); 19] = [
     (&["help"], 0),
     (&["solve", "M", "--version"], 0),
     (&["solve", "M", "M"], 0),
+    (&["solve", "M", "--gap", "1/2"], 1_000_000),
+    (&["solve", "--gap=0", "M", "--nodes", "5"], 5),
+    (&["solve", "M", "--gap", "x"], 0),
+    (&["solve", "M", "--gap", "-1"], 0),
+    (&["solve", "M", "--gap=-1"], 0),
 ];
 
 #[test]

@@ -2,9 +2,13 @@
 ghost use Rattle.std.specs.Prelude.{◌≡◌, ◌++◌, ◌∷◌, [], Some, None, IfOk, OnOk, OnErr, MatchResult, option_map, option_and_then, length};
 ghost use Rattle.clap.specs.Words.{app_of, kind_of, rows_of, found_of, subcommand_rows_of};
 ghost use Rattle.clap.specs.declared.error.kind.ErrorKind.TheVariants.{OutOfMemory};
-ghost use Rattle.cip_words.specs.Jobs.{AsksForSome, cip_command, nodes_of, job_behind, check_behind, job_at, job_of};
+ghost use Rattle.cip_words.specs.Jobs.{AsksForSome, cip_command, nodes_of, at_least_zero, gap_of, job_behind, check_behind, job_at, job_of};
+ghost use Rattle.cip_number_text.specs.Numeral.{value_of};
+ghost use Rattle.cip_number_text.specs.FractionText.{fraction_of};
 ghost use Rattle.cip_words.specs.WordsRead.{meant, WordsCause};
 
+use cip_frac::Frac;
+use cip_text::fraction;
 use clap::error::ErrorKind;
 use clap::{Arg, ArgAction, ArgMatches, Command, Error};
 use std::alloc::{AllocError, Global};
@@ -47,6 +51,8 @@ pub enum Job<'a> {
         blocks: Option<&'a str>,
         /// The most nodes that are taken, from 1 to 2^40.
         nodes: u64,
+        /// The gap that is asked for, if one is, at least 0.
+        gap: Option<Frac>,
     },
     /// To check a point in the program of a text.
     Check {
@@ -77,13 +83,14 @@ impl From<AllocError> for WordsFault {
     }
 }
 
-/// The command: `solve MODEL [--blocks FILE] [--nodes N] [--plain]`, and `check MODEL POINT`.
+/// The command: `solve MODEL [--blocks FILE] [--nodes N] [--gap G] [--plain]`, and `check MODEL POINT`.
 fn command<'a>(alloc: Global) -> Result<Command<'a>, AllocError>
     ensures { IfOk result (λ command. app_of command ≡ cip_command) }
 {
     let model = Arg::new(alloc, "model").required(true);
     let blocks = Arg::new(alloc, "blocks").long("blocks");
     let nodes = Arg::new(alloc, "nodes").long("nodes");
+    let gap = Arg::new(alloc, "gap").long("gap");
     let plain = Arg::new(alloc, "plain")
         .long("plain")
         .action(ArgAction::SetTrue);
@@ -91,6 +98,7 @@ fn command<'a>(alloc: Global) -> Result<Command<'a>, AllocError>
         .arg(model)?
         .arg(blocks)?
         .arg(nodes)?
+        .arg(gap)?
         .arg(plain)?;
     let checked = Arg::new(alloc, "model").required(true);
     let point = Arg::new(alloc, "point").required(true);
@@ -121,6 +129,36 @@ fn nodes_in(word: Option<&str>) -> Option<u64>
     }
 }
 
+/// A number, if it is at least 0.
+fn at_least_zero(gap: Frac) -> Option<Frac>
+    ensures { result ≡ at_least_zero (Some gap) }
+{
+    if Frac::zero() <= gap { Some(gap) } else { None }
+}
+
+/// The gap that a word says: a fraction of at least 0.
+fn gap_said(text: &str) -> Option<Frac>
+    ensures { result ≡ at_least_zero (value_of (fraction_of text.now)) }
+{
+    match fraction(text.as_bytes()) {
+        Ok(gap) => at_least_zero(gap),
+        Err(_) => None,
+    }
+}
+
+/// The gap that is asked for; none where there is no word.
+fn gap_in(word: Option<&str>) -> Option<Option<Frac>>
+    ensures { result ≡ gap_of (option_map (λ text. text.now) word.entry) }
+{
+    let Some(text) = word else {
+        return Some(None);
+    };
+    match gap_said(text) {
+        Some(gap) => Some(Some(gap)),
+        None => None,
+    }
+}
+
 /// The job of what stands behind `solve`.
 fn job_of_solve<'a>(solve: &ArgMatches<'a>) -> Result<Job<'a>, WordsFault>
     ensures { MatchResult result
@@ -131,11 +169,15 @@ fn job_of_solve<'a>(solve: &ArgMatches<'a>) -> Result<Job<'a>, WordsFault>
         return Err(WordsFault::Refused);
     };
     let blocks = solve.get_str("blocks");
-    match nodes_in(solve.get_str("nodes")) {
-        Some(nodes) => Ok(Job::Solve {
+    let Some(nodes) = nodes_in(solve.get_str("nodes")) else {
+        return Err(WordsFault::Refused);
+    };
+    match gap_in(solve.get_str("gap")) {
+        Some(gap) => Ok(Job::Solve {
             model,
             blocks,
             nodes,
+            gap,
         }),
         None => Err(WordsFault::Refused),
     }

@@ -1,13 +1,19 @@
 use Rattle.std.proofs.Common.{refl}
 use Rattle.clap.specs.Words.{found_of}
-use Rattle.cip_words.proofs.Numbers.{full_job, no_number, no_model}
+use Rattle.cip_words.proofs.Numbers.{full_job, no_number, no_gap, no_model}
 use Rattle.cip_words.proofs.words.job_of_solve.Goals as goal
 
 pub returns-in_default : goal.returns-in_default
 returns-in_default c = (refl, no_model (found_of c.args.solve.now) c.in_default.ensures)
 
-pub returns-in-Some-nodes_in : goal.returns-in-Some-nodes_in
-returns-in-Some-nodes_in c = full_job (found_of c.args.solve.now) _ _ _ _ c.in-Some.ensures c.get_str-blocks.ensures c.get_str-2.ensures c.in-Some-nodes_in.ensures
+pub returns-in_default-nodes_in : goal.returns-in_default-nodes_in
+returns-in_default-nodes_in c =
+    (refl, no_number (found_of c.args.solve.now) _ _ c.in-Some.ensures c.get_str-2.ensures c.in_default-nodes_in.ensures)
+
+pub returns-in-Some-gap_in : goal.returns-in-Some-gap_in
+returns-in-Some-gap_in c =
+    full_job (found_of c.args.solve.now) _ _ _ _ _ _ c.in-Some.ensures c.get_str-blocks.ensures c.get_str-2.ensures c.get_str-3.ensures c.in-Some-nodes_in.ensures c.in-Some-gap_in.ensures
 
 pub returns-in-None : goal.returns-in-None
-returns-in-None c = (refl, no_number (found_of c.args.solve.now) _ _ c.in-Some.ensures c.get_str-2.ensures c.in-None.ensures)
+returns-in-None c =
+    (refl, no_gap (found_of c.args.solve.now) _ _ _ _ c.in-Some.ensures c.get_str-2.ensures c.get_str-3.ensures c.in-Some-nodes_in.ensures c.in-None.ensures)
