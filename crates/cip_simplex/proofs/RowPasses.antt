@@ -1,16 +1,18 @@
 -- Passes over the entries of a row that aren't 0.
-use Rattle.std.proofs.Common.{◌≡◌, ℕ, suc, ◌+◌, ◌<◌, ◌≤◌, Bool, true, false, not, ◌&&◌, List, Option, None, Some, length, get_or, refl, sym, ap, ◌∙◌, subst, inl, inr, arith, add-one}
+use Rattle.std.proofs.Common.{◌≡◌, ℕ, zero, suc, ◌+◌, ◌<◌, ◌≤◌, Bool, true, false, not, ◌&&◌, List, Option, None, Some, length, get_or, refl, sym, ap, ◌∙◌, subst, inl, inr, arith, add-one}
 use Rattle.std.proofs.lemmas.Bool.{cases_lt}
 use Rattle.cip_rational.specs.Rational.{ℚ, zeroℚ}
+use Rattle.cip_dictionary.specs.Tables.{least}
 use Rattle.cip_dictionary.specs.Dictionary.{Dictionary, size, entry}
 use Rattle.cip_dictionary.proofs.Zeros.{is_zero_of}
 use Rattle.cip_bland.specs.declared.steps.Heading.{Heading}
 use Rattle.cip_bland.specs.Headings.{heading_for}
 use Rattle.cip_bland.specs.Rule.{may_go, drives}
-use Rattle.cip_dict.specs.SparseLines.{Kept, entry_on, AreKept, kept_of, IsPlace}
+use Rattle.cip_dict.specs.SparseLines.{Kept, AreKept, kept_of, IsPlace}
 use Rattle.cip_dict.proofs.SparseLines.{entry_kept}
 use Rattle.cip_dict.proofs.KeptLoops.{are_kept}
 use Rattle.cip_dict.proofs.Places.{place_zero, place_up, place_hit, entry_hit, entry_between, at_least, all_below}
+use Rattle.cip_bland.proofs.Searches.{least_is}
 use Rattle.cip_simplex.specs.FreeMoves.{IsCandidate, IsOneOf, IsFound}
 use Rattle.cip_simplex.specs.declared.candidates.Candidate.{Candidate}
 use Rattle.cip_simplex.proofs.FreeMoves.{found_more}
@@ -18,6 +20,10 @@ use Rattle.cip_simplex.proofs.FreeMoves.{found_more}
 -- what was found before this place of what is kept: up to some variable
 abbrev pub IsSearched : (ℕ → Bool) → ℕ → List Kept → ℕ → Option Candidate → Type 0
 IsSearched test n es at best = (m : ℕ) × (m ≤ n) × IsPlace m es at × IsFound test m best
+
+none_least : (n : ℕ) (test : ℕ → Bool) → ((v : ℕ) → v < n → test v ≡ false) → least n test ≡ None
+none_least zero test h = refl
+none_least (suc n) test h = rw (none_least n test (λ v l. h v (omega (arith, l))), h n (omega arith)) refl
 
 -- the entries of a row, and a test that no variable passes on which there is none
 module _ (n : ℕ) (f : ℕ → ℚ) (test : ℕ → Bool) (silent : (k : ℕ) → f k ≡ zeroℚ → test k ≡ false) where
@@ -77,6 +83,14 @@ module _ (n : ℕ) (f : ℕ → ℚ) (test : ℕ → Bool) (silent : (k : ℕ) �
       let found : IsFound test (e.0 + 1) chosen = found_more test e.0 best next chosen before here both in
       (e.0 + 1, omega (arith, u), rw (add-one, add-one) hit, found)
 
+  pub search_failed : (at : ℕ) (e : Kept) → IsSearched test n (kept_of n f) at None → at < length (kept_of n f) → ((d : Kept) → e ≡ get_or (kept_of n f) at d) → test e.0 ≡ false → IsSearched test n (kept_of n f) (at + 1) None
+  search_failed at e s l is here = search_more at e None None None s l is here (refl, refl)
+
+  pub search_hit : (at : ℕ) (e : Kept) → IsSearched test n (kept_of n f) at None → at < length (kept_of n f) → ((d : Kept) → e ≡ get_or (kept_of n f) at d) → test e.0 ≡ true → least n test ≡ Some e.0
+  search_hit at e s l is here =
+      least_is n test e.0 (below at e l is) here
+      (gap_found s.0 e.0 None s.3 (up s.0 at e s.2 l is) (none_between s.0 at e s.2 l is))
+
   pub search_ended : (at : ℕ) (best : Option Candidate) → length (kept_of n f) ≤ at → IsSearched test n (kept_of n f) at best → IsFound test n best
   search_ended at best l s =
       gap_found s.0 n best s.3 s.1
@@ -104,3 +118,19 @@ module _ (d : Dictionary) (i : ℕ) (heading : Heading) where
 
   pub driving_ended : (at : ℕ) (best : Option Candidate) → length (kept_of (size d) (entry d i)) ≤ at → IsSearched (drives d (entry d i) heading) (size d) (kept_of (size d) (entry d i)) at best → IsFound (drives d (entry d i) heading) (size d) best
   driving_ended at best l s = search_ended (size d) (entry d i) (drives d (entry d i) heading) silent at best l s
+
+  drives_same : (q : ℚ) (k : ℕ) → q ≡ entry d i k → drives d (λ _. q) heading k ≡ drives d (entry d i) heading k
+  drives_same q k e = ap (λ t. drives d (λ _. t) heading k) e
+
+  pub driving_failed : (at : ℕ) (e : Kept) → IsSearched (drives d (entry d i) heading) (size d) (kept_of (size d) (entry d i)) at None → at < length (kept_of (size d) (entry d i)) → ((x : Kept) → e ≡ get_or (kept_of (size d) (entry d i)) at x) → drives d (λ _. e.1) heading e.0 ≡ false → IsSearched (drives d (entry d i) heading) (size d) (kept_of (size d) (entry d i)) (at + 1) None
+  driving_failed at e s l is here =
+      let o : e.1 ≡ entry d i e.0 = own (size d) (entry d i) (drives d (entry d i) heading) silent s.0 at e s.2 l is in
+      search_failed (size d) (entry d i) (drives d (entry d i) heading) silent at e s l is (sym (drives_same e.1 e.0 o) ∙ here)
+
+  pub driving_hit : (at : ℕ) (e : Kept) → IsSearched (drives d (entry d i) heading) (size d) (kept_of (size d) (entry d i)) at None → at < length (kept_of (size d) (entry d i)) → ((x : Kept) → e ≡ get_or (kept_of (size d) (entry d i)) at x) → drives d (λ _. e.1) heading e.0 ≡ true → least (size d) (drives d (entry d i) heading) ≡ Some e.0
+  driving_hit at e s l is here =
+      let o : e.1 ≡ entry d i e.0 = own (size d) (entry d i) (drives d (entry d i) heading) silent s.0 at e s.2 l is in
+      search_hit (size d) (entry d i) (drives d (entry d i) heading) silent at e s l is (sym (drives_same e.1 e.0 o) ∙ here)
+
+  pub driving_none : (at : ℕ) → length (kept_of (size d) (entry d i)) ≤ at → IsSearched (drives d (entry d i) heading) (size d) (kept_of (size d) (entry d i)) at None → least (size d) (drives d (entry d i) heading) ≡ None
+  driving_none at l s = none_least (size d) (drives d (entry d i) heading) (search_ended (size d) (entry d i) (drives d (entry d i) heading) silent at None l s)

@@ -75,16 +75,6 @@ pub(crate) fn drives(dict: &Dict, entry: Frac, heading: Heading, k: u32) -> bool
     !vanishes(entry) && is_free(dict.sides(k), dict.stand(k), heading_for(heading, entry))
 }
 
-/// Whether the basic variable i goes this way as variable k goes where it may.
-fn is_driving(dict: &Dict, i: u32, heading: Heading, k: u32) -> bool
-    requires leaving { i < def.size dict.now }
-    requires basic { def.is_basic dict.now i ≡ true }
-    requires within { k < def.size dict.now }
-    ensures { result ≡ rule.drives dict.now (def.entry dict.now i) heading k }
-{
-    drives(dict, dict.entry(i, k), heading, k)
-}
-
 /// The least variable that takes i this way as it goes where it may.
 fn least_driving(dict: &Dict, i: u32, heading: Heading) -> Option<u32>
     requires few { def.size dict.now < 2 ^ 32 }
@@ -92,9 +82,10 @@ fn least_driving(dict: &Dict, i: u32, heading: Heading) -> Option<u32>
     requires basic { def.is_basic dict.now i ≡ true }
     ensures { result ≡ least (def.size dict.now) (rule.drives dict.now (def.entry dict.now i) heading) }
 {
-    for k in 0..dict.len() {
-        if is_driving(dict, i, heading, k as u32) {
-            return Some(k as u32);
+    for at in 0..dict.row_len(i) {
+        let (k, entry) = dict.row_entry(i, at);
+        if drives(dict, entry, heading, k) {
+            return Some(k);
         }
     }
     None

@@ -1,16 +1,18 @@
-use Rattle.std.proofs.Common.{◌≡◌, sym, arith}
-use Rattle.cip_dictionary.specs.Dictionary.{size, entry}
-use Rattle.cip_dict.proofs.LeastBasic.{least_more, least_at}
-use Rattle.cip_bland.specs.Rule as rule
+use Rattle.std.proofs.Common.{sym, arith}
+use Rattle.cip_simplex.proofs.RowPasses.{driving_below, driving_begun, driving_failed, driving_hit, driving_none}
 use Rattle.cip_simplex.proofs.choice.least_driving.Goals as goal
 
-pub returns-then-is_driving : goal.returns-then-is_driving
-returns-then-is_driving c = sym (least_at (size c.args.dict.now) c.loop-k.k (rule.drives c.args.dict.now (entry c.args.dict.now c.args.i) c.args.heading) (omega arith) c.loop-k.invariant (sym c.if-is_driving.ensures))
+pub loop-at-init : goal.loop-at-init
+loop-at-init c = driving_begun c.args.dict.now c.args.i c.args.heading
 
-pub loop-k-preserved : goal.loop-k-preserved
-loop-k-preserved c = least_more c.loop-k.k (rule.drives c.args.dict.now (entry c.args.dict.now c.args.i) c.args.heading) c.loop-k.invariant (sym c.if-is_driving.ensures)
+pub drives-requires : goal.drives-requires
+drives-requires c = driving_below c.args.dict.now c.args.i c.args.heading c.loop-at.at c.row_entry-k.result (omega arith) c.row_entry-k.ensures
+
+pub returns-then-drives : goal.returns-then-drives
+returns-then-drives c = sym (driving_hit c.args.dict.now c.args.i c.args.heading c.loop-at.at c.row_entry-k.result c.loop-at.invariant (omega arith) c.row_entry-k.ensures (sym c.if-drives.ensures))
+
+pub loop-at-preserved : goal.loop-at-preserved
+loop-at-preserved c = driving_failed c.args.dict.now c.args.i c.args.heading c.loop-at.at c.row_entry-k.result c.loop-at.invariant (omega arith) c.row_entry-k.ensures (sym c.if-drives.ensures)
 
 pub returns : goal.returns
-returns c =
-    let end : c.loop-k.k ≡ size c.args.dict.now = omega arith in
-    sym (rw end at c.loop-k.invariant)
+returns c = sym (driving_none c.args.dict.now c.args.i c.args.heading c.loop-at.at (omega arith) c.loop-at.invariant)
