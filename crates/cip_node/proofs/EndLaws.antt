@@ -20,7 +20,7 @@ use Rattle.cip_search.proofs.Relaxed.{no_more_trans}
 use Rattle.cip_tree.specs.Nodes.{TakenNode, Nodes, Base, box_of, shown}
 use Rattle.cip_tree.specs.Moves.{TakesFirst}
 use Rattle.cip_tree.specs.Searched.{IsSearched}
-use Rattle.cip_node.specs.Bounding.{IsAsGood}
+use Rattle.cip_node.specs.Bounding.{IsAsGood, HasTried}
 use Rattle.cip_node.specs.Cores.{StaysRooted}
 use Rattle.cip_node.specs.KeptNodes.{IsSearchOf, IsKept}
 use Rattle.cip_node.specs.NodeEnds.{with_bound, parked_after, LeavesEntry, IsPruned, IsEmptied, IsSolved, IsHalved, IsAside, IsEndless, IsEnd, IsOpenAgain}
@@ -118,6 +118,7 @@ module _ (old mid : Nodes) (node other : TakenNode) (w : IsSameWork old mid node
     point = h.point;
     rule = subst (λ b. IsSplitRule program.integral b h.point h.column h.at) w.box h.rule;
     good = subst (λ b. IsAsGood program lent b room h.bound mark) w.box h.good;
+    tried = subst (λ b. HasTried program held lent b h.point mark) w.box h.tried;
   }
   end_from program held lent room new mark (by.Parked leaf bound shown) h = record {
     entry = entry_from new bound Parked h.entry;
@@ -207,8 +208,8 @@ aside_end program held old new node taken leaf bound by_this e k b only is wide 
     subst (λ b. IsAside program held old new node leaf b by_this) (sym b)
     (record { entry = parked_entry old new node taken e; kept = k; wide_as = record { only = only; is_leaf = is; wide = wide } })
 
-pub halved_end : (program : Program) (held : Option ℚ) (lent : Lent) (room : ℕ) (old new : Nodes) (node : TakenNode) (mark : Option Mark) (column : ℕ) (at : ℤ) (low high : ℕ) (point : Option (List ℚ)) → new.log ≡ old.log ++ record { node = node.number; bound = node.bound; end = Split column at low high } ∷ [] → new.parked ≡ old.parked → IsKept program new held [] → IsSplitRule program.integral (box_of old node) point column at → IsAsGood program lent (box_of old node) room node.bound mark → IsHalved program held lent room old new node mark low high
-halved_end program held lent room old new node mark column at low high point e f k r g = record {
+pub halved_end : (program : Program) (held : Option ℚ) (lent : Lent) (room : ℕ) (old new : Nodes) (node : TakenNode) (mark : Option Mark) (column : ℕ) (at : ℤ) (low high : ℕ) (point : Option (List ℚ)) → new.log ≡ old.log ++ record { node = node.number; bound = node.bound; end = Split column at low high } ∷ [] → new.parked ≡ old.parked → IsKept program new held [] → IsSplitRule program.integral (box_of old node) point column at → IsAsGood program lent (box_of old node) room node.bound mark → HasTried program held lent (box_of old node) point mark → IsHalved program held lent room old new node mark low high
+halved_end program held lent room old new node mark column at low high point e f k r g t = record {
   bound = node.bound;
   column = column;
   at = at;
@@ -217,6 +218,7 @@ halved_end program held lent room old new node mark column at low high point e f
   point = point;
   rule = r;
   good = g;
+  tried = t;
 }
 
 -- ---- the tree after a node was taken up

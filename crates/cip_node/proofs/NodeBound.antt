@@ -1,5 +1,5 @@
 -- What the linear program of a node says of its bound.
-use Rattle.std.proofs.Common.{◌≡◌, ℕ, List, length, Option, None, Some, IfSome, refl, sym, ◌∙◌, subst}
+use Rattle.std.proofs.Common.{◌≡◌, ℕ, List, length, Option, None, Some, IfSome, option_map, refl, sym, ◌∙◌, subst}
 use Rattle.cip_rational.specs.Rational.{ℚ}
 use Rattle.cip_problem.specs.Program.{Sides, Program}
 use Rattle.cip_problem.specs.WellFormed.{columns}
@@ -15,6 +15,8 @@ use Rattle.cip_node_bounds.specs.NodeRows.{usable_rows}
 use Rattle.cip_node_bounds.specs.Relaxing.{node_program, ShowsLeast}
 use Rattle.cip_node_bounds.specs.Telling.{IsValidPool, NodeProgramsTell}
 use Rattle.cip_node_bounds.proofs.Told.{told}
+use Rattle.cip_node_bounds.specs.declared.relaxed.Mark.{Mark}
+use Rattle.cip_node.specs.Bounding.{IsTried, HasTried}
 use Rattle.cip_node.specs.KeptNodes.{IsPoolOf}
 
 valid_pool : (program : Program) (held : Option ℚ) (box : List Sides) (pool : Pool) → IsKept pool → pool.columns ≡ columns program → length box ≡ columns program → IsPoolOf program held pool.rows → IsValidPool program held box pool.rows
@@ -42,3 +44,8 @@ as_long f box n (Some v) e h = h ∙ e
 
 pub good_least : (program : Program) (held : Option ℚ) (pool : Pool) (box : List Sides) (point : List ℚ) (b : ℚ) (bound : Option ℚ) → NodeProgramsTell program held (lent_of program pool) box → ShowsLeast program (lent_of program pool) box point b → NoMore (Some b) bound → IsRelaxedBound program (usable_rows box pool.rows) box bound
 good_least program held pool box point b bound t s l = greater program (usable_rows box pool.rows) box (Some b) bound l (t.relaxed point b s)
+
+-- a point that was offered beside a mark, if there is one
+pub tried_if : {X : Type 0} (f : X → List ℚ) (program : Program) (held : Option ℚ) (lent : Lent) (box : List Sides) (point : Option X) (mark : Mark) → IfSome point (λ v. IsPoint (node_program program lent box) (f v)) → IfSome point (λ v. IsTried program held (f v)) → HasTried program held lent box (option_map f point) (Some mark)
+tried_if f program held lent box None mark h k = λ e. cc
+tried_if f program held lent box (Some v) mark h k = (h, k)

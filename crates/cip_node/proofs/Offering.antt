@@ -1,9 +1,9 @@
 -- What a point that is taken means for a search.
 use Rattle.std.proofs.Common.{◌≡◌, ◌∙◌, ℕ, Bool, true, false, List, length, Option, None, Some, refl, sym, ap, subst}
 use Rattle.cip_rational.specs.Rational.{ℚ, ◌≤ℚ◌}
-use Rattle.cip_rational.proofs.Rational.Order.{≤ℚ_refl, ≤ℚ_of_lt, lt_of_test}
+use Rattle.cip_rational.proofs.Rational.Order.{≤ℚ_refl, ≤ℚ_of_lt, lt_of_test, le_of_lt_test}
 use Rattle.cip_problem.specs.Program.{Program}
-use Rattle.cip_problem.specs.Points.{IsFeasible, cost_of}
+use Rattle.cip_problem.specs.Points.{AreWhole, IsFeasible, cost_of}
 use Rattle.cip_problem.specs.WellFormed.{IsWellFormed, columns}
 use Rattle.cip_cuts.specs.Improving.{IsNoDearer}
 use Rattle.cip_model.specs.Meaning.{VerdictHolds}
@@ -17,6 +17,7 @@ use Rattle.cip_incumbent.specs.declared.offers.Offered.TheVariants.{Taken, NotBe
 use Rattle.cip_search.specs.SearchState.{IsAttained}
 use Rattle.cip_problem.specs.Log.{Node}
 use Rattle.cip_tree.specs.Nodes.{Nodes}
+use Rattle.cip_node.specs.Bounding.{IsTried}
 use Rattle.cip_node.specs.KeptNodes.{cost_held, IsKept}
 use Rattle.cip_node.proofs.KeptSteps.{kept_offered}
 
@@ -79,3 +80,22 @@ module _ (program : Program) (old new : Holding) (answer : Offered) (point : Lis
 
   pub known_after : new ≡ after_offer answer program point old
   known_after = subst (λ t. new ≡ after_taking answer t point old) known.1 is_after
+
+-- ---- what is held costs no more than a point that was offered
+
+tried_case : (best : Option HeldPoint) (columns : ℕ) (cost own : ℚ) (point : List ℚ) (cheaper : Bool) → is_cheaper cost best ≡ cheaper → cost ≡ own → IsNoDearer (cost_held (after_taking (taken_if cheaper) own point (record { columns = columns; best = best }))) (Some cost)
+tried_case best columns cost own point true e f = subst (λ t. t ≤ℚ cost) f (≤ℚ_refl cost)
+tried_case None columns cost own point false e f = absurd (cc)
+tried_case (Some held) columns cost own point false e f = le_of_lt_test e
+
+pub tried_after : (program : Program) (old new : Holding) (answer : Offered) (point : List ℚ) → VerdictHolds program point (verdict_of program point) → answer ≡ offered old.best (verdict_of program point) → new ≡ after_offer answer program point old → IsTried program (cost_held new) point
+tried_after program old new answer point h e f = λ cost found.
+    let k = subst (VerdictHolds program point) found h in
+    subst (λ t. IsNoDearer (cost_held t) (Some cost)) (sym (f ∙ ap (λ a. after_offer a program point old) (e ∙ ap (offered old.best) found)))
+    (tried_case old.best old.columns cost (cost_of program point) point (is_cheaper cost old.best) refl k.1)
+
+-- a point with a fractional value on a whole column isn't found feasible
+pub fractional_tried : (program : Program) (held : Option ℚ) (point : List ℚ) → VerdictHolds program point (verdict_of program point) → ¬ AreWhole program.integral point → IsTried program held point
+fractional_tried program held point h n = λ cost found.
+    let k = subst (VerdictHolds program point) found h in
+    absurd (n k.0.whole)

@@ -1,12 +1,15 @@
 -- What the linear program of a node leaves of it.
-use Rattle.std.specs.Prelude.{◌≡◌, ℕ, List, length, Option, None, Some, IfSome}
+use Rattle.std.specs.Prelude.{◌≡◌, ⊤, ℕ, List, length, Option, None, Some, IfSome, option_map}
 use Rattle.cip_rational.specs.Rational.{ℚ}
 use Rattle.cip_problem.specs.Program.{Sides, Program}
-use Rattle.cip_cuts.specs.Improving.{HasNoImproving}
+use Rattle.cip_linear.specs.LinearProgram.{IsPoint}
+use Rattle.cip_cuts.specs.Improving.{HasNoImproving, IsNoDearer}
 use Rattle.cip_cert.specs.Lent.{Lent}
+use Rattle.cip_model.specs.Verdicts.{verdict_of}
+use Rattle.cip_model.specs.declared.verdicts.Verdict.TheVariants.{Feasible}
 use Rattle.cip_search.specs.Relaxation.{IsRelaxedBound}
 use Rattle.cip_node_bounds.specs.NodeRows.{usable_rows}
-use Rattle.cip_node_bounds.specs.Relaxing.{IsMark}
+use Rattle.cip_node_bounds.specs.Relaxing.{node_program, IsMark}
 use Rattle.cip_node_bounds.specs.declared.relaxed.Mark.{Mark}
 use Rattle.cip_node.specs.declared.bounding.Bounded.{Bounded}
 use Rattle.cip_node.specs.declared.bounding.Bounded.TheVariants.{Empty, Open}
@@ -21,3 +24,19 @@ abbrev pub IsBounded : Program → Option ℚ → Lent → List Sides → ℕ �
 IsBounded program held lent box columns bound Empty = HasNoImproving program held box
 IsBounded program held lent box columns bound (Open point mark) =
     IfSome point (λ values. length values.items ≡ length box) × IsAsGood program lent box columns bound mark
+
+-- where the test of a point finds it feasible, what is held costs no more
+abbrev pub IsTried : Program → Option ℚ → List ℚ → Type 0
+IsTried program held point = (cost : ℚ) → verdict_of program point ≡ Feasible cost → IsNoDearer held (Some cost)
+
+-- a point of the linear program of a node, which was offered; there is one, unless a mark says what was met
+abbrev pub HasTried : Program → Option ℚ → Lent → List Sides → Option (List ℚ) → Option Mark → Type 0
+HasTried program held lent box None mark = ¬ (mark ≡ None)
+HasTried program held lent box (Some point) mark =
+    IsPoint (node_program program lent box) point × IsTried program held point
+
+-- so it is where the node goes on
+abbrev pub GoesOnTried : Program → Option ℚ → Lent → List Sides → Bounded → Type 0
+GoesOnTried program held lent box Empty = ⊤
+GoesOnTried program held lent box (Open point mark) =
+    HasTried program held lent box (option_map (λ values. values.items) point) mark

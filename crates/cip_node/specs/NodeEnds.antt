@@ -16,7 +16,7 @@ use Rattle.cip_model.specs.Rays.{IsShownRay}
 use Rattle.cip_node_rules.specs.SplitRules.{IsSplitRule}
 use Rattle.cip_node_bounds.specs.declared.relaxed.Mark.{Mark}
 use Rattle.cip_tree.specs.Nodes.{TakenNode, Nodes, box_of}
-use Rattle.cip_node.specs.Bounding.{IsAsGood}
+use Rattle.cip_node.specs.Bounding.{IsAsGood, HasTried}
 use Rattle.cip_node.specs.KeptNodes.{IsSearchOf, IsKept}
 use Rattle.cip_node.specs.declared.ends.NodeEnd.{NodeEnd}
 use Rattle.cip_node.specs.declared.ends.NodeEnd.TheVariants as by
@@ -70,7 +70,7 @@ pub record IsSolved (program : Program) (held : Option ℚ) (old new : Nodes) (n
 -- ---- split nodes
 
 -- it was split by the rules, with a bound that is as good as that of its linear program, unless a mark says what that
--- met
+-- met; the point by which it was split is one of its linear program, and was offered
 pub record IsHalved
     (program : Program) (held : Option ℚ) (lent : Lent) (room : ℕ) (old new : Nodes) (node : TakenNode)
     (mark : Option Mark) (low high : ℕ) : Type 0 where
@@ -82,6 +82,7 @@ pub record IsHalved
   pub point : Option (List ℚ)
   pub rule : IsSplitRule program.integral (box_of old node) point column at
   pub good : IsAsGood program lent (box_of old node) room bound mark
+  pub tried : HasTried program held lent (box_of old node) point mark
 
 -- ---- leaves that can't be closed
 

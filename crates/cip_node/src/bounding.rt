@@ -7,7 +7,7 @@ ghost use Rattle.cip_leaves.specs.Searched.{NoMore};
 ghost use Rattle.cip_tree.specs.Nodes.{IsTaken, box_of, shown};
 ghost use Rattle.cip_node_bounds.specs.Relaxing.{IsRelaxed};
 ghost use Rattle.cip_node.specs.KeptNodes.{cost_held, IsKept, IsHolding, IsPoolOf, IsWorkplace};
-ghost use Rattle.cip_node.specs.Bounding.{IsBounded};
+ghost use Rattle.cip_node.specs.Bounding.{IsBounded, IsTried, GoesOnTried};
 
 use crate::cores::Core;
 use cip_frac::Frac;
@@ -62,6 +62,7 @@ impl<'a> Core<'a> {
         ensures same { shown self.new.tree node.now ≡ shown self.old.tree node.now }
         ensures holding { IsHolding self.new.program.now self.new.incumbent }
         ensures no_dearer { IsNoDearer (cost_held self.new.incumbent) (cost_held self.old.incumbent) }
+        ensures tried { IsTried self.new.program.now (cost_held self.new.incumbent) point.now }
         ensures tree { self.new.tree ≡ record self.old.tree {
           open_ = self.new.tree.open_;
           taken = self.new.tree.taken;
@@ -118,6 +119,8 @@ impl<'a> Core<'a> {
         ensures same { shown self.new.tree node.now ≡ shown self.old.tree node.now }
         ensures holding { IsHolding self.new.program.now self.new.incumbent }
         ensures no_dearer { IsNoDearer (cost_held self.new.incumbent) (cost_held self.old.incumbent) }
+        ensures tried { IfSome point.now
+            (λ values. IsTried self.new.program.now (cost_held self.new.incumbent) values.items) }
         ensures tree { self.new.tree ≡ record self.old.tree {
           open_ = self.new.tree.open_;
           taken = self.new.tree.taken;
@@ -155,6 +158,8 @@ impl<'a> Core<'a> {
         ensures bounded { IfOk result (IsBounded self.new.program.now (cost_held self.new.incumbent)
             (record { own = self.new.program.now.rows; pool = self.new.pool.rows; cutoff = None }) self.new.domain.box
             (length self.new.scratch.row.entries) node.new.bound) }
+        ensures tried { IfOk result (GoesOnTried self.new.program.now (cost_held self.new.incumbent)
+            (record { own = self.new.program.now.rows; pool = self.new.pool.rows; cutoff = None }) self.new.domain.box) }
         ensures place { IsWorkplace self.new.program.now self.new.rows.rows.items
             (length self.new.scratch.row.entries) self.new.pool.columns }
         ensures no_dearer { IsNoDearer (cost_held self.new.incumbent) (cost_held self.old.incumbent) }

@@ -6,7 +6,7 @@ ghost use Rattle.cip_problem.specs.WellFormed.{columns};
 ghost use Rattle.cip_tree.specs.Nodes.{IsTaken, box_of, shown};
 ghost use Rattle.cip_node_bounds.specs.declared.relaxed.Mark.{Mark};
 ghost use Rattle.cip_node_rules.specs.OpenColumns.{is_open_at, IsFirstColumn};
-ghost use Rattle.cip_node.specs.Bounding.{IsAsGood};
+ghost use Rattle.cip_node.specs.Bounding.{IsAsGood, HasTried};
 ghost use Rattle.cip_node.specs.Cores.{rows_lent, StaysRooted};
 ghost use Rattle.cip_node.specs.KeptNodes.{cost_held, IsKept};
 ghost use Rattle.cip_node.specs.NodeEnds.{IsEnd, IsOpenAgain};
@@ -43,7 +43,7 @@ impl<'a> Core<'a> {
     /// Closes a node whose bound isn't below the cost held, and splits any other by the rules, by the point of its
     /// linear program, if there is one; then open nodes that don't matter are let go. `Err` comes where memory was
     /// refused; the node is open again then. With a mark that says why its bound isn't as good as that of the linear
-    /// program, if it isn't, the end is right.
+    /// program, if it isn't, and where the point is one of that and was offered, the end is right.
     pub(crate) fn branch(
         &mut self,
         node: Node,
@@ -62,6 +62,9 @@ impl<'a> Core<'a> {
         ensures end { (mark : Option Mark)
             → IsAsGood self.old.program.now (rows_lent self.old.program.now self.old.pool) (box_of self.old.tree node)
             (length self.old.scratch.row.entries) node.bound mark
+            → HasTried self.old.program.now (cost_held self.old.incumbent)
+            (rows_lent self.old.program.now self.old.pool) (box_of self.old.tree node)
+            (option_map (λ values. values.items) point.now) mark
             → MatchResult result
             (IsEnd self.new.program.now (cost_held self.new.incumbent)
             (rows_lent self.new.program.now self.new.pool) (length self.new.scratch.row.entries) self.old.tree

@@ -1,4 +1,5 @@
-use Rattle.std.proofs.Common.{◌≡◌, length, IfSome, sym, ap, ◌∙◌, subst}
+use Rattle.std.proofs.Common.{◌≡◌, length, Some, IfSome, option_map, sym, ap, ◌∙◌, subst}
+use Rattle.cip_linear.specs.LinearProgram.{IsPoint}
 use Rattle.cip_problem.specs.WellFormed.{columns}
 use Rattle.cip_cuts.specs.Improving.{IsBoundIn, IsNoDearer}
 use Rattle.cip_search.specs.Relaxation.{IsRelaxedBound}
@@ -6,10 +7,11 @@ use Rattle.cip_search.proofs.Bounds.{no_more_itself}
 use Rattle.cip_rows.specs.RowPools.{IsKept as IsKeptPool}
 use Rattle.cip_tree.specs.Nodes.{box_of}
 use Rattle.cip_node_bounds.specs.NodeRows.{usable_rows}
-use Rattle.cip_node_bounds.specs.Relaxing.{IsRelaxed, IsMark}
+use Rattle.cip_node_bounds.specs.Relaxing.{node_program, IsRelaxed, IsMark}
+use Rattle.cip_node.specs.Bounding.{IsTried, HasTried}
 use Rattle.cip_node.specs.KeptNodes.{cost_held, IsPoolOf}
 use Rattle.cip_node.proofs.Offering.{itself}
-use Rattle.cip_node.proofs.NodeBound.{lent_of, tells, long_point, long_if, as_long, good_least}
+use Rattle.cip_node.proofs.NodeBound.{lent_of, tells, long_point, long_if, as_long, good_least, tried_if}
 use Rattle.cip_node.proofs.cores.Core.bound.Goals as goal
 
 pub returns-in_err-relaxed-clause-own : goal.returns-in_err-relaxed-clause-own
@@ -94,3 +96,24 @@ returns-in-Unsolved-clause-bounded c =
     let r = subst (IsRelaxed c.relaxed.new.self.program.now (lent_of c.relaxed.new.self.program.now c.relaxed.new.self.pool) c.relaxed.new.self.domain.box (length c.relaxed.new.self.scratch.row.entries)) c.in-Unsolved.is c.in_ok-relaxed.ensures.relaxed in
     subst (λ s. IfSome c.in-Unsolved.point (λ v. length v.items ≡ length s.domain.box) × IsMark s.program.now (lent_of s.program.now s.pool) s.domain.box (length s.scratch.row.entries) c.in-Unsolved.mark) (sym c.offer_if.ensures.frame)
     (long_if (λ v. v.items) c.relaxed.new.self.program.now (lent_of c.relaxed.new.self.program.now c.relaxed.new.self.pool) c.relaxed.new.self.domain.box c.in-Unsolved.point r.1, r.0)
+
+pub returns-in-Bound-clause-tried : goal.returns-in-Bound-clause-tried
+returns-in-Bound-clause-tried c =
+    let r = subst (IsRelaxed c.relaxed.new.self.program.now (lent_of c.relaxed.new.self.program.now c.relaxed.new.self.pool) c.relaxed.new.self.domain.box (length c.relaxed.new.self.scratch.row.entries)) c.in-Bound.is c.in_ok-relaxed.ensures.relaxed in (
+      subst (λ s. IsPoint (node_program s.program.now (lent_of s.program.now s.pool) s.domain.box) c.in-Bound.point.items) (sym c.offer_whole.ensures.frame) r.optimal.is_point,
+      subst (IsTried c.offer_whole.new.self.program.now (cost_held c.offer_whole.new.self.incumbent)) c.as_slice.ensures.value c.offer_whole.ensures.tried,
+    )
+
+pub returns-in-Falls-clause-tried : goal.returns-in-Falls-clause-tried
+returns-in-Falls-clause-tried c =
+    let r = subst (IsRelaxed c.relaxed.new.self.program.now (lent_of c.relaxed.new.self.program.now c.relaxed.new.self.pool) c.relaxed.new.self.domain.box (length c.relaxed.new.self.scratch.row.entries)) c.in-Falls.is c.in_ok-relaxed.ensures.relaxed in (
+      subst (λ s. IsPoint (node_program s.program.now (lent_of s.program.now s.pool) s.domain.box) c.in-Falls.point.items) (sym c.offer_whole-in-Falls.ensures.frame) r.is_point,
+      subst (IsTried c.offer_whole-in-Falls.new.self.program.now (cost_held c.offer_whole-in-Falls.new.self.incumbent)) c.as_slice-in-Falls.ensures.value c.offer_whole-in-Falls.ensures.tried,
+    )
+
+pub returns-in-Unsolved-clause-tried : goal.returns-in-Unsolved-clause-tried
+returns-in-Unsolved-clause-tried c =
+    let r = subst (IsRelaxed c.relaxed.new.self.program.now (lent_of c.relaxed.new.self.program.now c.relaxed.new.self.pool) c.relaxed.new.self.domain.box (length c.relaxed.new.self.scratch.row.entries)) c.in-Unsolved.is c.in_ok-relaxed.ensures.relaxed in
+    subst (λ s. HasTried s.program.now (cost_held c.offer_if.new.self.incumbent) (lent_of s.program.now s.pool) s.domain.box (option_map (λ v. v.items) c.in-Unsolved.point) (Some c.in-Unsolved.mark)) (sym c.offer_if.ensures.frame)
+    (tried_if (λ v. v.items) c.relaxed.new.self.program.now (cost_held c.offer_if.new.self.incumbent) (lent_of c.relaxed.new.self.program.now c.relaxed.new.self.pool) c.relaxed.new.self.domain.box c.in-Unsolved.point c.in-Unsolved.mark r.1
+    (subst (λ s. IfSome c.in-Unsolved.point (λ v. IsTried s.program.now (cost_held c.offer_if.new.self.incumbent) v.items)) c.offer_if.ensures.frame c.offer_if.ensures.tried))

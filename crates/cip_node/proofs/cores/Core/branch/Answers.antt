@@ -7,6 +7,7 @@ use Rattle.cip_problem.specs.Log.{Split, matters}
 use Rattle.cip_tree.specs.Nodes.{Nodes, box_of, shown}
 use Rattle.cip_node_rules.specs.SplitRules.{IsSplitRule, LeavesBoth}
 use Rattle.cip_search.proofs.Members.{here}
+use Rattle.cip_node.specs.Bounding.{HasTried}
 use Rattle.cip_node.specs.Cores.{rows_lent}
 use Rattle.cip_node.specs.KeptNodes.{cost_held, farthest, IsKept}
 use Rattle.cip_node.specs.NodeEnds.{IsPruned, IsHalved}
@@ -25,7 +26,7 @@ pub returns-then-not-does_matter-clause-end : goal.returns-then-not-does_matter-
 returns-then-not-does_matter-clause-end c =
     let passed : matters (cost_held c.args.self.now.incumbent) c.args.node.bound ≡ false =
     sym (c.does_matter.ensures ∙ ap (λ h. matters h c.bound.result) c.held_cost.ensures ∙ ap (matters (cost_held c.args.self.now.incumbent)) c.bound.ensures) ∙ c.if-not-does_matter.true in
-    λ mark good. subst (λ s. IsPruned s.program.now (cost_held s.incumbent) c.args.self.now.tree c.close_pruned.new.self.tree c.args.node) (sym c.close_pruned.ensures.frame)
+    λ mark good tried. subst (λ s. IsPruned s.program.now (cost_held s.incumbent) c.args.self.now.tree c.close_pruned.new.self.tree c.args.node) (sym c.close_pruned.ensures.frame)
     (pruned_end c.args.self.now.program.now (cost_held c.args.self.now.incumbent) c.args.self.now.tree c.close_pruned.new.self.tree c.args.node c.close_pruned.new.self.tree.taken c.close_pruned.ensures.tree
     (subst (λ s. IsKept s.program.now c.close_pruned.new.self.tree (cost_held s.incumbent) []) c.close_pruned.ensures.frame c.close_pruned.ensures.kept) passed)
 
@@ -45,7 +46,8 @@ returns-clause-end c =
     let parked = ap (λ (t : Nodes). t.parked) c.let_go.ensures.tree ∙ ap (λ (t : Nodes). t.parked) c.in_ok-low-in-Some.ensures.split.1 in
     let kept = subst (λ s. IsKept s.program.now new (cost_held s.incumbent) []) c.in_ok-low-in-Some.ensures.frame
     (subst (λ s. IsKept s.program.now new (cost_held s.incumbent) []) c.let_go.ensures.frame c.let_go.ensures.kept) in
-    λ mark good.
+    λ mark good tried.
     subst (λ s. IsHalved s.program.now (cost_held s.incumbent) (rows_lent s.program.now s.pool) (length s.scratch.row.entries) c.args.self.now.tree new node mark low high) (sym c.let_go.ensures.frame)
     (subst (λ s. IsHalved s.program.now (cost_held s.incumbent) (rows_lent s.program.now s.pool) (length s.scratch.row.entries) c.args.self.now.tree new node mark low high) (sym c.in_ok-low-in-Some.ensures.frame)
-    (halved_end c.args.self.now.program.now (cost_held c.args.self.now.incumbent) (rows_lent c.args.self.now.program.now c.args.self.now.pool) (length c.args.self.now.scratch.row.entries) c.args.self.now.tree new node mark column at low high (option_map (λ values. values.now) c.values_of-values.result) logged parked kept rule good))
+    (halved_end c.args.self.now.program.now (cost_held c.args.self.now.incumbent) (rows_lent c.args.self.now.program.now c.args.self.now.pool) (length c.args.self.now.scratch.row.entries) c.args.self.now.tree new node mark column at low high (option_map (λ values. values.now) c.values_of-values.result) logged parked kept rule good
+    (subst (λ p. HasTried c.args.self.now.program.now (cost_held c.args.self.now.incumbent) (rows_lent c.args.self.now.program.now c.args.self.now.pool) (box_of c.args.self.now.tree node) p mark) (sym c.values_of-values.ensures) tried)))

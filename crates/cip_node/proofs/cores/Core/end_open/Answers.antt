@@ -1,7 +1,8 @@
 use Rattle.std.proofs.Common.{◌≡◌, length, sym, ◌∙◌, subst}
 use Rattle.cip_cuts.specs.Improving.{HasNoImproving}
 use Rattle.cip_tree.specs.Nodes.{box_of}
-use Rattle.cip_node.specs.Bounding.{IsAsGood, IsBounded}
+use Rattle.std.specs.Prelude.{option_map}
+use Rattle.cip_node.specs.Bounding.{IsAsGood, HasTried, GoesOnTried, IsBounded}
 use Rattle.cip_node.specs.Cores.{rows_lent}
 use Rattle.cip_node.specs.KeptNodes.{cost_held}
 use Rattle.cip_node.proofs.EndLaws.{raised_work, end_from, open_from}
@@ -35,7 +36,9 @@ returns-in_Err-error-in-Ok-Open-clause-end c =
     let bounded = subst (IsBounded c.bound.new.self.program.now (cost_held c.bound.new.self.incumbent) (rows_lent c.bound.new.self.program.now c.bound.new.self.pool) c.bound.new.self.domain.box (length c.bound.new.self.scratch.row.entries) c.bound.new.node.bound) c.in-Ok-Open.field-0-is c.in-Ok-Open.ensures.bounded in
     let e = subst (λ s. s.domain.box ≡ box_of c.bound.new.self.tree c.bound.new.node) (sym c.bound.ensures.frame) (c.requires.full.same ∙ sym c.bound.ensures.same) in
     let good = subst (λ b. IsAsGood c.bound.new.self.program.now (rows_lent c.bound.new.self.program.now c.bound.new.self.pool) b (length c.bound.new.self.scratch.row.entries) c.bound.new.node.bound c.in-Ok-Open.mark) e bounded.1 in
-    open_from c.args.self.now.tree c.bound.new.self.tree c.args.node c.bound.new.node w c.branch-error.new.self.program.now (cost_held c.branch-error.new.self.incumbent) c.branch-error.new.self.tree (c.in_Err-error-in-Ok-Open.ensures.end c.in-Ok-Open.mark good)
+    let tried = subst (λ b. HasTried c.bound.new.self.program.now (cost_held c.bound.new.self.incumbent) (rows_lent c.bound.new.self.program.now c.bound.new.self.pool) b (option_map (λ v. v.items) c.in-Ok-Open.point) c.in-Ok-Open.mark) e
+    (subst (GoesOnTried c.bound.new.self.program.now (cost_held c.bound.new.self.incumbent) (rows_lent c.bound.new.self.program.now c.bound.new.self.pool) c.bound.new.self.domain.box) c.in-Ok-Open.field-0-is c.in-Ok-Open.ensures.tried) in
+    open_from c.args.self.now.tree c.bound.new.self.tree c.args.node c.bound.new.node w c.branch-error.new.self.program.now (cost_held c.branch-error.new.self.incumbent) c.branch-error.new.self.tree (c.in_Err-error-in-Ok-Open.ensures.end c.in-Ok-Open.mark good tried)
 
 pub returns-in_Err-error-in-Ok-Open-clause-ready : goal.returns-in_Err-error-in-Ok-Open-clause-ready
 returns-in_Err-error-in-Ok-Open-clause-ready c =
@@ -48,8 +51,10 @@ returns-clause-end c =
     let bounded = subst (IsBounded c.bound.new.self.program.now (cost_held c.bound.new.self.incumbent) (rows_lent c.bound.new.self.program.now c.bound.new.self.pool) c.bound.new.self.domain.box (length c.bound.new.self.scratch.row.entries) c.bound.new.node.bound) c.in-Ok-Open.field-0-is c.in-Ok-Open.ensures.bounded in
     let e = subst (λ s. s.domain.box ≡ box_of c.bound.new.self.tree c.bound.new.node) (sym c.bound.ensures.frame) (c.requires.full.same ∙ sym c.bound.ensures.same) in
     let good = subst (λ b. IsAsGood c.bound.new.self.program.now (rows_lent c.bound.new.self.program.now c.bound.new.self.pool) b (length c.bound.new.self.scratch.row.entries) c.bound.new.node.bound c.in-Ok-Open.mark) e bounded.1 in
+    let tried = subst (λ b. HasTried c.bound.new.self.program.now (cost_held c.bound.new.self.incumbent) (rows_lent c.bound.new.self.program.now c.bound.new.self.pool) b (option_map (λ v. v.items) c.in-Ok-Open.point) c.in-Ok-Open.mark) e
+    (subst (GoesOnTried c.bound.new.self.program.now (cost_held c.bound.new.self.incumbent) (rows_lent c.bound.new.self.program.now c.bound.new.self.pool) c.bound.new.self.domain.box) c.in-Ok-Open.field-0-is c.in-Ok-Open.ensures.tried) in
     end_from c.args.self.now.tree c.bound.new.self.tree c.args.node c.bound.new.node w c.branch-error.new.self.program.now (cost_held c.branch-error.new.self.incumbent) (rows_lent c.branch-error.new.self.program.now c.branch-error.new.self.pool) (length c.branch-error.new.self.scratch.row.entries) c.branch-error.new.self.tree c.in-Ok-Open.mark c.in_Ok-error-in-Ok-Open.end
-    (c.in_Ok-error-in-Ok-Open.ensures.end c.in-Ok-Open.mark good)
+    (c.in_Ok-error-in-Ok-Open.ensures.end c.in-Ok-Open.mark good tried)
 
 pub returns-clause-ready : goal.returns-clause-ready
 returns-clause-ready c =
