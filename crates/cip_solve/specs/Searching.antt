@@ -1,5 +1,6 @@
 -- What holds of a search between two nodes, and how it stops.
-use Rattle.std.specs.Prelude.{◌≡◌, ◌≢◌, ◌⊎◌, ℕ, ◌+◌, ◌*◌, ◌<◌, ◌≤◌, true, List, [], ◌++◌, Option, None, Some, IfSome, length}
+use Rattle.std.specs.Prelude.{◌≡◌, ◌≢◌, ◌⊎◌, ℕ, ◌+◌, ◌*◌, ◌<◌, ◌≤◌, true, List, [], ◌++◌}
+use Rattle.std.specs.Prelude.{Option, None, Some, IfSome, length}
 use Rattle.cip_rational.specs.Rational.{ℚ}
 use Rattle.cip_problem.specs.Program.{Program}
 use Rattle.cip_problem.specs.Points.{IsFeasible, IsLowerBound}

@@ -10,7 +10,8 @@ use Rattle.cip_incumbent.specs.HeldPoint.{HeldPoint}
 use Rattle.cip_report.specs.declared.figures.Held.{Held}
 use Rattle.cip_report.specs.declared.figures.Shown.{Shown}
 use Rattle.cip_report.specs.declared.figures.Ended.{Ended}
-use Rattle.cip_report.specs.declared.figures.Ended.TheVariants.{Optimal, Infeasible, Unbounded, NodeLimit, Gap, Wide, NoMemory}
+use Rattle.cip_report.specs.declared.figures.Ended.TheVariants.{Optimal, Infeasible, Unbounded, NodeLimit}
+use Rattle.cip_report.specs.declared.figures.Ended.TheVariants.{Gap, Wide, NoMemory}
 use Rattle.cip_solve.specs.Worst.{worst_bound}
 use Rattle.cip_solve.specs.declared.worst.Worst.{Worst}
 
@@ -27,7 +28,8 @@ pub record IsShownWorst (held : Option ℚ) (worst : Option Worst) (leaf : List 
   pub shown_is : shown ≡ found.shown
   pub matter : matters held found.bound ≡ true
 
--- beside a cost held, with the least bound of open nodes and the worst leaf; where a gap that was asked for isn't reached
+-- beside a cost held, with the least bound of open nodes and the worst leaf; where a gap that was asked for isn't
+-- reached
 abbrev pub EndsBy : Option ℚ → Option (Option ℚ) → Option Worst → Ended → Type 0
 EndsBy held open_ worst Optimal =
     (one_matters held open_ ≡ false) × (one_matters held (worst_bound worst) ≡ false) × IsSome held

@@ -30,7 +30,8 @@ fn one_matters(held: &Option<Frac>, bound: &Option<Option<Frac>>) -> bool
     }
 }
 
-/// How a search ends by what is left of it, beside the cost held, with the least bound of open nodes, if there are any, and the worst leaf.
+/// How a search ends by what is left of it, beside the cost held, with the least bound of open nodes, if there are any,
+/// and the worst leaf.
 fn ended_by(held: &Option<Frac>, waiting: &Option<Option<Frac>>, worst: Option<Worst>) -> Ended
     ensures { EndsBy held.now waiting.now worst result }
 {
@@ -53,8 +54,8 @@ fn ended_by(held: &Option<Frac>, waiting: &Option<Option<Frac>>, worst: Option<W
     }
 }
 
-/// How a search ends, beside the cost held and the least bound: by the gap that was asked for where that is reached, and
-/// else by what is left.
+/// How a search ends, beside the cost held and the least bound: by the gap that was asked for where that is reached,
+/// and else by what is left.
 pub(crate) fn ended_at(
     asked: &Option<Frac>,
     bound: &Option<Frac>,

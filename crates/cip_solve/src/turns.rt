@@ -1,5 +1,6 @@
 //! A search over the nodes, from one to the next.
-ghost use Rattle.std.specs.Prelude.{◌≡◌, ℕ, ◌+◌, ◌<◌, ◌≤◌, true, Option, [], ◌++◌, length, MatchOption, vec_len, vec_capacity};
+ghost use Rattle.std.specs.Prelude.{◌≡◌, ℕ, ◌+◌, ◌<◌, ◌≤◌, true, Option, [], ◌++◌, length, MatchOption};
+ghost use Rattle.std.specs.Prelude.{vec_len, vec_capacity};
 ghost use Rattle.cip_rational.specs.Rational.{ℚ};
 ghost use Rattle.cip_node.specs.Cores.{IsReady};
 ghost use Rattle.cip_node.specs.KeptNodes.{cost_held};
