@@ -16,24 +16,24 @@ use Rattle.cip_blocks.specs.BlockKinds.{kind_number as block_kind_number}
 use Rattle.cip_blocks.specs.declared.faults.BlockFault.{BlockFault}
 use Rattle.cip_point.specs.PointKinds.{kind_number as point_kind_number}
 use Rattle.cip_point.specs.declared.faults.PointFault.{PointFault}
-use Rattle.cip_words.specs.Jobs.{Job, Solve, Check}
+use Rattle.cip_words.specs.Jobs.{Limits, Job, Solve, Check}
 use Rattle.cip_answers.specs.Checks.{check_status}
 use Rattle.cip_model.specs.Verdicts.{verdict_of}
 use Rattle.cip_main.specs.declared.refusals.TextFault.{TextFault}
 use Rattle.cip_main.specs.declared.refusals.TextFault.TheVariants.{Model, Blocks, Point}
-use Rattle.cip_answers.specs.Figures.{NodeLimit, NoMemory as LacksMemory, exit_status}
-use Rattle.cip_headline.specs.Headline.{IsSpent, EndsWith}
+use Rattle.cip_answers.specs.Figures.{NodeLimit, Gap, Wide, NoMemory as LacksMemory, exit_status}
+use Rattle.cip_headline.specs.Headline.{IsSpent, EndsWith, EndsItself}
 use Rattle.cip_headline.proofs.Ends.{budgets_suffice}
 use Rattle.cip_main.specs.declared.plain.Plain.{Plain}
 use Rattle.cip_main.specs.declared.plain.Plain.TheVariants.{Usage, ReadFault, Refused, NoMemory}
 use Rattle.cip_main.specs.Answering.{IsLogged}
 use Rattle.cip_main.specs.Checking.{checked}
 use Rattle.cip_main.specs.Plain.{plain_status}
-use Rattle.cip_main.specs.Running.{Call, IsStoreSound, IsSinkSound, GivesPlain, IsAnswered, IsChecked, TellsVerdict, ArePulled, BlocksAreRead, Ran, gives_plain, gives_figures, gives_verdict, IsStatus, write_fault, TellsTruth, Asks, AsksOf, AsksWith, AsksToCheck, RefusesBlocks, IsCutShort, Headline, BreaksSome, CheckClause, HasBlocksFault, HasPointFault, IsFirstFault, TellsModelFault, TellsBlockFault, TellsPointFault, UsageClause, behind_up_to, PullsToFault, ReadFaultClause, RefusedClause, WriteFaultClause, SpentLog, OverflowClause, MemoryClause, Runs}
+use Rattle.cip_main.specs.Running.{Call, IsStoreSound, IsSinkSound, GivesPlain, IsAnswered, IsChecked, TellsVerdict, ArePulled, BlocksAreRead, Ran, gives_plain, gives_figures, gives_verdict, IsStatus, write_fault, TellsTruth, Asks, AsksOf, AsksWith, AsksToCheck, RefusesBlocks, IsCutShort, Headline, BreaksSome, CheckClause, HasBlocksFault, HasPointFault, IsFirstFault, TellsModelFault, TellsBlockFault, TellsPointFault, UsageClause, behind_up_to, PullsToFault, ReadFaultClause, RefusedClause, WriteFaultClause, SpentLog, IsNear, GapLog, OverflowClause, MemoryClause, Runs}
 use Rattle.cip_main.specs.Saying.{Says}
 use Rattle.cip_main.specs.Tasks.{TaskCause, model_of, second_of, FailsBehind, HasFaultyModel, HasFaultyBlocks, HasFaultyPoint}
 use Rattle.cip_main.proofs.Readings.{told, some_job}
-use Rattle.cip_main.proofs.Statuses.{says_usage, says_read_fault, says_refused, says_no_memory, plain_below_five, plain_not_one, plain_not_ten, plain_not_eleven, plain_is, is_breach, is_overflow, figures_not_one, figures_not_two, figures_not_three, figures_not_four, figures_not_five, is_spent, is_wide, exit_is, verdict_not_two, verdict_not_three, verdict_not_four, verdict_not_five, verdict_not_six, verdict_not_ten, verdict_is}
+use Rattle.cip_main.proofs.Statuses.{says_usage, says_read_fault, says_refused, says_no_memory, plain_below_five, plain_not_one, plain_not_ten, plain_not_eleven, plain_not_thirteen, plain_is, is_breach, is_overflow, figures_not_one, figures_not_two, figures_not_three, figures_not_four, figures_not_five, is_spent, is_near, gap_by_word, is_wide, exit_is, verdict_not_two, verdict_not_three, verdict_not_four, verdict_not_five, verdict_not_six, verdict_not_ten, verdict_not_thirteen, verdict_is}
 
 -- ---- the status of a call
 
@@ -91,22 +91,25 @@ ten_five e = absurd (omega (arith, e))
 eleven_five : ◌≢◌ {A = ℕ} 11 5
 eleven_five e = absurd (omega (arith, e))
 
+thirteen_five : ◌≢◌ {A = ℕ} 13 5
+thirteen_five e = absurd (omega (arith, e))
+
 -- ---- jobs and texts
 
 one_job : {asked other : Job} {job : Option Job} → job ≡ Some asked → job ≡ Some other → asked ≡ other
 one_job h e = cc
 
 -- a job to solve is no job to check
-solve_check : {model other name : List ℕ} {blocks : Option (List ℕ)} {nodes : ℕ} {job : Option Job} → job ≡ Some (Solve model blocks nodes) → job ≡ Some (Check other name) → ⊥
+solve_check : {model other name : List ℕ} {blocks : Option (List ℕ)} {limits : Limits} {job : Option Job} → job ≡ Some (Solve model blocks limits) → job ≡ Some (Check other name) → ⊥
 solve_check h e = cc
 
-same_model : {model other : List ℕ} {blocks others : Option (List ℕ)} {nodes more : ℕ} {job : Option Job} → job ≡ Some (Solve model blocks nodes) → job ≡ Some (Solve other others more) → model ≡ other
+same_model : {model other : List ℕ} {blocks others : Option (List ℕ)} {limits more : Limits} {job : Option Job} → job ≡ Some (Solve model blocks limits) → job ≡ Some (Solve other others more) → model ≡ other
 same_model h e = cc
 
-same_nodes : {model other : List ℕ} {blocks others : Option (List ℕ)} {nodes more : ℕ} {job : Option Job} → job ≡ Some (Solve model blocks nodes) → job ≡ Some (Solve other others more) → nodes ≡ more
-same_nodes h e = cc
+same_limits : {model other : List ℕ} {blocks others : Option (List ℕ)} {limits more : Limits} {job : Option Job} → job ≡ Some (Solve model blocks limits) → job ≡ Some (Solve other others more) → limits ≡ more
+same_limits h e = cc
 
-same_blocks : {model other : List ℕ} {blocks others : Option (List ℕ)} {nodes more : ℕ} {job : Option Job} → job ≡ Some (Solve model blocks nodes) → job ≡ Some (Solve other others more) → blocks ≡ others
+same_blocks : {model other : List ℕ} {blocks others : Option (List ℕ)} {limits more : Limits} {job : Option Job} → job ≡ Some (Solve model blocks limits) → job ≡ Some (Solve other others more) → blocks ≡ others
 same_blocks h e = cc
 
 same_name : {name other : List ℕ} → Some name ≡ Some other → name ≡ other
@@ -167,17 +170,17 @@ fault_asked : (call : Call) (text : List ℕ) (line kind : ℕ) → AsksOf call 
 fault_asked call text line kind asks f =
     of_text (λ bytes. HasFault bytes line kind) _ text f.refuses.fault (ap (λ job. call.store.holds (model_of job)) (one_job f.is_asked asks.job) ∙ asks.held)
 
-of_solve : (call : Call) (text : List ℕ) (nodes : ℕ) → Asks call text nodes → AsksOf call text
-of_solve call text nodes asks = record { asked = Solve asks.model asks.blocks nodes; job = asks.job; held = asks.held }
+of_solve : (call : Call) (text : List ℕ) (limits : Limits) → Asks call text limits → AsksOf call text
+of_solve call text limits asks = record { asked = Solve asks.model asks.blocks limits; job = asks.job; held = asks.held }
 
 of_blocks : (call : Call) (text blocks_text : List ℕ) → AsksWith call text blocks_text → AsksOf call text
-of_blocks call text blocks_text asks = record { asked = Solve asks.model (Some asks.name) asks.nodes; job = asks.job; held = asks.held }
+of_blocks call text blocks_text asks = record { asked = Solve asks.model (Some asks.name) asks.limits; job = asks.job; held = asks.held }
 
 of_check : (call : Call) (text point_text : List ℕ) → AsksToCheck call text point_text → AsksOf call text
 of_check call text point_text asks = record { asked = Check asks.model asks.name; job = asks.job; held = asks.held }
 
 program_asked : (call : Call) (text : List ℕ) → AsksOf call text → (a : IsAnswered call) → HasProgram text a.program
-program_asked call text asks a = asked_program call (Solve a.model a.blocks a.nodes) text a.program a.is_read a.asked asks
+program_asked call text asks a = asked_program call (Solve a.model a.blocks a.limits) text a.program a.is_read a.asked asks
 
 program_checked : (call : Call) (text : List ℕ) → AsksOf call text → (c : IsChecked call) → HasProgram text c.program
 program_checked call text asks c = asked_program call (Check c.model c.name) text c.program c.is_read c.asked asks
@@ -186,7 +189,7 @@ program_checked call text asks c = asked_program call (Check c.model c.name) tex
 blocks_fault_asked : (call : Call) (text blocks_text : List ℕ) (program : Program) (line kind : ℕ) → AsksWith call text blocks_text → HasProgram text program → HasFaultyBlocks call.job call.store call.store_after line kind → HasLineFault (block_reading program) blocks_text line kind
 blocks_fault_asked call text blocks_text program line kind asks h f =
     let named : Some f.name ≡ Some asks.name = same_blocks f.is_asked asks.job in
-    let found : HasProgram text f.program = asked_program call (Solve f.model (Some f.name) f.nodes) text f.program (told _ f.program f.reads.is_read) f.is_asked (of_blocks call text blocks_text asks) in
+    let found : HasProgram text f.program = asked_program call (Solve f.model (Some f.name) f.limits) text f.program (told _ f.program f.reads.is_read) f.is_asked (of_blocks call text blocks_text asks) in
     subst (λ p. HasLineFault (block_reading p) blocks_text line kind) (one_program text f.program program found h)
     (of_text (λ bytes. HasLineFault (block_reading f.program) bytes line kind) _ blocks_text f.refuses.fault (ap call.store.holds (same_name named) ∙ asks.blocks_held))
 
@@ -202,11 +205,11 @@ point_fault_asked call text point_text program line kind asks h f =
 refuses_blocks : (call : Call) (text : List ℕ) (program : Program) (fault : BlockFault) → AsksOf call text → HasProgram text program → GivesPlain call (Refused (Blocks fault)) → RefusesBlocks call program
 refuses_blocks call text program fault asks h g =
     let f = g.cause in
-    let found : HasProgram text f.program = asked_program call (Solve f.model (Some f.name) f.nodes) text f.program (told _ f.program f.reads.is_read) f.is_asked asks in
+    let found : HasProgram text f.program = asked_program call (Solve f.model (Some f.name) f.limits) text f.program (told _ f.program f.reads.is_read) f.is_asked asks in
     record {
       model = f.model;
       name = f.name;
-      nodes = f.nodes;
+      limits = f.limits;
       asked = f.is_asked;
       fault = fault;
       given = g;
@@ -214,24 +217,24 @@ refuses_blocks call text program fault asks h g =
       first = subst (λ p. IfSome (call.store.holds f.name) (λ bytes. HasLineFault (block_reading p) bytes fault.line (block_kind_number fault.kind))) (one_program text f.program program found h) f.refuses.fault;
     }
 
-headline_plain : (call : Call) (answer : Plain) → GivesPlain call answer → (text : List ℕ) (nodes : ℕ) (program : Program) → Asks call text nodes → HasProgram text program → RefusesBlocks call program ⊎ IsCutShort call
-headline_plain call Usage g text nodes program asks h = absurd (some_job asks.job g.cause.0)
-headline_plain call ReadFault g text nodes program asks h = inr (inl g)
-headline_plain call (Refused (Model fault)) g text nodes program asks h =
-    absurd (no_fault text program fault.line (kind_number fault.kind) h (fault_asked call text fault.line (kind_number fault.kind) (of_solve call text nodes asks) g.cause))
-headline_plain call (Refused (Blocks fault)) g text nodes program asks h = inl (refuses_blocks call text program fault (of_solve call text nodes asks) h g)
-headline_plain call (Refused (Point fault)) g text nodes program asks h = absurd (solve_check asks.job g.cause.is_asked)
-headline_plain call NoMemory g text nodes program asks h = inr (inr g)
+headline_plain : (call : Call) (answer : Plain) → GivesPlain call answer → (text : List ℕ) (limits : Limits) (program : Program) → Asks call text limits → HasProgram text program → RefusesBlocks call program ⊎ IsCutShort call
+headline_plain call Usage g text limits program asks h = absurd (some_job asks.job g.cause.0)
+headline_plain call ReadFault g text limits program asks h = inr (inl g)
+headline_plain call (Refused (Model fault)) g text limits program asks h =
+    absurd (no_fault text program fault.line (kind_number fault.kind) h (fault_asked call text fault.line (kind_number fault.kind) (of_solve call text limits asks) g.cause))
+headline_plain call (Refused (Blocks fault)) g text limits program asks h = inl (refuses_blocks call text program fault (of_solve call text limits asks) h g)
+headline_plain call (Refused (Point fault)) g text limits program asks h = absurd (solve_check asks.job g.cause.is_asked)
+headline_plain call NoMemory g text limits program asks h = inr (inr g)
 
-headline_figures : (call : Call) (text : List ℕ) (nodes : ℕ) (program : Program) → Asks call text nodes → HasProgram text program → (a : IsAnswered call) → TellsTruth call program nodes
-headline_figures call text nodes program asks h a =
-    subst (λ p. TellsTruth call p nodes) (one_program text a.program program (program_asked call text (of_solve call text nodes asks) a) h)
-    (subst (λ n. TellsTruth call a.program n) (same_nodes a.asked asks.job) a.answers)
+headline_figures : (call : Call) (text : List ℕ) (limits : Limits) (program : Program) → Asks call text limits → HasProgram text program → (a : IsAnswered call) → TellsTruth call program limits
+headline_figures call text limits program asks h a =
+    subst (λ p. TellsTruth call p limits) (one_program text a.program program (program_asked call text (of_solve call text limits asks) a) h)
+    (subst (λ n. TellsTruth call a.program n) (same_limits a.asked asks.job) a.answers)
 
 headline : (call : Call) → Ran call → Headline call
-headline call (gives_plain answer g) text nodes program asks h = inr (headline_plain call answer g text nodes program asks h)
-headline call (gives_figures a) text nodes program asks h = inl (headline_figures call text nodes program asks h a)
-headline call (gives_verdict c) text nodes program asks h = absurd (solve_check asks.job c.asked)
+headline call (gives_plain answer g) text limits program asks h = inr (headline_plain call answer g text limits program asks h)
+headline call (gives_figures a) text limits program asks h = inl (headline_figures call text limits program asks h a)
+headline call (gives_verdict c) text limits program asks h = absurd (solve_check asks.job c.asked)
 
 -- ---- checks
 
@@ -372,7 +375,7 @@ read_fault_clause call r = record { rose = rose call r; sound = store_sound call
 blocks_first : (call : Call) (fault : BlockFault) → GivesPlain call (Refused (Blocks fault)) → (text blocks_text : List ℕ) → AsksWith call text blocks_text → HasBlocksFault text blocks_text fault.line (block_kind_number fault.kind)
 blocks_first call fault g text blocks_text asks =
     let f = g.cause in
-    let found : HasProgram text f.program = asked_program call (Solve f.model (Some f.name) f.nodes) text f.program (told _ f.program f.reads.is_read) f.is_asked (of_blocks call text blocks_text asks) in
+    let found : HasProgram text f.program = asked_program call (Solve f.model (Some f.name) f.limits) text f.program (told _ f.program f.reads.is_read) f.is_asked (of_blocks call text blocks_text asks) in
     record { program = f.program; is_program = found; first = blocks_fault_asked call text blocks_text f.program fault.line (block_kind_number fault.kind) asks found f }
 
 point_first : (call : Call) (fault : PointFault) → GivesPlain call (Refused (Point fault)) → (text point_text : List ℕ) → AsksToCheck call text point_text → HasPointFault text point_text fault.line (point_kind_number fault.kind)
@@ -476,14 +479,16 @@ not_lacking e = cc
 
 spent_of : (call : Call) (a : IsAnswered call) → a.answers.figures.status ≡ NodeLimit → IsLogged call.logs call.logs_after a.answers.entries a.answers.marks a.answers.figures.status → SpentLog call
 spent_of call a limit (inl l) =
-    let spent : IsSpent a.program a.answers.start a.nodes a.answers.entries a.answers.figures.held = subst (EndsWith a.program a.answers.start a.nodes a.answers.entries a.answers.figures) limit a.answers.are_true.ends in
+    let both : EndsWith a.program a.answers.start a.limits.nodes a.limits.gap a.answers.entries a.answers.figures NodeLimit = subst (EndsWith a.program a.answers.start a.limits.nodes a.limits.gap a.answers.entries a.answers.figures) limit a.answers.are_true.ends in
+    let spent = both.0 in
     record {
       answered = a;
       limit = limit;
       log = l.log;
       added = l.added;
-      full = subst (λ es. length es ≡ a.nodes) l.entries_are spent.full;
-      spent = subst (λ es. IsSpent a.program a.answers.start a.nodes es a.answers.figures.held) l.entries_are spent;
+      full = subst (λ es. length es ≡ a.limits.nodes) l.entries_are spent.full;
+      spent = subst (λ es. IsSpent a.program a.answers.start a.limits.nodes es a.answers.figures.held) l.entries_are spent;
+      far = both.1;
     }
 spent_of call a limit (inr n) = absurd (not_lacking (sym limit ∙ n.1))
 
@@ -493,18 +498,48 @@ spent_log call (gives_verdict c) e = absurd (verdict_not_ten (checked c.program 
 spent_log call (gives_figures a) e =
     spent_of call a (is_spent a.answers.figures.status (own_answer call _ 10 (said_figures call a) e ten_five)) a.answers.logged
 
-no_limit : (call : Call) (program : Program) (nodes n : ℕ) → assignments program.integral program.bounds ≡ Some n → max 1 (2 * n - 1) ≤ nodes → TellsTruth call program nodes → call.status ≡ 10 → ⊥
-no_limit call program nodes n e l t ten =
+no_limit : (call : Call) (program : Program) (limits : Limits) (n : ℕ) → assignments program.integral program.bounds ≡ Some n → max 1 (2 * n - 1) ≤ limits.nodes → TellsTruth call program limits → call.status ≡ 10 → ⊥
+no_limit call program limits n e l t ten =
     let limit = is_spent t.figures.status (own_answer call _ 10 (said call _ (exit_status t.figures.status) t.told) ten ten_five) in
-    let spent : IsSpent program t.start nodes t.entries t.figures.held = subst (EndsWith program t.start nodes t.entries t.figures) limit t.are_true.ends in
-    let short : length t.entries < max 1 (2 * n - 1) = budgets_suffice program t.start t.entries t.figures.held n t.are_true.logged spent.matter e in
-    let full : length t.entries ≡ nodes = spent.full in
+    let both : EndsWith program t.start limits.nodes limits.gap t.entries t.figures NodeLimit = subst (EndsWith program t.start limits.nodes limits.gap t.entries t.figures) limit t.are_true.ends in
+    let short : length t.entries < max 1 (2 * n - 1) = budgets_suffice program t.start t.entries t.figures.held n t.are_true.logged both.0.matter e in
+    let full : length t.entries ≡ limits.nodes = both.0.full in
     omega (arith, short, full, l)
 
-ample : (call : Call) → Ran call → (text : List ℕ) (nodes : ℕ) (program : Program) (n : ℕ) → Asks call text nodes → HasProgram text program → assignments program.integral program.bounds ≡ Some n → max 1 (2 * n - 1) ≤ nodes → call.status ≢ 10
-ample call (gives_plain answer g) text nodes program n asks h e l ten = plain_not_ten answer (own_answer call _ 10 (said_plain call answer g) ten ten_five)
-ample call (gives_figures a) text nodes program n asks h e l ten = no_limit call program nodes n e l (headline_figures call text nodes program asks h a) ten
-ample call (gives_verdict c) text nodes program n asks h e l ten = absurd (solve_check asks.job c.asked)
+ample : (call : Call) → Ran call → (text : List ℕ) (limits : Limits) (program : Program) (n : ℕ) → Asks call text limits → HasProgram text program → assignments program.integral program.bounds ≡ Some n → max 1 (2 * n - 1) ≤ limits.nodes → call.status ≢ 10
+ample call (gives_plain answer g) text limits program n asks h e l ten = plain_not_ten answer (own_answer call _ 10 (said_plain call answer g) ten ten_five)
+ample call (gives_figures a) text limits program n asks h e l ten = no_limit call program limits n e l (headline_figures call text limits program asks h a) ten
+ample call (gives_verdict c) text limits program n asks h e l ten = absurd (solve_check asks.job c.asked)
+
+-- ---- gaps
+
+gap_log : (call : Call) → Ran call → call.status ≡ 13 → GapLog call
+gap_log call (gives_plain answer g) e = absurd (plain_not_thirteen answer (own_answer call _ 13 (said_plain call answer g) e thirteen_five))
+gap_log call (gives_verdict c) e = absurd (verdict_not_thirteen (checked c.program c.point) (own_answer call _ 13 (said_verdict call c) e thirteen_five))
+gap_log call (gives_figures a) e =
+    let is : a.answers.figures.status ≡ Gap = is_near a.answers.figures.status (own_answer call _ 13 (said_figures call a) e thirteen_five) in
+    record {
+      answered = a;
+      gap = is;
+      near = subst (EndsWith a.program a.answers.start a.limits.nodes a.limits.gap a.answers.entries a.answers.figures) is a.answers.are_true.ends;
+    }
+
+gap_always : (call : Call) (a : IsAnswered call) → IsNear call a → EndsItself a.answers.figures.status → call.status ≢ 5 → call.status ≡ 13
+gap_always call a near itself n =
+    let is : a.answers.figures.status ≡ Gap = gap_by_word a.answers.figures.status (a.answers.are_true.exact Gap tt itself near) in
+    elim (said_figures call a).either [
+      | inl h ↦ h.0 ∙ ap exit_status is
+      | inr h ↦ absurd (n h.0)
+    ]
+
+no_gap_asked : (call : Call) → Ran call → (text : List ℕ) (limits : Limits) → Asks call text limits → limits.gap ≡ None → call.status ≢ 13
+no_gap_asked call r text limits asks none e =
+    let g = gap_log call r e in
+    let same : g.answered.limits ≡ limits = same_limits g.answered.asked asks.job in
+    some_gap g.near.gap (sym g.near.is_asked ∙ (ap (λ (l : Limits). l.gap) same ∙ none))
+  where
+    some_gap : (gap : ℚ) → Some gap ≡ None → ⊥
+    some_gap gap f = cc
 
 -- ---- overflows, and want of memory
 
@@ -512,12 +547,14 @@ overflow_clause : (call : Call) → Ran call → OverflowClause call
 overflow_clause call (gives_plain answer g) e = absurd (plain_not_eleven answer (own_answer call _ 11 (said_plain call answer g) e eleven_five))
 overflow_clause call (gives_figures a) e =
     let shown = is_wide a.answers.figures.status (own_answer call _ 11 (said_figures call a) e eleven_five) in
+    let both : EndsWith a.program a.answers.start a.limits.nodes a.limits.gap a.answers.entries a.answers.figures (Wide shown.0 shown.1) = subst (EndsWith a.program a.answers.start a.limits.nodes a.limits.gap a.answers.entries a.answers.figures) shown.2 a.answers.are_true.ends in
     inl (record {
       answered = a;
       leaf = shown.0;
       place = shown.1;
       shown = shown.2;
-      overflows = subst (EndsWith a.program a.answers.start a.nodes a.answers.entries a.answers.figures) shown.2 a.answers.are_true.ends;
+      overflows = both.0;
+      far = both.1;
     })
 overflow_clause call (gives_verdict c) e =
     let shown = is_overflow c.program c.point (verdict_of c.program c.point) (own_answer call _ 11 (said_verdict call c) e eleven_five) in
@@ -541,6 +578,7 @@ runs call r = record {
   refused = refused_clause call r;
   write_fault = write_fault_clause call r;
   node_limit = record { spent = spent_log call r; ample = ample call r };
+  gap = record { only = gap_log call r; always = gap_always call; unasked = no_gap_asked call r };
   overflow = overflow_clause call r;
   memory = memory_clause call r;
 }

@@ -26,7 +26,7 @@ use Rattle.cip_input.specs.declared.block_texts.UnreadBlocks.TheVariants as bloc
 use Rattle.cip_input.specs.declared.points.UnreadPoint.{UnreadPoint}
 use Rattle.cip_input.specs.declared.points.UnreadPoint.TheVariants as point
 use Rattle.cip_io.specs.Store.{StoreTells}
-use Rattle.cip_words.specs.Jobs.{Job, Solve, Check}
+use Rattle.cip_words.specs.Jobs.{Limits, Job, Solve, Check}
 use Rattle.cip_main.specs.declared.plain.Plain.{Plain}
 use Rattle.cip_parts.specs.BlockParts.{Blocks as Parts}
 use Rattle.cip_main.specs.Tasks.{plain_of, plain_of_blocks, plain_of_point, model_of, TakesBlocks, IsSolve, IsCheck, TaskCause}
@@ -56,23 +56,23 @@ unread_cause job asked old new (Faulty fault) e h = record { asked = asked; is_a
 unread_cause job asked old new NoMemory e h = record { sound = h; untouched = λ none. absurd (some_job e none) }
 
 -- why there is none where the text of the blocks gave none
-pub blocks_cause : (job : Option Job) (model name : List ℕ) (nodes : ℕ) (old between new : StoreTells) (program : Program) (cause : UnreadBlocks) → job ≡ Some (Solve model (Some name) nodes) → Reads (old.holds model) old between program → between.holds ≡ old.holds → BlocksCause program (between.holds name) between new cause → TaskCause job old new (plain_of_blocks cause)
-blocks_cause job model name nodes old between new program blocks.StoreFailed e r same h = record {
-  asked = Solve model (Some name) nodes;
+pub blocks_cause : (job : Option Job) (model name : List ℕ) (limits : Limits) (old between new : StoreTells) (program : Program) (cause : UnreadBlocks) → job ≡ Some (Solve model (Some name) limits) → Reads (old.holds model) old between program → between.holds ≡ old.holds → BlocksCause program (between.holds name) between new cause → TaskCause job old new (plain_of_blocks cause)
+blocks_cause job model name limits old between new program blocks.StoreFailed e r same h = record {
+  asked = Solve model (Some name) limits;
   is_asked = e;
   fails = inr (record { name = name; named = refl; program = program; between = between; reads = r; rose = h });
 }
-blocks_cause job model name nodes old between new program (blocks.Faulty fault) e r same h = record {
+blocks_cause job model name limits old between new program (blocks.Faulty fault) e r same h = record {
   model = model;
   name = name;
-  nodes = nodes;
+  limits = limits;
   is_asked = e;
   program = program;
   between = between;
   reads = r;
   refuses = subst (λ holds. RefusesText (HasFault (block_reading program)) (holds name) between new fault.line (block_kind_number fault.kind)) same h;
 }
-blocks_cause job model name nodes old between new program blocks.NoMemory e r same h = record { sound = h ∙ r.sound; untouched = λ none. absurd (some_job e none) }
+blocks_cause job model name limits old between new program blocks.NoMemory e r same h = record { sound = h ∙ r.sound; untouched = λ none. absurd (some_job e none) }
 
 -- why there is none where the text of the point gave none
 pub point_cause : (job : Option Job) (model name : List ℕ) (old between new : StoreTells) (program : Program) (cause : UnreadPoint) → job ≡ Some (Check model name) → Reads (old.holds model) old between program → between.holds ≡ old.holds → PointCause program (between.holds name) between new cause → TaskCause job old new (plain_of_point cause)
@@ -102,8 +102,8 @@ pub no_blocks : (program : Program) (blocks : Option (List ℕ)) (old between : 
 no_blocks program blocks old between e = subst (λ b. TakesBlocks program b old between between) (sym e) refl
 
 -- a program to solve was read, with its blocks
-pub is_solve : (job : Option Job) (model : List ℕ) (blocks : Option (List ℕ)) (nodes : ℕ) (old between new : StoreTells) (program : Program) → ProgramsAreLimited → 0 < nodes → job ≡ Some (Solve model blocks nodes) → Reads (old.holds model) old between program → TakesBlocks program blocks old between new → IsSolve job old new program nodes
-is_solve job model blocks nodes old between new program limited some asked r b = record {
+pub is_solve : (job : Option Job) (model : List ℕ) (blocks : Option (List ℕ)) (limits : Limits) (old between new : StoreTells) (program : Program) → ProgramsAreLimited → 0 < limits.nodes → job ≡ Some (Solve model blocks limits) → Reads (old.holds model) old between program → TakesBlocks program blocks old between new → IsSolve job old new program limits
+is_solve job model blocks limits old between new program limited some asked r b = record {
   model = model;
   blocks = blocks;
   asked = asked;

@@ -1,8 +1,10 @@
 -- What a status tells of an answer.
 use Rattle.std.specs.Prelude.{◌≡◌, ◌≢◌, List, refl}
 use Rattle.std.proofs.Common.{arith}
+use lib.Chars.{codes}
 use Rattle.cip_rational.specs.Rational.{ℚ}
-use Rattle.cip_answers.specs.Figures.{Overflow, Status, Optimal, Infeasible, Unbounded, Wide, NodeLimit, NoMemory as LacksMemory, exit_status}
+use Rattle.cip_answers.specs.Figures.{Overflow, Status, Optimal, Infeasible, Unbounded, Wide, NodeLimit, Gap, NoMemory as LacksMemory, status_word, exit_status}
+use Rattle.cip_answers.proofs.AnswerTexts.{apart}
 use Rattle.cip_answers.specs.Checks.{Checked, Feasible, BreaksBound, BreaksWhole, BreaksRow, WideRow, WideCost, check_status}
 use Rattle.cip_main.specs.declared.refusals.TextFault.{TextFault}
 use Rattle.cip_main.specs.declared.plain.Plain.{Plain}
@@ -14,7 +16,7 @@ use Rattle.cip_model.specs.declared.verdicts.Place.TheVariants as places
 use Rattle.cip_model.specs.declared.verdicts.Verdict.{Verdict}
 use Rattle.cip_model.specs.declared.verdicts.Verdict.TheVariants as verdicts
 use Rattle.cip_report.specs.Checks.{checked_of}
-use Rattle.cip_main.specs.Running.{IsBreach, IsStatus, solved, broken, usage, read_fault, refused, no_memory, spent, wide}
+use Rattle.cip_main.specs.Running.{IsBreach, IsStatus, solved, broken, usage, read_fault, refused, no_memory, spent, wide, near}
 
 -- ---- answers without figures
 
@@ -60,6 +62,12 @@ plain_not_eleven ReadFault e = absurd (omega (arith, e))
 plain_not_eleven (Refused fault) e = absurd (omega (arith, e))
 plain_not_eleven NoMemory e = absurd (omega (arith, e))
 
+pub plain_not_thirteen : (answer : Plain) → plain_status answer ≢ 13
+plain_not_thirteen Usage e = absurd (omega (arith, e))
+plain_not_thirteen ReadFault e = absurd (omega (arith, e))
+plain_not_thirteen (Refused fault) e = absurd (omega (arith, e))
+plain_not_thirteen NoMemory e = absurd (omega (arith, e))
+
 pub plain_not_one : (answer : Plain) → plain_status answer ≢ 1
 plain_not_one Usage e = absurd (omega (arith, e))
 plain_not_one ReadFault e = absurd (omega (arith, e))
@@ -79,6 +87,7 @@ figures_not_two Optimal e = absurd (omega (arith, e))
 figures_not_two Infeasible e = absurd (omega (arith, e))
 figures_not_two (Unbounded ray) e = absurd (omega (arith, e))
 figures_not_two NodeLimit e = absurd (omega (arith, e))
+figures_not_two Gap e = absurd (omega (arith, e))
 figures_not_two (Wide leaf place) e = absurd (omega (arith, e))
 figures_not_two LacksMemory e = absurd (omega (arith, e))
 
@@ -87,6 +96,7 @@ figures_not_three Optimal e = absurd (omega (arith, e))
 figures_not_three Infeasible e = absurd (omega (arith, e))
 figures_not_three (Unbounded ray) e = absurd (omega (arith, e))
 figures_not_three NodeLimit e = absurd (omega (arith, e))
+figures_not_three Gap e = absurd (omega (arith, e))
 figures_not_three (Wide leaf place) e = absurd (omega (arith, e))
 figures_not_three LacksMemory e = absurd (omega (arith, e))
 
@@ -95,6 +105,7 @@ figures_not_four Optimal e = absurd (omega (arith, e))
 figures_not_four Infeasible e = absurd (omega (arith, e))
 figures_not_four (Unbounded ray) e = absurd (omega (arith, e))
 figures_not_four NodeLimit e = absurd (omega (arith, e))
+figures_not_four Gap e = absurd (omega (arith, e))
 figures_not_four (Wide leaf place) e = absurd (omega (arith, e))
 figures_not_four LacksMemory e = absurd (omega (arith, e))
 
@@ -103,6 +114,7 @@ figures_not_five Optimal e = absurd (omega (arith, e))
 figures_not_five Infeasible e = absurd (omega (arith, e))
 figures_not_five (Unbounded ray) e = absurd (omega (arith, e))
 figures_not_five NodeLimit e = absurd (omega (arith, e))
+figures_not_five Gap e = absurd (omega (arith, e))
 figures_not_five (Wide leaf place) e = absurd (omega (arith, e))
 figures_not_five LacksMemory e = absurd (omega (arith, e))
 
@@ -111,6 +123,7 @@ figures_not_one Optimal e = absurd (omega (arith, e))
 figures_not_one Infeasible e = absurd (omega (arith, e))
 figures_not_one (Unbounded ray) e = absurd (omega (arith, e))
 figures_not_one NodeLimit e = absurd (omega (arith, e))
+figures_not_one Gap e = absurd (omega (arith, e))
 figures_not_one (Wide leaf place) e = absurd (omega (arith, e))
 figures_not_one LacksMemory e = absurd (omega (arith, e))
 
@@ -119,6 +132,7 @@ is_spent Optimal e = absurd (omega (arith, e))
 is_spent Infeasible e = absurd (omega (arith, e))
 is_spent (Unbounded ray) e = absurd (omega (arith, e))
 is_spent NodeLimit e = refl
+is_spent Gap e = absurd (omega (arith, e))
 is_spent (Wide leaf place) e = absurd (omega (arith, e))
 is_spent LacksMemory e = absurd (omega (arith, e))
 
@@ -127,14 +141,35 @@ is_wide Optimal e = absurd (omega (arith, e))
 is_wide Infeasible e = absurd (omega (arith, e))
 is_wide (Unbounded ray) e = absurd (omega (arith, e))
 is_wide NodeLimit e = absurd (omega (arith, e))
+is_wide Gap e = absurd (omega (arith, e))
 is_wide (Wide leaf place) e = (leaf, place, refl)
 is_wide LacksMemory e = absurd (omega (arith, e))
+
+pub is_near : (status : Status) → exit_status status ≡ 13 → status ≡ Gap
+is_near Optimal e = absurd (omega (arith, e))
+is_near Infeasible e = absurd (omega (arith, e))
+is_near (Unbounded ray) e = absurd (omega (arith, e))
+is_near NodeLimit e = absurd (omega (arith, e))
+is_near Gap e = refl
+is_near (Wide leaf place) e = absurd (omega (arith, e))
+is_near LacksMemory e = absurd (omega (arith, e))
+
+-- the word of an end tells that it is by the gap
+pub gap_by_word : (status : Status) → status_word Gap ≡ status_word status → status ≡ Gap
+gap_by_word Optimal e = absurd (apart (codes "gap") (codes "optimal") refl refl e)
+gap_by_word Infeasible e = absurd (apart (codes "gap") (codes "infeasible") refl refl e)
+gap_by_word (Unbounded ray) e = absurd (apart (codes "gap") (codes "unbounded") refl refl e)
+gap_by_word NodeLimit e = absurd (apart (codes "gap") (codes "nodelimit") refl refl e)
+gap_by_word Gap e = refl
+gap_by_word (Wide leaf place) e = absurd (apart (codes "gap") (codes "wide") refl refl e)
+gap_by_word LacksMemory e = absurd (apart (codes "gap") (codes "nomemory") refl refl e)
 
 pub exit_is : (status : Status) → IsStatus (exit_status status)
 exit_is Optimal = solved
 exit_is Infeasible = solved
 exit_is (Unbounded ray) = solved
 exit_is NodeLimit = spent
+exit_is Gap = near
 exit_is (Wide leaf place) = wide
 exit_is LacksMemory = no_memory
 
@@ -187,6 +222,14 @@ verdict_not_ten (BreaksWhole column value) e = absurd (omega (arith, e))
 verdict_not_ten (BreaksRow row activity side) e = absurd (omega (arith, e))
 verdict_not_ten (WideRow row) e = absurd (omega (arith, e))
 verdict_not_ten WideCost e = absurd (omega (arith, e))
+
+pub verdict_not_thirteen : (checked : Checked) → check_status checked ≢ 13
+verdict_not_thirteen (Feasible cost) e = absurd (omega (arith, e))
+verdict_not_thirteen (BreaksBound column value side) e = absurd (omega (arith, e))
+verdict_not_thirteen (BreaksWhole column value) e = absurd (omega (arith, e))
+verdict_not_thirteen (BreaksRow row activity side) e = absurd (omega (arith, e))
+verdict_not_thirteen (WideRow row) e = absurd (omega (arith, e))
+verdict_not_thirteen WideCost e = absurd (omega (arith, e))
 
 pub verdict_is : (checked : Checked) → IsStatus (check_status checked)
 verdict_is (Feasible cost) = solved

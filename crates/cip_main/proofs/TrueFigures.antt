@@ -16,7 +16,7 @@ use Rattle.cip_headline.proofs.Roots.{root_no_less, no_more}
 use Rattle.cip_headline.proofs.TrueFigures.{figures_are_true}
 use Rattle.cip_model.specs.declared.verdicts.Place.TheVariants.{Row, Cost}
 use Rattle.cip_report.specs.declared.figures.Ended.{Ended}
-use Rattle.cip_report.specs.declared.figures.Ended.TheVariants.{Optimal, Infeasible, Unbounded, Wide, NodeLimit, NoMemory}
+use Rattle.cip_report.specs.declared.figures.Ended.TheVariants.{Optimal, Infeasible, Unbounded, Wide, NodeLimit, Gap, NoMemory}
 use Rattle.cip_report.specs.declared.figures.Shown.{Shown}
 use Rattle.cip_report.specs.declared.figures.Shown.TheVariants.{Place, Moves}
 use Rattle.cip_report.specs.declared.figures.Held.{Held}
@@ -36,6 +36,7 @@ status_same rows Optimal = refl
 status_same rows Infeasible = refl
 status_same rows (Unbounded ray) = refl
 status_same rows NodeLimit = refl
+status_same rows Gap = refl
 status_same rows (Wide leaf shown) = ap (PrintedWide leaf.items) (overflow_same rows shown)
 status_same rows NoMemory = refl
 
@@ -59,6 +60,7 @@ tells start bound ends.Optimal n m h = h tt
 tells start bound ends.Infeasible n m h = absurd (n refl)
 tells start bound (ends.Unbounded ray) n m h = absurd (m ray refl)
 tells start bound ends.NodeLimit n m h = h tt
+tells start bound ends.Gap n m h = h tt
 tells start bound (ends.Wide leaf shown) n m h = h tt
 tells start bound ends.NoMemory n m h = h tt
 
@@ -68,17 +70,18 @@ lacks Optimal e = absurd (cc)
 lacks Infeasible e = absurd (cc)
 lacks (Unbounded ray) e = absurd (cc)
 lacks NodeLimit e = absurd (cc)
+lacks Gap e = absurd (cc)
 lacks (Wide leaf shown) e = absurd (cc)
 lacks NoMemory e = refl
 
 -- a right answer has true figures
-pub are_true : (program : Program) (nodes : ℕ) (log : List Entry) (marks : List (ℕ × Mark)) (answer : Answer) → IsWellFormed program → (r : IsSolved program nodes log marks (answer_of answer)) → AreTrue program (root_value program) r.start nodes log (figures_of program answer)
-are_true program nodes log marks answer formed r =
+pub are_true : (program : Program) (nodes : ℕ) (asked : Option ℚ) (log : List Entry) (marks : List (ℕ × Mark)) (answer : Answer) → IsWellFormed program → (r : IsSolved program nodes asked log marks (answer_of answer)) → AreTrue program (root_value program) r.start nodes asked log (figures_of program answer)
+are_true program nodes asked log marks answer formed r =
     let box = root_value program in
     let least : NoMore box r.start = root_no_less program box r.start r.root.whole r.root.plain in
-    let printable : IsPrintable program box r.start nodes log (answer_of answer) = record {
+    let printable : IsPrintable program box r.start nodes asked log (answer_of answer) = record {
       right = r.right.right;
       bound = λ n m. no_more box r.start answer.bound least (tells r.start answer.bound (ended_of answer.ended) n m r.right.bound);
       ray = r.right.long;
     } in
-    subst (AreTrue program box r.start nodes log) (figures_same program answer) (figures_are_true program box r.start nodes log (answer_of answer) formed printable)
+    subst (AreTrue program box r.start nodes asked log) (figures_same program answer) (figures_are_true program box r.start nodes asked log (answer_of answer) formed printable)

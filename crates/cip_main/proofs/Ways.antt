@@ -9,6 +9,7 @@ use Rattle.cip_point_rules.specs.PointRules.{point_reading}
 use Rattle.cip_parts.specs.BlockParts.{Blocks as Parts}
 use Rattle.cip_input.specs.TextsRead.{ReadsText}
 use Rattle.cip_main.specs.declared.plain.Plain.{Plain}
+use Rattle.cip_words.specs.Jobs.{Limits}
 use Rattle.cip_main.specs.Tasks.{TakesBlocks, IsSolve, IsCheck}
 use Rattle.cip_main.specs.Running.{Call, BlocksAreRead, IsPulledBehind, TellsTruth, TellsVerdict, GivesPlain, gives_plain, gives_figures, gives_verdict, Runs}
 use Rattle.cip_main.proofs.Readings.{told, value_told}
@@ -33,11 +34,11 @@ none_failed program None old between new t = ap (λ (store : StoreTells). store.
 none_failed program (Some name) old between new t = t.1.sound
 
 -- a program was read and solved
-pub answered : (call : Call) (program : Program) (nodes : ℕ) → IsSolve call.job call.store call.store_after program nodes → TellsTruth call program nodes → Runs call
-answered call program nodes s t = runs call (gives_figures (record {
+pub answered : (call : Call) (program : Program) (limits : Limits) → IsSolve call.job call.store call.store_after program limits → TellsTruth call program limits → Runs call
+answered call program limits s t = runs call (gives_figures (record {
   model = s.model;
   blocks = s.blocks;
-  nodes = nodes;
+  limits = limits;
   asked = s.asked;
   program = program;
   is_read = told _ program s.reads.is_read;

@@ -15,7 +15,13 @@ use Rattle.cip_node.specs.Beginning.{root_value, IsRootBound}
 use Rattle.cip_solve.specs.Logs.{entries_of, numbers_of}
 use Rattle.cip_solve.specs.Solved.{AreMet, IsSolved}
 use Rattle.cip_solve.specs.declared.logs.Log.{Log}
+use Rattle.cip_solve.specs.declared.solving.Options.{Options}
+use Rattle.cip_words.specs.Jobs.{Limits}
 use Rattle.cip_main.specs.Saying.{Says}
+
+-- the limits of a search, as its options say
+abbrev pub limits_of : Options → Limits
+limits_of options = record { nodes = options.nodes; gap = options.gap }
 
 -- one log was added, and these are its entries and marks
 pub record AddsLog (logs logs_after : List Log) (entries : List Entry) (marks : List (ℕ × Mark)) : Type 0 where
@@ -37,15 +43,15 @@ IsLogged logs logs_after entries marks status =
 
 -- an answer of a search, as it is held, is right beside the log that was added, if one was
 pub record Searched
-    (program : Program) (nodes : ℕ) (logs logs_after : List Log) (answer : Answer) : Type 0 where
+    (program : Program) (limits : Limits) (logs logs_after : List Log) (answer : Answer) : Type 0 where
   pub entries : List Entry
   pub marks : List (ℕ × Mark)
-  pub right : IsSolved program nodes entries marks (answer_of answer)
+  pub right : IsSolved program limits.nodes limits.gap entries marks (answer_of answer)
   pub logged :
       AddsLog logs logs_after entries marks ⊎ (AddsNone logs logs_after entries marks × (answer.ended ≡ LacksMemory))
 
--- how it was searched: from the box bound on, or from that rounded up where all costs are whole; with no more nodes than
--- the budget allows; and nodes were split by bounds that are as good as those of their linear programs, unless a mark
+-- how it was searched: from the box bound on, or from that rounded up where all costs are whole; with no more nodes
+-- than the budget allows; and nodes were split by bounds that are as good as those of their linear programs, unless a mark
 -- says what a linear program met that showed nothing
 pub record IsSearchLog
     (program : Program) (start : Option ℚ) (nodes : ℕ) (entries : List Entry) (marks : List (ℕ × Mark))
@@ -56,15 +62,16 @@ pub record IsSearchLog
   pub of_entries : AreOfEntries entries (numbers_of marks)
   pub met : AreMet program start entries marks
 
--- there are figures that are true of the program beside the log that was added, if one was, and the sink was told them
+-- there are figures that are true of the program beside the log that was added, if one was, within these limits, and
+-- the sink was told them
 pub record Answers
-    (program : Program) (nodes : ℕ) (sink sink_after : SinkTells) (logs logs_after : List Log) (result : ℕ)
+    (program : Program) (limits : Limits) (sink sink_after : SinkTells) (logs logs_after : List Log) (result : ℕ)
     : Type 0 where
   pub figures : Figures
   pub start : Option ℚ
   pub entries : List Entry
   pub marks : List (ℕ × Mark)
-  pub are_true : AreTrue program (root_value program) start nodes entries figures
+  pub are_true : AreTrue program (root_value program) start limits.nodes limits.gap entries figures
   pub told : Says sink sink_after (answer_text (names_of program) figures) (exit_status figures.status) result
   pub logged : IsLogged logs logs_after entries marks figures.status
-  pub is_search : IsSearchLog program start nodes entries marks
+  pub is_search : IsSearchLog program start limits.nodes entries marks

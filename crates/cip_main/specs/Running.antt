@@ -1,5 +1,6 @@
 -- What a call of `run` does: by the words, what the store tells, what the sink took, and the logs.
-use Rattle.std.specs.Prelude.{◌≡◌, ◌≢◌, ◌⊎◌, ⊤, ℕ, ◌*◌, ◌-◌, ◌≤◌, max, List, [], ◌∷◌, ◌++◌, length, Option, None, Some, IfSome}
+use Rattle.std.specs.Prelude.{◌≡◌, ◌≢◌, ◌⊎◌, ⊤, ℕ, ◌*◌, ◌-◌, ◌≤◌, max, List, [], ◌∷◌, ◌++◌, length}
+use Rattle.std.specs.Prelude.{Option, None, Some, IfSome}
 use Rattle.cip_io.specs.Faults.{Rose}
 use Rattle.cip_io.specs.Store.{StoreTells}
 use Rattle.cip_io.specs.Sink.{SinkTells}
@@ -11,10 +12,10 @@ use Rattle.cip_line_texts.specs.LineTexts.{HasResult, HasFault as HasLineFault}
 use Rattle.cip_parts.specs.BlockParts.{Blocks as Parts}
 use Rattle.cip_block_rules.specs.BlockRules.{block_reading}
 use Rattle.cip_point_rules.specs.PointRules.{point_reading}
-use Rattle.cip_words.specs.Jobs.{Job, Solve, Check}
+use Rattle.cip_words.specs.Jobs.{Limits, Job, Solve, Check}
 use Rattle.cip_input.specs.TextPulls.{IsAllPulled}
-use Rattle.cip_answers.specs.Figures.{NodeLimit, Wide, Overflow}
-use Rattle.cip_headline.specs.Headline.{IsSpent, ShowsOverflow}
+use Rattle.cip_answers.specs.Figures.{NodeLimit, Gap, Wide, Overflow}
+use Rattle.cip_headline.specs.Headline.{ReachesGap, IsSpent, ShowsOverflow, EndsItself}
 use Rattle.cip_answers.specs.Checks.{check_text, check_status}
 use Rattle.cip_model.specs.Verdicts.{verdict_of}
 use Rattle.cip_model.specs.Meaning.{VerdictHolds}
@@ -79,10 +80,10 @@ pub record GivesPlain (call : Call) (answer : Plain) : Type 0 where
   pub tells : Says call.sink call.sink_after (plain_text answer) (plain_status answer) call.status
   pub no_search : call.logs_after ≡ call.logs
 
--- true figures of the program were told to the sink, beside the log of a search within this budget of nodes
-abbrev pub TellsTruth : Call → Program → (nodes : ℕ) → Type 0
-TellsTruth call program nodes =
-    Answers program nodes call.sink call.sink_after call.logs call.logs_after call.status
+-- true figures of the program were told to the sink, beside the log of a search within these limits
+abbrev pub TellsTruth : Call → Program → Limits → Type 0
+TellsTruth call program limits =
+    Answers program limits call.sink call.sink_after call.logs call.logs_after call.status
 
 -- what the test of a point says was told to the sink: exactly its text, with its status; it holds of the program and
 -- the point, and no search was made
@@ -114,12 +115,12 @@ pub record ArePulled (model : List ℕ) (second : Option (List ℕ)) (old new : 
 pub record IsAnswered (call : Call) : Type 0 where
   pub model : List ℕ
   pub blocks : Option (List ℕ)
-  pub nodes : ℕ
-  pub asked : call.job ≡ Some (Solve model blocks nodes)
+  pub limits : Limits
+  pub asked : call.job ≡ Some (Solve model blocks limits)
   pub program : Program
   pub is_read : IfSome (call.store.holds model) (λ text. HasProgram text program)
   pub are_read : BlocksAreRead program blocks call.store
-  pub answers : TellsTruth call program nodes
+  pub answers : TellsTruth call program limits
   pub pulled : ArePulled model blocks call.store call.store_after
   pub sound : IsStoreSound call
 
@@ -155,12 +156,13 @@ pub data IsStatus : ℕ → Type 0 where
   no_memory : IsStatus 6
   spent : IsStatus 10
   wide : IsStatus 11
+  near : IsStatus 13
 
--- the words ask for the program of a text, within a budget of nodes
-pub record Asks (call : Call) (text : List ℕ) (nodes : ℕ) : Type 0 where
+-- the words ask for the program of a text, within limits
+pub record Asks (call : Call) (text : List ℕ) (limits : Limits) : Type 0 where
   pub model : List ℕ
   pub blocks : Option (List ℕ)
-  pub job : call.job ≡ Some (Solve model blocks nodes)
+  pub job : call.job ≡ Some (Solve model blocks limits)
   pub held : call.store.holds model ≡ Some text
 
 -- the words ask for a job, whose model has this text
@@ -173,8 +175,8 @@ pub record AsksOf (call : Call) (text : List ℕ) : Type 0 where
 pub record AsksWith (call : Call) (text blocks_text : List ℕ) : Type 0 where
   pub model : List ℕ
   pub name : List ℕ
-  pub nodes : ℕ
-  pub job : call.job ≡ Some (Solve model (Some name) nodes)
+  pub limits : Limits
+  pub job : call.job ≡ Some (Solve model (Some name) limits)
   pub held : call.store.holds model ≡ Some text
   pub blocks_held : call.store.holds name ≡ Some blocks_text
 
@@ -195,8 +197,8 @@ IsCutShort call = GivesPlain call ReadFault ⊎ GivesPlain call NoMemory
 pub record RefusesBlocks (call : Call) (program : Program) : Type 0 where
   pub model : List ℕ
   pub name : List ℕ
-  pub nodes : ℕ
-  pub asked : call.job ≡ Some (Solve model (Some name) nodes)
+  pub limits : Limits
+  pub asked : call.job ≡ Some (Solve model (Some name) limits)
   pub fault : BlockFault
   pub given : GivesPlain call (Refused (Blocks fault))
   pub pulled : ArePulled model (Some name) call.store call.store_after
@@ -207,8 +209,8 @@ pub record RefusesBlocks (call : Call) (program : Program) : Type 0 where
 -- they name is refused; or the store failed, or want of memory is answered without figures
 abbrev pub Headline : Call → Type 0
 Headline call =
-    (text : List ℕ) (nodes : ℕ) (program : Program) → Asks call text nodes → HasProgram text program
-    → TellsTruth call program nodes ⊎ (RefusesBlocks call program ⊎ IsCutShort call)
+    (text : List ℕ) (limits : Limits) (program : Program) → Asks call text limits → HasProgram text program
+    → TellsTruth call program limits ⊎ (RefusesBlocks call program ⊎ IsCutShort call)
 
 -- the verdict is that something is broken
 abbrev pub IsBreach : Verdict → Type 0
@@ -261,8 +263,8 @@ pub record PullsToFault (call : Call) (asked : Job) : Type 0 where
   pub pulled : ArePulled (model_of asked) (behind_up_to fault asked) call.store call.store_after
 
 -- status 3 comes only where the store's count of faults rose, or stands at its last value; with every other status but
--- 5 the count is as it was; with 0, 1, 10 and 11 each text that the words name was pulled whole, and with 4 the texts
--- up to the faulty one
+-- 5 the count is as it was; with 0, 1, 10, 11 and 13 each text that the words name was pulled whole, and with 4 the
+-- texts up to the faulty one
 pub record ReadFaultClause (call : Call) : Type 0 where
   pub rose : call.status ≡ 3 → Rose call.store.faults call.store_after.faults
   pub sound : call.status ≢ 3 → call.status ≢ 5 → IsStoreSound call
@@ -333,25 +335,46 @@ pub record WriteFaultClause (call : Call) : Type 0 where
   pub rose : call.status ≡ 5 → Rose call.sink.faults call.sink_after.faults
   pub sound : call.status ≢ 5 → IsSinkSound call
 
--- status 10 comes only after a search of as many nodes as the words allow, which left an open node that matters; the
--- figures that are told say exactly so
+-- the figures that are told reach the gap that the words ask for: the cost less the bound is above 0 and at most that
+abbrev pub IsNear : (call : Call) → IsAnswered call → Type 0
+IsNear call answered = ReachesGap answered.program answered.limits.gap answered.answers.figures
+
+-- status 10 comes only after a search of as many nodes as the words allow, which left an open node that matters, and
+-- where the gap that they ask for isn't reached; the figures that are told say exactly so
 pub record SpentLog (call : Call) : Type 0 where
   pub answered : IsAnswered call
   pub limit : answered.answers.figures.status ≡ NodeLimit
   pub log : Log
   pub added : call.logs_after ≡ call.logs ++ log ∷ []
-  pub full : length (entries_of log) ≡ answered.nodes
+  pub full : length (entries_of log) ≡ answered.limits.nodes
   pub spent :
-      IsSpent answered.program answered.answers.start answered.nodes (entries_of log) answered.answers.figures.held
+      IsSpent answered.program answered.answers.start answered.limits.nodes (entries_of log)
+      answered.answers.figures.held
+  pub far : ¬ IsNear call answered
 
 -- and it never comes where the words allow at least twice as many nodes as the box of the program has whole
--- assignments, less one
+-- assignments, less one: then a search that isn't cut short ends by what is left, or by the gap where one is asked for
 pub record NodeLimitClause (call : Call) : Type 0 where
   pub spent : call.status ≡ 10 → SpentLog call
-  pub ample : (text : List ℕ) (nodes : ℕ) (program : Program) (n : ℕ) → Asks call text nodes → HasProgram text program
-      → assignments program.integral program.bounds ≡ Some n → max 1 (2 * n - 1) ≤ nodes → call.status ≢ 10
+  pub ample : (text : List ℕ) (limits : Limits) (program : Program) (n : ℕ) → Asks call text limits
+      → HasProgram text program → assignments program.integral program.bounds ≡ Some n
+      → max 1 (2 * n - 1) ≤ limits.nodes → call.status ≢ 10
 
--- a search has shown an overflow
+-- a search has ended by the gap that the words ask for
+pub record GapLog (call : Call) : Type 0 where
+  pub answered : IsAnswered call
+  pub gap : answered.answers.figures.status ≡ Gap
+  pub near : IsNear call answered
+
+-- status 13 comes only where a search has ended by the gap that the words ask for; and wherever the figures reach it,
+-- unless the sink failed, or a ray or want of memory has cut the search short
+pub record GapClause (call : Call) : Type 0 where
+  pub only : call.status ≡ 13 → GapLog call
+  pub always : (answered : IsAnswered call) → IsNear call answered → EndsItself answered.answers.figures.status
+      → call.status ≢ 5 → call.status ≡ 13
+  pub unasked : (text : List ℕ) (limits : Limits) → Asks call text limits → limits.gap ≡ None → call.status ≢ 13
+
+-- a search has shown an overflow, and the gap that the words ask for isn't reached
 pub record OverflowLog (call : Call) : Type 0 where
   pub answered : IsAnswered call
   pub leaf : List ℚ
@@ -360,6 +383,7 @@ pub record OverflowLog (call : Call) : Type 0 where
   pub overflows :
       ShowsOverflow answered.program answered.answers.start answered.answers.entries answered.answers.figures.held leaf
       place
+  pub far : ¬ IsNear call answered
 
 -- status 11 comes only where a search has shown an overflow, or where a sum overflows at the point that was read
 abbrev pub OverflowClause : Call → Type 0
@@ -380,5 +404,6 @@ pub record Runs (call : Call) : Type 0 where
   pub refused : RefusedClause call
   pub write_fault : WriteFaultClause call
   pub node_limit : NodeLimitClause call
+  pub gap : GapClause call
   pub overflow : OverflowClause call
   pub memory : MemoryClause call

@@ -1,4 +1,4 @@
--- What the words and the texts of a job come to: a program to solve with a node budget, a point to check, or an answer
+-- What the words and the texts of a job come to: a program to solve within limits, a point to check, or an answer
 -- without figures. A job reads the text of the model first, and then a second text, if it names one.
 use Rattle.std.specs.Prelude.{◌≡◌, ◌⊎◌, ◌<◌, ℕ, List, Option, None, Some, length}
 use Rattle.cip_rational.specs.Rational.{ℚ}
@@ -13,7 +13,7 @@ use Rattle.cip_point_rules.specs.PointRules.{point_reading}
 use Rattle.cip_mps.specs.MpsFaultKinds.{kind_number as mps_kind_number}
 use Rattle.cip_blocks.specs.BlockKinds.{kind_number as block_kind_number}
 use Rattle.cip_point.specs.PointKinds.{kind_number as point_kind_number}
-use Rattle.cip_words.specs.Jobs.{Job, Solve, Check}
+use Rattle.cip_words.specs.Jobs.{Limits, Job, Solve, Check}
 use Rattle.cip_words.specs.declared.words.WordsFault.{WordsFault}
 use Rattle.cip_words.specs.declared.words.WordsFault.TheVariants as words
 use Rattle.cip_input.specs.LimitedModels.{IsLimited}
@@ -30,6 +30,7 @@ use Rattle.cip_input.specs.declared.points.UnreadPoint.TheVariants as unread_poi
 use Rattle.cip_main.specs.declared.refusals.TextFault.TheVariants.{Model, Blocks, Point}
 use Rattle.cip_main.specs.declared.plain.Plain.{Plain}
 use Rattle.cip_main.specs.declared.plain.Plain.TheVariants.{Usage, ReadFault, Refused, NoMemory}
+use Rattle.cip_main.specs.Answering.{limits_of}
 use Rattle.cip_main.specs.declared.tasks.Task.{Task}
 use Rattle.cip_main.specs.declared.tasks.Task.TheVariants as task
 
@@ -58,12 +59,12 @@ plain_of_words words.NoMemory = NoMemory
 
 -- the name of the text of the model of a job
 abbrev pub model_of : Job → List ℕ
-model_of (Solve model blocks nodes) = model
+model_of (Solve model blocks limits) = model
 model_of (Check model point) = model
 
 -- the name of the text that is read behind the model's, if there is one
 abbrev pub second_of : Job → Option (List ℕ)
-second_of (Solve model blocks nodes) = blocks
+second_of (Solve model blocks limits) = blocks
 second_of (Check model point) = Some point
 
 -- ---- `old` and `new` are the store before and after the call, and `between` between the two texts
@@ -74,16 +75,16 @@ TakesBlocks program None old between new = new ≡ between
 TakesBlocks program (Some name) old between new =
     (parts : Parts) × ReadsBlocks program (old.holds name) between new parts
 
--- the words ask to solve the program of a text, which was read, within this budget of nodes
-pub record IsSolve (job : Option Job) (old new : StoreTells) (program : Program) (nodes : ℕ) : Type 0 where
+-- the words ask to solve the program of a text, which was read, within these limits
+pub record IsSolve (job : Option Job) (old new : StoreTells) (program : Program) (limits : Limits) : Type 0 where
   pub model : List ℕ
   pub blocks : Option (List ℕ)
-  pub asked : job ≡ Some (Solve model blocks nodes)
+  pub asked : job ≡ Some (Solve model blocks limits)
   pub between : StoreTells
   pub reads : Reads (old.holds model) old between program
   pub takes_blocks : TakesBlocks program blocks old between new
   pub limited : IsLimited program
-  pub some : 0 < nodes
+  pub some : 0 < limits.nodes
 
 -- the words ask to check the point of a text in the program of a text, and both were read
 pub record IsCheck (job : Option Job) (old new : StoreTells) (program : Program) (point : List ℚ) : Type 0 where
@@ -97,7 +98,7 @@ pub record IsCheck (job : Option Job) (old new : StoreTells) (program : Program)
 
 -- what is to be done
 abbrev pub IsTask : Option Job → (old new : StoreTells) → Task → Type 0
-IsTask job old new (task.Solve program nodes) = IsSolve job old new program nodes
+IsTask job old new (task.Solve program options) = IsSolve job old new program (limits_of options)
 IsTask job old new (task.Check program point) = IsCheck job old new program point.items
 
 -- behind the text of the model, which was read, the store failed at the second text
@@ -125,8 +126,8 @@ pub record HasFaultyModel (job : Option Job) (old new : StoreTells) (line kind :
 pub record HasFaultyBlocks (job : Option Job) (old new : StoreTells) (line kind : ℕ) : Type 0 where
   pub model : List ℕ
   pub name : List ℕ
-  pub nodes : ℕ
-  pub is_asked : job ≡ Some (Solve model (Some name) nodes)
+  pub limits : Limits
+  pub is_asked : job ≡ Some (Solve model (Some name) limits)
   pub program : Program
   pub between : StoreTells
   pub reads : Reads (old.holds model) old between program

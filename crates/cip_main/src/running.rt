@@ -24,7 +24,9 @@ use std::alloc::Global;
 /// - 6: a growth was refused: before the program was read nothing else is printed, and later the figures held;
 /// - 10: the node budget is spent, and an open node matters;
 /// - 11: what is left of the search is leaves that overflow, and one of these was printed; or a sum
-///   overflows at the point to check, and which one was printed.
+///   overflows at the point to check, and which one was printed;
+/// - 13: the gap that the words ask for is reached: the cost less the bound, in the minimised form, is above 0 and at
+///   most that.
 ///
 /// The texts are the model's, and then that of the blocks or of the point. A search adds one log to `logs`, or none
 /// where memory was refused before it had room for one. Blocks change nothing of the search.
@@ -39,7 +41,9 @@ pub fn run<S: Store, K: Sink>(
         (K.tells out.old) (K.tells out.new) logs.old.items logs.new.items result) }
 {
     match read_task(alloc, words, store) {
-        Ok(Task::Solve { program, nodes }) => solve_and_report(alloc, &program, nodes, out, logs),
+        Ok(Task::Solve { program, options }) => {
+            solve_and_report(alloc, &program, &options, out, logs)
+        }
         Ok(Task::Check { program, point }) => check_and_report(&program, point.as_slice(), out),
         Err(answer) => say(out, answer),
     }

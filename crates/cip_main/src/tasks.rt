@@ -1,8 +1,9 @@
 //! What the words and the texts of a job come to.
 ghost use Rattle.std.specs.Prelude.{◌≡◌, ◌<◌, ℕ, List, Option, Some, MatchResult, option_map};
-ghost use Rattle.cip_words.specs.Jobs.{Job as Asked, Solve, Check, job_of};
+ghost use Rattle.cip_words.specs.Jobs.{Job as Asked, Limits, Solve, Check, job_of};
 ghost use Rattle.cip_io.specs.Store.{StoreTells};
 ghost use Rattle.cip_input.specs.ModelsRead.{Reads};
+ghost use Rattle.cip_main.specs.Answering.{limits_of};
 ghost use Rattle.cip_main.specs.Tasks.{TakesBlocks, IsTask, TaskCause};
 
 use crate::plain::Plain;
@@ -15,6 +16,7 @@ use cip_io::Store;
 use cip_model::Program;
 use cip_mps_rules::texts::programs_are_well_formed;
 use cip_point_rules::points::points_are_of_lines;
+use cip_solve::Options;
 use cip_words::{Job, Words, WordsFault};
 use std::alloc::Global;
 
@@ -25,8 +27,8 @@ pub enum Task {
     Solve {
         /// The program.
         program: Program,
-        /// The most nodes that the search takes, from 1 to 2^40.
-        nodes: u64,
+        /// What its search may do.
+        options: Options,
     },
     /// To check a point in a program.
     Check {
@@ -103,8 +105,8 @@ fn take_blocks<S: Store>(
     blocks: Option<&str>,
     program: &Program,
 ) -> Result<(), Plain>
-    ensures { (job : Option Asked) (model : List ℕ) (nodes : ℕ) (old : StoreTells)
-        → job ≡ Some (Solve model (option_map (λ text. text.now) blocks.entry) nodes)
+    ensures { (job : Option Asked) (model : List ℕ) (limits : Limits) (old : StoreTells)
+        → job ≡ Some (Solve model (option_map (λ text. text.now) blocks.entry) limits)
         → Reads (old.holds model) old (S.tells store.old) program.now
         → (S.tells store.old).holds ≡ old.holds
         → MatchResult result
@@ -119,24 +121,24 @@ fn take_blocks<S: Store>(
     Ok(())
 }
 
-/// Reads the texts of a model and of its blocks, for a search of at most so many nodes.
+/// Reads the texts of a model and of its blocks, for a search with these options.
 fn read_solve<S: Store>(
     alloc: Global,
     store: &mut S,
     model: &str,
     blocks: Option<&str>,
-    nodes: u64,
+    options: Options,
 ) -> Result<Task, Plain>
-    requires { 0 < nodes }
+    requires { 0 < options.nodes }
     ensures { (job : Option Asked)
-        → job ≡ Some (Solve model.now (option_map (λ text. text.now) blocks.entry) nodes)
+        → job ≡ Some (Solve model.now (option_map (λ text. text.now) blocks.entry) (limits_of options))
         → MatchResult result
         (IsTask job (S.tells store.old) (S.tells store.new)) (TaskCause job (S.tells store.old) (S.tells store.new)) }
 {
     let program = read_program(alloc, store, model)?;
     take_blocks(alloc, store, blocks, &program)?;
     programs_are_limited();
-    Ok(Task::Solve { program, nodes })
+    Ok(Task::Solve { program, options })
 }
 
 /// Reads the texts of a model and of a point.
@@ -168,12 +170,16 @@ pub fn read_task<S: Store>(alloc: Global, words: &Words, store: &mut S) -> Resul
         (IsTask (job_of words.now) (S.tells store.old) (S.tells store.new))
         (TaskCause (job_of words.now) (S.tells store.old) (S.tells store.new)) }
 {
-    match words.job()? {
-        Job::Solve {
-            model,
-            blocks,
-            nodes,
-        } => read_solve(alloc, store, model, blocks, nodes),
-        Job::Check { model, point } => read_check(alloc, store, model, point),
+    match words.job() {
+        Ok(
+            Job::Solve {
+                model,
+                blocks,
+                nodes,
+                gap,
+            },
+        ) => read_solve(alloc, store, model, blocks, Options { nodes, gap }),
+        Ok(Job::Check { model, point }) => read_check(alloc, store, model, point),
+        Err(fault) => Err(Plain::from(fault)),
     }
 }

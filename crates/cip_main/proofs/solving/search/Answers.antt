@@ -1,14 +1,14 @@
 use Rattle.std.proofs.Common.{◌≡◌, ◌++◌, ◌∷◌, [], refl, sym, subst, inl, rules}
 use Rattle.cip_solve.specs.Logs.{entries_of}
-use Rattle.cip_main.specs.Answering.{Searched}
+use Rattle.cip_main.specs.Answering.{Searched, limits_of}
 use Rattle.cip_main.proofs.Searches.{not_searched}
 use Rattle.cip_main.proofs.solving.search.Goals as goal
 
 pub returns-then-is_err : goal.returns-then-is_err
 returns-then-is_err c =
     let same : c.reserve.new.self.items ≡ c.args.logs.now.items = search rules in
-    subst (λ items. Searched c.args.program.now c.args.nodes c.args.logs.now.items items c.unsearched.result) (sym same)
-    (not_searched c.args.program.now c.args.nodes c.args.logs.now.items c.unsearched.result (c.unsearched.ensures c.args.nodes))
+    subst (λ items. Searched c.args.program.now (limits_of c.args.options.now) c.args.logs.now.items items c.unsearched.result) (sym same)
+    (not_searched c.args.program.now (limits_of c.args.options.now) c.args.logs.now.items c.unsearched.result (c.unsearched.ensures c.args.options.now.nodes c.args.options.now.gap))
 
 pub returns : goal.returns
 returns c =

@@ -1,16 +1,17 @@
 use Rattle.cip_words.specs.Jobs.{Solve}
+use Rattle.cip_main.specs.Answering.{limits_of}
 use Rattle.cip_main.proofs.Readings.{not_done, unread_cause, is_solve}
 use Rattle.cip_main.proofs.tasks.read_solve.Goals as goal
 
 pub returns-in_err-program : goal.returns-in_err-program
 returns-in_err-program g c = λ job asked.
-    not_done _ _ _ _ (unread_cause job (Solve c.args.model.now _ c.args.nodes) _ _ c.in_err-program.field-0.0 asked c.in_err-program.ensures.answer) c.from_residual.ensures
+    not_done _ _ _ _ (unread_cause job (Solve c.args.model.now _ (limits_of c.args.options)) _ _ c.in_err-program.field-0.0 asked c.in_err-program.ensures.answer) c.from_residual.ensures
 
 pub returns-in_err-take_blocks : goal.returns-in_err-take_blocks
 returns-in_err-take_blocks g c = λ job asked.
-    not_done _ _ _ _ (c.in_err-take_blocks.ensures job c.args.model.now c.args.nodes _ asked c.in_ok-program.ensures.answer c.in_ok-program.ensures.holds) c.from_residual-in_err-take_blocks.ensures
+    not_done _ _ _ _ (c.in_err-take_blocks.ensures job c.args.model.now (limits_of c.args.options) _ asked c.in_ok-program.ensures.answer c.in_ok-program.ensures.holds) c.from_residual-in_err-take_blocks.ensures
 
 pub returns : goal.returns
 returns g c = λ job asked.
-    is_solve job c.args.model.now _ c.args.nodes _ _ _ _ c.programs_are_limited.ensures c.requires asked c.in_ok-program.ensures.answer
-    (c.in_ok-take_blocks.ensures job c.args.model.now c.args.nodes _ asked c.in_ok-program.ensures.answer c.in_ok-program.ensures.holds)
+    is_solve job c.args.model.now _ (limits_of c.args.options) _ _ _ _ c.programs_are_limited.ensures c.requires asked c.in_ok-program.ensures.answer
+    (c.in_ok-take_blocks.ensures job c.args.model.now (limits_of c.args.options) _ asked c.in_ok-program.ensures.answer c.in_ok-program.ensures.holds)
