@@ -27,7 +27,7 @@ fn search(alloc: Global, columns: &[Column], rows: Vec<Row>, nodes: u64) -> Resu
         return Err(Fail::from("sides that are too far"));
     }
     let mut log = Log::new(alloc);
-    let answer = solve(alloc, &program, &Options { nodes }, &mut log);
+    let answer = solve(alloc, &program, &Options { nodes, gap: None }, &mut log);
     Ok(Searched { answer, log })
 }
 
