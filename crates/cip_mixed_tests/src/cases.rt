@@ -4,7 +4,7 @@ use cip_main::{Words, run};
 use std::alloc::{AllocError, Global};
 
 /// Whether these words print this answer, where `M` has this text, and end with this status.
-fn prints(
+pub fn prints(
     alloc: Global,
     list: &[&str],
     text: &str,

@@ -41,7 +41,7 @@ fn a_row_bounds_a_column_without_high_side(rt: HostRuntime) -> Result<(), Fail> 
 }
 
 /// Three whole columns under three rows, the last one open above by a bound that is none.
-const FAR_BOUND: &str = "OBJSENSE
+pub const FAR_BOUND: &str = "OBJSENSE
  MAX
 ROWS
  N COST
@@ -109,7 +109,7 @@ fn no_whole_point_meets_an_odd_sum(rt: HostRuntime) -> Result<(), Fail> {
 }
 
 /// MIN -x, 10^37 x at least 0, x whole from 0 to 18: 17 is the greatest value whose product fits.
-const WIDE_ROW: &str = "ROWS
+pub const WIDE_ROW: &str = "ROWS
  N COST
  G R1
 COLUMNS
