@@ -19,3 +19,4 @@ pub mod RowLists
 pub mod SparseLines
 pub mod TakenValues
 pub mod Unchanged
+pub mod WholeLines

@@ -7,4 +7,5 @@ pub mod Row
 pub mod SparseLines
 pub mod State
 pub mod Values
+pub mod WholeLines
 pub mod Written

@@ -21,7 +21,7 @@ mod values;
 pub use cip_dictionary::{Line, Move, Place, Stand};
 pub use dict::Dict;
 pub use fault::{FirstFault, MoveFault, OutOfRange};
-pub use laws::sparse_lines_tell;
+pub use laws::{sparse_lines_tell, whole_lines_tell};
 pub use spare::Spare;
 
 #[cfg(test)]

@@ -1,0 +1,40 @@
+-- Lines whose entries that aren't 0 are kept as whole numbers over one denominator, all of them below 2^42.
+use Rattle.std.specs.Prelude.{◌≡◌, ℕ, ◌<◌, ◌*◌, ◌^◌, ℤ, pos, neg_ℤ, ◌+ℤ◌, ◌*ℤ◌, false, List, [], ◌∷◌}
+use Rattle.cip_rational.specs.Rational.{ℚ, ◌+ℚ◌, ◌*ℚ◌, negate, inverse, ratio, numerator, denominator}
+use Rattle.cip_rational.specs.Range.{magnitude, sum_overflows, product_overflows}
+use Rattle.cip_dict.specs.SparseLines.{Kept}
+
+-- a variable, and the whole number on it
+abbrev pub Whole : Type 0
+Whole = ℕ × ℤ
+
+-- the entries that such numbers stand for
+abbrev pub over : ℕ → List Whole → List Kept
+over below [] = []
+over below (e ∷ es) = (e.0, ratio e.1 below) ∷ over below es
+
+-- numerator and denominator, in lowest terms, are below 2^42
+pub record IsSmall (q : ℚ) : Type 0 where
+  pub top : magnitude (numerator q) < 2 ^ 42
+  pub bottom : denominator q < 2 ^ 42
+
+-- ---- what is said of them, as one statement
+
+-- no operation of an exchange leaves the range on small numbers, and its results are formed on the whole numbers: the
+-- row that leaves is turned round, and another row, of numbers n and x * g over d where that has y over g * f, becomes
+-- n * f + x * y over d * f; what all its numbers have in common can be left out
+pub record WholeLinesTell : Type 0 where
+  pub small : (z : ℤ) (d : ℕ) → 0 < d → magnitude z < 2 ^ 42 → d < 2 ^ 42 → IsSmall (ratio z d)
+  pub products : (a b : ℚ) → IsSmall a → IsSmall b → product_overflows a b ≡ false
+  pub sums : (a b c : ℚ) → IsSmall a → IsSmall b → IsSmall c → sum_overflows a (b *ℚ c) ≡ false
+  pub turned : (p d : ℕ) → 0 < p → 0 < d → inverse (ratio (pos p) d) ≡ ratio (pos d) p
+  pub turned_back : (p d : ℕ) → 0 < p → 0 < d → inverse (ratio (neg_ℤ (pos p)) d) ≡ ratio (neg_ℤ (pos d)) p
+  pub solved : (n : ℤ) (p d : ℕ) → 0 < p → 0 < d
+      → negate (ratio n d) *ℚ inverse (ratio (pos p) d) ≡ ratio (neg_ℤ n) p
+  pub solved_back : (n : ℤ) (p d : ℕ) → 0 < p → 0 < d
+      → negate (ratio n d) *ℚ inverse (ratio (neg_ℤ (pos p)) d) ≡ ratio n p
+  pub put : (n x y : ℤ) (d f g : ℕ) → 0 < d → 0 < f → 0 < g
+      → ratio n d +ℚ ratio (x *ℤ pos g) d *ℚ ratio y (g * f) ≡ ratio (n *ℤ pos f +ℤ x *ℤ y) (d * f)
+  pub put_alone : (x y : ℤ) (d f g : ℕ) → 0 < d → 0 < f → 0 < g
+      → ratio (x *ℤ pos g) d *ℚ ratio y (g * f) ≡ ratio (x *ℤ y) (d * f)
+  pub divided : (n : ℤ) (d g : ℕ) → 0 < d → 0 < g → ratio (n *ℤ pos g) (d * g) ≡ ratio n d
