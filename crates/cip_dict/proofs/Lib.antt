@@ -20,3 +20,4 @@ pub mod SparseLines
 pub mod TakenValues
 pub mod Unchanged
 pub mod WholeLines
+pub mod WholeParts

@@ -1,8 +1,8 @@
 -- Lines whose entries that aren't 0 are kept as whole numbers over one denominator, all of them below 2^42.
-use Rattle.std.specs.Prelude.{◌≡◌, ℕ, ◌<◌, ◌*◌, ◌^◌, ℤ, pos, neg_ℤ, ◌+ℤ◌, ◌*ℤ◌, false, List, [], ◌∷◌}
+use Rattle.std.specs.Prelude.{◌≡◌, ℕ, ◌<◌, ◌*◌, ◌^◌, ℤ, pos, neg_ℤ, ◌+ℤ◌, ◌*ℤ◌, ◌==◌, Bool, true, false, List, [], ◌∷◌, if◌then◌else◌, ⊤}
 use Rattle.cip_rational.specs.Rational.{ℚ, ◌+ℚ◌, ◌*ℚ◌, negate, inverse, ratio, numerator, denominator}
 use Rattle.cip_rational.specs.Range.{magnitude, sum_overflows, product_overflows}
-use Rattle.cip_dict.specs.SparseLines.{Kept}
+use Rattle.cip_dict.specs.SparseLines.{Kept, AreKept}
 
 -- a variable, and the whole number on it
 abbrev pub Whole : Type 0
@@ -12,6 +12,32 @@ Whole = ℕ × ℤ
 abbrev pub over : ℕ → List Whole → List Kept
 over below [] = []
 over below (e ∷ es) = (e.0, ratio e.1 below) ∷ over below es
+
+-- the number on variable k: 0 where there is none
+abbrev pub number_on : List Whole → ℕ → ℤ
+number_on [] k = pos 0
+number_on (e ∷ es) k = if e.0 == k then e.1 else number_on es k
+
+-- the numbers are below 2^42
+abbrev pub AreSmall : List Whole → Type 0
+AreSmall [] = ⊤
+AreSmall (e ∷ es) = (magnitude e.1 < 2 ^ 42) × AreSmall es
+
+-- the entries that a line keeps: whole numbers over one denominator, or fractions
+abbrev pub kept_in : Bool → ℕ → List Whole → List Kept → List Kept
+kept_in true below wholes entries = over below wholes
+kept_in false below wholes entries = entries
+
+-- the denominator and all numbers are small
+pub record IsWhole (below : ℕ) (wholes : List Whole) : Type 0 where
+  pub positive : 0 < below
+  pub small : below < 2 ^ 42
+  pub numbers : AreSmall wholes
+
+-- a line of n variables keeps entries so
+pub record IsForm (n : ℕ) (is_whole : Bool) (below : ℕ) (wholes : List Whole) (entries : List Kept) : Type 0 where
+  pub kept : AreKept 0 n (kept_in is_whole below wholes entries)
+  pub whole : is_whole ≡ true → IsWhole below wholes
 
 -- numerator and denominator, in lowest terms, are below 2^42
 pub record IsSmall (q : ℚ) : Type 0 where

@@ -17,6 +17,7 @@ mod lists;
 mod rows;
 mod spare;
 mod values;
+mod whole;
 
 pub use cip_dictionary::{Line, Move, Place, Stand};
 pub use dict::Dict;
