@@ -20,4 +20,5 @@ pub mod SparseLines
 pub mod TakenValues
 pub mod Unchanged
 pub mod WholeLines
+pub mod WholeLoops
 pub mod WholeParts

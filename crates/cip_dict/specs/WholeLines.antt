@@ -1,7 +1,8 @@
 -- Lines whose entries that aren't 0 are kept as whole numbers over one denominator, all of them below 2^42.
-use Rattle.std.specs.Prelude.{◌≡◌, ℕ, ◌<◌, ◌*◌, ◌^◌, ℤ, pos, neg_ℤ, ◌+ℤ◌, ◌*ℤ◌, ◌==◌, Bool, true, false, List, [], ◌∷◌, if◌then◌else◌, ⊤}
+use Rattle.std.specs.Prelude.{◌≡◌, ℕ, zero, suc, ◌<◌, ◌*◌, ◌^◌, ℤ, pos, neg_ℤ, ◌+ℤ◌, ◌*ℤ◌, ◌==◌, Bool, true, false, List, [], ◌∷◌, ◌++◌, if◌then◌else◌, ⊤}
 use Rattle.cip_rational.specs.Rational.{ℚ, ◌+ℚ◌, ◌*ℚ◌, negate, inverse, ratio, numerator, denominator}
 use Rattle.cip_rational.specs.Range.{magnitude, sum_overflows, product_overflows}
+use Rattle.cip_dictionary.specs.Exchange.{is_absent}
 use Rattle.cip_dict.specs.SparseLines.{Kept, AreKept}
 
 -- a variable, and the whole number on it
@@ -17,6 +18,37 @@ over below (e ∷ es) = (e.0, ratio e.1 below) ∷ over below es
 abbrev pub number_on : List Whole → ℕ → ℤ
 number_on [] k = pos 0
 number_on (e ∷ es) k = if e.0 == k then e.1 else number_on es k
+
+-- whether a whole number is 0
+abbrev pub is_none : ℤ → Bool
+is_none z = magnitude z == 0
+
+-- what is kept of a whole number, and of f 0, f 1, .., f (n - 1)
+abbrev pub whole_at : ℕ → ℤ → List Whole
+whole_at k z = if is_none z then [] else (k, z) ∷ []
+
+abbrev pub wholes_of : ℕ → (ℕ → ℤ) → List Whole
+wholes_of zero f = []
+wholes_of (suc n) f = wholes_of n f ++ whole_at n (f n)
+
+-- the number on variable k of a row after that of j, whose numbers are `new`, has been put in its place, where i leaves:
+-- n * f + x * y
+abbrev pub put_number : (ℕ → Bool) → ℕ → ℕ → ℕ → ℤ → List Whole → List Whole → ℕ → ℤ
+put_number basic i j f x row new k =
+    if k == i then x *ℤ number_on new k
+    else (if is_absent basic j k then pos 0 else number_on row k *ℤ pos f +ℤ x *ℤ number_on new k)
+
+-- the number on variable k of the row that leaves after it has been turned round, where d is its denominator with the
+-- sign of its number on j
+abbrev pub turned_number : (ℕ → Bool) → ℕ → ℕ → Bool → ℤ → List Whole → ℕ → ℤ
+turned_number basic i j positive d row k =
+    if k == i then d
+    else (if is_absent basic j k then pos 0 else (if positive then neg_ℤ (number_on row k) else number_on row k))
+
+-- the numbers are below 2^86, so that no sum of them leaves 128 bits
+abbrev pub AreWide : List Whole → Type 0
+AreWide [] = ⊤
+AreWide (e ∷ es) = (magnitude e.1 < 2 ^ 86) × AreWide es
 
 -- the numbers are below 2^42
 abbrev pub AreSmall : List Whole → Type 0

@@ -18,6 +18,7 @@ mod rows;
 mod spare;
 mod values;
 mod whole;
+mod whole_sums;
 
 pub use cip_dictionary::{Line, Move, Place, Stand};
 pub use dict::Dict;

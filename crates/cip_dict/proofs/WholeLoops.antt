@@ -1,0 +1,62 @@
+-- Loops from number to number keep what one over all variables would.
+use Rattle.std.proofs.Common.{◌≡◌, ℕ, zero, suc, ◌+◌, ◌-◌, ◌*◌, ◌<◌, ◌≤◌, ◌==◌, ◌^◌, ℤ, pos, neg_ℤ, ◌+ℤ◌, ◌*ℤ◌, unsigned_abs, Bool, true, false, cond, List, [], ◌∷◌, ◌++◌, length, take, refl, sym, ap, ◌∙◌, subst, arith, lit<}
+use Rattle.std.proofs.lemmas.Int.{ints}
+use Rattle.std.proofs.lemmas.List.{append-nil}
+use Rattle.cip_rational.specs.Rational.{ℚ, zeroℚ, ratio}
+use Rattle.cip_rational.specs.Range.{magnitude}
+use Rattle.cip_dictionary.specs.Exchange.{is_absent}
+use Rattle.cip_dictionary.specs.Operations.{is_zero}
+use Rattle.cip_dictionary.proofs.Zeros.{is_zero_of, is_zero_false, zero_of}
+use Rattle.cip_dict.specs.SparseLines.{Kept, kept_at, kept_of, AreKept}
+use Rattle.cip_dict.specs.WholeLines.{Whole, over, number_on, is_none, whole_at, wholes_of, put_number, turned_number, AreSmall, AreWide}
+use Rattle.cip_dict.proofs.WholeParts.{ratio_none, none_ratio, over_append}
+
+pub none_is : (z : ℤ) → z ≡ pos 0 → is_none z ≡ true
+none_is z e = ap is_none e
+
+wholes_none : (n : ℕ) (f : ℕ → ℤ) (k : ℕ) → f k ≡ pos 0 → whole_at k (f k) ≡ []
+wholes_none n f k e = ap (λ b. cond b [] ((k, f k) ∷ [])) (none_is (f k) e)
+
+pub wholes_gap : (m more : ℕ) (f : ℕ → ℤ) → ((k : ℕ) → m ≤ k → k < m + more → f k ≡ pos 0) → wholes_of (m + more) f ≡ wholes_of m f
+wholes_gap m zero f h = let e : m + 0 ≡ m = omega arith in ap (λ n. wholes_of n f) e
+wholes_gap m (suc more) f h =
+    let e : m + suc more ≡ suc (m + more) = omega arith in
+    ap (λ n. wholes_of n f) e
+    ∙ ap (λ xs. wholes_of (m + more) f ++ xs) (wholes_none (m + more) f (m + more) (h (m + more) (omega arith) (omega arith)))
+    ∙ append-nil (wholes_of (m + more) f)
+    ∙ wholes_gap m more f (λ k l u. h k l (omega (arith, u)))
+
+-- up to the next variable
+pub whole_gap : (m next : ℕ) (f : ℕ → ℤ) (es : List Whole) → m ≤ next → es ≡ wholes_of m f → ((k : ℕ) → m ≤ k → k < next → f k ≡ pos 0) → es ≡ wholes_of next f
+whole_gap m next f es l e none =
+    let s : m + (next - m) ≡ next = omega (arith, l) in
+    e ∙ sym (rw s at (wholes_gap m (next - m) f (λ k a b. none k a (omega (arith, b, s)))))
+
+pub whole_more : (k next : ℕ) (f : ℕ → ℤ) (z : ℤ) (old new : List Whole) → suc k ≤ next → old ≡ wholes_of k f → new ≡ old ++ whole_at k z → z ≡ f k → ((m : ℕ) → suc k ≤ m → m < next → f m ≡ pos 0) → new ≡ wholes_of next f
+whole_more k next f z old new l was is e none =
+    whole_gap (suc k) next f new l (is ∙ ap (λ y. old ++ whole_at k y) e ∙ ap (λ es. es ++ whole_at k (f k)) was) none
+
+either_none : (a b : Bool) (x y z : ℤ) → x ≡ pos 0 → y ≡ pos 0 → z ≡ pos 0 → cond a x (cond b y z) ≡ pos 0
+either_none true b x y z p q r = p
+either_none false true x y z p q r = q
+either_none false false x y z p q r = r
+
+times_none : (x y : ℤ) → y ≡ pos 0 → x *ℤ y ≡ pos 0
+times_none x y e = let h : x *ℤ pos 0 ≡ pos 0 = omega (arith, ints) in ap (λ z. x *ℤ z) e ∙ h
+
+none_times : (n : ℤ) (f : ℕ) → n ≡ pos 0 → n *ℤ pos f ≡ pos 0
+none_times n f e = let h : pos 0 *ℤ pos f ≡ pos 0 = omega (arith, ints) in ap (λ z. z *ℤ pos f) e ∙ h
+
+pub put_none : (basic : ℕ → Bool) (i j f : ℕ) (x : ℤ) (row new : List Whole) (k : ℕ) → number_on row k ≡ pos 0 → number_on new k ≡ pos 0 → put_number basic i j f x row new k ≡ pos 0
+put_none basic i j f x row new k r n =
+    let p : x *ℤ number_on new k ≡ pos 0 = times_none x (number_on new k) n in
+    let q : number_on row k *ℤ pos f ≡ pos 0 = none_times (number_on row k) f r in
+    either_none (k == i) (is_absent basic j k) _ _ _ p refl (omega (arith, ints, p, q))
+
+pub wide_append : (es : List Whole) (k : ℕ) (z : ℤ) → AreWide es → magnitude z < 2 ^ 86 → AreWide (es ++ (k, z) ∷ [])
+wide_append [] k z h l = (l, tt)
+wide_append (e ∷ es) k z h l = (h.0, wide_append es k z h.1 l)
+
+pub small_append : (es : List Whole) (k : ℕ) (z : ℤ) → AreSmall es → magnitude z < 2 ^ 42 → AreSmall (es ++ (k, z) ∷ [])
+small_append [] k z h l = (l, tt)
+small_append (e ∷ es) k z h l = (h.0, small_append es k z h.1 l)

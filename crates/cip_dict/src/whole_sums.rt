@@ -1,0 +1,139 @@
+//! Sums of whole numbers over one denominator.
+ghost use Rattle.std.specs.Prelude.{◌≡◌, ◌≢◌, ℕ, suc, pos, ◌+◌, ◌*◌, ◌^◌, ◌<◌, ◌≤◌, ◌==◌, ◌++◌, ◌∷◌, [], ◌+ℤ◌, ◌*ℤ◌, neg_ℤ, true, false, length, IfSome, OnOk, OnErr, IfOk, if◌then◌else◌};
+ghost use Rattle.cip_rational.specs.Rational.{ratio};
+ghost use Rattle.cip_rational.specs.Range.{magnitude};
+ghost use Rattle.cip_dictionary.specs.Exchange.{is_absent};
+ghost use Rattle.cip_dict.specs.Lists.{basic_in};
+ghost use Rattle.cip_dict.specs.SparseLines.{AreKept, IsPlace};
+ghost use Rattle.cip_dict.specs.WholeLines.{Whole, over, number_on, AreSmall, AreWide, whole_at, wholes_of, put_number};
+
+use crate::lines::is_absent_on;
+use crate::whole::{next_variable, number_from, place_past};
+use cip_dictionary::Stand;
+use std::alloc::AllocError;
+
+/// What numbers of a line of whole numbers, and its denominator, are below.
+pub(crate) const SMALL: u64 = 1 << 42;
+
+/// a * c
+#[inline(always)]
+fn product_of(a: i64, c: i64) -> i128
+    requires first { magnitude a < 2 ^ 42 }
+    requires second { magnitude c < 2 ^ 42 }
+    ensures value { result ≡ a *ℤ c }
+    ensures small { magnitude result < 2 ^ 84 }
+{
+    a as i128 * c as i128
+}
+
+/// a + c
+#[inline(always)]
+fn sum_of(a: i128, c: i128) -> i128
+    requires first { magnitude a < 2 ^ 84 }
+    requires second { magnitude c < 2 ^ 84 }
+    ensures value { result ≡ a +ℤ c }
+    ensures small { magnitude result < 2 ^ 86 }
+{
+    a + c
+}
+
+/// The number on variable k of a row after that of j has been put in its place: n * f + x * y, x * y on i, which
+/// leaves, and 0 where no entry stands.
+#[inline(always)]
+fn number_put(
+    standing: &[Option<Stand>],
+    i: u32,
+    j: u32,
+    f: u64,
+    x: i64,
+    n: i64,
+    y: i64,
+    k: u32,
+) -> i128
+    requires within { k < length standing.now }
+    requires factor_small { f < 2 ^ 42 }
+    requires own_small { magnitude x < 2 ^ 42 }
+    requires row_small { magnitude n < 2 ^ 42 }
+    requires new_small { magnitude y < 2 ^ 42 }
+    ensures value { result ≡ (if k == i then x *ℤ y
+        else (if is_absent (basic_in standing.now) j k then pos 0 else n *ℤ pos f +ℤ x *ℤ y)) }
+    ensures small { magnitude result < 2 ^ 86 }
+{
+    if k == i {
+        product_of(x, y)
+    } else if is_absent_on(standing, j, k) {
+        0
+    } else {
+        sum_of(product_of(n, f as i64), product_of(x, y))
+    }
+}
+
+/// Keeps a number at the end, unless it is 0.
+#[inline(always)]
+fn keep_sum(sums: &mut Vec<(u32, i128)>, k: u32, z: i128) -> Result<(), AllocError>
+    requires { magnitude z < 2 ^ 86 }
+    ensures kept { OnOk result (sums.new.items ≡ sums.old.items ++ whole_at k z) }
+    ensures wide { AreWide sums.old.items → AreWide sums.new.items }
+{
+    if z != 0 {
+        sums.push((k, z))?;
+    }
+    Ok(())
+}
+
+/// Keeps the numbers of a row after that of j, whose numbers are `new`, has been put in its place; i leaves.
+pub(crate) fn sum_entries(
+    standing: &[Option<Stand>],
+    i: u32,
+    j: u32,
+    f: u64,
+    x: i64,
+    row: &[(u32, i64)],
+    new: &[(u32, i64)],
+    sums: &mut Vec<(u32, i128)>,
+) -> Result<(), AllocError>
+    requires few { length standing.now < 2 ^ 32 }
+    requires factor_small { f < 2 ^ 42 }
+    requires own_small { magnitude x < 2 ^ 42 }
+    requires row_kept { AreKept 0 (length standing.now) (over 1 row.now) }
+    requires row_small { AreSmall row.now }
+    requires new_kept { AreKept 0 (length standing.now) (over 1 new.now) }
+    requires new_small { AreSmall new.now }
+    ensures kept { OnOk result (sums.new.items
+        ≡ wholes_of (length standing.now) (put_number (basic_in standing.now) i j f x row.now new.now)) }
+    ensures wide { AreWide sums.new.items }
+{
+    sums.clear();
+    let len = standing.len() as u32;
+    let mut here = 0;
+    let mut there = 0;
+    let mut k = next_variable(row, here, new, there, len);
+    while k < len {
+        let n = number_from(row, here, k);
+        let y = number_from(new, there, k);
+        let z = number_put(standing, i, j, f, x, n, y, k);
+        keep_sum(sums, k, z)?;
+        here = place_past(row, here, k);
+        there = place_past(new, there, k);
+        k = next_variable(row, here, new, there, len);
+    }
+    Ok(())
+}
+
+/// The whole number w for which z = w * g, where there is one below 2^42.
+#[inline(always)]
+fn divided(z: i128, g: u128) -> Option<i64>
+    requires { 0 < g }
+    ensures { IfSome result (λ w. (z ≡ w *ℤ pos g) × (magnitude w < 2 ^ 42)) }
+{
+    let size = z.unsigned_abs();
+    if size % g != 0 {
+        return None;
+    }
+    let part = size / g;
+    if part >= SMALL as u128 {
+        return None;
+    }
+    let number = part as i64;
+    if z < 0 { Some(-number) } else { Some(number) }
+}
