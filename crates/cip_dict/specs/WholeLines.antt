@@ -45,6 +45,13 @@ turned_number basic i j positive d row k =
     if k == i then d
     else (if is_absent basic j k then pos 0 else (if positive then neg_ℤ (number_on row k) else number_on row k))
 
+-- `out` over `below` has the numbers of the row `row` over d after that of j, `new` over e, has been put in its place,
+-- for some parts of e and of the number of `row` on j
+abbrev pub IsPut : ℕ → (ℕ → Bool) → ℕ → ℕ → ℕ → List Whole → ℕ → List Whole → ℕ → List Whole → Type 0
+IsPut n basic i j d row e new below out =
+    (f g : ℕ) × (x : ℤ) × (0 < f) × (0 < g) × (e ≡ g * f) × (number_on row j ≡ x *ℤ pos g)
+    × (over below out ≡ over (d * f) (wholes_of n (put_number basic i j f x row new)))
+
 -- the numbers are below 2^86, so that no sum of them leaves 128 bits
 abbrev pub AreWide : List Whole → Type 0
 AreWide [] = ⊤

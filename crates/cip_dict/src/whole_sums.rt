@@ -5,10 +5,10 @@ ghost use Rattle.cip_rational.specs.Range.{magnitude};
 ghost use Rattle.cip_dictionary.specs.Exchange.{is_absent};
 ghost use Rattle.cip_dict.specs.Lists.{basic_in};
 ghost use Rattle.cip_dict.specs.SparseLines.{AreKept, IsPlace};
-ghost use Rattle.cip_dict.specs.WholeLines.{Whole, over, number_on, AreSmall, AreWide, whole_at, wholes_of, put_number};
+ghost use Rattle.cip_dict.specs.WholeLines.{Whole, over, number_on, AreSmall, AreWide, IsWhole, IsPut, whole_at, wholes_of, put_number};
 
 use crate::lines::is_absent_on;
-use crate::whole::{next_variable, number_from, place_past};
+use crate::whole::{next_variable, number_from, number_of, place_past};
 use cip_dictionary::Stand;
 use std::alloc::AllocError;
 
@@ -136,4 +136,160 @@ fn divided(z: i128, g: u128) -> Option<i64>
     }
     let number = part as i64;
     if z < 0 { Some(-number) } else { Some(number) }
+}
+
+/// A common divisor of two numbers: the greatest.
+fn short_common(a: u64, b: u64) -> u64
+    requires { 0 < a }
+    ensures { 0 < result }
+{
+    let mut x = a;
+    let mut y = b;
+    while y != 0 {
+        let rest = x % y;
+        x = y;
+        y = rest;
+    }
+    x
+}
+
+/// The same, of two longer numbers.
+fn long_common(a: u128, b: u128) -> u128
+    requires { 0 < a }
+    ensures { 0 < result }
+{
+    let mut x = a;
+    let mut y = b;
+    while y != 0 {
+        let rest = x % y;
+        x = y;
+        y = rest;
+    }
+    x
+}
+
+/// What g and a whole number have in common.
+#[inline(always)]
+fn common_with(g: u128, z: i128) -> u128
+    requires { 0 < g }
+    ensures { 0 < result }
+{
+    let rest = z.unsigned_abs() % g;
+    if g <= u64::MAX as u128 {
+        u128::from(short_common(g as u64, rest as u64))
+    } else {
+        long_common(g, rest)
+    }
+}
+
+/// What a number and all numbers of a list have in common.
+fn common_of(sums: &[(u32, i128)], start: u128) -> u128
+    requires { 0 < start }
+    ensures { 0 < result }
+{
+    let mut g = start;
+    for sum in sums {
+        if g == 1 {
+            return 1;
+        }
+        g = common_with(g, sum.1);
+    }
+    g
+}
+
+/// Divides all numbers by g; answers whether that leaves whole numbers below 2^42.
+fn divide_all(
+    sums: &[(u32, i128)],
+    g: u128,
+    out: &mut Vec<(u32, i64)>,
+) -> Result<bool, AllocError>
+    requires positive { 0 < g }
+    requires wide { AreWide sums.now }
+    ensures divided { IfOk result (λ all. all ≡ true → (d : ℕ) → 0 < d → over d out.new.items ≡ over (d * g) sums.now) }
+    ensures small { AreSmall out.new.items }
+{
+    out.clear();
+    for at in 0..sums.len() {
+        match divided(sums[at].1, g) {
+            Some(number) => out.push((sums[at].0, number))?,
+            None => return Ok(false),
+        }
+    }
+    Ok(true)
+}
+
+/// The number on j of a row and the denominator of another, without a divisor that they have in common.
+fn split(own: i64, below: u64) -> (i64, u64)
+    requires own_small { magnitude own < 2 ^ 42 }
+    requires positive { 0 < below }
+    requires below_small { below < 2 ^ 42 }
+    ensures parts { (g : ℕ) × (0 < g) × (own ≡ result.0 *ℤ pos g) × (below ≡ g * result.1) }
+    ensures own_small { magnitude result.0 < 2 ^ 42 }
+    ensures positive { 0 < result.1 }
+    ensures below_small { result.1 < 2 ^ 42 }
+{
+    let g = short_common(below, own.unsigned_abs());
+    if below % g != 0 {
+        return (own, below);
+    }
+    match divided(i128::from(own), u128::from(g)) {
+        Some(x) => (x, below / g),
+        None => (own, below),
+    }
+}
+
+/// Divides numbers and their denominator by what they have in common; answers the denominator then, where all are
+/// below 2^42.
+fn reduce(
+    sums: &[(u32, i128)],
+    under: u128,
+    out: &mut Vec<(u32, i64)>,
+) -> Result<Option<u64>, AllocError>
+    requires positive { 0 < under }
+    requires wide { AreWide sums.now }
+    ensures { IfOk result (λ found. IfSome found (λ below. (0 < below) × (below < 2 ^ 42) × AreSmall out.new.items
+        × (over below out.new.items ≡ over under sums.now))) }
+{
+    let g = common_of(sums, under);
+    if under % g != 0 {
+        return Ok(None);
+    }
+    let below = under / g;
+    if below >= u128::from(SMALL) {
+        return Ok(None);
+    }
+    if divide_all(sums, g, out)? {
+        Ok(Some(below as u64))
+    } else {
+        Ok(None)
+    }
+}
+
+/// Writes the numbers of a row after that of j, `new`, has been put in its place; i leaves. Answers the denominator
+/// then, where all are below 2^42.
+pub(crate) fn put_whole(
+    standing: &[Option<Stand>],
+    i: u32,
+    j: u32,
+    row: &[(u32, i64)],
+    row_below: u64,
+    new: &[(u32, i64)],
+    new_below: u64,
+    sums: &mut Vec<(u32, i128)>,
+    out: &mut Vec<(u32, i64)>,
+) -> Result<Option<u64>, AllocError>
+    requires few { length standing.now < 2 ^ 32 }
+    requires row_kept { AreKept 0 (length standing.now) (over 1 row.now) }
+    requires row_whole { IsWhole row_below row.now }
+    requires new_kept { AreKept 0 (length standing.now) (over 1 new.now) }
+    requires new_whole { IsWhole new_below new.now }
+    ensures { IfOk result (λ found. IfSome found (λ below. IsWhole below out.new.items
+        × IsPut (length standing.now) (basic_in standing.now) i j row_below row.now new_below new.now below
+        out.new.items)) }
+{
+    let own = number_of(row, j);
+    let (x, f) = split(own, new_below);
+    sum_entries(standing, i, j, f, x, row, new, sums)?;
+    let under = u128::from(row_below) * u128::from(f);
+    reduce(sums.as_slice(), under, out)
 }
