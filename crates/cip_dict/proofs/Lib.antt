@@ -22,3 +22,4 @@ pub mod Unchanged
 pub mod WholeLines
 pub mod WholeLoops
 pub mod WholeParts
+pub mod WholePuts

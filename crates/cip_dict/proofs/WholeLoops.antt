@@ -1,5 +1,6 @@
 -- Loops from number to number keep what one over all variables would.
 use Rattle.std.proofs.Common.{◌≡◌, ℕ, zero, suc, ◌+◌, ◌-◌, ◌*◌, ◌<◌, ◌≤◌, ◌==◌, ◌^◌, ℤ, pos, neg_ℤ, ◌+ℤ◌, ◌*ℤ◌, unsigned_abs, Bool, true, false, cond, List, [], ◌∷◌, ◌++◌, length, take, get_or, refl, sym, ap, ap₂, ◌∙◌, subst, arith, lit<}
+use Rattle.std.proofs.lemmas.Bool.{eq-eqb, ne_eqb}
 use Rattle.std.proofs.lemmas.Int.{ints}
 use Rattle.std.proofs.lemmas.List.{append-nil, take_more}
 use Rattle.cip_rational.specs.Rational.{ℚ, zeroℚ, ratio}
@@ -75,3 +76,21 @@ divided_more es at g out new w hg l h is e d hd =
     ap (over d) is ∙ over_append d out (((get_or es at (0, pos 0)).0, w) ∷ [])
     ∙ ap₂ (λ xs q. xs ++ ((get_or es at (0, pos 0)).0, q) ∷ []) (h d hd) number
     ∙ sym (ap (over (d * g)) (take_more es at (0, pos 0) l) ∙ over_append (d * g) (take at es) (get_or es at (0, pos 0) ∷ []))
+
+-- ---- a row that is turned round
+
+pub turned_none : (basic : ℕ → Bool) (i j : ℕ) (positive : Bool) (d : ℤ) (row : List Whole) (k : ℕ) → number_on row k ≡ pos 0 → ¬ (k ≡ i) → turned_number basic i j positive d row k ≡ pos 0
+turned_none basic i j positive d row k r ne =
+    ap (λ t. cond t d (cond (is_absent basic j k) (pos 0) (cond positive (neg_ℤ (number_on row k)) (number_on row k)))) (ne_eqb k i ne)
+    ∙ both (is_absent basic j k) positive (number_on row k) r
+  where
+    both : (absent positive : Bool) (n : ℤ) → n ≡ pos 0 → cond absent (pos 0) (cond positive (neg_ℤ n) n) ≡ pos 0
+    both true positive n e = refl
+    both false true n e = let h : neg_ℤ (pos 0) ≡ pos 0 = omega (arith, ints) in ap neg_ℤ e ∙ h
+    both false false n e = e
+
+pub turned_leaving : (i k : ℕ) (d : ℤ) (es : List Whole) (n : ℕ) → es ≡ (i, d) ∷ [] → AreKept 0 n (over 1 es) → number_on es k ≡ pos 0 → ¬ (k ≡ i)
+turned_leaving i k d es n e kept h s =
+    let one : AreKept 0 n (over 1 ((i, d) ∷ [])) = subst (λ (xs : List Whole). AreKept 0 n (over 1 xs)) e kept in
+    let z : d ≡ pos 0 = sym (ap (λ t. cond t d (pos 0)) (eq-eqb i k (sym s))) ∙ sym (ap (λ xs. number_on xs k) e) ∙ h in
+    one.2 (ap (λ m. ratio m 1) z ∙ ratio_none 1 (lit< tt))

@@ -19,6 +19,7 @@ mod spare;
 mod values;
 mod whole;
 mod whole_sums;
+mod whole_turns;
 
 pub use cip_dictionary::{Line, Move, Place, Stand};
 pub use dict::Dict;
