@@ -1,5 +1,5 @@
 -- Lists of kept entries, read as dense lines.
-use Rattle.std.proofs.Common.{◌≡◌, ℕ, ◌<◌, ◌==◌, Bool, cond, List, [], length, get_or, set, replicate, None, Some, Result, Ok, Err, MatchResult, OnOk, sym, ap, ◌∙◌, subst, inl, inr, arith, length-set}
+use Rattle.std.proofs.Common.{◌≡◌, ℕ, ◌<◌, ◌==◌, Bool, cond, List, [], length, get_or, set, replicate, None, Some, Result, Ok, Err, MatchResult, OnOk, sym, ap, ◌∙◌, subst, inl, inr, arith, length-set, zero, suc, ◌++◌, refl, ap₂}
 use Rattle.std.proofs.lemmas.Bool.{cases_eq, eq-eqb, ne_eqb}
 use Rattle.std.proofs.lemmas.List.{get_or-set_same, get_or-set_other, get_or-replicate, length-replicate}
 use Rattle.cip_rational.specs.Rational.{ℚ, zeroℚ}
@@ -13,7 +13,7 @@ use Rattle.cip_dictionary.proofs.Tables.{length-table, at_table, same_table, tab
 use Rattle.cip_dict.specs.declared.fault.MoveFault.{MoveFault}
 use Rattle.cip_dict.specs.declared.fault.OutOfRange.{OutOfRange}
 use Rattle.cip_dict.specs.MoveFaults.{IsMoveFault}
-use Rattle.cip_dict.specs.SparseLines.{Kept, entry_on, dense, kept_of, AreKept}
+use Rattle.cip_dict.specs.SparseLines.{Kept, entry_on, dense, kept_at, kept_of, AreKept}
 use Rattle.cip_dict.proofs.SparseLines.{sparse_lines_tell}
 use Rattle.cip_dict.proofs.Chains.{each_same}
 
@@ -93,4 +93,32 @@ costs_written {X} n basic i j q len es new view long row line out r h =
     each_same n _ _ (λ k l. ap (λ c. substituted_operations_at (entry_place line k) (k == i) (is_absent basic j k) q (row k) (row j) c) (reads k l)) in
     let values : table n (substituted basic i j q (entry_on es) row) ≡ table n (substituted basic i j q (value_at new) row) =
     table_same n _ _ zeroℚ (λ k l. ap (λ c. substituted_at (k == i) (is_absent basic j k) q (row k) (row j) c) (reads k l)) in
+    rw (ops, values) at h
+
+-- what is kept of a line by the entries of a row is what is kept by the row
+pub row_written : {X : Type 0} (n : ℕ) (line : Line) (basic : ℕ → Bool) (i j : ℕ) (q : ℚ) (len : ℕ) (es : List Kept) (row : List ℚ) → dense len es ≡ row → length row ≡ n → (new : ℕ → ℚ) → j < n → (out : List Kept) (r : Result X MoveFault)
+    → MatchResult r (λ _. (first_overflow (each n (substituted_operations line basic i j q new (entry_on es))) ≡ None) × (out ≡ kept_of n (substituted basic i j q new (entry_on es)))) (IsMoveFault (each n (substituted_operations line basic i j q new (entry_on es))))
+    → MatchResult r (λ _. (first_overflow (each n (substituted_operations line basic i j q new (value_at row))) ≡ None) × (out ≡ kept_of n (substituted basic i j q new (value_at row)))) (IsMoveFault (each n (substituted_operations line basic i j q new (value_at row))))
+row_written {X} n line basic i j q len es row view long new lj out r h =
+    let reads : (k : ℕ) → k < n → entry_on es k ≡ value_at row k = λ k l. sym (dense_read len es row k view (omega (arith, l, long))) in
+    let ops : each n (substituted_operations line basic i j q new (entry_on es)) ≡ each n (substituted_operations line basic i j q new (value_at row)) =
+        each_same n _ _ (λ k l. ap (λ a. substituted_operations_at (entry_place line k) (k == i) (is_absent basic j k) q a (entry_on es j) (new k)) (reads k l) ∙ ap (λ b. substituted_operations_at (entry_place line k) (k == i) (is_absent basic j k) q (value_at row k) b (new k)) (reads j lj)) in
+    let kept : kept_of n (substituted basic i j q new (entry_on es)) ≡ kept_of n (substituted basic i j q new (value_at row)) =
+        kept_same n _ _ (λ k l. ap (λ a. substituted_at (k == i) (is_absent basic j k) q a (entry_on es j) (new k)) (reads k l) ∙ ap (λ b. substituted_at (k == i) (is_absent basic j k) q (value_at row k) b (new k)) (reads j lj)) in
+    rw (ops, kept) at h
+  where
+    kept_same : (n : ℕ) (f g : ℕ → ℚ) → ((k : ℕ) → k < n → f k ≡ g k) → kept_of n f ≡ kept_of n g
+    kept_same zero f g e = refl
+    kept_same (suc n) f g e = ap₂ (λ xs ys. xs ++ ys) (kept_same n f g (λ k l. e k (omega (arith, l)))) (ap (kept_at n) (e n (omega arith)))
+
+-- a line that is written by the entries of the row that enters is the line of that row
+pub entering_written : {X : Type 0} (n : ℕ) (line : Line) (basic : ℕ → Bool) (i j : ℕ) (q : ℚ) (fs : List Kept) (new : List ℚ) → dense n fs ≡ new → length new ≡ n → (row : ℕ → ℚ) (out : List ℚ) (r : Result X MoveFault)
+    → MatchResult r (λ _. (first_overflow (each n (substituted_operations line basic i j q (entry_on fs) row)) ≡ None) × (out ≡ table n (substituted basic i j q (entry_on fs) row))) (IsMoveFault (each n (substituted_operations line basic i j q (entry_on fs) row)))
+    → MatchResult r (λ _. (first_overflow (each n (substituted_operations line basic i j q (value_at new) row)) ≡ None) × (out ≡ table n (substituted basic i j q (value_at new) row))) (IsMoveFault (each n (substituted_operations line basic i j q (value_at new) row)))
+entering_written {X} n line basic i j q fs new view long row out r h =
+    let reads : (k : ℕ) → k < n → entry_on fs k ≡ value_at new k = λ k l. sym (dense_read n fs new k view (omega (arith, l, long))) in
+    let ops : each n (substituted_operations line basic i j q (entry_on fs) row) ≡ each n (substituted_operations line basic i j q (value_at new) row) =
+        each_same n _ _ (λ k l. ap (λ c. substituted_operations_at (entry_place line k) (k == i) (is_absent basic j k) q (row k) (row j) c) (reads k l)) in
+    let values : table n (substituted basic i j q (entry_on fs) row) ≡ table n (substituted basic i j q (value_at new) row) =
+        table_same n _ _ zeroℚ (λ k l. ap (λ c. substituted_at (k == i) (is_absent basic j k) q (row k) (row j) c) (reads k l)) in
     rw (ops, values) at h

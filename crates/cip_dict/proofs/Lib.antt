@@ -4,6 +4,8 @@ pub mod Chains
 pub mod Dense
 pub mod Exchanged
 pub mod Flipped
+pub mod FormParts
+pub mod FormPuts
 pub mod FormSums
 pub mod Formed
 pub mod Grown

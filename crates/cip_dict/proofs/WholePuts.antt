@@ -5,6 +5,7 @@ use Rattle.std.proofs.lemmas.Int.{ints}
 use Rattle.std.proofs.Math.Nat.{mul-pos}
 use Rattle.cip_rational.specs.Rational.{ℚ, ◌+ℚ◌, ◌*ℚ◌, zeroℚ, negate, inverse, ratio}
 use Rattle.cip_rational.specs.Range.{magnitude, sum_overflows, product_overflows}
+use Rattle.cip_rational.proofs.Rational.Inverse.{inverse_zero}
 use Rattle.cip_rational.proofs.Rational.Ratio.{ratio-negate}
 use Rattle.cip_dictionary.specs.Tables.{each}
 use Rattle.cip_dictionary.specs.Exchange.{is_absent, solved_at, solved, substituted_at, substituted}
@@ -132,3 +133,37 @@ turned_tells n line basic i j q d row p positive y out hr hp e sy sp f g is =
       (λ t. f k t ∙ ap (λ a. negate a *ℚ q) (sym (entry_over d row k hr.positive)))
       (λ t. g k t ∙ ap (λ a. negate a *ℚ q) (sym (entry_over d row k hr.positive)))),
     )
+
+-- the number on j isn't 0, where 1 over the entry there isn't
+above : (u : ℕ) → (u ≡ 0 → ⊥) → 0 < u
+above zero h = absurd (h refl)
+above (suc u) h = omega arith
+
+some_own : (own : ℤ) (d : ℕ) (q : ℚ) → 0 < d → q ≡ inverse (ratio own d) → is_zero q ≡ false → 0 < unsigned_abs own
+some_own own d q h e z = above (unsigned_abs own) never
+  where
+    never : unsigned_abs own ≡ 0 → ⊥
+    never m =
+        let s : own ≡ pos 0 = omega (arith, ints, m) in
+        let zero_q : is_zero q ≡ true = is_zero_of q (e ∙ ap inverse (ap (λ n. ratio n d) s ∙ ratio_none d h) ∙ inverse_zero) in
+        absurd (cc)
+
+pub turned_whole : (n : ℕ) (line : Line) (basic : ℕ → Bool) (i j : ℕ) (q : ℚ) (d : ℕ) (row : List Whole) (own : ℤ) (p : ℕ) (positive : Bool) (out : List Whole) → IsWhole d row → own ≡ number_on row j → q ≡ inverse (ratio (number_on row j) d) → is_zero q ≡ false → p ≡ unsigned_abs own → p < 2 ^ 42
+    → (positive ≡ true → own ≡ pos (unsigned_abs own)) → (positive ≡ false → own ≡ neg_ℤ (pos (unsigned_abs own)))
+    → out ≡ wholes_of n (turned_number basic i j positive (cond positive (pos d) (neg_ℤ (pos d))) row)
+    → (0 < p) × (first_overflow (each n (solved_operations line basic i j q (entry_on (over d row)))) ≡ None)
+    × (over p out ≡ kept_of n (solved basic i j q (entry_on (over d row))))
+turned_whole n line basic i j q d row own p true out hr on e z ip sp above_is below_is is =
+    let some : 0 < p = rw ip (some_own own d q hr.positive (e ∙ ap (λ m. inverse (ratio m d)) (sym on)) z) in
+    let q_is : q ≡ inverse (ratio (pos p) d) = e ∙ ap (λ m. inverse (ratio m d)) (sym on ∙ above_is refl ∙ ap pos (sym ip)) in
+    let t = turned_tells n line basic i j q d row p true (pos d) out hr some (sym (q_is ∙ whole_lines_tell.turned p d some hr.positive)) hr.small sp
+        (λ k _. sym (ap (λ r. negate (ratio (number_on row k) d) *ℚ r) q_is ∙ whole_lines_tell.solved (number_on row k) p d some hr.positive))
+        (λ k (f : true ≡ false). absurd (cc)) is in
+    (some, t.0, t.1)
+turned_whole n line basic i j q d row own p false out hr on e z ip sp above_is below_is is =
+    let some : 0 < p = rw ip (some_own own d q hr.positive (e ∙ ap (λ m. inverse (ratio m d)) (sym on)) z) in
+    let q_is : q ≡ inverse (ratio (neg_ℤ (pos p)) d) = e ∙ ap (λ m. inverse (ratio m d)) (sym on ∙ below_is refl ∙ ap (λ m. neg_ℤ (pos m)) (sym ip)) in
+    let t = turned_tells n line basic i j q d row p false (neg_ℤ (pos d)) out hr some (sym (q_is ∙ whole_lines_tell.turned_back p d some hr.positive)) (neg_small (pos d) hr.small) sp
+        (λ k (f : false ≡ true). absurd (cc))
+        (λ k _. sym (ap (λ r. negate (ratio (number_on row k) d) *ℚ r) q_is ∙ whole_lines_tell.solved_back (number_on row k) p d some hr.positive)) is in
+    (some, t.0, t.1)

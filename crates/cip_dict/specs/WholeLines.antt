@@ -3,7 +3,7 @@ use Rattle.std.specs.Prelude.{◌≡◌, ℕ, zero, suc, ◌<◌, ◌*◌, ◌^�
 use Rattle.cip_rational.specs.Rational.{ℚ, ◌+ℚ◌, ◌*ℚ◌, negate, inverse, ratio, numerator, denominator}
 use Rattle.cip_rational.specs.Range.{magnitude, sum_overflows, product_overflows}
 use Rattle.cip_dictionary.specs.Exchange.{is_absent}
-use Rattle.cip_dict.specs.SparseLines.{Kept, AreKept}
+use Rattle.cip_dict.specs.SparseLines.{Kept, AreKept, dense}
 
 -- a variable, and the whole number on it
 abbrev pub Whole : Type 0
@@ -77,6 +77,11 @@ pub record IsWhole (below : ℕ) (wholes : List Whole) : Type 0 where
 pub record IsForm (n : ℕ) (is_whole : Bool) (below : ℕ) (wholes : List Whole) (entries : List Kept) : Type 0 where
   pub kept : AreKept 0 n (kept_in is_whole below wholes entries)
   pub whole : is_whole ≡ true → IsWhole below wholes
+
+-- these are the entries of a line on n variables
+pub record IsSpelled (n : ℕ) (line : List ℚ) (entries : List Kept) : Type 0 where
+  pub kept : AreKept 0 n entries
+  pub same : dense n entries ≡ line
 
 -- numerator and denominator, in lowest terms, are below 2^42
 pub record IsSmall (q : ℚ) : Type 0 where

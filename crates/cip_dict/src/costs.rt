@@ -10,7 +10,6 @@ ghost use Rattle.cip_dict.specs.SparseLines.{entry_on, AreKept};
 
 use crate::entries::substituted_entry;
 use crate::fault::OutOfRange;
-use crate::forms::Form;
 use crate::kept::{entry_from, place_past};
 use crate::lines::{is_absent_on, number_at, place_on};
 use cip_dictionary::{Line, Stand};
@@ -42,7 +41,7 @@ fn cost_on(
 
 /// Writes the entries of the cost: the row of j, of which `new` are the entries that aren't 0, put in its place; i
 /// leaves.
-fn substitute_costs(
+pub(crate) fn write_costs(
     standing: &[Option<Stand>],
     i: u32,
     j: u32,
@@ -77,31 +76,4 @@ fn substitute_costs(
         there = place_past(new, there, k as u32);
     }
     Ok(())
-}
-
-/// Writes the row of the cost: the row of the variable j that enters, `new`, put in its place; i leaves.
-pub(crate) fn write_costs(
-    standing: &[Option<Stand>],
-    i: u32,
-    j: u32,
-    q: Frac,
-    new: &Form,
-    costs: &[Frac],
-    out: &mut [Frac],
-) -> Result<(), OutOfRange>
-    requires few { length standing.now < 2 ^ 32 }
-    requires entering { j < length standing.now }
-    requires new_long { length new.now ≡ length standing.now }
-    requires costs_long { length costs.now ≡ length standing.now }
-    requires out_long { length out.old ≡ length standing.now }
-    ensures { let operations =
-        each (length standing.now)
-        (substituted_operations Line.Cost (basic_in standing.now) i j q (value_at new.now) (value_at costs.now)) in
-        MatchResult result
-        (λ _. (first_overflow operations ≡ None)
-        × (out.new ≡ table (length standing.now)
-        (substituted (basic_in standing.now) i j q (value_at new.now) (value_at costs.now))))
-        (λ fault. first_overflow operations ≡ Some fault.place) }
-{
-    substitute_costs(standing, i, j, q, new.entries.as_slice(), costs, out)
 }

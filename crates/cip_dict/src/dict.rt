@@ -102,6 +102,8 @@ impl Dict {
         spare.keep_numbers(self.lists.costs);
         spare.keep_numbers(self.lists.values);
         spare.keep_form(self.room.entering);
+        spare.keep_entries(self.room.spelled);
+        spare.keep_entries(self.room.fractions);
         spare.keep_forms(self.room.rows);
         spare.keep_numbers(self.room.costs);
         spare.keep_numbers(self.room.values);

@@ -1,5 +1,5 @@
 //! What an exchange writes, and how it is taken over.
-ghost use Rattle.std.specs.Prelude.{◌≡◌, ◌≢◌, ℕ, ◌<◌, ◌^◌, ◌++◌, true, false, length, Some, None, MatchResult};
+ghost use Rattle.std.specs.Prelude.{◌≡◌, ◌≢◌, ℕ, ◌<◌, ◌^◌, ◌++◌, true, false, length, Some, None, OnOk, MatchResult};
 ghost use Rattle.cip_rational.specs.Rational.{zeroℚ, inverse};
 ghost use Rattle.cip_problem.specs.Box.{sides_at};
 ghost use Rattle.cip_problem.specs.Activity.{value_at};
@@ -13,6 +13,7 @@ ghost use Rattle.cip_dictionary.specs.Dictionary.{standing_value};
 ghost use Rattle.cip_dictionary.specs.Exchange.{CanExchange, exchanged};
 ghost use Rattle.cip_dictionary.specs.MoveOperations.{exchange_operations};
 ghost use Rattle.cip_dict.specs.MoveFaults.{IsMoveFault};
+ghost use Rattle.cip_dict.specs.WholeLines.{IsSpelled};
 ghost use Rattle.cip_dict.specs.State.{state, HasLists, HasRoom};
 ghost use Rattle.cip_dict.specs.Written.{entering_in, other_operations, OthersWritten, lines_operations, LinesWritten, moves_operations, MovesWritten, step_in, values_operations, IsPlanned, entered_form, IsTakenOver};
 
@@ -42,6 +43,7 @@ fn write_others(
     requires entering { j < length standing.now }
     requires lists_long { HasLists standing.now lists.now }
     requires room_long { HasRoom standing.now room.old }
+    requires is_spelled { IsSpelled (length standing.now) room.old.entering room.old.spelled.items }
     requires is_entering { room.old.entering ≡ table (length standing.now) (entering_in standing.now i j q lists.now) }
     ensures written { MatchResult result
         (λ _. (first_overflow (other_operations standing.now i j q lists.now) ≡ None)
@@ -50,48 +52,70 @@ fn write_others(
     ensures long { HasRoom standing.now room.new }
 {
     let new = &room.entering;
+    let entering = room.spelled.as_slice();
     let rows = lists.rows.as_slice();
     let others = room.rows.as_mut_slice();
-    match write_rows(standing, i, j, q, new, rows, others, &mut room.held) {
+    match write_rows(
+        standing,
+        i,
+        j,
+        q,
+        new,
+        entering,
+        rows,
+        others,
+        &mut room.held,
+        &mut room.sums,
+        &mut room.fractions,
+    ) {
         Ok(()) => (),
         Err(fault) => return Err(fault),
     }
     let costs = lists.costs.as_slice();
-    match write_costs(standing, i, j, q, new, costs, room.costs.as_mut_slice()) {
+    match write_costs(standing, i, j, q, entering, costs, room.costs.as_mut_slice()) {
         Ok(()) => Ok(()),
         Err(fault) => Err(MoveFault::OutOfRange { place: fault.place }),
     }
 }
 
-/// Writes the row of the variable j that enters, by that of i, which leaves, and counts what it has room for then.
+/// Writes the row of the variable j that enters, by that of i, which leaves, spells it, and counts what it has room for
+/// then.
 fn write_entering(
     standing: &[Option<Stand>],
     i: u32,
     j: u32,
     q: Frac,
     row: &Form,
-    entering: &mut Form,
+    new: &mut Form,
+    spelled: &mut Vec<(u32, Frac)>,
     held: &mut usize,
 ) -> Result<(), MoveFault>
     requires few { length standing.now < 2 ^ 32 }
     requires leaving { i < length standing.now }
+    requires entering { j < length standing.now }
     requires nonzero { is_zero q ≡ false }
+    requires pivot { q ≡ inverse (value_at row.now j) }
     requires row_long { length row.now ≡ length standing.now }
     ensures written { let operations =
         each (length standing.now)
         (solved_operations (Line.Row j) (basic_in standing.now) i j q (value_at row.now)) in
         MatchResult result
         (λ _. (first_overflow operations ≡ None)
-        × (entering.new ≡ table (length standing.now) (solved (basic_in standing.now) i j q (value_at row.now))))
+        × (new.new ≡ table (length standing.now) (solved (basic_in standing.now) i j q (value_at row.now))))
         (IsMoveFault operations) }
-    ensures long { length entering.new ≡ length standing.now }
+    ensures long { length new.new ≡ length standing.now }
+    ensures spelled { OnOk result (IsSpelled (length standing.now) new.new spelled.new.items) }
 {
-    let before = entering.room();
-    match write_solved(standing, i, j, q, row, entering) {
+    let before = new.room();
+    match write_solved(standing, i, j, q, row, new) {
         Ok(()) => (),
         Err(fault) => return Err(fault),
     }
-    match count_room(entering, before, held) {
+    match new.spell(spelled) {
+        Ok(()) => (),
+        Err(_) => return Err(MoveFault::NoMemory),
+    }
+    match count_room(new, before, held) {
         Ok(()) => Ok(()),
         Err(_) => Err(MoveFault::NoMemory),
     }
@@ -111,6 +135,7 @@ fn write_lines(
     requires leaving { i < length standing.now }
     requires basic { basic_in standing.now i ≡ true }
     requires nonzero { is_zero q ≡ false }
+    requires pivot { q ≡ inverse (entry_in lists.now.rows.items i j) }
     requires entering { j < length standing.now }
     requires lists_long { HasLists standing.now lists.now }
     requires room_long { HasRoom standing.now room.old }
@@ -121,7 +146,9 @@ fn write_lines(
     ensures long { HasRoom standing.now room.new }
 {
     let row = &lists.rows[i as usize];
-    match write_entering(standing, i, j, q, row, &mut room.entering, &mut room.held) {
+    let new = &mut room.entering;
+    let spelled = &mut room.spelled;
+    match write_entering(standing, i, j, q, row, new, spelled, &mut room.held) {
         Ok(()) => (),
         Err(fault) => return Err(fault),
     }

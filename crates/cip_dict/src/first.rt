@@ -375,6 +375,9 @@ pub(crate) fn room_for(
     Ok(Room {
         held: held.saturating_add(entering.room()),
         entering,
+        spelled: spare.entries(alloc),
+        sums: Vec::new(alloc),
+        fractions: spare.entries(alloc),
         rows,
         costs,
         values,

@@ -1,16 +1,18 @@
 //! A line of a dictionary: its entries on all variables.
-ghost use Rattle.std.specs.Prelude.{◌≡◌, ◌<◌, ◌≤◌, [], length, Some, None, OnOk, MatchResult, replicate, slice_set, slice_index_or};
+ghost use Rattle.std.specs.Prelude.{◌≡◌, ◌^◌, ◌<◌, ◌≤◌, [], length, Some, None, OnOk, MatchResult, replicate, slice_set, slice_index_or};
 ghost use Rattle.cip_rational.specs.Rational.{zeroℚ};
 ghost use Rattle.cip_problem.specs.Activity.{value_at};
 ghost use Rattle.cip_dictionary.specs.Tables.{form};
 ghost use Rattle.cip_dictionary.specs.FirstState.{form_operations};
 ghost use Rattle.cip_dictionary.specs.Operations.{first_overflow};
 ghost use Rattle.cip_dict.specs.SparseLines.{Kept, kept_of};
+ghost use Rattle.cip_dict.specs.WholeLines.{IsSpelled};
 
 use crate::fault::OutOfRange;
-use crate::form_values::entries_value;
-use crate::kept::{entry_at, entry_of, put_entry};
+use crate::form_values::{entries_value, form_value};
+use crate::kept::{copy_entries, entry_at, entry_of, put_entry};
 use crate::spare::Spare;
+use crate::whole::{fraction, number_of, put_over, spell_wholes, whole_entry_at};
 use cip_dictionary::Line;
 use cip_frac::Frac;
 use std::alloc::{AllocError, Global};
@@ -21,10 +23,16 @@ use std::marker::Model;
 const MOST_ROOM: usize = 1 << 26;
 
 /// The entries of a line on all variables; none where a variable has no line. Those that aren't 0 are kept, each with
-/// its variable, by rising variable.
+/// its variable, by rising variable: as whole numbers over one denominator, all below 2^42, or as fractions.
 #[derive(Debug, Drop)]
 pub(crate) struct Form {
+    /// The fractions, where it isn't whole.
     pub(crate) entries: Vec<(u32, Frac)>,
+    /// The whole numbers, where it is.
+    pub(crate) wholes: Vec<(u32, i64)>,
+    /// Their denominator.
+    pub(crate) below: u64,
+    pub(crate) is_whole: bool,
     /// The number of variables.
     pub(crate) len: usize,
 }
@@ -38,11 +46,12 @@ impl Model for Form {
 
     ghost coded = { coded_list coded_ℚ };
 
-    ghost use Rattle.cip_dict.specs.SparseLines.{dense, AreKept};
+    ghost use Rattle.cip_dict.specs.SparseLines.{dense};
+    ghost use Rattle.cip_dict.specs.WholeLines.{kept_in, IsForm};
 
-    ghost view = { λ f. dense f.len f.entries.items };
+    ghost view = { λ f. dense f.len (kept_in f.is_whole f.below f.wholes.items f.entries.items) };
 
-    ghost invariant = { λ f. AreKept 0 f.len f.entries.items };
+    ghost invariant = { λ f. IsForm f.len f.is_whole f.below f.wholes.items f.entries.items };
 }
 
 impl Form {
@@ -51,7 +60,13 @@ impl Form {
         ensures { result ≡ replicate len zeroℚ }
     {
         let entries = spare.entries(alloc);
-        Form { entries, len }
+        Form {
+            entries,
+            wholes: spare.wholes(alloc),
+            below: 1,
+            is_whole: false,
+            len,
+        }
     }
 
     /// No entries.
@@ -60,6 +75,9 @@ impl Form {
     {
         Form {
             entries: Vec::new(alloc),
+            wholes: Vec::new(alloc),
+            below: 1,
+            is_whole: false,
             len: 0,
         }
     }
@@ -67,7 +85,9 @@ impl Form {
     /// How many entries it has room for.
     #[inline(always)]
     pub(crate) fn room(&self) -> usize {
-        self.entries.capacity()
+        self.entries
+            .capacity()
+            .saturating_add(self.wholes.capacity())
     }
 
     /// The entry on a variable.
@@ -75,14 +95,22 @@ impl Form {
         requires { k < length self.now }
         ensures { result ≡ value_at self.now k }
     {
-        entry_of(self.entries.as_slice(), k)
+        if self.is_whole {
+            fraction(number_of(self.wholes.as_slice(), k), self.below)
+        } else {
+            entry_of(self.entries.as_slice(), k)
+        }
     }
 
     /// How many entries aren't 0.
     pub(crate) fn kept_len(&self) -> usize
         ensures { result ≡ length (kept_of (length self.now) (value_at self.now)) }
     {
-        self.entries.len()
+        if self.is_whole {
+            self.wholes.len()
+        } else {
+            self.entries.len()
+        }
     }
 
     /// An entry that isn't 0, with its variable, by rising variable.
@@ -90,7 +118,22 @@ impl Form {
         requires { at < length (kept_of (length self.now) (value_at self.now)) }
         ensures { (d : Kept) → result ≡ slice_index_or (kept_of (length self.now) (value_at self.now)) at d }
     {
-        entry_at(self.entries.as_slice(), at)
+        if self.is_whole {
+            whole_entry_at(self.wholes.as_slice(), self.below, at)
+        } else {
+            entry_at(self.entries.as_slice(), at)
+        }
+    }
+
+    /// Spells the entries, as fractions. `Err` where memory was refused.
+    pub(crate) fn spell(&self, out: &mut Vec<(u32, Frac)>) -> Result<(), AllocError>
+        ensures { OnOk result (IsSpelled (length self.now) self.now out.new.items) }
+    {
+        if self.is_whole {
+            spell_wholes(self.wholes.as_slice(), self.below, out)
+        } else {
+            copy_entries(self.entries.as_slice(), out)
+        }
     }
 
     /// Puts the entry on a variable. `Err` where memory was refused.
@@ -98,11 +141,23 @@ impl Form {
         requires { k < length self.old }
         ensures { OnOk result (self.new ≡ slice_set self.old k entry) }
     {
+        if self.is_whole {
+            put_over(
+                self.wholes.as_slice(),
+                self.below,
+                &mut self.entries,
+                k,
+                entry,
+            )?;
+            self.is_whole = false;
+            return Ok(());
+        }
         put_entry(&mut self.entries, k, entry)
     }
 
     /// The value on the first n variables: the products of entries and values, added one after another.
     pub(crate) fn value(&self, line: Line, n: usize, values: &[Frac]) -> Result<Frac, OutOfRange>
+        requires few { n < 2 ^ 32 }
         requires row_long { n ≤ length self.now }
         requires values_long { n ≤ length values.now }
         ensures { let operations = form_operations line n (value_at self.now) (value_at values.now) in
@@ -110,6 +165,9 @@ impl Form {
             (λ v. (first_overflow operations ≡ None) × (v ≡ form n (value_at self.now) (value_at values.now)))
             (λ fault. first_overflow operations ≡ Some fault.place) }
     {
+        if self.is_whole {
+            return form_value(line, n, self, values);
+        }
         entries_value(line, n, self.entries.as_slice(), values)
     }
 }

@@ -189,3 +189,14 @@ pub(crate) fn put_entry(
         put_at(entries, place, k, entry)
     }
 }
+
+/// Copies entries. `Err` where memory was refused.
+pub(crate) fn copy_entries(
+    entries: &[(u32, Frac)],
+    out: &mut Vec<(u32, Frac)>,
+) -> Result<(), AllocError>
+    ensures { OnOk result (out.new.items ≡ entries.now) }
+{
+    out.clear();
+    out.extend_from_slice(entries)
+}

@@ -1,5 +1,7 @@
 //! The lines of a dictionary, entry by entry.
-ghost use Rattle.std.specs.Prelude.{◌≡◌, ◌==◌, ◌&&◌, not, ◌<◌, ◌≤◌, ◌^◌, ◌∷◌, ◌++◌, [], false, length, Some, None, OnErr, MatchResult};
+ghost use Rattle.std.specs.Prelude.{◌≡◌, ◌==◌, ◌&&◌, not, ◌<◌, ◌≤◌, ◌^◌, ◌∷◌, ◌++◌, [], true, false, pos, neg_ℤ, unsigned_abs, length, Some, None, OnOk, OnErr, IfOk, MatchResult, if◌then◌else◌};
+ghost use Rattle.cip_rational.specs.Rational.{ℚ, inverse, ratio};
+ghost use Rattle.cip_dictionary.specs.declared.places.Line as places;
 ghost use Rattle.cip_problem.specs.Activity.{value_at};
 ghost use Rattle.cip_dictionary.specs.Tables.{table, each};
 ghost use Rattle.cip_dictionary.specs.Operations.{first_overflow, is_zero, entry_place};
@@ -8,13 +10,18 @@ ghost use Rattle.cip_dictionary.specs.MoveOperations.{solved_operations_at, solv
 ghost use Rattle.cip_dict.specs.Lists.{basic_in};
 ghost use Rattle.cip_dict.specs.MoveFaults.{IsMoveFault};
 ghost use Rattle.cip_dict.specs.SparseLines.{entry_on, kept_at, kept_of, AreKept};
+ghost use Rattle.cip_dict.specs.WholeLines.{over, number_on, IsWhole, IsSpelled};
 
 use crate::entries::{solved_entry, substituted_entry};
 use crate::fault::{MoveFault, OutOfRange};
 use crate::forms::Form;
 use crate::kept::{entry_from, keep_entry, next_variable, place_past};
+use crate::whole::number_of;
+use crate::whole_sums::put_whole;
+use crate::whole_turns::turn_entries;
 use cip_dictionary::{Line, Place, Stand};
 use cip_frac::Frac;
+use std::alloc::AllocError;
 
 /// Whether a variable is basic.
 #[inline(always)]
@@ -119,6 +126,54 @@ fn solve_entries(
     Ok(())
 }
 
+/// Whether a number is positive.
+fn is_positive(n: i64) -> bool
+    ensures yes { result ≡ true → n ≡ pos (unsigned_abs n) }
+    ensures no { result ≡ false → n ≡ neg_ℤ (pos (unsigned_abs n)) }
+{
+    n > 0
+}
+
+/// A denominator with a sign.
+fn with_sign(positive: bool, below: u64) -> i64
+    requires { below < 2 ^ 42 }
+    ensures value { result ≡ (if positive then pos below else neg_ℤ (pos below)) }
+    ensures small { unsigned_abs result < 2 ^ 42 }
+{
+    let signed = below as i64;
+    if positive { signed } else { -signed }
+}
+
+/// Turns the row of i round, whose numbers are `row` over `below`; answers the denominator then.
+fn turn_whole(
+    standing: &[Option<Stand>],
+    i: u32,
+    j: u32,
+    q: Frac,
+    row: &[(u32, i64)],
+    below: u64,
+    out: &mut Vec<(u32, i64)>,
+) -> Result<u64, AllocError>
+    requires few { length standing.now < 2 ^ 32 }
+    requires leaving { i < length standing.now }
+    requires row_kept { AreKept 0 (length standing.now) (over 1 row.now) }
+    requires row_whole { IsWhole below row.now }
+    requires pivot { q ≡ inverse (ratio (number_on row.now j) below) }
+    requires nonzero { is_zero q ≡ false }
+    ensures { IfOk result (λ under. IsWhole under out.new.items
+        × (first_overflow (each (length standing.now)
+        (solved_operations (Line.Row j) (basic_in standing.now) i j q (entry_on (over below row.now)))) ≡ None)
+        × (over under out.new.items
+        ≡ kept_of (length standing.now) (solved (basic_in standing.now) i j q (entry_on (over below row.now))))) }
+{
+    let own = number_of(row, j);
+    let positive = is_positive(own);
+    let d = with_sign(positive, below);
+    let leaving = [(i, d)];
+    turn_entries(standing, i, j, positive, d, row, &leaving, out)?;
+    Ok(own.unsigned_abs())
+}
+
 /// Writes the row of the variable j that enters: the row of i, which leaves, solved for j, where q is 1 over its entry
 /// on j.
 pub(crate) fn write_solved(
@@ -131,7 +186,9 @@ pub(crate) fn write_solved(
 ) -> Result<(), MoveFault>
     requires few { length standing.now < 2 ^ 32 }
     requires leaving { i < length standing.now }
+    requires entering { j < length standing.now }
     requires nonzero { is_zero q ≡ false }
+    requires pivot { q ≡ inverse (value_at row.now j) }
     requires row_long { length row.now ≡ length standing.now }
     ensures written { let operations =
         each (length standing.now) (solved_operations (Line.Row j) (basic_in standing.now) i j q (value_at row.now)) in
@@ -141,8 +198,21 @@ pub(crate) fn write_solved(
         (IsMoveFault operations) }
     ensures long { length out.new ≡ length standing.now }
 {
-    let leaving = [(i, q)];
     out.len = standing.len();
+    out.is_whole = false;
+    out.entries.clear();
+    if row.is_whole {
+        let wholes = row.wholes.as_slice();
+        match turn_whole(standing, i, j, q, wholes, row.below, &mut out.wholes) {
+            Ok(below) => {
+                out.below = below;
+                out.is_whole = true;
+                return Ok(());
+            }
+            Err(_) => return Err(MoveFault::NoMemory),
+        }
+    }
+    let leaving = [(i, q)];
     let entries = row.entries.as_slice();
     solve_entries(standing, i, j, q, entries, &leaving, &mut out.entries)
 }
@@ -227,7 +297,140 @@ fn substitute_entries(
     Ok(())
 }
 
-/// Writes a line other than that of the variable j that enters: the row of j, `new`, put in its place; i leaves.
+/// Keeps the entries of a line other than that of j, by fractions: the row of j, of which these are the fractions, put in
+/// its place; i leaves. The line is spelled into `spelled`.
+fn substitute_spelled(
+    line: Line,
+    standing: &[Option<Stand>],
+    i: u32,
+    j: u32,
+    q: Frac,
+    entering: &[(u32, Frac)],
+    row: &Form,
+    spelled: &mut Vec<(u32, Frac)>,
+    out: &mut Vec<(u32, Frac)>,
+) -> Result<(), MoveFault>
+    requires few { length standing.now < 2 ^ 32 }
+    requires entering { j < length standing.now }
+    requires new_kept { AreKept 0 (length standing.now) entering.now }
+    requires leaving { entry_on entering.now i ≡ q }
+    requires row_long { length row.now ≡ length standing.now }
+    ensures written { let operations =
+        each (length standing.now)
+        (substituted_operations line (basic_in standing.now) i j q (entry_on entering.now) (value_at row.now)) in
+        MatchResult result
+        (λ _. (first_overflow operations ≡ None)
+        × (out.new.items ≡ kept_of (length standing.now)
+        (substituted (basic_in standing.now) i j q (entry_on entering.now) (value_at row.now))))
+        (IsMoveFault operations) }
+    ensures kept { AreKept 0 (length standing.now) out.old.items → AreKept 0 (length standing.now) out.new.items }
+{
+    let b = row.entry(j);
+    match row.spell(spelled) {
+        Ok(()) => (),
+        Err(_) => return Err(MoveFault::NoMemory),
+    }
+    let entries = spelled.as_slice();
+    substitute_entries(line, standing, i, j, q, b, entering, entries, out)
+}
+
+/// Writes a line other than that of the variable j that enters in whole numbers, where that and the row of j, `new`,
+/// are kept so and the numbers stay small; answers whether it did. i leaves.
+fn put_form(
+    standing: &[Option<Stand>],
+    i: u32,
+    j: u32,
+    new: &Form,
+    row: &Form,
+    out: &mut Form,
+    sums: &mut Vec<(u32, i128)>,
+) -> Result<bool, AllocError>
+    requires few { length standing.now < 2 ^ 32 }
+    requires entering { j < length standing.now }
+    requires leaving { i < length standing.now }
+    requires new_long { length new.now ≡ length standing.now }
+    requires row_long { length row.now ≡ length standing.now }
+    ensures written { IfOk result (λ done. done ≡ true → (line : places.Line) (q : ℚ) → value_at new.now i ≡ q
+        → (first_overflow (each (length standing.now)
+        (substituted_operations line (basic_in standing.now) i j q (value_at new.now) (value_at row.now))) ≡ None)
+        × (out.new ≡ table (length standing.now)
+        (substituted (basic_in standing.now) i j q (value_at new.now) (value_at row.now)))) }
+    ensures long { length out.new ≡ length standing.now }
+{
+    out.len = standing.len();
+    out.is_whole = false;
+    out.entries.clear();
+    if !row.is_whole || !new.is_whole {
+        return Ok(false);
+    }
+    let own = row.wholes.as_slice();
+    let wholes = new.wholes.as_slice();
+    match put_whole(
+        standing,
+        i,
+        j,
+        own,
+        row.below,
+        wholes,
+        new.below,
+        sums,
+        &mut out.wholes,
+    ) {
+        Ok(Some(below)) => {
+            out.below = below;
+            out.is_whole = true;
+            Ok(true)
+        }
+        Ok(None) => Ok(false),
+        Err(error) => Err(error),
+    }
+}
+
+/// Writes a line other than that of the variable j that enters, by fractions.
+fn write_parted(
+    line: Line,
+    standing: &[Option<Stand>],
+    i: u32,
+    j: u32,
+    q: Frac,
+    entering: &[(u32, Frac)],
+    row: &Form,
+    out: &mut Form,
+    spelled: &mut Vec<(u32, Frac)>,
+) -> Result<(), MoveFault>
+    requires few { length standing.now < 2 ^ 32 }
+    requires entering { j < length standing.now }
+    requires new_kept { AreKept 0 (length standing.now) entering.now }
+    requires leaving { entry_on entering.now i ≡ q }
+    requires row_long { length row.now ≡ length standing.now }
+    ensures written { let operations =
+        each (length standing.now)
+        (substituted_operations line (basic_in standing.now) i j q (entry_on entering.now) (value_at row.now)) in
+        MatchResult result
+        (λ _. (first_overflow operations ≡ None)
+        × (out.new ≡ table (length standing.now)
+        (substituted (basic_in standing.now) i j q (entry_on entering.now) (value_at row.now))))
+        (IsMoveFault operations) }
+    ensures long { length out.new ≡ length standing.now }
+{
+    out.len = standing.len();
+    out.is_whole = false;
+    out.entries.clear();
+    substitute_spelled(
+        line,
+        standing,
+        i,
+        j,
+        q,
+        entering,
+        row,
+        spelled,
+        &mut out.entries,
+    )
+}
+
+/// Writes a line other than that of the variable j that enters: the row of j, `new`, of which `entering` are the
+/// fractions, put in its place; i leaves. The others are lists to work with.
 pub(crate) fn write_substituted(
     line: Line,
     standing: &[Option<Stand>],
@@ -235,13 +438,17 @@ pub(crate) fn write_substituted(
     j: u32,
     q: Frac,
     new: &Form,
+    entering: &[(u32, Frac)],
     row: &Form,
     out: &mut Form,
+    sums: &mut Vec<(u32, i128)>,
+    spelled: &mut Vec<(u32, Frac)>,
 ) -> Result<(), MoveFault>
     requires few { length standing.now < 2 ^ 32 }
     requires entering { j < length standing.now }
     requires leaving { i < length standing.now }
     requires new_long { length new.now ≡ length standing.now }
+    requires new_spelled { IsSpelled (length standing.now) new.now entering.now }
     requires row_long { length row.now ≡ length standing.now }
     requires is_leaving { value_at new.now i ≡ q }
     ensures written { let operations =
@@ -254,21 +461,12 @@ pub(crate) fn write_substituted(
         (IsMoveFault operations) }
     ensures long { length out.new ≡ length standing.now }
 {
-    let b = row.entry(j);
-    let entering = new.entries.as_slice();
-    let entries = row.entries.as_slice();
-    out.len = standing.len();
-    substitute_entries(
-        line,
-        standing,
-        i,
-        j,
-        q,
-        b,
-        entering,
-        entries,
-        &mut out.entries,
-    )
+    match put_form(standing, i, j, new, row, out, sums) {
+        Ok(true) => return Ok(()),
+        Ok(false) => (),
+        Err(_) => return Err(MoveFault::NoMemory),
+    }
+    write_parted(line, standing, i, j, q, entering, row, out, spelled)
 }
 
 /// The entry of a line on variable k.

@@ -19,6 +19,11 @@ pub(crate) struct Lists {
 #[derive(Debug, Drop)]
 pub(crate) struct Room {
     pub(crate) entering: Form,
+    /// The fractions of the row of the variable that enters.
+    pub(crate) spelled: Vec<(u32, Frac)>,
+    /// Lists to work with: sums of whole numbers, and the fractions of a row.
+    pub(crate) sums: Vec<(u32, i128)>,
+    pub(crate) fractions: Vec<(u32, Frac)>,
     pub(crate) rows: Vec<Form>,
     pub(crate) costs: Vec<Frac>,
     pub(crate) values: Vec<Frac>,

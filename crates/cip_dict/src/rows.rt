@@ -6,6 +6,7 @@ ghost use Rattle.cip_dictionary.specs.Operations.{first_overflow};
 ghost use Rattle.cip_dictionary.specs.Exchange.{substituted};
 ghost use Rattle.cip_dict.specs.Lists.{basic_in};
 ghost use Rattle.cip_dict.specs.MoveFaults.{IsMoveFault};
+ghost use Rattle.cip_dict.specs.WholeLines.{IsSpelled};
 ghost use Rattle.cip_dict.specs.Row.{form_changes, form_operations_in, written_form, taken_form, row_in, HasRows};
 
 use crate::entries::vanishes;
@@ -33,15 +34,19 @@ fn write_row(
     j: u32,
     q: Frac,
     new: &Form,
+    entering: &[(u32, Frac)],
     v: usize,
     row: &Form,
     out: &mut Form,
+    sums: &mut Vec<(u32, i128)>,
+    spelled: &mut Vec<(u32, Frac)>,
 ) -> Result<(), MoveFault>
     requires few { length standing.now < 2 ^ 32 }
     requires within { v < length standing.now }
     requires entering { j < length standing.now }
     requires leaving { i < length standing.now }
     requires new_long { length new.now ≡ length standing.now }
+    requires new_spelled { IsSpelled (length standing.now) new.now entering.now }
     requires is_leaving { value_at new.now i ≡ q }
     requires row_long { basic_in standing.now v ≡ true → length row.now ≡ length standing.now }
     requires out_long { basic_in standing.now v ≡ true → length out.old ≡ length standing.now }
@@ -53,7 +58,9 @@ fn write_row(
 {
     if is_changed(standing, i, j, v, row) {
         let line = Line::Row(v as u32);
-        write_substituted(line, standing, i, j, q, new, row, out)
+        write_substituted(
+            line, standing, i, j, q, new, entering, row, out, sums, spelled,
+        )
     } else {
         Ok(())
     }
@@ -66,16 +73,20 @@ fn write_counted(
     j: u32,
     q: Frac,
     new: &Form,
+    entering: &[(u32, Frac)],
     v: usize,
     row: &Form,
     out: &mut Form,
     held: &mut usize,
+    sums: &mut Vec<(u32, i128)>,
+    spelled: &mut Vec<(u32, Frac)>,
 ) -> Result<(), MoveFault>
     requires few { length standing.now < 2 ^ 32 }
     requires within { v < length standing.now }
     requires entering { j < length standing.now }
     requires leaving { i < length standing.now }
     requires new_long { length new.now ≡ length standing.now }
+    requires new_spelled { IsSpelled (length standing.now) new.now entering.now }
     requires is_leaving { value_at new.now i ≡ q }
     requires row_long { basic_in standing.now v ≡ true → length row.now ≡ length standing.now }
     requires out_long { basic_in standing.now v ≡ true → length out.old ≡ length standing.now }
@@ -86,7 +97,7 @@ fn write_counted(
     ensures long { length out.new ≡ length out.old }
 {
     let before = out.room();
-    match write_row(standing, i, j, q, new, v, row, out) {
+    match write_row(standing, i, j, q, new, entering, v, row, out, sums, spelled) {
         Ok(()) => (),
         Err(fault) => return Err(fault),
     }
@@ -104,14 +115,18 @@ pub(crate) fn write_rows(
     j: u32,
     q: Frac,
     new: &Form,
+    entering: &[(u32, Frac)],
     rows: &[Form],
     out: &mut [Form],
     held: &mut usize,
+    sums: &mut Vec<(u32, i128)>,
+    spelled: &mut Vec<(u32, Frac)>,
 ) -> Result<(), MoveFault>
     requires few { length standing.now < 2 ^ 32 }
     requires entering { j < length standing.now }
     requires leaving { i < length standing.now }
     requires new_long { length new.now ≡ length standing.now }
+    requires new_spelled { IsSpelled (length standing.now) new.now entering.now }
     requires is_leaving { value_at new.now i ≡ q }
     requires rows_long { HasRows standing.now rows.now }
     requires out_long { HasRows standing.now out.old }
@@ -126,7 +141,9 @@ pub(crate) fn write_rows(
     ensures long { HasRows standing.now out.new }
 {
     for v in 0..standing.len() {
-        match write_counted(standing, i, j, q, new, v, &rows[v], &mut out[v], held) {
+        match write_counted(
+            standing, i, j, q, new, entering, v, &rows[v], &mut out[v], held, sums, spelled,
+        ) {
             Ok(()) => (),
             Err(fault) => return Err(fault),
         }

@@ -17,6 +17,7 @@ const MOST_SPARE: usize = 1 << 21;
 pub struct Spare {
     numbers: Vec<Vec<Frac>>,
     entries: Vec<Vec<(u32, Frac)>>,
+    wholes: Vec<Vec<(u32, i64)>>,
     /// How many entries those lists have room for, and at most `usize::MAX`.
     room: usize,
     forms: Vec<Vec<Form>>,
@@ -30,6 +31,7 @@ impl Spare {
         Spare {
             numbers: Vec::new(alloc),
             entries: Vec::new(alloc),
+            wholes: Vec::new(alloc),
             room: 0,
             forms: Vec::new(alloc),
             stands: Vec::new(alloc),
@@ -75,6 +77,18 @@ impl Spare {
         ensures { result.items ≡ [] }
     {
         let Some(mut list) = self.entries.pop() else {
+            return Vec::new(alloc);
+        };
+        self.room = self.room.saturating_sub(list.capacity());
+        list.clear();
+        list
+    }
+
+    /// An empty list of whole numbers.
+    pub(crate) fn wholes(&mut self, alloc: Global) -> Vec<(u32, i64)>
+        ensures { result.items ≡ [] }
+    {
+        let Some(mut list) = self.wholes.pop() else {
             return Vec::new(alloc);
         };
         self.room = self.room.saturating_sub(list.capacity());
@@ -130,12 +144,26 @@ impl Spare {
         let _kept = self.forms.push(list).is_ok();
     }
 
-    /// Keeps the list of entries of a line that has room for some; lets it go where all that are kept would then have
-    /// room for more than `MOST_SPARE`: else the lists would come to have room for as many as the longest line that
-    /// each of them ever was.
+    /// Keeps the lists of a line.
     pub(crate) fn keep_form(&mut self, form: Form) {
-        let room = self.room.saturating_add(form.room());
-        if form.room() > 0 && room <= MOST_SPARE && self.entries.push(form.entries).is_ok() {
+        self.keep_entries(form.entries);
+        self.keep_wholes(form.wholes);
+    }
+
+    /// Keeps a list of entries that has room for some; lets it go where all that are kept would then have room for more
+    /// than `MOST_SPARE`: else the lists would come to have room for as many as the longest line that each of them ever
+    /// was.
+    pub(crate) fn keep_entries(&mut self, list: Vec<(u32, Frac)>) {
+        let room = self.room.saturating_add(list.capacity());
+        if list.capacity() > 0 && room <= MOST_SPARE && self.entries.push(list).is_ok() {
+            self.room = room;
+        }
+    }
+
+    /// The same of a list of whole numbers.
+    fn keep_wholes(&mut self, list: Vec<(u32, i64)>) {
+        let room = self.room.saturating_add(list.capacity());
+        if list.capacity() > 0 && room <= MOST_SPARE && self.wholes.push(list).is_ok() {
             self.room = room;
         }
     }

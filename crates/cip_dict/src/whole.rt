@@ -1,11 +1,13 @@
 //! Lists of whole numbers over one denominator, each with its variable, by rising variable.
-ghost use Rattle.std.specs.Prelude.{◌≡◌, ◌≢◌, ℕ, suc, pos, ◌+◌, ◌^◌, ◌<◌, ◌≤◌, true, false, length, slice_index_or};
+ghost use Rattle.std.specs.Prelude.{◌≡◌, ◌≢◌, ℕ, suc, pos, ◌+◌, ◌^◌, ◌<◌, ◌≤◌, ◌==◌, true, false, length, slice_index_or, OnOk, if◌then◌else◌};
 ghost use Rattle.cip_rational.specs.Rational.{ratio};
 ghost use Rattle.cip_rational.specs.Range.{magnitude};
-ghost use Rattle.cip_dict.specs.SparseLines.{AreKept, IsPlace, IsNext};
-ghost use Rattle.cip_dict.specs.WholeLines.{Whole, over, number_on, AreSmall};
+ghost use Rattle.cip_dict.specs.SparseLines.{Kept, entry_on, AreKept, IsPlace, IsNext};
+ghost use Rattle.cip_dict.specs.WholeLines.{Whole, over, number_on, AreSmall, IsWhole};
 
+use crate::kept::put_entry;
 use cip_frac::Frac;
+use std::alloc::AllocError;
 
 /// n over d, as a fraction.
 pub(crate) fn fraction(n: i64, d: u64) -> Frac
@@ -126,4 +128,48 @@ pub(crate) fn next_variable(
     let first = variable_at(row, here, len);
     let second = variable_at(new, there, len);
     if first < second { first } else { second }
+}
+
+/// The fraction at a place, with its variable.
+pub(crate) fn whole_entry_at(wholes: &[(u32, i64)], below: u64, place: usize) -> (u32, Frac)
+    requires there { place < length wholes.now }
+    requires whole { IsWhole below wholes.now }
+    ensures { (d : Kept) → result ≡ slice_index_or (over below wholes.now) place d }
+{
+    (wholes[place].0, fraction(wholes[place].1, below))
+}
+
+/// Spells whole numbers over one denominator as fractions. `Err` where memory was refused.
+pub(crate) fn spell_wholes(
+    wholes: &[(u32, i64)],
+    below: u64,
+    out: &mut Vec<(u32, Frac)>,
+) -> Result<(), AllocError>
+    requires { IsWhole below wholes.now }
+    ensures { OnOk result (out.new.items ≡ over below wholes.now) }
+{
+    out.clear();
+    for at in 0..wholes.len() {
+        out.push((wholes[at].0, fraction(wholes[at].1, below)))?;
+    }
+    Ok(())
+}
+
+/// Spells whole numbers over one denominator as fractions, with another entry on variable k. `Err` where memory was
+/// refused.
+pub(crate) fn put_over(
+    wholes: &[(u32, i64)],
+    below: u64,
+    out: &mut Vec<(u32, Frac)>,
+    k: u32,
+    entry: Frac,
+) -> Result<(), AllocError>
+    requires whole { IsWhole below wholes.now }
+    requires kept { (n : ℕ) × (k < n) × AreKept 0 n (over below wholes.now) }
+    ensures put { OnOk result ((v : ℕ) → entry_on out.new.items v
+        ≡ (if v == k then entry else entry_on (over below wholes.now) v)) }
+    ensures kept { OnOk result ((n : ℕ) → k < n → AreKept 0 n (over below wholes.now) → AreKept 0 n out.new.items) }
+{
+    spell_wholes(wholes, below, out)?;
+    put_entry(out, k, entry)
 }

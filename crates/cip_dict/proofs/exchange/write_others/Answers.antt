@@ -9,6 +9,7 @@ use Rattle.cip_dict.specs.Lists.{basic_in, entry_in}
 use Rattle.cip_dict.specs.Row.{row_in}
 use Rattle.cip_dict.specs.Written.{entering_in}
 use Rattle.cip_dict.proofs.Chains.{form_operations_new, written_new, line_new, leaving_entry}
+use Rattle.cip_dict.proofs.Dense.{costs_written}
 use Rattle.cip_dict.proofs.MoveFaults.{fault_found, fault_same}
 use Rattle.cip_dict.proofs.RowLists.{written_back}
 use Rattle.cip_dict.proofs.exchange.write_others.Goals as goal
@@ -25,7 +26,8 @@ returns-in-Err-clause-written c =
 pub returns-in-Ok-write_costs-clause-written : goal.returns-in-Ok-write_costs-clause-written
 returns-in-Ok-write_costs-clause-written c =
     let rows = rw (c.as_slice-rows.ensures.value, c.as_mut_slice-others.ensures.value) at c.in-Ok.ensures.written in
-    let costs = rw c.as_slice-costs.ensures.value at c.in-Ok-write_costs.ensures in
+    let formed = rw (c.as_slice-costs.ensures.value, c.as_slice-entering.ensures.value) at c.in-Ok-write_costs.ensures in
+    let costs = costs_written {X = Unit {0}} (length c.args.standing.now) (basic_in c.args.standing.now) c.args.i c.args.j c.args.q (length c.args.standing.now) c.args.room.now.spelled.items c.args.room.now.entering c.requires.is_spelled.same c.requires.room_long.entering (value_at c.args.lists.now.costs.items) Cost c.write_costs.new.out (Ok tt) formed in
     let line = line_new (length c.args.standing.now) c.args.room.now.entering (entering_in c.args.standing.now c.args.i c.args.j c.args.q c.args.lists.now) c.requires.is_entering {X = Unit {0}} Cost (basic_in c.args.standing.now) c.args.i c.args.j c.args.q (value_at c.args.lists.now.costs.items) c.write_costs.new.out (Ok tt) costs in (
       overflow-append _ _ (ap first_overflow (sym (form_operations_new c.args.standing.now c.args.i c.args.j c.args.q c.args.room.now.entering _ c.requires.is_entering (row_in c.args.lists.now.rows.items))) ∙ rows.0) ∙ line.0,
       record {
@@ -38,6 +40,7 @@ returns-in-Ok-write_costs-clause-written c =
 pub returns-in-Err-write_costs-clause-written : goal.returns-in-Err-write_costs-clause-written
 returns-in-Err-write_costs-clause-written c =
     let rows = rw (c.as_slice-rows.ensures.value, c.as_mut_slice-others.ensures.value) at c.in-Ok.ensures.written in
-    let costs = rw c.as_slice-costs.ensures.value at c.in-Err-write_costs.ensures in
+    let formed = rw (c.as_slice-costs.ensures.value, c.as_slice-entering.ensures.value) at c.in-Err-write_costs.ensures in
+    let costs = costs_written {X = Unit {0}} (length c.args.standing.now) (basic_in c.args.standing.now) c.args.i c.args.j c.args.q (length c.args.standing.now) c.args.room.now.spelled.items c.args.room.now.entering c.requires.is_spelled.same c.requires.room_long.entering (value_at c.args.lists.now.costs.items) Cost c.write_costs.new.out (Err c.in-Err-write_costs.fault) formed in
     overflow-append _ _ (ap first_overflow (sym (form_operations_new c.args.standing.now c.args.i c.args.j c.args.q c.args.room.now.entering _ c.requires.is_entering (row_in c.args.lists.now.rows.items))) ∙ rows.0)
     ∙ line_new (length c.args.standing.now) c.args.room.now.entering (entering_in c.args.standing.now c.args.i c.args.j c.args.q c.args.lists.now) c.requires.is_entering {X = Unit {0}} Cost (basic_in c.args.standing.now) c.args.i c.args.j c.args.q (value_at c.args.lists.now.costs.items) c.write_costs.new.out (Err c.in-Err-write_costs.fault) costs

@@ -1,29 +1,16 @@
-use Rattle.std.proofs.Common.{length, arith, sym, ◌∙◌}
+use Rattle.std.proofs.Common.{length, refl, sym, arith, ◌∙◌}
+use Rattle.cip_problem.specs.Activity.{value_at}
 use Rattle.cip_dict.specs.Lists.{basic_in}
-use Rattle.cip_dict.proofs.Dense.{substituted_written, dense_kept, dense_long, dense_read}
+use Rattle.cip_dict.proofs.Dense.{dense_read, entering_written}
 use Rattle.cip_dict.proofs.lines.write_substituted.Goals as goal
 
-pub substitute_entries-requires-clause-row_kept : goal.substitute_entries-requires-clause-row_kept
-substitute_entries-requires-clause-row_kept c =
-    rw c.as_slice-entries.ensures.value (dense_kept c.row.inside.len (length c.args.standing.now) c.row.inside.entries.items c.args.row.now c.row.view_is c.requires.row_long c.row.invariant)
+pub returns-in-Ok-true-clause-written : goal.returns-in-Ok-true-clause-written
+returns-in-Ok-true-clause-written c = c.in-Ok-true.ensures.written c.in-Ok-true.field-0-test c.args.line c.args.q c.requires.is_leaving
 
-pub substitute_entries-requires-clause-new_kept : goal.substitute_entries-requires-clause-new_kept
-substitute_entries-requires-clause-new_kept c =
-    rw c.as_slice-entering.ensures.value (dense_kept c.new.inside.len (length c.args.standing.now) c.new.inside.entries.items c.args.new.now c.new.view_is c.requires.new_long c.new.invariant)
-
-pub substitute_entries-requires-clause-leaving : goal.substitute_entries-requires-clause-leaving
-substitute_entries-requires-clause-leaving c =
-    rw c.as_slice-entering.ensures.value (sym (dense_read c.new.inside.len c.new.inside.entries.items c.args.new.now c.args.i c.new.view_is (omega (arith, c.requires.leaving, c.requires.new_long))) ∙ c.requires.is_leaving)
-
-pub substitute_entries-requires-clause-on : goal.substitute_entries-requires-clause-on
-substitute_entries-requires-clause-on c =
-    rw c.as_slice-entries.ensures.value (c.entry-b.ensures ∙ dense_read c.row.inside.len c.row.inside.entries.items c.args.row.now c.args.j c.row.view_is (omega (arith, c.requires.entering, c.requires.row_long)))
+pub write_parted-requires-clause-leaving : goal.write_parted-requires-clause-leaving
+write_parted-requires-clause-leaving c =
+    sym (dense_read (length c.args.standing.now) c.args.entering.now c.args.new.now c.args.i c.requires.new_spelled.same (omega (arith, c.requires.leaving, c.requires.new_long))) ∙ c.requires.is_leaving
 
 pub returns-clause-written : goal.returns-clause-written
 returns-clause-written c =
-    substituted_written (length c.args.standing.now) (basic_in c.args.standing.now) c.args.i c.args.j c.args.q c.row.inside.len c.row.inside.entries.items c.args.row.now c.row.view_is c.requires.row_long c.substitute_entries.new.out.items c.substitute_entries.result
-    c.args.line c.new.inside.len c.new.inside.entries.items c.args.new.now c.new.view_is c.requires.new_long c.requires.entering
-    (rw (c.as_slice-entries.ensures.value, c.as_slice-entering.ensures.value) at c.substitute_entries.ensures.written)
-
-pub returns-clause-long : goal.returns-clause-long
-returns-clause-long c = dense_long _ _
+    entering_written (length c.args.standing.now) c.args.line (basic_in c.args.standing.now) c.args.i c.args.j c.args.q c.args.entering.now c.args.new.now c.requires.new_spelled.same c.requires.new_long (value_at c.args.row.now) c.write_parted.new.out c.write_parted.result c.write_parted.ensures.written

@@ -8,7 +8,7 @@ use Rattle.cip_dictionary.specs.MoveOperations.{substituted_operations}
 use Rattle.cip_dictionary.specs.declared.places.Line.TheVariants.{Cost}
 use Rattle.cip_dict.specs.Lists.{basic_in}
 use Rattle.cip_dict.specs.SparseLines.{entry_on, IsPlace}
-use Rattle.cip_dict.proofs.costs.substitute_costs.Given as goal
+use Rattle.cip_dict.proofs.costs.write_costs.Given as goal
 
 abbrev pub invariant-loop-k : goal.invariant-loop-k
 invariant-loop-k l = record {

@@ -1,0 +1,20 @@
+use Rattle.std.proofs.Common.{length, refl}
+use Rattle.cip_problem.specs.Activity.{value_at}
+use Rattle.cip_dictionary.specs.Exchange.{substituted}
+use Rattle.cip_dictionary.specs.MoveOperations.{substituted_operations}
+use Rattle.cip_dict.specs.Lists.{basic_in}
+use Rattle.cip_dict.specs.SparseLines.{entry_on}
+use Rattle.cip_dict.proofs.Dense.{dense_long, dense_written}
+use Rattle.cip_dict.proofs.lines.write_parted.Goals as goal
+
+pub returns-clause-written : goal.returns-clause-written
+returns-clause-written c =
+    dense_written (length c.args.standing.now)
+    (substituted_operations c.args.line (basic_in c.args.standing.now) c.args.i c.args.j c.args.q (entry_on c.args.entering.now) (value_at c.args.row.now))
+    (substituted_operations c.args.line (basic_in c.args.standing.now) c.args.i c.args.j c.args.q (entry_on c.args.entering.now) (value_at c.args.row.now))
+    (substituted (basic_in c.args.standing.now) c.args.i c.args.j c.args.q (entry_on c.args.entering.now) (value_at c.args.row.now))
+    (substituted (basic_in c.args.standing.now) c.args.i c.args.j c.args.q (entry_on c.args.entering.now) (value_at c.args.row.now))
+    c.substitute_spelled.new.out.items c.substitute_spelled.result (λ k l. refl) (λ k l. refl) c.substitute_spelled.ensures.written
+
+pub returns-clause-long : goal.returns-clause-long
+returns-clause-long c = dense_long _ _
