@@ -102,9 +102,9 @@ pub row_written : {X : Type 0} (n : ℕ) (line : Line) (basic : ℕ → Bool) (i
 row_written {X} n line basic i j q len es row view long new lj out r h =
     let reads : (k : ℕ) → k < n → entry_on es k ≡ value_at row k = λ k l. sym (dense_read len es row k view (omega (arith, l, long))) in
     let ops : each n (substituted_operations line basic i j q new (entry_on es)) ≡ each n (substituted_operations line basic i j q new (value_at row)) =
-        each_same n _ _ (λ k l. ap (λ a. substituted_operations_at (entry_place line k) (k == i) (is_absent basic j k) q a (entry_on es j) (new k)) (reads k l) ∙ ap (λ b. substituted_operations_at (entry_place line k) (k == i) (is_absent basic j k) q (value_at row k) b (new k)) (reads j lj)) in
+    each_same n _ _ (λ k l. ap (λ a. substituted_operations_at (entry_place line k) (k == i) (is_absent basic j k) q a (entry_on es j) (new k)) (reads k l) ∙ ap (λ b. substituted_operations_at (entry_place line k) (k == i) (is_absent basic j k) q (value_at row k) b (new k)) (reads j lj)) in
     let kept : kept_of n (substituted basic i j q new (entry_on es)) ≡ kept_of n (substituted basic i j q new (value_at row)) =
-        kept_same n _ _ (λ k l. ap (λ a. substituted_at (k == i) (is_absent basic j k) q a (entry_on es j) (new k)) (reads k l) ∙ ap (λ b. substituted_at (k == i) (is_absent basic j k) q (value_at row k) b (new k)) (reads j lj)) in
+    kept_same n _ _ (λ k l. ap (λ a. substituted_at (k == i) (is_absent basic j k) q a (entry_on es j) (new k)) (reads k l) ∙ ap (λ b. substituted_at (k == i) (is_absent basic j k) q (value_at row k) b (new k)) (reads j lj)) in
     rw (ops, kept) at h
   where
     kept_same : (n : ℕ) (f g : ℕ → ℚ) → ((k : ℕ) → k < n → f k ≡ g k) → kept_of n f ≡ kept_of n g
@@ -118,7 +118,7 @@ pub entering_written : {X : Type 0} (n : ℕ) (line : Line) (basic : ℕ → Boo
 entering_written {X} n line basic i j q fs new view long row out r h =
     let reads : (k : ℕ) → k < n → entry_on fs k ≡ value_at new k = λ k l. sym (dense_read n fs new k view (omega (arith, l, long))) in
     let ops : each n (substituted_operations line basic i j q (entry_on fs) row) ≡ each n (substituted_operations line basic i j q (value_at new) row) =
-        each_same n _ _ (λ k l. ap (λ c. substituted_operations_at (entry_place line k) (k == i) (is_absent basic j k) q (row k) (row j) c) (reads k l)) in
+    each_same n _ _ (λ k l. ap (λ c. substituted_operations_at (entry_place line k) (k == i) (is_absent basic j k) q (row k) (row j) c) (reads k l)) in
     let values : table n (substituted basic i j q (entry_on fs) row) ≡ table n (substituted basic i j q (value_at new) row) =
-        table_same n _ _ zeroℚ (λ k l. ap (λ c. substituted_at (k == i) (is_absent basic j k) q (row k) (row j) c) (reads k l)) in
+    table_same n _ _ zeroℚ (λ k l. ap (λ c. substituted_at (k == i) (is_absent basic j k) q (row k) (row j) c) (reads k l)) in
     rw (ops, values) at h

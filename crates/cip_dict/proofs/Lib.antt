@@ -18,6 +18,7 @@ pub mod Places
 pub mod PutEntries
 pub mod Puts
 pub mod RowLists
+pub mod Settled
 pub mod SparseLines
 pub mod TakenValues
 pub mod Unchanged

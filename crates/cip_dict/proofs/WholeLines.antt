@@ -102,9 +102,17 @@ put_alone_same x y d f g =
     let s = times (x *ℤ pos g) y (d * f) 1 in
     let t = times x y (d * (g * f)) 1 in
     let u = product_is x (pos g) in
-    same_in _ _ (omega (arith, s.0, s.1, t.0, t.1,
-    ap (λ n. n * (up y * (d * f))) u.0, ap (λ n. n * (down y * (d * f))) u.0,
-    ap (λ n. n * (up y * (d * f))) u.1, ap (λ n. n * (down y * (d * f))) u.1))
+    same_in _ _ (omega (
+      arith,
+      s.0,
+      s.1,
+      t.0,
+      t.1,
+      ap (λ n. n * (up y * (d * f))) u.0,
+      ap (λ n. n * (down y * (d * f))) u.0,
+      ap (λ n. n * (up y * (d * f))) u.1,
+      ap (λ n. n * (down y * (d * f))) u.1,
+    ))
 
 put_alone : (x y : ℤ) (d f g : ℕ) → 0 < d → 0 < f → 0 < g → ratio (x *ℤ pos g) d *ℚ ratio y (g * f) ≡ ratio (x *ℤ y) (d * f)
 put_alone x y d f g h k l =

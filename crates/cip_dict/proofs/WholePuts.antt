@@ -93,11 +93,11 @@ put_tells n line basic i j q d row e new below out hr hn leaving p =
     let c : (k : ℕ) → entry_on (over e new) k ≡ ratio (number_on new k) (p.1 * p.0) = λ k. entry_over e new k hn.positive ∙ ap (ratio (number_on new k)) parts in (
       each_fits n _ (λ k l. put_fits (entry_place line k) (k == i) (is_absent basic j k) q _ _ _ (subst IsSmall leaving (entry_small e i new hn)) (entry_small d k row hr) (entry_small d j row hr) (entry_small e k new hn)),
       p.7 ∙ over_kept n (d * p.0) (put_number basic i j p.0 p.2 row new) _ (mul-pos hr.positive hf) (λ k l.
-      put_by (k == i) (is_absent basic j k) (d * p.0) (p.2 *ℤ number_on new k) (number_on row k *ℤ pos p.0 +ℤ p.2 *ℤ number_on new k) q _ _ _ (mul-pos hr.positive hf)
-      (λ s. sym (whole_lines_tell.put_alone p.2 (number_on new k) d p.0 p.1 hr.positive hf hg)
-      ∙ ap₂ (λ u v. u *ℚ v) (sym b) (sym (c k) ∙ ap (entry_on (over e new)) (eqb-true k i s) ∙ leaving))
-      (sym (whole_lines_tell.put (number_on row k) p.2 (number_on new k) d p.0 p.1 hr.positive hf hg)
-      ∙ ap₂ (λ u v. u +ℚ v) (sym (entry_over d row k hr.positive)) (ap₂ (λ u v. u *ℚ v) (sym b) (sym (c k))))),
+          put_by (k == i) (is_absent basic j k) (d * p.0) (p.2 *ℤ number_on new k) (number_on row k *ℤ pos p.0 +ℤ p.2 *ℤ number_on new k) q _ _ _ (mul-pos hr.positive hf)
+          (λ s. sym (whole_lines_tell.put_alone p.2 (number_on new k) d p.0 p.1 hr.positive hf hg)
+          ∙ ap₂ (λ u v. u *ℚ v) (sym b) (sym (c k) ∙ ap (entry_on (over e new)) (eqb-true k i s) ∙ leaving))
+          (sym (whole_lines_tell.put (number_on row k) p.2 (number_on new k) d p.0 p.1 hr.positive hf hg)
+          ∙ ap₂ (λ u v. u +ℚ v) (sym (entry_over d row k hr.positive)) (ap₂ (λ u v. u *ℚ v) (sym b) (sym (c k))))),
     )
 
 -- ---- a row that is turned round
@@ -125,13 +125,13 @@ pub turned_tells : (n : ℕ) (line : Line) (basic : ℕ → Bool) (i j : ℕ) (q
 turned_tells n line basic i j q d row p positive y out hr hp e sy sp f g is =
     let small_q : IsSmall q = subst IsSmall e (whole_lines_tell.small y p hp sy sp) in
     let small_a : (k : ℕ) → IsSmall (negate (entry_on (over d row) k)) = λ k.
-        subst IsSmall (sym (ap negate (entry_over d row k hr.positive) ∙ ratio-negate (number_on row k) d))
-        (whole_lines_tell.small (neg_ℤ (number_on row k)) d hr.positive (neg_small (number_on row k) (number_small row k hr.numbers)) hr.small) in (
+    subst IsSmall (sym (ap negate (entry_over d row k hr.positive) ∙ ratio-negate (number_on row k) d))
+    (whole_lines_tell.small (neg_ℤ (number_on row k)) d hr.positive (neg_small (number_on row k) (number_small row k hr.numbers)) hr.small) in (
       each_fits n _ (λ k l. turned_fits (entry_place line k) (k == i) (is_absent basic j k) q _ small_q (small_a k)),
       ap (over p) is ∙ over_kept n p (turned_number basic i j positive y row) _ hp (λ k l.
-      turned_by (k == i) (is_absent basic j k) positive p y (number_on row k) q _ hp e
-      (λ t. f k t ∙ ap (λ a. negate a *ℚ q) (sym (entry_over d row k hr.positive)))
-      (λ t. g k t ∙ ap (λ a. negate a *ℚ q) (sym (entry_over d row k hr.positive)))),
+          turned_by (k == i) (is_absent basic j k) positive p y (number_on row k) q _ hp e
+          (λ t. f k t ∙ ap (λ a. negate a *ℚ q) (sym (entry_over d row k hr.positive)))
+          (λ t. g k t ∙ ap (λ a. negate a *ℚ q) (sym (entry_over d row k hr.positive)))),
     )
 
 -- the number on j isn't 0, where 1 over the entry there isn't
@@ -157,13 +157,13 @@ turned_whole n line basic i j q d row own p true out hr on e z ip sp above_is be
     let some : 0 < p = rw ip (some_own own d q hr.positive (e ∙ ap (λ m. inverse (ratio m d)) (sym on)) z) in
     let q_is : q ≡ inverse (ratio (pos p) d) = e ∙ ap (λ m. inverse (ratio m d)) (sym on ∙ above_is refl ∙ ap pos (sym ip)) in
     let t = turned_tells n line basic i j q d row p true (pos d) out hr some (sym (q_is ∙ whole_lines_tell.turned p d some hr.positive)) hr.small sp
-        (λ k _. sym (ap (λ r. negate (ratio (number_on row k) d) *ℚ r) q_is ∙ whole_lines_tell.solved (number_on row k) p d some hr.positive))
-        (λ k (f : true ≡ false). absurd (cc)) is in
+    (λ k _. sym (ap (λ r. negate (ratio (number_on row k) d) *ℚ r) q_is ∙ whole_lines_tell.solved (number_on row k) p d some hr.positive))
+    (λ k (f : true ≡ false). absurd (cc)) is in
     (some, t.0, t.1)
 turned_whole n line basic i j q d row own p false out hr on e z ip sp above_is below_is is =
     let some : 0 < p = rw ip (some_own own d q hr.positive (e ∙ ap (λ m. inverse (ratio m d)) (sym on)) z) in
     let q_is : q ≡ inverse (ratio (neg_ℤ (pos p)) d) = e ∙ ap (λ m. inverse (ratio m d)) (sym on ∙ below_is refl ∙ ap (λ m. neg_ℤ (pos m)) (sym ip)) in
     let t = turned_tells n line basic i j q d row p false (neg_ℤ (pos d)) out hr some (sym (q_is ∙ whole_lines_tell.turned_back p d some hr.positive)) (neg_small (pos d) hr.small) sp
-        (λ k (f : false ≡ true). absurd (cc))
-        (λ k _. sym (ap (λ r. negate (ratio (number_on row k) d) *ℚ r) q_is ∙ whole_lines_tell.solved_back (number_on row k) p d some hr.positive)) is in
+    (λ k (f : false ≡ true). absurd (cc))
+    (λ k _. sym (ap (λ r. negate (ratio (number_on row k) d) *ℚ r) q_is ∙ whole_lines_tell.solved_back (number_on row k) p d some hr.positive)) is in
     (some, t.0, t.1)

@@ -12,7 +12,7 @@ ghost use Rattle.cip_dictionary.specs.MoveOperations.{exchange_operations, flip_
 
 use crate::exchange::{plan, take_over};
 use crate::fault::{FirstFault, MoveFault, OutOfRange};
-use crate::first::{all_sides, lists_for, room_for, stands};
+use crate::first::{all_sides, first_lists, room_for, stands};
 use crate::flip::{plan_flip, take_flip};
 use crate::lists::{Lists, Room};
 use crate::spare::Spare;
@@ -72,7 +72,7 @@ impl Dict {
         let n = column_sides.len() + row_sides.len();
         let places = stands(alloc, spare, column_sides, n)?;
         let standing = places.as_slice();
-        let found = match lists_for(
+        let found = match first_lists(
             alloc,
             spare,
             standing,

@@ -72,7 +72,15 @@ fn write_others(
         Err(fault) => return Err(fault),
     }
     let costs = lists.costs.as_slice();
-    match write_costs(standing, i, j, q, entering, costs, room.costs.as_mut_slice()) {
+    match write_costs(
+        standing,
+        i,
+        j,
+        q,
+        entering,
+        costs,
+        room.costs.as_mut_slice(),
+    ) {
         Ok(()) => Ok(()),
         Err(fault) => Err(MoveFault::OutOfRange { place: fault.place }),
     }

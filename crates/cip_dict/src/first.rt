@@ -19,6 +19,7 @@ use crate::fault::{FirstFault, OutOfRange};
 use crate::forms::{Form, room_of};
 use crate::lines::is_basic;
 use crate::lists::{Lists, Room};
+use crate::settle::settled;
 use crate::spare::Spare;
 use crate::values::value_of;
 use cip_dictionary::{Line, Stand};
@@ -385,7 +386,7 @@ pub(crate) fn room_for(
 }
 
 /// The lists of the first state of a linear program, where all stand as they do at first.
-pub(crate) fn lists_for(
+fn lists_for(
     alloc: Global,
     spare: &mut Spare,
     standing: &[Option<Stand>],
@@ -418,6 +419,45 @@ pub(crate) fn lists_for(
             values,
             cost,
         }),
+        Err(fault) => Err(fault),
+    }
+}
+
+/// The same, with rows of whole numbers, where they can be kept so.
+pub(crate) fn first_lists(
+    alloc: Global,
+    spare: &mut Spare,
+    standing: &[Option<Stand>],
+    entries: &[(u32, u32, Frac)],
+    row_sides: &[Sides],
+    column_sides: &[Sides],
+    costs: &[Frac],
+) -> Result<Lists, FirstFault>
+    requires few { length column_sides.now + length row_sides.now < 2 ^ 32 }
+    requires stands { standing.now
+        ≡ table (length column_sides.now + length row_sides.now) (stand_in column_sides.now) }
+    requires within { AreWithin (length row_sides.now) (length column_sides.now) entries.now }
+    requires costs_long { length costs.now ≡ length column_sides.now }
+    ensures { let p = system_in entries.now row_sides.now column_sides.now costs.now in
+        MatchResult result
+        (λ lists. (first_overflow (first_operations p) ≡ None)
+        × (state (column_sides.now ++ row_sides.now) standing.now lists ≡ first p)
+        × HasLists standing.now lists)
+        (IsFirstFault p) }
+{
+    match lists_for(
+        alloc,
+        spare,
+        standing,
+        entries,
+        row_sides,
+        column_sides,
+        costs,
+    ) {
+        Ok(found) => match settled(found) {
+            Ok(lists) => Ok(lists),
+            Err(_) => Err(FirstFault::NoMemory),
+        },
         Err(fault) => Err(fault),
     }
 }

@@ -69,7 +69,12 @@ pub(crate) fn entries_value(
 }
 
 /// The value of a form on the first n variables, variable by variable: the products added one after another.
-pub(crate) fn form_value(line: Line, n: usize, row: &Form, values: &[Frac]) -> Result<Frac, OutOfRange>
+pub(crate) fn form_value(
+    line: Line,
+    n: usize,
+    row: &Form,
+    values: &[Frac],
+) -> Result<Frac, OutOfRange>
     requires few { n < 2 ^ 32 }
     requires row_long { n ≤ length row.now }
     requires values_long { n ≤ length values.now }

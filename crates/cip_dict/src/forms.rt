@@ -11,6 +11,7 @@ ghost use Rattle.cip_dict.specs.WholeLines.{IsSpelled};
 use crate::fault::OutOfRange;
 use crate::form_values::{entries_value, form_value};
 use crate::kept::{copy_entries, entry_at, entry_of, put_entry};
+use crate::settle::{common_below, settle_entries};
 use crate::spare::Spare;
 use crate::whole::{fraction, number_of, put_over, spell_wholes, whole_entry_at};
 use cip_dictionary::Line;
@@ -153,6 +154,22 @@ impl Form {
             return Ok(());
         }
         put_entry(&mut self.entries, k, entry)
+    }
+
+    /// Keeps whole numbers from now on, where they can be. `Err` where memory was refused.
+    pub(crate) fn settle(&mut self) -> Result<(), AllocError>
+        ensures { self.new ≡ self.old }
+    {
+        if self.is_whole {
+            return Ok(());
+        }
+        let below = common_below(self.entries.as_slice());
+        if !settle_entries(self.entries.as_slice(), below, &mut self.wholes)? {
+            return Ok(());
+        }
+        self.below = below;
+        self.is_whole = true;
+        Ok(())
     }
 
     /// The value on the first n variables: the products of entries and values, added one after another.

@@ -15,6 +15,7 @@ mod laws;
 mod lines;
 mod lists;
 mod rows;
+mod settle;
 mod spare;
 mod values;
 mod whole;

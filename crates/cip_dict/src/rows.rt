@@ -142,7 +142,18 @@ pub(crate) fn write_rows(
 {
     for v in 0..standing.len() {
         match write_counted(
-            standing, i, j, q, new, entering, v, &rows[v], &mut out[v], held, sums, spelled,
+            standing,
+            i,
+            j,
+            q,
+            new,
+            entering,
+            v,
+            &rows[v],
+            &mut out[v],
+            held,
+            sums,
+            spelled,
         ) {
             Ok(()) => (),
             Err(fault) => return Err(fault),

@@ -17,7 +17,7 @@ pub(crate) const SMALL: u64 = 1 << 42;
 
 /// a * c
 #[inline(always)]
-fn product_of(a: i64, c: i64) -> i128
+pub(crate) fn product_of(a: i64, c: i64) -> i128
     requires first { magnitude a < 2 ^ 42 }
     requires second { magnitude c < 2 ^ 42 }
     ensures value { result ≡ a *ℤ c }
@@ -139,7 +139,7 @@ fn divided(z: i128, g: u128) -> Option<i64>
 }
 
 /// A common divisor of two numbers: the greatest.
-fn short_common(a: u64, b: u64) -> u64
+pub(crate) fn short_common(a: u64, b: u64) -> u64
     requires { 0 < a }
     ensures { 0 < result }
 {
@@ -198,11 +198,7 @@ fn common_of(sums: &[(u32, i128)], start: u128) -> u128
 }
 
 /// Divides all numbers by g; answers whether that leaves whole numbers below 2^42.
-fn divide_all(
-    sums: &[(u32, i128)],
-    g: u128,
-    out: &mut Vec<(u32, i64)>,
-) -> Result<bool, AllocError>
+fn divide_all(sums: &[(u32, i128)], g: u128, out: &mut Vec<(u32, i64)>) -> Result<bool, AllocError>
     requires positive { 0 < g }
     requires wide { AreWide sums.now }
     ensures divided { IfOk result (λ all. all ≡ true → (d : ℕ) → 0 < d → over d out.new.items ≡ over (d * g) sums.now) }

@@ -19,8 +19,8 @@ returns c =
     let sign = rw own at c.is_positive-positive.ensures in
     let d : to_z w64 (of_z w64 c.with_sign-d.result) ≡ cond c.is_positive-positive.result (pos c.args.below) (neg_ℤ (pos c.args.below)) = read_small c.with_sign-d.result c.with_sign-d.ensures.small ∙ c.with_sign-d.ensures.value in
     let t = turned_whole (length c.args.standing.now) (Row c.args.j) (basic_in c.args.standing.now) c.args.i c.args.j c.args.q c.args.below c.args.row.now c.number_of-own.result c.unsigned_abs.result c.is_positive-positive.result c.turn_entries.new.out.items
-        c.requires.row_whole c.number_of-own.ensures.value c.requires.pivot c.requires.nonzero p (omega (arith, p, c.number_of-own.ensures.small)) sign.yes sign.no
-        (rw d at c.in_ok-turn_entries.ensures.kept) in
+    c.requires.row_whole c.number_of-own.ensures.value c.requires.pivot c.requires.nonzero p (omega (arith, p, c.number_of-own.ensures.small)) sign.yes sign.no
+    (rw d at c.in_ok-turn_entries.ensures.kept) in
     (record { positive = t.0; small = omega (arith, p, c.number_of-own.ensures.small); numbers = c.in_ok-turn_entries.ensures.small }, t.1, t.2)
 
 pub turn_entries-requires-clause-leaving_kept : goal.turn_entries-requires-clause-leaving_kept

@@ -10,7 +10,7 @@ use Rattle.cip_dict.proofs.whole.spell_wholes.Goals as goal
 pub loop-at-preserved : goal.loop-at-preserved
 loop-at-preserved c =
     let number : c.fraction.result ≡ ratio (get_or c.args.wholes.now c.loop-at.at (0, pos 0)).1 c.args.below =
-        c.fraction.ensures ∙ ap (λ n. ratio n c.args.below) (read_small (get_or c.args.wholes.now c.loop-at.at (0, pos 0)).1 (item_small c.args.wholes.now c.loop-at.at (0, pos 0) c.requires.numbers c.loop-at-test.true)) in
+    c.fraction.ensures ∙ ap (λ n. ratio n c.args.below) (read_small (get_or c.args.wholes.now c.loop-at.at (0, pos 0)).1 (item_small c.args.wholes.now c.loop-at.at (0, pos 0) c.requires.numbers c.loop-at-test.true)) in
     c.in_ok-push.ensures.items
     ∙ ap₂ (λ (xs : _) (q : ℚ). xs ++ ((get_or c.args.wholes.now c.loop-at.at (0, pos 0)).0, q) ∷ []) c.loop-at.invariant number
     ∙ sym (ap (over c.args.below) (take_more c.args.wholes.now c.loop-at.at (0, pos 0) c.loop-at-test.true) ∙ over_append c.args.below (take c.loop-at.at c.args.wholes.now) (get_or c.args.wholes.now c.loop-at.at (0, pos 0) ∷ []))

@@ -16,7 +16,7 @@ loop-at-init c = record {
 pub loop-at-preserved : goal.loop-at-preserved
 loop-at-preserved c =
     let z : to_z w128 (of_z w128 (get_or c.args.sums.now c.loop-at.at (0, pos 0)).1) ≡ (get_or c.args.sums.now c.loop-at.at (0, pos 0)).1 =
-        omega (arith, ints, item_wide c.args.sums.now c.loop-at.at (0, pos 0) c.requires.wide c.loop-at-test.true) in
+    omega (arith, ints, item_wide c.args.sums.now c.loop-at.at (0, pos 0) c.requires.wide c.loop-at-test.true) in
     let w : to_z w64 (of_z w64 c.in-Some.number) ≡ c.in-Some.number = read_small c.in-Some.number c.in-Some.ensures.1 in
     let is = rw w at c.in_ok-push-in-Some.ensures.items in
     record {

@@ -24,9 +24,9 @@ loop-k-init c =
 pub loop-k-preserved : goal.loop-k-preserved
 loop-k-preserved c =
     let next : IsNext (over 1 c.args.row.now) (over 1 c.args.new.now) c.place_past-here.result c.place_past-there.result (suc c.loop-k.k) c.next_variable-k-in-loop-k.result =
-        c.next_variable-k-in-loop-k.ensures.next (suc c.loop-k.k) (omega arith) c.place_past-here.ensures c.place_past-there.ensures in
+    c.next_variable-k-in-loop-k.ensures.next (suc c.loop-k.k) (omega arith) c.place_past-here.ensures c.place_past-there.ensures in
     let z : c.number_put-z.result ≡ put_number (basic_in c.args.standing.now) c.args.i c.args.j c.args.f (to_z w64 (of_z w64 c.args.x)) c.args.row.now c.args.new.now c.loop-k.k =
-        rw (c.number_from-n.ensures.value, c.number_from-y.ensures.value, read_small (number_on c.args.row.now c.loop-k.k) (number_small c.args.row.now c.loop-k.k c.requires.row_small), read_small (number_on c.args.new.now c.loop-k.k) (number_small c.args.new.now c.loop-k.k c.requires.new_small)) at c.number_put-z.ensures.value in
+    rw (c.number_from-n.ensures.value, c.number_from-y.ensures.value, read_small (number_on c.args.row.now c.loop-k.k) (number_small c.args.row.now c.loop-k.k c.requires.row_small), read_small (number_on c.args.new.now c.loop-k.k) (number_small c.args.new.now c.loop-k.k c.requires.new_small)) at c.number_put-z.ensures.value in
     let kept : to_z w128 (of_z w128 c.number_put-z.result) ≡ c.number_put-z.result = omega (arith, ints, c.number_put-z.ensures.small) in
     record {
       within = c.next_variable-k-in-loop-k.ensures.within;

@@ -24,9 +24,9 @@ loop-k-init c =
 pub loop-k-preserved : goal.loop-k-preserved
 loop-k-preserved c =
     let next : IsNext (over 1 c.args.row.now) (over 1 c.args.leaving.now) c.place_past-here.result c.place_past-there.result (suc c.loop-k.k) c.next_variable-k-in-loop-k.result =
-        c.next_variable-k-in-loop-k.ensures.next (suc c.loop-k.k) (omega arith) c.place_past-here.ensures c.place_past-there.ensures in
+    c.next_variable-k-in-loop-k.ensures.next (suc c.loop-k.k) (omega arith) c.place_past-here.ensures c.place_past-there.ensures in
     let z : c.number_turned-z.result ≡ turned_number (basic_in c.args.standing.now) c.args.i c.args.j c.args.positive (to_z w64 (of_z w64 c.args.d)) c.args.row.now c.loop-k.k =
-        rw (c.number_from-n.ensures.value, read_small (number_on c.args.row.now c.loop-k.k) (number_small c.args.row.now c.loop-k.k c.requires.row_small)) at c.number_turned-z.ensures.value in
+    rw (c.number_from-n.ensures.value, read_small (number_on c.args.row.now c.loop-k.k) (number_small c.args.row.now c.loop-k.k c.requires.row_small)) at c.number_turned-z.ensures.value in
     let kept : to_z w64 (of_z w64 c.number_turned-z.result) ≡ c.number_turned-z.result = read_small c.number_turned-z.result c.number_turned-z.ensures.small in
     record {
       within = c.next_variable-k-in-loop-k.ensures.within;

@@ -1,0 +1,17 @@
+use Rattle.std.proofs.Common.{◌≡◌, to_z, of_z, sym, subst}
+use Rattle.std.specs.Int.{w64}
+use Rattle.cip_rational.specs.Rational.{zeroℚ}
+use Rattle.cip_dict.specs.WholeLines.{AreSmall}
+use Rattle.cip_dict.proofs.WholeLoops.{small_append}
+use Rattle.cip_dict.proofs.WholeParts.{read_small}
+use Rattle.cip_dict.proofs.Settled.{settled_more}
+use Rattle.cip_dict.proofs.settle.settle_entries.Goals as goal
+
+pub loop-at-preserved : goal.loop-at-preserved
+loop-at-preserved c =
+    let w : to_z w64 (of_z w64 c.in-Some.number) ≡ c.in-Some.number = read_small c.in-Some.number c.in-Some.ensures.1 in
+    let is = rw w at c.in_ok-push-in-Some.ensures.items in
+    record {
+      written = settled_more c.args.entries.now c.loop-at.at c.args.below c.loop-at.out.items c.push.new.self.items c.entry_at-entry.result c.in-Some.number c.loop-at-test.true c.loop-at.invariant.written is (c.entry_at-entry.ensures (0, zeroℚ)) c.in-Some.ensures.0;
+      small = subst AreSmall (sym is) (small_append c.loop-at.out.items _ c.in-Some.number c.loop-at.invariant.small c.in-Some.ensures.1);
+    }
