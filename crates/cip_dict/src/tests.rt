@@ -241,3 +241,69 @@ fn entries_are_put_in_order(rt: HostRuntime) -> Result<(), Fail> {
     assert_eq!(rt; kept_entry(&dict, 3, 1), pair(1, 7, 1));
     Ok(())
 }
+
+// r = -2x + 3y, so x = -1/2 r + 3/2 y, and s = 4x + y
+#[test]
+fn a_row_with_a_negative_entry_is_turned_round(rt: HostRuntime) -> Result<(), Fail> {
+    let entries = [
+        (0, 0, Frac::from(-2)),
+        (0, 1, Frac::from(3)),
+        (1, 0, Frac::from(4)),
+        (1, 1, Frac::from(1)),
+    ];
+    let Some(mut dict) = two_rows(rt.alloc(), &entries) else {
+        return Err(Fail::new("a first state"));
+    };
+    assert_eq!(rt; exchange(&mut dict, 2, 0, Stand::Low), Some(Ok(())));
+    assert_eq!(rt; kept_entry(&dict, 0, 0), pair(1, 3, 2));
+    assert_eq!(rt; kept_entry(&dict, 0, 1), pair(2, -1, 2));
+    assert_eq!(rt; kept_entry(&dict, 3, 0), pair(1, 7, 1));
+    assert_eq!(rt; kept_entry(&dict, 3, 1), pair(2, -2, 1));
+    Ok(())
+}
+
+// r = 2^44 x - 3 * 2^43 y, so x = r / 2^44 + 3/2 y, and s = x
+#[test]
+fn a_row_of_great_numbers_is_put_into_a_small_one(rt: HostRuntime) -> Result<(), Fail> {
+    let entries = [
+        (0, 0, Frac::from(17592186044416)),
+        (0, 1, Frac::from(-26388279066624)),
+        (1, 0, Frac::from(1)),
+    ];
+    let Some(mut dict) = two_rows(rt.alloc(), &entries) else {
+        return Err(Fail::new("a first state"));
+    };
+    assert_eq!(rt; exchange(&mut dict, 2, 0, Stand::Low), Some(Ok(())));
+    assert_eq!(rt; kept_entry(&dict, 0, 0), pair(1, 3, 2));
+    assert_eq!(rt; kept_entry(&dict, 0, 1), pair(2, 1, 17592186044416));
+    assert_eq!(rt; kept_entry(&dict, 3, 0), pair(1, 3, 2));
+    assert_eq!(rt; kept_entry(&dict, 3, 1), pair(2, 1, 17592186044416));
+    Ok(())
+}
+
+// r = a x + y and s = b x + c y, where a = 2^41 - 1, b = 2^41 - 3 and c = 2^41: so s = b / a r + (c a - b) / a y
+#[test]
+fn numbers_that_grow_are_kept_as_fractions(rt: HostRuntime) -> Result<(), Fail> {
+    let entries = [
+        (0, 0, Frac::from(2199023255551)),
+        (0, 1, Frac::from(1)),
+        (1, 0, Frac::from(2199023255549)),
+        (1, 1, Frac::from(2199023255552)),
+    ];
+    let Some(mut dict) = two_rows(rt.alloc(), &entries) else {
+        return Err(Fail::new("a first state"));
+    };
+    assert_eq!(rt; exchange(&mut dict, 2, 0, Stand::Low), Some(Ok(())));
+    assert_eq!(rt;
+        kept_entry(&dict, 3, 0),
+        pair(1, 4835703278454118652313603, 2199023255551)
+    );
+    assert_eq!(rt;
+        kept_entry(&dict, 3, 1),
+        pair(2, 2199023255549, 2199023255551)
+    );
+    assert_eq!(rt; exchange(&mut dict, 0, 2, Stand::Low), Some(Ok(())));
+    assert_eq!(rt; kept_entry(&dict, 3, 0), pair(0, 2199023255549, 1));
+    assert_eq!(rt; kept_entry(&dict, 3, 1), pair(1, 2199023255552, 1));
+    Ok(())
+}
