@@ -120,22 +120,57 @@ pub(crate) fn sum_entries(
     Ok(())
 }
 
+/// The number part for which size = part * g, where there is one.
+#[inline(always)]
+fn short_part(size: u64, g: u64) -> Option<u64>
+    requires { 0 < g }
+    ensures { IfSome result (λ part. size ≡ part * g) }
+{
+    let part = size / g;
+    if part * g == size { Some(part) } else { None }
+}
+
+/// The same of longer numbers, divided in 64 bits where they fit.
+#[inline(always)]
+fn part_of(size: u128, g: u128) -> Option<u128>
+    requires { 0 < g }
+    ensures { IfSome result (λ part. size ≡ part * g) }
+{
+    if g == 1 {
+        return Some(size);
+    }
+    if size <= u64::MAX as u128 && g <= u64::MAX as u128 {
+        return match short_part(size as u64, g as u64) {
+            Some(part) => Some(u128::from(part)),
+            None => None,
+        };
+    }
+    if size % g == 0 { Some(size / g) } else { None }
+}
+
 /// The whole number w for which z = w * g, where there is one below 2^42.
 #[inline(always)]
 fn divided(z: i128, g: u128) -> Option<i64>
     requires { 0 < g }
     ensures { IfSome result (λ w. (z ≡ w *ℤ pos g) × (magnitude w < 2 ^ 42)) }
 {
-    let size = z.unsigned_abs();
-    if size % g != 0 {
-        return None;
+    match part_of(z.unsigned_abs(), g) {
+        Some(part) => signed_part(z < 0, part),
+        None => None,
     }
-    let part = size / g;
+}
+
+/// A number with a sign, where it is below 2^42.
+#[inline(always)]
+fn signed_part(below_zero: bool, part: u128) -> Option<i64>
+    ensures { IfSome result (λ w. (w ≡ (if below_zero then neg_ℤ (pos part) else pos part))
+        × (magnitude w < 2 ^ 42)) }
+{
     if part >= SMALL as u128 {
         return None;
     }
     let number = part as i64;
-    if z < 0 { Some(-number) } else { Some(number) }
+    if below_zero { Some(-number) } else { Some(number) }
 }
 
 /// A common divisor of two numbers: the greatest.
@@ -174,7 +209,11 @@ fn common_with(g: u128, z: i128) -> u128
     requires { 0 < g }
     ensures { 0 < result }
 {
-    let rest = z.unsigned_abs() % g;
+    let size = z.unsigned_abs();
+    if size <= u64::MAX as u128 && g <= u64::MAX as u128 {
+        return u128::from(short_common(g as u64, size as u64));
+    }
+    let rest = size % g;
     if g <= u64::MAX as u128 {
         u128::from(short_common(g as u64, rest as u64))
     } else {
