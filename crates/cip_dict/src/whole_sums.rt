@@ -170,7 +170,11 @@ fn signed_part(below_zero: bool, part: u128) -> Option<i64>
         return None;
     }
     let number = part as i64;
-    if below_zero { Some(-number) } else { Some(number) }
+    if below_zero {
+        Some(-number)
+    } else {
+        Some(number)
+    }
 }
 
 /// A common divisor of two numbers: the greatest.
@@ -286,10 +290,9 @@ fn reduce(
         × (over below out.new.items ≡ over under sums.now))) }
 {
     let g = common_of(sums, under);
-    if under % g != 0 {
+    let Some(below) = part_of(under, g) else {
         return Ok(None);
-    }
-    let below = under / g;
+    };
     if below >= u128::from(SMALL) {
         return Ok(None);
     }
