@@ -6,6 +6,4 @@ mod ends;
 #[cfg(test)]
 mod programs;
 #[cfg(test)]
-mod starting;
-#[cfg(test)]
 mod works;

@@ -21,7 +21,7 @@ pub(crate) struct Worked {
     pub(crate) waiting: usize,
 }
 
-pub(crate) fn held(core: &Core<'_>) -> Option<Frac> {
+fn held(core: &Core<'_>) -> Option<Frac> {
     match core.incumbent.held() {
         Some((cost, _)) => Some(cost),
         None => None,
