@@ -5,17 +5,18 @@
 
 PROGRAM is the built `cip` (crates/cip/out/built/cip). Peers: z3, which is exact, and glpsol, cbc, lp_solve, which are
 not. QSopt_ex's esolver solves linear programs alone, so it is left out of programs with whole columns, as all of these
-are. A time is that of the whole process, by the clock. `>S` stands where the limit of S seconds (20) was reached, and
+are. A time is the processor's, of the whole process, so that other work beside it counts for little. `>S` stands where
+the limit of S seconds (20) was reached, by the processor or, beside other work, six times as long by the clock, and
 what ended otherwise is told by its word. A cost that differs from cip's (for a peer that isn't exact by more than a
 millionth) has a `!`, and such lines are counted at the end."""
 import argparse
 import os
 import re
+import resource
 import shutil
 import subprocess
 import sys
 import tempfile
-import time
 from fractions import Fraction
 
 import families
@@ -23,12 +24,24 @@ import families
 
 def run(words, seconds):
     """What a process printed, its status (None past the limit) and its seconds."""
-    start = time.monotonic()
+    def limit():
+        resource.setrlimit(resource.RLIMIT_CPU, (seconds + 1, seconds + 2))
+
+    before = spent_so_far()
     try:
-        ended = subprocess.run(words, capture_output=True, text=True, timeout=seconds + 1)
-        return ended.stdout, ended.returncode, time.monotonic() - start
+        ended = subprocess.run(words, capture_output=True, text=True, timeout=6 * seconds, preexec_fn=limit)
     except subprocess.TimeoutExpired:
         return "", None, seconds
+    spent = spent_so_far() - before
+    if ended.returncode < 0 or spent > seconds:
+        return "", None, seconds
+    return ended.stdout, ended.returncode, spent
+
+
+def spent_so_far():
+    """The processor seconds of all processes that were run and have ended."""
+    used = resource.getrusage(resource.RUSAGE_CHILDREN)
+    return used.ru_utime + used.ru_stime
 
 
 def found(pattern, text):
@@ -68,7 +81,7 @@ def lp_solve(path, seconds):
 
 
 def z3(path, seconds):
-    text, status, spent = run(["z3", f"-T:{seconds}", path + ".smt2"], seconds)
+    text, status, spent = run(["z3", f"-T:{6 * seconds}", path + ".smt2"], seconds)
     value = found(r"\(objectives\s*\(\(\+.*\)\s+(.+)\)\s*\)", text.replace("\n", " "))
     return value if status == 0 and "sat" in text.split() else None, spent
 
