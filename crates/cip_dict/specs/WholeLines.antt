@@ -31,8 +31,8 @@ abbrev pub wholes_of : ℕ → (ℕ → ℤ) → List Whole
 wholes_of zero f = []
 wholes_of (suc n) f = wholes_of n f ++ whole_at n (f n)
 
--- the number on variable k of a row after that of j, whose numbers are `new`, has been put in its place, where i leaves:
--- n * f + x * y
+-- the number on variable k of a row after that of j, whose numbers are `new`, has been put in its place, where i
+-- leaves: n * f + x * y
 abbrev pub put_number : (ℕ → Bool) → ℕ → ℕ → ℕ → ℤ → List Whole → List Whole → ℕ → ℤ
 put_number basic i j f x row new k =
     if k == i then x *ℤ number_on new k

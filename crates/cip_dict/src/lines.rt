@@ -297,8 +297,8 @@ fn substitute_entries(
     Ok(())
 }
 
-/// Keeps the entries of a line other than that of j, by fractions: the row of j, of which these are the fractions, put in
-/// its place; i leaves. The line is spelled into `spelled`.
+/// Keeps the entries of a line other than that of j, by fractions: the row of j, of which these are the fractions, put
+/// in its place; i leaves. The line is spelled into `spelled`.
 fn substitute_spelled(
     line: Line,
     standing: &[Option<Stand>],

@@ -1,5 +1,5 @@
--- The definitions tried on programs that were worked out by hand: of two columns, along the second of which the cost falls
--- without end; and of one column, whose only leaf is wide by its first move.
+-- The definitions tried on programs that were worked out by hand: of two columns, along the second of which the cost
+-- falls without end; and of one column, whose only leaf is wide by its first move.
 use Rattle.std.specs.Prelude.{negsuc, List, [], ◌∷◌, Option, None, Some}
 use Rattle.cip_rational.specs.Rational.{ℚ, integer, zeroℚ, oneℚ}
 use Rattle.cip_problem.specs.Log.{Parked, Entry}

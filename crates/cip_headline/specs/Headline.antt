@@ -1,7 +1,7 @@
--- The figures of an answer to `solve` that are true of a program, beside the log of its search within a node budget, and
--- with a gap that was asked for, or none.
--- Costs and bounds that no figure shows are those of the minimised form. `box` is the box bound of the program, which is
--- none where a side is open or a sum overflows, and `start` the bound of the search's root.
+-- The figures of an answer to `solve` that are true of a program, beside the log of its search within a node budget,
+-- and with a gap that was asked for, or none.
+-- Costs and bounds that no figure shows are those of the minimised form. `box` is the box bound of the program, which
+-- is none where a side is open or a sum overflows, and `start` the bound of the search's root.
 use Rattle.std.specs.Prelude.{◌≡◌, ◌≢◌, ℕ, false, List, [], Option, None, Some, IfSome, IsSome, option_map, length, slice_index_or, ⊤}
 use Rattle.cip_rational.specs.Rational.{ℚ, ◌-ℚ◌, ◌≤ℚ◌, ◌<ℚ◌}
 use Rattle.cip_rational.specs.Range.{difference_overflows}
@@ -122,8 +122,8 @@ AgreeAtLast program start log figures =
 
 -- ---- the headline
 
--- the figures are true of a program, beside the log of the search within a node budget and with a gap that was asked for,
--- or none
+-- the figures are true of a program, beside the log of the search within a node budget and with a gap that was asked
+-- for, or none
 pub record AreTrue
     (program : Program) (box start : Option ℚ) (nodes : ℕ) (asked : Option ℚ) (log : List Entry) (figures : Figures)
     : Type 0 where

@@ -27,8 +27,8 @@ pub fn rays_exclude_bounds()
 {}
 
 /// Of a program along whose second column the cost falls without end a ray is shown that way, and not the other way or
-/// without a point; and of a program whose only leaf is wide by its first move that is shown once its node was put aside,
-/// by one move and not by two.
+/// without a point; and of a program whose only leaf is wide by its first move that is shown once its node was put
+/// aside, by one move and not by two.
 pub fn examples()
     ensures { Examples }
 {}

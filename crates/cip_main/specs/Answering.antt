@@ -51,8 +51,8 @@ pub record Searched
       AddsLog logs logs_after entries marks ⊎ (AddsNone logs logs_after entries marks × (answer.ended ≡ LacksMemory))
 
 -- how it was searched: from the box bound on, or from that rounded up where all costs are whole; with no more nodes
--- than the budget allows; and nodes were split by bounds that are as good as those of their linear programs, unless a mark
--- says what a linear program met that showed nothing
+-- than the budget allows; and nodes were split by bounds that are as good as those of their linear programs, unless a
+-- mark says what a linear program met that showed nothing
 pub record IsSearchLog
     (program : Program) (start : Option ℚ) (nodes : ℕ) (entries : List Entry) (marks : List (ℕ × Mark))
     : Type 0 where

@@ -17,8 +17,8 @@ BOUNDS
 ENDATA
 ";
 
-/// MAX x/2, 2 x at most 3, x whole from 0 to 5: the first half has the point 1, and the second one the bound 3/4 until it
-/// is taken, and no point.
+/// MAX x/2, 2 x at most 3, x whole from 0 to 5: the first half has the point 1, and the second one the bound 3/4 until
+/// it is taken, and no point.
 const HALVED: &str = "OBJSENSE
  MAX
 ROWS

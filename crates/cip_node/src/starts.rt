@@ -13,8 +13,8 @@ struct Shared {
 }
 
 /// Where the linear programs of nodes start: those of the two halves of a split where that of the node that was split
-/// ended. Each start leads to a right answer, that of another node, too, and a node without one is solved from the first
-/// state; so no clause says which are kept.
+/// ended. Each start leads to a right answer, that of another node, too, and a node without one is solved from the
+/// first state; so no clause says which are kept.
 #[derive(Debug, Drop)]
 pub struct Starts {
     // by split: the halves of split k have the numbers 2k + 1 and 2k + 2
@@ -103,9 +103,9 @@ impl Starts {
             || self.kept > 64 && self.kept / 2 > waiting
     }
 
-    /// Hands where the linear program of the node in work ended on to its halves, of which this is the number of the low
-    /// one, while so many nodes are open. Where too many are kept all others are let go first; where memory is refused
-    /// the halves have none.
+    /// Hands where the linear program of the node in work ended on to its halves, of which this is the number of the
+    /// low one, while so many nodes are open. Where too many are kept all others are let go first; where memory is
+    /// refused the halves have none.
     pub(crate) fn hand_on(&mut self, low: u64, waiting: usize) {
         let Some(start) = self.last.take() else {
             return;

@@ -223,8 +223,8 @@ impl<'a> Core<'a> {
         self.incumbent.offer(self.program, point)
     }
 
-    /// Holds a point that is known to be feasible at this cost, if that is less than the cost held; the nodes are as they
-    /// were.
+    /// Holds a point that is known to be feasible at this cost, if that is less than the cost held; the nodes are as
+    /// they were.
     fn hold_at(&mut self, node: &Node, cost: Frac, point: &[Frac]) -> Offered
         requires kept { IsKept self.old.program.now self.old.tree (cost_held self.old.incumbent)
             (shown self.old.tree node.now ∷ []) }

@@ -260,9 +260,6 @@ impl Tree {
     /// at least `at + 1`, are open, with the two numbers that are answered. `NotWhole` comes exactly where the column
     /// isn't whole; `Outside` exactly where it is, and `at` has a size above 2^101 or a half has no whole value in it;
     /// `NoMemory` where a growth was refused. After an `Err` the tree is as it was.
-    // Each whole column of the node needs a whole value, and a caller can see to it: a node with a column that has none
-    // holds no point and is closed, the halves of a split keep such values (`CanSplit`), and between a take and a split
-    // only the caller's own notes could take the last one. The tree would have to look at every column.
     pub fn split(&mut self, node: &Node, col: u32, at: i128) -> Result<(u64, u64), SplitFault>
         requires taken { IsTaken self.old node.now }
         requires column { col < length self.old.integral }
@@ -272,6 +269,9 @@ impl Tree {
             (λ halves. IsSplit self.old self.new node.now col at halves.0 halves.1)
             (λ fault. (self.new ≡ self.old) × IsSplitFault self.old node.now col at fault) }
     {
+        // Each whole column of the node needs a whole value, and a caller can see to it: a node with a column that has
+        // none holds no point and is closed, the halves of a split keep such values (`CanSplit`), and between a take and
+        // a split only the caller's own notes could take the last one. The tree would have to look at every column.
         if !flag_at(self.whole.as_slice(), col) {
             return Err(SplitFault::NotWhole);
         }
