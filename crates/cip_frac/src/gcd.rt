@@ -48,8 +48,9 @@ fn narrowed(a: u64, b: u64) -> (u64, u64)
     }
 }
 
+/// The greatest common divisor; of 0 and a number, that number.
 #[inline]
-pub(crate) fn short_gcd(a: u64, b: u64) -> u64
+pub fn short_gcd(a: u64, b: u64) -> u64
     ensures { IsGcd a b result }
 {
     if a <= 1 {

@@ -13,4 +13,5 @@ mod text;
 mod words;
 
 pub use fraction::{Frac, FracFault};
+pub use gcd::short_gcd;
 pub use operations::{Operation, Wide};
