@@ -121,7 +121,7 @@ module _ (columns rows : List Sides) (entries : List Entry) (costs : List ℚ) (
       (each_same (length rows) _ _ (λ r lr. form_operations_same (Row (length columns + r)) (length columns) _ _ _ _ (λ k lk. row_same r k lr lk) at_same))
       (form_operations_same Cost (length columns) _ _ _ _ cost_same at_same)
 
-  pub first_is : (lists : Lists) (standing : List (Option Stand)) → standing ≡ table (length columns + length rows) (stand_in columns) → lists.rows.items ≡ filled_rows → lists.costs.items ≡ all_costs → lists.values.items ≡ table (length columns) (column_value columns) ++ table (length rows) (row_form (length columns) filled_rows (column_values_of columns)) → lists.cost ≡ form (length columns) (value_at all_costs) (value_at (column_values_of columns)) → state (columns ++ rows) standing lists ≡ first (system_in entries rows columns costs)
+  pub first_is : (lists : Lists) (standing : List (Option Stand)) → standing ≡ table (length columns + length rows) (stand_in columns) → lists.rows.items ≡ filled_rows → lists.costs ≡ all_costs → lists.values.items ≡ table (length columns) (column_value columns) ++ table (length rows) (row_form (length columns) filled_rows (column_values_of columns)) → lists.cost ≡ form (length columns) (value_at all_costs) (value_at (column_values_of columns)) → state (columns ++ rows) standing lists ≡ first (system_in entries rows columns costs)
   unfolding first
   first_is lists standing s r c v e =
       let p : System = system_in entries rows columns costs in

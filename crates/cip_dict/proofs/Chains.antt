@@ -12,6 +12,8 @@ use Rattle.cip_dictionary.specs.declared.moves.Stand.{Stand}
 use Rattle.cip_dictionary.proofs.Overflow.{overflow-append}
 use Rattle.cip_dictionary.proofs.Tables.{at_table, table_same}
 use Rattle.cip_dict.specs.declared.fault.OutOfRange.{OutOfRange}
+use Rattle.cip_dict.specs.declared.fault.MoveFault.{MoveFault}
+use Rattle.cip_dict.specs.MoveFaults.{IsMoveFault}
 use Rattle.cip_dict.specs.Lists.{basic_in}
 use Rattle.cip_dict.specs.Row.{form_changes, form_operations_in, written_form}
 
@@ -41,11 +43,10 @@ module _ (n : ℕ) (new : List ℚ) (f : ℕ → ℚ) (e : new ≡ table n f) wh
       table_same n _ _ zeroℚ (λ k l. ap (λ c. substituted_at (k == i) (is_absent basic j k) q (row k) (row j) c) (table_read n new f e k l))
 
   -- so a line that is written by it is the line of the function
-  pub line_new : {X : Type 0} (line : Line) (basic : ℕ → Bool) (i j : ℕ) (q : ℚ) (row : ℕ → ℚ) (out : List ℚ) (r : Result X OutOfRange)
-      → MatchResult r (λ _. (first_overflow (each n (substituted_operations line basic i j q (value_at new) row)) ≡ None) × (out ≡ table n (substituted basic i j q (value_at new) row))) (λ fault. first_overflow (each n (substituted_operations line basic i j q (value_at new) row)) ≡ Some fault.place)
-      → MatchResult r (λ _. (first_overflow (each n (substituted_operations line basic i j q f row)) ≡ None) × (out ≡ table n (substituted basic i j q f row))) (λ fault. first_overflow (each n (substituted_operations line basic i j q f row)) ≡ Some fault.place)
-  line_new line basic i j q row out (Ok v) h = (ap first_overflow (sym (operations_new line basic i j q row)) ∙ h.0, h.1 ∙ table_new basic i j q row)
-  line_new line basic i j q row out (Err fault) h = ap first_overflow (sym (operations_new line basic i j q row)) ∙ h
+  pub line_new : {X : Type 0} (line : Line) (basic : ℕ → Bool) (i j : ℕ) (q : ℚ) (row : ℕ → ℚ) (out : List ℚ) (r : Result X MoveFault)
+      → MatchResult r (λ _. (first_overflow (each n (substituted_operations line basic i j q (value_at new) row)) ≡ None) × (out ≡ table n (substituted basic i j q (value_at new) row))) (IsMoveFault (each n (substituted_operations line basic i j q (value_at new) row)))
+      → MatchResult r (λ _. (first_overflow (each n (substituted_operations line basic i j q f row)) ≡ None) × (out ≡ table n (substituted basic i j q f row))) (IsMoveFault (each n (substituted_operations line basic i j q f row)))
+  line_new line basic i j q row out r h = rw (operations_new line basic i j q row, table_new basic i j q row) at h
 
 module _ (standing : List (Option Stand)) (i j : ℕ) (q : ℚ) (new : List ℚ) (f : ℕ → ℚ) (e : new ≡ table (length standing) f) where
   pub form_operations_new : (rows : ℕ → List ℚ) → each (length standing) (λ v. form_operations_in standing i j q (value_at new) v (rows v)) ≡ each (length standing) (λ v. form_operations_in standing i j q f v (rows v))

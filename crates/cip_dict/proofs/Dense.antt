@@ -11,7 +11,6 @@ use Rattle.cip_dictionary.specs.MoveOperations.{solved_operations_at, solved_ope
 use Rattle.cip_dictionary.specs.declared.places.Line.{Line}
 use Rattle.cip_dictionary.proofs.Tables.{length-table, at_table, same_table, table_same}
 use Rattle.cip_dict.specs.declared.fault.MoveFault.{MoveFault}
-use Rattle.cip_dict.specs.declared.fault.OutOfRange.{OutOfRange}
 use Rattle.cip_dict.specs.MoveFaults.{IsMoveFault}
 use Rattle.cip_dict.specs.SparseLines.{Kept, entry_on, dense, kept_at, kept_of, AreKept}
 use Rattle.cip_dict.proofs.SparseLines.{sparse_lines_tell}
@@ -82,18 +81,6 @@ module _ {X : Type 0} (n : ℕ) (basic : ℕ → Bool) (i j : ℕ) (q : ℚ) (le
       ap (λ a. substituted_at (k == i) (is_absent basic j k) q a (entry_on es j) (entry_on fs k)) (reads k l)
       ∙ ap (λ b. substituted_at (k == i) (is_absent basic j k) q (value_at row k) b (entry_on fs k)) (reads j lj)
       ∙ ap (λ c. substituted_at (k == i) (is_absent basic j k) q (value_at row k) (value_at row j) c) (read' k l)) h
-
--- the same of the row of the cost, which is dense
-pub costs_written : {X : Type 0} (n : ℕ) (basic : ℕ → Bool) (i j : ℕ) (q : ℚ) (len : ℕ) (es : List Kept) (new : List ℚ) → dense len es ≡ new → length new ≡ n → (row : ℕ → ℚ) (line : Line) (out : List ℚ) (r : Result X OutOfRange)
-    → MatchResult r (λ _. (first_overflow (each n (substituted_operations line basic i j q (entry_on es) row)) ≡ None) × (out ≡ table n (substituted basic i j q (entry_on es) row))) (λ fault. first_overflow (each n (substituted_operations line basic i j q (entry_on es) row)) ≡ Some fault.place)
-    → MatchResult r (λ _. (first_overflow (each n (substituted_operations line basic i j q (value_at new) row)) ≡ None) × (out ≡ table n (substituted basic i j q (value_at new) row))) (λ fault. first_overflow (each n (substituted_operations line basic i j q (value_at new) row)) ≡ Some fault.place)
-costs_written {X} n basic i j q len es new view long row line out r h =
-    let reads : (k : ℕ) → k < n → entry_on es k ≡ value_at new k = λ k l. sym (dense_read len es new k view (omega (arith, l, long))) in
-    let ops : each n (substituted_operations line basic i j q (entry_on es) row) ≡ each n (substituted_operations line basic i j q (value_at new) row) =
-    each_same n _ _ (λ k l. ap (λ c. substituted_operations_at (entry_place line k) (k == i) (is_absent basic j k) q (row k) (row j) c) (reads k l)) in
-    let values : table n (substituted basic i j q (entry_on es) row) ≡ table n (substituted basic i j q (value_at new) row) =
-    table_same n _ _ zeroℚ (λ k l. ap (λ c. substituted_at (k == i) (is_absent basic j k) q (row k) (row j) c) (reads k l)) in
-    rw (ops, values) at h
 
 -- what is kept of a line by the entries of a row is what is kept by the row
 pub row_written : {X : Type 0} (n : ℕ) (line : Line) (basic : ℕ → Bool) (i j : ℕ) (q : ℚ) (len : ℕ) (es : List Kept) (row : List ℚ) → dense len es ≡ row → length row ≡ n → (new : ℕ → ℚ) → j < n → (out : List Kept) (r : Result X MoveFault)

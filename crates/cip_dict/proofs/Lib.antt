@@ -3,6 +3,7 @@ pub mod Begun
 pub mod Chains
 pub mod Dense
 pub mod Exchanged
+pub mod FirstCosts
 pub mod Flipped
 pub mod FormParts
 pub mod FormPuts

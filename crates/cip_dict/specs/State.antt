@@ -13,7 +13,7 @@ state sides standing lists = record {
   sides = sides;
   standing = standing;
   rows = lists.rows.items;
-  costs = lists.costs.items;
+  costs = lists.costs;
   values = lists.values.items;
   cost = lists.cost;
 }
@@ -21,14 +21,14 @@ state sides standing lists = record {
 -- the lists have entries for all variables
 pub record HasLists (standing : List (Option Stand)) (lists : Lists) : Type 0 where
   pub rows : HasRows standing lists.rows.items
-  pub costs : length lists.costs.items ≡ length standing
+  pub costs : length lists.costs ≡ length standing
   pub values : length lists.values.items ≡ length standing
 
 -- there is room for all that a move writes
 pub record HasRoom (standing : List (Option Stand)) (room : Room) : Type 0 where
   pub entering : length room.entering ≡ length standing
   pub rows : HasRows standing room.rows.items
-  pub costs : length room.costs.items ≡ length standing
+  pub costs : length room.costs ≡ length standing
   pub values : length room.values.items ≡ length standing
 
 -- the lists have entries for all variables, of which there are fewer than 2^32, there is room, and the state is

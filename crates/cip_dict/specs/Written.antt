@@ -26,7 +26,7 @@ other_operations standing i j q lists =
     (λ v. form_operations_in standing i j q (entering_in standing i j q lists) v (row_in lists.rows.items v))
     ++ each (length standing)
     (substituted_operations Cost (basic_in standing) i j q (entering_in standing i j q lists)
-    (value_at lists.costs.items))
+    (value_at lists.costs))
 
 -- and before them those of that row
 abbrev pub lines_operations : List (Option Stand) → ℕ → ℕ → ℚ → Lists → List Placed
@@ -43,9 +43,9 @@ pub record OthersWritten
       ≡ table (length standing)
       (λ v. written_form standing i j q (entering_in standing i j q lists) v (row_in lists.rows.items v)
       (row_in old.rows.items v))
-  pub costs : new.costs.items
+  pub costs : new.costs
       ≡ table (length standing)
-      (substituted (basic_in standing) i j q (entering_in standing i j q lists) (value_at lists.costs.items))
+      (substituted (basic_in standing) i j q (entering_in standing i j q lists) (value_at lists.costs))
 
 -- and so is the row that enters
 pub record LinesWritten
@@ -55,9 +55,9 @@ pub record LinesWritten
       ≡ table (length standing)
       (λ v. written_form standing i j q (entering_in standing i j q lists) v (row_in lists.rows.items v)
       (row_in old.rows.items v))
-  pub costs : new.costs.items
+  pub costs : new.costs
       ≡ table (length standing)
-      (substituted (basic_in standing) i j q (entering_in standing i j q lists) (value_at lists.costs.items))
+      (substituted (basic_in standing) i j q (entering_in standing i j q lists) (value_at lists.costs))
 
 -- ---- values
 
@@ -65,17 +65,17 @@ pub record LinesWritten
 abbrev pub moves_operations : List (Option Stand) → ℕ → ℚ → Lists → List Placed
 moves_operations standing j t lists =
     each (length standing) (moved_operations_in standing lists.rows.items j t lists.values.items)
-    ++ sum_at (value_place Cost) lists.cost (value_at lists.costs.items j) t
+    ++ sum_at (value_place Cost) lists.cost (value_at lists.costs j) t
 
 -- the values of basic variables and of j are written, and the cost is this; the room for rows is as it was
 pub record MovesWritten
     (standing : List (Option Stand)) (j : ℕ) (t : ℚ) (lists : Lists) (old new : Room) (cost : ℚ) : Type 0 where
   pub entering : new.entering ≡ old.entering
   pub rows : new.rows.items ≡ old.rows.items
-  pub costs : new.costs.items ≡ old.costs.items
+  pub costs : new.costs ≡ old.costs
   pub values : table (length standing) (taken_value standing j lists.values.items new.values.items)
       ≡ table (length standing) (moved_in standing lists.rows.items j t lists.values.items)
-  pub cost_is : cost ≡ lists.cost +ℚ value_at lists.costs.items j *ℚ t
+  pub cost_is : cost ≡ lists.cost +ℚ value_at lists.costs j *ℚ t
 
 -- by how much j moves, where i leaves to a side and q is 1 over its entry on j
 abbrev pub step_in : ℕ → ℚ → ℚ → Lists → ℚ
@@ -96,7 +96,7 @@ pub record IsPlanned (d : Dictionary) (i j : ℕ) (to : Stand) (room : Room) (co
   pub entering : room.entering ≡ table (size d) (entering d i j)
   pub rows : (v : ℕ) → v < size d → form_changes d.standing i j v (row_in d.rows v) ≡ true
       → row_in room.rows.items v ≡ table (size d) (exchanged_row d i j (entry d v))
-  pub costs : room.costs.items ≡ table (size d) (exchanged_row d i j (cost_entry d))
+  pub costs : room.costs ≡ table (size d) (exchanged_row d i j (cost_entry d))
   pub values : table (size d) (taken_value d.standing j d.values room.values.items)
       ≡ table (size d) (moved d j (step d i j to))
   pub cost_is : cost ≡ moved_cost d j (step d i j to)
@@ -114,14 +114,14 @@ pub record IsTakenOver
   pub rows : (v : ℕ) → v < length standing → row_in new.rows.items v
       ≡ entered_form i j (table (length standing) (taken_form standing i j lists.rows.items room.rows.items))
       room.entering v
-  pub costs : new.costs.items ≡ room.costs.items
+  pub costs : new.costs ≡ room.costs
   pub values : new.values.items
       ≡ table (length standing) (taken_value standing j lists.values.items room.values.items)
   pub cost_is : new.cost ≡ cost
   pub long : HasRowsAfter standing i j new.rows.items
   pub rest_long : HasRowsAfter standing i j rest.rows.items
   pub rest_entering : length rest.entering ≡ length standing
-  pub rest_costs : rest.costs.items ≡ lists.costs.items
+  pub rest_costs : rest.costs ≡ lists.costs
   pub rest_values : length rest.values.items ≡ length standing
 
 -- ---- a flip
@@ -130,13 +130,13 @@ pub record IsTakenOver
 abbrev pub flips_operations : List (Option Stand) → ℕ → ℚ → Lists → List Placed
 flips_operations standing j t lists =
     each (length standing) (flipped_operations_in standing lists.rows.items j t lists.values.items)
-    ++ sum_at (value_place Cost) lists.cost (value_at lists.costs.items j) t
+    ++ sum_at (value_place Cost) lists.cost (value_at lists.costs j) t
 
 -- the values and the cost that a flip changes are written
 pub record IsFlipPlanned (d : Dictionary) (j : ℕ) (old new : Room) (cost : ℚ) : Type 0 where
   pub entering : new.entering ≡ old.entering
   pub rows : new.rows.items ≡ old.rows.items
-  pub costs : new.costs.items ≡ old.costs.items
+  pub costs : new.costs ≡ old.costs
   pub values : table (size d) (taken_value d.standing j d.values new.values.items)
       ≡ table (size d) (moved d j (way d j))
   pub cost_is : cost ≡ moved_cost d j (way d j)
@@ -147,11 +147,11 @@ pub record IsFlipTaken
     (later : List (Option Stand)) (new : Lists) (rest : Room) : Type 0 where
   pub stands : later ≡ slice_set standing j (Some (other_stand (slice_index_or standing j None)))
   pub rows : new.rows.items ≡ lists.rows.items
-  pub costs : new.costs.items ≡ lists.costs.items
+  pub costs : new.costs ≡ lists.costs
   pub values : new.values.items
       ≡ table (length standing) (taken_value standing j lists.values.items room.values.items)
   pub cost_is : new.cost ≡ cost
   pub rest_entering : rest.entering ≡ room.entering
   pub rest_rows : rest.rows.items ≡ room.rows.items
-  pub rest_costs : rest.costs.items ≡ room.costs.items
+  pub rest_costs : rest.costs ≡ room.costs
   pub rest_values : length rest.values.items ≡ length standing

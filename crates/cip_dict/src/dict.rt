@@ -84,7 +84,7 @@ impl Dict {
             Ok(found) => found,
             Err(fault) => return Err(fault),
         };
-        let room = room_for(alloc, spare, standing, found.rows.as_slice())?;
+        let room = room_for(alloc, spare, standing, &found)?;
         let sides = all_sides(alloc, spare, column_sides, row_sides)?;
         Ok(Dict {
             sides,
@@ -99,13 +99,13 @@ impl Dict {
         spare.keep_sides(self.sides);
         spare.keep_stands(self.standing);
         spare.keep_forms(self.lists.rows);
-        spare.keep_numbers(self.lists.costs);
+        spare.keep_form(self.lists.costs);
         spare.keep_numbers(self.lists.values);
         spare.keep_form(self.room.entering);
         spare.keep_entries(self.room.spelled);
         spare.keep_entries(self.room.fractions);
         spare.keep_forms(self.room.rows);
-        spare.keep_numbers(self.room.costs);
+        spare.keep_form(self.room.costs);
         spare.keep_numbers(self.room.values);
     }
 
@@ -161,7 +161,7 @@ impl Dict {
         requires { v < def.size self.now }
         ensures { result ≡ def.cost_entry self.now v }
     {
-        self.lists.costs[v as usize]
+        self.lists.costs.entry(v)
     }
 
     /// The cost.

@@ -17,17 +17,71 @@ ghost use Rattle.cip_dict.specs.WholeLines.{IsSpelled};
 ghost use Rattle.cip_dict.specs.State.{state, HasLists, HasRoom};
 ghost use Rattle.cip_dict.specs.Written.{entering_in, other_operations, OthersWritten, lines_operations, LinesWritten, moves_operations, MovesWritten, step_in, values_operations, IsPlanned, entered_form, IsTakenOver};
 
-use crate::costs::write_costs;
 use crate::entries::{step_to, sum};
 use crate::fault::{MoveFault, OutOfRange};
 use crate::forms::{Form, count_room};
-use crate::lines::write_solved;
+use crate::lines::{write_solved, write_substituted};
 use crate::lists::{Lists, Room};
 use crate::rows::{take_rows, write_rows};
 use crate::values::{take_values, value_of, write_moved};
 use cip_dictionary::{Line, Stand};
 use cip_frac::Frac;
 use cip_lin::Sides;
+
+/// Writes the row of the cost, and counts what it has room for then; `new` is the row of the variable j that enters,
+/// of which `entering` are the fractions, and i leaves. The last two are lists to work with.
+fn write_costs(
+    standing: &[Option<Stand>],
+    i: u32,
+    j: u32,
+    q: Frac,
+    new: &Form,
+    entering: &[(u32, Frac)],
+    costs: &Form,
+    out: &mut Form,
+    held: &mut usize,
+    sums: &mut Vec<(u32, i128)>,
+    spelled: &mut Vec<(u32, Frac)>,
+) -> Result<(), MoveFault>
+    requires few { length standing.now < 2 ^ 32 }
+    requires leaving { i < length standing.now }
+    requires entering { j < length standing.now }
+    requires new_long { length new.now ≡ length standing.now }
+    requires new_spelled { IsSpelled (length standing.now) new.now entering.now }
+    requires is_leaving { value_at new.now i ≡ q }
+    requires costs_long { length costs.now ≡ length standing.now }
+    ensures written { let operations =
+        each (length standing.now)
+        (substituted_operations Line.Cost (basic_in standing.now) i j q (value_at new.now) (value_at costs.now)) in
+        MatchResult result
+        (λ _. (first_overflow operations ≡ None)
+        × (out.new ≡ table (length standing.now)
+        (substituted (basic_in standing.now) i j q (value_at new.now) (value_at costs.now))))
+        (IsMoveFault operations) }
+    ensures long { length out.new ≡ length standing.now }
+{
+    let before = out.room();
+    match write_substituted(
+        Line::Cost,
+        standing,
+        i,
+        j,
+        q,
+        new,
+        entering,
+        costs,
+        out,
+        sums,
+        spelled,
+    ) {
+        Ok(()) => (),
+        Err(fault) => return Err(fault),
+    }
+    match count_room(out, before, held) {
+        Ok(()) => Ok(()),
+        Err(_) => Err(MoveFault::NoMemory),
+    }
+}
 
 /// Writes the rows that change and the row of the cost, where the row of j, which enters, is written already.
 fn write_others(
@@ -71,19 +125,19 @@ fn write_others(
         Ok(()) => (),
         Err(fault) => return Err(fault),
     }
-    let costs = lists.costs.as_slice();
-    match write_costs(
+    write_costs(
         standing,
         i,
         j,
         q,
+        new,
         entering,
-        costs,
-        room.costs.as_mut_slice(),
-    ) {
-        Ok(()) => Ok(()),
-        Err(fault) => Err(MoveFault::OutOfRange { place: fault.place }),
-    }
+        &lists.costs,
+        &mut room.costs,
+        &mut room.held,
+        &mut room.sums,
+        &mut room.fractions,
+    )
 }
 
 /// Writes the row of the variable j that enters, by that of i, which leaves, spells it, and counts what it has room for
@@ -195,7 +249,7 @@ fn write_moves(
         Ok(()) => (),
         Err(fault) => return Err(fault),
     }
-    let entry = number(lists.costs.as_slice(), j);
+    let entry = lists.costs.entry(j);
     sum(value_of(Line::Cost), lists.cost, entry, t)
 }
 

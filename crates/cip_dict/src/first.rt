@@ -13,15 +13,14 @@ ghost use Rattle.cip_dict.specs.Entries.{entry_from, AreWithin, system_in, IsRow
 ghost use Rattle.cip_dict.specs.FirstLists.{stand_in, cost_in, column_value, row_form, row_operations, row_of_entries, column_values_of, value_operations_at, value_operations};
 ghost use Rattle.cip_dict.specs.State.{state, HasLists, HasRoom};
 
-use crate::entries::sum;
 use crate::exchange::value_at_stand;
 use crate::fault::{FirstFault, OutOfRange};
 use crate::forms::{Form, room_of};
+use crate::kept::keep_entry;
 use crate::lines::is_basic;
 use crate::lists::{Lists, Room};
 use crate::settle::settled;
 use crate::spare::Spare;
-use crate::values::value_of;
 use cip_dictionary::{Line, Stand};
 use cip_frac::Frac;
 use cip_lin::Sides;
@@ -106,68 +105,23 @@ fn put_entry(columns: usize, entry: (u32, u32, Frac), rows: &mut [Form]) -> Resu
     row.set(entry.1, entry.2)
 }
 
-/// The cost of variable k: that of a column, and 0 for a row.
-fn cost_of(costs: &[Frac], k: usize) -> Frac
-    ensures { result ≡ cost_in costs.now k }
+/// The costs of all n variables: those of the columns, and 0 for rows; `Err` where the memory was refused.
+fn all_costs(alloc: Global, spare: &mut Spare, costs: &[Frac], n: usize) -> Result<Form, AllocError>
+    requires few { n < 2 ^ 32 }
+    requires columns { length costs.now ≤ n }
+    ensures { IfOk result (λ all. all ≡ table n (cost_in costs.now)) }
 {
-    if k < costs.len() {
-        costs[k]
-    } else {
-        Frac::zero()
+    let mut entries = spare.entries(alloc);
+    for k in 0..costs.len() {
+        keep_entry(&mut entries, k as u32, costs[k])?;
     }
-}
-
-/// The costs of all n variables; `Err` where the memory was refused.
-fn all_costs(
-    alloc: Global,
-    spare: &mut Spare,
-    costs: &[Frac],
-    n: usize,
-) -> Result<Vec<Frac>, AllocError>
-    ensures { IfOk result (λ all. all.items ≡ table n (cost_in costs.now)) }
-{
-    let mut all = spare.numbers(alloc);
-    for k in 0..n {
-        all.push(cost_of(costs, k))?;
-    }
-    Ok(all)
-}
-
-/// A sum with the product of a row's entry on variable k and its value.
-fn form_step(
-    line: Line,
-    total: Frac,
-    row: &[Frac],
-    values: &[Frac],
-    k: usize,
-) -> Result<Frac, OutOfRange>
-    requires row_long { k < length row.now }
-    requires values_long { k < length values.now }
-    ensures { let operations = sum_at (value_place line) total (value_at row.now k) (value_at values.now k) in
-        MatchResult result
-        (λ v. (first_overflow operations ≡ None) × (v ≡ total +ℚ value_at row.now k *ℚ value_at values.now k))
-        (λ fault. first_overflow operations ≡ Some fault.place) }
-{
-    sum(value_of(line), total, row[k], values[k])
-}
-
-/// The value of a form on the first n variables, the products added one after another.
-fn form_value(line: Line, n: usize, row: &[Frac], values: &[Frac]) -> Result<Frac, OutOfRange>
-    requires row_long { n ≤ length row.now }
-    requires values_long { n ≤ length values.now }
-    ensures { let operations = form_operations line n (value_at row.now) (value_at values.now) in
-        MatchResult result
-        (λ v. (first_overflow operations ≡ None) × (v ≡ form n (value_at row.now) (value_at values.now)))
-        (λ fault. first_overflow operations ≡ Some fault.place) }
-{
-    let mut total = Frac::zero();
-    for k in 0..n {
-        match form_step(line, total, row, values, k) {
-            Ok(value) => total = value,
-            Err(fault) => return Err(fault),
-        }
-    }
-    Ok(total)
+    Ok(Form {
+        entries,
+        wholes: spare.wholes(alloc),
+        below: 1,
+        is_whole: false,
+        len: n,
+    })
 }
 
 /// Puts all entries into their rows, which are those of the variables past the columns by their numbers. The last that
@@ -287,7 +241,7 @@ fn rows_and_cost(
     columns: usize,
     m: usize,
     rows: &[Form],
-    costs: &[Frac],
+    costs: &Form,
     at: &[Frac],
     values: &mut Vec<Frac>,
 ) -> Result<Frac, FirstFault>
@@ -307,7 +261,7 @@ fn rows_and_cost(
         Ok(()) => (),
         Err(fault) => return Err(fault),
     }
-    match form_value(Line::Cost, columns, costs, at) {
+    match costs.value(Line::Cost, columns, at) {
         Ok(cost) => Ok(cost),
         Err(fault) => Err(FirstFault::OutOfRange { place: fault.place }),
     }
@@ -320,7 +274,7 @@ fn all_values(
     columns: &[Sides],
     m: usize,
     rows: &[Form],
-    costs: &[Frac],
+    costs: &Form,
 ) -> Result<(Vec<Frac>, Frac), FirstFault>
     requires few { length columns.now + m < 2 ^ 32 }
     requires count { length rows.now ≡ length columns.now + m }
@@ -359,22 +313,23 @@ pub(crate) fn all_sides(
     Ok(sides)
 }
 
-/// Room for what a move writes, beside these rows; `Err` where the memory was refused.
+/// Room for what a move writes, beside these lists; `Err` where the memory was refused.
 pub(crate) fn room_for(
     alloc: Global,
     spare: &mut Spare,
     standing: &[Option<Stand>],
-    lines: &[Form],
+    lists: &Lists,
 ) -> Result<Room, AllocError>
     ensures { IfOk result (λ room. HasRoom standing.now room) }
 {
     let entering = Form::zeros(alloc, spare, standing.len());
     let rows = empty_rows(alloc, spare, standing)?;
-    let costs = spare.zeros(alloc, standing.len())?;
+    let costs = Form::zeros(alloc, spare, standing.len());
     let values = spare.zeros(alloc, standing.len())?;
-    let held = room_of(lines).saturating_add(room_of(rows.as_slice()));
+    let held = room_of(lists.rows.as_slice()).saturating_add(room_of(rows.as_slice()));
+    let others = lists.costs.room().saturating_add(costs.room());
     Ok(Room {
-        held: held.saturating_add(entering.room()),
+        held: held.saturating_add(others).saturating_add(entering.room()),
         entering,
         spelled: spare.entries(alloc),
         sums: Vec::new(alloc),
@@ -411,8 +366,7 @@ fn lists_for(
     let rows = filled_rows(alloc, spare, standing, column_sides, entries, m)?;
     let all = all_costs(alloc, spare, costs, standing.len())?;
     let lines = rows.as_slice();
-    let own = all.as_slice();
-    match all_values(alloc, spare, column_sides, m, lines, own) {
+    match all_values(alloc, spare, column_sides, m, lines, &all) {
         Ok((values, cost)) => Ok(Lists {
             rows,
             costs: all,
@@ -423,7 +377,7 @@ fn lists_for(
     }
 }
 
-/// The same, with rows of whole numbers, where they can be kept so.
+/// The same, with lines of whole numbers, where they can be kept so.
 pub(crate) fn first_lists(
     alloc: Global,
     spare: &mut Spare,

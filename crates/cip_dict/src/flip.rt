@@ -90,7 +90,7 @@ fn write_flips(
         Ok(()) => (),
         Err(fault) => return Err(fault),
     }
-    let entry = number(lists.costs.as_slice(), j);
+    let entry = lists.costs.entry(j);
     sum(value_of(Line::Cost), lists.cost, entry, t)
 }
 

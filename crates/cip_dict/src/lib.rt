@@ -1,7 +1,6 @@
 //! Dictionaries of the simplex method over exact fractions.
 #![tactic(auto)]
 
-mod costs;
 mod dict;
 mod entries;
 mod exchange;

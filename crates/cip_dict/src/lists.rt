@@ -8,7 +8,7 @@ pub(crate) struct Lists {
     /// The row of each variable; none where it isn't basic.
     pub(crate) rows: Vec<Form>,
     /// The row of the cost.
-    pub(crate) costs: Vec<Frac>,
+    pub(crate) costs: Form,
     /// The value of each variable.
     pub(crate) values: Vec<Frac>,
     /// The cost.
@@ -25,7 +25,7 @@ pub(crate) struct Room {
     pub(crate) sums: Vec<(u32, i128)>,
     pub(crate) fractions: Vec<(u32, Frac)>,
     pub(crate) rows: Vec<Form>,
-    pub(crate) costs: Vec<Frac>,
+    pub(crate) costs: Form,
     pub(crate) values: Vec<Frac>,
     /// How many entries the lists of the rows and these have room for, and at most `usize::MAX`.
     pub(crate) held: usize,

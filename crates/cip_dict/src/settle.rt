@@ -127,18 +127,20 @@ fn settle_rows(rows: &mut [Form]) -> Result<(), AllocError>
     Ok(())
 }
 
-/// The same lists, whose rows are kept as whole numbers from now on, where they can be. `Err` where memory was refused.
+/// The same lists, whose lines are kept as whole numbers from now on, where they can be. `Err` where memory was refused.
 pub(crate) fn settled(lists: Lists) -> Result<Lists, AllocError>
     ensures rows { IfOk result (λ same. same.rows.items ≡ lists.rows.items) }
-    ensures costs { IfOk result (λ same. same.costs.items ≡ lists.costs.items) }
+    ensures costs { IfOk result (λ same. same.costs ≡ lists.costs) }
     ensures values { IfOk result (λ same. same.values.items ≡ lists.values.items) }
     ensures cost { IfOk result (λ same. same.cost ≡ lists.cost) }
 {
     let mut rows = lists.rows;
     settle_rows(rows.as_mut_slice())?;
+    let mut costs = lists.costs;
+    costs.settle()?;
     Ok(Lists {
         rows,
-        costs: lists.costs,
+        costs,
         values: lists.values,
         cost: lists.cost,
     })

@@ -1,4 +1,4 @@
-use Rattle.std.proofs.Common.{◌≡◌, ◌∙◌, ◌+◌, ap, ap₂, sym, subst, length, length-append, arith}
+use Rattle.std.proofs.Common.{◌≡◌, ◌∙◌, ◌+◌, refl, ap, ap₂, sym, subst, length, length-append, arith}
 use Rattle.cip_dictionary.specs.Tables.{table}
 use Rattle.cip_dictionary.specs.Operations.{first_overflow}
 use Rattle.cip_dictionary.proofs.Tables.{length-table}
@@ -18,7 +18,7 @@ all_values-requires-clause-long c =
 
 pub all_values-requires-clause-costs_long : goal.all_values-requires-clause-costs_long
 all_values-requires-clause-costs_long c =
-    let long : length c.as_slice-own.result.now ≡ length c.args.standing.now = ap length (c.as_slice-own.ensures.value ∙ c.in_ok-all.ensures) ∙ length-table (length c.args.standing.now) (cost_in c.args.costs.now) in
+    let long : length c.in_ok-all.all ≡ length c.args.standing.now = ap length (c.in_ok-all.ensures) ∙ length-table (length c.args.standing.now) (cost_in c.args.costs.now) in
     let n : length c.args.standing.now ≡ length c.args.column_sides.now + length c.args.row_sides.now = standing_long c.args.column_sides.now (length c.args.row_sides.now) c.args.standing.now c.requires.stands in
     omega (arith, long, n)
 
@@ -26,10 +26,10 @@ pub returns-in-Ok : goal.returns-in-Ok
 returns-in-Ok c =
     let n : length c.args.standing.now ≡ length c.args.column_sides.now + length c.args.row_sides.now = standing_long c.args.column_sides.now (length c.args.row_sides.now) c.args.standing.now c.requires.stands in
     let is_filled : c.as_slice-lines.result.now ≡ table (length c.args.column_sides.now + length c.args.row_sides.now) (row_of_entries (length c.args.column_sides.now) (length c.args.row_sides.now) c.args.entries.now) = c.as_slice-lines.ensures.value ∙ c.in_ok-rows.ensures in
-    let is_costs : c.as_slice-own.result.now ≡ table (length c.args.column_sides.now + length c.args.row_sides.now) (cost_in c.args.costs.now) = c.as_slice-own.ensures.value ∙ c.in_ok-all.ensures ∙ ap (λ k. table k (cost_in c.args.costs.now)) n in
+    let is_costs : c.in_ok-all.all ≡ table (length c.args.column_sides.now + length c.args.row_sides.now) (cost_in c.args.costs.now) = c.in_ok-all.ensures ∙ ap (λ k. table k (cost_in c.args.costs.now)) n in
     let found : Lists = record { rows = c.in_ok-rows.rows; costs = c.in_ok-all.all; values = c.in-Ok.values; cost = c.in-Ok.cost } in (
-      ap first_overflow (sym (operations_same c.args.column_sides.now c.args.row_sides.now c.args.entries.now c.args.costs.now c.requires.costs_long c.as_slice-lines.result.now c.as_slice-own.result.now is_filled is_costs)) ∙ c.in-Ok.ensures.0,
-      first_is c.args.column_sides.now c.args.row_sides.now c.args.entries.now c.args.costs.now c.requires.costs_long c.as_slice-lines.result.now c.as_slice-own.result.now is_filled is_costs found c.args.standing.now c.requires.stands (sym c.as_slice-lines.ensures.value) (sym c.as_slice-own.ensures.value) c.in-Ok.ensures.1 c.in-Ok.ensures.2,
+      ap first_overflow (sym (operations_same c.args.column_sides.now c.args.row_sides.now c.args.entries.now c.args.costs.now c.requires.costs_long c.as_slice-lines.result.now c.in_ok-all.all is_filled is_costs)) ∙ c.in-Ok.ensures.0,
+      first_is c.args.column_sides.now c.args.row_sides.now c.args.entries.now c.args.costs.now c.requires.costs_long c.as_slice-lines.result.now c.in_ok-all.all is_filled is_costs found c.args.standing.now c.requires.stands (sym c.as_slice-lines.ensures.value) refl c.in-Ok.ensures.1 c.in-Ok.ensures.2,
       record {
         rows = filled_has_rows c.args.column_sides.now (length c.args.row_sides.now) c.args.standing.now c.requires.stands c.args.entries.now c.in_ok-rows.rows.items c.in_ok-rows.ensures;
         costs = ap length c.in_ok-all.ensures ∙ length-table (length c.args.standing.now) (cost_in c.args.costs.now);
@@ -41,5 +41,13 @@ pub returns-in-Err : goal.returns-in-Err
 returns-in-Err c =
     let n : length c.args.standing.now ≡ length c.args.column_sides.now + length c.args.row_sides.now = standing_long c.args.column_sides.now (length c.args.row_sides.now) c.args.standing.now c.requires.stands in
     let is_filled : c.as_slice-lines.result.now ≡ table (length c.args.column_sides.now + length c.args.row_sides.now) (row_of_entries (length c.args.column_sides.now) (length c.args.row_sides.now) c.args.entries.now) = c.as_slice-lines.ensures.value ∙ c.in_ok-rows.ensures in
-    let is_costs : c.as_slice-own.result.now ≡ table (length c.args.column_sides.now + length c.args.row_sides.now) (cost_in c.args.costs.now) = c.as_slice-own.ensures.value ∙ c.in_ok-all.ensures ∙ ap (λ k. table k (cost_in c.args.costs.now)) n in
-    subst (λ ops. IsRowFault ops c.in-Err.fault) (operations_same c.args.column_sides.now c.args.row_sides.now c.args.entries.now c.args.costs.now c.requires.costs_long c.as_slice-lines.result.now c.as_slice-own.result.now is_filled is_costs) c.in-Err.ensures
+    let is_costs : c.in_ok-all.all ≡ table (length c.args.column_sides.now + length c.args.row_sides.now) (cost_in c.args.costs.now) = c.in_ok-all.ensures ∙ ap (λ k. table k (cost_in c.args.costs.now)) n in
+    subst (λ ops. IsRowFault ops c.in-Err.fault) (operations_same c.args.column_sides.now c.args.row_sides.now c.args.entries.now c.args.costs.now c.requires.costs_long c.as_slice-lines.result.now c.in_ok-all.all is_filled is_costs) c.in-Err.ensures
+
+pub all_costs-requires-clause-few : goal.all_costs-requires-clause-few
+all_costs-requires-clause-few c =
+    omega (arith, c.requires.few, standing_long c.args.column_sides.now (length c.args.row_sides.now) c.args.standing.now c.requires.stands)
+
+pub all_costs-requires-clause-columns : goal.all_costs-requires-clause-columns
+all_costs-requires-clause-columns c =
+    omega (arith, c.requires.costs_long, standing_long c.args.column_sides.now (length c.args.row_sides.now) c.args.standing.now c.requires.stands)

@@ -8,6 +8,6 @@ pub returns : goal.returns
 returns c = record {
   entering = ap length c.zeros-entering.ensures ∙ length-replicate (length c.args.standing.now) zeroℚ;
   rows = empty_has_rows c.args.standing.now c.in_ok-rows.rows.items c.in_ok-rows.ensures;
-  costs = ap length c.in_ok-costs.ensures ∙ length-replicate (length c.args.standing.now) zeroℚ;
+  costs = ap length c.zeros-costs.ensures ∙ length-replicate (length c.args.standing.now) zeroℚ;
   values = ap length c.in_ok-values.ensures ∙ length-replicate (length c.args.standing.now) zeroℚ;
 }

@@ -6,8 +6,8 @@ use Rattle.cip_dict.proofs.first.rows_and_cost.Goals as goal
 pub returns-in-Err : goal.returns-in-Err
 returns-in-Err c = row_fault_more _ _ c.in-Err.fault c.in-Err.ensures
 
-pub returns-in-Ok-form_value : goal.returns-in-Ok-form_value
-returns-in-Ok-form_value c = (overflow-append _ _ c.in-Ok.ensures.0 ∙ c.in-Ok-form_value.ensures.0, c.in-Ok.ensures.1, c.in-Ok-form_value.ensures.1)
+pub returns-in-Ok-value : goal.returns-in-Ok-value
+returns-in-Ok-value c = (overflow-append _ _ c.in-Ok.ensures.0 ∙ c.in-Ok-value.ensures.0, c.in-Ok.ensures.1, c.in-Ok-value.ensures.1)
 
-pub returns-in-Err-form_value : goal.returns-in-Err-form_value
-returns-in-Err-form_value c = overflow-append _ _ c.in-Ok.ensures.0 ∙ c.in-Err-form_value.ensures
+pub returns-in-Err-value : goal.returns-in-Err-value
+returns-in-Err-value c = overflow-append _ _ c.in-Ok.ensures.0 ∙ c.in-Err-value.ensures

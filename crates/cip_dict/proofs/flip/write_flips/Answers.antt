@@ -16,9 +16,9 @@ returns-in-Err-clause-written c =
 pub returns-clause-written : goal.returns-clause-written
 returns-clause-written c =
     let h = rw (c.as_slice-rows.ensures.value, c.as_slice-values.ensures.value) at c.in-Ok.ensures.written in
-    let e = rw c.as_slice.ensures.value at c.number-entry.ensures in
+    let e = c.entry-entry.ensures in
     let last = rw (c.value_of.ensures, e) at c.sum.ensures in
-    then_rest _ _ c.sum.result (λ v. v ≡ c.args.lists.now.cost +ℚ value_at c.args.lists.now.costs.items c.args.j *ℚ c.args.t) _ h.0 last
+    then_rest _ _ c.sum.result (λ v. v ≡ c.args.lists.now.cost +ℚ value_at c.args.lists.now.costs c.args.j *ℚ c.args.t) _ h.0 last
     (λ v p. record {
       entering = refl;
       rows = refl;
