@@ -164,6 +164,21 @@ impl Dict {
         self.lists.costs.entry(v)
     }
 
+    /// On how many variables the cost has an entry that isn't 0.
+    pub fn costs_len(&self) -> usize
+        ensures { result ≡ length (kept_of (def.size self.now) (def.cost_entry self.now)) }
+    {
+        self.lists.costs.kept_len()
+    }
+
+    /// An entry of the cost that isn't 0, with the variable on which it stands, by rising variable: the first at 0.
+    pub fn cost_at(&self, at: usize) -> (u32, Frac)
+        requires { at < length (kept_of (def.size self.now) (def.cost_entry self.now)) }
+        ensures { (d : Kept) → result ≡ slice_index_or (kept_of (def.size self.now) (def.cost_entry self.now)) at d }
+    {
+        self.lists.costs.kept_at(at)
+    }
+
     /// The cost.
     pub fn cost(&self) -> Frac
         ensures { result ≡ self.now.cost }
