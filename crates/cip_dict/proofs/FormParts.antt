@@ -1,5 +1,5 @@
 -- A line that keeps whole numbers, or fractions.
-use Rattle.std.proofs.Common.{◌≡◌, ℕ, ◌<◌, Bool, true, false, List, length, refl, sym, ap, ◌∙◌, subst, lit<}
+use Rattle.std.proofs.Common.{◌≡◌, ℕ, ◌<◌, Bool, true, false, ℤ, List, length, refl, sym, ap, ◌∙◌, subst, lit<}
 use Rattle.std.proofs.lemmas.Bool.{true≢false}
 use Rattle.cip_rational.specs.Rational.{ℚ, ratio}
 use Rattle.cip_problem.specs.Activity.{value_at}
@@ -21,6 +21,10 @@ module _ (len : ℕ) (b : Bool) (below : ℕ) (ws : List Whole) (es : List Kept)
 
   pub whole_read : (k : ℕ) → b ≡ true → k < length row → ratio (number_on ws k) below ≡ value_at row k
   whole_read k t l = sym (entry_over below ws k (h.whole t).positive) ∙ sym (dense_read len (over below ws) row k (whole_view t) l)
+
+  -- what is said of the number on a variable over any denominator holds of the entry
+  pub whole_test : (says : ℚ → Bool) (n : ℤ) (t : Bool) (k : ℕ) → b ≡ true → k < length row → n ≡ number_on ws k → ((d : ℕ) → 0 < d → t ≡ says (ratio n d)) → t ≡ says (value_at row k)
+  whole_test says n t k e l is test = test below (h.whole e).positive ∙ ap says (ap (λ m. ratio m below) is ∙ whole_read k e l)
 
   pub parted_kept : b ≡ false → AreKept 0 len es
   parted_kept f = subst (λ (c : Bool). AreKept 0 len (kept_in c below ws es)) f h.kept

@@ -1,16 +1,19 @@
 -- Lists of whole numbers over one denominator, as lists of kept entries.
-use Rattle.std.proofs.Common.{◌≡◌, ◌≢◌, ℕ, zero, suc, ◌+◌, ◌*◌, ◌<◌, ◌≤◌, ◌==◌, ◌^◌, ℤ, pos, ◌*ℤ◌, cond, Bool, true, false, to_z, of_z, List, [], ◌∷◌, ◌++◌, length, get_or, refl, sym, ap, ◌∙◌, subst, arith, lit<}
+use borrow.Author.Differences.{product_is, lt_T, lt_in}
+use Rattle.std.proofs.Common.{◌≡◌, ◌≢◌, not, int_lt, ℕ, zero, suc, ◌+◌, ◌*◌, ◌<◌, ◌≤◌, ◌==◌, ◌^◌, ℤ, pos, ◌*ℤ◌, cond, Bool, true, false, to_z, of_z, List, [], ◌∷◌, ◌++◌, length, get_or, refl, sym, ap, ◌∙◌, subst, arith, lit<}
 use Rattle.std.specs.Int.{w64}
 use Rattle.std.proofs.lemmas.Bool.{eq-eqb, ne_eqb, true≢false}
 use Rattle.std.proofs.lemmas.Int.{ints}
 use Rattle.cip_rational.specs.Rational as rational
-use Rattle.cip_rational.specs.Rational.{ℚ, ◌*ℚ◌, zeroℚ, inverse, integer, ratio}
+use Rattle.cip_rational.specs.Rational.{ℚ, ◌*ℚ◌, zeroℚ, lt_test, inverse, integer, ratio}
 use Rattle.cip_rational.specs.Range.{magnitude, fits_range}
 use Rattle.cip_rational.proofs.Range.InRange.{fits_in, fits-ratio}
 use Rattle.cip_frac.specs.FractionFault.{quotient_of, IsFaultOf}
 use Rattle.cip_frac.specs.declared.fraction.FracFault.{FracFault}
 use Rattle.cip_frac.specs.declared.fraction.FracFault.TheVariants.{ZeroBelow, Wide}
-use Rattle.cip_rational.proofs.Rational.Ratio.{ratio_same, same_ratio, ratio-mul, integer_ratio}
+use Rattle.cip_rational.proofs.Rational.Ratio.{same_truth, ratio_same, same_ratio, ratio-mul, ratio-lt_test, integer_ratio}
+use Rattle.cip_dictionary.specs.Operations.{is_zero}
+use Rattle.cip_dictionary.proofs.Zeros.{is_zero_of, is_zero_false}
 use Rattle.cip_dict.specs.SparseLines.{Kept, entry_on, AreKept, IsPlace}
 use Rattle.cip_dict.proofs.WholeLines.{whole_lines_tell}
 use Rattle.cip_dict.proofs.Places.{entry_miss, all_below, more_before, less_after}
@@ -29,6 +32,25 @@ pub none_ratio : (n : ℤ) (d : ℕ) → 0 < d → ratio n d ≡ zeroℚ → n �
 none_ratio n d h e =
     let s : n *ℤ pos 1 ≡ pos 0 *ℤ pos d = same_ratio n (pos 0) d 1 h (lit< tt) (e ∙ zero_one) in
     omega (arith, ints, s)
+
+-- a ratio is 0, or above 0, where its number is
+
+zero_is : (n : ℤ) (d : ℕ) (b : Bool) → 0 < d → (b ≡ true → n ≡ pos 0) → (b ≡ false → n ≢ pos 0) → b ≡ is_zero (ratio n d)
+zero_is n d true h none some = sym (is_zero_of (ratio n d) (ap (λ m. ratio m d) (none refl) ∙ ratio_none d h))
+zero_is n d false h none some = sym (is_zero_false (ratio n d) (λ e. some refl (none_ratio n d h e)))
+
+pub other_ratio : (n : ℤ) (d : ℕ) (b : Bool) → 0 < d → (b ≡ true → n ≡ pos 0) → (b ≡ false → n ≢ pos 0) → not b ≡ not (is_zero (ratio n d))
+other_ratio n d b h none some = ap not (zero_is n d b h none some)
+
+pub above_ratio : (n : ℤ) (d : ℕ) → 0 < d → int_lt (pos 0) n ≡ lt_test zeroℚ (ratio n d)
+above_ratio n d h =
+    let x = product_is (pos 0) (pos d) in
+    let y = product_is n (pos 1) in
+    rw zero_one (
+    same_truth _ _
+    (λ t. lt_in (pos 0 *ℤ pos d) (n *ℤ pos 1) (omega (arith, x, y, lt_T (pos 0) n t, h)))
+    (λ t. lt_in (pos 0) n (omega (arith, x, y, lt_T (pos 0 *ℤ pos d) (n *ℤ pos 1) t)))
+    ∙ sym (ratio-lt_test n (pos 0) d 1 h (lit< tt)))
 
 -- ---- entries
 

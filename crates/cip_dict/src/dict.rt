@@ -1,5 +1,6 @@
 //! Dictionaries: the states of the simplex method, and the moves from one to the next.
-ghost use Rattle.std.specs.Prelude.{◌≡◌, ◌+◌, ◌<◌, ◌^◌, length, true, Some, None, MatchResult, slice_index_or};
+ghost use Rattle.std.specs.Prelude.{◌≡◌, ◌+◌, ◌<◌, ◌^◌, length, not, true, Some, None, MatchResult, slice_index_or};
+ghost use Rattle.cip_rational.specs.Rational.{zeroℚ, lt_test};
 ghost use Rattle.cip_problem.specs.Box.{sides_at};
 ghost use Rattle.cip_dictionary.specs.Dictionary as def;
 ghost use Rattle.cip_dictionary.specs.Exchange.{CanExchange, exchanged, CanFlip, flipped};
@@ -7,7 +8,7 @@ ghost use Rattle.cip_dictionary.specs.FirstState.{first, first_operations};
 ghost use Rattle.cip_dict.specs.Entries.{AreWithin, system_in, IsFirstFault};
 ghost use Rattle.cip_dict.specs.MoveFaults.{IsMoveFault};
 ghost use Rattle.cip_dict.specs.SparseLines.{Kept, kept_of};
-ghost use Rattle.cip_dictionary.specs.Operations.{first_overflow};
+ghost use Rattle.cip_dictionary.specs.Operations.{first_overflow, is_zero};
 ghost use Rattle.cip_dictionary.specs.MoveOperations.{exchange_operations, flip_operations};
 
 use crate::exchange::{plan, take_over};
@@ -126,6 +127,26 @@ impl Dict {
         ensures { result ≡ def.entry self.now i j }
     {
         self.lists.rows[i as usize].entry(j)
+    }
+
+    /// Whether the basic variable i has an entry on the variable j that isn't 0.
+    pub fn has_entry(&self, i: u32, j: u32) -> bool
+        requires within { i < def.size self.now }
+        requires basic { def.is_basic self.now i ≡ true }
+        requires on { j < def.size self.now }
+        ensures { result ≡ not (is_zero (def.entry self.now i j)) }
+    {
+        self.lists.rows[i as usize].has(j)
+    }
+
+    /// Whether the entry of the basic variable i on the variable j is above 0.
+    pub fn is_entry_positive(&self, i: u32, j: u32) -> bool
+        requires within { i < def.size self.now }
+        requires basic { def.is_basic self.now i ≡ true }
+        requires on { j < def.size self.now }
+        ensures { result ≡ lt_test zeroℚ (def.entry self.now i j) }
+    {
+        self.lists.rows[i as usize].is_above(j)
     }
 
     /// On how many variables the basic variable i has an entry that isn't 0.

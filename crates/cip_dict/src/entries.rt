@@ -1,6 +1,6 @@
 //! Single entries and values of a dictionary, each formed at its place.
 ghost use Rattle.std.specs.Prelude.{◌≡◌, ◌∷◌, [], Some, None, MatchResult};
-ghost use Rattle.cip_rational.specs.Rational.{◌+ℚ◌, ◌-ℚ◌, ◌*ℚ◌};
+ghost use Rattle.cip_rational.specs.Rational.{◌+ℚ◌, ◌-ℚ◌, ◌*ℚ◌, lt_test};
 ghost use Rattle.cip_rational.specs.Range.{difference_overflows};
 ghost use Rattle.cip_dictionary.specs.Operations.{first_overflow, is_zero, product_at, sum_at, Difference, Product, Sum, placed};
 ghost use Rattle.cip_dictionary.specs.Exchange.{solved_at, substituted_at, moved_at};
@@ -16,6 +16,14 @@ pub(crate) fn vanishes(a: Frac) -> bool
     ensures { result ≡ is_zero a }
 {
     a.is_zero()
+}
+
+/// Whether one number is below another.
+#[inline(always)]
+pub(crate) fn is_below(a: Frac, b: Frac) -> bool
+    ensures { result ≡ lt_test a b }
+{
+    a < b
 }
 
 /// The product a * b, for which nothing is formed where a factor is 0.

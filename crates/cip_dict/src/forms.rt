@@ -1,13 +1,14 @@
 //! A line of a dictionary: its entries on all variables.
-ghost use Rattle.std.specs.Prelude.{◌≡◌, ◌^◌, ◌<◌, ◌≤◌, [], length, Some, None, OnOk, MatchResult, replicate, slice_set, slice_index_or};
-ghost use Rattle.cip_rational.specs.Rational.{zeroℚ};
+ghost use Rattle.std.specs.Prelude.{◌≡◌, ℕ, not, ◌^◌, ◌<◌, ◌≤◌, [], length, Some, None, OnOk, MatchResult, replicate, slice_set, slice_index_or};
+ghost use Rattle.cip_rational.specs.Rational.{zeroℚ, lt_test, ratio};
 ghost use Rattle.cip_problem.specs.Activity.{value_at};
 ghost use Rattle.cip_dictionary.specs.Tables.{form};
 ghost use Rattle.cip_dictionary.specs.FirstState.{form_operations};
-ghost use Rattle.cip_dictionary.specs.Operations.{first_overflow};
+ghost use Rattle.cip_dictionary.specs.Operations.{first_overflow, is_zero};
 ghost use Rattle.cip_dict.specs.SparseLines.{Kept, kept_of};
 ghost use Rattle.cip_dict.specs.WholeLines.{IsSpelled};
 
+use crate::entries::{is_below, vanishes};
 use crate::fault::OutOfRange;
 use crate::form_values::{entries_value, form_value};
 use crate::kept::{copy_entries, entry_at, entry_of, put_entry};
@@ -55,6 +56,22 @@ impl Model for Form {
     ghost invariant = { λ f. IsForm f.len f.is_whole f.below f.wholes.items f.entries.items };
 }
 
+/// Whether a number isn't 0.
+#[inline(always)]
+fn is_other_than_zero(n: i64) -> bool
+    ensures { (d : ℕ) → 0 < d → result ≡ not (is_zero (ratio n d)) }
+{
+    n != 0
+}
+
+/// Whether a number is positive.
+#[inline(always)]
+fn is_above_zero(n: i64) -> bool
+    ensures { (d : ℕ) → 0 < d → result ≡ lt_test zeroℚ (ratio n d) }
+{
+    n > 0
+}
+
 impl Form {
     /// So many entries of 0.
     pub(crate) fn zeros(alloc: Global, spare: &mut Spare, len: usize) -> Form
@@ -100,6 +117,32 @@ impl Form {
             fraction(number_of(self.wholes.as_slice(), k), self.below)
         } else {
             entry_of(self.entries.as_slice(), k)
+        }
+    }
+
+    /// Whether the entry on a variable isn't 0.
+    #[inline]
+    pub(crate) fn has(&self, k: u32) -> bool
+        requires { k < length self.now }
+        ensures { result ≡ not (is_zero (value_at self.now k)) }
+    {
+        if self.is_whole {
+            is_other_than_zero(number_of(self.wholes.as_slice(), k))
+        } else {
+            !vanishes(entry_of(self.entries.as_slice(), k))
+        }
+    }
+
+    /// Whether the entry on a variable is above 0.
+    #[inline]
+    pub(crate) fn is_above(&self, k: u32) -> bool
+        requires { k < length self.now }
+        ensures { result ≡ lt_test zeroℚ (value_at self.now k) }
+    {
+        if self.is_whole {
+            is_above_zero(number_of(self.wholes.as_slice(), k))
+        } else {
+            is_below(Frac::zero(), entry_of(self.entries.as_slice(), k))
         }
     }
 

@@ -9,7 +9,6 @@ ghost use Rattle.cip_dict.specs.MoveFaults.{IsMoveFault};
 ghost use Rattle.cip_dict.specs.WholeLines.{IsSpelled};
 ghost use Rattle.cip_dict.specs.Row.{form_changes, form_operations_in, written_form, taken_form, row_in, HasRows};
 
-use crate::entries::vanishes;
 use crate::fault::MoveFault;
 use crate::forms::{Form, count_room};
 use crate::lines::{is_basic, write_substituted};
@@ -24,7 +23,7 @@ fn is_changed(standing: &[Option<Stand>], i: u32, j: u32, v: usize, row: &Form) 
     requires long { basic_in standing.now v ≡ true → length row.now ≡ length standing.now }
     ensures { result ≡ form_changes standing.now i j v row.now }
 {
-    is_basic(standing, v) && v != i as usize && !vanishes(row.entry(j))
+    is_basic(standing, v) && v != i as usize && row.has(j)
 }
 
 /// Writes the row of variable v, where it changes; `new` is the row of the variable j that enters, and i leaves.

@@ -180,6 +180,35 @@ fn pair(k: u32, p: i128, q: i128) -> Option<(u32, Frac)> {
     }
 }
 
+// whether an entry isn't 0, and whether it is above 0, where there is a row
+fn entry_test(dict: &Dict, i: u32, j: u32) -> Option<(bool, bool)> {
+    let len = dict.len();
+    if (i as usize) < len && (j as usize) < len && dict.stand(i).is_none() {
+        return Some((dict.has_entry(i, j), dict.is_entry_positive(i, j)));
+    }
+    None
+}
+
+// r = 2x - 3y in whole numbers, and s = 2^44 x in fractions
+#[test]
+fn an_entry_is_tested(rt: HostRuntime) -> Result<(), Fail> {
+    let entries = [
+        (0, 0, Frac::from(2)),
+        (0, 1, Frac::from(-3)),
+        (1, 0, Frac::from(17592186044416)),
+    ];
+    let Some(dict) = two_rows(rt.alloc(), &entries) else {
+        return Err(Fail::new("a first state"));
+    };
+    assert_eq!(rt; entry_test(&dict, 2, 0), Some((true, true)));
+    assert_eq!(rt; entry_test(&dict, 2, 1), Some((true, false)));
+    assert_eq!(rt; entry_test(&dict, 2, 3), Some((false, false)));
+    assert_eq!(rt; entry_test(&dict, 3, 0), Some((true, true)));
+    assert_eq!(rt; entry_test(&dict, 3, 1), Some((false, false)));
+    assert_eq!(rt; entry_test(&dict, 0, 1), None);
+    Ok(())
+}
+
 // s = x, where x = 1/2 r + 3/2 y
 #[test]
 fn a_row_grows(rt: HostRuntime) -> Result<(), Fail> {
