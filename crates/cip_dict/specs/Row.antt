@@ -1,5 +1,5 @@
 -- One row of a dictionary in an exchange.
-use Rattle.std.specs.Prelude.{◌≡◌, ℕ, ◌==◌, ◌<◌, Bool, ◌&&◌, not, List, [], length, Option, slice_index_or, if◌then◌else◌}
+use Rattle.std.specs.Prelude.{◌≡◌, ℕ, ◌==◌, ◌<◌, Bool, ◌&&◌, not, true, List, [], length, Option, slice_index_or, if◌then◌else◌}
 use Rattle.cip_rational.specs.Rational.{ℚ}
 use Rattle.cip_problem.specs.Activity.{value_at}
 use Rattle.cip_dictionary.specs.Tables.{table, each}
@@ -8,7 +8,9 @@ use Rattle.cip_dictionary.specs.Operations.{Placed, is_zero}
 use Rattle.cip_dictionary.specs.MoveOperations.{substituted_operations}
 use Rattle.cip_dictionary.specs.declared.places.Line.TheVariants.{Row}
 use Rattle.cip_dictionary.specs.declared.moves.Stand.{Stand}
+use Rattle.cip_dict.specs.declared.lists.Spelled.{Spelled}
 use Rattle.cip_dict.specs.Lists.{basic_in}
+use Rattle.cip_dict.specs.WholeLines.{IsSpelled}
 
 -- whether the row of v changes when i leaves and j enters: v is basic, stays so, and has an entry on j
 abbrev pub form_changes : List (Option Stand) → ℕ → ℕ → ℕ → List ℚ → Bool
@@ -54,3 +56,7 @@ after_length standing i j v = if v == i then 0 else (if v == j then length stand
 pub record HasRowsAfter (standing : List (Option Stand)) (i j : ℕ) (rows : List (List ℚ)) : Type 0 where
   pub each_one : length rows ≡ length standing
   pub long : (v : ℕ) → v < length standing → length (row_in rows v) ≡ after_length standing i j v
+
+-- these are the entries of a line, where that is said
+abbrev pub HasSpelled : List ℚ → Spelled → Type 0
+HasSpelled line spelled = spelled.is_done ≡ true → IsSpelled (length line) line spelled.entries.items

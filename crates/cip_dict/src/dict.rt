@@ -103,7 +103,7 @@ impl Dict {
         spare.keep_form(self.lists.costs);
         spare.keep_numbers(self.lists.values);
         spare.keep_form(self.room.entering);
-        spare.keep_entries(self.room.spelled);
+        spare.keep_entries(self.room.spelled.entries);
         spare.keep_entries(self.room.fractions);
         spare.keep_forms(self.room.rows);
         spare.keep_form(self.room.costs);

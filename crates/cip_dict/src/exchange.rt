@@ -8,12 +8,11 @@ ghost use Rattle.cip_dictionary.specs.Operations.{first_overflow, is_zero};
 ghost use Rattle.cip_dictionary.specs.Exchange.{solved, substituted};
 ghost use Rattle.cip_dictionary.specs.MoveOperations.{solved_operations, substituted_operations};
 ghost use Rattle.cip_dict.specs.Lists.{basic_in, entry_in};
-ghost use Rattle.cip_dict.specs.Row.{row_in, form_operations_in, written_form, taken_form, HasRows, HasRowsAfter};
+ghost use Rattle.cip_dict.specs.Row.{row_in, form_operations_in, written_form, taken_form, HasRows, HasRowsAfter, HasSpelled};
 ghost use Rattle.cip_dictionary.specs.Dictionary.{standing_value};
 ghost use Rattle.cip_dictionary.specs.Exchange.{CanExchange, exchanged};
 ghost use Rattle.cip_dictionary.specs.MoveOperations.{exchange_operations};
 ghost use Rattle.cip_dict.specs.MoveFaults.{IsMoveFault};
-ghost use Rattle.cip_dict.specs.WholeLines.{IsSpelled};
 ghost use Rattle.cip_dict.specs.State.{state, HasLists, HasRoom};
 ghost use Rattle.cip_dict.specs.Written.{entering_in, other_operations, OthersWritten, lines_operations, LinesWritten, moves_operations, MovesWritten, step_in, values_operations, IsPlanned, entered_form, IsTakenOver};
 
@@ -21,7 +20,7 @@ use crate::entries::{step_to, sum};
 use crate::fault::{MoveFault, OutOfRange};
 use crate::forms::{Form, count_room};
 use crate::lines::{write_solved, write_substituted};
-use crate::lists::{Lists, Room};
+use crate::lists::{Lists, Room, Spelled};
 use crate::rows::{take_rows, write_rows};
 use crate::values::{take_values, value_of, write_moved};
 use cip_dictionary::{Line, Stand};
@@ -29,14 +28,14 @@ use cip_frac::Frac;
 use cip_lin::Sides;
 
 /// Writes the row of the cost, and counts what it has room for then; `new` is the row of the variable j that enters,
-/// of which `entering` are the fractions, and i leaves. The last two are lists to work with.
+/// `entering` are its fractions, spelled where they are needed, and i leaves. The last two are lists to work with.
 fn write_costs(
     standing: &[Option<Stand>],
     i: u32,
     j: u32,
     q: Frac,
     new: &Form,
-    entering: &[(u32, Frac)],
+    entering: &mut Spelled,
     costs: &Form,
     out: &mut Form,
     held: &mut usize,
@@ -47,7 +46,7 @@ fn write_costs(
     requires leaving { i < length standing.now }
     requires entering { j < length standing.now }
     requires new_long { length new.now ≡ length standing.now }
-    requires new_spelled { IsSpelled (length standing.now) new.now entering.now }
+    requires new_spelled { HasSpelled new.now entering.old }
     requires is_leaving { value_at new.now i ≡ q }
     requires costs_long { length costs.now ≡ length standing.now }
     ensures written { let operations =
@@ -97,7 +96,7 @@ fn write_others(
     requires entering { j < length standing.now }
     requires lists_long { HasLists standing.now lists.now }
     requires room_long { HasRoom standing.now room.old }
-    requires is_spelled { IsSpelled (length standing.now) room.old.entering room.old.spelled.items }
+    requires is_spelled { HasSpelled room.old.entering room.old.spelled }
     requires is_entering { room.old.entering ≡ table (length standing.now) (entering_in standing.now i j q lists.now) }
     ensures written { MatchResult result
         (λ _. (first_overflow (other_operations standing.now i j q lists.now) ≡ None)
@@ -106,7 +105,6 @@ fn write_others(
     ensures long { HasRoom standing.now room.new }
 {
     let new = &room.entering;
-    let entering = room.spelled.as_slice();
     let rows = lists.rows.as_slice();
     let others = room.rows.as_mut_slice();
     match write_rows(
@@ -115,7 +113,7 @@ fn write_others(
         j,
         q,
         new,
-        entering,
+        &mut room.spelled,
         rows,
         others,
         &mut room.held,
@@ -131,7 +129,7 @@ fn write_others(
         j,
         q,
         new,
-        entering,
+        &mut room.spelled,
         &lists.costs,
         &mut room.costs,
         &mut room.held,
@@ -140,8 +138,8 @@ fn write_others(
     )
 }
 
-/// Writes the row of the variable j that enters, by that of i, which leaves, spells it, and counts what it has room for
-/// then.
+/// Writes the row of the variable j that enters, by that of i, which leaves, and counts what it has room for then. It
+/// isn't spelled yet.
 fn write_entering(
     standing: &[Option<Stand>],
     i: u32,
@@ -149,7 +147,7 @@ fn write_entering(
     q: Frac,
     row: &Form,
     new: &mut Form,
-    spelled: &mut Vec<(u32, Frac)>,
+    spelled: &mut Spelled,
     held: &mut usize,
 ) -> Result<(), MoveFault>
     requires few { length standing.now < 2 ^ 32 }
@@ -166,16 +164,13 @@ fn write_entering(
         × (new.new ≡ table (length standing.now) (solved (basic_in standing.now) i j q (value_at row.now))))
         (IsMoveFault operations) }
     ensures long { length new.new ≡ length standing.now }
-    ensures spelled { OnOk result (IsSpelled (length standing.now) new.new spelled.new.items) }
+    ensures spelled { HasSpelled new.new spelled.new }
 {
     let before = new.room();
+    spelled.is_done = false;
     match write_solved(standing, i, j, q, row, new) {
         Ok(()) => (),
         Err(fault) => return Err(fault),
-    }
-    match new.spell(spelled) {
-        Ok(()) => (),
-        Err(_) => return Err(MoveFault::NoMemory),
     }
     match count_room(new, before, held) {
         Ok(()) => Ok(()),

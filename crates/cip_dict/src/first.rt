@@ -18,7 +18,7 @@ use crate::fault::{FirstFault, OutOfRange};
 use crate::forms::{Form, room_of};
 use crate::kept::keep_entry;
 use crate::lines::is_basic;
-use crate::lists::{Lists, Room};
+use crate::lists::{Lists, Room, Spelled};
 use crate::settle::settled;
 use crate::spare::Spare;
 use cip_dictionary::{Line, Stand};
@@ -331,7 +331,10 @@ pub(crate) fn room_for(
     Ok(Room {
         held: held.saturating_add(others).saturating_add(entering.room()),
         entering,
-        spelled: spare.entries(alloc),
+        spelled: Spelled {
+            entries: spare.entries(alloc),
+            is_done: false,
+        },
         sums: Vec::new(alloc),
         fractions: spare.entries(alloc),
         rows,

@@ -9,6 +9,7 @@ ghost use Rattle.cip_dictionary.specs.Exchange.{is_absent, solved_at, solved, su
 ghost use Rattle.cip_dictionary.specs.MoveOperations.{solved_operations_at, solved_operations, substituted_operations_at, substituted_operations};
 ghost use Rattle.cip_dict.specs.Lists.{basic_in};
 ghost use Rattle.cip_dict.specs.MoveFaults.{IsMoveFault};
+ghost use Rattle.cip_dict.specs.Row.{HasSpelled};
 ghost use Rattle.cip_dict.specs.SparseLines.{entry_on, kept_at, kept_of, AreKept};
 ghost use Rattle.cip_dict.specs.WholeLines.{over, number_on, IsWhole, IsSpelled};
 
@@ -16,6 +17,7 @@ use crate::entries::{solved_entry, substituted_entry};
 use crate::fault::{MoveFault, OutOfRange};
 use crate::forms::Form;
 use crate::kept::{entry_from, keep_entry, next_variable, place_past};
+use crate::lists::Spelled;
 use crate::whole::number_of;
 use crate::whole_sums::put_whole;
 use crate::whole_turns::turn_entries;
@@ -429,8 +431,21 @@ fn write_parted(
     )
 }
 
-/// Writes a line other than that of the variable j that enters: the row of j, `new`, of which `entering` are the
-/// fractions, put in its place; i leaves. The others are lists to work with.
+/// Spells a line, where that isn't done. `Err` where memory was refused.
+fn ensure_spelled(line: &Form, spelled: &mut Spelled) -> Result<(), AllocError>
+    requires { HasSpelled line.now spelled.old }
+    ensures done { OnOk result (IsSpelled (length line.now) line.now spelled.new.entries.items) }
+    ensures has { HasSpelled line.now spelled.new }
+{
+    if !spelled.is_done {
+        line.spell(&mut spelled.entries)?;
+        spelled.is_done = true;
+    }
+    Ok(())
+}
+
+/// Writes a line other than that of the variable j that enters: the row of j, `new`, put in its place; i leaves.
+/// `entering` are the fractions of that row, spelled where a line needs them. The others are lists to work with.
 pub(crate) fn write_substituted(
     line: Line,
     standing: &[Option<Stand>],
@@ -438,7 +453,7 @@ pub(crate) fn write_substituted(
     j: u32,
     q: Frac,
     new: &Form,
-    entering: &[(u32, Frac)],
+    entering: &mut Spelled,
     row: &Form,
     out: &mut Form,
     sums: &mut Vec<(u32, i128)>,
@@ -448,7 +463,7 @@ pub(crate) fn write_substituted(
     requires entering { j < length standing.now }
     requires leaving { i < length standing.now }
     requires new_long { length new.now ≡ length standing.now }
-    requires new_spelled { IsSpelled (length standing.now) new.now entering.now }
+    requires new_spelled { HasSpelled new.now entering.old }
     requires row_long { length row.now ≡ length standing.now }
     requires is_leaving { value_at new.now i ≡ q }
     ensures written { let operations =
@@ -460,13 +475,19 @@ pub(crate) fn write_substituted(
         (substituted (basic_in standing.now) i j q (value_at new.now) (value_at row.now))))
         (IsMoveFault operations) }
     ensures long { length out.new ≡ length standing.now }
+    ensures spelled { HasSpelled new.now entering.new }
 {
     match put_form(standing, i, j, new, row, out, sums) {
         Ok(true) => return Ok(()),
         Ok(false) => (),
         Err(_) => return Err(MoveFault::NoMemory),
     }
-    write_parted(line, standing, i, j, q, entering, row, out, spelled)
+    match ensure_spelled(new, entering) {
+        Ok(()) => (),
+        Err(_) => return Err(MoveFault::NoMemory),
+    }
+    let entries = entering.entries.as_slice();
+    write_parted(line, standing, i, j, q, entries, row, out, spelled)
 }
 
 /// The entry of a line on variable k.

@@ -15,12 +15,20 @@ pub(crate) struct Lists {
     pub(crate) cost: Frac,
 }
 
+/// The fractions of a line, once they are asked for.
+#[derive(Debug, Drop)]
+pub(crate) struct Spelled {
+    pub(crate) entries: Vec<(u32, Frac)>,
+    /// Whether these are the entries of the line.
+    pub(crate) is_done: bool,
+}
+
 /// Room for the lists that a move writes, and for the row of the variable that enters.
 #[derive(Debug, Drop)]
 pub(crate) struct Room {
     pub(crate) entering: Form,
     /// The fractions of the row of the variable that enters.
-    pub(crate) spelled: Vec<(u32, Frac)>,
+    pub(crate) spelled: Spelled,
     /// Lists to work with: sums of whole numbers, and the fractions of a row.
     pub(crate) sums: Vec<(u32, i128)>,
     pub(crate) fractions: Vec<(u32, Frac)>,

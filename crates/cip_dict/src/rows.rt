@@ -6,12 +6,12 @@ ghost use Rattle.cip_dictionary.specs.Operations.{first_overflow};
 ghost use Rattle.cip_dictionary.specs.Exchange.{substituted};
 ghost use Rattle.cip_dict.specs.Lists.{basic_in};
 ghost use Rattle.cip_dict.specs.MoveFaults.{IsMoveFault};
-ghost use Rattle.cip_dict.specs.WholeLines.{IsSpelled};
-ghost use Rattle.cip_dict.specs.Row.{form_changes, form_operations_in, written_form, taken_form, row_in, HasRows};
+ghost use Rattle.cip_dict.specs.Row.{form_changes, form_operations_in, written_form, taken_form, row_in, HasRows, HasSpelled};
 
 use crate::fault::MoveFault;
 use crate::forms::{Form, count_room};
 use crate::lines::{is_basic, write_substituted};
+use crate::lists::Spelled;
 use cip_dictionary::{Line, Stand};
 use cip_frac::Frac;
 
@@ -33,7 +33,7 @@ fn write_row(
     j: u32,
     q: Frac,
     new: &Form,
-    entering: &[(u32, Frac)],
+    entering: &mut Spelled,
     v: usize,
     row: &Form,
     out: &mut Form,
@@ -45,7 +45,7 @@ fn write_row(
     requires entering { j < length standing.now }
     requires leaving { i < length standing.now }
     requires new_long { length new.now ≡ length standing.now }
-    requires new_spelled { IsSpelled (length standing.now) new.now entering.now }
+    requires new_spelled { HasSpelled new.now entering.old }
     requires is_leaving { value_at new.now i ≡ q }
     requires row_long { basic_in standing.now v ≡ true → length row.now ≡ length standing.now }
     requires out_long { basic_in standing.now v ≡ true → length out.old ≡ length standing.now }
@@ -54,6 +54,7 @@ fn write_row(
         × (out.new ≡ written_form standing.now i j q (value_at new.now) v row.now out.old))
         (IsMoveFault (form_operations_in standing.now i j q (value_at new.now) v row.now)) }
     ensures long { length out.new ≡ length out.old }
+    ensures spelled { HasSpelled new.now entering.new }
 {
     if is_changed(standing, i, j, v, row) {
         let line = Line::Row(v as u32);
@@ -72,7 +73,7 @@ fn write_counted(
     j: u32,
     q: Frac,
     new: &Form,
-    entering: &[(u32, Frac)],
+    entering: &mut Spelled,
     v: usize,
     row: &Form,
     out: &mut Form,
@@ -85,7 +86,7 @@ fn write_counted(
     requires entering { j < length standing.now }
     requires leaving { i < length standing.now }
     requires new_long { length new.now ≡ length standing.now }
-    requires new_spelled { IsSpelled (length standing.now) new.now entering.now }
+    requires new_spelled { HasSpelled new.now entering.old }
     requires is_leaving { value_at new.now i ≡ q }
     requires row_long { basic_in standing.now v ≡ true → length row.now ≡ length standing.now }
     requires out_long { basic_in standing.now v ≡ true → length out.old ≡ length standing.now }
@@ -94,6 +95,7 @@ fn write_counted(
         × (out.new ≡ written_form standing.now i j q (value_at new.now) v row.now out.old))
         (IsMoveFault (form_operations_in standing.now i j q (value_at new.now) v row.now)) }
     ensures long { length out.new ≡ length out.old }
+    ensures spelled { HasSpelled new.now entering.new }
 {
     let before = out.room();
     match write_row(standing, i, j, q, new, entering, v, row, out, sums, spelled) {
@@ -114,7 +116,7 @@ pub(crate) fn write_rows(
     j: u32,
     q: Frac,
     new: &Form,
-    entering: &[(u32, Frac)],
+    entering: &mut Spelled,
     rows: &[Form],
     out: &mut [Form],
     held: &mut usize,
@@ -125,7 +127,7 @@ pub(crate) fn write_rows(
     requires entering { j < length standing.now }
     requires leaving { i < length standing.now }
     requires new_long { length new.now ≡ length standing.now }
-    requires new_spelled { IsSpelled (length standing.now) new.now entering.now }
+    requires new_spelled { HasSpelled new.now entering.old }
     requires is_leaving { value_at new.now i ≡ q }
     requires rows_long { HasRows standing.now rows.now }
     requires out_long { HasRows standing.now out.old }
@@ -138,6 +140,7 @@ pub(crate) fn write_rows(
         (λ v. written_form standing.now i j q (value_at new.now) v (row_in rows.now v) (row_in out.old v))))
         (IsMoveFault operations) }
     ensures long { HasRows standing.now out.new }
+    ensures spelled { HasSpelled new.now entering.new }
 {
     for v in 0..standing.len() {
         match write_counted(

@@ -23,6 +23,7 @@ loop-v-preserved c =
       written = written_more _ c.loop-v.out c.loop-v.v c.write_counted.new.out [] within c.loop-v.invariant.written (rw (r, o) at c.in-Ok.ensures.written.1);
       rest = λ m l. get_or-set_other c.loop-v.out c.loop-v.v m c.write_counted.new.out [] (λ (e : m ≡ c.loop-v.v). omega (arith, l, e)) ∙ c.loop-v.invariant.rest m (omega (arith, l));
       long = HasRows-set c.args.standing.now c.loop-v.out c.loop-v.v c.write_counted.new.out c.loop-v.invariant.long (c.in-Ok.ensures.long ∙ ap length (sym c.index-out-v.is ∙ here)) within;
+      spelled = c.in-Ok.ensures.spelled;
     }
 
 pub returns-clause-written : goal.returns-clause-written
