@@ -80,17 +80,22 @@ pub(crate) fn number_of(wholes: &[(u32, i64)], k: u32) -> i64
     number_from(wholes, place_from(wholes, k), k)
 }
 
-/// The place of the variable after k, where that of k is known.
+/// The number on variable k, of which the place is known, and the place of the variable after k; `first` is the
+/// variable of the number at that place.
 #[inline(always)]
-pub(crate) fn place_past(wholes: &[(u32, i64)], place: usize, k: u32) -> usize
+fn taken(wholes: &[(u32, i64)], place: usize, first: u32, k: u32) -> (i64, usize)
     requires kept { (n : ℕ) × AreKept 0 n (over 1 wholes.now) }
-    requires at { IsPlace k (over 1 wholes.now) place }
-    ensures { IsPlace (suc k) (over 1 wholes.now) result }
+    requires small { AreSmall wholes.now }
+    requires there { first ≡ k → place < length wholes.now }
+    requires at { (d : Whole) → place < length wholes.now → first ≡ (slice_index_or wholes.now place d).0 }
+    ensures value { IsPlace k (over 1 wholes.now) place → result.0 ≡ number_on wholes.now k }
+    ensures small { magnitude result.0 < 2 ^ 42 }
+    ensures past { IsPlace k (over 1 wholes.now) place → IsPlace (suc k) (over 1 wholes.now) result.1 }
 {
-    if stands_at(wholes, place, k) {
-        place + 1
+    if first == k {
+        (wholes[place].1, place + 1)
     } else {
-        place
+        (0, place)
     }
 }
 
@@ -109,25 +114,74 @@ fn variable_at(wholes: &[(u32, i64)], place: usize, len: u32) -> u32
     }
 }
 
-/// The next variable on which one of two lists has a number, by the places where they go on, or `len` where there is
-/// none.
+/// The lesser of two variables.
 #[inline(always)]
-pub(crate) fn next_variable(
+fn least(first: u32, second: u32) -> u32
+    ensures first { result ≤ first }
+    ensures second { result ≤ second }
+    ensures greatest { (from : ℕ) → from ≤ first → from ≤ second → from ≤ result }
+{
+    if first < second { first } else { second }
+}
+
+/// The next variable on which one of two lists has a number, or the number of variables where there is none; the
+/// numbers on it, and the places where the lists go on behind it.
+#[derive(Clone, Copy, Debug)]
+pub(crate) struct Step {
+    pub(crate) k: u32,
+    pub(crate) n: i64,
+    pub(crate) y: i64,
+    pub(crate) here: usize,
+    pub(crate) there: usize,
+}
+
+/// The next step through two lists, by the places where they go on; `len` is the number of variables.
+#[inline(always)]
+pub(crate) fn next_step(
     row: &[(u32, i64)],
     here: usize,
     new: &[(u32, i64)],
     there: usize,
     len: u32,
-) -> u32
+) -> Step
     requires row_kept { AreKept 0 len (over 1 row.now) }
+    requires row_small { AreSmall row.now }
     requires new_kept { AreKept 0 len (over 1 new.now) }
-    ensures within { result ≤ len }
+    requires new_small { AreSmall new.now }
+    ensures within { result.k ≤ len }
     ensures next { (from : ℕ) → from ≤ len → IsPlace from (over 1 row.now) here → IsPlace from (over 1 new.now) there
-        → IsNext (over 1 row.now) (over 1 new.now) here there from result }
+        → IsNext (over 1 row.now) (over 1 new.now) here there from result.k }
+    ensures row_value { result.k < len → IsPlace result.k (over 1 row.now) here → result.n ≡ number_on row.now result.k }
+    ensures new_value { result.k < len → IsPlace result.k (over 1 new.now) there
+        → result.y ≡ number_on new.now result.k }
+    ensures row_small { magnitude result.n < 2 ^ 42 }
+    ensures new_small { magnitude result.y < 2 ^ 42 }
+    ensures row_past { result.k < len → IsPlace result.k (over 1 row.now) here
+        → IsPlace (suc result.k) (over 1 row.now) result.here }
+    ensures new_past { result.k < len → IsPlace result.k (over 1 new.now) there
+        → IsPlace (suc result.k) (over 1 new.now) result.there }
 {
     let first = variable_at(row, here, len);
     let second = variable_at(new, there, len);
-    if first < second { first } else { second }
+    let k = least(first, second);
+    if k >= len {
+        return Step {
+            k,
+            n: 0,
+            y: 0,
+            here,
+            there,
+        };
+    }
+    let (n, after) = taken(row, here, first, k);
+    let (y, beyond) = taken(new, there, second, k);
+    Step {
+        k,
+        n,
+        y,
+        here: after,
+        there: beyond,
+    }
 }
 
 /// The fraction at a place, with its variable.

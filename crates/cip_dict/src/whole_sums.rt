@@ -8,8 +8,9 @@ ghost use Rattle.cip_dict.specs.SparseLines.{AreKept, IsPlace};
 ghost use Rattle.cip_dict.specs.WholeLines.{Whole, over, number_on, AreSmall, AreWide, IsWhole, IsPut, whole_at, wholes_of, put_number};
 
 use crate::lines::is_absent_on;
-use crate::whole::{next_variable, number_from, number_of, place_past};
+use crate::whole::{next_step, number_of};
 use cip_dictionary::Stand;
+use cip_frac::short_gcd;
 use std::alloc::AllocError;
 
 /// What numbers of a line of whole numbers, and its denominator, are below.
@@ -105,17 +106,11 @@ pub(crate) fn sum_entries(
 {
     sums.clear();
     let len = standing.len() as u32;
-    let mut here = 0;
-    let mut there = 0;
-    let mut k = next_variable(row, here, new, there, len);
-    while k < len {
-        let n = number_from(row, here, k);
-        let y = number_from(new, there, k);
-        let z = number_put(standing, i, j, f, x, n, y, k);
-        keep_sum(sums, k, z)?;
-        here = place_past(row, here, k);
-        there = place_past(new, there, k);
-        k = next_variable(row, here, new, there, len);
+    let mut step = next_step(row, 0, new, 0, len);
+    while step.k < len {
+        let z = number_put(standing, i, j, f, x, step.n, step.y, step.k);
+        keep_sum(sums, step.k, z)?;
+        step = next_step(row, step.here, new, step.there, len);
     }
     Ok(())
 }
@@ -177,22 +172,17 @@ fn signed_part(below_zero: bool, part: u128) -> Option<i64>
     }
 }
 
-/// A common divisor of two numbers: the greatest.
+/// The greatest common divisor of two numbers: most often the first.
+#[inline]
 pub(crate) fn short_common(a: u64, b: u64) -> u64
     requires { 0 < a }
     ensures { 0 < result }
 {
-    let mut x = a;
-    let mut y = b;
-    while y != 0 {
-        let rest = x % y;
-        x = y;
-        y = rest;
-    }
-    x
+    let rest = b % a;
+    if rest == 0 { a } else { short_gcd(rest, a) }
 }
 
-/// The same, of two longer numbers.
+/// The greatest common divisor of two longer numbers.
 fn long_common(a: u128, b: u128) -> u128
     requires { 0 < a }
     ensures { 0 < result }

@@ -7,7 +7,7 @@ ghost use Rattle.cip_dict.specs.SparseLines.{AreKept, IsPlace};
 ghost use Rattle.cip_dict.specs.WholeLines.{over, number_on, AreSmall, whole_at, wholes_of, turned_number};
 
 use crate::lines::is_absent_on;
-use crate::whole::{next_variable, number_from, place_past};
+use crate::whole::next_step;
 use cip_dictionary::Stand;
 use std::alloc::AllocError;
 
@@ -78,16 +78,11 @@ pub(crate) fn turn_entries(
 {
     out.clear();
     let len = standing.len() as u32;
-    let mut here = 0;
-    let mut there = 0;
-    let mut k = next_variable(row, here, leaving, there, len);
-    while k < len {
-        let n = number_from(row, here, k);
-        let z = number_turned(standing, i, j, positive, d, n, k);
-        keep_number(out, k, z)?;
-        here = place_past(row, here, k);
-        there = place_past(leaving, there, k);
-        k = next_variable(row, here, leaving, there, len);
+    let mut step = next_step(row, 0, leaving, 0, len);
+    while step.k < len {
+        let z = number_turned(standing, i, j, positive, d, step.n, step.k);
+        keep_number(out, step.k, z)?;
+        step = next_step(row, step.here, leaving, step.there, len);
     }
     Ok(())
 }

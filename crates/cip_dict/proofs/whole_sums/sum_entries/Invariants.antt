@@ -1,17 +1,22 @@
-use Rattle.std.proofs.Common.{◌≡◌, ◌≤◌, ◌-◌, length}
+use Rattle.std.proofs.Common.{◌≡◌, suc, ◌<◌, ◌≤◌, ◌-◌, ◌^◌, length}
+use Rattle.cip_rational.specs.Range.{magnitude}
 use Rattle.cip_dict.specs.Lists.{basic_in}
 use Rattle.cip_dict.specs.SparseLines.{IsPlace}
-use Rattle.cip_dict.specs.WholeLines.{over, wholes_of, put_number, AreWide}
+use Rattle.cip_dict.specs.WholeLines.{over, number_on, wholes_of, put_number, AreWide}
 use Rattle.cip_dict.proofs.whole_sums.sum_entries.Given as goal
 
-abbrev pub invariant-loop-k : goal.invariant-loop-k
-invariant-loop-k l = record {
-  within : l.k ≤ length l.standing;
-  row_place : IsPlace l.k (over 1 l.row) l.here;
-  new_place : IsPlace l.k (over 1 l.new) l.there;
-  written : l.sums.items ≡ wholes_of l.k (put_number (basic_in l.standing) l.i l.j l.f l.x l.row l.new);
+abbrev pub invariant-loop-step : goal.invariant-loop-step
+invariant-loop-step l = record {
+  within : l.step.k ≤ length l.standing;
+  row_value : l.step.k < length l.standing → l.step.n ≡ number_on l.row l.step.k;
+  new_value : l.step.k < length l.standing → l.step.y ≡ number_on l.new l.step.k;
+  row_small : magnitude l.step.n < 2 ^ 42;
+  new_small : magnitude l.step.y < 2 ^ 42;
+  row_past : l.step.k < length l.standing → IsPlace (suc l.step.k) (over 1 l.row) l.step.here;
+  new_past : l.step.k < length l.standing → IsPlace (suc l.step.k) (over 1 l.new) l.step.there;
+  written : l.sums.items ≡ wholes_of l.step.k (put_number (basic_in l.standing) l.i l.j l.f l.x l.row l.new);
   wide : AreWide l.sums.items;
 }
 
-abbrev pub decreases-loop-k : goal.decreases-loop-k
-decreases-loop-k l = length l.standing - l.k
+abbrev pub decreases-loop-step : goal.decreases-loop-step
+decreases-loop-step l = length l.standing - l.step.k
