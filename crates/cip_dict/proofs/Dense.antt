@@ -1,5 +1,5 @@
 -- Lists of kept entries, read as dense lines.
-use Rattle.std.proofs.Common.{◌≡◌, ℕ, ◌<◌, ◌==◌, Bool, cond, List, [], length, get_or, set, replicate, None, Some, Result, Ok, Err, MatchResult, OnOk, sym, ap, ◌∙◌, subst, inl, inr, arith, length-set, zero, suc, ◌++◌, refl, ap₂}
+use Rattle.std.proofs.Common.{◌≡◌, ℕ, ◌<◌, ◌==◌, Bool, cond, List, [], length, get_or, set, replicate, None, Result, Ok, Err, MatchResult, OnOk, sym, ap, ◌∙◌, subst, inl, inr, arith, length-set, zero, suc, ◌++◌, refl, ap₂}
 use Rattle.std.proofs.lemmas.Bool.{cases_eq, eq-eqb, ne_eqb}
 use Rattle.std.proofs.lemmas.List.{get_or-set_same, get_or-set_other, get_or-replicate, length-replicate}
 use Rattle.cip_rational.specs.Rational.{ℚ, zeroℚ}

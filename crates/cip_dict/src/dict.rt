@@ -169,6 +169,31 @@ impl Dict {
         self.lists.rows[i as usize].kept_at(at)
     }
 
+    /// The variable of an entry of the basic variable i that isn't 0, as `row_entry` answers it, and whether the entry
+    /// is above 0. No fraction is formed.
+    pub fn row_sign(&self, i: u32, at: usize) -> (u32, bool)
+        requires within { i < def.size self.now }
+        requires basic { def.is_basic self.now i ≡ true }
+        requires there { at < length (kept_of (def.size self.now) (def.entry self.now i)) }
+        ensures variable { (d : Kept)
+            → result.0 ≡ (slice_index_or (kept_of (def.size self.now) (def.entry self.now i)) at d).0 }
+        ensures above { (d : Kept)
+            → result.1 ≡ lt_test zeroℚ (slice_index_or (kept_of (def.size self.now) (def.entry self.now i)) at d).1 }
+    {
+        self.lists.rows[i as usize].sign_at(at)
+    }
+
+    /// The number at a place of the row of i, as `row_entry` counts them, where the row is kept as whole numbers over
+    /// one denominator: numbers of one row compare as its entries do. It is for choices of which any is right, and no
+    /// clause says what it is.
+    pub fn row_number(&self, i: u32, at: usize) -> Option<i64>
+        requires within { i < def.size self.now }
+        requires basic { def.is_basic self.now i ≡ true }
+        requires there { at < length (kept_of (def.size self.now) (def.entry self.now i)) }
+    {
+        self.lists.rows[i as usize].number_at(at)
+    }
+
     /// The value of a variable.
     pub fn value(&self, v: u32) -> Frac
         requires { v < def.size self.now }
@@ -198,6 +223,33 @@ impl Dict {
         ensures { (d : Kept) → result ≡ slice_index_or (kept_of (def.size self.now) (def.cost_entry self.now)) at d }
     {
         self.lists.costs.kept_at(at)
+    }
+
+    /// The variable of an entry of the cost that isn't 0, as `cost_at` answers it, and whether the entry is above 0. No
+    /// fraction is formed.
+    pub fn cost_sign(&self, at: usize) -> (u32, bool)
+        requires { at < length (kept_of (def.size self.now) (def.cost_entry self.now)) }
+        ensures variable { (d : Kept)
+            → result.0 ≡ (slice_index_or (kept_of (def.size self.now) (def.cost_entry self.now)) at d).0 }
+        ensures above { (d : Kept)
+            → result.1 ≡ lt_test zeroℚ (slice_index_or (kept_of (def.size self.now) (def.cost_entry self.now)) at d).1 }
+    {
+        self.lists.costs.sign_at(at)
+    }
+
+    /// The number of the cost on a variable, where its line is kept as whole numbers over one denominator: these compare
+    /// as its entries do. It is for choices of which any is right, and no clause says what it is.
+    pub fn cost_number(&self, k: u32) -> Option<i64>
+        requires { k < def.size self.now }
+    {
+        self.lists.costs.number(k)
+    }
+
+    /// The same of an entry of the cost that isn't 0, as `cost_at` counts them.
+    pub fn cost_number_at(&self, at: usize) -> Option<i64>
+        requires { at < length (kept_of (def.size self.now) (def.cost_entry self.now)) }
+    {
+        self.lists.costs.number_at(at)
     }
 
     /// The cost.

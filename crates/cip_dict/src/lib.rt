@@ -13,6 +13,7 @@ mod kept;
 mod laws;
 mod lines;
 mod lists;
+mod numbers;
 mod rows;
 mod settle;
 mod spare;

@@ -1,9 +1,6 @@
 use Rattle.std.proofs.Common.{◌≡◌, ◌∙◌, ◌++◌, length, false, refl, ap, ap₂, arith, add-one}
-use Rattle.std.proofs.lemmas.Bool.{lt-ltb}
-use Rattle.cip_rational.specs.Rational.{zeroℚ}
-use Rattle.cip_problem.specs.Activity.{value_at}
 use Rattle.cip_dict.specs.FirstLists.{cost_in}
-use Rattle.cip_dict.specs.SparseLines.{kept_at, kept_of, dense}
+use Rattle.cip_dict.specs.SparseLines.{kept_at, dense}
 use Rattle.cip_dict.proofs.KeptLoops.{are_kept}
 use Rattle.cip_dict.proofs.FormParts.{parted_form}
 use Rattle.cip_dict.proofs.FirstCosts.{cost_here, costs_dense}

@@ -1,0 +1,5 @@
+use Rattle.cip_dict.proofs.FormParts.{one_kept}
+use Rattle.cip_dict.proofs.forms.Form.number.Goals as goal
+
+pub number_of-requires-clause-kept : goal.number_of-requires-clause-kept
+number_of-requires-clause-kept c = (c.self.inside.len, rw c.as_slice.ensures.value (one_kept c.self.inside.len c.self.inside.is_whole c.self.inside.below c.self.inside.wholes.items c.self.inside.entries.items c.args.self.now c.self.invariant c.self.view_is c.if-self.true))
