@@ -1,6 +1,8 @@
 -- Candidates one after another, and moves by a rule that chooses as it likes.
-use Rattle.std.proofs.Common.{◌≡◌, ℕ, ◌+◌, Bool, true, false, List, Option, None, Some, IfSome, length, refl, sym, ap, ◌∙◌, subst, inl, inr, arith}
+use Rattle.std.proofs.Common.{◌≡◌, ℕ, ◌+◌, ◌<◌, Bool, true, false, List, Option, None, Some, IfSome, length, sym, ap, ◌∙◌, subst, inl, inr, arith}
 use Rattle.std.proofs.lemmas.Bool.{cases_eq}
+use Rattle.cip_problem.specs.Program.{Sides}
+use Rattle.cip_problem.specs.Box.{sides_at}
 use Rattle.cip_linear.specs.LinearProgram.{LinearProgram}
 use Rattle.cip_dictionary.specs.Tables.{least}
 use Rattle.cip_dictionary.specs.Dictionary.{Dictionary, size, stand, IsConsistent}
@@ -9,7 +11,7 @@ use Rattle.cip_dictionary.specs.declared.moves.Move.{Move}
 use Rattle.cip_dictionary.specs.declared.moves.Stand.{Stand}
 use Rattle.cip_dictionary.proofs.Tables.{length-table}
 use Rattle.cip_bland.specs.Headings.{stand_ahead}
-use Rattle.cip_bland.specs.Rule.{is_outside, outside_heading, repairs, Way, way_of, shortest, move_by}
+use Rattle.cip_bland.specs.Rule.{sides_cross, is_crossed, is_outside, outside_heading, repairs, Way, way_of, shortest, move_by}
 use Rattle.cip_bland.specs.Statements.{IsStateOf}
 use Rattle.cip_bland.specs.StateEnds.{Passes, NonePasses, FallsFreely}
 use Rattle.cip_bland.proofs.Searches.{least_none, least_some, shortest_none, shortest_some}
@@ -43,6 +45,11 @@ found_more test n best next (Some c) before here (inl e) =
     (omega (arith, h.0), h.1)
 found_more test n best next (Some c) before here (inr e) = of_next test n c (subst (IsCandidate test n) e here)
 
+-- and where the next one doesn't pass, what was found is found
+pub found_less : (test : ℕ → Bool) (n : ℕ) (best : Option Candidate) → IsFound test n best → test n ≡ false → IsFound test (n + 1) best
+found_less test n None before here = none_more test n before here
+found_less test n (Some c) before here = (omega (arith, before.0), before.1)
+
 -- what is found among all
 pub picked : (d : Dictionary) (test : ℕ → Bool) (n : ℕ) (best : Option Candidate) (v : Option ℕ) → n ≡ size d → IsFound test n best → v ≡ variable_of best → IsPicked d test v
 picked d test n best v all h e = subst (IsPicked d test) (sym e) (go best (subst (λ k. IsFound test k best) all h))
@@ -57,13 +64,9 @@ least_passes d test v e =
     let h = least_some (size d) test v (sym e) in
     record { within = h.below; passes = h.passes }
 
-none_left : (o : Option ℕ) → ((v : ℕ) → ¬ (o ≡ Some v)) → o ≡ None
-none_left None never = refl
-none_left (Some v) never = absurd (never v refl)
-
 -- where there is no least one, none passes
-pub least_fails : (d : Dictionary) (test : ℕ → Bool) (found : Option ℕ) → found ≡ least (size d) test → ((v : ℕ) → ¬ (found ≡ Some v)) → NonePasses d test
-least_fails d test found e never = (least_none (size d) test (sym e ∙ none_left found never)).fails
+pub none_passes : (d : Dictionary) (test : ℕ → Bool) → None ≡ least (size d) test → NonePasses d test
+none_passes d test e = (least_none (size d) test (sym e)).fails
 
 -- ---- moves
 
@@ -87,6 +90,15 @@ module _ (d : Dictionary) (j : ℕ) (h : IsImprover d j) where
 -- a move that can be made leads from a state of the program to one
 pub state_made : (program : LinearProgram) (d later : Dictionary) (move : Move) → IsStateOf program d → CanMove d move × (later ≡ after d move) → IsStateOf program later
 state_made program d later move st h = subst (IsStateOf program) (sym h.1) (moves_lead program d move st h.0).state
+
+-- and sides that don't cross don't cross then
+same_sides : (d later : Dictionary) → d.sides ≡ later.sides → NonePasses d (is_crossed d) → NonePasses later (is_crossed later)
+same_sides d later e h =
+    subst (λ (sides : List Sides). (v : ℕ) → v < length sides → sides_cross (sides_at sides v).low (sides_at sides v).high ≡ false) e h
+
+pub uncrossed_made : (program : LinearProgram) (d later : Dictionary) (move : Move) → IsStateOf program d → NonePasses d (is_crossed d) → CanMove d move × (later ≡ after d move) → NonePasses later (is_crossed later)
+uncrossed_made program d later move st h made =
+    same_sides d later (sym st.same.same_sides ∙ (state_made program d later move st made).same.same_sides) h
 
 -- the moves of a start lead to one
 pub begun_state : (program : LinearProgram) (start : Stands) (moves : List Move) (last : Dictionary) (wide : Option Move) → begun program start ≡ record { moves = moves; last = last; wide = wide } → IsStateOf program last

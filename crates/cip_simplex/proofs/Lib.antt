@@ -5,6 +5,7 @@ pub mod Shortest
 pub mod Solved
 pub mod Begins
 pub mod StartLaws
+pub mod Signs
 pub mod SlackStart
 pub mod Systems
 pub mod Tabled

@@ -1,5 +1,5 @@
 -- Passes over the entries of a row that aren't 0.
-use Rattle.std.proofs.Common.{◌≡◌, ℕ, zero, suc, ◌+◌, ◌<◌, ◌≤◌, Bool, true, false, not, ◌&&◌, List, Option, None, Some, length, get_or, refl, sym, ap, ◌∙◌, subst, inl, inr, arith, add-one}
+use Rattle.std.proofs.Common.{◌≡◌, ℕ, zero, suc, ◌+◌, ◌<◌, ◌≤◌, Bool, true, false, not, ◌&&◌, List, Option, None, Some, length, get_or, refl, sym, ap, ◌∙◌, inl, inr, arith, add-one}
 use Rattle.std.proofs.lemmas.Bool.{cases_lt}
 use Rattle.cip_rational.specs.Rational.{ℚ, zeroℚ}
 use Rattle.cip_dictionary.specs.Tables.{least}
@@ -83,8 +83,15 @@ module _ (n : ℕ) (f : ℕ → ℚ) (test : ℕ → Bool) (silent : (k : ℕ) �
       let found : IsFound test (e.0 + 1) chosen = found_more test e.0 best next chosen before here both in
       (e.0 + 1, omega (arith, u), rw (add-one, add-one) hit, found)
 
+  keeps : (best : Option Candidate) → IsOneOf best None best
+  keeps None = (refl, refl)
+  keeps (Some c) = inl refl
+
+  pub search_less : (at : ℕ) (e : Kept) (best : Option Candidate) → IsSearched test n (kept_of n f) at best → at < length (kept_of n f) → ((d : Kept) → e ≡ get_or (kept_of n f) at d) → test e.0 ≡ false → IsSearched test n (kept_of n f) (at + 1) best
+  search_less at e best s l is here = search_more at e best None best s l is here (keeps best)
+
   pub search_failed : (at : ℕ) (e : Kept) → IsSearched test n (kept_of n f) at None → at < length (kept_of n f) → ((d : Kept) → e ≡ get_or (kept_of n f) at d) → test e.0 ≡ false → IsSearched test n (kept_of n f) (at + 1) None
-  search_failed at e s l is here = search_more at e None None None s l is here (refl, refl)
+  search_failed at e s l is here = search_less at e None s l is here
 
   pub search_hit : (at : ℕ) (e : Kept) → IsSearched test n (kept_of n f) at None → at < length (kept_of n f) → ((d : Kept) → e ≡ get_or (kept_of n f) at d) → test e.0 ≡ true → least n test ≡ Some e.0
   search_hit at e s l is here =
@@ -101,31 +108,31 @@ module _ (d : Dictionary) (i : ℕ) (heading : Heading) where
   silent : (k : ℕ) → entry d i k ≡ zeroℚ → drives d (entry d i) heading k ≡ false
   silent k z = ap (λ b. not b && may_go d k (heading_for heading (entry d i k))) (is_zero_of (entry d i k) z)
 
-  same_candidate : (q : ℚ) (k : ℕ) (next : Option Candidate) → q ≡ entry d i k → IsCandidate (drives d (λ _. q) heading) k next → IsCandidate (drives d (entry d i) heading) k next
-  same_candidate q k None e h = subst (λ t. drives d (λ _. t) heading k ≡ false) e h
-  same_candidate q k (Some c) e h = (h.0, subst (λ t. drives d (λ _. t) heading k ≡ true) e h.1)
-
   pub driving_below : (at : ℕ) (e : Kept) → at < length (kept_of (size d) (entry d i)) → ((x : Kept) → e ≡ get_or (kept_of (size d) (entry d i)) at x) → e.0 < size d
   driving_below at e l is = below (size d) (entry d i) (drives d (entry d i) heading) silent at e l is
 
   pub driving_begun : IsSearched (drives d (entry d i) heading) (size d) (kept_of (size d) (entry d i)) 0 None
   driving_begun = search_begun (size d) (entry d i) (drives d (entry d i) heading) silent
 
-  pub driving_more : (at : ℕ) (e : Kept) (best next chosen : Option Candidate) → IsSearched (drives d (entry d i) heading) (size d) (kept_of (size d) (entry d i)) at best → at < length (kept_of (size d) (entry d i)) → ((x : Kept) → e ≡ get_or (kept_of (size d) (entry d i)) at x) → IsCandidate (drives d (λ _. e.1) heading) e.0 next → IsOneOf best next chosen → IsSearched (drives d (entry d i) heading) (size d) (kept_of (size d) (entry d i)) (at + 1) chosen
-  driving_more at e best next chosen s l is here both =
+  drives_same : (q : ℚ) (k : ℕ) → q ≡ entry d i k → drives d (λ _. q) heading k ≡ drives d (entry d i) heading k
+  drives_same q k e = ap (λ t. drives d (λ _. t) heading k) e
+
+  -- the better of what was found and this one, which drives
+  pub driving_more : (at : ℕ) (e : Kept) (best : Option Candidate) (next chosen : Candidate) → IsSearched (drives d (entry d i) heading) (size d) (kept_of (size d) (entry d i)) at best → at < length (kept_of (size d) (entry d i)) → ((x : Kept) → e ≡ get_or (kept_of (size d) (entry d i)) at x) → drives d (λ _. e.1) heading e.0 ≡ true → next.variable ≡ e.0 → IsOneOf best (Some next) (Some chosen) → IsSearched (drives d (entry d i) heading) (size d) (kept_of (size d) (entry d i)) (at + 1) (Some chosen)
+  driving_more at e best next chosen s l is here named both =
       let o : e.1 ≡ entry d i e.0 = own (size d) (entry d i) (drives d (entry d i) heading) silent s.0 at e s.2 l is in
-      search_more (size d) (entry d i) (drives d (entry d i) heading) silent at e best next chosen s l is (same_candidate e.1 e.0 next o here) both
+      search_more (size d) (entry d i) (drives d (entry d i) heading) silent at e best (Some next) (Some chosen) s l is (named, sym (drives_same e.1 e.0 o) ∙ here) both
+
+  pub driving_less : (at : ℕ) (e : Kept) (best : Option Candidate) → IsSearched (drives d (entry d i) heading) (size d) (kept_of (size d) (entry d i)) at best → at < length (kept_of (size d) (entry d i)) → ((x : Kept) → e ≡ get_or (kept_of (size d) (entry d i)) at x) → drives d (λ _. e.1) heading e.0 ≡ false → IsSearched (drives d (entry d i) heading) (size d) (kept_of (size d) (entry d i)) (at + 1) best
+  driving_less at e best s l is here =
+      let o : e.1 ≡ entry d i e.0 = own (size d) (entry d i) (drives d (entry d i) heading) silent s.0 at e s.2 l is in
+      search_less (size d) (entry d i) (drives d (entry d i) heading) silent at e best s l is (sym (drives_same e.1 e.0 o) ∙ here)
 
   pub driving_ended : (at : ℕ) (best : Option Candidate) → length (kept_of (size d) (entry d i)) ≤ at → IsSearched (drives d (entry d i) heading) (size d) (kept_of (size d) (entry d i)) at best → IsFound (drives d (entry d i) heading) (size d) best
   driving_ended at best l s = search_ended (size d) (entry d i) (drives d (entry d i) heading) silent at best l s
 
-  drives_same : (q : ℚ) (k : ℕ) → q ≡ entry d i k → drives d (λ _. q) heading k ≡ drives d (entry d i) heading k
-  drives_same q k e = ap (λ t. drives d (λ _. t) heading k) e
-
   pub driving_failed : (at : ℕ) (e : Kept) → IsSearched (drives d (entry d i) heading) (size d) (kept_of (size d) (entry d i)) at None → at < length (kept_of (size d) (entry d i)) → ((x : Kept) → e ≡ get_or (kept_of (size d) (entry d i)) at x) → drives d (λ _. e.1) heading e.0 ≡ false → IsSearched (drives d (entry d i) heading) (size d) (kept_of (size d) (entry d i)) (at + 1) None
-  driving_failed at e s l is here =
-      let o : e.1 ≡ entry d i e.0 = own (size d) (entry d i) (drives d (entry d i) heading) silent s.0 at e s.2 l is in
-      search_failed (size d) (entry d i) (drives d (entry d i) heading) silent at e s l is (sym (drives_same e.1 e.0 o) ∙ here)
+  driving_failed at e s l is here = driving_less at e None s l is here
 
   pub driving_hit : (at : ℕ) (e : Kept) → IsSearched (drives d (entry d i) heading) (size d) (kept_of (size d) (entry d i)) at None → at < length (kept_of (size d) (entry d i)) → ((x : Kept) → e ≡ get_or (kept_of (size d) (entry d i)) at x) → drives d (λ _. e.1) heading e.0 ≡ true → least (size d) (drives d (entry d i) heading) ≡ Some e.0
   driving_hit at e s l is here =

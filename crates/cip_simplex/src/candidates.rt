@@ -38,19 +38,17 @@ fn is_better(candidate: &Candidate, other: &Candidate) -> bool {
     !is_above(other.rate, candidate.rate) && is_below(other.size, candidate.size)
 }
 
-/// The better of two candidates, the first of equal ones.
-fn better(first: Option<Candidate>, second: Option<Candidate>) -> Option<Candidate>
-    ensures { free.IsOneOf first second result }
+/// The better of what was found and another candidate, the first of equal ones.
+fn better(found: Option<Candidate>, other: Candidate) -> Candidate
+    ensures { free.IsOneOf found (Some other) (Some result) }
 {
-    match (first, second) {
-        (None, None) => None,
-        (None, Some(second)) => Some(second),
-        (Some(first), None) => Some(first),
-        (Some(first), Some(second)) => {
-            if is_better(&second, &first) {
-                Some(second)
+    match found {
+        None => other,
+        Some(best) => {
+            if is_better(&other, &best) {
+                other
             } else {
-                Some(first)
+                best
             }
         }
     }
@@ -82,19 +80,16 @@ fn violation(sides: Sides, value: Frac) -> Option<Frac> {
     }
 }
 
-/// Variable v as one that may leave, where it is basic and outside its sides.
-fn leaving_at(dict: &Dict, v: u32) -> Option<Candidate>
+/// Variable v, which is outside its sides, as one that may leave.
+fn leaving(dict: &Dict, v: u32) -> Candidate
     requires { v < def.size dict.now }
-    ensures { free.IsCandidate (rule.is_outside dict.now) v result }
+    ensures { result.variable ≡ v }
 {
-    if !is_outside(dict, v) {
-        return None;
-    }
-    Some(Candidate {
+    Candidate {
         variable: v,
         rate: violation(dict.sides(v), dict.value(v)),
         size: Frac::zero(),
-    })
+    }
 }
 
 /// The basic variable that is outside its sides by most, of equal ones the least.
@@ -104,7 +99,10 @@ pub(crate) fn worst_outside(dict: &Dict) -> Option<u32>
 {
     let mut worst = None;
     for v in 0..dict.len() {
-        worst = better(worst, leaving_at(dict, v as u32));
+        if !is_outside(dict, v as u32) {
+            continue;
+        }
+        worst = Some(better(worst, leaving(dict, v as u32)));
     }
     variable_of(worst)
 }
@@ -121,19 +119,16 @@ fn saving(cost: Frac, entry: Frac) -> Option<Frac> {
     }
 }
 
-/// Variable k as one that may enter, where it takes what has this entry on it this way as it goes where it may.
-fn entering_at(dict: &Dict, heading: Heading, k: u32, entry: Frac) -> Option<Candidate>
+/// Variable k, on which what leaves has this entry, as one that may enter.
+fn entering(dict: &Dict, k: u32, entry: Frac) -> Candidate
     requires { k < def.size dict.now }
-    ensures { free.IsCandidate (rule.drives dict.now (λ _. entry) heading) k result }
+    ensures { result.variable ≡ k }
 {
-    if !drives(dict, entry, heading, k) {
-        return None;
-    }
-    Some(Candidate {
+    Candidate {
         variable: k,
         rate: saving(dict.cost_entry(k), entry),
         size: entry.abs(),
-    })
+    }
 }
 
 /// The variable that takes i this way as it goes where it may, for which the cost rises by least; of equal ones that of
@@ -147,7 +142,10 @@ fn best_driving(dict: &Dict, i: u32, heading: Heading) -> Option<u32>
     let mut best = None;
     for at in 0..dict.row_len(i) {
         let (k, entry) = dict.row_entry(i, at);
-        best = better(best, entering_at(dict, heading, k, entry));
+        if !drives(dict, entry, heading, k) {
+            continue;
+        }
+        best = Some(better(best, entering(dict, k, entry)));
     }
     variable_of(best)
 }
@@ -161,19 +159,16 @@ pub(crate) fn best_repairing(dict: &Dict, i: u32) -> Option<u32>
     best_driving(dict, i, back_of(outside_heading(dict, i)))
 }
 
-/// Variable k as one that may enter, where the cost falls as it goes where it may.
-fn improving_at(dict: &Dict, k: u32) -> Option<Candidate>
+/// Variable k, by which the cost falls, as one that may enter.
+fn lowering(dict: &Dict, k: u32) -> Candidate
     requires { k < def.size dict.now }
-    ensures { free.IsCandidate (rule.improves dict.now) k result }
+    ensures { result.variable ≡ k }
 {
-    if !improves(dict, k) {
-        return None;
-    }
-    Some(Candidate {
+    Candidate {
         variable: k,
         rate: Some(dict.cost_entry(k).abs()),
         size: Frac::zero(),
-    })
+    }
 }
 
 /// The variable by which the cost falls fastest, of equal ones the least.
@@ -183,7 +178,10 @@ pub(crate) fn best_improving(dict: &Dict) -> Option<u32>
 {
     let mut best = None;
     for k in 0..dict.len() {
-        best = better(best, improving_at(dict, k as u32));
+        if !improves(dict, k as u32) {
+            continue;
+        }
+        best = Some(better(best, lowering(dict, k as u32)));
     }
     variable_of(best)
 }

@@ -5,7 +5,7 @@ ghost use Rattle.cip_dictionary.specs.Dictionary as def;
 ghost use Rattle.cip_dictionary.specs.Operations as operations;
 ghost use Rattle.cip_bland.specs.Rule as rule;
 
-use crate::headings::{are_crossed, back_of, heading_for, is_free, outside_way};
+use crate::headings::{are_crossed, back_of, heading_for, is_ahead, outside_way};
 use cip_bland::Heading;
 use cip_dict::Dict;
 use cip_frac::Frac;
@@ -67,12 +67,23 @@ pub(crate) fn outside_heading(dict: &Dict, i: u32) -> Heading
     outside_way(dict.sides(i), dict.value(i))
 }
 
+/// Whether variable k may go this way: it is nonbasic, it isn't at the side ahead, and its sides aren't equal.
+fn may_go(dict: &Dict, k: u32, heading: Heading) -> bool
+    requires { k < def.size dict.now }
+    ensures { result ≡ rule.may_go dict.now k heading }
+{
+    match dict.stand(k) {
+        None => false,
+        Some(at) => !is_ahead(heading, at) && !dict.sides(k).is_fixed(),
+    }
+}
+
 /// Whether variable k may go the way by which what has this entry on it goes a way.
 pub(crate) fn drives(dict: &Dict, entry: Frac, heading: Heading, k: u32) -> bool
     requires { k < def.size dict.now }
     ensures { result ≡ rule.drives dict.now (λ _. entry) heading k }
 {
-    !vanishes(entry) && is_free(dict.sides(k), dict.stand(k), heading_for(heading, entry))
+    !vanishes(entry) && may_go(dict, k, heading_for(heading, entry))
 }
 
 /// The least variable that takes i this way as it goes where it may.

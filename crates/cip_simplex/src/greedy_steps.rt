@@ -4,7 +4,7 @@ ghost use Rattle.cip_dictionary.specs.Dictionary as def;
 ghost use Rattle.cip_dictionary.specs.Exchange.{CanMove};
 ghost use Rattle.cip_bland.specs.Rule as rule;
 ghost use Rattle.cip_bland.specs.Statements.{IsStateOf};
-ghost use Rattle.cip_bland.specs.StateEnds.{Passes, IsInside, IsEndAt};
+ghost use Rattle.cip_bland.specs.StateEnds.{Passes, NonePasses, IsInside, IsEndAt};
 ghost use Rattle.cip_simplex.specs.FreeMoves.{IsImprover, IsFreeChoice, IsFreeAdvance};
 
 use crate::candidates::{best_improving, best_repairing, worst_outside};
@@ -42,15 +42,14 @@ fn pick_improving(dict: &Dict) -> Choice
     }
 }
 
-/// What is chosen before ways are formed: while a basic variable is outside its sides, the one that is so by most
-/// leaves, and the one for which the cost rises by least enters; else the one by which the cost falls fastest enters.
+/// What is chosen before ways are formed, where no sides cross: while a basic variable is outside its sides, the one
+/// that is so by most leaves, and the one for which the cost rises by least enters; else the one by which the cost falls
+/// fastest enters.
 fn pick(dict: &Dict) -> Choice
-    requires { def.size dict.now < 2 ^ 32 }
+    requires few { def.size dict.now < 2 ^ 32 }
+    requires uncrossed { NonePasses dict.now (rule.is_crossed dict.now) }
     ensures { IsFreeChoice dict.now result }
 {
-    if let Some(v) = least_crossed(dict) {
-        return Choice::Crossed(v);
-    }
     match worst_outside(dict) {
         Some(i) => pick_repair(dict, i),
         None => pick_improving(dict),
@@ -82,9 +81,10 @@ fn descend(dict: &mut Dict, j: u32) -> Result<Advance, AllocError>
     }
 }
 
-/// Makes the next step. `Err` where memory was refused.
+/// Makes the next step, where no sides cross. `Err` where memory was refused.
 fn take_chosen(dict: &mut Dict) -> Result<Advance, AllocError>
-    requires { def.size dict.old < 2 ^ 32 }
+    requires few { def.size dict.old < 2 ^ 32 }
+    requires uncrossed { NonePasses dict.old (rule.is_crossed dict.old) }
     ensures { IfOk result (IsFreeAdvance dict.old dict.new) }
 {
     match pick(dict) {
@@ -96,14 +96,11 @@ fn take_chosen(dict: &mut Dict) -> Result<Advance, AllocError>
     }
 }
 
-/// Makes moves from a state of a linear program, at most so many, and answers the end that the last state is; none
-/// where a move is out of range or none may be made any more. `Err` where memory was refused.
-pub(crate) fn descend_to_end(
-    lp: &Lp,
-    dict: &mut Dict,
-    limit: u32,
-) -> Result<Option<Step>, AllocError>
-    requires { IsStateOf lp.now dict.old }
+/// Makes moves from a state of a linear program of which no sides cross, at most so many, and answers the end that the
+/// last state is; none where a move is out of range or none may be made any more. `Err` where memory was refused.
+fn descend_uncrossed(lp: &Lp, dict: &mut Dict, limit: u32) -> Result<Option<Step>, AllocError>
+    requires state { IsStateOf lp.now dict.old }
+    requires uncrossed { NonePasses dict.old (rule.is_crossed dict.old) }
     ensures state { IfOk result (λ _. IsStateOf lp.now dict.new) }
     ensures end { IfOk result (λ found. IfSome found (IsEndAt dict.new)) }
 {
@@ -116,4 +113,23 @@ pub(crate) fn descend_to_end(
         }
     }
     Ok(None)
+}
+
+/// Makes moves from a state of a linear program, at most so many, and answers the end that the last state is; none
+/// where a move is out of range or none may be made any more. Sides that cross are looked for once, since moves keep
+/// sides. `Err` where memory was refused.
+pub(crate) fn descend_to_end(
+    lp: &Lp,
+    dict: &mut Dict,
+    limit: u32,
+) -> Result<Option<Step>, AllocError>
+    requires { IsStateOf lp.now dict.old }
+    ensures state { IfOk result (λ _. IsStateOf lp.now dict.new) }
+    ensures end { IfOk result (λ found. IfSome found (IsEndAt dict.new)) }
+{
+    let _columns = lp.columns();
+    match least_crossed(dict) {
+        Some(v) => Ok(Some(Step::Crossed(v))),
+        None => descend_uncrossed(lp, dict, limit),
+    }
 }

@@ -1,8 +1,8 @@
 //! Which way values go, and the sides that lie that way.
 ghost use Rattle.std.specs.Prelude.{◌≡◌};
-ghost use Rattle.cip_rational.specs.Rational.{le_test, lt_test};
+ghost use Rattle.cip_rational.specs.Rational.{le_test, lt_test, zeroℚ};
 ghost use Rattle.cip_bland.specs.Headings as def;
-ghost use Rattle.cip_bland.specs.Rule.{outside_with, sides_cross, may_go_from};
+ghost use Rattle.cip_bland.specs.Rule.{outside_with, sides_cross};
 
 use cip_bland::Heading;
 use cip_dictionary::Stand;
@@ -43,11 +43,18 @@ fn is_at_most(a: Frac, b: Frac) -> bool
     a <= b
 }
 
+/// Whether a number is above 0.
+fn is_above_zero(a: Frac) -> bool
+    ensures { result ≡ lt_test zeroℚ a }
+{
+    a.is_positive()
+}
+
 /// The way of a variable by which its product with a, which isn't 0, goes this way.
 pub(crate) fn heading_for(heading: Heading, a: Frac) -> Heading
     ensures { result ≡ def.heading_for heading a }
 {
-    if is_below(Frac::zero(), a) {
+    if is_above_zero(a) {
         heading
     } else {
         back_of(heading)
@@ -119,16 +126,5 @@ pub(crate) fn outside_way(sides: Sides, value: Frac) -> Heading
                 Heading::Down
             }
         }
-    }
-}
-
-/// Whether a variable with these sides, which stands there or is basic, may go this way: it is nonbasic, its sides
-/// aren't equal, and it isn't at the side ahead.
-pub(crate) fn is_free(sides: Sides, stand: Option<Stand>, heading: Heading) -> bool
-    ensures { result ≡ may_go_from sides stand heading }
-{
-    match stand {
-        None => false,
-        Some(at) => !sides.is_fixed() && !is_ahead(heading, at),
     }
 }

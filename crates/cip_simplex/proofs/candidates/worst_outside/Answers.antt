@@ -1,10 +1,13 @@
-use Rattle.std.proofs.Common.{arith}
+use Rattle.std.proofs.Common.{Some, sym, ◌∙◌, arith}
 use Rattle.cip_bland.specs.Rule.{is_outside}
-use Rattle.cip_simplex.proofs.FreeMoves.{found_more, picked}
+use Rattle.cip_simplex.proofs.FreeMoves.{found_more, found_less, picked}
 use Rattle.cip_simplex.proofs.candidates.worst_outside.Goals as goal
 
+pub loop-v-preserved-then-not-is_outside : goal.loop-v-preserved-then-not-is_outside
+loop-v-preserved-then-not-is_outside c = found_less (is_outside c.args.dict.now) c.loop-v.v c.loop-v.worst c.loop-v.invariant (sym c.is_outside.ensures ∙ c.if-not-is_outside.true)
+
 pub loop-v-preserved : goal.loop-v-preserved
-loop-v-preserved c = found_more (is_outside c.args.dict.now) c.loop-v.v c.loop-v.worst c.leaving_at.result c.better-worst.result c.loop-v.invariant c.leaving_at.ensures c.better-worst.ensures
+loop-v-preserved c = found_more (is_outside c.args.dict.now) c.loop-v.v c.loop-v.worst (Some c.leaving.result) (Some c.better.result) c.loop-v.invariant (c.leaving.ensures, sym c.is_outside.ensures ∙ c.if-not-is_outside.false) c.better.ensures
 
 pub returns : goal.returns
 returns c = picked c.args.dict.now (is_outside c.args.dict.now) c.loop-v.v c.loop-v.worst c.variable_of.result (omega arith) c.loop-v.invariant c.variable_of.ensures

@@ -1,10 +1,14 @@
 use Rattle.std.proofs.Common.{arith}
-use Rattle.cip_simplex.proofs.FreeMoves.{state_made}
+use Rattle.cip_bland.specs.Rule.{is_crossed}
+use Rattle.cip_simplex.proofs.FreeMoves.{least_passes, none_passes}
 use Rattle.cip_simplex.proofs.StartLaws.{state_size}
 use Rattle.cip_simplex.proofs.greedy_steps.descend_to_end.Goals as goal
 
-pub take_chosen-requires : goal.take_chosen-requires
-take_chosen-requires c = omega (arith, state_size c.args.lp.now c.loop-made.dict c.loop-made.invariant, c.columns-columns.ensures.solvable.few)
+pub least_crossed-requires : goal.least_crossed-requires
+least_crossed-requires c = omega (arith, state_size c.args.lp.now c.args.dict.now c.requires, c.columns-columns.ensures.solvable.few)
 
-pub loop-made-preserved : goal.loop-made-preserved
-loop-made-preserved c = state_made c.args.lp.now c.loop-made.dict c.take_chosen.new.dict c.in-Made.field-0 c.loop-made.invariant (rw c.in-Made.is at c.in_ok-take_chosen.ensures)
+pub returns-in-Some-clause-end : goal.returns-in-Some-clause-end
+returns-in-Some-clause-end c = least_passes c.args.dict.now (is_crossed c.args.dict.now) c.in-Some.v c.in-Some.ensures
+
+pub descend_uncrossed-requires-clause-uncrossed : goal.descend_uncrossed-requires-clause-uncrossed
+descend_uncrossed-requires-clause-uncrossed c = none_passes c.args.dict.now (is_crossed c.args.dict.now) c.in-None.ensures

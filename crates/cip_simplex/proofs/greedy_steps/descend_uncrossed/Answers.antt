@@ -1,0 +1,13 @@
+use Rattle.std.proofs.Common.{arith}
+use Rattle.cip_simplex.proofs.FreeMoves.{state_made, uncrossed_made}
+use Rattle.cip_simplex.proofs.StartLaws.{state_size}
+use Rattle.cip_simplex.proofs.greedy_steps.descend_uncrossed.Goals as goal
+
+pub take_chosen-requires-clause-few : goal.take_chosen-requires-clause-few
+take_chosen-requires-clause-few c = omega (arith, state_size c.args.lp.now c.loop-made.dict c.loop-made.invariant.state, c.columns-columns.ensures.solvable.few)
+
+pub loop-made-preserved : goal.loop-made-preserved
+loop-made-preserved c = record {
+  state = state_made c.args.lp.now c.loop-made.dict c.take_chosen.new.dict c.in-Made.field-0 c.loop-made.invariant.state (rw c.in-Made.is at c.in_ok-take_chosen.ensures);
+  uncrossed = uncrossed_made c.args.lp.now c.loop-made.dict c.take_chosen.new.dict c.in-Made.field-0 c.loop-made.invariant.state c.loop-made.invariant.uncrossed (rw c.in-Made.is at c.in_ok-take_chosen.ensures);
+}
