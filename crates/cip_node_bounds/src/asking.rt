@@ -1,5 +1,5 @@
 //! Linear programs, asked by a rule that makes few moves before Bland's.
-ghost use Rattle.std.specs.Prelude.{◌≡◌, length, IfOk};
+ghost use Rattle.std.specs.Prelude.{◌≡◌, ◌+◌, ◌*◌, ◌-◌, ◌^◌, min, length, IfOk};
 ghost use Rattle.cip_simplex.specs.LpShape.{variables};
 ghost use Rattle.cip_node_bounds.specs.Solving.{IsSolved};
 
@@ -9,8 +9,20 @@ use std::alloc::{AllocError, Global};
 // The most moves of the linear program of a node by Bland's rule.
 const MOST_MOVES: u32 = 10_000;
 
-// And before by a rule that makes few.
+// And before by a rule that makes few, of a linear program without variables.
 const FEW_MOVES: u32 = 2_000;
+
+/// The most moves by the rule that makes few: 2,000 and two for each column and row, but no more than 2^32 - 1. So a
+/// program of very many columns has moves enough to take each to its other side.
+fn few_moves(lp: &Lp) -> u32
+    ensures { result ≡ min (2000 + 2 * variables lp.now) (2 ^ 32 - 1) }
+{
+    let _columns = lp.columns();
+    let variables = lp.len() as u32;
+    FEW_MOVES
+        .saturating_add(variables)
+        .saturating_add(variables)
+}
 
 /// What a rule that makes few moves answers on a linear program from its first state; what Bland's list does, where
 /// that has no answer; and where the variables are then. `Err` where memory was refused.
@@ -22,7 +34,7 @@ fn asked_afresh(
     ensures { IfOk result (λ asked. IsSolved lp.now asked.0) }
 {
     let slack = Start::slack(alloc, lp)?;
-    let (first, last) = solve_greedily(alloc, solver, lp, &slack, FEW_MOVES)?;
+    let (first, last) = solve_greedily(alloc, solver, lp, &slack, few_moves(lp))?;
     match first {
         Some(found) => Ok((found, last)),
         None => {
@@ -43,7 +55,7 @@ fn asked_at(
     requires { length start.now ≡ variables lp.now }
     ensures { IfOk result (λ asked. IsSolved lp.now asked.0) }
 {
-    let (first, last) = solve_greedily(alloc, solver, lp, start, FEW_MOVES)?;
+    let (first, last) = solve_greedily(alloc, solver, lp, start, few_moves(lp))?;
     match first {
         Some(found) => Ok((found, last)),
         None => asked_afresh(alloc, solver, lp),
