@@ -1,17 +1,17 @@
--- Passes over the entries of a row that aren't 0.
-use Rattle.std.proofs.Common.{◌≡◌, ℕ, zero, suc, ◌+◌, ◌<◌, ◌≤◌, Bool, true, false, not, ◌&&◌, List, Option, None, Some, length, get_or, refl, sym, ap, ◌∙◌, inl, inr, arith, add-one}
+-- Passes over the entries of a row, or of the cost, that aren't 0.
+use Rattle.std.proofs.Common.{◌≡◌, ◌≢◌, ◌∷◌, [], cond, ap₂, ℕ, zero, suc, ◌+◌, ◌<◌, ◌≤◌, Bool, true, false, not, ◌&&◌, List, Option, None, Some, length, get_or, refl, sym, ap, ◌∙◌, inl, inr, arith, add-one}
 use Rattle.std.proofs.lemmas.Bool.{cases_lt}
-use Rattle.cip_rational.specs.Rational.{ℚ, zeroℚ}
+use Rattle.cip_rational.specs.Rational.{ℚ, zeroℚ, lt_test}
 use Rattle.cip_dictionary.specs.Tables.{least}
-use Rattle.cip_dictionary.specs.Dictionary.{Dictionary, size, entry}
-use Rattle.cip_dictionary.proofs.Zeros.{is_zero_of}
+use Rattle.cip_dictionary.specs.Dictionary.{Dictionary, size}
+use Rattle.cip_dictionary.proofs.Zeros.{is_zero_of, is_zero_false}
 use Rattle.cip_bland.specs.declared.steps.Heading.{Heading}
-use Rattle.cip_bland.specs.Headings.{heading_for}
+use Rattle.cip_bland.specs.Headings.{back_of, heading_for}
 use Rattle.cip_bland.specs.Rule.{may_go, drives}
 use Rattle.cip_dict.specs.SparseLines.{Kept, AreKept, kept_of, IsPlace}
 use Rattle.cip_dict.proofs.SparseLines.{entry_kept}
-use Rattle.cip_dict.proofs.KeptLoops.{are_kept}
-use Rattle.cip_dict.proofs.Places.{place_zero, place_up, place_hit, entry_hit, entry_between, at_least, all_below}
+use Rattle.cip_dict.proofs.KeptLoops.{are_kept, all_kept}
+use Rattle.cip_dict.proofs.Places.{same_default, place_zero, place_up, place_hit, entry_hit, entry_between, at_least, all_below}
 use Rattle.cip_bland.proofs.Searches.{least_is}
 use Rattle.cip_simplex.specs.FreeMoves.{IsCandidate, IsOneOf, IsFound}
 use Rattle.cip_simplex.specs.declared.candidates.Candidate.{Candidate}
@@ -103,41 +103,75 @@ module _ (n : ℕ) (f : ℕ → ℚ) (test : ℕ → Bool) (silent : (k : ℕ) �
       gap_found s.0 n best s.3 s.1
       (λ v a b. silent v (sym (entry_kept n f v b) ∙ entry_between s.0 v (kept_of n f) at 0 n kept s.2 a (λ d w. absurd (omega (arith, w, l)))))
 
--- the row of i, which is to go this way
-module _ (d : Dictionary) (i : ℕ) (heading : Heading) where
-  silent : (k : ℕ) → entry d i k ≡ zeroℚ → drives d (entry d i) heading k ≡ false
-  silent k z = ap (λ b. not b && may_go d k (heading_for heading (entry d i k))) (is_zero_of (entry d i k) z)
+-- no entry that is kept is 0
+kept_nonzero : (es : List Kept) (least n at : ℕ) (x : Kept) → AreKept least n es → at < length es → (get_or es at x).1 ≢ zeroℚ
+kept_nonzero [] least n at x h l = absurd (omega (arith, l))
+kept_nonzero (e ∷ es) least n zero x h l = h.2
+kept_nonzero (e ∷ es) least n (suc at) x h l = kept_nonzero es (suc e.0) n at x h.3 (omega (arith, l))
 
-  pub driving_below : (at : ℕ) (e : Kept) → at < length (kept_of (size d) (entry d i)) → ((x : Kept) → e ≡ get_or (kept_of (size d) (entry d i)) at x) → e.0 < size d
-  driving_below at e l is = below (size d) (entry d i) (drives d (entry d i) heading) silent at e l is
+-- an entry that isn't 0 drives as its sign says
+drives_by : (d : Dictionary) (heading : Heading) (v k : ℕ) (above b : Bool) (q : ℚ) → q ≢ zeroℚ → v ≡ k → above ≡ lt_test zeroℚ q → may_go d v (cond above heading (back_of heading)) ≡ b → drives d (λ _. q) heading k ≡ b
+drives_by d heading v k above b q ne same sign e =
+    ap (λ t. not t && may_go d k (heading_for heading q)) (is_zero_false q ne)
+    ∙ sym (ap₂ (λ n t. may_go d n (cond t heading (back_of heading))) same sign)
+    ∙ e
 
-  pub driving_begun : IsSearched (drives d (entry d i) heading) (size d) (kept_of (size d) (entry d i)) 0 None
-  driving_begun = search_begun (size d) (entry d i) (drives d (entry d i) heading) silent
+-- a form with these entries, which is to go this way
+module _ (d : Dictionary) (f : ℕ → ℚ) (heading : Heading) where
+  silent : (k : ℕ) → f k ≡ zeroℚ → drives d f heading k ≡ false
+  silent k z = ap (λ b. not b && may_go d k (heading_for heading (f k))) (is_zero_of (f k) z)
 
-  drives_same : (q : ℚ) (k : ℕ) → q ≡ entry d i k → drives d (λ _. q) heading k ≡ drives d (entry d i) heading k
+  pub driving_below : (at : ℕ) (e : Kept) → at < length (kept_of (size d) f) → ((x : Kept) → e ≡ get_or (kept_of (size d) f) at x) → e.0 < size d
+  driving_below at e l is = below (size d) f (drives d f heading) silent at e l is
+
+  pub driving_begun : IsSearched (drives d f heading) (size d) (kept_of (size d) f) 0 None
+  driving_begun = search_begun (size d) f (drives d f heading) silent
+
+  drives_same : (q : ℚ) (k : ℕ) → q ≡ f k → drives d (λ _. q) heading k ≡ drives d f heading k
   drives_same q k e = ap (λ t. drives d (λ _. t) heading k) e
 
   -- the better of what was found and this one, which drives
-  pub driving_more : (at : ℕ) (e : Kept) (best : Option Candidate) (next chosen : Candidate) → IsSearched (drives d (entry d i) heading) (size d) (kept_of (size d) (entry d i)) at best → at < length (kept_of (size d) (entry d i)) → ((x : Kept) → e ≡ get_or (kept_of (size d) (entry d i)) at x) → drives d (λ _. e.1) heading e.0 ≡ true → next.variable ≡ e.0 → IsOneOf best (Some next) (Some chosen) → IsSearched (drives d (entry d i) heading) (size d) (kept_of (size d) (entry d i)) (at + 1) (Some chosen)
+  pub driving_more : (at : ℕ) (e : Kept) (best : Option Candidate) (next chosen : Candidate) → IsSearched (drives d f heading) (size d) (kept_of (size d) f) at best → at < length (kept_of (size d) f) → ((x : Kept) → e ≡ get_or (kept_of (size d) f) at x) → drives d (λ _. e.1) heading e.0 ≡ true → next.variable ≡ e.0 → IsOneOf best (Some next) (Some chosen) → IsSearched (drives d f heading) (size d) (kept_of (size d) f) (at + 1) (Some chosen)
   driving_more at e best next chosen s l is here named both =
-      let o : e.1 ≡ entry d i e.0 = own (size d) (entry d i) (drives d (entry d i) heading) silent s.0 at e s.2 l is in
-      search_more (size d) (entry d i) (drives d (entry d i) heading) silent at e best (Some next) (Some chosen) s l is (named, sym (drives_same e.1 e.0 o) ∙ here) both
+      let o : e.1 ≡ f e.0 = own (size d) f (drives d f heading) silent s.0 at e s.2 l is in
+      search_more (size d) f (drives d f heading) silent at e best (Some next) (Some chosen) s l is (named, sym (drives_same e.1 e.0 o) ∙ here) both
 
-  pub driving_less : (at : ℕ) (e : Kept) (best : Option Candidate) → IsSearched (drives d (entry d i) heading) (size d) (kept_of (size d) (entry d i)) at best → at < length (kept_of (size d) (entry d i)) → ((x : Kept) → e ≡ get_or (kept_of (size d) (entry d i)) at x) → drives d (λ _. e.1) heading e.0 ≡ false → IsSearched (drives d (entry d i) heading) (size d) (kept_of (size d) (entry d i)) (at + 1) best
+  pub driving_less : (at : ℕ) (e : Kept) (best : Option Candidate) → IsSearched (drives d f heading) (size d) (kept_of (size d) f) at best → at < length (kept_of (size d) f) → ((x : Kept) → e ≡ get_or (kept_of (size d) f) at x) → drives d (λ _. e.1) heading e.0 ≡ false → IsSearched (drives d f heading) (size d) (kept_of (size d) f) (at + 1) best
   driving_less at e best s l is here =
-      let o : e.1 ≡ entry d i e.0 = own (size d) (entry d i) (drives d (entry d i) heading) silent s.0 at e s.2 l is in
-      search_less (size d) (entry d i) (drives d (entry d i) heading) silent at e best s l is (sym (drives_same e.1 e.0 o) ∙ here)
+      let o : e.1 ≡ f e.0 = own (size d) f (drives d f heading) silent s.0 at e s.2 l is in
+      search_less (size d) f (drives d f heading) silent at e best s l is (sym (drives_same e.1 e.0 o) ∙ here)
 
-  pub driving_ended : (at : ℕ) (best : Option Candidate) → length (kept_of (size d) (entry d i)) ≤ at → IsSearched (drives d (entry d i) heading) (size d) (kept_of (size d) (entry d i)) at best → IsFound (drives d (entry d i) heading) (size d) best
-  driving_ended at best l s = search_ended (size d) (entry d i) (drives d (entry d i) heading) silent at best l s
+  pub driving_ended : (at : ℕ) (best : Option Candidate) → length (kept_of (size d) f) ≤ at → IsSearched (drives d f heading) (size d) (kept_of (size d) f) at best → IsFound (drives d f heading) (size d) best
+  driving_ended at best l s = search_ended (size d) f (drives d f heading) silent at best l s
 
-  pub driving_failed : (at : ℕ) (e : Kept) → IsSearched (drives d (entry d i) heading) (size d) (kept_of (size d) (entry d i)) at None → at < length (kept_of (size d) (entry d i)) → ((x : Kept) → e ≡ get_or (kept_of (size d) (entry d i)) at x) → drives d (λ _. e.1) heading e.0 ≡ false → IsSearched (drives d (entry d i) heading) (size d) (kept_of (size d) (entry d i)) (at + 1) None
-  driving_failed at e s l is here = driving_less at e None s l is here
-
-  pub driving_hit : (at : ℕ) (e : Kept) → IsSearched (drives d (entry d i) heading) (size d) (kept_of (size d) (entry d i)) at None → at < length (kept_of (size d) (entry d i)) → ((x : Kept) → e ≡ get_or (kept_of (size d) (entry d i)) at x) → drives d (λ _. e.1) heading e.0 ≡ true → least (size d) (drives d (entry d i) heading) ≡ Some e.0
+  pub driving_hit : (at : ℕ) (e : Kept) → IsSearched (drives d f heading) (size d) (kept_of (size d) f) at None → at < length (kept_of (size d) f) → ((x : Kept) → e ≡ get_or (kept_of (size d) f) at x) → drives d (λ _. e.1) heading e.0 ≡ true → least (size d) (drives d f heading) ≡ Some e.0
   driving_hit at e s l is here =
-      let o : e.1 ≡ entry d i e.0 = own (size d) (entry d i) (drives d (entry d i) heading) silent s.0 at e s.2 l is in
-      search_hit (size d) (entry d i) (drives d (entry d i) heading) silent at e s l is (sym (drives_same e.1 e.0 o) ∙ here)
+      let o : e.1 ≡ f e.0 = own (size d) f (drives d f heading) silent s.0 at e s.2 l is in
+      search_hit (size d) f (drives d f heading) silent at e s l is (sym (drives_same e.1 e.0 o) ∙ here)
 
-  pub driving_none : (at : ℕ) → length (kept_of (size d) (entry d i)) ≤ at → IsSearched (drives d (entry d i) heading) (size d) (kept_of (size d) (entry d i)) at None → least (size d) (drives d (entry d i) heading) ≡ None
-  driving_none at l s = none_least (size d) (drives d (entry d i) heading) (search_ended (size d) (entry d i) (drives d (entry d i) heading) silent at None l s)
+  pub driving_none : (at : ℕ) → length (kept_of (size d) f) ≤ at → IsSearched (drives d f heading) (size d) (kept_of (size d) f) at None → least (size d) (drives d f heading) ≡ None
+  driving_none at l s = none_least (size d) (drives d f heading) (search_ended (size d) f (drives d f heading) silent at None l s)
+
+  -- by the variable and the sign of the entry of a place
+  module _ (at v : ℕ) (above : Bool) (l : at < length (kept_of (size d) f)) (variable : (x : Kept) → v ≡ (get_or (kept_of (size d) f) at x).0) (sign : (x : Kept) → above ≡ lt_test zeroℚ (get_or (kept_of (size d) f) at x).1) where
+    there : (x : Kept) → get_or (kept_of (size d) f) at (0, zeroℚ) ≡ get_or (kept_of (size d) f) at x
+    there x = same_default (kept_of (size d) f) at (0, zeroℚ) x l
+
+    tested : (b : Bool) → may_go d v (cond above heading (back_of heading)) ≡ b → drives d (λ _. (get_or (kept_of (size d) f) at (0, zeroℚ)).1) heading (get_or (kept_of (size d) f) at (0, zeroℚ)).0 ≡ b
+    tested b e =
+        drives_by d heading v (get_or (kept_of (size d) f) at (0, zeroℚ)).0 above b (get_or (kept_of (size d) f) at (0, zeroℚ)).1 (kept_nonzero (kept_of (size d) f) 0 (size d) at (0, zeroℚ) (all_kept (size d) f) l) (variable (0, zeroℚ)) (sign (0, zeroℚ)) e
+
+    pub sign_below : v < size d
+    sign_below =
+        let b : (get_or (kept_of (size d) f) at (0, zeroℚ)).0 < size d = driving_below at (get_or (kept_of (size d) f) at (0, zeroℚ)) l there in
+        omega (arith, b, variable (0, zeroℚ))
+
+    pub sign_more : (best : Option Candidate) (next chosen : Candidate) → IsSearched (drives d f heading) (size d) (kept_of (size d) f) at best → may_go d v (cond above heading (back_of heading)) ≡ true → next.variable ≡ v → IsOneOf best (Some next) (Some chosen) → IsSearched (drives d f heading) (size d) (kept_of (size d) f) (at + 1) (Some chosen)
+    sign_more best next chosen s e named both =
+        driving_more at (get_or (kept_of (size d) f) at (0, zeroℚ)) best next chosen s l there (tested true e) (named ∙ variable (0, zeroℚ)) both
+
+    pub sign_less : (best : Option Candidate) → IsSearched (drives d f heading) (size d) (kept_of (size d) f) at best → may_go d v (cond above heading (back_of heading)) ≡ false → IsSearched (drives d f heading) (size d) (kept_of (size d) f) (at + 1) best
+    sign_less best s e = driving_less at (get_or (kept_of (size d) f) at (0, zeroℚ)) best s l there (tested false e)
+
+    pub sign_hit : IsSearched (drives d f heading) (size d) (kept_of (size d) f) at None → may_go d v (cond above heading (back_of heading)) ≡ true → least (size d) (drives d f heading) ≡ Some v
+    sign_hit s e = driving_hit at (get_or (kept_of (size d) f) at (0, zeroℚ)) s l there (tested true e) ∙ ap Some (sym (variable (0, zeroℚ)))

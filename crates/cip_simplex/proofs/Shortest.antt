@@ -1,17 +1,18 @@
 -- The ways of a variable, one after another.
-use Rattle.std.proofs.Common.{◌≡◌, ◌≢◌, ℕ, zero, suc, ◌+◌, ◌<◌, true, false, cond, ◌||◌, is_some, ap₂, Option, None, Some, refl, sym, ap, ◌∙◌, inl, inr, arith, add-one}
+use Rattle.std.proofs.Common.{◌≡◌, ◌≢◌, ℕ, zero, suc, ◌+◌, ◌<◌, Bool, true, false, not, cond, ◌||◌, is_some, ap₂, Option, None, Some, refl, sym, ap, ◌∙◌, inl, inr, arith, add-one}
 use Rattle.std.proofs.lemmas.Bool.{ne_eqb, cases_eq, or_right}
 use Rattle.cip_dictionary.specs.Tables.{first_of}
 use Rattle.cip_dictionary.specs.Dictionary.{Dictionary}
 use Rattle.cip_dictionary.specs.declared.moves.Move.{Move}
-use Rattle.cip_rational.specs.Rational.{zeroℚ, lt_test}
+use Rattle.cip_rational.specs.Rational.{ℚ, zeroℚ, lt_test}
+use Rattle.cip_dictionary.specs.Operations.{is_zero}
 use Rattle.cip_problem.specs.Box.{sides_at}
 use Rattle.cip_dictionary.specs.Dictionary.{is_basic, entry}
 use Rattle.cip_dictionary.specs.Exchange.{step}
 use Rattle.cip_dictionary.specs.MoveOperations.{step_operations}
 use Rattle.cip_dictionary.specs.declared.moves.Stand.{Stand}
 use Rattle.cip_dictionary.specs.declared.moves.Move.TheVariants.{Exchange}
-use Rattle.cip_dictionary.proofs.Zeros.{is_zero_of, is_zero_false}
+use Rattle.cip_dictionary.proofs.Zeros.{zero_of, is_zero_of, nonzero_of, is_zero_false}
 use Rattle.cip_bland.specs.Headings.{along, heading_for, goal_ahead}
 use Rattle.cip_bland.specs.Rule.{Way, way_of, way_with, falling_heading, shortest, shorter}
 use Rattle.cip_bland.specs.MoveList.{is_out_of_range, wide_way, first_wide_way}
@@ -34,6 +35,23 @@ wide_at d j (suc n) k move l h e =
 -- the shortest with one more
 pub shortest_more : (n : ℕ) (ways : ℕ → Option Way) (best found next : Option Way) → best ≡ shortest n ways → found ≡ ways n → next ≡ shorter best found → next ≡ shortest (n + 1) ways
 shortest_more n ways best found next b f e = rw add-one (e ∙ ap (λ w. shorter w found) b ∙ ap (shorter (shortest n ways)) f)
+
+-- ---- tests of entries
+
+from_not_false : (b : Bool) → not b ≡ false → b ≡ true
+from_not_false true e = refl
+from_not_false false e = absurd (cc)
+
+from_not_true : (b : Bool) → not b ≡ true → b ≡ false
+from_not_true true e = absurd (cc)
+from_not_true false e = refl
+
+-- an entry isn't 0 where a test says so, and is where it doesn't
+pub zero_by : (q : ℚ) (has : Bool) → has ≡ not (is_zero q) → has ≡ false → q ≡ zeroℚ
+zero_by q has e f = zero_of q (from_not_false (is_zero q) (sym e ∙ f))
+
+pub nonzero_by : (q : ℚ) (has : Bool) → has ≡ not (is_zero q) → has ≡ true → q ≢ zeroℚ
+nonzero_by q has e f = nonzero_of q (from_not_true (is_zero q) (sym e ∙ f))
 
 -- ---- the way to the side of a basic variable
 

@@ -1,24 +1,44 @@
 //! Variables that may be chosen, and the best of them by a rule that makes few moves.
-ghost use Rattle.std.specs.Prelude.{◌≡◌, ◌<◌, ◌^◌, true};
+ghost use Rattle.std.specs.Prelude.{◌≡◌, ◌<◌, ◌^◌, true, length};
 ghost use Rattle.cip_dictionary.specs.Dictionary as def;
 ghost use Rattle.cip_bland.specs.Rule as rule;
 ghost use Rattle.cip_bland.specs.StateEnds.{Passes};
+ghost use Rattle.cip_dict.specs.SparseLines.{kept_of};
 ghost use Rattle.cip_simplex.specs.FreeMoves as free;
 
-use crate::choice::{drives, improves, is_outside, outside_heading};
-use crate::headings::{back_of, is_below, outside_way};
+use crate::choice::{is_outside, may_go, outside_heading};
+use crate::headings::{back_of, heading_if, is_below, outside_way};
 use cip_bland::Heading;
 use cip_dict::Dict;
 use cip_frac::Frac;
 use cip_lin::Sides;
+use std::cmp::Ordering;
 
-/// A variable that may be chosen. Of two that of greater rate is better, of equal rates that of greater size; a rate
-/// out of range is below all others.
+/// What a candidate is worth by fractions: the greater rate is better, of equal ones the greater size; a rate out of
+/// range is below all others.
+#[derive(Debug, Drop)]
+pub(crate) struct ExactWorth {
+    pub(crate) rate: Option<Frac>,
+    pub(crate) size: Frac,
+}
+
+/// What a candidate is worth: by whole numbers where lines are kept as such over one denominator, else by fractions.
+#[derive(Debug, Drop)]
+pub(crate) enum Worth {
+    /// The size of the number of the cost: the greater is better.
+    Number(u64),
+    /// The sizes of the numbers of the cost and of an entry: the lesser ratio is better, of equal ones the greater
+    /// entry.
+    Ratio { cost: u64, entry: u64 },
+    /// By fractions.
+    Exact(ExactWorth),
+}
+
+/// A variable that may be chosen.
 #[derive(Debug, Drop)]
 pub(crate) struct Candidate {
     pub(crate) variable: u32,
-    pub(crate) rate: Option<Frac>,
-    pub(crate) size: Frac,
+    pub(crate) worth: Worth,
 }
 
 /// Whether a rate is above another.
@@ -30,12 +50,41 @@ fn is_above(rate: Option<Frac>, other: Option<Frac>) -> bool {
     }
 }
 
-/// Whether a candidate is better than another.
-fn is_better(candidate: &Candidate, other: &Candidate) -> bool {
-    if is_above(candidate.rate, other.rate) {
+/// Whether what a candidate is worth by fractions is more than what another is.
+fn is_worth_more(worth: &ExactWorth, other: &ExactWorth) -> bool {
+    if is_above(worth.rate, other.rate) {
         return true;
     }
-    !is_above(other.rate, candidate.rate) && is_below(other.size, candidate.size)
+    !is_above(other.rate, worth.rate) && is_below(other.size, worth.size)
+}
+
+/// How the ratio of a cost to an entry compares with another: by the products of each cost and the other entry, which
+/// may have 128 bits.
+fn compare_ratios(cost: u64, entry: u64, other_cost: u64, other_entry: u64) -> Ordering {
+    let (low, high) = cost.carrying_mul(other_entry, 0);
+    let (other_low, other_high) = other_cost.carrying_mul(entry, 0);
+    high.cmp(&other_high).then(low.cmp(&other_low))
+}
+
+/// Whether a ratio is below another, or equal to it and of a greater entry.
+fn is_ratio_better(cost: u64, entry: u64, other_cost: u64, other_entry: u64) -> bool {
+    match compare_ratios(cost, entry, other_cost, other_entry) {
+        Ordering::Less => true,
+        Ordering::Equal => entry > other_entry,
+        Ordering::Greater => false,
+    }
+}
+
+/// Whether a candidate is better than another of one line.
+fn is_better(candidate: &Candidate, other: &Candidate) -> bool {
+    match (&candidate.worth, &other.worth) {
+        (Worth::Number(number), Worth::Number(held)) => *number > *held,
+        (Worth::Ratio { cost, entry }, Worth::Ratio { cost: c, entry: e }) => {
+            is_ratio_better(*cost, *entry, *c, *e)
+        }
+        (Worth::Exact(worth), Worth::Exact(held)) => is_worth_more(worth, held),
+        _ => false,
+    }
 }
 
 /// The better of what was found and another candidate, the first of equal ones.
@@ -85,10 +134,11 @@ fn leaving(dict: &Dict, v: u32) -> Candidate
     requires { v < def.size dict.now }
     ensures { result.variable ≡ v }
 {
+    let rate = violation(dict.sides(v), dict.value(v));
+    let size = Frac::zero();
     Candidate {
         variable: v,
-        rate: violation(dict.sides(v), dict.value(v)),
-        size: Frac::zero(),
+        worth: Worth::Exact(ExactWorth { rate, size }),
     }
 }
 
@@ -119,15 +169,36 @@ fn saving(cost: Frac, entry: Frac) -> Option<Frac> {
     }
 }
 
-/// Variable k, on which what leaves has this entry, as one that may enter.
-fn entering(dict: &Dict, k: u32, entry: Frac) -> Candidate
-    requires { k < def.size dict.now }
+/// What variable k is worth as one that may enter, on which the entry of i of this place stands: the less the cost rises
+/// by it, the more, and where that is the same, the greater the entry is.
+fn worth_entering(dict: &Dict, i: u32, at: usize, k: u32) -> Worth
+    requires leaving { i < def.size dict.now }
+    requires basic { def.is_basic dict.now i ≡ true }
+    requires there { at < length (kept_of (def.size dict.now) (def.entry dict.now i)) }
+    requires within { k < def.size dict.now }
+{
+    if let (Some(number), Some(divisor)) = (dict.cost_number(k), dict.row_number(i, at)) {
+        let cost = number.unsigned_abs();
+        let entry = divisor.unsigned_abs();
+        return Worth::Ratio { cost, entry };
+    }
+    let (_, entry) = dict.row_entry(i, at);
+    let rate = saving(dict.cost_entry(k), entry);
+    let size = entry.abs();
+    Worth::Exact(ExactWorth { rate, size })
+}
+
+/// Variable k, on which the entry of i of this place stands, as one that may enter.
+fn entering(dict: &Dict, i: u32, at: usize, k: u32) -> Candidate
+    requires leaving { i < def.size dict.now }
+    requires basic { def.is_basic dict.now i ≡ true }
+    requires there { at < length (kept_of (def.size dict.now) (def.entry dict.now i)) }
+    requires within { k < def.size dict.now }
     ensures { result.variable ≡ k }
 {
     Candidate {
         variable: k,
-        rate: saving(dict.cost_entry(k), entry),
-        size: entry.abs(),
+        worth: worth_entering(dict, i, at, k),
     }
 }
 
@@ -141,11 +212,11 @@ fn best_driving(dict: &Dict, i: u32, heading: Heading) -> Option<u32>
 {
     let mut best = None;
     for at in 0..dict.row_len(i) {
-        let (k, entry) = dict.row_entry(i, at);
-        if !drives(dict, entry, heading, k) {
+        let (k, above) = dict.row_sign(i, at);
+        if !may_go(dict, k, heading_if(heading, above)) {
             continue;
         }
-        best = Some(better(best, entering(dict, k, entry)));
+        best = Some(better(best, entering(dict, i, at, k)));
     }
     variable_of(best)
 }
@@ -159,15 +230,27 @@ pub(crate) fn best_repairing(dict: &Dict, i: u32) -> Option<u32>
     best_driving(dict, i, back_of(outside_heading(dict, i)))
 }
 
-/// Variable k, by which the cost falls, as one that may enter.
-fn lowering(dict: &Dict, k: u32) -> Candidate
-    requires { k < def.size dict.now }
+/// What the entry of the cost of this place is worth: the greater its size, the more.
+fn worth_lowering(dict: &Dict, at: usize) -> Worth
+    requires { at < length (kept_of (def.size dict.now) (def.cost_entry dict.now)) }
+{
+    if let Some(number) = dict.cost_number_at(at) {
+        return Worth::Number(number.unsigned_abs());
+    }
+    let (_, entry) = dict.cost_at(at);
+    let rate = Some(entry.abs());
+    let size = Frac::zero();
+    Worth::Exact(ExactWorth { rate, size })
+}
+
+/// Variable k, on which the entry of the cost of this place stands, as one that may enter.
+fn lowering(dict: &Dict, at: usize, k: u32) -> Candidate
+    requires { at < length (kept_of (def.size dict.now) (def.cost_entry dict.now)) }
     ensures { result.variable ≡ k }
 {
     Candidate {
         variable: k,
-        rate: Some(dict.cost_entry(k).abs()),
-        size: Frac::zero(),
+        worth: worth_lowering(dict, at),
     }
 }
 
@@ -177,11 +260,12 @@ pub(crate) fn best_improving(dict: &Dict) -> Option<u32>
     ensures { free.IsPicked dict.now (rule.improves dict.now) result }
 {
     let mut best = None;
-    for k in 0..dict.len() {
-        if !improves(dict, k as u32) {
+    for at in 0..dict.costs_len() {
+        let (k, above) = dict.cost_sign(at);
+        if !may_go(dict, k, heading_if(Heading::Down, above)) {
             continue;
         }
-        best = Some(better(best, lowering(dict, k as u32)));
+        best = Some(better(best, lowering(dict, at, k)));
     }
     variable_of(best)
 }

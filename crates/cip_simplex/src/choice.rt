@@ -5,7 +5,7 @@ ghost use Rattle.cip_dictionary.specs.Dictionary as def;
 ghost use Rattle.cip_dictionary.specs.Operations as operations;
 ghost use Rattle.cip_bland.specs.Rule as rule;
 
-use crate::headings::{are_crossed, back_of, heading_for, is_ahead, outside_way};
+use crate::headings::{are_crossed, back_of, heading_if, is_ahead, outside_way};
 use cip_bland::Heading;
 use cip_dict::Dict;
 use cip_frac::Frac;
@@ -68,7 +68,7 @@ pub(crate) fn outside_heading(dict: &Dict, i: u32) -> Heading
 }
 
 /// Whether variable k may go this way: it is nonbasic, it isn't at the side ahead, and its sides aren't equal.
-fn may_go(dict: &Dict, k: u32, heading: Heading) -> bool
+pub(crate) fn may_go(dict: &Dict, k: u32, heading: Heading) -> bool
     requires { k < def.size dict.now }
     ensures { result ≡ rule.may_go dict.now k heading }
 {
@@ -76,14 +76,6 @@ fn may_go(dict: &Dict, k: u32, heading: Heading) -> bool
         None => false,
         Some(at) => !is_ahead(heading, at) && !dict.sides(k).is_fixed(),
     }
-}
-
-/// Whether variable k may go the way by which what has this entry on it goes a way.
-pub(crate) fn drives(dict: &Dict, entry: Frac, heading: Heading, k: u32) -> bool
-    requires { k < def.size dict.now }
-    ensures { result ≡ rule.drives dict.now (λ _. entry) heading k }
-{
-    !vanishes(entry) && may_go(dict, k, heading_for(heading, entry))
 }
 
 /// The least variable that takes i this way as it goes where it may.
@@ -94,8 +86,8 @@ fn least_driving(dict: &Dict, i: u32, heading: Heading) -> Option<u32>
     ensures { result ≡ least (def.size dict.now) (rule.drives dict.now (def.entry dict.now i) heading) }
 {
     for at in 0..dict.row_len(i) {
-        let (k, entry) = dict.row_entry(i, at);
-        if drives(dict, entry, heading, k) {
+        let (k, above) = dict.row_sign(i, at);
+        if may_go(dict, k, heading_if(heading, above)) {
             return Some(k);
         }
     }
@@ -112,22 +104,15 @@ pub(crate) fn least_repairing(dict: &Dict, i: u32) -> Option<u32>
     least_driving(dict, i, back_of(outside_heading(dict, i)))
 }
 
-/// Whether the cost falls as variable k goes where it may.
-pub(crate) fn improves(dict: &Dict, k: u32) -> bool
-    requires { k < def.size dict.now }
-    ensures { result ≡ rule.improves dict.now k }
-{
-    drives(dict, dict.cost_entry(k), Heading::Down, k)
-}
-
 /// The least variable by which the cost falls.
 pub(crate) fn least_improving(dict: &Dict) -> Option<u32>
     requires { def.size dict.now < 2 ^ 32 }
     ensures { result ≡ least (def.size dict.now) (rule.improves dict.now) }
 {
-    for k in 0..dict.len() {
-        if improves(dict, k as u32) {
-            return Some(k as u32);
+    for at in 0..dict.costs_len() {
+        let (k, above) = dict.cost_sign(at);
+        if may_go(dict, k, heading_if(Heading::Down, above)) {
+            return Some(k);
         }
     }
     None

@@ -1,5 +1,5 @@
 //! Which way values go, and the sides that lie that way.
-ghost use Rattle.std.specs.Prelude.{◌≡◌};
+ghost use Rattle.std.specs.Prelude.{◌≡◌, if◌then◌else◌};
 ghost use Rattle.cip_rational.specs.Rational.{le_test, lt_test, zeroℚ};
 ghost use Rattle.cip_bland.specs.Headings as def;
 ghost use Rattle.cip_bland.specs.Rule.{outside_with, sides_cross};
@@ -50,15 +50,18 @@ fn is_above_zero(a: Frac) -> bool
     a.is_positive()
 }
 
+/// This way, or the other one.
+pub(crate) fn heading_if(heading: Heading, stays: bool) -> Heading
+    ensures { result ≡ (if stays then heading else def.back_of heading) }
+{
+    if stays { heading } else { back_of(heading) }
+}
+
 /// The way of a variable by which its product with a, which isn't 0, goes this way.
 pub(crate) fn heading_for(heading: Heading, a: Frac) -> Heading
     ensures { result ≡ def.heading_for heading a }
 {
-    if is_above_zero(a) {
-        heading
-    } else {
-        back_of(heading)
-    }
+    heading_if(heading, is_above_zero(a))
 }
 
 /// Where a variable stands at the side ahead.

@@ -7,7 +7,6 @@ ghost use Rattle.cip_dictionary.specs.ProgramState.{first_of_program};
 ghost use Rattle.cip_simplex.specs.LpShape.{variables};
 ghost use Rattle.cip_simplex.specs.Starts as starts;
 
-use crate::choice::vanishes;
 use crate::lp::Lp;
 use crate::starts::{Start, stand_first};
 use crate::steps::make;
@@ -45,7 +44,7 @@ fn may_leave(start: &Start, dict: &Dict, k: u32, v: u32) -> bool
     requires within { v < def.size dict.now }
     ensures { result ≡ starts.may_leave start.now dict.now k v }
 {
-    dict.stand(v).is_none() && start.stand(v).is_some() && !vanishes(dict.entry(v, k))
+    dict.stand(v).is_none() && start.stand(v).is_some() && dict.has_entry(v, k)
 }
 
 /// The least variable that may leave for column k.

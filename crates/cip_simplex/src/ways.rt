@@ -4,11 +4,12 @@ ghost use Rattle.cip_rational.specs.Rational.{zeroℚ};
 ghost use Rattle.cip_dictionary.specs.Dictionary as def;
 ghost use Rattle.cip_dictionary.specs.Exchange.{other_stand, step, way};
 ghost use Rattle.cip_dictionary.specs.MoveOperations.{step_operations};
+ghost use Rattle.cip_problem.specs.Box.{sides_at};
+ghost use Rattle.cip_bland.specs.Headings as headings;
 ghost use Rattle.cip_bland.specs.Rule as rule;
 ghost use Rattle.cip_bland.specs.MoveList.{is_out_of_range, own_way_operations, wide_way, first_wide_way};
 
-use crate::choice::vanishes;
-use crate::headings::{along, goal_ahead, heading_for, is_below};
+use crate::headings::{along, goal_ahead, heading_for, heading_if, is_below};
 use cip_bland::Heading;
 use cip_dict::Dict;
 use cip_dictionary::{Move, Stand};
@@ -120,26 +121,32 @@ fn own_way(dict: &Dict, j: u32, heading: Heading) -> Result<Option<Way>, Move>
     }
 }
 
-/// The way of j, which goes this way, to the side of the basic variable v, which has this entry on j, not 0.
-fn basic_way(
-    dict: &Dict,
-    j: u32,
-    heading: Heading,
-    v: u32,
-    entry: Frac,
-) -> Result<Option<Way>, Move>
+/// Where the basic variable v, which has an entry on j, not 0, stands at the side to which it goes as j goes this way,
+/// if that side is there.
+fn basic_goal(dict: &Dict, j: u32, heading: Heading, v: u32) -> Option<Stand>
+    requires leaving { v < def.size dict.now }
+    requires basic { def.is_basic dict.now v ≡ true }
+    requires entering { j < def.size dict.now }
+    ensures { result ≡ headings.goal_ahead (headings.heading_for heading (def.entry dict.now v j)) (sides_at dict.now.sides v) }
+{
+    let heading = heading_if(heading, dict.is_entry_positive(v, j));
+    goal_ahead(heading, dict.sides(v))
+}
+
+/// The way of j, which goes this way, to the side of the basic variable v, which has an entry on j, not 0. That is
+/// formed only where there is such a side.
+fn basic_way(dict: &Dict, j: u32, heading: Heading, v: u32) -> Result<Option<Way>, Move>
     requires entering { j < def.size dict.now }
     requires falls { heading ≡ rule.falling_heading dict.now j }
     requires leaving { v < def.size dict.now }
     requires apart { v ≢ j }
     requires basic { def.is_basic dict.now v ≡ true }
-    requires is_entry { entry ≡ def.entry dict.now v j }
-    requires nonzero { entry ≢ zeroℚ }
+    requires nonzero { def.entry dict.now v j ≢ zeroℚ }
     ensures { MatchResult result
         (λ found. (wide_way dict.now j (rule.way_of dict.now j v) ≡ None) × (found ≡ rule.way_of dict.now j v))
         (λ wide. wide_way dict.now j (rule.way_of dict.now j v) ≡ Some wide) }
 {
-    let Some(to) = goal_ahead(heading_for(heading, entry), dict.sides(v)) else {
+    let Some(to) = basic_goal(dict, j, heading, v) else {
         return Ok(None);
     };
     match change_until(dict, v, j, to) {
@@ -168,11 +175,10 @@ fn way_to(dict: &Dict, j: u32, heading: Heading, v: u32) -> Result<Option<Way>, 
     if dict.stand(v).is_some() {
         return Ok(None);
     }
-    let entry = dict.entry(v, j);
-    if entry.is_zero() {
+    if !dict.has_entry(v, j) {
         return Ok(None);
     }
-    basic_way(dict, j, heading, v, entry)
+    basic_way(dict, j, heading, v)
 }
 
 /// The shorter of two ways, the first where they are equal.
@@ -227,8 +233,7 @@ fn has_goal(dict: &Dict, j: u32, heading: Heading, v: u32) -> bool
     if dict.stand(v).is_some() {
         return false;
     }
-    let entry = dict.entry(v, j);
-    !vanishes(entry) && goal_ahead(heading_for(heading, entry), dict.sides(v)).is_some()
+    dict.has_entry(v, j) && basic_goal(dict, j, heading, v).is_some()
 }
 
 /// Whether j, which lets the cost fall, has a way to a side. Nothing is formed.

@@ -1,24 +1,24 @@
-use Rattle.std.proofs.Common.{refl, sym, ◌∙◌, arith}
+use Rattle.std.proofs.Common.{refl, sym, ap, ◌∙◌, arith}
 use Rattle.cip_dictionary.specs.Dictionary.{size, entry}
-use Rattle.cip_bland.specs.Rule.{drives}
+use Rattle.cip_bland.specs.Rule.{drives, may_go}
 use Rattle.cip_simplex.proofs.FreeMoves.{picked}
-use Rattle.cip_simplex.proofs.RowPasses.{driving_below, driving_begun, driving_more, driving_less, driving_ended}
+use Rattle.cip_simplex.proofs.RowPasses.{driving_begun, driving_ended, sign_below, sign_more, sign_less}
 use Rattle.cip_simplex.proofs.candidates.best_driving.Goals as goal
 
 pub loop-at-init : goal.loop-at-init
-loop-at-init c = driving_begun c.args.dict.now c.args.i c.args.heading
+loop-at-init c = driving_begun c.args.dict.now (entry c.args.dict.now c.args.i) c.args.heading
 
-pub drives-requires : goal.drives-requires
-drives-requires c = driving_below c.args.dict.now c.args.i c.args.heading c.loop-at.at c.row_entry-k.result (omega arith) c.row_entry-k.ensures
+pub may_go-requires : goal.may_go-requires
+may_go-requires c = sign_below c.args.dict.now (entry c.args.dict.now c.args.i) c.args.heading c.loop-at.at c.row_sign-k.result.0 c.row_sign-k.result.1 (omega arith) c.row_sign-k.ensures.variable c.row_sign-k.ensures.above
 
-pub loop-at-preserved-then-not-drives : goal.loop-at-preserved-then-not-drives
-loop-at-preserved-then-not-drives c = driving_less c.args.dict.now c.args.i c.args.heading c.loop-at.at c.row_entry-k.result c.loop-at.best c.loop-at.invariant (omega arith) c.row_entry-k.ensures (sym c.drives.ensures ∙ c.if-not-drives.true)
+pub entering-requires-clause-within : goal.entering-requires-clause-within
+entering-requires-clause-within c = sign_below c.args.dict.now (entry c.args.dict.now c.args.i) c.args.heading c.loop-at.at c.row_sign-k.result.0 c.row_sign-k.result.1 (omega arith) c.row_sign-k.ensures.variable c.row_sign-k.ensures.above
+
+pub loop-at-preserved-then-not-may_go : goal.loop-at-preserved-then-not-may_go
+loop-at-preserved-then-not-may_go c = sign_less c.args.dict.now (entry c.args.dict.now c.args.i) c.args.heading c.loop-at.at c.row_sign-k.result.0 c.row_sign-k.result.1 (omega arith) c.row_sign-k.ensures.variable c.row_sign-k.ensures.above c.loop-at.best c.loop-at.invariant (sym (c.may_go.ensures ∙ ap (may_go c.args.dict.now c.row_sign-k.result.0) c.heading_if.ensures) ∙ c.if-not-may_go.true)
 
 pub loop-at-preserved : goal.loop-at-preserved
-loop-at-preserved c = driving_more c.args.dict.now c.args.i c.args.heading c.loop-at.at c.row_entry-k.result c.loop-at.best c.entering.result c.better.result c.loop-at.invariant (omega arith) c.row_entry-k.ensures (sym c.drives.ensures ∙ c.if-not-drives.false) c.entering.ensures c.better.ensures
-
-pub entering-requires : goal.entering-requires
-entering-requires c = driving_below c.args.dict.now c.args.i c.args.heading c.loop-at.at c.row_entry-k.result (omega arith) c.row_entry-k.ensures
+loop-at-preserved c = sign_more c.args.dict.now (entry c.args.dict.now c.args.i) c.args.heading c.loop-at.at c.row_sign-k.result.0 c.row_sign-k.result.1 (omega arith) c.row_sign-k.ensures.variable c.row_sign-k.ensures.above c.loop-at.best c.entering.result c.better.result c.loop-at.invariant (sym (c.may_go.ensures ∙ ap (may_go c.args.dict.now c.row_sign-k.result.0) c.heading_if.ensures) ∙ c.if-not-may_go.false) c.entering.ensures c.better.ensures
 
 pub returns : goal.returns
-returns c = picked c.args.dict.now (drives c.args.dict.now (entry c.args.dict.now c.args.i) c.args.heading) (size c.args.dict.now) c.loop-at.best c.variable_of.result refl (driving_ended c.args.dict.now c.args.i c.args.heading c.loop-at.at c.loop-at.best (omega arith) c.loop-at.invariant) c.variable_of.ensures
+returns c = picked c.args.dict.now (drives c.args.dict.now (entry c.args.dict.now c.args.i) c.args.heading) (size c.args.dict.now) c.loop-at.best c.variable_of.result refl (driving_ended c.args.dict.now (entry c.args.dict.now c.args.i) c.args.heading c.loop-at.at c.loop-at.best (omega arith) c.loop-at.invariant) c.variable_of.ensures

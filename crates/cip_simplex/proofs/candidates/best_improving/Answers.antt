@@ -1,13 +1,22 @@
-use Rattle.std.proofs.Common.{Some, sym, ◌∙◌, arith}
-use Rattle.cip_bland.specs.Rule.{improves}
-use Rattle.cip_simplex.proofs.FreeMoves.{found_more, found_less, picked}
+use Rattle.std.proofs.Common.{refl, sym, ap, ◌∙◌, arith}
+use Rattle.cip_dictionary.specs.Dictionary.{size, cost_entry}
+use Rattle.cip_bland.specs.declared.steps.Heading.TheVariants.{Down}
+use Rattle.cip_bland.specs.Rule.{drives, may_go}
+use Rattle.cip_simplex.proofs.FreeMoves.{picked}
+use Rattle.cip_simplex.proofs.RowPasses.{driving_begun, driving_ended, sign_below, sign_more, sign_less}
 use Rattle.cip_simplex.proofs.candidates.best_improving.Goals as goal
 
-pub loop-k-preserved-then-not-improves : goal.loop-k-preserved-then-not-improves
-loop-k-preserved-then-not-improves c = found_less (improves c.args.dict.now) c.loop-k.k c.loop-k.best c.loop-k.invariant (sym c.improves.ensures ∙ c.if-not-improves.true)
+pub loop-at-init : goal.loop-at-init
+loop-at-init c = driving_begun c.args.dict.now (cost_entry c.args.dict.now) Down
 
-pub loop-k-preserved : goal.loop-k-preserved
-loop-k-preserved c = found_more (improves c.args.dict.now) c.loop-k.k c.loop-k.best (Some c.lowering.result) (Some c.better.result) c.loop-k.invariant (c.lowering.ensures, sym c.improves.ensures ∙ c.if-not-improves.false) c.better.ensures
+pub may_go-requires : goal.may_go-requires
+may_go-requires c = sign_below c.args.dict.now (cost_entry c.args.dict.now) Down c.loop-at.at c.cost_sign-k.result.0 c.cost_sign-k.result.1 (omega arith) c.cost_sign-k.ensures.variable c.cost_sign-k.ensures.above
+
+pub loop-at-preserved-then-not-may_go : goal.loop-at-preserved-then-not-may_go
+loop-at-preserved-then-not-may_go c = sign_less c.args.dict.now (cost_entry c.args.dict.now) Down c.loop-at.at c.cost_sign-k.result.0 c.cost_sign-k.result.1 (omega arith) c.cost_sign-k.ensures.variable c.cost_sign-k.ensures.above c.loop-at.best c.loop-at.invariant (sym (c.may_go.ensures ∙ ap (may_go c.args.dict.now c.cost_sign-k.result.0) c.heading_if.ensures) ∙ c.if-not-may_go.true)
+
+pub loop-at-preserved : goal.loop-at-preserved
+loop-at-preserved c = sign_more c.args.dict.now (cost_entry c.args.dict.now) Down c.loop-at.at c.cost_sign-k.result.0 c.cost_sign-k.result.1 (omega arith) c.cost_sign-k.ensures.variable c.cost_sign-k.ensures.above c.loop-at.best c.lowering.result c.better.result c.loop-at.invariant (sym (c.may_go.ensures ∙ ap (may_go c.args.dict.now c.cost_sign-k.result.0) c.heading_if.ensures) ∙ c.if-not-may_go.false) c.lowering.ensures c.better.ensures
 
 pub returns : goal.returns
-returns c = picked c.args.dict.now (improves c.args.dict.now) c.loop-k.k c.loop-k.best c.variable_of.result (omega arith) c.loop-k.invariant c.variable_of.ensures
+returns c = picked c.args.dict.now (drives c.args.dict.now (cost_entry c.args.dict.now) Down) (size c.args.dict.now) c.loop-at.best c.variable_of.result refl (driving_ended c.args.dict.now (cost_entry c.args.dict.now) Down c.loop-at.at c.loop-at.best (omega arith) c.loop-at.invariant) c.variable_of.ensures

@@ -1,6 +1,8 @@
+use Rattle.cip_dictionary.specs.Dictionary.{size, cost_entry}
 use Rattle.cip_bland.specs.Rule.{improves}
-use Rattle.cip_simplex.specs.FreeMoves.{IsFound}
+use Rattle.cip_dict.specs.SparseLines.{kept_of}
+use Rattle.cip_simplex.proofs.RowPasses.{IsSearched}
 use Rattle.cip_simplex.proofs.candidates.best_improving.Given as goal
 
-abbrev pub invariant-loop-k : goal.invariant-loop-k
-invariant-loop-k l = IsFound (improves l.dict) l.k l.best
+abbrev pub invariant-loop-at : goal.invariant-loop-at
+invariant-loop-at l = IsSearched (improves l.dict) (size l.dict) (kept_of (size l.dict) (cost_entry l.dict)) l.at l.best

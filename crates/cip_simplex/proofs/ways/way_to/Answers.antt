@@ -1,11 +1,13 @@
-use Rattle.std.proofs.Common.{◌≡◌, true, refl, sym, ◌∙◌, rules}
-use Rattle.cip_rational.specs.Rational.{zeroℚ}
+use Rattle.std.proofs.Common.{◌≡◌, true, rules}
 use Rattle.cip_dictionary.specs.Dictionary.{is_basic, entry}
-use Rattle.cip_simplex.proofs.Shortest.{zero_entry}
+use Rattle.cip_simplex.proofs.Shortest.{zero_by, nonzero_by, zero_entry}
 use Rattle.cip_simplex.proofs.ways.way_to.Goals as goal
 
-pub returns-then-is_zero : goal.returns-then-is_zero
-returns-then-is_zero c =
+pub returns-then-not-has_entry : goal.returns-then-not-has_entry
+returns-then-not-has_entry c =
     let basic : is_basic c.args.dict.now c.args.v ≡ true = search rules in
-    let e : entry c.args.dict.now c.args.v c.args.j ≡ zeroℚ = sym c.entry-entry.ensures ∙ c.if-is_zero.ensures.0 refl in
-    zero_entry c.args.dict.now c.args.j c.args.v c.if-v-j.false basic e
+    zero_entry c.args.dict.now c.args.j c.args.v c.if-v-j.false basic
+    (zero_by (entry c.args.dict.now c.args.v c.args.j) c.has_entry.result c.has_entry.ensures c.if-not-has_entry.true)
+
+pub basic_way-requires-clause-nonzero : goal.basic_way-requires-clause-nonzero
+basic_way-requires-clause-nonzero c = nonzero_by (entry c.args.dict.now c.args.v c.args.j) c.has_entry.result c.has_entry.ensures c.if-not-has_entry.false
