@@ -12,7 +12,6 @@ use Rattle.cip_leaves.specs.Searched.{first_node, NoMore}
 use Rattle.cip_leaf_programs.specs.WideLeaf.{Shown, IsWideBy}
 use Rattle.cip_model.specs.Rays.{IsShownRay}
 use Rattle.cip_problem.specs.Points.{IsFeasible}
-use Rattle.cip_node_rules.specs.SplitRules.{IsSplitRule}
 use Rattle.cip_node_bounds.specs.declared.relaxed.Mark.{Mark}
 use Rattle.cip_search.proofs.Bounds.{no_more_itself}
 use Rattle.cip_search.proofs.Members.{here}
@@ -20,7 +19,7 @@ use Rattle.cip_search.proofs.Relaxed.{no_more_trans}
 use Rattle.cip_tree.specs.Nodes.{TakenNode, Nodes, Base, box_of, shown}
 use Rattle.cip_tree.specs.Moves.{TakesFirst}
 use Rattle.cip_tree.specs.Searched.{IsSearched}
-use Rattle.cip_node.specs.Bounding.{IsAsGood, HasTried}
+use Rattle.cip_node.specs.Bounding.{IsAsGood, HasTried, IsSplitBy}
 use Rattle.cip_node.specs.Cores.{StaysRooted}
 use Rattle.cip_node.specs.KeptNodes.{IsSearchOf, IsKept}
 use Rattle.cip_node.specs.NodeEnds.{with_bound, parked_after, LeavesEntry, IsPruned, IsEmptied, IsSolved, IsHalved, IsAside, IsEndless, IsEnd, IsOpenAgain}
@@ -116,7 +115,7 @@ module _ (old mid : Nodes) (node other : TakenNode) (w : IsSameWork old mid node
     entry = entry_from new h.bound (Split h.column h.at low high) h.entry;
     kept = h.kept;
     point = h.point;
-    rule = subst (λ b. IsSplitRule program.integral b h.point h.column h.at) w.box h.rule;
+    rule = subst (λ b. IsSplitBy program.integral b h.point h.column h.at) w.box h.rule;
     good = subst (λ b. IsAsGood program lent b room h.bound mark) w.box h.good;
     tried = subst (λ b. HasTried program held lent b h.point mark) w.box h.tried;
   }
@@ -208,7 +207,7 @@ aside_end program held old new node taken leaf bound by_this e k b only is wide 
     subst (λ b. IsAside program held old new node leaf b by_this) (sym b)
     (record { entry = parked_entry old new node taken e; kept = k; wide_as = record { only = only; is_leaf = is; wide = wide } })
 
-pub halved_end : (program : Program) (held : Option ℚ) (lent : Lent) (room : ℕ) (old new : Nodes) (node : TakenNode) (mark : Option Mark) (column : ℕ) (at : ℤ) (low high : ℕ) (point : Option (List ℚ)) → new.log ≡ old.log ++ record { node = node.number; bound = node.bound; end = Split column at low high } ∷ [] → new.parked ≡ old.parked → IsKept program new held [] → IsSplitRule program.integral (box_of old node) point column at → IsAsGood program lent (box_of old node) room node.bound mark → HasTried program held lent (box_of old node) point mark → IsHalved program held lent room old new node mark low high
+pub halved_end : (program : Program) (held : Option ℚ) (lent : Lent) (room : ℕ) (old new : Nodes) (node : TakenNode) (mark : Option Mark) (column : ℕ) (at : ℤ) (low high : ℕ) (point : Option (List ℚ)) → new.log ≡ old.log ++ record { node = node.number; bound = node.bound; end = Split column at low high } ∷ [] → new.parked ≡ old.parked → IsKept program new held [] → IsSplitBy program.integral (box_of old node) point column at → IsAsGood program lent (box_of old node) room node.bound mark → HasTried program held lent (box_of old node) point mark → IsHalved program held lent room old new node mark low high
 halved_end program held lent room old new node mark column at low high point e f k r g t = record {
   bound = node.bound;
   column = column;

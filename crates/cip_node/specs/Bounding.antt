@@ -1,5 +1,5 @@
 -- What the linear program of a node leaves of it.
-use Rattle.std.specs.Prelude.{◌≡◌, ⊤, ℕ, List, length, Option, None, Some, IfSome, option_map}
+use Rattle.std.specs.Prelude.{◌≡◌, ⊤, ℕ, ℤ, Bool, List, length, Option, None, Some, IfSome, option_map}
 use Rattle.cip_rational.specs.Rational.{ℚ}
 use Rattle.cip_problem.specs.Program.{Sides, Program}
 use Rattle.cip_linear.specs.LinearProgram.{IsPoint}
@@ -8,6 +8,7 @@ use Rattle.cip_cert.specs.Lent.{Lent}
 use Rattle.cip_model.specs.Verdicts.{verdict_of}
 use Rattle.cip_model.specs.declared.verdicts.Verdict.TheVariants.{Feasible}
 use Rattle.cip_search.specs.Relaxation.{IsRelaxedBound}
+use Rattle.cip_node_rules.specs.SplitRules.{IsSplitRule}
 use Rattle.cip_node_bounds.specs.NodeRows.{usable_rows}
 use Rattle.cip_node_bounds.specs.Relaxing.{node_program, IsMark}
 use Rattle.cip_node_bounds.specs.declared.relaxed.Mark.{Mark}
@@ -40,3 +41,8 @@ abbrev pub GoesOnTried : Program → Option ℚ → Lent → List Sides → Boun
 GoesOnTried program held lent box Empty = ⊤
 GoesOnTried program held lent box (Open point mark) =
     HasTried program held lent box (option_map (λ values. values.items) point) mark
+
+-- the split of a box by the point of its linear program; where that has none, by the values of another, if there is one
+abbrev pub IsSplitBy : List Bool → List Sides → Option (List ℚ) → ℕ → ℤ → Type 0
+IsSplitBy integral box (Some point) column at = IsSplitRule integral box (Some point) column at
+IsSplitBy integral box None column at = (last : Option (List ℚ)) × IsSplitRule integral box last column at

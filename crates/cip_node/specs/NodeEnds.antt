@@ -13,10 +13,9 @@ use Rattle.cip_leaves.specs.Searched.{first_node, NoMore}
 use Rattle.cip_leaf_programs.specs.WideLeaf.{Shown, IsWideBy}
 use Rattle.cip_leaf.specs.LeafAnswers.{shown_as}
 use Rattle.cip_model.specs.Rays.{IsShownRay}
-use Rattle.cip_node_rules.specs.SplitRules.{IsSplitRule}
 use Rattle.cip_node_bounds.specs.declared.relaxed.Mark.{Mark}
 use Rattle.cip_tree.specs.Nodes.{TakenNode, Nodes, box_of}
-use Rattle.cip_node.specs.Bounding.{IsAsGood, HasTried}
+use Rattle.cip_node.specs.Bounding.{IsAsGood, HasTried, IsSplitBy}
 use Rattle.cip_node.specs.KeptNodes.{IsSearchOf, IsKept}
 use Rattle.cip_node.specs.declared.ends.NodeEnd.{NodeEnd}
 use Rattle.cip_node.specs.declared.ends.NodeEnd.TheVariants as by
@@ -70,7 +69,8 @@ pub record IsSolved (program : Program) (held : Option ℚ) (old new : Nodes) (n
 -- ---- split nodes
 
 -- it was split by the rules, with a bound that is as good as that of its linear program, unless a mark says what that
--- met; the point by which it was split is one of its linear program, and was offered
+-- met; the point by which it was split is one of its linear program, and was offered. Where that has no point, it was
+-- split by the values of another
 pub record IsHalved
     (program : Program) (held : Option ℚ) (lent : Lent) (room : ℕ) (old new : Nodes) (node : TakenNode)
     (mark : Option Mark) (low high : ℕ) : Type 0 where
@@ -80,7 +80,7 @@ pub record IsHalved
   pub entry : LeavesEntry old new node bound (Split column at low high)
   pub kept : IsKept program new held []
   pub point : Option (List ℚ)
-  pub rule : IsSplitRule program.integral (box_of old node) point column at
+  pub rule : IsSplitBy program.integral (box_of old node) point column at
   pub good : IsAsGood program lent (box_of old node) room bound mark
   pub tried : HasTried program held lent (box_of old node) point mark
 

@@ -1,12 +1,12 @@
 //! A node that is open is pruned or split.
-ghost use Rattle.std.specs.Prelude.{◌≡◌, ◌<◌, ◌^◌, ◌∷◌, [], true, ℕ, length, option_map, Option, IfSome, MatchResult};
+ghost use Rattle.std.specs.Prelude.{◌≡◌, ◌<◌, ◌^◌, ◌∷◌, [], true, ℕ, length, option_map, Option, IfSome, MatchOption, MatchResult};
 ghost use Rattle.cip_problem.specs.Log.{matters};
 ghost use Rattle.cip_problem.specs.Wholes.{AllHaveWholes};
 ghost use Rattle.cip_problem.specs.WellFormed.{columns};
 ghost use Rattle.cip_tree.specs.Nodes.{IsTaken, box_of, shown};
 ghost use Rattle.cip_node_bounds.specs.declared.relaxed.Mark.{Mark};
-ghost use Rattle.cip_node_rules.specs.OpenColumns.{is_open_at, IsFirstColumn};
-ghost use Rattle.cip_node.specs.Bounding.{IsAsGood, HasTried};
+ghost use Rattle.cip_node_rules.specs.OpenColumns.{is_open_at, IsFirstColumn, PassesNowhere};
+ghost use Rattle.cip_node.specs.Bounding.{IsAsGood, HasTried, IsSplitBy};
 ghost use Rattle.cip_node.specs.Cores.{rows_lent, StaysRooted};
 ghost use Rattle.cip_node.specs.KeptNodes.{cost_held, IsKept};
 ghost use Rattle.cip_node.specs.NodeEnds.{IsEnd, IsOpenAgain};
@@ -29,21 +29,31 @@ pub fn does_matter(held: Option<Frac>, bound: Option<Frac>) -> bool
     }
 }
 
-/// The values of a point, if there is one.
-fn values_of(point: &Option<Vec<Frac>>) -> Option<&[Frac]>
-    ensures { option_map (λ values. values.now) result ≡ option_map (λ values. values.items) point.now }
-{
-    match point {
-        None => None,
-        Some(values) => Some(values.as_slice()),
-    }
-}
-
 impl<'a> Core<'a> {
+    /// Where the box in work is split: by a point of its linear program, if there is one, else by the last linear values,
+    /// if a linear program had a point. `None` exactly where no whole column has two whole values.
+    fn place_by(&self, point: &Option<Vec<Frac>>) -> Option<Place>
+        requires columns { length self.now.domain.box ≡ columns self.now.program.now }
+        requires values { IfSome point.now (λ values. length values.items ≡ length self.now.domain.box) }
+        ensures { MatchOption result
+            (PassesNowhere (is_open_at self.now.program.now.integral self.now.domain.box)
+            (length self.now.program.now.integral))
+            (λ place. IsSplitBy self.now.program.now.integral self.now.domain.box
+            (option_map (λ values. values.items) point.now) place.col place.at) }
+    {
+        let columns = self.program.columns();
+        let (whole, bounds) = (self.program.whole(), self.domain.bounds());
+        match point {
+            Some(own) => chosen_place(whole, bounds, Some(own.as_slice())),
+            None => chosen_place(whole, bounds, self.starts.last_values(columns)),
+        }
+    }
+
     /// Closes a node whose bound isn't below the cost held, and splits any other by the rules, by the point of its
-    /// linear program, if there is one; then open nodes that don't matter are let go. `Err` comes where memory was
-    /// refused; the node is open again then. With a mark that says why its bound isn't as good as that of the linear
-    /// program, if it isn't, and where the point is one of that and was offered, the end is right.
+    /// linear program, or by the last linear values, where that has none; then open nodes that don't matter are let go.
+    /// `Err` comes where memory was refused; the node is open again then. With a mark that says why its bound isn't as
+    /// good as that of the linear program, if it isn't, and where the point is one of that and was offered, the end is
+    /// right.
     pub(crate) fn branch(
         &mut self,
         node: Node,
@@ -78,8 +88,7 @@ impl<'a> Core<'a> {
             return Ok(NodeEnd::Pruned);
         }
         let _columns = self.program.columns();
-        let values = values_of(point);
-        match chosen_place(self.program.whole(), self.domain.bounds(), values) {
+        match self.place_by(point) {
             None => unreachable!(),
             Some(Place { col, at }) => {
                 let (low, high) = self.split(node, col, at)?;

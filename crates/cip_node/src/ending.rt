@@ -93,10 +93,14 @@ impl<'a> Core<'a> {
                 self.close_empty(node);
                 Ok((NodeEnd::Empty, NodeRecord { mark: None }))
             }
-            Ok(Bounded::Open { point, mark }) => match self.branch(node, &point) {
-                Err(error) => Err(error),
-                Ok(end) => Ok((end, NodeRecord { mark })),
-            },
+            Ok(Bounded::Open { point, mark }) => {
+                let ended = self.branch(node, &point);
+                self.starts.note(point);
+                match ended {
+                    Err(error) => Err(error),
+                    Ok(end) => Ok((end, NodeRecord { mark })),
+                }
+            }
         }
     }
 }

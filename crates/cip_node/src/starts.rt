@@ -1,4 +1,7 @@
-//! Where the linear programs of nodes start.
+//! What nodes leave to those after them: where their linear programs start, and the last linear values.
+ghost use Rattle.std.specs.Prelude.{◌≡◌, length, IfSome};
+
+use cip_frac::Frac;
 use cip_simplex::Start;
 use std::alloc::Global;
 
@@ -14,7 +17,8 @@ struct Shared {
 
 /// Where the linear programs of nodes start: those of the two halves of a split where that of the node that was split
 /// ended. Each start leads to a right answer, that of another node, too, and a node without one is solved from the
-/// first state; so no clause says which are kept.
+/// first state; so no clause says which are kept. Beside them stand the values of the last linear program that had a
+/// point, of whichever node: a node without a point of its own is split by those.
 #[derive(Debug, Drop)]
 pub struct Starts {
     // by split: the halves of split k have the numbers 2k + 1 and 2k + 2
@@ -27,6 +31,8 @@ pub struct Starts {
     node: u64,
     // where its linear program ended
     last: Option<Start>,
+    // the last linear values
+    values: Option<Vec<Frac>>,
 }
 
 /// The split that gave a node; `None` for the root.
@@ -47,6 +53,24 @@ impl Starts {
             kept: 0,
             node: 0,
             last: None,
+            values: None,
+        }
+    }
+
+    /// Keeps the point of the linear program of the node in work, if it has one, as the last linear values.
+    pub(crate) fn note(&mut self, point: Option<Vec<Frac>>) {
+        if point.is_some() {
+            self.values = point;
+        }
+    }
+
+    /// The last linear values, one for each of so many columns, if a linear program had a point.
+    pub(crate) fn last_values(&self, columns: usize) -> Option<&[Frac]>
+        ensures { IfSome result (λ values. length values.now ≡ columns) }
+    {
+        match &self.values {
+            Some(values) if values.len() == columns => Some(values.as_slice()),
+            _ => None,
         }
     }
 
