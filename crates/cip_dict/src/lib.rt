@@ -16,6 +16,7 @@ mod lists;
 mod numbers;
 mod rows;
 mod settle;
+mod small_sums;
 mod spare;
 mod values;
 mod whole;

@@ -8,6 +8,7 @@ ghost use Rattle.cip_dict.specs.SparseLines.{AreKept, IsPlace};
 ghost use Rattle.cip_dict.specs.WholeLines.{Whole, over, number_on, AreSmall, AreWide, IsWhole, IsPut, whole_at, wholes_of, put_number};
 
 use crate::lines::is_absent_on;
+use crate::small_sums::put_small;
 use crate::whole::{next_step, number_of};
 use cip_dictionary::Stand;
 use cip_frac::short_gcd;
@@ -41,7 +42,7 @@ fn sum_of(a: i128, c: i128) -> i128
 /// The number on variable k of a row after that of j has been put in its place: n * f + x * y, x * y on i, which
 /// leaves, and 0 where no entry stands.
 #[inline(always)]
-fn number_put(
+pub(crate) fn number_put(
     standing: &[Option<Stand>],
     i: u32,
     j: u32,
@@ -317,6 +318,9 @@ pub(crate) fn put_whole(
 {
     let own = number_of(row, j);
     let (x, f) = split(own, new_below);
+    if f == 1 && row_below == 1 && put_small(standing, i, j, f, x, row, new, out)? {
+        return Ok(Some(1));
+    }
     sum_entries(standing, i, j, f, x, row, new, sums)?;
     let under = u128::from(row_below) * u128::from(f);
     reduce(sums.as_slice(), under, out)

@@ -43,7 +43,7 @@ fn number_turned(
 
 /// Keeps a number at the end, unless it is 0.
 #[inline(always)]
-fn keep_number(numbers: &mut Vec<(u32, i64)>, k: u32, z: i64) -> Result<(), AllocError>
+pub(crate) fn keep_number(numbers: &mut Vec<(u32, i64)>, k: u32, z: i64) -> Result<(), AllocError>
     requires { magnitude z < 2 ^ 42 }
     ensures kept { OnOk result (numbers.new.items ≡ numbers.old.items ++ whole_at k z) }
     ensures small { AreSmall numbers.old.items → AreSmall numbers.new.items }

@@ -1,0 +1,22 @@
+use Rattle.std.proofs.Common.{◌≡◌, suc, ◌<◌, ◌≤◌, ◌-◌, ◌^◌, length}
+use Rattle.cip_rational.specs.Range.{magnitude}
+use Rattle.cip_dict.specs.Lists.{basic_in}
+use Rattle.cip_dict.specs.SparseLines.{IsPlace}
+use Rattle.cip_dict.specs.WholeLines.{over, number_on, wholes_of, put_number, AreSmall}
+use Rattle.cip_dict.proofs.small_sums.put_small.Given as goal
+
+abbrev pub invariant-loop-step : goal.invariant-loop-step
+invariant-loop-step l = record {
+  within : l.step.k ≤ length l.standing;
+  row_value : l.step.k < length l.standing → l.step.n ≡ number_on l.row l.step.k;
+  new_value : l.step.k < length l.standing → l.step.y ≡ number_on l.new l.step.k;
+  row_small : magnitude l.step.n < 2 ^ 42;
+  new_small : magnitude l.step.y < 2 ^ 42;
+  row_past : l.step.k < length l.standing → IsPlace (suc l.step.k) (over 1 l.row) l.step.here;
+  new_past : l.step.k < length l.standing → IsPlace (suc l.step.k) (over 1 l.new) l.step.there;
+  written : l.out.items ≡ wholes_of l.step.k (put_number (basic_in l.standing) l.i l.j l.f l.x l.row l.new);
+  small : AreSmall l.out.items;
+}
+
+abbrev pub decreases-loop-step : goal.decreases-loop-step
+decreases-loop-step l = length l.standing - l.step.k
