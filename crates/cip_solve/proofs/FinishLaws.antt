@@ -29,7 +29,7 @@ use Rattle.cip_solve.specs.Gaps.{reaches_gap}
 use Rattle.cip_solve.specs.Logs.{numbers_of}
 use Rattle.cip_solve.specs.Stopping.{one_matters, EndsBy, WasLeast, BestIs}
 use Rattle.cip_solve.specs.Worst.{worst_bound}
-use Rattle.cip_solve.specs.Searching.{IsEndless, IsNear, StopsStill, StopsEndless, StopsRefused, IsWithin}
+use Rattle.cip_solve.specs.Searching.{IsEndless, HasReachedGap, StopsStill, StopsEndless, StopsRefused, IsWithin}
 use Rattle.cip_solve.specs.declared.worst.Worst.{Worst}
 use Rattle.cip_solve.proofs.AnswerLaws.{same_cost, is_point, refused_is_right, still_is_right}
 use Rattle.cip_solve.proofs.ComesTo.{open_least, parked_least, least_of_all, comes_to}
@@ -155,7 +155,7 @@ module _ (program : Program) (nodes : ℕ) (asked : Option ℚ) (tree_ : Nodes) 
     | inr near ↦ absurd (true≢false (sym (near_there near.1) ∙ f))
   ]
     where
-      near_there : IsNear asked tree_ holding → reaches_gap asked held bound ≡ true
+      near_there : HasReachedGap asked tree_ holding → reaches_gap asked held bound ≡ true
       near_there near =
           let l = least_there program tree_ holding worst waiting bound (held_there asked held near.bound near.reached) k.still.is_worst m b in
           ap (reaches_gap asked held) (same_least held (tree_.open_ ++ tree_.parked) bound near.bound l near.least) ∙ near.reached

@@ -31,7 +31,7 @@ use Rattle.cip_solve.specs.Bounds.{least_of, bound_held, flat}
 use Rattle.cip_solve.specs.Gaps.{reaches_gap}
 use Rattle.cip_solve.specs.Logs.{marks_by}
 use Rattle.cip_solve.specs.Solved.{own_rows}
-use Rattle.cip_solve.specs.Searching.{IsStill, IsTold, IsNear, StopsEndless, StopsRefused, StopsAs, IsKeptAs}
+use Rattle.cip_solve.specs.Searching.{IsStill, IsTold, HasReachedGap, StopsEndless, StopsRefused, StopsAs, IsKeptAs}
 use Rattle.cip_solve.specs.Stopping.{WasLeast}
 use Rattle.cip_solve.specs.Worst.{IsWorst, worst_bound}
 use Rattle.cip_solve.specs.declared.worst.Worst.{Worst}
@@ -84,7 +84,7 @@ least_there program tree_ holding worst waiting bound n w m e =
     (flat_least held tree_.open_ tree_.parked (least_of (bound_held held) others) (held_left held others n)
     (least_of_all held tree_.open_ tree_.parked waiting (worst_bound worst) (open_least tree_.open_ waiting m) (parked_least program tree_.parked worst w)))
 
-pub near_there : (program : Program) (start : Option ℚ) (asked : Option ℚ) (tree_ : Nodes) (holding : Holding) (worst : Option Worst) (waiting : Option (Option ℚ)) (bound : Option ℚ) → IsStill program start tree_ holding worst → MatchOption waiting (tree_.open_ ≡ []) (λ b. tree.IsLeastBound b tree_.open_) → bound ≡ flat (least_of (bound_held (cost_held holding)) (least_of waiting (worst_bound worst))) → reaches_gap asked (cost_held holding) bound ≡ true → IsNear asked tree_ holding
+pub near_there : (program : Program) (start : Option ℚ) (asked : Option ℚ) (tree_ : Nodes) (holding : Holding) (worst : Option Worst) (waiting : Option (Option ℚ)) (bound : Option ℚ) → IsStill program start tree_ holding worst → MatchOption waiting (tree_.open_ ≡ []) (λ b. tree.IsLeastBound b tree_.open_) → bound ≡ flat (least_of (bound_held (cost_held holding)) (least_of waiting (worst_bound worst))) → reaches_gap asked (cost_held holding) bound ≡ true → HasReachedGap asked tree_ holding
 near_there program start asked tree_ holding worst waiting bound k m e t = record {
   bound = bound;
   least = least_there program tree_ holding worst waiting bound (held_there asked (cost_held holding) bound t) k.is_worst m e;

@@ -1,5 +1,5 @@
 -- What the end of a node says of the log, and of the worst parked leaf.
-use Rattle.std.proofs.Common.{◌≡◌, inl, inr, ℕ, ◌+◌, ◌≤◌, List, [], ◌∷◌, ◌++◌, length, Option, None, Some, IfSome, Contains, refl, sym, ap, subst, arith, length-append}
+use Rattle.std.proofs.Common.{◌≡◌, inl, inr, ℕ, ◌+◌, ◌≤◌, List, [], ◌∷◌, ◌++◌, length, Option, None, Some, IfSome, Contains, sym, ap, subst, arith, length-append}
 use Rattle.std.proofs.lemmas.List.{append-nil, map-append}
 use Rattle.std.proofs.lemmas.List.Elements.{Contains-push, Contains-push_cases}
 use Rattle.cip_rational.specs.Rational.{ℚ}
@@ -20,14 +20,14 @@ use Rattle.cip_node_bounds.specs.Relaxing.{IsMark}
 use Rattle.cip_node_bounds.specs.declared.relaxed.Mark.{Mark}
 use Rattle.cip_node.specs.Bounding.{IsAsGood}
 use Rattle.cip_node.specs.KeptNodes.{IsKept}
-use Rattle.cip_node.specs.NodeEnds.{with_bound, LeavesEntry, IsAside, IsEnd}
+use Rattle.cip_node.specs.NodeEnds.{with_bound, LeavesEntry, IsWideAs, IsAside, IsEnd}
 use Rattle.cip_node.specs.declared.ends.NodeEnd.{NodeEnd}
 use Rattle.cip_node.specs.declared.ends.NodeEnd.TheVariants as by
 use Rattle.cip_leaf_programs.specs.WideLeaf.{Shown}
 use Rattle.cip_solve.specs.Logs.{numbers_of, marks_by}
 use Rattle.cip_solve.specs.Solved.{own_rows, IsMet, AreMet}
 use Rattle.cip_solve.specs.Searching.{IsTold, IsWorseOf}
-use Rattle.cip_solve.specs.Worst.{IsParkedAs, IsWorst}
+use Rattle.cip_solve.specs.Worst.{IsWorst}
 use Rattle.cip_solve.specs.declared.worst.Worst.{Worst}
 
 -- ---- the entry
@@ -114,15 +114,11 @@ told_more program lent room old new held node mark marks r k h m t =
 
 -- ---- the worst leaf
 
-aside_parked : (program : Program) (held : Option ℚ) (old new : Nodes) (node : TakenNode) (leaf : List ℚ) (bound : Option ℚ) (shown : Shown) → IsAside program held old new node leaf bound shown → IsParkedAs program (with_bound old node bound) leaf bound shown
-aside_parked program held old new node leaf bound shown a =
-    record { is_bound = refl; only = a.wide_as.only; is_leaf = a.wide_as.is_leaf; wide = a.wide_as.wide }
-
-same_parked : (program : Program) (node : Node) (leaf other : List ℚ) (bound more : Option ℚ) (shown by_ : Shown) → other ≡ leaf → more ≡ bound → by_ ≡ shown → IsParkedAs program node leaf bound shown → IsParkedAs program node other more by_
-same_parked program node leaf other bound more shown by_ e f g p =
-    subst (λ t. IsParkedAs program node t more by_) (sym e) (subst (λ t. IsParkedAs program node leaf t by_) (sym f) (subst (IsParkedAs program node leaf bound) (sym g) p))
+same_wide : (program : Program) (node : Node) (leaf other : List ℚ) (shown by_ : Shown) → other ≡ leaf → by_ ≡ shown → IsWideAs program node leaf shown → IsWideAs program node other by_
+same_wide program node leaf other shown by_ e g p =
+    subst (λ t. IsWideAs program node t by_) (sym e) (subst (IsWideAs program node leaf) (sym g) p)
 
 pub worst_more : (program : Program) (held : Option ℚ) (old new : Nodes) (node : TakenNode) (leaf : List ℚ) (bound : Option ℚ) (shown : Shown) (worst next : Option Worst) → IsAside program held old new node leaf bound shown → IsWorst program old.parked worst → IsWorseOf worst leaf bound shown next → IsWorst program new.parked next
 worst_more program held old new node leaf bound shown worst next a w k =
     subst (λ l. IsWorst program l next) (sym a.entry.parked)
-    (k.worse program old.parked (with_bound old node bound) w (same_parked program (with_bound old node bound) leaf k.parked.leaf.items bound k.parked.bound shown _ k.leaf_is k.bound_is k.shown_is (aside_parked program held old new node leaf bound shown a)))
+    (k.worse program old.parked (with_bound old node bound) w (sym k.bound_is) (same_wide program (with_bound old node bound) leaf k.parked.leaf.items shown _ k.leaf_is k.shown_is a.wide_as))

@@ -10,12 +10,13 @@ use Rattle.cip_search.proofs.Members.{only_one, none_in}
 use Rattle.cip_search.proofs.Bounds.{no_more_itself}
 use Rattle.cip_search.proofs.Relaxed.{no_more_trans}
 use Rattle.cip_solve.specs.Bounds.{is_no_more}
-use Rattle.cip_solve.specs.Worst.{IsParkedAs, IsFirstWorst}
+use Rattle.cip_node.specs.NodeEnds.{IsWideAs}
+use Rattle.cip_solve.specs.Worst.{IsFirstWorst}
 use Rattle.cip_solve.proofs.BoundLaws.{no_more_tells, more_tells, more_below}
 
 -- the first one
-pub first_worst : (program : Program) (node : Node) (leaf : List ℚ) (bound : Option ℚ) (shown : Shown) → IsParkedAs program node leaf bound shown → IsFirstWorst program (node ∷ []) leaf bound shown
-first_worst program node leaf bound shown p = record {
+pub first_worst : (program : Program) (node : Node) (leaf : List ℚ) (bound : Option ℚ) (shown : Shown) → node.bound ≡ bound → IsWideAs program node leaf shown → IsFirstWorst program (node ∷ []) leaf bound shown
+first_worst program node leaf bound shown e p = record {
   at = record {
     before = [];
     node = node;
@@ -27,12 +28,12 @@ first_worst program node leaf bound shown p = record {
     is_leaf = p.is_leaf;
     wide = p.wide;
   };
-  is_bound = p.is_bound;
+  is_bound = e;
 }
 
 -- it stays, where its bound is no more
-pub stays_worst : (program : Program) (parked : List Node) (node : Node) (leaf other : List ℚ) (bound more : Option ℚ) (shown by : Shown) → is_no_more bound more ≡ true → IsFirstWorst program parked leaf bound shown → IsParkedAs program node other more by → IsFirstWorst program (parked ++ node ∷ []) leaf bound shown
-stays_worst program parked node leaf other bound more shown by t w p = record {
+pub stays_worst : (program : Program) (parked : List Node) (node : Node) (leaf other : List ℚ) (bound more : Option ℚ) (shown by : Shown) → is_no_more bound more ≡ true → IsFirstWorst program parked leaf bound shown → node.bound ≡ more → IsWideAs program node other by → IsFirstWorst program (parked ++ node ∷ []) leaf bound shown
+stays_worst program parked node leaf other bound more shown by t w e p = record {
   at = record {
     before = w.at.before;
     node = w.at.node;
@@ -40,7 +41,7 @@ stays_worst program parked node leaf other bound more shown by t w p = record {
     placed = ap (λ l. l ++ node ∷ []) w.at.placed ∙ append_assoc w.at.before (w.at.node ∷ w.at.after) (node ∷ []);
     least = λ one c. elim (Contains-append_cases parked (node ∷ []) one c) [
       | inl a ↦ w.at.least one a
-      | inr b ↦ subst (λ n. NoMore w.at.node.bound n.bound) (only_one node one b) (subst (λ b. NoMore b node.bound) (sym w.is_bound) (subst (NoMore bound) (sym p.is_bound) (no_more_tells bound more t)))
+      | inr b ↦ subst (λ n. NoMore w.at.node.bound n.bound) (only_one node one b) (subst (λ b. NoMore b node.bound) (sym w.is_bound) (subst (NoMore bound) (sym e) (no_more_tells bound more t)))
     ];
     first = w.at.first;
     only = w.at.only;
@@ -51,9 +52,9 @@ stays_worst program parked node leaf other bound more shown by t w p = record {
 }
 
 -- another one is worse, where it isn't
-pub new_worst : (program : Program) (parked : List Node) (node : Node) (leaf other : List ℚ) (bound more : Option ℚ) (shown by : Shown) → is_no_more bound more ≡ false → IsFirstWorst program parked leaf bound shown → IsParkedAs program node other more by → IsFirstWorst program (parked ++ node ∷ []) other more by
-new_worst program parked node leaf other bound more shown by t w p =
-    let below : NoMore node.bound bound = subst (λ b. NoMore b bound) (sym p.is_bound) (more_below bound more t) in
+pub new_worst : (program : Program) (parked : List Node) (node : Node) (leaf other : List ℚ) (bound more : Option ℚ) (shown by : Shown) → is_no_more bound more ≡ false → IsFirstWorst program parked leaf bound shown → node.bound ≡ more → IsWideAs program node other by → IsFirstWorst program (parked ++ node ∷ []) other more by
+new_worst program parked node leaf other bound more shown by t w e p =
+    let below : NoMore node.bound bound = subst (λ b. NoMore b bound) (sym e) (more_below bound more t) in
     record {
       at = record {
         before = parked;
@@ -64,10 +65,10 @@ new_worst program parked node leaf other bound more shown by t w p =
           | inl a ↦ no_more_trans node.bound bound one.bound below (subst (λ b. NoMore b one.bound) w.is_bound (w.at.least one a))
           | inr b ↦ subst (λ n. NoMore node.bound n.bound) (only_one node one b) (no_more_itself node.bound)
         ];
-        first = λ one c n. more_tells bound more t (no_more_trans bound one.bound more (subst (λ b. NoMore b one.bound) w.is_bound (w.at.least one c)) (subst (NoMore one.bound) p.is_bound n));
+        first = λ one c n. more_tells bound more t (no_more_trans bound one.bound more (subst (λ b. NoMore b one.bound) w.is_bound (w.at.least one c)) (subst (NoMore one.bound) e n));
         only = p.only;
         is_leaf = p.is_leaf;
         wide = p.wide;
       };
-      is_bound = p.is_bound;
+      is_bound = e;
     }

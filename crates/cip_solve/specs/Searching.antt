@@ -54,7 +54,7 @@ pub record IsEndless (program : Program) (point ray : List ℚ) : Type 0 where
   pub shown : IsShownRay program point ray
 
 -- a gap that was asked for is reached by the cost held and the least bound
-pub record IsNear (asked : Option ℚ) (tree : Nodes) (holding : Holding) : Type 0 where
+pub record HasReachedGap (asked : Option ℚ) (tree : Nodes) (holding : Holding) : Type 0 where
   pub bound : Option ℚ
   pub least : IsLeastBound (cost_held holding) (tree.open_ ++ tree.parked) bound
   pub reached : reaches_gap asked (cost_held holding) bound ≡ true
@@ -64,7 +64,7 @@ pub record StopsStill
     (program : Program) (start : Option ℚ) (nodes : ℕ) (asked : Option ℚ) (tree : Nodes) (holding : Holding)
     (worst : Option Worst) : Type 0 where
   pub still : IsStill program start tree holding worst
-  pub spent : tree.open_ ≢ [] → (length tree.log ≡ nodes) ⊎ ((tree.log ≢ []) × IsNear asked tree holding)
+  pub spent : tree.open_ ≢ [] → (length tree.log ≡ nodes) ⊎ ((tree.log ≢ []) × HasReachedGap asked tree holding)
 
 -- the last node showed a ray
 pub record StopsEndless (program : Program) (log : List Entry) (point ray : List ℚ) : Type 0 where

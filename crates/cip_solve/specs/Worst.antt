@@ -3,19 +3,11 @@ use Rattle.std.specs.Prelude.{◌≡◌, List, [], ◌∷◌, ◌++◌, Option, 
 use Rattle.cip_rational.specs.Rational.{ℚ}
 use Rattle.cip_problem.specs.Program.{Program}
 use Rattle.cip_problem.specs.Log.{Node}
-use Rattle.cip_leaves.specs.Leaf.{IsLeaf, IsOnlyLeaf}
-use Rattle.cip_leaf_programs.specs.WideLeaf.{Shown, IsWideBy}
+use Rattle.cip_leaf_programs.specs.WideLeaf.{Shown}
 use Rattle.cip_search_ends.specs.EndLaws.{IsShownNode}
+use Rattle.cip_node.specs.NodeEnds.{IsWideAs}
 use Rattle.cip_solve.specs.AnswerOf.{shown_of}
 use Rattle.cip_solve.specs.declared.worst.Worst.{Worst}
-
--- a node of this bound whose box has one whole assignment, this leaf, which is wide by what is shown
-pub record IsParkedAs
-    (program : Program) (node : Node) (leaf : List ℚ) (bound : Option ℚ) (shown : Shown) : Type 0 where
-  pub is_bound : node.bound ≡ bound
-  pub only : IsOnlyLeaf program.integral node.box leaf
-  pub is_leaf : IsLeaf program leaf
-  pub wide : IsWideBy program leaf shown
 
 -- of the parked nodes the one of least bound, the first of these, has this leaf and this bound
 pub record IsFirstWorst
@@ -39,5 +31,5 @@ abbrev pub IsWorse : Option Worst → Worst → Option Worst → Type 0
 IsWorse old parked new =
     (program : Program) (nodes : List Node) (node : Node)
     → IsWorst program nodes old
-    → IsParkedAs program node parked.leaf.items parked.bound (shown_of parked.shown)
+    → node.bound ≡ parked.bound → IsWideAs program node parked.leaf.items (shown_of parked.shown)
     → IsWorst program (nodes ++ node ∷ []) new

@@ -1,6 +1,5 @@
 //! How a search ends.
 ghost use Rattle.std.specs.Prelude.{◌≡◌, true, false};
-ghost use Rattle.cip_problem.specs.Log.{matters};
 ghost use Rattle.cip_report.specs.declared.figures.Ended.TheVariants.{Gap};
 ghost use Rattle.cip_solve.specs.Gaps.{reaches_gap};
 ghost use Rattle.cip_solve.specs.Stopping.{one_matters, EndsBy};
@@ -8,17 +7,8 @@ ghost use Rattle.cip_solve.specs.Stopping.{one_matters, EndsBy};
 use crate::gaps::reaches_gap;
 use crate::worst::{Worst, worst_bound};
 use cip_frac::Frac;
+use cip_node::does_matter;
 use cip_report::Ended;
-
-/// Whether something of this bound matters beside the cost held.
-fn matters(held: &Option<Frac>, bound: &Option<Frac>) -> bool
-    ensures { result ≡ matters held.now bound.now }
-{
-    match (held, bound) {
-        (Some(cost), Some(bound)) => *bound < *cost,
-        _ => true,
-    }
-}
 
 /// Whether there is a bound, and it matters beside the cost held.
 fn one_matters(held: &Option<Frac>, bound: &Option<Option<Frac>>) -> bool
@@ -26,7 +16,7 @@ fn one_matters(held: &Option<Frac>, bound: &Option<Option<Frac>>) -> bool
 {
     match bound {
         None => false,
-        Some(bound) => matters(held, bound),
+        Some(bound) => does_matter(*held, *bound),
     }
 }
 

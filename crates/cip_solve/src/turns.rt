@@ -3,18 +3,16 @@ ghost use Rattle.std.specs.Prelude.{◌≡◌, ℕ, ◌+◌, ◌<◌, ◌≤◌,
 ghost use Rattle.std.specs.Prelude.{vec_len, vec_capacity};
 ghost use Rattle.cip_rational.specs.Rational.{ℚ};
 ghost use Rattle.cip_node.specs.Cores.{IsReady};
-ghost use Rattle.cip_node.specs.KeptNodes.{cost_held};
 ghost use Rattle.cip_solve.specs.Bounds.{least_of, bound_held};
 ghost use Rattle.cip_solve.specs.Logs.{marks_by};
-ghost use Rattle.cip_solve.specs.Searching.{IsStill, IsTold, IsKeptAs, IsNear, StopsAs};
+ghost use Rattle.cip_solve.specs.Searching.{IsStill, IsTold, IsKeptAs, HasReachedGap, StopsAs};
 ghost use Rattle.cip_solve.specs.Worst.{worst_bound};
 
 use crate::bounds::{bound_held, flat, least_of};
 use crate::gaps::reaches_gap;
 use crate::worst::{Worst, printed_shown, worse, worst_bound};
 use cip_frac::Frac;
-use cip_incumbent::Incumbent;
-use cip_node::{Core, NodeEnd, NodeRecord};
+use cip_node::{Core, NodeEnd, NodeRecord, held_cost};
 use cip_node_bounds::Mark;
 use std::alloc::Global;
 
@@ -27,16 +25,6 @@ pub(crate) enum Stop {
     Endless { point: Vec<Frac>, ray: Vec<Frac> },
     /// Memory was refused, and before that this was the least bound.
     NoMemory { bound: Option<Frac> },
-}
-
-/// The cost held, if a point is.
-pub(crate) fn held_cost(incumbent: &Incumbent) -> Option<Frac>
-    ensures { result ≡ cost_held incumbent.now }
-{
-    match incumbent.held() {
-        None => None,
-        Some((cost, _)) => Some(cost),
-    }
 }
 
 /// The least of the cost held, of the least bound of open nodes, and of the bound of the worst leaf.
@@ -145,10 +133,10 @@ impl<'a> Search<'a> {
     }
 
     /// Whether the gap that was asked for is reached.
-    fn is_near(&self, asked: &Option<Frac>) -> bool
+    fn has_reached_gap(&self, asked: &Option<Frac>) -> bool
         requires { IsStill self.now.core.program.now self.now.core.tree.root.bound self.now.core.tree
             self.now.core.incumbent self.now.worst }
-        ensures { result ≡ true → IsNear asked.now self.now.core.tree self.now.core.incumbent }
+        ensures { result ≡ true → HasReachedGap asked.now self.now.core.tree self.now.core.incumbent }
     {
         if asked.is_none() {
             return false;
@@ -181,7 +169,7 @@ impl<'a> Search<'a> {
             if let Some(stop) = self.turn(alloc) {
                 return stop;
             }
-            if self.is_near(asked) {
+            if self.has_reached_gap(asked) {
                 return Stop::Still;
             }
         }

@@ -17,13 +17,13 @@ loop-preserved c =
       longer = next.1 ∙ ap (λ n. n + 1) c.loop.invariant.longer;
     }
 
-pub is_near-requires : goal.is_near-requires
-is_near-requires c = (c.in_default.ensures.turned 0 None).0
+pub has_reached_gap-requires : goal.has_reached_gap-requires
+has_reached_gap-requires c = (c.in_default.ensures.turned 0 None).0
 
-pub returns-then-is_near-clause-stopped : goal.returns-then-is_near-clause-stopped
-returns-then-is_near-clause-stopped c =
+pub returns-then-has_reached_gap-clause-stopped : goal.returns-then-has_reached_gap-clause-stopped
+returns-then-has_reached_gap-clause-stopped c =
     let next = c.in_default.ensures.turned 0 None in
     record {
       still = next.0;
-      spent = λ n. inr (λ e. absurd (omega (arith, next.1, ap length e)), c.is_near.ensures c.if-is_near.true);
+      spent = λ n. inr (λ e. absurd (omega (arith, next.1, ap length e)), c.has_reached_gap.ensures c.if-has_reached_gap.true);
     }

@@ -3,7 +3,7 @@ use Rattle.cip_solve.specs.Bounds.{least_of, bound_held, flat}
 use Rattle.cip_solve.specs.Gaps.{reaches_gap}
 use Rattle.cip_solve.specs.Worst.{worst_bound}
 use Rattle.cip_solve.proofs.TurnLaws.{near_there}
-use Rattle.cip_solve.proofs.turns.Search.is_near.Goals as goal
+use Rattle.cip_solve.proofs.turns.Search.has_reached_gap.Goals as goal
 
 pub returns : goal.returns
 returns c = λ e.
