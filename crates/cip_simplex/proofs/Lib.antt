@@ -1,4 +1,5 @@
 pub mod Chosen
+pub mod Cursors
 pub mod EndFacts
 pub mod Lists
 pub mod Shortest

@@ -2,6 +2,7 @@
 ghost use Rattle.std.specs.Prelude.{◌≡◌, ◌+◌, ◌<◌, ◌≤◌, ◌^◌, true, length, IfOk};
 ghost use Rattle.cip_dictionary.specs.Tables.{table};
 ghost use Rattle.cip_dictionary.specs.Dictionary as def;
+ghost use Rattle.cip_dict.specs.SparseLines.{kept_of, IsPlace};
 ghost use Rattle.cip_bland.specs.Rule as rule;
 ghost use Rattle.cip_bland.specs.StateEnds.{IsEndAt};
 ghost use Rattle.cip_bland.specs.EndAnswers as answers;
@@ -67,30 +68,69 @@ fn changes_of(alloc: Global, dict: &Dict, j: u32, n: usize) -> Result<Vec<Frac>,
     Ok(changes)
 }
 
+/// The entry of the cost on variable v, where the entries from this place on are those on v and greater variables; and
+/// the place from which on they are those on greater ones.
+fn cost_on(dict: &Dict, at: usize, v: u32) -> (Frac, usize)
+    requires within { v < def.size dict.now }
+    requires place { IsPlace v (kept_of (def.size dict.now) (def.cost_entry dict.now)) at }
+    ensures entry { result.0 ≡ def.cost_entry dict.now v }
+    ensures place { IsPlace (v + 1) (kept_of (def.size dict.now) (def.cost_entry dict.now)) result.1 }
+{
+    if at >= dict.costs_len() {
+        return (Frac::zero(), at);
+    }
+    let (k, entry) = dict.cost_at(at);
+    if k != v {
+        return (Frac::zero(), at);
+    }
+    (entry, at + 1)
+}
+
 /// The entries of the cost; `Err` where memory was refused.
 fn cost_multipliers(alloc: Global, dict: &Dict) -> Result<Vec<Frac>, AllocError>
     requires { def.size dict.now < 2 ^ 32 }
     ensures { IfOk result (λ multipliers. multipliers.items ≡ table (def.size dict.now) (def.cost_entry dict.now)) }
 {
     let mut multipliers = Vec::new(alloc);
+    let mut at = 0;
     for v in 0..dict.len() {
-        multipliers.push(dict.cost_entry(v as u32))?;
+        let (entry, next) = cost_on(dict, at, v as u32);
+        multipliers.push(entry)?;
+        at = next;
     }
     Ok(multipliers)
 }
 
-/// The multiplier of variable v in the row of i, which is outside its sides in this way.
-fn multiplier_at(dict: &Dict, i: u32, heading: Heading, v: u32) -> Frac
+/// The entry of i on variable v, where the entries from this place on are those on v and greater variables; and the
+/// place from which on they are those on greater ones.
+fn row_on(dict: &Dict, i: u32, at: usize, v: u32) -> (Frac, usize)
     requires leaving { i < def.size dict.now }
     requires basic { def.is_basic dict.now i ≡ true }
-    requires outside { heading ≡ rule.outside_heading dict.now i }
     requires within { v < def.size dict.now }
+    requires place { IsPlace v (kept_of (def.size dict.now) (def.entry dict.now i)) at }
+    ensures entry { result.0 ≡ def.entry dict.now i v }
+    ensures place { IsPlace (v + 1) (kept_of (def.size dict.now) (def.entry dict.now i)) result.1 }
+{
+    if at >= dict.row_len(i) {
+        return (Frac::zero(), at);
+    }
+    let (k, entry) = dict.row_entry(i, at);
+    if k != v {
+        return (Frac::zero(), at);
+    }
+    (entry, at + 1)
+}
+
+/// The multiplier of variable v, on which i has this entry, in the row of i, which is outside its sides in this way.
+fn multiplier_at(dict: &Dict, i: u32, heading: Heading, v: u32, entry: Frac) -> Frac
+    requires outside { heading ≡ rule.outside_heading dict.now i }
+    requires is_entry { entry ≡ def.entry dict.now i v }
     ensures { result ≡ row_multiplier dict.now i v }
 {
     if v == i {
         along(back_of(heading), Frac::one())
     } else {
-        along(heading, dict.entry(i, v))
+        along(heading, entry)
     }
 }
 
@@ -103,8 +143,11 @@ fn row_multipliers(alloc: Global, dict: &Dict, i: u32) -> Result<Vec<Frac>, Allo
 {
     let heading = outside_heading(dict, i);
     let mut multipliers = Vec::new(alloc);
+    let mut at = 0;
     for v in 0..dict.len() {
-        multipliers.push(multiplier_at(dict, i, heading, v as u32))?;
+        let (entry, next) = row_on(dict, i, at, v as u32);
+        multipliers.push(multiplier_at(dict, i, heading, v as u32, entry))?;
+        at = next;
     }
     Ok(multipliers)
 }

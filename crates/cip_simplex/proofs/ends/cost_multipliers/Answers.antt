@@ -1,9 +1,18 @@
 use Rattle.std.proofs.Common.{◌∙◌, ◌++◌, ◌∷◌, [], sym, ap₂}
+use Rattle.cip_dictionary.specs.Dictionary.{size, cost_entry}
+use Rattle.cip_dict.specs.SparseLines.{kept_of}
 use Rattle.cip_dict.proofs.Grown.{table_none, table_more}
+use Rattle.cip_dict.proofs.Places.{place_zero}
 use Rattle.cip_simplex.proofs.ends.cost_multipliers.Goals as goal
 
 pub loop-v-init : goal.loop-v-init
-loop-v-init c = c.new-multipliers.ensures.items ∙ table_none _
+loop-v-init c = record {
+  so_far = c.new-multipliers.ensures.items ∙ table_none _;
+  place = place_zero (kept_of (size c.args.dict.now) (cost_entry c.args.dict.now));
+}
 
 pub loop-v-preserved : goal.loop-v-preserved
-loop-v-preserved c = c.in_ok-push.ensures.items ∙ ap₂ (λ xs x. xs ++ x ∷ []) c.loop-v.invariant c.cost_entry.ensures ∙ sym (table_more c.loop-v.v _)
+loop-v-preserved c = record {
+  so_far = c.in_ok-push.ensures.items ∙ ap₂ (λ xs x. xs ++ x ∷ []) c.loop-v.invariant.so_far c.cost_on-entry.ensures.entry ∙ sym (table_more c.loop-v.v _);
+  place = c.cost_on-entry.ensures.place;
+}

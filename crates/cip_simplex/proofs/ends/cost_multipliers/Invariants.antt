@@ -1,7 +1,11 @@
 use Rattle.std.proofs.Common.{◌≡◌}
 use Rattle.cip_dictionary.specs.Tables.{table}
 use Rattle.cip_dictionary.specs.Dictionary as def
+use Rattle.cip_dict.specs.SparseLines.{kept_of, IsPlace}
 use Rattle.cip_simplex.proofs.ends.cost_multipliers.Given as goal
 
 abbrev pub invariant-loop-v : goal.invariant-loop-v
-invariant-loop-v l = l.multipliers.items ≡ table l.v (def.cost_entry l.dict)
+invariant-loop-v l = record {
+  so_far : l.multipliers.items ≡ table l.v (def.cost_entry l.dict);
+  place : IsPlace l.v (kept_of (def.size l.dict) (def.cost_entry l.dict)) l.at;
+}

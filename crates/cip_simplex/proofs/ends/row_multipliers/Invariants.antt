@@ -1,7 +1,12 @@
 use Rattle.std.proofs.Common.{◌≡◌}
 use Rattle.cip_dictionary.specs.Tables.{table}
+use Rattle.cip_dictionary.specs.Dictionary as def
+use Rattle.cip_dict.specs.SparseLines.{kept_of, IsPlace}
 use Rattle.cip_bland.specs.EndAnswers.{row_multiplier}
 use Rattle.cip_simplex.proofs.ends.row_multipliers.Given as goal
 
 abbrev pub invariant-loop-v : goal.invariant-loop-v
-invariant-loop-v l = l.multipliers.items ≡ table l.v (row_multiplier l.dict l.i)
+invariant-loop-v l = record {
+  so_far : l.multipliers.items ≡ table l.v (row_multiplier l.dict l.i);
+  place : IsPlace l.v (kept_of (def.size l.dict) (def.entry l.dict l.i)) l.at;
+}
