@@ -11,6 +11,3 @@ mod whole_leaves;
 
 pub use answers::{LeafAnswer, Shown};
 pub use leaves::leaf;
-
-#[cfg(test)]
-mod tests;

@@ -6,7 +6,7 @@ use cip_frac::Frac;
 use cip_model::Program;
 use cip_node::{Core, NodeEnd};
 use cip_node_bounds::Mark;
-use cip_tree::{End, Logged};
+use cip_tree::Logged;
 use std::alloc::Global;
 use std::test::Fail;
 
@@ -57,25 +57,14 @@ pub(crate) fn work(alloc: Global, program: &Program) -> Result<Worked, Fail> {
     })
 }
 
-/// The root was split into halves 1 and 2 of this column at this whole number, with this bound and no mark.
-pub(crate) fn is_split(worked: &Worked, column: u32, place: i128, limit: i64) -> bool {
-    let end = End::Split {
-        col: column,
-        at: place,
-        low: 1,
-        high: 2,
-    };
-    matches!(worked.end, NodeEnd::Split(1, 2))
-        && worked.mark.is_none()
-        && worked.entry.end == end
-        && worked.entry.bound == Some(Frac::from(limit))
-        && worked.waiting == 2
-}
-
-/// The root has ended so, with this bound, and no node is open.
-pub(crate) fn has_ended(worked: &Worked, end: End, limit: i64) -> bool {
-    worked.entry.end == end
-        && worked.entry.bound == Some(Frac::from(limit))
-        && worked.mark.is_none()
-        && worked.waiting == 0
+/// A word for the way in which a node ended.
+pub(crate) fn kind_of(end: &NodeEnd) -> &'static str {
+    match end {
+        NodeEnd::Pruned => "pruned",
+        NodeEnd::Empty => "empty",
+        NodeEnd::Solved => "solved",
+        NodeEnd::Split(_, _) => "split",
+        NodeEnd::Parked { .. } => "parked",
+        NodeEnd::Ray { .. } => "ray",
+    }
 }
