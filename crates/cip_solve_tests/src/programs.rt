@@ -28,15 +28,16 @@ pub(crate) fn whole(low: i64, high: i64, cost: i64) -> Column {
     }
 }
 
-/// A row of these coefficients, by column.
+/// A row of these coefficients, by column, at most five.
 pub(crate) fn row(
     alloc: Global,
     coefficients: &[i64],
     low: Option<i64>,
     high: Option<i64>,
-) -> Result<Row, Fail>
-    requires { length coefficients.now ≤ 100 }
-{
+) -> Result<Row, Fail> {
+    if coefficients.len() > 5 {
+        return Err(Fail::from("a long row"));
+    }
     let mut row = Row::empty(alloc, side(low), side(high));
     for at in 0..coefficients.len() {
         let coef = Frac::from(coefficients[at]);
