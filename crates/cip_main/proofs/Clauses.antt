@@ -29,7 +29,7 @@ use Rattle.cip_main.specs.declared.plain.Plain.TheVariants.{Usage, ReadFault, Re
 use Rattle.cip_main.specs.Answering.{IsLogged}
 use Rattle.cip_main.specs.Checking.{checked}
 use Rattle.cip_main.specs.Plain.{plain_status}
-use Rattle.cip_main.specs.Running.{Call, IsStoreSound, IsSinkSound, GivesPlain, IsAnswered, IsChecked, TellsVerdict, ArePulled, BlocksAreRead, Ran, gives_plain, gives_figures, gives_verdict, IsStatus, write_fault, TellsTruth, Asks, AsksOf, AsksWith, AsksToCheck, RefusesBlocks, IsCutShort, Headline, BreaksSome, CheckClause, HasBlocksFault, HasPointFault, IsFirstFault, TellsModelFault, TellsBlockFault, TellsPointFault, UsageClause, behind_up_to, PullsToFault, ReadFaultClause, RefusedClause, WriteFaultClause, SpentLog, IsNear, GapLog, OverflowClause, MemoryClause, Runs}
+use Rattle.cip_main.specs.Running.{Call, IsStoreSound, IsSinkSound, GivesPlain, IsAnswered, IsChecked, TellsVerdict, ArePulled, BlocksAreRead, Ran, gives_plain, gives_figures, gives_verdict, IsStatus, write_fault, TellsTruth, Asks, AsksOf, AsksWith, AsksToCheck, RefusesBlocks, IsCutShort, Headline, BreaksSome, CheckClause, HasBlocksFault, HasPointFault, IsFirstFault, TellsModelFault, TellsBlockFault, TellsPointFault, UsageClause, behind_up_to, PullsToFault, ReadFaultClause, RefusedClause, WriteFaultClause, SpentLog, FiguresReachGap, GapLog, OverflowClause, MemoryClause, Runs}
 use Rattle.cip_main.specs.Saying.{Says}
 use Rattle.cip_main.specs.Tasks.{TaskCause, model_of, second_of, FailsBehind, HasFaultyModel, HasFaultyBlocks, HasFaultyPoint}
 use Rattle.cip_main.proofs.Readings.{told, some_job}
@@ -524,7 +524,7 @@ gap_log call (gives_figures a) e =
       near = subst (EndsWith a.program a.answers.start a.limits.nodes a.limits.gap a.answers.entries a.answers.figures) is a.answers.are_true.ends;
     }
 
-gap_always : (call : Call) (a : IsAnswered call) → IsNear call a → EndsItself a.answers.figures.status → call.status ≢ 5 → call.status ≡ 13
+gap_always : (call : Call) (a : IsAnswered call) → FiguresReachGap call a → EndsItself a.answers.figures.status → call.status ≢ 5 → call.status ≡ 13
 gap_always call a near itself n =
     let is : a.answers.figures.status ≡ Gap = gap_by_word a.answers.figures.status (a.answers.are_true.exact Gap tt itself near) in
     elim (said_figures call a).either [

@@ -336,8 +336,8 @@ pub record WriteFaultClause (call : Call) : Type 0 where
   pub sound : call.status ≢ 5 → IsSinkSound call
 
 -- the figures that are told reach the gap that the words ask for: the cost less the bound is above 0 and at most that
-abbrev pub IsNear : (call : Call) → IsAnswered call → Type 0
-IsNear call answered = ReachesGap answered.program answered.limits.gap answered.answers.figures
+abbrev pub FiguresReachGap : (call : Call) → IsAnswered call → Type 0
+FiguresReachGap call answered = ReachesGap answered.program answered.limits.gap answered.answers.figures
 
 -- status 10 comes only after a search of as many nodes as the words allow, which left an open node that matters, and
 -- where the gap that they ask for isn't reached; the figures that are told say exactly so
@@ -350,7 +350,7 @@ pub record SpentLog (call : Call) : Type 0 where
   pub spent :
       IsSpent answered.program answered.answers.start answered.limits.nodes (entries_of log)
       answered.answers.figures.held
-  pub far : ¬ IsNear call answered
+  pub far : ¬ FiguresReachGap call answered
 
 -- and it never comes where the words allow at least twice as many nodes as the box of the program has whole
 -- assignments, less one: then a search that isn't cut short ends by what is left, or by the gap where one is asked for
@@ -364,13 +364,13 @@ pub record NodeLimitClause (call : Call) : Type 0 where
 pub record GapLog (call : Call) : Type 0 where
   pub answered : IsAnswered call
   pub gap : answered.answers.figures.status ≡ Gap
-  pub near : IsNear call answered
+  pub near : FiguresReachGap call answered
 
 -- status 13 comes only where a search has ended by the gap that the words ask for; and wherever the figures reach it,
 -- unless the sink failed, or a ray or want of memory has cut the search short
 pub record GapClause (call : Call) : Type 0 where
   pub only : call.status ≡ 13 → GapLog call
-  pub always : (answered : IsAnswered call) → IsNear call answered → EndsItself answered.answers.figures.status
+  pub always : (answered : IsAnswered call) → FiguresReachGap call answered → EndsItself answered.answers.figures.status
       → call.status ≢ 5 → call.status ≡ 13
   pub unasked : (text : List ℕ) (limits : Limits) → Asks call text limits → limits.gap ≡ None → call.status ≢ 13
 
@@ -383,7 +383,7 @@ pub record OverflowLog (call : Call) : Type 0 where
   pub overflows :
       ShowsOverflow answered.program answered.answers.start answered.answers.entries answered.answers.figures.held leaf
       place
-  pub far : ¬ IsNear call answered
+  pub far : ¬ FiguresReachGap call answered
 
 -- status 11 comes only where a search has shown an overflow, or where a sum overflows at the point that was read
 abbrev pub OverflowClause : Call → Type 0
