@@ -1,0 +1,107 @@
+//! Linear programs and moves at random.
+ghost use Rattle.std.specs.Prelude.{◌<◌};
+
+use crate::program::Program;
+use cip_dict::Stand;
+use cip_frac::Frac;
+use cip_lin::Sides;
+use std::alloc::Global;
+use std::test::Fail;
+
+/// The rows and columns of a program.
+pub(crate) const ROWS: u32 = 4;
+
+pub(crate) const COLUMNS: u32 = 5;
+
+#[derive(Drop)]
+pub(crate) struct Random {
+    state: u64,
+}
+
+impl Random {
+    pub(crate) fn new(state: u64) -> Random {
+        Random { state }
+    }
+
+    // a number below n
+    pub(crate) fn below(&mut self, n: u32) -> u32
+        requires { 0 < n }
+        ensures { result < n }
+    {
+        self.state = self
+            .state
+            .wrapping_mul(6364136223846793005)
+            .wrapping_add(1442695040888963407);
+        ((self.state >> 33) % n as u64) as u32
+    }
+
+    // 0 in a third of the cases, and else a whole number from -9 to 9, or one about 2^38 times as great if `great`
+    fn number(&mut self, great: bool) -> Frac {
+        if self.below(3) == 0 {
+            return Frac::zero();
+        }
+        let small = self.below(19) as i64 - 9;
+        if great {
+            return Frac::from(small * 274877906944 + 1);
+        }
+        Frac::from(small)
+    }
+
+    // a low and a high side, each open in a part of the cases
+    fn sides(&mut self) -> Sides {
+        let low = self.below(11) as i64 - 5;
+        let high = low + self.below(6) as i64;
+        Sides {
+            low: if self.below(4) == 0 {
+                None
+            } else {
+                Some(Frac::from(low))
+            },
+            high: if self.below(4) == 0 {
+                None
+            } else {
+                Some(Frac::from(high))
+            },
+        }
+    }
+
+    pub(crate) fn stand(&mut self) -> Stand {
+        match self.below(5) {
+            0 => Stand::Zero,
+            1 => Stand::High,
+            2 => Stand::High,
+            _ => Stand::Low,
+        }
+    }
+
+    // appends a row, in which one number of `one_in` is great
+    fn add_row(&mut self, program: &mut Program, row: u32, one_in: u32) -> Result<(), Fail>
+        requires { 0 < one_in }
+    {
+        program.rows.push(self.sides())?;
+        for column in 0..COLUMNS {
+            let great = self.below(one_in) == 0;
+            program.entries.push((row, column, self.number(great)))?;
+        }
+        Ok(())
+    }
+
+    fn add_columns(&mut self, program: &mut Program) -> Result<(), Fail> {
+        for _ in 0..COLUMNS {
+            program.columns.push(self.sides())?;
+            program.costs.push(self.number(false))?;
+        }
+        Ok(())
+    }
+
+    // a program, of which one in ten has many great numbers
+    pub(crate) fn program(&mut self, alloc: Global) -> Result<Program, Fail> {
+        let mut program = Program::new(alloc);
+        let one_in = if self.below(10) == 0 { 2 } else { 40 };
+        self.add_columns(&mut program)?;
+        for row in 0..ROWS {
+            self.add_row(&mut program, row, one_in)?;
+        }
+        Ok(program)
+    }
+}
