@@ -12,3 +12,5 @@ mod moves;
 mod program;
 #[cfg(test)]
 mod random;
+#[cfg(test)]
+mod whole_rows;
