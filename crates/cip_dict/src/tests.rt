@@ -148,9 +148,6 @@ fn lists_that_were_used_hold_nothing(rt: HostRuntime) -> Result<(), Fail> {
     assert_eq!(rt; entry_at(&again, 2, 1), ratio(-3, 1));
     assert_eq!(rt; entry_at(&again, 2, 2), ratio(0, 1));
     assert_eq!(rt; value_of(&again, 2), ratio(0, 1));
-    assert_eq!(rt; kept_cost(&again, 0), pair(0, 1, 1));
-    assert_eq!(rt; kept_cost(&again, 1), pair(1, 1, 1));
-    assert_eq!(rt; kept_cost(&again, 2), None);
     Ok(())
 }
 
@@ -181,35 +178,6 @@ fn pair(k: u32, p: i128, q: i128) -> Option<(u32, Frac)> {
         Ok(entry) => Some((k, entry)),
         Err(_) => None,
     }
-}
-
-// whether an entry isn't 0, and whether it is above 0, where there is a row
-fn entry_test(dict: &Dict, i: u32, j: u32) -> Option<(bool, bool)> {
-    let len = dict.len();
-    if (i as usize) < len && (j as usize) < len && dict.stand(i).is_none() {
-        return Some((dict.has_entry(i, j), dict.is_entry_positive(i, j)));
-    }
-    None
-}
-
-// r = 2x - 3y in whole numbers, and s = 2^44 x in fractions
-#[test]
-fn an_entry_is_tested(rt: HostRuntime) -> Result<(), Fail> {
-    let entries = [
-        (0, 0, Frac::from(2)),
-        (0, 1, Frac::from(-3)),
-        (1, 0, Frac::from(17592186044416)),
-    ];
-    let Some(dict) = two_rows(rt.alloc(), &entries) else {
-        return Err(Fail::new("a first state"));
-    };
-    assert_eq!(rt; entry_test(&dict, 2, 0), Some((true, true)));
-    assert_eq!(rt; entry_test(&dict, 2, 1), Some((true, false)));
-    assert_eq!(rt; entry_test(&dict, 2, 3), Some((false, false)));
-    assert_eq!(rt; entry_test(&dict, 3, 0), Some((true, true)));
-    assert_eq!(rt; entry_test(&dict, 3, 1), Some((false, false)));
-    assert_eq!(rt; entry_test(&dict, 0, 1), None);
-    Ok(())
 }
 
 // s = x, where x = 1/2 r + 3/2 y
@@ -337,83 +305,5 @@ fn numbers_that_grow_are_kept_as_fractions(rt: HostRuntime) -> Result<(), Fail> 
     assert_eq!(rt; exchange(&mut dict, 0, 2, Stand::Low), Some(Ok(())));
     assert_eq!(rt; kept_entry(&dict, 3, 0), pair(0, 2199023255549, 1));
     assert_eq!(rt; kept_entry(&dict, 3, 1), pair(1, 2199023255552, 1));
-    Ok(())
-}
-
-// an entry that the cost keeps, where it keeps so many
-fn kept_cost(dict: &Dict, at: usize) -> Option<(u32, Frac)> {
-    if at >= dict.costs_len() {
-        return None;
-    }
-    Some(dict.cost_at(at))
-}
-
-// the number there
-fn cost_number_at(dict: &Dict, at: usize) -> Option<i64> {
-    if at >= dict.costs_len() {
-        return None;
-    }
-    dict.cost_number_at(at)
-}
-
-// the sign there
-fn cost_sign(dict: &Dict, at: usize) -> Option<(u32, bool)> {
-    if at >= dict.costs_len() {
-        return None;
-    }
-    Some(dict.cost_sign(at))
-}
-
-// the sign of an entry that a row keeps, where it keeps so many
-fn row_sign(dict: &Dict, i: u32, at: usize) -> Option<(u32, bool)> {
-    if (i as usize) >= dict.len() || dict.stand(i).is_some() || at >= dict.row_len(i) {
-        return None;
-    }
-    Some(dict.row_sign(i, at))
-}
-
-// x + y, where x = 1/2 r + 3/2 y
-#[test]
-fn the_cost_is_put_over_the_variable_that_leaves(rt: HostRuntime) -> Result<(), Fail> {
-    let Ok(mut dict) = small(rt.alloc()) else {
-        return Err(Fail::new("a first state"));
-    };
-    assert_eq!(rt; kept_cost(&dict, 0), pair(0, 1, 1));
-    assert_eq!(rt; exchange(&mut dict, 2, 0, Stand::Low), Some(Ok(())));
-    assert_eq!(rt; kept_cost(&dict, 0), pair(1, 5, 2));
-    assert_eq!(rt; kept_cost(&dict, 1), pair(2, 1, 2));
-    assert_eq!(rt; kept_cost(&dict, 2), None);
-    assert_eq!(rt; cost_number_at(&dict, 0), Some(5));
-    assert_eq!(rt; cost_number_at(&dict, 1), Some(1));
-    Ok(())
-}
-
-// r = 2x + 2y with the cost x + y, which is 1/2 r
-#[test]
-fn a_cost_that_cancels_is_not_kept(rt: HostRuntime) -> Result<(), Fail> {
-    let entries = [(0, 0, Frac::from(2)), (0, 1, Frac::from(2))];
-    let Some(mut dict) = two_rows(rt.alloc(), &entries) else {
-        return Err(Fail::new("a first state"));
-    };
-    assert_eq!(rt; exchange(&mut dict, 2, 0, Stand::Low), Some(Ok(())));
-    assert_eq!(rt; kept_cost(&dict, 0), pair(2, 1, 2));
-    assert_eq!(rt; kept_cost(&dict, 1), None);
-    assert_eq!(rt; cost_sign(&dict, 0), Some((2, true)));
-    Ok(())
-}
-
-// r = -2x + y, so x = 1/2 y - 1/2 r, and the cost is 3/2 y - 1/2 r
-#[test]
-fn signs_are_those_of_the_entries(rt: HostRuntime) -> Result<(), Fail> {
-    let entries = [(0, 0, Frac::from(-2)), (0, 1, Frac::from(1))];
-    let Some(mut dict) = two_rows(rt.alloc(), &entries) else {
-        return Err(Fail::new("a first state"));
-    };
-    assert_eq!(rt; exchange(&mut dict, 2, 0, Stand::Low), Some(Ok(())));
-    assert_eq!(rt; row_sign(&dict, 0, 0), Some((1, true)));
-    assert_eq!(rt; row_sign(&dict, 0, 1), Some((2, false)));
-    assert_eq!(rt; row_sign(&dict, 0, 2), None);
-    assert_eq!(rt; cost_sign(&dict, 0), Some((1, true)));
-    assert_eq!(rt; cost_sign(&dict, 1), Some((2, false)));
     Ok(())
 }
