@@ -49,12 +49,17 @@ fn add_great_column(program: &mut Program) -> Result<(), Fail> {
     Ok(())
 }
 
-fn both_forms(alloc: Global, random: &mut Random) -> Result<Pair, Fail> {
-    let mut program = random.program(alloc)?;
+// both first states of a program, to which the column is added
+fn pair_of(alloc: Global, program: &mut Program) -> Result<Pair, Fail> {
     let whole = program.first(alloc)?;
-    add_great_column(&mut program)?;
+    add_great_column(program)?;
     let plain = program.first(alloc)?;
     Ok(Pair { whole, plain })
+}
+
+fn both_forms(alloc: Global, random: &mut Random) -> Result<Pair, Fail> {
+    let mut program = random.program(alloc)?;
+    pair_of(alloc, &mut program)
 }
 
 // a variable, where there is one more column

@@ -22,10 +22,9 @@ fn program(alloc: Global) -> Result<Program, Fail> {
         program.rows.push(from_zero())?;
         program.costs.push(Frac::one())?;
     }
-    program.entries.push((0, 0, Frac::from(2)))?;
-    program.entries.push((0, 1, Frac::from(-3)))?;
-    program.entries.push((1, 0, Frac::one()))?;
-    program.entries.push((1, 1, Frac::one()))?;
+    for (row, column, number) in [(0, 0, 2), (0, 1, -3), (1, 0, 1), (1, 1, 1)] {
+        program.entries.push((row, column, Frac::from(number)))?;
+    }
     Ok(program)
 }
 
