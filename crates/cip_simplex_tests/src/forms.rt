@@ -1,6 +1,7 @@
 //! The same moves at random on a dictionary whose lines are whole where they can be, and on one whose lines are all
 //! fractions: its program has one more column, fixed at 0, with 2^43 in each line.
 use crate::moves::{cost_on, entry_at, exchange, flip, has_row, is_row_whole, value_of};
+use crate::numbers::numbers_compare;
 use crate::program::Program;
 use crate::random::{COLUMNS, ROWS, Random};
 use cip_dict::{Dict, Line, MoveFault, Place, Stand};
@@ -162,6 +163,9 @@ impl Pair {
     fn compare(&self, counts: &mut Counts) -> Result<(), Fail> {
         if !self.agree() {
             return Err(Fail::new("two states"));
+        }
+        if !numbers_compare(&self.whole, VARIABLES) {
+            return Err(Fail::new("numbers of one line"));
         }
         self.count_rows(counts)
     }

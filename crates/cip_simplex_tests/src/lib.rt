@@ -9,6 +9,8 @@ mod forms;
 #[cfg(test)]
 mod moves;
 #[cfg(test)]
+mod numbers;
+#[cfg(test)]
 mod program;
 #[cfg(test)]
 mod random;
