@@ -2,7 +2,7 @@ use Rattle.std.proofs.Common.{◌≡◌, ◌<◌, take, subst, arith}
 use Rattle.std.proofs.lemmas.List.{take_all}
 use Rattle.std.proofs.lemmas.List.Elements.{All-more}
 use Rattle.cip_dict.specs.Entries.{Entry, AreWithin}
-use Rattle.cip_simplex_tests.proofs.program.are_within.Goals as goal
+use Rattle.cip_dict_tests.proofs.program.are_within.Goals as goal
 
 pub loop-entry-preserved : goal.loop-entry-preserved
 loop-entry-preserved c =
