@@ -241,10 +241,10 @@ pub fn relax_from(
 
 /// Solves the linear program of a node over the rows of the program and those of the pool that may be used in its box,
 /// with at most 2,000 moves and two for each of its columns and rows by a rule that makes few and, where that has no
-/// answer, with at most 10,000 by Bland's, and checks what that shows. `Bound` comes with a point of least cost and that cost with the constant, where the check
-/// accepts its combination; `Empty` where there is no point, and the check accepts that; `Falls` where the cost falls
-/// without end from a point; and `Unsolved` with its mark in all other cases. `Err` comes where memory was refused. The
-/// rows keep those of the program in front.
+/// answer, with at most 10,000 by Bland's, and checks what that shows. `Bound` comes with a point of least cost and that
+/// cost with the constant, where the check accepts its combination; `Empty` where there is no point, and the check
+/// accepts that; `Falls` where the cost falls without end from a point; and `Unsolved` with its mark in all other cases.
+/// `Err` comes where memory was refused. The rows keep those of the program in front.
 pub fn relax(
     alloc: Global,
     program: &Program,
