@@ -28,6 +28,3 @@ pub use dict::Dict;
 pub use fault::{FirstFault, MoveFault, OutOfRange};
 pub use laws::{sparse_lines_tell, whole_lines_tell};
 pub use spare::Spare;
-
-#[cfg(test)]
-mod tests;

@@ -32,7 +32,8 @@ IsRead reading cut known after kind =
     → line_read reading (Going known) (cut.ended + 1) cut.line ≡ progress_after (cut.ended + 1) kind after
 
 -- what that line says at the end of the text: nothing where it is empty
-pub record IsLastRead {K I X : Type 0} (reading : Reading K I X) (cut : Cut) (known after : K) (kind : Option ℕ) : Type 0 where
+pub record IsLastRead {K I X : Type 0} (reading : Reading K I X) (cut : Cut) (known after : K) (kind : Option ℕ)
+  : Type 0 where
   pub filled : cut.filled ≡ true → IsRead reading cut known after kind
   pub empty : cut.filled ≡ false → (kind ≡ None) × (known ≡ after)
 

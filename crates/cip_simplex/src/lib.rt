@@ -27,12 +27,3 @@ pub use lp::Lp;
 pub use solver::Solver;
 pub use solving::{solve, solve_from, solve_fully};
 pub use starts::Start;
-
-#[cfg(test)]
-mod greedy_tests;
-#[cfg(test)]
-mod random_tests;
-#[cfg(test)]
-mod slow_check;
-#[cfg(test)]
-mod tests;

@@ -127,7 +127,8 @@ fn basic_goal(dict: &Dict, j: u32, heading: Heading, v: u32) -> Option<Stand>
     requires leaving { v < def.size dict.now }
     requires basic { def.is_basic dict.now v ≡ true }
     requires entering { j < def.size dict.now }
-    ensures { result ≡ headings.goal_ahead (headings.heading_for heading (def.entry dict.now v j)) (sides_at dict.now.sides v) }
+    ensures { result
+        ≡ headings.goal_ahead (headings.heading_for heading (def.entry dict.now v j)) (sides_at dict.now.sides v) }
 {
     let heading = heading_if(heading, dict.is_entry_positive(v, j));
     goal_ahead(heading, dict.sides(v))

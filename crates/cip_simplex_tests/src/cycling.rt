@@ -23,10 +23,9 @@ fn add(row: &mut Row, col: u32, coef: Frac) -> Result<(), Fail> {
 // a row of four terms that is at most 0
 fn below_zero(alloc: Global, coefficients: [Frac; 4]) -> Result<Row, Fail> {
     let mut row = Row::empty(alloc, None, Some(Frac::zero()));
-    add(&mut row, 0, coefficients[0])?;
-    add(&mut row, 1, coefficients[1])?;
-    add(&mut row, 2, coefficients[2])?;
-    add(&mut row, 3, coefficients[3])?;
+    for col in 0..4 {
+        add(&mut row, col, coefficients[col as usize])?;
+    }
     Ok(row)
 }
 

@@ -3,10 +3,10 @@ ghost use Rattle.std.specs.Prelude.{◌≡◌, ◌<◌, length};
 ghost use Rattle.cip_simplex.specs.LpShape.{variables};
 
 use crate::slow_check::{Program, check_answer};
-use crate::{Lp, LpAnswer, Solver, Start, solve, solve_from, solve_greedily};
 use cip_dictionary::Stand;
 use cip_frac::Frac;
 use cip_lin::{Bounds, Row, Sides, Term};
+use cip_simplex::{Lp, LpAnswer, Solver, Start, solve, solve_from, solve_greedily};
 use std::alloc::Global;
 use std::test::Fail;
 

@@ -1,7 +1,7 @@
 //! A plain check of what is answered, from the rows, the sides and the costs alone.
-use crate::answers::LpAnswer;
 use cip_frac::Frac;
 use cip_lin::{Bounds, ColumnMultiple, Combo, Row, RowId, Sides, Term};
+use cip_simplex::LpAnswer;
 use std::test::Fail;
 
 /// What was solved.

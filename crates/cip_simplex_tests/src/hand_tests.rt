@@ -2,9 +2,9 @@
 ghost use Rattle.std.specs.Prelude.{◌≡◌, length};
 
 use crate::slow_check::{Program, check_answer};
-use crate::{Lp, LpAnswer, Solver, Start, solve, solve_from, solve_fully};
 use cip_frac::Frac;
 use cip_lin::{Bounds, Row, Sides, Term};
+use cip_simplex::{Lp, LpAnswer, Solver, Start, solve, solve_from, solve_fully};
 use std::alloc::Global;
 use std::test::Fail;
 

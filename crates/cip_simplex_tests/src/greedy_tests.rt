@@ -1,8 +1,8 @@
 //! Linear programs worked out by hand, solved with few moves.
+use crate::hand_tests::{between, box_of, is_13, row, three_rows, whole};
 use crate::slow_check::{Program, check_answer};
-use crate::tests::{between, box_of, is_13, row, three_rows, whole};
-use crate::{Lp, LpAnswer, Solver, Start, solve_fully, solve_greedily};
 use cip_lin::{Row, Sides};
+use cip_simplex::{Lp, LpAnswer, Solver, Start, solve_greedily};
 use std::alloc::Global;
 use std::test::Fail;
 

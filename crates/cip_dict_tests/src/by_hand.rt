@@ -3,7 +3,8 @@ ghost use Rattle.std.specs.Prelude.{◌≡◌, true};
 ghost use Rattle.cip_dictionary.specs.Dictionary.{CanStand};
 ghost use Rattle.cip_dict.specs.Entries.{AreWithin};
 
-use super::*;
+use cip_dict::{Dict, FirstFault, MoveFault, OutOfRange, Spare};
+use cip_dictionary::Stand;
 use cip_frac::Frac;
 use cip_lin::Sides;
 use std::alloc::Global;
