@@ -8,7 +8,7 @@ use Rattle.cip_input.specs.TextPulls.{IsAllPulled}
 -- the value of a text was read, and of the text that the store tells; it was pulled, and no call of the store has
 -- failed
 pub record ReadsText {X : Type 0} (HasValue : List ℕ → X → Type 0) (text : Option (List ℕ)) (old new : StoreTells)
-  (value : X) : Type 0 where
+    (value : X) : Type 0 where
   pub bytes : List ℕ
   pub described : HasValue bytes value
   pub told : IfSome text (λ told. told ≡ bytes)
@@ -17,7 +17,7 @@ pub record ReadsText {X : Type 0} (HasValue : List ℕ → X → Type 0) (text :
 
 -- the text has its first fault at this line, of this kind; it was pulled, and no call of the store has failed
 pub record RefusesText (HasFault : List ℕ → ℕ → ℕ → Type 0) (text : Option (List ℕ)) (old new : StoreTells)
-  (line kind : ℕ) : Type 0 where
+    (line kind : ℕ) : Type 0 where
   pub fault : IfSome text (λ bytes. HasFault bytes line kind)
   pub pulled : IsAllPulled text new
   pub sound : new.faults ≡ old.faults

@@ -48,7 +48,7 @@ state_place linear InCost = value_place line.Cost
 -- the first operation of the first state that overflows is one of this value
 abbrev pub FirstValueOverflows : LinearProgram → Place → Type 0
 FirstValueOverflows linear place =
-  first_overflow (first_operations (system_of linear)) ≡ Some (state_place linear place)
+    first_overflow (first_operations (system_of linear)) ≡ Some (state_place linear place)
 
 -- the list from the first state has so many moves, the last of which is out of range
 pub record MovesOverflow (linear : LinearProgram) (number : ℕ) : Type 0 where

@@ -33,7 +33,7 @@ IsRead reading cut known after kind =
 
 -- what that line says at the end of the text: nothing where it is empty
 pub record IsLastRead {K I X : Type 0} (reading : Reading K I X) (cut : Cut) (known after : K) (kind : Option ℕ)
-  : Type 0 where
+    : Type 0 where
   pub filled : cut.filled ≡ true → IsRead reading cut known after kind
   pub empty : cut.filled ≡ false → (kind ≡ None) × (known ≡ after)
 

@@ -12,6 +12,6 @@ names_of names = map (λ key. key.items) names.keys.items
 -- the order has each name with its number, and no name stands twice
 pub record AreOrdered (names : Inside) : Type 0 where
   pub found : (name : List ℕ)
-    → get_by (λ key. slice_cmp nat_cmp name key.items) names.order ≡ number_of (names_of names) name
+      → get_by (λ key. slice_cmp nat_cmp name key.items) names.order ≡ number_of (names_of names) name
   pub apart : (number : ℕ) (name : List ℕ) → slice_get (names_of names) number ≡ Some name
       → number_of (names_of names) name ≡ Some number
