@@ -15,6 +15,7 @@ pub mod KeptRows
 pub mod LeastBasic
 pub mod Loops
 pub mod MoveFaults
+pub mod NearSums
 pub mod Places
 pub mod PutEntries
 pub mod Puts

@@ -57,6 +57,11 @@ abbrev pub AreWide : List Whole → Type 0
 AreWide [] = ⊤
 AreWide (e ∷ es) = (magnitude e.1 < 2 ^ 86) × AreWide es
 
+-- the numbers are below 2^63, so that each fits 64 bits
+abbrev pub AreNear : List Whole → Type 0
+AreNear [] = ⊤
+AreNear (e ∷ es) = (magnitude e.1 < 2 ^ 63) × AreNear es
+
 -- the numbers are below 2^42
 abbrev pub AreSmall : List Whole → Type 0
 AreSmall [] = ⊤

@@ -80,37 +80,39 @@ pub(crate) fn number_of(wholes: &[(u32, i64)], k: u32) -> i64
     number_from(wholes, place_from(wholes, k), k)
 }
 
-/// The number on variable k, of which the place is known, and the place of the variable after k; `first` is the
-/// variable of the number at that place.
+/// The variable at a place and the number on it, or `len` and 0 where there is none.
 #[inline(always)]
-fn taken(wholes: &[(u32, i64)], place: usize, first: u32, k: u32) -> (i64, usize)
-    requires kept { (n : ℕ) × AreKept 0 n (over 1 wholes.now) }
+fn head_at(wholes: &[(u32, i64)], place: usize, len: u32) -> (u32, i64)
+    requires kept { AreKept 0 len (over 1 wholes.now) }
     requires small { AreSmall wholes.now }
-    requires there { first ≡ k → place < length wholes.now }
-    requires at { (d : Whole) → place < length wholes.now → first ≡ (slice_index_or wholes.now place d).0 }
+    ensures within { result.0 ≤ len }
+    ensures first { (d : Whole) → place < length wholes.now → result ≡ slice_index_or wholes.now place d }
+    ensures last { length wholes.now ≤ place → result.0 ≡ len }
+    ensures small { magnitude result.1 < 2 ^ 42 }
+{
+    if place < wholes.len() {
+        wholes[place]
+    } else {
+        (len, 0)
+    }
+}
+
+/// The number on variable k, of which the place is known, and the place of the variable after k; `head` is the variable
+/// and the number at that place.
+#[inline(always)]
+fn taken(wholes: &[(u32, i64)], place: usize, head: (u32, i64), k: u32) -> (i64, usize)
+    requires kept { (n : ℕ) × AreKept 0 n (over 1 wholes.now) }
+    requires small { magnitude head.1 < 2 ^ 42 }
+    requires there { head.0 ≡ k → place < length wholes.now }
+    requires at { (d : Whole) → place < length wholes.now → head ≡ slice_index_or wholes.now place d }
     ensures value { IsPlace k (over 1 wholes.now) place → result.0 ≡ number_on wholes.now k }
     ensures small { magnitude result.0 < 2 ^ 42 }
     ensures past { IsPlace k (over 1 wholes.now) place → IsPlace (suc k) (over 1 wholes.now) result.1 }
 {
-    if first == k {
-        (wholes[place].1, place + 1)
+    if head.0 == k {
+        (head.1, place + 1)
     } else {
         (0, place)
-    }
-}
-
-/// The variable of the number at a place, or `len` where there is none.
-#[inline(always)]
-fn variable_at(wholes: &[(u32, i64)], place: usize, len: u32) -> u32
-    requires { AreKept 0 len (over 1 wholes.now) }
-    ensures within { result ≤ len }
-    ensures first { (d : Whole) → place < length wholes.now → result ≡ (slice_index_or wholes.now place d).0 }
-    ensures last { length wholes.now ≤ place → result ≡ len }
-{
-    if place < wholes.len() {
-        wholes[place].0
-    } else {
-        len
     }
 }
 
@@ -161,9 +163,9 @@ pub(crate) fn next_step(
     ensures new_past { result.k < len → IsPlace result.k (over 1 new.now) there
         → IsPlace (suc result.k) (over 1 new.now) result.there }
 {
-    let first = variable_at(row, here, len);
-    let second = variable_at(new, there, len);
-    let k = least(first, second);
+    let first = head_at(row, here, len);
+    let second = head_at(new, there, len);
+    let k = least(first.0, second.0);
     if k >= len {
         return Step {
             k,

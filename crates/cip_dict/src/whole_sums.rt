@@ -8,7 +8,7 @@ ghost use Rattle.cip_dict.specs.SparseLines.{AreKept, IsPlace};
 ghost use Rattle.cip_dict.specs.WholeLines.{Whole, over, number_on, AreSmall, AreWide, IsWhole, IsPut, whole_at, wholes_of, put_number};
 
 use crate::lines::is_absent_on;
-use crate::small_sums::put_small;
+use crate::near_sums::{Put, put_near};
 use crate::whole::{next_step, number_of};
 use cip_dictionary::Stand;
 use cip_frac::short_gcd;
@@ -118,7 +118,7 @@ pub(crate) fn sum_entries(
 
 /// The number part for which size = part * g, where there is one.
 #[inline(always)]
-fn short_part(size: u64, g: u64) -> Option<u64>
+pub(crate) fn short_part(size: u64, g: u64) -> Option<u64>
     requires { 0 < g }
     ensures { IfSome result (λ part. size ≡ part * g) }
 {
@@ -146,7 +146,7 @@ fn part_of(size: u128, g: u128) -> Option<u128>
 
 /// The whole number w for which z = w * g, where there is one below 2^42.
 #[inline(always)]
-fn divided(z: i128, g: u128) -> Option<i64>
+pub(crate) fn divided(z: i128, g: u128) -> Option<i64>
     requires { 0 < g }
     ensures { IfSome result (λ w. (z ≡ w *ℤ pos g) × (magnitude w < 2 ^ 42)) }
 {
@@ -318,10 +318,14 @@ pub(crate) fn put_whole(
 {
     let own = number_of(row, j);
     let (x, f) = split(own, new_below);
-    if f == 1 && row_below == 1 && put_small(standing, i, j, f, x, row, new, out)? {
-        return Ok(Some(1));
+    let under = u128::from(row_below) * u128::from(f);
+    if under <= u64::MAX as u128 {
+        match put_near(standing, i, j, f, x, row, new, under as u64, out)? {
+            Put::Written(below) => return Ok(Some(below)),
+            Put::Large => return Ok(None),
+            Put::Far => (),
+        }
     }
     sum_entries(standing, i, j, f, x, row, new, sums)?;
-    let under = u128::from(row_below) * u128::from(f);
     reduce(sums.as_slice(), under, out)
 }

@@ -1,6 +1,6 @@
-use Rattle.std.proofs.Common.{◌≡◌, ℕ, ◌<◌, ◌≤◌, inl, inr, length, arith}
+use Rattle.std.proofs.Common.{◌≡◌, ℕ, ◌<◌, ◌≤◌, ap, inl, inr, length, arith}
 use Rattle.std.proofs.lemmas.Bool.{cases_lt}
-use Rattle.cip_dict.specs.WholeLines.{over}
+use Rattle.cip_dict.specs.WholeLines.{Whole, over}
 use Rattle.cip_dict.proofs.Places.{next_of}
 use Rattle.cip_dict.proofs.WholeParts.{first_over, last_over}
 use Rattle.cip_dict.proofs.whole.next_step.Goals as goal
@@ -14,21 +14,21 @@ stands p n len first k last l e =
     ]
 
 pub taken-n-requires-clause-there : goal.taken-n-requires-clause-there
-taken-n-requires-clause-there c = λ e. stands c.args.here (length c.args.row.now) c.args.len c.variable_at-first.result c.least-k.result c.variable_at-first.ensures.last (omega (arith, c.if-k-len.false)) e
+taken-n-requires-clause-there c = λ e. stands c.args.here (length c.args.row.now) c.args.len c.head_at-first.result.0 c.least-k.result c.head_at-first.ensures.last (omega (arith, c.if-k-len.false)) e
 
 pub taken-y-requires-clause-there : goal.taken-y-requires-clause-there
-taken-y-requires-clause-there c = λ e. stands c.args.there (length c.args.new.now) c.args.len c.variable_at-second.result c.least-k.result c.variable_at-second.ensures.last (omega (arith, c.if-k-len.false)) e
+taken-y-requires-clause-there c = λ e. stands c.args.there (length c.args.new.now) c.args.len c.head_at-second.result.0 c.least-k.result c.head_at-second.ensures.last (omega (arith, c.if-k-len.false)) e
 
 pub returns-then-k-len-clause-next : goal.returns-then-k-len-clause-next
 returns-then-k-len-clause-next c =
-    next_of c.args.len (over 1 c.args.row.now) (over 1 c.args.new.now) c.args.here c.args.there c.variable_at-first.result c.variable_at-second.result c.least-k.result
-    c.requires.row_kept (first_over c.args.row.now c.args.here c.variable_at-first.result c.variable_at-first.ensures.first) (last_over c.args.row.now c.args.here c.variable_at-first.result c.args.len c.variable_at-first.ensures.last)
-    c.requires.new_kept (first_over c.args.new.now c.args.there c.variable_at-second.result c.variable_at-second.ensures.first) (last_over c.args.new.now c.args.there c.variable_at-second.result c.args.len c.variable_at-second.ensures.last)
+    next_of c.args.len (over 1 c.args.row.now) (over 1 c.args.new.now) c.args.here c.args.there c.head_at-first.result.0 c.head_at-second.result.0 c.least-k.result
+    c.requires.row_kept (first_over c.args.row.now c.args.here c.head_at-first.result.0 (λ b l. ap (λ (e : Whole). e.0) (c.head_at-first.ensures.first b l))) (last_over c.args.row.now c.args.here c.head_at-first.result.0 c.args.len c.head_at-first.ensures.last)
+    c.requires.new_kept (first_over c.args.new.now c.args.there c.head_at-second.result.0 (λ b l. ap (λ (e : Whole). e.0) (c.head_at-second.ensures.first b l))) (last_over c.args.new.now c.args.there c.head_at-second.result.0 c.args.len c.head_at-second.ensures.last)
     c.least-k.ensures.first c.least-k.ensures.second c.least-k.ensures.greatest
 
 pub returns-clause-next : goal.returns-clause-next
 returns-clause-next c =
-    next_of c.args.len (over 1 c.args.row.now) (over 1 c.args.new.now) c.args.here c.args.there c.variable_at-first.result c.variable_at-second.result c.least-k.result
-    c.requires.row_kept (first_over c.args.row.now c.args.here c.variable_at-first.result c.variable_at-first.ensures.first) (last_over c.args.row.now c.args.here c.variable_at-first.result c.args.len c.variable_at-first.ensures.last)
-    c.requires.new_kept (first_over c.args.new.now c.args.there c.variable_at-second.result c.variable_at-second.ensures.first) (last_over c.args.new.now c.args.there c.variable_at-second.result c.args.len c.variable_at-second.ensures.last)
+    next_of c.args.len (over 1 c.args.row.now) (over 1 c.args.new.now) c.args.here c.args.there c.head_at-first.result.0 c.head_at-second.result.0 c.least-k.result
+    c.requires.row_kept (first_over c.args.row.now c.args.here c.head_at-first.result.0 (λ b l. ap (λ (e : Whole). e.0) (c.head_at-first.ensures.first b l))) (last_over c.args.row.now c.args.here c.head_at-first.result.0 c.args.len c.head_at-first.ensures.last)
+    c.requires.new_kept (first_over c.args.new.now c.args.there c.head_at-second.result.0 (λ b l. ap (λ (e : Whole). e.0) (c.head_at-second.ensures.first b l))) (last_over c.args.new.now c.args.there c.head_at-second.result.0 c.args.len c.head_at-second.ensures.last)
     c.least-k.ensures.first c.least-k.ensures.second c.least-k.ensures.greatest

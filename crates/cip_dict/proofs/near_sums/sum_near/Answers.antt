@@ -3,11 +3,12 @@ use Rattle.std.specs.Int.{w64, w128}
 use Rattle.std.proofs.lemmas.Int.{ints}
 use Rattle.cip_dict.specs.Lists.{basic_in}
 use Rattle.cip_dict.specs.SparseLines.{IsNext}
-use Rattle.cip_dict.specs.WholeLines.{over, number_on, put_number, AreSmall}
+use Rattle.cip_dict.specs.WholeLines.{over, number_on, put_number, AreNear, AreSmall}
 use Rattle.cip_dict.proofs.Places.{place_zero}
 use Rattle.cip_dict.proofs.WholeParts.{none_over, read_small, number_small}
 use Rattle.cip_dict.proofs.WholeLoops.{whole_gap, whole_more, put_none}
-use Rattle.cip_dict.proofs.small_sums.put_small.Goals as goal
+use Rattle.cip_dict.proofs.NearSums.{read_near}
+use Rattle.cip_dict.proofs.near_sums.sum_near.Goals as goal
 
 pub loop-step-init : goal.loop-step-init
 loop-step-init c =
@@ -22,7 +23,10 @@ loop-step-init c =
       new_past = λ l. c.next_step-step.ensures.new_past l next.new_place;
       written = whole_gap 0 c.next_step-step.result.k (put_number (basic_in c.args.standing.now) c.args.i c.args.j c.args.f (to_z w64 (of_z w64 c.args.x)) c.args.row.now c.args.new.now) c.clear.new.self.items next.order c.clear.ensures.items
           (λ m a b. put_none (basic_in c.args.standing.now) c.args.i c.args.j c.args.f (to_z w64 (of_z w64 c.args.x)) c.args.row.now c.args.new.now m (none_over 1 c.args.row.now m (lit< tt) (next.row_none m a b)) (none_over 1 c.args.new.now m (lit< tt) (next.new_none m a b)));
-      small = subst AreSmall (sym c.clear.ensures.items) tt;
+      positive = c.requires.positive;
+      under = λ s. s;
+      small = λ _. subst AreSmall (sym c.clear.ensures.items) tt;
+      near = subst AreNear (sym c.clear.ensures.items) tt;
     }
 
 pub loop-step-preserved : goal.loop-step-preserved
@@ -33,6 +37,7 @@ loop-step-preserved c =
     let z : c.number_put-z.result ≡ put_number (basic_in c.args.standing.now) c.args.i c.args.j c.args.f (to_z w64 (of_z w64 c.args.x)) c.args.row.now c.args.new.now c.loop-step.step.k =
     rw (read_small c.loop-step.step.n c.loop-step.invariant.row_small, read_small c.loop-step.step.y c.loop-step.invariant.new_small, c.loop-step.invariant.row_value l, c.loop-step.invariant.new_value l) at c.number_put-z.ensures.value in
     let kept : to_z w128 (of_z w128 c.number_put-z.result) ≡ c.number_put-z.result = omega (arith, ints, c.number_put-z.ensures.small) in
+    let short : to_z w64 (of_z w64 (to_z w128 (of_z w128 c.number_put-z.result))) ≡ to_z w128 (of_z w128 c.number_put-z.result) = read_near (to_z w128 (of_z w128 c.number_put-z.result)) (c.is_near.ensures c.if-not-is_near.false) in
     record {
       within = c.next_step-step-in-loop-step.ensures.within;
       row_value = λ l. c.next_step-step-in-loop-step.ensures.row_value l next.row_place;
@@ -41,9 +46,12 @@ loop-step-preserved c =
       new_small = c.next_step-step-in-loop-step.ensures.new_small;
       row_past = λ l. c.next_step-step-in-loop-step.ensures.row_past l next.row_place;
       new_past = λ l. c.next_step-step-in-loop-step.ensures.new_past l next.new_place;
-      written = whole_more c.loop-step.step.k c.next_step-step-in-loop-step.result.k (put_number (basic_in c.args.standing.now) c.args.i c.args.j c.args.f (to_z w64 (of_z w64 c.args.x)) c.args.row.now c.args.new.now) (to_z w128 (of_z w128 c.number_put-z.result)) c.loop-step.out.items c.keep_small.new.numbers.items next.order c.loop-step.invariant.written (c.in_ok-keep_small.ensures.kept c.if-not-branch.false) (kept ∙ z)
+      written = whole_more c.loop-step.step.k c.next_step-step-in-loop-step.result.k (put_number (basic_in c.args.standing.now) c.args.i c.args.j c.args.f (to_z w64 (of_z w64 c.args.x)) c.args.row.now c.args.new.now) (to_z w64 (of_z w64 (to_z w128 (of_z w128 c.number_put-z.result)))) c.loop-step.out.items c.keep_near.new.numbers.items next.order c.loop-step.invariant.written c.in_ok-keep_near.ensures.kept (short ∙ kept ∙ z)
           (λ m a b. put_none (basic_in c.args.standing.now) c.args.i c.args.j c.args.f (to_z w64 (of_z w64 c.args.x)) c.args.row.now c.args.new.now m (none_over 1 c.args.row.now m (lit< tt) (next.row_none m a b)) (none_over 1 c.args.new.now m (lit< tt) (next.new_none m a b)));
-      small = c.in_ok-keep_small.ensures.small c.loop-step.invariant.small;
+      positive = c.with_number-near.ensures.positive;
+      under = λ s. c.loop-step.invariant.under (omega (arith, s, c.with_number-near.ensures.before));
+      small = λ s. c.in_ok-keep_near.ensures.small (omega (arith, s, c.with_number-near.ensures.this)) (c.loop-step.invariant.small (omega (arith, s, c.with_number-near.ensures.before)));
+      near = c.in_ok-keep_near.ensures.near c.loop-step.invariant.near;
     }
 
 pub loop-step-smaller : goal.loop-step-smaller

@@ -2,8 +2,8 @@ use Rattle.std.proofs.Common.{◌≡◌, suc, ◌<◌, ◌≤◌, ◌-◌, ◌^�
 use Rattle.cip_rational.specs.Range.{magnitude}
 use Rattle.cip_dict.specs.Lists.{basic_in}
 use Rattle.cip_dict.specs.SparseLines.{IsPlace}
-use Rattle.cip_dict.specs.WholeLines.{over, number_on, wholes_of, put_number, AreSmall}
-use Rattle.cip_dict.proofs.small_sums.put_small.Given as goal
+use Rattle.cip_dict.specs.WholeLines.{over, number_on, wholes_of, put_number, AreNear, AreSmall}
+use Rattle.cip_dict.proofs.near_sums.sum_near.Given as goal
 
 abbrev pub invariant-loop-step : goal.invariant-loop-step
 invariant-loop-step l = record {
@@ -15,7 +15,10 @@ invariant-loop-step l = record {
   row_past : l.step.k < length l.standing → IsPlace (suc l.step.k) (over 1 l.row) l.step.here;
   new_past : l.step.k < length l.standing → IsPlace (suc l.step.k) (over 1 l.new) l.step.there;
   written : l.out.items ≡ wholes_of l.step.k (put_number (basic_in l.standing) l.i l.j l.f l.x l.row l.new);
-  small : AreSmall l.out.items;
+  positive : 0 < l.near.g;
+  under : l.near.most < 2 ^ 42 → l.under < 2 ^ 42;
+  small : l.near.most < 2 ^ 42 → AreSmall l.out.items;
+  near : AreNear l.out.items;
 }
 
 abbrev pub decreases-loop-step : goal.decreases-loop-step

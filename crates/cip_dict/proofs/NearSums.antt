@@ -1,0 +1,71 @@
+-- Sums that fit 64 bits, and their division where they stand.
+use Rattle.std.proofs.Common.{◌≡◌, ℕ, zero, suc, ◌+◌, ◌*◌, ◌<◌, ◌^◌, ℤ, pos, ◌*ℤ◌, to_z, of_z, List, [], ◌∷◌, ◌++◌, length, get_or, set, refl, sym, ap, ap₂, ◌∙◌, subst, arith}
+use Rattle.std.specs.Int.{w64}
+use Rattle.std.proofs.lemmas.Int.{ints}
+use Rattle.cip_rational.specs.Rational.{ℚ, ratio}
+use Rattle.cip_rational.specs.Range.{magnitude}
+use Rattle.cip_dict.specs.SparseLines.{Kept}
+use Rattle.cip_dict.specs.WholeLines.{Whole, over, AreNear, AreSmall}
+use Rattle.cip_dict.proofs.WholeLines.{whole_lines_tell}
+
+pub read_near : (z : ℤ) → magnitude z < 2 ^ 63 → to_z w64 (of_z w64 z) ≡ z
+read_near z h = omega (arith, ints, h)
+
+pub near_append : (es : List Whole) (k : ℕ) (z : ℤ) → AreNear es → magnitude z < 2 ^ 63 → AreNear (es ++ (k, z) ∷ [])
+near_append [] k z h l = (l, tt)
+near_append (e ∷ es) k z h l = (h.0, near_append es k z h.1 l)
+
+pub item_near : (es : List Whole) (p : ℕ) (b : Whole) → AreNear es → p < length es → magnitude (get_or es p b).1 < 2 ^ 63
+item_near [] p b h l = absurd (omega (arith, l))
+item_near (e ∷ es) zero b h l = h.0
+item_near (e ∷ es) (suc p) b h l = item_near es p b h.1 (omega (arith, l))
+
+-- the first p numbers of a list have been divided by g, which leaves them below 2^42
+abbrev pub IsDivided : ℕ → ℕ → List Whole → List Whole → Type 0
+IsDivided g zero now old = now ≡ old
+IsDivided g (suc p) [] [] = Unit {0}
+IsDivided g (suc p) [] (b ∷ bs) = ⊥
+IsDivided g (suc p) (a ∷ ns) [] = ⊥
+IsDivided g (suc p) (a ∷ ns) (b ∷ bs) = (a.0 ≡ b.0) × (b.1 ≡ a.1 *ℤ pos g) × (magnitude a.1 < 2 ^ 42) × IsDivided g p ns bs
+
+pub divided_length : (g p : ℕ) (now old : List Whole) → IsDivided g p now old → length now ≡ length old
+divided_length g zero now old h = ap length h
+divided_length g (suc p) [] [] h = refl
+divided_length g (suc p) [] (b ∷ bs) h = absurd h
+divided_length g (suc p) (a ∷ ns) [] h = absurd h
+divided_length g (suc p) (a ∷ ns) (b ∷ bs) h = ap suc (divided_length g p ns bs h.3)
+
+pub divided_next : (g p : ℕ) (now old : List Whole) (d : Whole) → IsDivided g p now old → get_or now p d ≡ get_or old p d
+divided_next g zero now old d h = ap (λ es. get_or es 0 d) h
+divided_next g (suc p) [] [] d h = refl
+divided_next g (suc p) [] (b ∷ bs) d h = absurd h
+divided_next g (suc p) (a ∷ ns) [] d h = absurd h
+divided_next g (suc p) (a ∷ ns) (b ∷ bs) d h = divided_next g p ns bs d h.3
+
+pub divided_over : (g p : ℕ) (now old : List Whole) → 0 < g → length old ≡ p → IsDivided g p now old → (d : ℕ) → 0 < d → over d now ≡ over (d * g) old
+divided_over g zero [] [] hg l h d hd = refl
+divided_over g zero (a ∷ ns) [] hg l h d hd = absurd (omega (arith, ap length h))
+divided_over g zero now (b ∷ bs) hg l h d hd = absurd (omega (arith, l))
+divided_over g (suc p) [] [] hg l h d hd = refl
+divided_over g (suc p) [] (b ∷ bs) hg l h d hd = absurd h
+divided_over g (suc p) (a ∷ ns) [] hg l h d hd = absurd h
+divided_over g (suc p) (a ∷ ns) (b ∷ bs) hg l h d hd =
+    let number : ratio a.1 d ≡ ratio b.1 (d * g) = sym (whole_lines_tell.divided a.1 d g hd hg) ∙ ap (λ t. ratio t (d * g)) (sym h.1) in
+    let first : ◌≡◌ {A = Kept} (a.0, ratio a.1 d) (b.0, ratio b.1 (d * g)) = ap₂ (λ (k : ℕ) (q : ℚ). (k, q)) h.0 number in
+    let rest : over d ns ≡ over (d * g) bs = divided_over g p ns bs hg (omega (arith, l)) h.3 d hd in
+    ap₂ (λ (e : Kept) (es : List Kept). e ∷ es) first rest
+
+pub divided_small : (g p : ℕ) (now old : List Whole) → length old ≡ p → IsDivided g p now old → AreSmall now
+divided_small g zero [] old l h = tt
+divided_small g zero (a ∷ ns) old l h = absurd (omega (arith, l, ap length h))
+divided_small g (suc p) [] old l h = tt
+divided_small g (suc p) (a ∷ ns) [] l h = absurd h
+divided_small g (suc p) (a ∷ ns) (b ∷ bs) l h = (h.2, divided_small g p ns bs (omega (arith, l)) h.3)
+
+pub divided_step : (g p : ℕ) (now old : List Whole) (w : ℤ) → p < length old → IsDivided g p now old → (get_or old p (0, pos 0)).1 ≡ w *ℤ pos g → magnitude w < 2 ^ 42 → IsDivided g (suc p) (set now p ((get_or now p (0, pos 0)).0, w)) old
+divided_step g zero now [] w l h e s = absurd (omega (arith, l))
+divided_step g zero now (b ∷ bs) w l h e s =
+    subst (λ (es : List Whole). IsDivided g 1 (set es 0 ((get_or es 0 (0, pos 0)).0, w)) (b ∷ bs)) (sym h) (refl, e, s, refl)
+divided_step g (suc p) now [] w l h e s = absurd (omega (arith, l))
+divided_step g (suc p) [] (b ∷ bs) w l h e s = absurd h
+divided_step g (suc p) (a ∷ ns) (b ∷ bs) w l h e s = (h.0, h.1, h.2, divided_step g p ns bs w (omega (arith, l)) h.3 e s)

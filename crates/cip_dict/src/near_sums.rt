@@ -1,0 +1,203 @@
+//! Sums of whole numbers that fit 64 bits: written at once, and divided where they stand.
+ghost use Rattle.std.specs.Prelude.{◌≡◌, ℕ, ◌^◌, ◌*◌, ◌<◌, ◌≤◌, ◌++◌, true, length, OnOk, IfOk, IfSome};
+ghost use Rattle.cip_rational.specs.Range.{magnitude};
+ghost use Rattle.cip_dict.specs.Lists.{basic_in};
+ghost use Rattle.cip_dict.specs.SparseLines.{AreKept};
+ghost use Rattle.cip_dict.specs.WholeLines.{over, AreNear, AreSmall, whole_at, wholes_of, put_number};
+ghost use Rattle.cip_dict.specs.declared.near_sums.Put.TheVariants.{Written};
+
+use crate::whole::next_step;
+use crate::whole_sums::{SMALL, divided, number_put, short_common, short_part};
+use cip_dictionary::Stand;
+use std::alloc::AllocError;
+
+/// What a row's denominator and the numbers so far tell: a divisor that they may have in common, and a number that none
+/// of them is above.
+#[derive(Clone, Copy, Debug)]
+pub(crate) struct Near {
+    pub(crate) g: u64,
+    pub(crate) most: u64,
+}
+
+/// What has come of a row: it is written, over this denominator; or a number isn't below 2^42, nor can be made so; or a
+/// number doesn't fit 64 bits, as long as nothing is divided.
+#[derive(Clone, Copy, Debug)]
+pub(crate) enum Put {
+    Written(u64),
+    Large,
+    Far,
+}
+
+/// Whether a number fits 64 bits, with its opposite.
+#[inline(always)]
+fn is_near(z: i128) -> bool
+    ensures { result ≡ true → magnitude z < 2 ^ 63 }
+{
+    z > i64::MIN as i128 && z <= i64::MAX as i128
+}
+
+/// A number that neither of two is above.
+#[inline(always)]
+fn above_both(a: u64, b: u64) -> u64
+    ensures first { a ≤ result }
+    ensures second { b ≤ result }
+{
+    a | b
+}
+
+/// What is told with one number more.
+#[inline(always)]
+fn with_number(near: Near, z: i64) -> Near
+    requires positive { 0 < near.g }
+    ensures positive { 0 < result.g }
+    ensures before { near.most ≤ result.most }
+    ensures this { magnitude z ≤ result.most }
+{
+    let size = z.unsigned_abs();
+    let g = if near.g == 1 {
+        1
+    } else {
+        short_common(near.g, size)
+    };
+    let most = above_both(near.most, size);
+    Near { g, most }
+}
+
+/// Keeps a number at the end, unless it is 0.
+#[inline(always)]
+fn keep_near(numbers: &mut Vec<(u32, i64)>, k: u32, z: i64) -> Result<(), AllocError>
+    requires { magnitude z < 2 ^ 63 }
+    ensures kept { OnOk result (numbers.new.items ≡ numbers.old.items ++ whole_at k z) }
+    ensures near { AreNear numbers.old.items → AreNear numbers.new.items }
+    ensures small { magnitude z < 2 ^ 42 → AreSmall numbers.old.items → AreSmall numbers.new.items }
+{
+    if z != 0 {
+        numbers.push((k, z))?;
+    }
+    Ok(())
+}
+
+/// Keeps the numbers of a row after that of j, whose numbers are `new`, has been put in its place, and tells of them
+/// and the denominator `under`; i leaves. None where a number doesn't fit 64 bits.
+fn sum_near(
+    standing: &[Option<Stand>],
+    i: u32,
+    j: u32,
+    f: u64,
+    x: i64,
+    row: &[(u32, i64)],
+    new: &[(u32, i64)],
+    under: u64,
+    out: &mut Vec<(u32, i64)>,
+) -> Result<Option<Near>, AllocError>
+    requires few { length standing.now < 2 ^ 32 }
+    requires factor_small { f < 2 ^ 42 }
+    requires own_small { magnitude x < 2 ^ 42 }
+    requires row_kept { AreKept 0 (length standing.now) (over 1 row.now) }
+    requires row_small { AreSmall row.now }
+    requires new_kept { AreKept 0 (length standing.now) (over 1 new.now) }
+    requires new_small { AreSmall new.now }
+    requires positive { 0 < under }
+    ensures told { IfOk result (λ found. IfSome found (λ near. (0 < near.g)
+        × (near.most < 2 ^ 42 → (under < 2 ^ 42) × AreSmall out.new.items)
+        × (out.new.items
+        ≡ wholes_of (length standing.now) (put_number (basic_in standing.now) i j f x row.now new.now)))) }
+    ensures near { AreNear out.new.items }
+{
+    out.clear();
+    let len = standing.len() as u32;
+    let mut near = Near {
+        g: under,
+        most: under,
+    };
+    let mut step = next_step(row, 0, new, 0, len);
+    while step.k < len {
+        let z = number_put(standing, i, j, f, x, step.n, step.y, step.k);
+        if !is_near(z) {
+            return Ok(None);
+        }
+        keep_near(out, step.k, z as i64)?;
+        near = with_number(near, z as i64);
+        step = next_step(row, step.here, new, step.there, len);
+    }
+    Ok(Some(near))
+}
+
+/// Divides all numbers by g, where they stand; answers whether that leaves whole numbers below 2^42.
+fn divide_near(numbers: &mut [(u32, i64)], g: u64) -> bool
+    requires positive { 0 < g }
+    requires near { AreNear numbers.old }
+    ensures divided { result ≡ true → (d : ℕ) → 0 < d → over d numbers.new ≡ over (d * g) numbers.old }
+    ensures small { result ≡ true → AreSmall numbers.new }
+{
+    for at in 0..numbers.len() {
+        match divided(i128::from(numbers[at].1), u128::from(g)) {
+            Some(number) => numbers[at].1 = number,
+            None => return false,
+        }
+    }
+    true
+}
+
+/// Divides numbers and their denominator by what they have in common, g; answers the denominator then, where all are
+/// below 2^42.
+fn reduce_near(numbers: &mut [(u32, i64)], under: u64, g: u64) -> Option<u64>
+    requires positive { 0 < under }
+    requires divisor { 0 < g }
+    requires near { AreNear numbers.old }
+    ensures { IfSome result (λ below. (0 < below) × (below < 2 ^ 42) × AreSmall numbers.new
+        × (over below numbers.new ≡ over under numbers.old)) }
+{
+    match short_part(under, g) {
+        Some(below) => {
+            if below < SMALL && divide_near(numbers, g) {
+                Some(below)
+            } else {
+                None
+            }
+        }
+        None => None,
+    }
+}
+
+/// Writes the numbers of a row over `under` after that of j, `new`, has been put in its place, without what they have
+/// in common; i leaves.
+pub(crate) fn put_near(
+    standing: &[Option<Stand>],
+    i: u32,
+    j: u32,
+    f: u64,
+    x: i64,
+    row: &[(u32, i64)],
+    new: &[(u32, i64)],
+    under: u64,
+    out: &mut Vec<(u32, i64)>,
+) -> Result<Put, AllocError>
+    requires few { length standing.now < 2 ^ 32 }
+    requires factor_small { f < 2 ^ 42 }
+    requires own_small { magnitude x < 2 ^ 42 }
+    requires row_kept { AreKept 0 (length standing.now) (over 1 row.now) }
+    requires row_small { AreSmall row.now }
+    requires new_kept { AreKept 0 (length standing.now) (over 1 new.now) }
+    requires new_small { AreSmall new.now }
+    requires positive { 0 < under }
+    ensures { IfOk result (λ put. (below : ℕ) → put ≡ Written below
+        → (0 < below) × (below < 2 ^ 42) × AreSmall out.new.items
+        × (over below out.new.items
+        ≡ over under (wholes_of (length standing.now) (put_number (basic_in standing.now) i j f x row.now new.now)))) }
+{
+    let Some(near) = sum_near(standing, i, j, f, x, row, new, under, out)? else {
+        return Ok(Put::Far);
+    };
+    if near.g == 1 {
+        return Ok(if near.most < SMALL {
+            Put::Written(under)
+        } else {
+            Put::Large
+        });
+    }
+    match reduce_near(out, under, near.g) {
+        Some(below) => Ok(Put::Written(below)),
+        None => Ok(Put::Large),
+    }
+}
