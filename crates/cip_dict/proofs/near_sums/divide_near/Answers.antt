@@ -1,10 +1,10 @@
-use Rattle.std.proofs.Common.{◌≡◌, ℕ, pos, suc, ◌+◌, to_z, of_z, ◌*ℤ◌, ◌^◌, ◌<◌, length, get_or, set, refl, ap, sym, subst, arith, ◌∙◌}
+use Rattle.std.proofs.Common.{◌≡◌, pos, suc, ◌+◌, to_z, of_z, ◌*ℤ◌, ◌^◌, ◌<◌, length, get_or, refl, ap, sym, arith, ◌∙◌}
 use Rattle.std.specs.Int.{w64, w128}
 use Rattle.std.proofs.lemmas.Int.{ints}
 use Rattle.cip_rational.specs.Range.{magnitude}
 use Rattle.cip_dict.specs.WholeLines.{Whole}
 use Rattle.cip_dict.proofs.WholeParts.{read_small}
-use Rattle.cip_dict.proofs.NearSums.{IsDivided, read_near, item_near, divided_next, divided_over, divided_small, divided_step}
+use Rattle.cip_dict.proofs.NearSums.{read_near, item_near, divided_next, divided_over, divided_small, divided_step}
 use Rattle.cip_dict.proofs.near_sums.divide_near.Goals as goal
 
 pub loop-at-init : goal.loop-at-init

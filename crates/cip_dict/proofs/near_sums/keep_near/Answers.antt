@@ -1,7 +1,4 @@
-use Rattle.std.proofs.Common.{◌≡◌, to_z, of_z, arith}
-use Rattle.std.specs.Int.{w64}
 use Rattle.cip_dict.proofs.WholeLoops.{small_append}
-use Rattle.cip_dict.proofs.WholeParts.{read_small}
 use Rattle.cip_dict.proofs.NearSums.{near_append, read_near}
 use Rattle.cip_dict.proofs.near_sums.keep_near.Goals as goal
 

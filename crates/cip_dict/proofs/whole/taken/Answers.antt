@@ -1,4 +1,4 @@
-use Rattle.std.proofs.Common.{◌≡◌, ◌<◌, ◌∙◌, add-one, pos, sym, ap, length, arith}
+use Rattle.std.proofs.Common.{◌<◌, ◌∙◌, add-one, pos, sym, ap, length, arith}
 use Rattle.cip_rational.specs.Rational.{zeroℚ}
 use Rattle.cip_dict.specs.WholeLines.{Whole, over}
 use Rattle.cip_dict.proofs.Places.{place_hit, place_miss}

@@ -1,6 +1,5 @@
-use Rattle.std.proofs.Common.{◌≡◌, ◌*◌, to_z, of_z, sym, ◌∙◌}
+use Rattle.std.proofs.Common.{◌≡◌, to_z, of_z, sym, ◌∙◌}
 use Rattle.std.specs.Int.{w64}
-use Rattle.cip_dict.specs.WholeLines.{over, wholes_of, put_number}
 use Rattle.cip_dict.proofs.WholeParts.{read_small}
 use Rattle.cip_dict.proofs.whole_sums.put_whole.Goals as goal
 

@@ -1,11 +1,11 @@
-use Rattle.std.proofs.Common.{◌≡◌, ◌<◌, ℕ, ℤ, ◌∙◌, to_z, of_z, refl, length, arith, suc, sym, subst, lit<}
+use Rattle.std.proofs.Common.{◌≡◌, ◌<◌, ◌∙◌, to_z, of_z, length, arith, suc, sym, subst, lit<}
 use Rattle.std.specs.Int.{w64, w128}
 use Rattle.std.proofs.lemmas.Int.{ints}
 use Rattle.cip_dict.specs.Lists.{basic_in}
 use Rattle.cip_dict.specs.SparseLines.{IsNext}
-use Rattle.cip_dict.specs.WholeLines.{over, number_on, put_number, AreWide}
+use Rattle.cip_dict.specs.WholeLines.{over, put_number, AreWide}
 use Rattle.cip_dict.proofs.Places.{place_zero}
-use Rattle.cip_dict.proofs.WholeParts.{none_over, read_small, number_small}
+use Rattle.cip_dict.proofs.WholeParts.{none_over, read_small}
 use Rattle.cip_dict.proofs.WholeLoops.{whole_gap, whole_more, put_none}
 use Rattle.cip_dict.proofs.whole_sums.sum_entries.Goals as goal
 
