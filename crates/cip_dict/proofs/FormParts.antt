@@ -3,7 +3,7 @@ use Rattle.std.proofs.Common.{◌≡◌, ℕ, ◌<◌, Bool, true, false, ℤ, L
 use Rattle.std.proofs.lemmas.Bool.{true≢false}
 use Rattle.cip_rational.specs.Rational.{ℚ, ratio}
 use Rattle.cip_problem.specs.Activity.{value_at}
-use Rattle.cip_dict.specs.SparseLines.{Kept, entry_on, dense, kept_of, AreKept}
+use Rattle.cip_dict.specs.SparseLines.{Kept, dense, kept_of, AreKept}
 use Rattle.cip_dict.specs.WholeLines.{Whole, over, number_on, kept_in, IsWhole, IsForm, IsSpelled}
 use Rattle.cip_dict.proofs.Dense.{dense_len, dense_read}
 use Rattle.cip_dict.proofs.KeptLoops.{kept_back}
@@ -61,6 +61,16 @@ module _ (len : ℕ) (b : Bool) (below : ℕ) (ws : List Whole) (new : List Kept
 
   pub parted_dense : (row : List ℚ) → dense len new ≡ row → dense len (kept_in b below ws new) ≡ row
   parted_dense row h = subst (λ (c : Bool). dense len (kept_in c below ws new) ≡ row) (sym f) h
+
+module _ (len : ℕ) (b : Bool) (below : ℕ) (new : List Whole) (es : List Kept) (t : b ≡ true) where
+  pub numbers_form : AreKept 0 len (over below new) → IsWhole below new → IsForm len b below new es
+  numbers_form h w = record {
+    kept = subst (λ (c : Bool). AreKept 0 len (kept_in c below new es)) (sym t) h;
+    whole = λ _. w;
+  }
+
+  pub numbers_dense : (row : List ℚ) → dense len (over below new) ≡ row → dense len (kept_in b below new es) ≡ row
+  numbers_dense row h = subst (λ (c : Bool). dense len (kept_in c below new es) ≡ row) (sym t) h
 
 pub length_len : (len : ℕ) (es : List Kept) (row : List ℚ) → dense len es ≡ row → length row ≡ len
 length_len len es row view = sym (dense_len len (length row) es row view refl)

@@ -18,6 +18,7 @@ pub mod MoveFaults
 pub mod NearSums
 pub mod Places
 pub mod PutEntries
+pub mod PutBehind
 pub mod Puts
 pub mod RowLists
 pub mod Settled

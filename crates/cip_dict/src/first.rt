@@ -16,7 +16,6 @@ ghost use Rattle.cip_dict.specs.State.{state, HasLists, HasRoom};
 use crate::exchange::value_at_stand;
 use crate::fault::{FirstFault, OutOfRange};
 use crate::forms::{Form, room_of};
-use crate::kept::keep_entry;
 use crate::lines::is_basic;
 use crate::lists::{Lists, Room, Spelled};
 use crate::settle::settled;
@@ -111,17 +110,11 @@ fn all_costs(alloc: Global, spare: &mut Spare, costs: &[Frac], n: usize) -> Resu
     requires columns { length costs.now ≤ n }
     ensures { IfOk result (λ all. all ≡ table n (cost_in costs.now)) }
 {
-    let mut entries = spare.entries(alloc);
+    let mut all = Form::zeros(alloc, spare, n);
     for k in 0..costs.len() {
-        keep_entry(&mut entries, k as u32, costs[k])?;
+        all.set(k as u32, costs[k])?;
     }
-    Ok(Form {
-        entries,
-        wholes: spare.wholes(alloc),
-        below: 1,
-        is_whole: false,
-        len: n,
-    })
+    Ok(all)
 }
 
 /// Puts all entries into their rows, which are those of the variables past the columns by their numbers. The last that

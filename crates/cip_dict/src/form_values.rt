@@ -1,5 +1,5 @@
 //! The values of forms, by their entries that aren't 0.
-ghost use Rattle.std.specs.Prelude.{◌≡◌, ℕ, ◌^◌, ◌<◌, ◌≤◌, ◌&&◌, ◌==◌, true, false, length, slice_index_or, Some, None, MatchResult};
+ghost use Rattle.std.specs.Prelude.{◌≡◌, ℕ, ◌<◌, ◌≤◌, ◌&&◌, ◌==◌, true, false, length, slice_index_or, Some, None, MatchResult};
 ghost use Rattle.cip_rational.specs.Rational.{◌+ℚ◌, ◌*ℚ◌};
 ghost use Rattle.cip_problem.specs.Activity.{value_at};
 ghost use Rattle.cip_dictionary.specs.Tables.{form};
@@ -9,7 +9,6 @@ ghost use Rattle.cip_dict.specs.SparseLines.{Kept, entry_on, AreKept};
 
 use crate::entries::sum;
 use crate::fault::OutOfRange;
-use crate::forms::Form;
 use crate::values::value_of;
 use cip_dictionary::Line;
 use cip_frac::Frac;
@@ -64,31 +63,6 @@ pub(crate) fn entries_value(
             Err(fault) => return Err(fault),
         }
         place += 1;
-    }
-    Ok(total)
-}
-
-/// The value of a form on the first n variables, variable by variable: the products added one after another.
-pub(crate) fn form_value(
-    line: Line,
-    n: usize,
-    row: &Form,
-    values: &[Frac],
-) -> Result<Frac, OutOfRange>
-    requires few { n < 2 ^ 32 }
-    requires row_long { n ≤ length row.now }
-    requires values_long { n ≤ length values.now }
-    ensures { let operations = form_operations line n (value_at row.now) (value_at values.now) in
-        MatchResult result
-        (λ v. (first_overflow operations ≡ None) × (v ≡ form n (value_at row.now) (value_at values.now)))
-        (λ fault. first_overflow operations ≡ Some fault.place) }
-{
-    let mut total = Frac::zero();
-    for k in 0..n {
-        match entry_step(line, total, (k as u32, row.entry(k as u32)), values) {
-            Ok(value) => total = value,
-            Err(fault) => return Err(fault),
-        }
     }
     Ok(total)
 }

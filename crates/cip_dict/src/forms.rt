@@ -10,11 +10,12 @@ ghost use Rattle.cip_dict.specs.WholeLines.{IsSpelled};
 
 use crate::entries::{is_below, vanishes};
 use crate::fault::OutOfRange;
-use crate::form_values::{entries_value, form_value};
+use crate::form_values::entries_value;
 use crate::kept::{copy_entries, entry_at, entry_of, put_entry};
 use crate::settle::{common_below, settle_entries};
 use crate::spare::Spare;
 use crate::whole::{fraction, number_of, put_over, spell_wholes, whole_entry_at};
+use crate::whole_entries::{put_behind, wholes_value};
 use cip_dictionary::Line;
 use cip_frac::Frac;
 use std::alloc::{AllocError, Global};
@@ -82,7 +83,7 @@ impl Form {
             entries,
             wholes: spare.wholes(alloc),
             below: 1,
-            is_whole: false,
+            is_whole: true,
             len,
         }
     }
@@ -95,7 +96,7 @@ impl Form {
             entries: Vec::new(alloc),
             wholes: Vec::new(alloc),
             below: 1,
-            is_whole: false,
+            is_whole: true,
             len: 0,
         }
     }
@@ -181,7 +182,20 @@ impl Form {
     }
 
     /// Puts the entry on a variable. `Err` where memory was refused.
+    #[inline(always)]
     pub(crate) fn set(&mut self, k: u32, entry: Frac) -> Result<(), AllocError>
+        requires { k < length self.old }
+        ensures { OnOk result (self.new ≡ slice_set self.old k entry) }
+    {
+        if self.is_whole && put_behind(&mut self.wholes, self.below, k, entry)? {
+            return Ok(());
+        }
+        self.set_parted(k, entry)
+    }
+
+    /// The same, where it is kept as fractions from then on.
+    #[inline(never)]
+    fn set_parted(&mut self, k: u32, entry: Frac) -> Result<(), AllocError>
         requires { k < length self.old }
         ensures { OnOk result (self.new ≡ slice_set self.old k entry) }
     {
@@ -226,7 +240,7 @@ impl Form {
             (λ fault. first_overflow operations ≡ Some fault.place) }
     {
         if self.is_whole {
-            return form_value(line, n, self, values);
+            return wholes_value(line, n, self.wholes.as_slice(), self.below, values);
         }
         entries_value(line, n, self.entries.as_slice(), values)
     }

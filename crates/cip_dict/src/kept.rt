@@ -170,6 +170,16 @@ fn let_go_at(entries: &mut Vec<(u32, Frac)>, place: usize, k: u32)
     }
 }
 
+/// Whether all entries are on variables below k.
+#[inline(always)]
+fn is_past(entries: &[(u32, Frac)], k: u32) -> bool
+    requires { (n : ℕ) × AreKept 0 n entries.now }
+    ensures { result ≡ true → IsPlace k entries.now (length entries.now) }
+{
+    let len = entries.len();
+    len == 0 || entries[len - 1].0 < k
+}
+
 /// Puts an entry on variable k, whatever stood there. `Err` where memory was refused.
 pub(crate) fn put_entry(
     entries: &mut Vec<(u32, Frac)>,
@@ -181,6 +191,10 @@ pub(crate) fn put_entry(
         ≡ (if v == k then entry else entry_on entries.old.items v)) }
     ensures kept { (n : ℕ) → k < n → AreKept 0 n entries.old.items → AreKept 0 n entries.new.items }
 {
+    if is_past(entries.as_slice(), k) {
+        keep_entry(entries, k, entry)?;
+        return Ok(());
+    }
     let place = place_from(entries.as_slice(), k);
     if vanishes(entry) {
         let_go_at(entries, place, k);

@@ -20,6 +20,7 @@ mod settle;
 mod spare;
 mod values;
 mod whole;
+mod whole_entries;
 mod whole_sums;
 mod whole_turns;
 

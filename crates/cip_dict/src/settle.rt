@@ -20,6 +20,9 @@ fn with_denominator(below: u64, d: u64) -> u64
     ensures positive { 0 < result }
     ensures small { result < 2 ^ 42 }
 {
+    if d == 1 || d == below {
+        return below;
+    }
     let common = short_common(below, d);
     let multiple = u128::from(below / common) * u128::from(d);
     if multiple == 0 || multiple >= u128::from(SMALL) {
@@ -73,6 +76,9 @@ fn number_over(n: i64, d: u64, below: u64) -> Option<i64>
     requires small { below < 2 ^ 42 }
     ensures { IfSome result (λ z. (f : ℕ) × (0 < f) × (below ≡ d * f) × (z ≡ n *ℤ pos f) × (magnitude z < 2 ^ 42)) }
 {
+    if d == below {
+        return Some(n);
+    }
     if below % d != 0 {
         return None;
     }

@@ -1,7 +1,18 @@
 use Rattle.std.proofs.Common.{◌≡◌, sym}
 use Rattle.cip_rational.specs.Rational.{zeroℚ}
 use Rattle.cip_dictionary.proofs.Zeros.{zero_of}
+use Rattle.cip_dict.proofs.PutBehind.{end_entry, end_kept}
 use Rattle.cip_dict.proofs.kept.put_entry.Goals as goal
+
+pub returns-then-is_past-clause-put : goal.returns-then-is_past-clause-put
+returns-then-is_past-clause-put c =
+    let place = (rw c.as_slice.ensures.value at c.is_past.ensures) c.if-is_past.true in
+    λ v. rw c.in_ok-keep_entry.ensures.kept (end_entry c.args.k v c.args.entry c.args.entries.now.items c.requires.0 c.requires.2 place)
+
+pub returns-then-is_past-clause-kept : goal.returns-then-is_past-clause-kept
+returns-then-is_past-clause-kept c =
+    let place = (rw c.as_slice.ensures.value at c.is_past.ensures) c.if-is_past.true in
+    λ n l h. rw c.in_ok-keep_entry.ensures.kept (end_kept c.args.k n c.args.entry c.args.entries.now.items h place l)
 
 pub returns-then-vanishes-clause-put : goal.returns-then-vanishes-clause-put
 returns-then-vanishes-clause-put c =

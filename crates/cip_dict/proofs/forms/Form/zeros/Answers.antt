@@ -1,7 +1,8 @@
 use Rattle.std.proofs.Common.{sym, ap, ◌∙◌}
 use Rattle.cip_dict.specs.SparseLines.{dense}
+use Rattle.cip_dict.specs.WholeLines.{over}
 use Rattle.cip_dict.proofs.Dense.{dense_none}
 use Rattle.cip_dict.proofs.forms.Form.zeros.Goals as goal
 
 pub returns : goal.returns
-returns c = ap (dense c.args.len) c.entries-entries.ensures ∙ sym (dense_none c.args.len)
+returns c = ap (λ ws. dense c.args.len (over 1 ws)) c.wholes.ensures ∙ sym (dense_none c.args.len)
