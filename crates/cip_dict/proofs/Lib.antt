@@ -1,3 +1,4 @@
+pub mod Added
 pub mod After
 pub mod Begun
 pub mod Chains

@@ -3,9 +3,9 @@ use Rattle.std.proofs.Common.{◌≡◌, ℕ, zero, suc, ◌==◌, Bool, true, f
 use Rattle.cip_rational.specs.Rational.{ℚ, zeroℚ, negate}
 use Rattle.cip_problem.specs.Activity.{value_at}
 use Rattle.cip_dictionary.specs.Tables.{each}
-use Rattle.cip_dictionary.specs.Exchange.{is_absent, solved_at, solved, substituted_at, substituted, moved_at}
+use Rattle.cip_dictionary.specs.Exchange.{is_absent, solved_at, solved, substituted_at, substituted}
 use Rattle.cip_dictionary.specs.Operations.{Placed, first_overflow, is_zero}
-use Rattle.cip_dictionary.specs.MoveOperations.{solved_operations_at, solved_operations, substituted_operations_at, substituted_operations, moved_operations_at}
+use Rattle.cip_dictionary.specs.MoveOperations.{solved_operations_at, solved_operations, substituted_operations_at, substituted_operations}
 use Rattle.cip_rational.proofs.Rational.Ring.{negate_zero}
 use Rattle.cip_dictionary.proofs.Zeros.{is_zero_of, zero_of}
 use Rattle.cip_dictionary.specs.declared.places.Line.{Line}
@@ -13,7 +13,6 @@ use Rattle.cip_dictionary.specs.declared.places.Place.{Place}
 use Rattle.cip_dictionary.specs.declared.moves.Stand.{Stand}
 use Rattle.cip_dictionary.proofs.Overflow.{overflow-append}
 use Rattle.cip_dict.proofs.Formed.{product_zero_left, sum_zero_right}
-use Rattle.cip_dict.specs.Values.{moved_in, moved_operations_in}
 use Rattle.cip_dict.specs.Lists.{basic_in}
 use Rattle.cip_dict.specs.Row.{form_changes, form_operations_in, written_form}
 
@@ -62,13 +61,3 @@ none_at place false leaving absent q a z e = absurd (cc)
 
 pub solved_none : (line : Line) (basic : ℕ → Bool) (i j : ℕ) (q : ℚ) (row : ℕ → ℚ) (k : ℕ) → (is_zero (row k) && not (k == i)) ≡ true → (first_overflow (solved_operations line basic i j q row k) ≡ None) × (zeroℚ ≡ solved basic i j q row k)
 solved_none line basic i j q row k e = none_at _ _ (k == i) (is_absent basic j k) q (row k) refl e
-
--- the value of a variable that isn't basic stays as another moves
-left_at : (place : Place) (moves basic : Bool) (t v a : ℚ) → (not basic && not moves) ≡ true → (first_overflow (moved_operations_at place moves basic t v a) ≡ None) × (v ≡ moved_at moves basic t v a)
-left_at place false false t v a e = (refl, refl)
-left_at place false true t v a e = absurd (cc)
-left_at place true false t v a e = absurd (cc)
-left_at place true true t v a e = absurd (cc)
-
-pub left_alone : (standing : List (Option Stand)) (rows : List (List ℚ)) (j : ℕ) (t : ℚ) (values : List ℚ) (v : ℕ) → (not (basic_in standing v) && not (v == j)) ≡ true → (first_overflow (moved_operations_in standing rows j t values v) ≡ None) × (value_at values v ≡ moved_in standing rows j t values v)
-left_alone standing rows j t values v e = left_at _ (v == j) (basic_in standing v) t (value_at values v) _ e

@@ -3,8 +3,9 @@ ghost use Rattle.std.specs.Prelude.{◌≡◌, ◌∷◌, [], Some, None, MatchR
 ghost use Rattle.cip_rational.specs.Rational.{◌+ℚ◌, ◌-ℚ◌, ◌*ℚ◌, lt_test};
 ghost use Rattle.cip_rational.specs.Range.{difference_overflows};
 ghost use Rattle.cip_dictionary.specs.Operations.{first_overflow, is_zero, product_at, sum_at, Difference, Product, Sum, placed};
-ghost use Rattle.cip_dictionary.specs.Exchange.{solved_at, substituted_at, moved_at};
-ghost use Rattle.cip_dictionary.specs.MoveOperations.{solved_operations_at, substituted_operations_at, moved_operations_at};
+ghost use Rattle.cip_dictionary.specs.Exchange.{solved_at, substituted_at};
+ghost use Rattle.cip_dictionary.specs.MoveOperations.{solved_operations_at, substituted_operations_at};
+ghost use Rattle.cip_dict.specs.Values.{IsAdded};
 
 use crate::fault::OutOfRange;
 use cip_dictionary::Place;
@@ -41,6 +42,19 @@ pub(crate) fn product(place: Place, a: Frac, b: Frac) -> Result<Frac, OutOfRange
         Ok(value) => Ok(value),
         Err(_) => Err(OutOfRange { place }),
     }
+}
+
+/// Adds a * b to a number, the product formed first; `false` where an operation leaves the range. Where a factor is 0
+/// nothing is formed.
+#[inline(always)]
+#[tactic(auto, using(crate::proofs::Formed::entry_laws))]
+pub(crate) fn add_product(c: &mut Frac, a: Frac, b: Frac) -> bool
+    ensures { IsAdded result c.old a b c.new }
+{
+    if vanishes(a) || vanishes(b) {
+        return true;
+    }
+    c.add_product(&a, &b)
 }
 
 /// The sum c + a * b, the product formed first; where a factor is 0 nothing is formed.
@@ -108,34 +122,6 @@ pub(crate) fn substituted_entry(
         Ok(Frac::zero())
     } else {
         sum(place, a, b, c)
-    }
-}
-
-/// The value v of a variable after a move by t: its own, if it is the one that moves, or that of a basic variable with
-/// the entry a on it.
-#[inline(always)]
-pub(crate) fn moved_value(
-    place: Place,
-    moves: bool,
-    basic: bool,
-    t: Frac,
-    v: Frac,
-    a: Frac,
-) -> Result<Frac, OutOfRange>
-    ensures { MatchResult result
-        (λ w. (first_overflow (moved_operations_at place moves basic t v a) ≡ None)
-        × (w ≡ moved_at moves basic t v a))
-        (λ fault. first_overflow (moved_operations_at place moves basic t v a) ≡ Some fault.place) }
-{
-    if moves {
-        match v.add(t) {
-            Ok(value) => Ok(value),
-            Err(_) => Err(OutOfRange { place }),
-        }
-    } else if basic {
-        sum(place, v, a, t)
-    } else {
-        Ok(v)
     }
 }
 

@@ -13,6 +13,7 @@ mod kept;
 mod laws;
 mod lines;
 mod lists;
+mod moved;
 mod near_sums;
 mod numbers;
 mod rows;

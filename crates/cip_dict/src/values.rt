@@ -3,12 +3,13 @@ ghost use Rattle.std.specs.Prelude.{◌≡◌, ◌<◌, ◌^◌, true, false, le
 ghost use Rattle.cip_rational.specs.Rational.{◌+ℚ◌};
 ghost use Rattle.cip_problem.specs.Activity.{value_at};
 ghost use Rattle.cip_dictionary.specs.Tables.{table, each};
-ghost use Rattle.cip_dictionary.specs.Operations.{first_overflow};
-ghost use Rattle.cip_dict.specs.Lists.{basic_in, entry_in};
+ghost use Rattle.cip_dictionary.specs.Operations.{first_overflow, value_place};
+ghost use Rattle.cip_dictionary.specs.declared.places.Line.TheVariants.{Row};
+ghost use Rattle.std.specs.Bool.{MatchBool};
+ghost use Rattle.cip_dict.specs.Lists.{basic_in};
 ghost use Rattle.cip_dict.specs.Row.{HasRows};
-ghost use Rattle.cip_dict.specs.Values.{moved_in, moved_operations_in, flipped_operations_in, value_moves, taken_value};
+ghost use Rattle.cip_dict.specs.Values.{IsAdded, moved_in, moved_operations_in, flipped_operations_in, value_moves, taken_value};
 
-use crate::entries::{moved_value, sum};
 use crate::fault::OutOfRange;
 use crate::forms::Form;
 use crate::lines::{is_basic, number_at};
@@ -26,51 +27,15 @@ pub(crate) fn value_of(line: Line) -> Place
     }
 }
 
-/// The entry of a variable's row on j; 0 where it has none.
-#[inline(always)]
-fn entry_or_zero(standing: &[Option<Stand>], v: usize, row: &Form, j: u32) -> Frac
-    requires within { v < length standing.now }
-    requires entering { j < length standing.now }
-    requires long { basic_in standing.now v ≡ true → length row.now ≡ length standing.now }
-    ensures { basic_in standing.now v ≡ true → result ≡ value_at row.now j }
+/// An operation at the value of variable v leaves the range.
+#[cold]
+fn out_of_range(v: usize) -> OutOfRange
+    requires { v < 2 ^ 32 }
+    ensures { result.place ≡ value_place (Row v) }
 {
-    if is_basic(standing, v) {
-        row.entry(j)
-    } else {
-        Frac::zero()
+    OutOfRange {
+        place: value_of(Line::Row(v as u32)),
     }
-}
-
-/// The value of variable v after j, which isn't basic, has moved by t.
-#[inline(always)]
-fn moved_on(
-    standing: &[Option<Stand>],
-    rows: &[Form],
-    j: u32,
-    t: Frac,
-    values: &[Frac],
-    v: usize,
-) -> Result<Frac, OutOfRange>
-    requires few { length standing.now < 2 ^ 32 }
-    requires entering { j < length standing.now }
-    requires within { v < length standing.now }
-    requires rows_long { HasRows standing.now rows.now }
-    requires values_long { length values.now ≡ length standing.now }
-    ensures { MatchResult result
-        (λ w. (first_overflow (moved_operations_in standing.now rows.now j t values.now v) ≡ None)
-        × (w ≡ moved_in standing.now rows.now j t values.now v))
-        (λ fault. first_overflow (moved_operations_in standing.now rows.now j t values.now v) ≡ Some fault.place) }
-{
-    let entry = entry_or_zero(standing, v, &rows[v], j);
-    let place = value_of(Line::Row(v as u32));
-    moved_value(
-        place,
-        v == j as usize,
-        is_basic(standing, v),
-        t,
-        values[v],
-        entry,
-    )
 }
 
 /// Whether a variable's value may change as j moves: it is basic, or j.
@@ -82,7 +47,17 @@ fn is_moved(standing: &[Option<Stand>], j: u32, v: usize) -> bool
     is_basic(standing, v) || v == j as usize
 }
 
-/// Writes the value of variable v after j, which isn't basic, has moved by t, if it may change.
+/// Writes a value after j has moved by t, to which its row adds; `false` where an operation leaves the range.
+#[inline(always)]
+fn move_by(row: &Form, j: u32, t: Frac, before: Frac, value: &mut Frac) -> bool
+    requires { j < length row.now }
+    ensures { IsAdded result before (value_at row.now j) t value.new }
+{
+    *value = before;
+    row.add_times(j, t, value)
+}
+
+/// Writes the value of variable v after j has moved by t, if it may change; `false` where an operation leaves the range.
 #[inline(always)]
 fn move_on(
     standing: &[Option<Stand>],
@@ -92,27 +67,25 @@ fn move_on(
     values: &[Frac],
     v: usize,
     value: &mut Frac,
-) -> Result<(), OutOfRange>
+) -> bool
     requires few { length standing.now < 2 ^ 32 }
     requires entering { j < length standing.now }
     requires within { v < length standing.now }
     requires rows_long { HasRows standing.now rows.now }
     requires values_long { length values.now ≡ length standing.now }
-    ensures { MatchResult result
-        (λ _. (first_overflow (moved_operations_in standing.now rows.now j t values.now v) ≡ None)
+    ensures { MatchBool result
+        ((first_overflow (moved_operations_in standing.now rows.now j t values.now v) ≡ None)
         × ((if value_moves standing.now j v then value.new else value_at values.now v)
         ≡ moved_in standing.now rows.now j t values.now v))
-        (λ fault. first_overflow (moved_operations_in standing.now rows.now j t values.now v) ≡ Some fault.place) }
+        (first_overflow (moved_operations_in standing.now rows.now j t values.now v) ≡ Some (value_place (Row v))) }
 {
-    if !is_moved(standing, j, v) {
-        return Ok(());
-    }
-    match moved_on(standing, rows, j, t, values, v) {
-        Ok(moved) => {
-            *value = moved;
-            Ok(())
-        }
-        Err(fault) => Err(fault),
+    if v == j as usize {
+        *value = number_at(values, v);
+        value.add_assign(t)
+    } else if is_basic(standing, v) {
+        move_by(&rows[v], j, t, number_at(values, v), value)
+    } else {
+        true
     }
 }
 
@@ -140,46 +113,15 @@ pub(crate) fn write_moved(
     ensures long { length out.new ≡ length out.old }
 {
     for v in 0..standing.len() {
-        match move_on(standing, rows, j, t, values, v, &mut out[v]) {
-            Ok(()) => (),
-            Err(fault) => return Err(fault),
+        if !move_on(standing, rows, j, t, values, v, &mut out[v]) {
+            return Err(out_of_range(v));
         }
     }
     Ok(())
 }
 
-/// The value of variable v after j, which isn't basic, has flipped by t to a side, for which nothing is formed.
-#[inline(always)]
-fn flipped_on(
-    standing: &[Option<Stand>],
-    rows: &[Form],
-    j: u32,
-    t: Frac,
-    side: Frac,
-    values: &[Frac],
-    v: usize,
-) -> Result<Frac, OutOfRange>
-    requires few { length standing.now < 2 ^ 32 }
-    requires flips { j < length standing.now }
-    requires nonbasic { basic_in standing.now j ≡ false }
-    requires arrives { side ≡ value_at values.now j +ℚ t }
-    requires within { v < length standing.now }
-    requires rows_long { HasRows standing.now rows.now }
-    requires values_long { length values.now ≡ length standing.now }
-    ensures { MatchResult result
-        (λ w. (first_overflow (flipped_operations_in standing.now rows.now j t values.now v) ≡ None)
-        × (w ≡ moved_in standing.now rows.now j t values.now v))
-        (λ fault. first_overflow (flipped_operations_in standing.now rows.now j t values.now v) ≡ Some fault.place) }
-{
-    if v == j as usize {
-        return Ok(side);
-    }
-    let entry = entry_or_zero(standing, v, &rows[v], j);
-    let place = value_of(Line::Row(v as u32));
-    moved_value(place, false, is_basic(standing, v), t, values[v], entry)
-}
-
-/// Writes the value of variable v after j, which isn't basic, has flipped by t to a side, if it may change.
+/// Writes the value of variable v after j, which isn't basic, has flipped by t to a side, if it may change; `false` where
+/// an operation leaves the range. For the value of j nothing is formed.
 #[inline(always)]
 fn flip_on(
     standing: &[Option<Stand>],
@@ -190,7 +132,7 @@ fn flip_on(
     values: &[Frac],
     v: usize,
     value: &mut Frac,
-) -> Result<(), OutOfRange>
+) -> bool
     requires few { length standing.now < 2 ^ 32 }
     requires flips { j < length standing.now }
     requires nonbasic { basic_in standing.now j ≡ false }
@@ -198,21 +140,19 @@ fn flip_on(
     requires within { v < length standing.now }
     requires rows_long { HasRows standing.now rows.now }
     requires values_long { length values.now ≡ length standing.now }
-    ensures { MatchResult result
-        (λ _. (first_overflow (flipped_operations_in standing.now rows.now j t values.now v) ≡ None)
+    ensures { MatchBool result
+        ((first_overflow (flipped_operations_in standing.now rows.now j t values.now v) ≡ None)
         × ((if value_moves standing.now j v then value.new else value_at values.now v)
         ≡ moved_in standing.now rows.now j t values.now v))
-        (λ fault. first_overflow (flipped_operations_in standing.now rows.now j t values.now v) ≡ Some fault.place) }
+        (first_overflow (flipped_operations_in standing.now rows.now j t values.now v) ≡ Some (value_place (Row v))) }
 {
-    if !is_moved(standing, j, v) {
-        return Ok(());
-    }
-    match flipped_on(standing, rows, j, t, side, values, v) {
-        Ok(moved) => {
-            *value = moved;
-            Ok(())
-        }
-        Err(fault) => Err(fault),
+    if v == j as usize {
+        *value = side;
+        true
+    } else if is_basic(standing, v) {
+        move_by(&rows[v], j, t, number_at(values, v), value)
+    } else {
+        true
     }
 }
 
@@ -243,9 +183,8 @@ pub(crate) fn write_flipped(
     ensures long { length out.new ≡ length out.old }
 {
     for v in 0..standing.len() {
-        match flip_on(standing, rows, j, t, side, values, v, &mut out[v]) {
-            Ok(()) => (),
-            Err(fault) => return Err(fault),
+        if !flip_on(standing, rows, j, t, side, values, v, &mut out[v]) {
+            return Err(out_of_range(v));
         }
     }
     Ok(())

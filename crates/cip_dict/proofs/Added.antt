@@ -1,0 +1,78 @@
+-- Products that are added to values.
+use borrow.Author.Differences.{same_in, product_is}
+use Rattle.std.proofs.Common.{to_z, of_z, ◌-◌, ◌≡◌, ℕ, ◌*◌, ◌<◌, ◌^◌, ℤ, pos, ◌+ℤ◌, ◌*ℤ◌, Bool, true, false, cond, ◌||◌, [], ◌∷◌, None, refl, sym, ap, ap₂, ◌∙◌, arith}
+use Rattle.std.specs.Int.{w64}
+use Rattle.std.proofs.lemmas.Int.{ints, unsigned_abs-mul}
+use Rattle.std.proofs.lemmas.Nat.{mul-le}
+use Rattle.std.proofs.Math.Nat.{mul-pos}
+use Rattle.cip_rational.specs.Rational.{ℚ, ◌+ℚ◌, ◌*ℚ◌, ratio, numerator, denominator, is_ratio}
+use Rattle.cip_rational.specs.Range.{magnitude, sum_overflows, product_overflows}
+use Rattle.cip_rational.proofs.Rational.Ratio.{ratio-add, ratio-mul}
+use Rattle.cip_rational.proofs.Rational.Lowest.{denominator-pos}
+use Rattle.cip_dictionary.specs.Operations.{Product, Sum, placed, first_overflow, is_zero, sum_at}
+use Rattle.cip_dictionary.specs.declared.places.Line.TheVariants.{Cost}
+use Rattle.cip_dictionary.specs.declared.places.Place.{Place}
+use Rattle.cip_dict.specs.Values.{IsAdded, IsShort}
+use Rattle.cip_dict.specs.WholeLines.{IsSmall}
+use Rattle.cip_dict.proofs.Formed.{sum_zero_left, sum_zero_right}
+use Rattle.cip_dict.proofs.WholeLines.{whole_lines_tell}
+
+-- where a factor is 0 the value stays
+
+some_place : Place
+some_place = record { line = Cost; variable = None }
+
+pub zero_left : (c a b : ℚ) → is_zero a ≡ true → IsAdded true c a b c
+zero_left c a b e = ((λ place. (sum_zero_left place c a b e).0), (sum_zero_left some_place c a b e).1)
+
+pub zero_right : (c a b : ℚ) → is_zero b ≡ true → IsAdded true c a b c
+zero_right c a b e = ((λ place. (sum_zero_right place c a b e).0), (sum_zero_right some_place c a b e).1)
+
+-- where no operation overflows, none does
+
+formed : (none product sum : Bool) (place : Place) (a b c : ℚ) → product_overflows a b ≡ false → sum_overflows c (a *ℚ b) ≡ false → first_overflow (cond none [] (placed place (Product a b) ∷ placed place (Sum c (a *ℚ b)) ∷ [])) ≡ None
+formed true product sum place a b c p s = refl
+formed false product sum place a b c p s = rw (p, s) refl
+
+fits : (place : Place) (c a b : ℚ) → product_overflows a b ≡ false → sum_overflows c (a *ℚ b) ≡ false → first_overflow (sum_at place c a b) ≡ None
+fits place c a b p s = formed (is_zero a || is_zero b) false false place a b c p s
+
+-- short numbers are small
+
+small_of : (q : ℚ) → IsShort q → IsSmall q
+small_of q h = record { top = omega (arith, h.top); bottom = omega (arith, h.bottom) }
+
+commuted : (a b : ℤ) → a *ℤ b ≡ b *ℤ a
+commuted a b =
+    let s = product_is a b in
+    let t = product_is b a in
+    same_in _ _ (omega (arith, s.0, s.1, t.0, t.1))
+
+-- the sum over the product of the denominators
+sum_is : (q t : ℚ) (n : ℤ) (below : ℕ) → 0 < below → q +ℚ ratio n below *ℚ t ≡ ratio (pos (below * denominator t) *ℤ numerator q +ℤ n *ℤ numerator t *ℤ pos (denominator q)) (denominator q * (below * denominator t))
+sum_is q t n below h =
+    ap₂ (λ (x y : ℚ). x +ℚ ratio n below *ℚ y) (sym (is_ratio q)) (sym (is_ratio t))
+    ∙ ap (λ x. ratio (numerator q) (denominator q) +ℚ x) (ratio-mul n (numerator t) below (denominator t) h (denominator-pos t))
+    ∙ ratio-add (numerator q) (n *ℤ numerator t) (denominator q) (below * denominator t) (denominator-pos q) (mul-pos h (denominator-pos t))
+    ∙ ap (λ x. ratio (x +ℤ n *ℤ numerator t *ℤ pos (denominator q)) (denominator q * (below * denominator t))) (commuted (numerator q) (pos (below * denominator t)))
+
+pub short_added : (q t : ℚ) (n : ℤ) (below : ℕ) (new : ℚ) (z : ℤ) (u : ℕ) → 0 < below → magnitude n < 2 ^ 20 → below < 2 ^ 20 → IsShort q → IsShort t → z ≡ pos (below * denominator t) *ℤ numerator q +ℤ n *ℤ numerator t *ℤ pos (denominator q) → u ≡ denominator q * (below * denominator t) → new ≡ ratio z u → IsAdded true q (ratio n below) t new
+short_added q t n below new z u h hn hb hq ht ez eu e =
+    let entry : IsSmall (ratio n below) = whole_lines_tell.small n below h (omega (arith, hn)) (omega (arith, hb)) in
+    let p = whole_lines_tell.products (ratio n below) t entry (small_of t ht) in
+    let s = whole_lines_tell.sums q (ratio n below) t (small_of q hq) entry (small_of t ht) in
+    ((λ place. fits place q (ratio n below) t p s), e ∙ ap₂ (λ x y. ratio x y) ez eu ∙ sym (sum_is q t n below h))
+
+pub common_some : (q t : ℚ) (below u : ℕ) → 0 < below → u ≡ denominator q * (below * denominator t) → 0 < u
+common_some q t below u h e = rw e (mul-pos (denominator-pos q) (mul-pos h (denominator-pos t)))
+
+-- sizes of products
+
+pub short_size : (a c : ℤ) → magnitude a < 2 ^ 20 → magnitude c < 2 ^ 20 → magnitude (a *ℤ c) < 2 ^ 40
+short_size a c p q = let l = mul-le (magnitude a) (magnitude c) (2 ^ 20 - 1) (2 ^ 20 - 1) (omega (arith, p)) (omega (arith, q)) in omega (arith, l, unsigned_abs-mul a c)
+
+pub long_size : (a c : ℤ) → magnitude a < 2 ^ 40 → magnitude c < 2 ^ 20 → magnitude (a *ℤ c) < 2 ^ 60
+long_size a c p q = let l = mul-le (magnitude a) (magnitude c) (2 ^ 40 - 1) (2 ^ 20 - 1) (omega (arith, p)) (omega (arith, q)) in omega (arith, l, unsigned_abs-mul a c)
+
+pub read_word : (z : ℤ) → magnitude z < 2 ^ 63 → to_z w64 (of_z w64 z) ≡ z
+read_word z h = omega (arith, ints, h)

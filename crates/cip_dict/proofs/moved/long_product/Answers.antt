@@ -1,0 +1,11 @@
+use Rattle.std.proofs.Common.{◌*ℤ◌, refl, arith}
+use Rattle.cip_dict.proofs.Added.{read_word, long_size}
+use Rattle.cip_dict.proofs.moved.long_product.Goals as goal
+
+pub returns : goal.returns
+returns c =
+    let a = read_word c.args.a (omega (arith, c.requires.first)) in
+    let b = read_word c.args.c (omega (arith, c.requires.second)) in
+    let s = long_size c.args.a c.args.c c.requires.first c.requires.second in
+    let r = read_word (c.args.a *ℤ c.args.c) (omega (arith, s)) in
+    rw (a, b, r) (record { value = refl; short = s })
