@@ -7,7 +7,7 @@ ghost use Rattle.cip_simplex.specs.LpAnswers.{row_multiple, column_multiple, IsC
 ghost use Rattle.cip_simplex.specs.Certificates.{certificate_on};
 
 use crate::choice::vanishes;
-use crate::headings::is_below;
+use crate::headings::{is_above_zero, is_below_zero};
 use cip_frac::Frac;
 use cip_lin::{ColumnMultiple, Combo, RowId, RowMultiple};
 use std::alloc::{AllocError, Global};
@@ -30,7 +30,7 @@ fn put_row(rows: &mut Vec<RowMultiple>, row: u32, factor: Frac) -> Result<(), Al
 fn put_low(lows: &mut Vec<ColumnMultiple>, col: u32, factor: Frac) -> Result<(), AllocError>
     ensures { IfOk result (λ _. lows.new.items ≡ lows.old.items ++ map column_multiple (low_multiple col factor)) }
 {
-    if !is_below(Frac::zero(), factor) {
+    if !is_above_zero(factor) {
         return Ok(());
     }
     lows.push(ColumnMultiple { col, factor })?;
@@ -41,7 +41,7 @@ fn put_low(lows: &mut Vec<ColumnMultiple>, col: u32, factor: Frac) -> Result<(),
 fn put_high(highs: &mut Vec<ColumnMultiple>, col: u32, factor: Frac) -> Result<(), AllocError>
     ensures { IfOk result (λ _. highs.new.items ≡ highs.old.items ++ map column_multiple (high_multiple col factor)) }
 {
-    if !is_below(factor, Frac::zero()) {
+    if !is_below_zero(factor) {
         return Ok(());
     }
     highs.push(ColumnMultiple { col, factor })?;

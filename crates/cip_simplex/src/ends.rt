@@ -30,7 +30,7 @@ fn values_of(alloc: Global, dict: &Dict, n: usize) -> Result<Vec<Frac>, AllocErr
     requires within { n ≤ def.size dict.now }
     ensures { IfOk result (λ values. values.items ≡ table n (def.value dict.now)) }
 {
-    let mut values = Vec::new(alloc);
+    let mut values = Vec::with_capacity(alloc, n)?;
     for v in 0..n {
         values.push(dict.value(v as u32))?;
     }
@@ -61,7 +61,7 @@ fn changes_of(alloc: Global, dict: &Dict, j: u32, n: usize) -> Result<Vec<Frac>,
     ensures { IfOk result (λ changes. changes.items ≡ table n (change_of dict.now j)) }
 {
     let heading = falling_heading(dict, j);
-    let mut changes = Vec::new(alloc);
+    let mut changes = Vec::with_capacity(alloc, n)?;
     for v in 0..n {
         changes.push(change_at(dict, j, heading, v as u32))?;
     }
@@ -91,7 +91,7 @@ fn cost_multipliers(alloc: Global, dict: &Dict) -> Result<Vec<Frac>, AllocError>
     requires { def.size dict.now < 2 ^ 32 }
     ensures { IfOk result (λ multipliers. multipliers.items ≡ table (def.size dict.now) (def.cost_entry dict.now)) }
 {
-    let mut multipliers = Vec::new(alloc);
+    let mut multipliers = Vec::with_capacity(alloc, dict.len())?;
     let mut at = 0;
     for v in 0..dict.len() {
         let (entry, next) = cost_on(dict, at, v as u32);
@@ -142,7 +142,7 @@ fn row_multipliers(alloc: Global, dict: &Dict, i: u32) -> Result<Vec<Frac>, Allo
     ensures { IfOk result (λ multipliers. multipliers.items ≡ table (def.size dict.now) (row_multiplier dict.now i)) }
 {
     let heading = outside_heading(dict, i);
-    let mut multipliers = Vec::new(alloc);
+    let mut multipliers = Vec::with_capacity(alloc, dict.len())?;
     let mut at = 0;
     for v in 0..dict.len() {
         let (entry, next) = row_on(dict, i, at, v as u32);

@@ -44,10 +44,17 @@ fn is_at_most(a: Frac, b: Frac) -> bool
 }
 
 /// Whether a number is above 0.
-fn is_above_zero(a: Frac) -> bool
+pub(crate) fn is_above_zero(a: Frac) -> bool
     ensures { result ≡ lt_test zeroℚ a }
 {
     a.is_positive()
+}
+
+/// Whether a number is below 0.
+pub(crate) fn is_below_zero(a: Frac) -> bool
+    ensures { result ≡ lt_test a zeroℚ }
+{
+    a.is_negative()
 }
 
 /// This way, or the other one.

@@ -62,7 +62,7 @@ fn first_stands(
 ) -> Result<Vec<Option<Stand>>, AllocError>
     ensures { IfOk result (λ standing. standing.items ≡ table n (stand_in columns.now)) }
 {
-    let mut standing = Vec::new(alloc);
+    let mut standing = Vec::with_capacity(alloc, n)?;
     for v in 0..n {
         standing.push(first_place(columns, v))?;
     }
@@ -109,7 +109,7 @@ impl Start {
         ensures same { IfOk result (λ start. start ≡ table n (definitions.wish self.now)) }
         ensures long { IfOk result (λ start. length start ≡ n) }
     {
-        let mut standing = Vec::new(alloc);
+        let mut standing = Vec::with_capacity(alloc, n)?;
         for v in 0..n {
             standing.push(self.wish(v))?;
         }
@@ -121,7 +121,7 @@ impl Start {
         requires { def.size dict.now < 2 ^ 32 }
         ensures { IfOk result (λ start. start ≡ definitions.stands_of dict.now) }
     {
-        let mut standing = Vec::new(alloc);
+        let mut standing = Vec::with_capacity(alloc, dict.len())?;
         for v in 0..dict.len() {
             standing.push(dict.stand(v as u32))?;
         }

@@ -7,7 +7,7 @@ use Rattle.cip_simplex.proofs.ends.cost_multipliers.Goals as goal
 
 pub loop-v-init : goal.loop-v-init
 loop-v-init c = record {
-  so_far = c.new-multipliers.ensures.items ∙ table_none _;
+  so_far = c.in_ok-multipliers.ensures.items ∙ table_none _;
   place = place_zero (kept_of (size c.args.dict.now) (cost_entry c.args.dict.now));
 }
 

@@ -3,7 +3,7 @@ use Rattle.cip_dict.proofs.Grown.{table_none, table_more}
 use Rattle.cip_simplex.proofs.ends.values_of.Goals as goal
 
 pub loop-v-init : goal.loop-v-init
-loop-v-init c = c.new-values.ensures.items ∙ table_none _
+loop-v-init c = c.in_ok-values.ensures.items ∙ table_none _
 
 pub loop-v-preserved : goal.loop-v-preserved
 loop-v-preserved c = c.in_ok-push.ensures.items ∙ ap₂ (λ xs x. xs ++ x ∷ []) c.loop-v.invariant c.value.ensures ∙ sym (table_more c.loop-v.v _)

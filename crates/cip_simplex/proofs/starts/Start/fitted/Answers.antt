@@ -5,7 +5,7 @@ use Rattle.cip_simplex.specs.Starts.{wish}
 use Rattle.cip_simplex.proofs.starts.Start.fitted.Goals as goal
 
 pub loop-v-init : goal.loop-v-init
-loop-v-init c = c.new-standing.ensures.items ∙ table_none _
+loop-v-init c = c.in_ok-standing.ensures.items ∙ table_none _
 
 pub loop-v-preserved : goal.loop-v-preserved
 loop-v-preserved c = c.in_ok-push.ensures.items ∙ ap₂ (λ xs x. xs ++ x ∷ []) c.loop-v.invariant c.wish.ensures ∙ sym (table_more c.loop-v.v _)
