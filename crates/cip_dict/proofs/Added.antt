@@ -1,6 +1,6 @@
 -- Products that are added to values.
 use borrow.Author.Differences.{same_in, product_is}
-use Rattle.std.proofs.Common.{to_z, of_z, ◌-◌, ◌≡◌, ℕ, ◌*◌, ◌<◌, ◌^◌, ℤ, pos, ◌+ℤ◌, ◌*ℤ◌, Bool, true, false, cond, ◌||◌, [], ◌∷◌, None, refl, sym, ap, ap₂, ◌∙◌, arith}
+use Rattle.std.proofs.Common.{to_z, of_z, ◌-◌, ◌≡◌, ℕ, ◌*◌, ◌<◌, ◌^◌, ℤ, pos, ◌+ℤ◌, ◌*ℤ◌, Bool, true, false, cond, not, ◌&&◌, ◌||◌, [], ◌∷◌, None, refl, sym, ap, ap₂, ◌∙◌, arith}
 use Rattle.std.specs.Int.{w64}
 use Rattle.std.proofs.lemmas.Int.{ints, unsigned_abs-mul}
 use Rattle.std.proofs.lemmas.Nat.{mul-le}
@@ -76,3 +76,10 @@ long_size a c p q = let l = mul-le (magnitude a) (magnitude c) (2 ^ 40 - 1) (2 ^
 
 pub read_word : (z : ℤ) → magnitude z < 2 ^ 63 → to_z w64 (of_z w64 z) ≡ z
 read_word z h = omega (arith, ints, h)
+
+-- the row of a basic variable other than the one that leaves has no entry where it doesn't change
+pub unreached : (basic leaves none changes : Bool) → basic ≡ true → leaves ≡ false → changes ≡ (basic && (not leaves && not none)) → changes ≡ false → none ≡ true
+unreached true false true changes b l m f = refl
+unreached true false false changes b l m f = absurd (cc)
+unreached true true none changes b l m f = absurd (cc)
+unreached false leaves none changes b l m f = absurd (cc)

@@ -95,7 +95,7 @@ taken_over sides standing lists old room i j to cost later new rest s r h p t =
         few = rw long s.few;
         sides_long = s.sides_long ∙ sym long;
         lists_long = record { rows = has_rows; costs = ap length t.costs ∙ r.costs ∙ sym long; values = ap length t.values ∙ length-table (length standing) (taken_value standing j lists.values.items room.values.items) ∙ sym long };
-        room_long = record { entering = t.rest_entering ∙ sym long; rows = rest_rows; costs = ap length t.rest_costs ∙ s.lists_long.costs ∙ sym long; values = t.rest_values ∙ sym long };
+        room_long = record { entering = t.rest_entering ∙ sym long; rows = rest_rows; changed = t.rest_changed ∙ sym long; costs = ap length t.rest_costs ∙ s.lists_long.costs ∙ sym long; values = t.rest_values ∙ sym long };
         consistent = rw same (exchanges_keep d i j to s.consistent h).consistent;
       },
     )

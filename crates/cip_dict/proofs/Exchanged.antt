@@ -154,6 +154,7 @@ planned sides standing lists i j to before between later cost e l m =
           ∙ at_table (length standing) (λ v. written_form standing i j (pivot d i j) (entering d i j) v (row_in lists.rows.items v) (row_in before.rows.items v)) v [] (omega (arith, lv, e))
           ∙ ap (λ t. cond t (table (length standing) (exchanged_row d i j (entry d v))) (row_in before.rows.items v)) changes
           ∙ ap (λ n. table n (exchanged_row d i j (entry d v))) (sym e);
+      changed = rw m.changed l.changed;
       costs = m.costs ∙ l.costs ∙ ap (λ n. table n (exchanged_row d i j (cost_entry d))) (sym e);
       values = ap (λ n. table n (taken_value standing j lists.values.items later.values.items)) e ∙ m.values ∙ ap (λ n. table n (moved d j (step d i j to))) (sym e);
       cost_is = m.cost_is;

@@ -38,6 +38,7 @@ pub flip_planned : (sides : List Sides) (standing : List (Option Stand)) (lists 
 flip_planned sides standing lists j old new cost e m = record {
   entering = m.entering;
   rows = m.rows;
+  changed = m.changed;
   costs = m.costs;
   values = ap (λ n. table n (taken_value standing j lists.values.items new.values.items)) e ∙ m.values ∙ ap (λ n. table n (moved (state sides standing lists) j (way (state sides standing lists) j))) (sym e);
   cost_is = m.cost_is;
@@ -90,7 +91,7 @@ flip_taken sides standing lists old room j cost later new rest s r h p t =
         few = rw long s.few;
         sides_long = s.sides_long ∙ sym long;
         lists_long = record { rows = has_rows; costs = ap length t.costs ∙ s.lists_long.costs ∙ sym long; values = ap length t.values ∙ length-table (length standing) (taken_value standing j lists.values.items room.values.items) ∙ sym long };
-        room_long = record { entering = ap length t.rest_entering ∙ r.entering ∙ sym long; rows = rest_rows; costs = ap length t.rest_costs ∙ r.costs ∙ sym long; values = t.rest_values ∙ sym long };
+        room_long = record { entering = ap length t.rest_entering ∙ r.entering ∙ sym long; rows = rest_rows; changed = ap length t.rest_changed ∙ r.changed ∙ sym long; costs = ap length t.rest_costs ∙ r.costs ∙ sym long; values = t.rest_values ∙ sym long };
         consistent = rw same (flips_keep d j s.consistent h).consistent;
       },
     )

@@ -1,5 +1,5 @@
 -- One row of a dictionary in an exchange.
-use Rattle.std.specs.Prelude.{◌≡◌, ℕ, ◌==◌, ◌<◌, Bool, ◌&&◌, not, true, List, [], length, Option, slice_index_or, if◌then◌else◌}
+use Rattle.std.specs.Prelude.{◌≡◌, ℕ, ◌==◌, ◌<◌, Bool, ◌&&◌, not, true, false, List, [], length, Option, slice_index_or, if◌then◌else◌}
 use Rattle.cip_rational.specs.Rational.{ℚ}
 use Rattle.cip_problem.specs.Activity.{value_at}
 use Rattle.cip_dictionary.specs.Tables.{table, each}
@@ -47,6 +47,13 @@ pub record HasRows (standing : List (Option Stand)) (rows : List (List ℚ)) : T
 abbrev pub taken_form : List (Option Stand) → ℕ → ℕ → List (List ℚ) → List (List ℚ) → ℕ → List ℚ
 taken_form standing i j rows other v =
     if form_changes standing i j v (row_in rows v) then row_in other v else row_in rows v
+
+-- of each variable it is marked whether its row changes when i leaves and j enters
+pub record AreMarked
+    (standing : List (Option Stand)) (i j : ℕ) (rows : List (List ℚ)) (changed : List Bool) : Type 0 where
+  pub each_one : length changed ≡ length standing
+  pub changes : (v : ℕ) → v < length standing
+      → slice_index_or changed v false ≡ form_changes standing i j v (row_in rows v)
 
 -- how long the row of v is once i has left and j entered
 abbrev pub after_length : List (Option Stand) → ℕ → ℕ → ℕ → ℕ

@@ -28,6 +28,7 @@ pub record HasLists (standing : List (Option Stand)) (lists : Lists) : Type 0 wh
 pub record HasRoom (standing : List (Option Stand)) (room : Room) : Type 0 where
   pub entering : length room.entering ≡ length standing
   pub rows : HasRows standing room.rows.items
+  pub changed : length room.changed.items ≡ length standing
   pub costs : length room.costs ≡ length standing
   pub values : length room.values.items ≡ length standing
 

@@ -12,7 +12,7 @@ use Rattle.cip_dictionary.specs.declared.moves.Stand.{Stand}
 use Rattle.cip_dict.specs.declared.lists.Lists.{Lists}
 use Rattle.cip_dict.specs.declared.lists.Room.{Room}
 use Rattle.cip_dict.specs.Lists.{basic_in, entry_in}
-use Rattle.cip_dict.specs.Row.{row_in, form_changes, form_operations_in, written_form, taken_form, HasRowsAfter}
+use Rattle.cip_dict.specs.Row.{row_in, form_changes, form_operations_in, written_form, taken_form, AreMarked, HasRowsAfter}
 use Rattle.cip_dict.specs.Values.{moved_in, moved_operations_in, flipped_operations_in, taken_value}
 
 -- the row of the variable j that enters, where i leaves and q is 1 over its entry on j
@@ -43,6 +43,7 @@ pub record OthersWritten
       ≡ table (length standing)
       (λ v. written_form standing i j q (entering_in standing i j q lists) v (row_in lists.rows.items v)
       (row_in old.rows.items v))
+  pub changed : AreMarked standing i j lists.rows.items new.changed.items
   pub costs : new.costs
       ≡ table (length standing)
       (substituted (basic_in standing) i j q (entering_in standing i j q lists) (value_at lists.costs))
@@ -55,6 +56,7 @@ pub record LinesWritten
       ≡ table (length standing)
       (λ v. written_form standing i j q (entering_in standing i j q lists) v (row_in lists.rows.items v)
       (row_in old.rows.items v))
+  pub changed : AreMarked standing i j lists.rows.items new.changed.items
   pub costs : new.costs
       ≡ table (length standing)
       (substituted (basic_in standing) i j q (entering_in standing i j q lists) (value_at lists.costs))
@@ -72,6 +74,7 @@ pub record MovesWritten
     (standing : List (Option Stand)) (j : ℕ) (t : ℚ) (lists : Lists) (old new : Room) (cost : ℚ) : Type 0 where
   pub entering : new.entering ≡ old.entering
   pub rows : new.rows.items ≡ old.rows.items
+  pub changed : new.changed.items ≡ old.changed.items
   pub costs : new.costs ≡ old.costs
   pub values : table (length standing) (taken_value standing j lists.values.items new.values.items)
       ≡ table (length standing) (moved_in standing lists.rows.items j t lists.values.items)
@@ -96,6 +99,7 @@ pub record IsPlanned (d : Dictionary) (i j : ℕ) (to : Stand) (room : Room) (co
   pub entering : room.entering ≡ table (size d) (entering d i j)
   pub rows : (v : ℕ) → v < size d → form_changes d.standing i j v (row_in d.rows v) ≡ true
       → row_in room.rows.items v ≡ table (size d) (exchanged_row d i j (entry d v))
+  pub changed : AreMarked d.standing i j d.rows room.changed.items
   pub costs : room.costs ≡ table (size d) (exchanged_row d i j (cost_entry d))
   pub values : table (size d) (taken_value d.standing j d.values room.values.items)
       ≡ table (size d) (moved d j (step d i j to))
@@ -121,6 +125,7 @@ pub record IsTakenOver
   pub long : HasRowsAfter standing i j new.rows.items
   pub rest_long : HasRowsAfter standing i j rest.rows.items
   pub rest_entering : length rest.entering ≡ length standing
+  pub rest_changed : length rest.changed.items ≡ length standing
   pub rest_costs : rest.costs ≡ lists.costs
   pub rest_values : length rest.values.items ≡ length standing
 
@@ -136,6 +141,7 @@ flips_operations standing j t lists =
 pub record IsFlipPlanned (d : Dictionary) (j : ℕ) (old new : Room) (cost : ℚ) : Type 0 where
   pub entering : new.entering ≡ old.entering
   pub rows : new.rows.items ≡ old.rows.items
+  pub changed : new.changed.items ≡ old.changed.items
   pub costs : new.costs ≡ old.costs
   pub values : table (size d) (taken_value d.standing j d.values new.values.items)
       ≡ table (size d) (moved d j (way d j))
@@ -153,5 +159,6 @@ pub record IsFlipTaken
   pub cost_is : new.cost ≡ cost
   pub rest_entering : rest.entering ≡ room.entering
   pub rest_rows : rest.rows.items ≡ room.rows.items
+  pub rest_changed : rest.changed.items ≡ room.changed.items
   pub rest_costs : rest.costs ≡ room.costs
   pub rest_values : length rest.values.items ≡ length standing

@@ -108,6 +108,7 @@ impl Dict {
         spare.keep_forms(self.room.rows);
         spare.keep_form(self.room.costs);
         spare.keep_numbers(self.room.values);
+        spare.keep_marks(self.room.changed);
     }
 
     /// The number of variables. And the state is consistent: rows stand on nonbasic variables alone, and the values are

@@ -8,7 +8,7 @@ ghost use Rattle.cip_dictionary.specs.Operations.{first_overflow, is_zero};
 ghost use Rattle.cip_dictionary.specs.Exchange.{solved, substituted};
 ghost use Rattle.cip_dictionary.specs.MoveOperations.{solved_operations, substituted_operations};
 ghost use Rattle.cip_dict.specs.Lists.{basic_in, entry_in};
-ghost use Rattle.cip_dict.specs.Row.{row_in, form_operations_in, written_form, taken_form, HasRows, HasRowsAfter, HasSpelled};
+ghost use Rattle.cip_dict.specs.Row.{row_in, form_operations_in, written_form, taken_form, AreMarked, HasRows, HasRowsAfter, HasSpelled};
 ghost use Rattle.cip_dictionary.specs.Dictionary.{standing_value};
 ghost use Rattle.cip_dictionary.specs.Exchange.{CanExchange, exchanged};
 ghost use Rattle.cip_dictionary.specs.MoveOperations.{exchange_operations};
@@ -116,6 +116,7 @@ fn write_others(
         &mut room.spelled,
         rows,
         others,
+        room.changed.as_mut_slice(),
         &mut room.held,
         &mut room.sums,
         &mut room.fractions,
@@ -220,9 +221,10 @@ pub(crate) fn number(numbers: &[Frac], k: u32) -> Frac
     numbers[k as usize]
 }
 
-/// Writes the values after j has moved by t, and answers the cost.
+/// Writes the values after j has moved by t, where i leaves, and answers the cost.
 fn write_moves(
     standing: &[Option<Stand>],
+    i: u32,
     j: u32,
     t: Frac,
     lists: &Lists,
@@ -232,6 +234,7 @@ fn write_moves(
     requires entering { j < length standing.now }
     requires lists_long { HasLists standing.now lists.now }
     requires room_long { HasRoom standing.now room.old }
+    requires marked { AreMarked standing.now i j lists.now.rows.items room.old.changed.items }
     ensures written { MatchResult result
         (λ cost. (first_overflow (moves_operations standing.now j t lists.now) ≡ None)
         × MovesWritten standing.now j t lists.now room.old room.new cost)
@@ -240,7 +243,9 @@ fn write_moves(
 {
     let rows = lists.rows.as_slice();
     let values = lists.values.as_slice();
-    match write_moved(standing, rows, j, t, values, room.values.as_mut_slice()) {
+    let changed = room.changed.as_slice();
+    let out = room.values.as_mut_slice();
+    match write_moved(standing, rows, i, j, changed, t, values, out) {
         Ok(()) => (),
         Err(fault) => return Err(fault),
     }
@@ -264,6 +269,7 @@ fn write_values(
     requires entering { j < length standing.now }
     requires lists_long { HasLists standing.now lists.now }
     requires room_long { HasRoom standing.now room.old }
+    requires marked { AreMarked standing.now i j lists.now.rows.items room.old.changed.items }
     ensures written { MatchResult result
         (λ cost. (first_overflow (values_operations standing.now i j side q lists.now) ≡ None)
         × MovesWritten standing.now j (step_in i side q lists.now) lists.now room.old room.new cost)
@@ -272,7 +278,7 @@ fn write_values(
 {
     let value = number(lists.values.as_slice(), i);
     match step_to(value_of(Line::Row(i)), side, value, q) {
-        Ok(t) => write_moves(standing, j, t, lists, room),
+        Ok(t) => write_moves(standing, i, j, t, lists, room),
         Err(fault) => Err(fault),
     }
 }
@@ -373,6 +379,7 @@ fn take_over_rows(
     standing: &[Option<Stand>],
     i: u32,
     j: u32,
+    changed: &[bool],
     rows: &mut [Form],
     other: &mut [Form],
     entering: &mut Form,
@@ -381,6 +388,7 @@ fn take_over_rows(
     requires entering { j < length standing.now }
     requires basic { basic_in standing.now i ≡ true }
     requires nonbasic { basic_in standing.now j ≡ false }
+    requires marked { AreMarked standing.now i j rows.old changed.now }
     requires rows_long { HasRows standing.now rows.old }
     requires other_long { HasRows standing.now other.old }
     requires entering_long { length entering.old ≡ length standing.now }
@@ -391,7 +399,7 @@ fn take_over_rows(
     ensures other_long { HasRowsAfter standing.now i j other.new }
     ensures entering_long { length entering.new ≡ length standing.now }
 {
-    take_rows(standing, i, j, rows, other);
+    take_rows(standing, i, j, changed, rows, other);
     enter_row(i, j, rows, entering);
     swap_rows(i, j, other);
 }
@@ -413,12 +421,14 @@ pub(crate) fn take_over(
     requires nonbasic { basic_in standing.old.items j ≡ false }
     requires lists_long { HasLists standing.old.items lists.old }
     requires room_long { HasRoom standing.old.items room.old }
+    requires marked { AreMarked standing.old.items i j lists.old.rows.items room.old.changed.items }
     ensures { IsTakenOver standing.old.items i j to cost lists.old room.old standing.new.items lists.new room.new }
 {
     let rows = lists.rows.as_mut_slice();
     let other = room.rows.as_mut_slice();
     let places = standing.as_slice();
-    take_over_rows(places, i, j, rows, other, &mut room.entering);
+    let changed = room.changed.as_slice();
+    take_over_rows(places, i, j, changed, rows, other, &mut room.entering);
     std::mem::swap(&mut lists.costs, &mut room.costs);
     let moved = room.values.as_slice();
     take_values(places, j, lists.values.as_mut_slice(), moved);

@@ -319,6 +319,7 @@ pub(crate) fn room_for(
     let rows = empty_rows(alloc, spare, standing)?;
     let costs = Form::zeros(alloc, spare, standing.len());
     let values = spare.zeros(alloc, standing.len())?;
+    let changed = spare.marks(alloc, standing.len())?;
     let held = room_of(lists.rows.as_slice()).saturating_add(room_of(rows.as_slice()));
     let others = lists.costs.room().saturating_add(costs.room());
     Ok(Room {
@@ -331,6 +332,7 @@ pub(crate) fn room_for(
         sums: Vec::new(alloc),
         fractions: spare.entries(alloc),
         rows,
+        changed,
         costs,
         values,
     })

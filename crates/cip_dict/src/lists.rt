@@ -33,6 +33,8 @@ pub(crate) struct Room {
     pub(crate) sums: Vec<(u32, i128)>,
     pub(crate) fractions: Vec<(u32, Frac)>,
     pub(crate) rows: Vec<Form>,
+    /// Of each variable, whether its row was written last.
+    pub(crate) changed: Vec<bool>,
     pub(crate) costs: Form,
     pub(crate) values: Vec<Frac>,
     /// How many entries the lists of the rows and these have room for, and at most `usize::MAX`.

@@ -1,12 +1,12 @@
 //! The rows of basic variables in an exchange.
-ghost use Rattle.std.specs.Prelude.{◌≡◌, ℕ, ◌<◌, ◌^◌, true, [], length, None, MatchResult, slice_index_or, if◌then◌else◌};
+ghost use Rattle.std.specs.Prelude.{◌≡◌, ℕ, ◌<◌, ◌^◌, true, [], length, false, None, OnOk, MatchResult, slice_index_or, if◌then◌else◌};
 ghost use Rattle.cip_problem.specs.Activity.{value_at};
 ghost use Rattle.cip_dictionary.specs.Tables.{table, each};
 ghost use Rattle.cip_dictionary.specs.Operations.{first_overflow};
 ghost use Rattle.cip_dictionary.specs.Exchange.{substituted};
 ghost use Rattle.cip_dict.specs.Lists.{basic_in};
 ghost use Rattle.cip_dict.specs.MoveFaults.{IsMoveFault};
-ghost use Rattle.cip_dict.specs.Row.{form_changes, form_operations_in, written_form, taken_form, row_in, HasRows, HasSpelled};
+ghost use Rattle.cip_dict.specs.Row.{form_changes, form_operations_in, written_form, taken_form, row_in, AreMarked, HasRows, HasSpelled};
 
 use crate::fault::MoveFault;
 use crate::forms::{Form, count_room};
@@ -26,7 +26,8 @@ fn is_changed(standing: &[Option<Stand>], i: u32, j: u32, v: usize, row: &Form) 
     is_basic(standing, v) && v != i as usize && row.has(j)
 }
 
-/// Writes the row of variable v, where it changes; `new` is the row of the variable j that enters, and i leaves.
+/// Writes the row of variable v, where it changes, marks whether it does, and counts what the row has room for then;
+/// `new` is the row of the variable j that enters, and i leaves.
 fn write_row(
     standing: &[Option<Stand>],
     i: u32,
@@ -37,46 +38,7 @@ fn write_row(
     v: usize,
     row: &Form,
     out: &mut Form,
-    sums: &mut Vec<(u32, i128)>,
-    spelled: &mut Vec<(u32, Frac)>,
-) -> Result<(), MoveFault>
-    requires few { length standing.now < 2 ^ 32 }
-    requires within { v < length standing.now }
-    requires entering { j < length standing.now }
-    requires leaving { i < length standing.now }
-    requires new_long { length new.now ≡ length standing.now }
-    requires new_spelled { HasSpelled new.now entering.old }
-    requires is_leaving { value_at new.now i ≡ q }
-    requires row_long { basic_in standing.now v ≡ true → length row.now ≡ length standing.now }
-    requires out_long { basic_in standing.now v ≡ true → length out.old ≡ length standing.now }
-    ensures written { MatchResult result
-        (λ _. (first_overflow (form_operations_in standing.now i j q (value_at new.now) v row.now) ≡ None)
-        × (out.new ≡ written_form standing.now i j q (value_at new.now) v row.now out.old))
-        (IsMoveFault (form_operations_in standing.now i j q (value_at new.now) v row.now)) }
-    ensures long { length out.new ≡ length out.old }
-    ensures spelled { HasSpelled new.now entering.new }
-{
-    if is_changed(standing, i, j, v, row) {
-        let line = Line::Row(v as u32);
-        write_substituted(
-            line, standing, i, j, q, new, entering, row, out, sums, spelled,
-        )
-    } else {
-        Ok(())
-    }
-}
-
-/// Writes the row of variable v, where it changes, and counts what it has room for then.
-fn write_counted(
-    standing: &[Option<Stand>],
-    i: u32,
-    j: u32,
-    q: Frac,
-    new: &Form,
-    entering: &mut Spelled,
-    v: usize,
-    row: &Form,
-    out: &mut Form,
+    changed: &mut bool,
     held: &mut usize,
     sums: &mut Vec<(u32, i128)>,
     spelled: &mut Vec<(u32, Frac)>,
@@ -95,10 +57,19 @@ fn write_counted(
         × (out.new ≡ written_form standing.now i j q (value_at new.now) v row.now out.old))
         (IsMoveFault (form_operations_in standing.now i j q (value_at new.now) v row.now)) }
     ensures long { length out.new ≡ length out.old }
+    ensures marked { changed.new ≡ form_changes standing.now i j v row.now }
     ensures spelled { HasSpelled new.now entering.new }
 {
+    let changes = is_changed(standing, i, j, v, row);
+    *changed = changes;
+    if !changes {
+        return Ok(());
+    }
     let before = out.room();
-    match write_row(standing, i, j, q, new, entering, v, row, out, sums, spelled) {
+    let line = Line::Row(v as u32);
+    match write_substituted(
+        line, standing, i, j, q, new, entering, row, out, sums, spelled,
+    ) {
         Ok(()) => (),
         Err(fault) => return Err(fault),
     }
@@ -108,8 +79,8 @@ fn write_counted(
     }
 }
 
-/// Writes the rows that change; `new` is the row of the variable j that enters, and i leaves. Rows that don't change
-/// are left alone, and all keep their lengths.
+/// Writes the rows that change, and marks them; `new` is the row of the variable j that enters, and i leaves. Rows that
+/// don't change are left alone, and all keep their lengths.
 pub(crate) fn write_rows(
     standing: &[Option<Stand>],
     i: u32,
@@ -119,6 +90,7 @@ pub(crate) fn write_rows(
     entering: &mut Spelled,
     rows: &[Form],
     out: &mut [Form],
+    changed: &mut [bool],
     held: &mut usize,
     sums: &mut Vec<(u32, i128)>,
     spelled: &mut Vec<(u32, Frac)>,
@@ -131,6 +103,7 @@ pub(crate) fn write_rows(
     requires is_leaving { value_at new.now i ≡ q }
     requires rows_long { HasRows standing.now rows.now }
     requires out_long { HasRows standing.now out.old }
+    requires changed_long { length changed.old ≡ length standing.now }
     ensures written { let operations =
         each (length standing.now)
         (λ v. form_operations_in standing.now i j q (value_at new.now) v (row_in rows.now v)) in
@@ -139,11 +112,13 @@ pub(crate) fn write_rows(
         × (out.new ≡ table (length standing.now)
         (λ v. written_form standing.now i j q (value_at new.now) v (row_in rows.now v) (row_in out.old v))))
         (IsMoveFault operations) }
+    ensures marked { OnOk result (AreMarked standing.now i j rows.now changed.new) }
     ensures long { HasRows standing.now out.new }
+    ensures changed_long { length changed.new ≡ length changed.old }
     ensures spelled { HasSpelled new.now entering.new }
 {
     for v in 0..standing.len() {
-        match write_counted(
+        match write_row(
             standing,
             i,
             j,
@@ -153,6 +128,7 @@ pub(crate) fn write_rows(
             v,
             &rows[v],
             &mut out[v],
+            &mut changed[v],
             held,
             sums,
             spelled,
@@ -164,28 +140,37 @@ pub(crate) fn write_rows(
     Ok(())
 }
 
-/// Takes the row of v from another list, where it changes, and gives the old one for it.
-fn take_row(standing: &[Option<Stand>], i: u32, j: u32, v: usize, row: &mut Form, other: &mut Form)
-    requires within { v < length standing.now }
-    requires entering { j < length standing.now }
-    requires long { basic_in standing.now v ≡ true → length row.old ≡ length standing.now }
-    ensures taken { row.new ≡ (if form_changes standing.now i j v row.old then other.old else row.old) }
-    ensures given { other.new ≡ (if form_changes standing.now i j v row.old then row.old else other.old) }
+/// Whether a variable is marked.
+#[inline(always)]
+pub(crate) fn is_marked(changed: &[bool], v: usize) -> bool
+    requires { v < length changed.now }
+    ensures { result ≡ slice_index_or changed.now v false }
 {
-    if is_changed(standing, i, j, v, row) {
+    changed[v]
+}
+
+/// Takes a row from another list, where it changes, and gives the old one for it.
+#[inline(always)]
+fn take_row(changes: bool, row: &mut Form, other: &mut Form)
+    ensures taken { row.new ≡ (if changes then other.old else row.old) }
+    ensures given { other.new ≡ (if changes then row.old else other.old) }
+{
+    if changes {
         std::mem::swap(row, other);
     }
 }
 
-/// Takes the rows that change from another list, and gives the old ones for them.
+/// Takes the rows that change, which are marked, from another list, and gives the old ones for them; i leaves, and j
+/// enters.
 pub(crate) fn take_rows(
     standing: &[Option<Stand>],
     i: u32,
     j: u32,
+    changed: &[bool],
     rows: &mut [Form],
     other: &mut [Form],
 )
-    requires entering { j < length standing.now }
+    requires marked { AreMarked standing.now i j rows.old changed.now }
     requires rows_long { HasRows standing.now rows.old }
     requires other_long { HasRows standing.now other.old }
     ensures taken { rows.new ≡ table (length standing.now) (taken_form standing.now i j rows.old other.old) }
@@ -193,6 +178,6 @@ pub(crate) fn take_rows(
     ensures other_long { HasRows standing.now other.new }
 {
     for v in 0..standing.len() {
-        take_row(standing, i, j, v, &mut rows[v], &mut other[v]);
+        take_row(is_marked(changed, v), &mut rows[v], &mut other[v]);
     }
 }

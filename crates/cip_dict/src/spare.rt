@@ -1,5 +1,5 @@
 //! Lists of dictionaries that are done with.
-ghost use Rattle.std.specs.Prelude.{◌≡◌, [], IfOk, replicate};
+ghost use Rattle.std.specs.Prelude.{◌≡◌, false, [], IfOk, replicate};
 ghost use Rattle.cip_rational.specs.Rational.{zeroℚ};
 
 use crate::forms::Form;
@@ -23,6 +23,7 @@ pub struct Spare {
     forms: Vec<Vec<Form>>,
     stands: Vec<Vec<Option<Stand>>>,
     sides: Vec<Vec<Sides>>,
+    marks: Vec<Vec<bool>>,
 }
 
 impl Spare {
@@ -36,6 +37,7 @@ impl Spare {
             forms: Vec::new(alloc),
             stands: Vec::new(alloc),
             sides: Vec::new(alloc),
+            marks: Vec::new(alloc),
         }
     }
 
@@ -118,6 +120,26 @@ impl Spare {
         list
     }
 
+    /// An empty list of marks.
+    fn no_marks(&mut self, alloc: Global) -> Vec<bool>
+        ensures { result.items ≡ [] }
+    {
+        let Some(mut list) = self.marks.pop() else {
+            return Vec::new(alloc);
+        };
+        list.clear();
+        list
+    }
+
+    /// So many marks, none of them set; `Err` where the memory was refused.
+    pub(crate) fn marks(&mut self, alloc: Global, n: usize) -> Result<Vec<bool>, AllocError>
+        ensures { IfOk result (λ marks. marks.items ≡ replicate n false) }
+    {
+        let mut marks = self.no_marks(alloc);
+        marks.resize(n, false)?;
+        Ok(marks)
+    }
+
     /// An empty list of sides.
     pub(crate) fn sides(&mut self, alloc: Global) -> Vec<Sides>
         ensures { result.items ≡ [] }
@@ -171,6 +193,11 @@ impl Spare {
     /// Keeps a list of places where variables stand.
     pub(crate) fn keep_stands(&mut self, list: Vec<Option<Stand>>) {
         let _kept = self.stands.push(list).is_ok();
+    }
+
+    /// Keeps a list of marks.
+    pub(crate) fn keep_marks(&mut self, list: Vec<bool>) {
+        let _kept = self.marks.push(list).is_ok();
     }
 
     /// Keeps a list of sides.

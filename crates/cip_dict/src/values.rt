@@ -7,12 +7,13 @@ ghost use Rattle.cip_dictionary.specs.Operations.{first_overflow, value_place};
 ghost use Rattle.cip_dictionary.specs.declared.places.Line.TheVariants.{Row};
 ghost use Rattle.std.specs.Bool.{MatchBool};
 ghost use Rattle.cip_dict.specs.Lists.{basic_in};
-ghost use Rattle.cip_dict.specs.Row.{HasRows};
+ghost use Rattle.cip_dict.specs.Row.{form_changes, AreMarked, HasRows};
 ghost use Rattle.cip_dict.specs.Values.{IsAdded, moved_in, moved_operations_in, flipped_operations_in, value_moves, taken_value};
 
 use crate::fault::OutOfRange;
 use crate::forms::Form;
 use crate::lines::{is_basic, number_at};
+use crate::rows::is_marked;
 use cip_dictionary::{Line, Place, Stand};
 use cip_frac::Frac;
 
@@ -57,12 +58,42 @@ fn move_by(row: &Form, j: u32, t: Frac, before: Frac, value: &mut Frac) -> bool
     row.add_times(j, t, value)
 }
 
-/// Writes the value of variable v after j has moved by t, if it may change; `false` where an operation leaves the range.
+/// Writes the value of the basic variable v after j has moved by t, as i leaves; `false` where an operation leaves the
+/// range. A row that doesn't change has no entry on j, but for that of i.
+#[inline(always)]
+fn move_basic(
+    standing: &[Option<Stand>],
+    i: u32,
+    j: u32,
+    t: Frac,
+    v: usize,
+    row: &Form,
+    changes: bool,
+    before: Frac,
+    value: &mut Frac,
+) -> bool
+    requires on { j < length row.now }
+    requires basic { basic_in standing.now v ≡ true }
+    requires marked { changes ≡ form_changes standing.now i j v row.now }
+    ensures { IsAdded result before (value_at row.now j) t value.new }
+{
+    if changes || v == i as usize {
+        move_by(row, j, t, before, value)
+    } else {
+        *value = before;
+        true
+    }
+}
+
+/// Writes the value of variable v after j has moved by t, as i leaves, if it may change; `false` where an operation
+/// leaves the range.
 #[inline(always)]
 fn move_on(
     standing: &[Option<Stand>],
     rows: &[Form],
+    i: u32,
     j: u32,
+    changed: &[bool],
     t: Frac,
     values: &[Frac],
     v: usize,
@@ -73,6 +104,7 @@ fn move_on(
     requires within { v < length standing.now }
     requires rows_long { HasRows standing.now rows.now }
     requires values_long { length values.now ≡ length standing.now }
+    requires marked { AreMarked standing.now i j rows.now changed.now }
     ensures { MatchBool result
         ((first_overflow (moved_operations_in standing.now rows.now j t values.now v) ≡ None)
         × ((if value_moves standing.now j v then value.new else value_at values.now v)
@@ -83,17 +115,22 @@ fn move_on(
         *value = number_at(values, v);
         value.add_assign(t)
     } else if is_basic(standing, v) {
-        move_by(&rows[v], j, t, number_at(values, v), value)
+        let changes = is_marked(changed, v);
+        let before = number_at(values, v);
+        move_basic(standing, i, j, t, v, &rows[v], changes, before, value)
     } else {
         true
     }
 }
 
-/// Writes the values of basic variables and of j after j, which enters, has moved by t.
+/// Writes the values of basic variables and of j after j, which enters, has moved by t, where i leaves, and the rows that
+/// change are marked.
 pub(crate) fn write_moved(
     standing: &[Option<Stand>],
     rows: &[Form],
+    i: u32,
     j: u32,
+    changed: &[bool],
     t: Frac,
     values: &[Frac],
     out: &mut [Frac],
@@ -103,6 +140,7 @@ pub(crate) fn write_moved(
     requires rows_long { HasRows standing.now rows.now }
     requires values_long { length values.now ≡ length standing.now }
     requires out_long { length out.old ≡ length standing.now }
+    requires marked { AreMarked standing.now i j rows.now changed.now }
     ensures written { let operations =
         each (length standing.now) (moved_operations_in standing.now rows.now j t values.now) in
         MatchResult result
@@ -113,7 +151,7 @@ pub(crate) fn write_moved(
     ensures long { length out.new ≡ length out.old }
 {
     for v in 0..standing.len() {
-        if !move_on(standing, rows, j, t, values, v, &mut out[v]) {
+        if !move_on(standing, rows, i, j, changed, t, values, v, &mut out[v]) {
             return Err(out_of_range(v));
         }
     }

@@ -15,4 +15,4 @@ returns-clause-written c =
     let r : c.index-row.result.now ≡ row_in c.args.lists.now.rows.items c.args.i = row_read c.args.lists.now.rows.items c.args.i c.index-row.result.now (omega (arith, c.requires.leaving, c.requires.lists_long.rows.each_one)) c.index-row.ensures in
     let h = rw r at c.in-Ok.ensures.written in
     then_moves _ _ c.write_others.result _ _ h.0 c.write_others.ensures.written
-    (λ v p. record { entering = p.entering ∙ h.1; rows = p.rows; costs = p.costs })
+    (λ v p. record { entering = p.entering ∙ h.1; rows = p.rows; changed = p.changed; costs = p.costs })

@@ -22,7 +22,8 @@ returns-clause-written c =
     (λ v p. record {
       entering = refl;
       rows = refl;
+      changed = refl;
       costs = refl;
-      values = ap (λ xs. table (length c.args.standing.now) (taken_value c.args.standing.now c.args.j c.args.lists.now.values.items xs)) (written_back c.args.room.now.values.len _ c.write_moved.new.out c.args.room.now.values.items (omega (arith, c.args.room.now.values.ok.0, c.in-Ok.ensures.long, ap length c.as_mut_slice.ensures.value))) ∙ h.1;
+      values = ap (λ xs. table (length c.args.standing.now) (taken_value c.args.standing.now c.args.j c.args.lists.now.values.items xs)) (written_back c.args.room.now.values.len _ c.write_moved.new.out c.args.room.now.values.items (omega (arith, c.args.room.now.values.ok.0, c.in-Ok.ensures.long, ap length c.as_mut_slice-out.ensures.value))) ∙ h.1;
       cost_is = p;
     })

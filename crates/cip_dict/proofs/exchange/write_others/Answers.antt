@@ -28,6 +28,7 @@ returns-clause-written c =
     (λ v p. record {
       entering = refl;
       rows = written_back c.args.room.now.rows.len _ c.write_rows.new.out c.args.room.now.rows.items (omega (arith, c.args.room.now.rows.ok.0, c.in-Ok.ensures.long.each_one, c.requires.room_long.rows.each_one)) ∙ rows.1 ∙ written_new c.args.standing.now c.args.i c.args.j c.args.q c.args.room.now.entering _ c.requires.is_entering (row_in c.args.lists.now.rows.items) (row_in c.args.room.now.rows.items);
+      changed = rw (written_back c.args.room.now.changed.len _ c.write_rows.new.changed c.args.room.now.changed.items (omega (arith, c.args.room.now.changed.ok.0, c.in-Ok.ensures.changed_long, c.requires.room_long.changed))) (rw c.as_slice-rows.ensures.value at c.in-Ok.ensures.marked);
       costs = p;
     })
 

@@ -1,4 +1,4 @@
-use Rattle.std.proofs.Common.{arith, length, ◌<◌, ◌≡◌, [], get_or, ◌∙◌, ap, sym}
+use Rattle.std.proofs.Common.{arith, length, ◌<◌, ◌≡◌, [], get_or, false, length-set, ◌∙◌, ap, sym}
 use Rattle.std.proofs.lemmas.List.{get_or-set_other}
 use Rattle.cip_dictionary.proofs.Overflow.{first_more}
 use Rattle.cip_dict.specs.Row.{row_in}
@@ -20,11 +20,19 @@ loop-v-preserved c =
     let o : get_or c.loop-v.out c.loop-v.v c.index-out-v.result ≡ row_in c.args.out.now c.loop-v.v = sym c.index-out-v.is ∙ here ∙ c.loop-v.invariant.rest c.loop-v.v (omega arith) in
     record {
       fits = first_more c.loop-v.v _ c.loop-v.invariant.fits (rw r at c.in-Ok.ensures.written.0);
-      written = written_more _ c.loop-v.out c.loop-v.v c.write_counted.new.out [] within c.loop-v.invariant.written (rw (r, o) at c.in-Ok.ensures.written.1);
-      rest = λ m l. get_or-set_other c.loop-v.out c.loop-v.v m c.write_counted.new.out [] (λ (e : m ≡ c.loop-v.v). omega (arith, l, e)) ∙ c.loop-v.invariant.rest m (omega (arith, l));
-      long = HasRows-set c.args.standing.now c.loop-v.out c.loop-v.v c.write_counted.new.out c.loop-v.invariant.long (c.in-Ok.ensures.long ∙ ap length (sym c.index-out-v.is ∙ here)) within;
+      written = written_more _ c.loop-v.out c.loop-v.v c.write_row.new.out [] within c.loop-v.invariant.written (rw (r, o) at c.in-Ok.ensures.written.1);
+      rest = λ m l. get_or-set_other c.loop-v.out c.loop-v.v m c.write_row.new.out [] (λ (e : m ≡ c.loop-v.v). omega (arith, l, e)) ∙ c.loop-v.invariant.rest m (omega (arith, l));
+      long = HasRows-set c.args.standing.now c.loop-v.out c.loop-v.v c.write_row.new.out c.loop-v.invariant.long (c.in-Ok.ensures.long ∙ ap length (sym c.index-out-v.is ∙ here)) within;
+      marked = written_more _ c.loop-v.changed c.loop-v.v c.write_row.new.changed false (omega (arith, c.loop-v.invariant.changed_long, c.requires.changed_long)) c.loop-v.invariant.marked (rw r at c.in-Ok.ensures.marked);
+      changed_long = length-set c.loop-v.changed c.loop-v.v c.write_row.new.changed ∙ c.loop-v.invariant.changed_long;
       spelled = c.in-Ok.ensures.spelled;
     }
 
 pub returns-clause-written : goal.returns-clause-written
 returns-clause-written c = loop_end (length c.args.standing.now) c.loop-v.v _ _ c.loop-v.out [] (omega arith) (omega arith) (c.loop-v.invariant.long.each_one) c.loop-v.invariant.fits c.loop-v.invariant.written
+
+pub returns-clause-marked : goal.returns-clause-marked
+returns-clause-marked c = record {
+  each_one = c.loop-v.invariant.changed_long ∙ c.requires.changed_long;
+  changes = λ v l. c.loop-v.invariant.marked v (omega (arith, l));
+}
