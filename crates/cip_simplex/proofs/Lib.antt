@@ -11,6 +11,7 @@ pub mod SlackStart
 pub mod Systems
 pub mod Tabled
 pub mod WholeLists
+pub mod WholeOrder
 pub mod FreeMoves
 pub mod RowPasses
 pub mod Held

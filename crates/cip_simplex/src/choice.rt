@@ -5,7 +5,7 @@ ghost use Rattle.cip_dictionary.specs.Dictionary as def;
 ghost use Rattle.cip_dictionary.specs.Operations as operations;
 ghost use Rattle.cip_bland.specs.Rule as rule;
 
-use crate::headings::{are_crossed, back_of, heading_if, is_ahead, outside_way};
+use crate::headings::{are_crossed, back_of, heading_if, is_ahead, lies_between, outside_way};
 use cip_bland::Heading;
 use cip_dict::Dict;
 use cip_frac::Frac;
@@ -43,7 +43,7 @@ pub(crate) fn is_outside(dict: &Dict, v: u32) -> bool
     requires { v < def.size dict.now }
     ensures { result ≡ rule.is_outside dict.now v }
 {
-    dict.stand(v).is_none() && !dict.sides(v).contains(dict.value(v))
+    dict.stand(v).is_none() && !lies_between(dict.sides(v), dict.value(v))
 }
 
 /// The least basic variable outside its sides.

@@ -1,6 +1,7 @@
 //! Which way values go, and the sides that lie that way.
 ghost use Rattle.std.specs.Prelude.{◌≡◌, if◌then◌else◌};
 ghost use Rattle.cip_rational.specs.Rational.{le_test, lt_test, zeroℚ};
+ghost use Rattle.cip_problem.specs.Box.{at_least, at_most, is_between};
 ghost use Rattle.cip_bland.specs.Headings as def;
 ghost use Rattle.cip_bland.specs.Rule.{outside_with, sides_cross};
 
@@ -30,17 +31,52 @@ pub(crate) fn along(heading: Heading, change: Frac) -> Frac
 }
 
 /// Whether one number is below another.
+#[inline]
 pub(crate) fn is_below(a: Frac, b: Frac) -> bool
     ensures { result ≡ lt_test a b }
 {
+    if a.denominator() == 1 && b.denominator() == 1 {
+        return a.numerator() < b.numerator();
+    }
     a < b
 }
 
 /// Whether one number is at most another.
+#[inline]
 fn is_at_most(a: Frac, b: Frac) -> bool
     ensures { result ≡ le_test a b }
 {
-    a <= b
+    !is_below(b, a)
+}
+
+/// Whether a value is at least the low side.
+#[inline]
+fn is_at_least_low(low: Option<Frac>, value: Frac) -> bool
+    ensures { result ≡ at_least low value }
+{
+    match low {
+        Some(side) => is_at_most(side, value),
+        None => true,
+    }
+}
+
+/// Whether a value is at most the high side.
+#[inline]
+fn is_at_most_high(high: Option<Frac>, value: Frac) -> bool
+    ensures { result ≡ at_most high value }
+{
+    match high {
+        Some(side) => is_at_most(value, side),
+        None => true,
+    }
+}
+
+/// Whether a value lies between the sides, each of which is allowed itself.
+#[inline]
+pub(crate) fn lies_between(sides: Sides, value: Frac) -> bool
+    ensures { result ≡ is_between sides.low sides.high value }
+{
+    is_at_least_low(sides.low, value) && is_at_most_high(sides.high, value)
 }
 
 /// Whether a number is above 0.

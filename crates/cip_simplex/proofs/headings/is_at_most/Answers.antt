@@ -1,6 +1,6 @@
-use Rattle.std.proofs.Common.{◌∙◌}
-use Rattle.cip_rational.proofs.Comparisons.{is_le-compare}
+use Rattle.std.proofs.Common.{◌∙◌, not, ap}
+use Rattle.cip_simplex.proofs.WholeOrder.{not_below}
 use Rattle.cip_simplex.proofs.headings.is_at_most.Goals as goal
 
 pub returns : goal.returns
-returns c = c.le.ensures ∙ is_le-compare _ _
+returns c = ap not c.is_below.ensures ∙ not_below c.args.a c.args.b
