@@ -6,6 +6,11 @@ random     the same entries, a column's rows in random order
 long       names of 255 bytes
 digits     numbers of a million digits
 line       one line of 60 MB
+still-500, still-5000
+           linear programs of 500 rows over 1,000 columns and 5,000 over 10,000, of whose coefficients 1 percent are
+           there; costs are above 0, so that the first dictionary is optimal
+moving-500, moving-5000
+           the same with costs below 0
 SCALE (1 where nothing is said) divides rows, columns and entries."""
 import os
 import random
@@ -54,6 +59,25 @@ def one_line(path, size):
         out.write("NAME line\n*" + "x" * size + "\nROWS\n N COST\nCOLUMNS\nENDATA\n")
 
 
+def sparse(path, rows, columns, sign):
+    """A linear program of which 1 percent of the coefficients are there, columns from 0 to 10."""
+    chance = random.Random(1)
+    per_column = max(1, rows // 100)
+    with open(path, "w") as out:
+        out.write("NAME sparse\nROWS\n N COST\n")
+        out.writelines(" L R%d\n" % k for k in range(rows))
+        out.write("COLUMNS\n")
+        for k in range(columns):
+            out.write(" x%d COST %d\n" % (k, sign * chance.randint(1, 20)))
+            for row in sorted(chance.sample(range(rows), per_column)):
+                out.write(" x%d R%d %d\n" % (k, row, chance.randint(1, 9)))
+        out.write("RHS\n")
+        out.writelines(" RHS R%d %d\n" % (k, chance.randint(50, 500)) for k in range(rows))
+        out.write("BOUNDS\n")
+        out.writelines(" UP B x%d 10\n" % k for k in range(columns))
+        out.write("ENDATA\n")
+
+
 def main():
     folder = sys.argv[1]
     scale = int(sys.argv[2]) if len(sys.argv) > 2 else 1
@@ -65,6 +89,9 @@ def main():
     limits(at("long"), rows // 16, columns // 16, 60000 // scale, True, 255)
     digits(at("digits"), 60 // scale)
     one_line(at("line"), 60000000 // scale)
+    for rows in (500, 5000):
+        sparse(at("still-%d" % rows), rows, 2 * rows, 1)
+        sparse(at("moving-%d" % rows), rows, 2 * rows, -1)
 
 
 main()
