@@ -10,9 +10,6 @@ pub use changes::Change;
 pub use cip_lin::Side;
 pub use stores::{DomainStore, Mark, Tightened};
 
-#[cfg(test)]
-mod tests;
-
 /// A point lies in a box after changes exactly where it lies in the box and each change allows it.
 pub fn changes_are_met()
     ensures { ChangesAreMet }
