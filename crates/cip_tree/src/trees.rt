@@ -33,7 +33,7 @@ pub struct Tree {
     root: Bounds,
     root_bound: Option<Frac>,
     whole: Vec<bool>,
-    pub(crate) kept: Slab<Kept>,
+    kept: Slab<Kept>,
     queue: Queue,
     parked: Vec<OpenNode>,
     log: Vec<Logged>,
@@ -244,7 +244,7 @@ impl Tree {
     }
 
     /// The sides of a column in the box of a node in work.
-    pub(crate) fn sides(&self, node: &Node, col: u32) -> Sides
+    pub fn sides(&self, node: &Node, col: u32) -> Sides
         requires taken { IsTaken self.now node.now }
         requires column { col < length self.now.root.box }
         ensures { result ≡ sides_at (box_of self.now node.now) col }
