@@ -1,8 +1,8 @@
 use Rattle.std.proofs.Common.{sym, subst, refl, true≢false, rules, arith}
 use Rattle.std.proofs.lemmas.Int.{ints}
 use Rattle.std.specs.Prelude.{◌≤ℤ◌, ◌<ℤ◌}
-use Rattle.cip_tree.proofs.Halving.{open_high, high_whole, whole_high}
-use Rattle.cip_tree.proofs.splits.has_high.Goals as goal
+use Rattle.cip_domain.proofs.WholeHalves.{open_high, high_whole, whole_high}
+use Rattle.cip_domain.proofs.halves.has_high.Goals as goal
 
 pub returns-in-None : goal.returns-in-None
 returns-in-None c = rw (c.in-None.is) ((λ _. open_high c.args.at), (λ _. refl))

@@ -1,8 +1,8 @@
 use Rattle.std.proofs.Common.{sym, subst, refl, true≢false, rules, arith}
 use Rattle.std.proofs.lemmas.Int.{ints}
 use Rattle.std.specs.Prelude.{◌≤ℤ◌, ◌<ℤ◌}
-use Rattle.cip_tree.proofs.Halving.{open_low, low_whole, whole_low}
-use Rattle.cip_tree.proofs.splits.has_low.Goals as goal
+use Rattle.cip_domain.proofs.WholeHalves.{open_low, low_whole, whole_low}
+use Rattle.cip_domain.proofs.halves.has_low.Goals as goal
 
 pub returns-in-None : goal.returns-in-None
 returns-in-None c = rw (c.in-None.is) ((λ _. open_low c.args.at), (λ _. refl))
