@@ -10,7 +10,7 @@ use cip_frac::Frac;
 use cip_mps_lines::RowKind;
 
 /// Whether a row is of type N.
-pub(crate) fn is_free_kind(kind: RowKind) -> bool
+pub fn is_free_kind(kind: RowKind) -> bool
     ensures { result ≡ is_free (row_kind_in kind) }
 {
     match kind {
@@ -45,8 +45,9 @@ fn side_overflows(low: bool, right_side: Frac, size: Frac) -> bool
     }
 }
 
-/// Whether the side that a value of RANGES moves can't be formed.
-pub(crate) fn is_wide(kind: RowKind, right_side: Frac, range: Option<Frac>) -> bool
+/// Whether the side that a value of RANGES moves can't be formed; `false` where there is no value, or the row is of type
+/// N.
+pub fn is_wide(kind: RowKind, right_side: Frac, range: Option<Frac>) -> bool
     ensures { result ≡ moved_overflows (row_kind_in kind) right_side range }
 {
     match range {
