@@ -1,10 +1,11 @@
 //! What a search begins with.
-ghost use Rattle.std.specs.Prelude.{◌≡◌, [], None, IfOk, IfSome, MatchBool};
+ghost use Rattle.std.specs.Prelude.{◌≡◌, [], None, IfOk, IfSome, MatchBool, length};
 ghost use Rattle.cip_problem.specs.WellFormed.{columns};
 ghost use Rattle.cip_cuts.specs.Cuts.{HasWholeCosts};
 ghost use Rattle.cip_cuts.specs.Improving.{IsBoundIn};
 ghost use Rattle.cip_incumbent.specs.HeldPoint.{nothing_held};
 ghost use Rattle.cip_tree.specs.Moves.{IsNew};
+ghost use Rattle.cip_node_bounds.specs.NodeRows.{BeginWith};
 ghost use Rattle.cip_node.specs.Beginning.{IsRootBound, AreNearColumns};
 ghost use Rattle.cip_node.specs.Cores.{IsReady};
 ghost use Rattle.cip_node.specs.KeptNodes.{cost_held, IsKept};
@@ -66,6 +67,35 @@ fn rooted_tree(alloc: Global, program: &Program) -> Result<Tree, AllocError>
     Tree::new(alloc, root, program.whole(), bound)
 }
 
+/// What nodes are worked on in: the box in work, the rows of a linear program, and what checks work in.
+#[derive(Drop)]
+struct Workplace {
+    domain: DomainStore,
+    rows: NodeRows,
+    scratch: Scratch,
+}
+
+impl Workplace {
+    /// The workplace of a program: the box in work is the program's, and the rows are its rows. `Err` comes where
+    /// memory was refused.
+    fn new(alloc: Global, program: &Program) -> Result<Workplace, AllocError>
+        ensures domain { IfOk result
+            (λ place. place.domain ≡ record { box = program.now.bounds; before = []; spare = 0 }) }
+        ensures rows { IfOk result (λ place. BeginWith program.now place.rows.rows.items) }
+        ensures scratch { IfOk result (λ place. length place.scratch.row.entries ≡ columns program.now) }
+    {
+        let columns = program.columns();
+        let bounds = program.bounds().copied(alloc)?;
+        let scratch = Scratch::new(alloc, columns)?;
+        let rows = NodeRows::new(alloc, program)?;
+        Ok(Workplace {
+            domain: DomainStore::new(alloc, bounds),
+            rows,
+            scratch,
+        })
+    }
+}
+
 impl<'a> Core<'a> {
     /// What a search of a program begins with: its root is open, with the box bound, rounded up where all costs are
     /// whole, or without a bound where a side is open or a sum of it overflows; the pool has no row, and no point is
@@ -86,19 +116,20 @@ impl<'a> Core<'a> {
     {
         let whole_costs = are_costs_whole(program);
         let columns = program.columns();
-        let tree = rooted_tree(alloc, program)?;
-        let domain = DomainStore::new(alloc, program.bounds().copied(alloc)?);
-        let start = domain.mark();
-        let rows = NodeRows::new(alloc, program)?;
-        let scratch = Scratch::new(alloc, columns)?;
         let incumbent = Incumbent::new(alloc, program)?;
+        let Workplace {
+            domain,
+            rows,
+            scratch,
+        } = Workplace::new(alloc, program)?;
+        let tree = rooted_tree(alloc, program)?;
         Ok(Core {
             program,
             whole_costs,
             pool: RowPool::new(alloc, columns),
             cutoff: None,
+            start: domain.mark(),
             domain,
-            start,
             rows,
             scratch,
             starts: Starts::new(alloc),
