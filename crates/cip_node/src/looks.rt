@@ -13,7 +13,7 @@ use cip_tree::{Node, Tree};
 use std::alloc::AllocError;
 
 /// What the look of a node's box comes to.
-#[derive(Clone, Copy, Debug, PartialEq, Eq)]
+#[derive(Clone, Copy, PartialEq, Eq)]
 pub(crate) enum Looked {
     /// The box has no point, or a whole column of it has no whole value.
     Empty,
