@@ -17,7 +17,7 @@ use cip_node_bounds::Mark;
 use std::alloc::Global;
 
 /// How a search stops.
-#[derive(Debug, Drop)]
+#[derive(Drop)]
 pub(crate) enum Stop {
     /// No node is open, the budget is spent, or the gap that was asked for is reached.
     Still,

@@ -9,7 +9,7 @@ use cip_frac::Frac;
 use cip_report::Shown;
 
 /// The parked leaf of least bound, the first of these: its values, its bound, and by what it is shown.
-#[derive(Debug, Drop)]
+#[derive(Drop)]
 pub(crate) struct Worst {
     pub(crate) leaf: Vec<Frac>,
     pub(crate) bound: Option<Frac>,
