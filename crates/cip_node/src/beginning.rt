@@ -16,10 +16,9 @@ use cip_cert::Scratch;
 use cip_domain::DomainStore;
 use cip_frac::Frac;
 use cip_incumbent::Incumbent;
-use cip_lin::Least;
 use cip_model::Program;
 use cip_node_bounds::NodeRows;
-use cip_node_rules::{has_whole_costs, rounded_bound};
+use cip_node_rules::{has_whole_costs, rounded_least};
 use cip_rows::RowPool;
 use cip_tree::Tree;
 use std::alloc::{AllocError, Global};
@@ -39,10 +38,7 @@ fn rounded_box_bound(program: &Program, whole_costs: bool) -> Option<Frac>
     ensures holds { IfSome result (IsBoundIn program.now None program.now.bounds) }
 {
     let _columns = program.columns();
-    match program.box_bound(program.bounds()) {
-        Least::Value(bound) => Some(rounded_bound(bound, whole_costs)),
-        Least::NoBound | Least::Wide => None,
-    }
+    rounded_least(program.box_bound(program.bounds()), whole_costs)
 }
 
 /// The bound of the root of a search: the box bound, rounded up where the cost of each point with whole values on whole
