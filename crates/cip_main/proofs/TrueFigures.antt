@@ -22,7 +22,7 @@ use Rattle.cip_report.specs.declared.figures.Shown.TheVariants.{Place, Moves}
 use Rattle.cip_report.specs.declared.figures.Held.{Held}
 use Rattle.cip_report.specs.declared.figures.Answer.{Answer}
 use Rattle.cip_report.specs.Answers.{status_of, overflow_of, printed_held, figures_of}
-use Rattle.cip_solve.specs.AnswerOf.{shown_of, ended_of, held_of, answer_of}
+use Rattle.cip_endings.specs.AnswerOf.{shown_of, ended_of, held_of, answer_of}
 use Rattle.cip_node.specs.Beginning.{root_value}
 use Rattle.cip_solve.specs.Solved.{IsSolved}
 

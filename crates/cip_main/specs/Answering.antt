@@ -10,7 +10,7 @@ use Rattle.cip_answers.specs.Figures.{Status, NoMemory, Figures, exit_status, na
 use Rattle.cip_headline.specs.Headline.{AreTrue}
 use Rattle.cip_report.specs.declared.figures.Ended.TheVariants.{NoMemory as LacksMemory}
 use Rattle.cip_report.specs.declared.figures.Answer.{Answer}
-use Rattle.cip_solve.specs.AnswerOf.{answer_of}
+use Rattle.cip_endings.specs.AnswerOf.{answer_of}
 use Rattle.cip_node.specs.Beginning.{root_value, IsRootBound}
 use Rattle.cip_solve.specs.Logs.{entries_of, numbers_of}
 use Rattle.cip_solve.specs.Solved.{AreMet, IsSolved}

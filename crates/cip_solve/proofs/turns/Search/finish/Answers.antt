@@ -1,6 +1,6 @@
 use Rattle.std.proofs.Common.{sym, subst}
 use Rattle.cip_search_ends.specs.SearchAnswers.{IsSearchAnswer}
-use Rattle.cip_solve.specs.AnswerOf.{answer_of}
+use Rattle.cip_endings.specs.AnswerOf.{answer_of}
 use Rattle.cip_solve.specs.Logs.{numbers_of}
 use Rattle.cip_solve.specs.Solved.{AreMet}
 use Rattle.cip_solve.proofs.turns.Search.finish.Goals as goal

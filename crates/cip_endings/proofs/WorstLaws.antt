@@ -9,10 +9,10 @@ use Rattle.cip_leaf_programs.specs.WideLeaf.{Shown}
 use Rattle.cip_search.proofs.Members.{only_one, none_in}
 use Rattle.cip_search.proofs.Bounds.{no_more_itself}
 use Rattle.cip_search.proofs.Relaxed.{no_more_trans}
-use Rattle.cip_solve.specs.Bounds.{is_no_more}
-use Rattle.cip_node.specs.NodeEnds.{IsWideAs}
-use Rattle.cip_solve.specs.Worst.{IsFirstWorst}
-use Rattle.cip_solve.proofs.BoundLaws.{no_more_tells, more_tells, more_below}
+use Rattle.cip_endings.specs.LeastBounds.{is_no_more}
+use Rattle.cip_leaf_programs.specs.WideNodes.{IsWideAs}
+use Rattle.cip_endings.specs.Worst.{IsFirstWorst}
+use Rattle.cip_endings.proofs.BoundLaws.{no_more_tells, more_tells, more_below}
 
 -- the first one
 pub first_worst : (program : Program) (node : Node) (leaf : List ℚ) (bound : Option ℚ) (shown : Shown) → node.bound ≡ bound → IsWideAs program node leaf shown → IsFirstWorst program (node ∷ []) leaf bound shown

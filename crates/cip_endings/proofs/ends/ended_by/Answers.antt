@@ -1,7 +1,7 @@
 use Rattle.std.proofs.Common.{refl, sym, ap, ◌∙◌}
-use Rattle.cip_solve.specs.Stopping.{one_matters}
-use Rattle.cip_solve.specs.Worst.{worst_bound}
-use Rattle.cip_solve.proofs.ends.ended_by.Goals as goal
+use Rattle.cip_endings.specs.Ends.{one_matters}
+use Rattle.cip_endings.specs.Worst.{worst_bound}
+use Rattle.cip_endings.proofs.ends.ended_by.Goals as goal
 
 pub returns-then-one_matters-2 : goal.returns-then-one_matters-2
 returns-then-one_matters-2 c =

@@ -1,11 +1,11 @@
 //! The least of bounds.
 ghost use Rattle.std.specs.Prelude.{◌≡◌};
-ghost use Rattle.cip_solve.specs.Bounds.{is_no_more, lesser, least_of, bound_held, flat, capped};
+ghost use Rattle.cip_endings.specs.LeastBounds.{is_no_more, lesser, least_of, bound_held, flat, capped};
 
 use cip_frac::Frac;
 
 /// Whether a bound is at most another; none is at most each.
-pub(crate) fn is_no_more(bound: &Option<Frac>, other: &Option<Frac>) -> bool
+pub fn is_no_more(bound: &Option<Frac>, other: &Option<Frac>) -> bool
     ensures { result ≡ is_no_more bound.now other.now }
 {
     match (bound, other) {
@@ -16,7 +16,7 @@ pub(crate) fn is_no_more(bound: &Option<Frac>, other: &Option<Frac>) -> bool
 }
 
 /// The less of two bounds.
-pub(crate) fn lesser(bound: Option<Frac>, other: Option<Frac>) -> Option<Frac>
+pub fn lesser(bound: Option<Frac>, other: Option<Frac>) -> Option<Frac>
     ensures { result ≡ lesser bound other }
 {
     if is_no_more(&bound, &other) {
@@ -27,10 +27,7 @@ pub(crate) fn lesser(bound: Option<Frac>, other: Option<Frac>) -> Option<Frac>
 }
 
 /// The less of two bounds each of which need not be there at all.
-pub(crate) fn least_of(
-    bound: Option<Option<Frac>>,
-    other: Option<Option<Frac>>,
-) -> Option<Option<Frac>>
+pub fn least_of(bound: Option<Option<Frac>>, other: Option<Option<Frac>>) -> Option<Option<Frac>>
     ensures { result ≡ least_of bound other }
 {
     match (bound, other) {
@@ -41,7 +38,7 @@ pub(crate) fn least_of(
 }
 
 /// The cost held as a bound.
-pub(crate) fn bound_held(cost: Option<Frac>) -> Option<Option<Frac>>
+pub fn bound_held(cost: Option<Frac>) -> Option<Option<Frac>>
     ensures { result ≡ bound_held cost }
 {
     match cost {
@@ -51,7 +48,7 @@ pub(crate) fn bound_held(cost: Option<Frac>) -> Option<Option<Frac>>
 }
 
 /// A bound, none where there is none at all.
-pub(crate) fn flat(bound: Option<Option<Frac>>) -> Option<Frac>
+pub fn flat(bound: Option<Option<Frac>>) -> Option<Frac>
     ensures { result ≡ flat bound }
 {
     match bound {
@@ -61,7 +58,7 @@ pub(crate) fn flat(bound: Option<Option<Frac>>) -> Option<Frac>
 }
 
 /// A bound, or the cost held where that is less.
-pub(crate) fn capped(held: Option<Frac>, bound: Option<Frac>) -> Option<Frac>
+pub fn capped(held: Option<Frac>, bound: Option<Frac>) -> Option<Frac>
     ensures { result ≡ capped held bound }
 {
     match held {

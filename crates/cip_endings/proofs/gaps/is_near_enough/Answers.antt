@@ -1,8 +1,8 @@
 use Rattle.std.proofs.Common.{◌≡◌, ◌&&◌, ◌∙◌, refl, sym, ap}
 use Rattle.cip_rational.specs.Rational.{lt_test, le_test}
 use Rattle.cip_rational.proofs.Comparisons.{is_lt-compare, is_le-compare}
-use Rattle.cip_solve.proofs.GapLaws.{near_is}
-use Rattle.cip_solve.proofs.gaps.is_near_enough.Goals as goal
+use Rattle.cip_endings.proofs.GapLaws.{near_is}
+use Rattle.cip_endings.proofs.gaps.is_near_enough.Goals as goal
 
 pub returns-then-lt : goal.returns-then-lt
 returns-then-lt c =

@@ -1,8 +1,8 @@
 use Rattle.std.proofs.Common.{◌≡◌, ◌∷◌, ◌++◌, [], ◌∙◌, sym, subst}
-use Rattle.cip_solve.specs.AnswerOf.{shown_of}
-use Rattle.cip_solve.specs.Worst.{IsWorst, IsFirstWorst}
-use Rattle.cip_solve.proofs.WorstLaws.{first_worst, stays_worst, new_worst}
-use Rattle.cip_solve.proofs.worst.worse.Goals as goal
+use Rattle.cip_endings.specs.AnswerOf.{shown_of}
+use Rattle.cip_endings.specs.Worst.{IsWorst, IsFirstWorst}
+use Rattle.cip_endings.proofs.WorstLaws.{first_worst, stays_worst, new_worst}
+use Rattle.cip_endings.proofs.worst.worse.Goals as goal
 
 pub returns-in-None : goal.returns-in-None
 returns-in-None c = λ program nodes node w e p.

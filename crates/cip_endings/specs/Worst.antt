@@ -4,10 +4,10 @@ use Rattle.cip_rational.specs.Rational.{ℚ}
 use Rattle.cip_problem.specs.Program.{Program}
 use Rattle.cip_problem.specs.Log.{Node}
 use Rattle.cip_leaf_programs.specs.WideLeaf.{Shown}
+use Rattle.cip_leaf_programs.specs.WideNodes.{IsWideAs}
 use Rattle.cip_search_ends.specs.EndLaws.{IsShownNode}
-use Rattle.cip_node.specs.NodeEnds.{IsWideAs}
-use Rattle.cip_solve.specs.AnswerOf.{shown_of}
-use Rattle.cip_solve.specs.declared.worst.Worst.{Worst}
+use Rattle.cip_endings.specs.AnswerOf.{shown_of}
+use Rattle.cip_endings.specs.declared.worst.Worst.{Worst}
 
 -- of the parked nodes the one of least bound, the first of these, has this leaf and this bound
 pub record IsFirstWorst

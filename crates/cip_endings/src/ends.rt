@@ -1,13 +1,13 @@
 //! How a search ends.
 ghost use Rattle.std.specs.Prelude.{◌≡◌, true, false};
 ghost use Rattle.cip_report.specs.declared.figures.Ended.TheVariants.{Gap};
-ghost use Rattle.cip_solve.specs.Gaps.{reaches_gap};
-ghost use Rattle.cip_solve.specs.Stopping.{one_matters, EndsBy};
+ghost use Rattle.cip_endings.specs.Gaps.{reaches_gap};
+ghost use Rattle.cip_endings.specs.Ends.{one_matters, EndsBy};
 
 use crate::gaps::reaches_gap;
 use crate::worst::{Worst, worst_bound};
 use cip_frac::Frac;
-use cip_node::does_matter;
+use cip_node_rules::does_matter;
 use cip_report::Ended;
 
 /// Whether there is a bound, and it matters beside the cost held.
@@ -46,7 +46,7 @@ fn ended_by(held: &Option<Frac>, waiting: &Option<Option<Frac>>, worst: Option<W
 
 /// How a search ends, beside the cost held and the least bound: by the gap that was asked for where that is reached,
 /// and else by what is left.
-pub(crate) fn ended_at(
+pub fn ended_at(
     asked: &Option<Frac>,
     bound: &Option<Frac>,
     held: &Option<Frac>,

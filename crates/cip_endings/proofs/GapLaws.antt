@@ -5,7 +5,7 @@ use Rattle.cip_rational.specs.Range.{difference_overflows}
 use Rattle.cip_rational.proofs.Rational.Order.{test_of_lt, lt_of_test, test_of_le, le_of_test}
 use Rattle.cip_search_ends.specs.SearchEnds as ends
 use Rattle.cip_search_ends.specs.SearchEnds.{ReachesGap}
-use Rattle.cip_solve.specs.Gaps.{is_near_enough, reaches_gap}
+use Rattle.cip_endings.specs.Gaps.{is_near_enough, reaches_gap}
 
 both_true : (a b : Bool) → (a && b) ≡ true → (a ≡ true) × (b ≡ true)
 both_true true b e = (refl, e)

@@ -1,6 +1,6 @@
 //! A gap that was asked for.
 ghost use Rattle.std.specs.Prelude.{◌≡◌};
-ghost use Rattle.cip_solve.specs.Gaps.{is_near_enough, reaches_gap};
+ghost use Rattle.cip_endings.specs.Gaps.{is_near_enough, reaches_gap};
 
 use cip_frac::Frac;
 
@@ -15,7 +15,7 @@ fn is_near_enough(gap: Frac, cost: Frac, bound: Frac) -> bool
 }
 
 /// Whether a gap was asked for, a point of this cost is held, there is a bound, and they are near enough.
-pub(crate) fn reaches_gap(asked: &Option<Frac>, held: &Option<Frac>, bound: &Option<Frac>) -> bool
+pub fn reaches_gap(asked: &Option<Frac>, held: &Option<Frac>, bound: &Option<Frac>) -> bool
     ensures { result ≡ reaches_gap asked.now held.now bound.now }
 {
     match (asked, held, bound) {
