@@ -3,8 +3,8 @@ ghost use Rattle.std.specs.Prelude.{◌<◌};
 ghost use Rattle.cip_input.specs.LimitedModels.{IsLimited};
 ghost use Rattle.cip_answers.specs.Figures.{answer_text, exit_status, names_of};
 ghost use Rattle.cip_report.specs.Answers.{figures_of, AnswerFits};
-ghost use Rattle.cip_main.specs.Answering.{Answers, Searched, limits_of};
-ghost use Rattle.cip_main.specs.Saying.{Says};
+ghost use Rattle.cip_answering.specs.Answering.{Answers, Searched, limits_of};
+ghost use Rattle.cip_answering.specs.Saying.{Says};
 
 use cip_io::{Failed, Sink};
 use cip_model::Program;

@@ -1,6 +1,6 @@
-use Rattle.cip_main.specs.Answering.{limits_of}
-use Rattle.cip_main.proofs.Searches.{answers_of, fits}
-use Rattle.cip_main.proofs.solving.solve_and_report.Goals as goal
+use Rattle.cip_answering.specs.Answering.{limits_of}
+use Rattle.cip_answering.proofs.Searches.{answers_of, fits}
+use Rattle.cip_answering.proofs.solving.solve_and_report.Goals as goal
 
 pub tell-requires : goal.tell-requires
 tell-requires g c = fits c.args.program.now (limits_of c.args.options.now) _ _ c.search-answer.result c.requires.limited c.search-answer.ensures

@@ -1,8 +1,8 @@
 use Rattle.std.proofs.Common.{◌≡◌, ◌++◌, ◌∷◌, [], refl, sym, subst, inl, rules}
 use Rattle.cip_solve.specs.Logs.{entries_of}
-use Rattle.cip_main.specs.Answering.{Searched, limits_of}
-use Rattle.cip_main.proofs.Searches.{not_searched}
-use Rattle.cip_main.proofs.solving.search.Goals as goal
+use Rattle.cip_answering.specs.Answering.{Searched, limits_of}
+use Rattle.cip_answering.proofs.Searches.{not_searched}
+use Rattle.cip_answering.proofs.solving.search.Goals as goal
 
 pub returns-then-is_err : goal.returns-then-is_err
 returns-then-is_err c =

@@ -17,7 +17,7 @@ use Rattle.cip_solve.specs.Solved.{AreMet, IsSolved}
 use Rattle.cip_solve.specs.declared.logs.Log.{Log}
 use Rattle.cip_solve.specs.declared.solving.Options.{Options}
 use Rattle.cip_words.specs.Jobs.{Limits}
-use Rattle.cip_main.specs.Saying.{Says}
+use Rattle.cip_answering.specs.Saying.{Says}
 
 -- the limits of a search, as its options say
 abbrev pub limits_of : Options → Limits

@@ -16,10 +16,10 @@ use Rattle.cip_solve.specs.Logs.{numbers_of}
 use Rattle.cip_solve.specs.Solved.{IsSolved}
 use Rattle.cip_solve.specs.declared.logs.Log.{Log}
 use Rattle.cip_solve.proofs.Fits.{answer_fits}
-use Rattle.cip_main.specs.Answering.{AddsLog, AddsNone, IsLogged, Searched, Answers}
+use Rattle.cip_answering.specs.Answering.{AddsLog, AddsNone, IsLogged, Searched, Answers}
 use Rattle.cip_words.specs.Jobs.{Limits}
-use Rattle.cip_main.specs.Saying.{Says}
-use Rattle.cip_main.proofs.TrueFigures.{lacks, are_true}
+use Rattle.cip_answering.specs.Saying.{Says}
+use Rattle.cip_answering.proofs.TrueFigures.{lacks, are_true}
 
 -- without a search, the bound of the root is a right one
 pub not_searched : (program : Program) (limits : Limits) (logs : List Log) (answer : Answer) → IsSolved program limits.nodes limits.gap [] [] (answer_of answer) → Searched program limits logs logs answer
