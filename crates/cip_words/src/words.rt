@@ -113,9 +113,8 @@ fn flag<'a>(alloc: Global, id: &'a str) -> Arg<'a>
 fn solving<'a>(alloc: Global) -> Result<Command<'a>, AllocError>
     ensures { IfOk result (IsAddedAs solve_command.top) }
 {
-    let model = wanted(alloc, "model");
     Command::new(alloc, "solve")
-        .arg(model)?
+        .arg(wanted(alloc, "model"))?
         .arg(option(alloc, "blocks"))?
         .arg(option(alloc, "nodes"))?
         .arg(option(alloc, "gap"))?
@@ -126,10 +125,8 @@ fn solving<'a>(alloc: Global) -> Result<Command<'a>, AllocError>
 fn checking<'a>(alloc: Global) -> Result<Command<'a>, AllocError>
     ensures { IfOk result (IsAddedAs check_command.top) }
 {
-    let checked = wanted(alloc, "model");
-    let check = Command::new(alloc, "check").arg(checked)?;
-    let point = wanted(alloc, "point");
-    check.arg(point)
+    let check = Command::new(alloc, "check").arg(wanted(alloc, "model"))?;
+    check.arg(wanted(alloc, "point"))
 }
 
 /// The command: `solve MODEL [--blocks FILE] [--nodes N] [--gap G] [--plain]`, and `check MODEL POINT`.
