@@ -50,21 +50,22 @@ fn one_stands(row: &Option<Row>, columns: usize) -> bool
 }
 
 impl Asked {
-    /// Nothing yet, over so many columns without sides, each whole and of cost 1.
+    /// Nothing yet, with a pool over so many columns.
     pub fn new(alloc: Global, columns: usize) -> Result<Asked, AllocError> {
+        let bounds = Bounds::new(alloc, 0)?;
         Ok(Asked {
             own: Vec::new(alloc),
             pool: RowPool::new(alloc, columns),
             cutoff: None,
-            whole: vec![in alloc; true; columns]?,
-            bounds: Bounds::new(alloc, columns)?,
+            whole: Vec::new(alloc),
+            bounds,
             combo: Combo {
                 rows: Vec::new(alloc),
                 lows: Vec::new(alloc),
                 highs: Vec::new(alloc),
             },
             round: false,
-            costs: vec![in alloc; Frac::one(); columns]?,
+            costs: Vec::new(alloc),
             column: 0,
             side: Side::Low,
             value: Frac::zero(),

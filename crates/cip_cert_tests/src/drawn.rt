@@ -6,9 +6,7 @@ use cip_frac::Frac;
 use cip_lin::{
     Bounds, ColumnMultiple, Combo, Row, RowFault, RowId, RowMultiple, Side, Sides, Term,
 };
-use cip_rows::RowPool;
 use std::alloc::{AllocError, Global};
-use std::test::Fail;
 
 /// A side, once in 8 times open.
 fn side(draws: &mut Draws, numbers: Numbers) -> Option<Frac> {
@@ -19,18 +17,31 @@ fn side(draws: &mut Draws, numbers: Numbers) -> Option<Frac> {
     }
 }
 
-/// A row over so many columns, with a term on half of them or so.
-fn row(alloc: Global, draws: &mut Draws, numbers: Numbers, columns: u32) -> Result<Row, RowFault> {
-    let low = side(draws, numbers);
-    let high = side(draws, numbers);
-    let mut row = Row::empty(alloc, low, high);
+/// Appends the terms of a row over so many columns, with one on half of them or so.
+fn fill_row(
+    draws: &mut Draws,
+    numbers: Numbers,
+    columns: u32,
+    row: &mut Row,
+) -> Result<(), RowFault> {
     for col in 0..columns {
         let coef = draws.number(numbers);
         if draws.once_in(2) && !coef.is_zero() {
             row.append(Term { col, coef })?;
         }
     }
-    Ok(row)
+    Ok(())
+}
+
+/// A row over so many columns.
+fn row(alloc: Global, draws: &mut Draws, numbers: Numbers, columns: u32) -> Option<Row> {
+    let low = side(draws, numbers);
+    let high = side(draws, numbers);
+    let mut row = Row::empty(alloc, low, high);
+    if fill_row(draws, numbers, columns, &mut row).is_err() {
+        return None;
+    }
+    Some(row)
 }
 
 /// Sides of a column, the high one mostly above the low one.
@@ -53,23 +64,21 @@ fn sides(draws: &mut Draws, numbers: Numbers) -> Sides {
     }
 }
 
-/// A box of so many columns.
-fn bounds(
-    alloc: Global,
+/// Appends sides of so many columns to a box.
+fn fill_bounds(
     draws: &mut Draws,
     numbers: Numbers,
     columns: u32,
-) -> Result<Bounds, AllocError> {
-    let mut bounds = Bounds::new(alloc, 0)?;
+    bounds: &mut Bounds,
+) -> Result<(), AllocError> {
     for _ in 0..columns {
         bounds.push(sides(draws, numbers))?;
     }
-    Ok(bounds)
+    Ok(())
 }
 
-/// A box with the same sides, some open; once in 4 times one column has others.
-fn scope(alloc: Global, draws: &mut Draws, bounds: &Bounds) -> Result<Bounds, AllocError> {
-    let mut scope = Bounds::new(alloc, 0)?;
+/// Fills an empty box with the same sides as another one, some open; once in 4 times one column has others.
+fn fill_scope(draws: &mut Draws, bounds: &Bounds, scope: &mut Bounds) -> Result<(), AllocError> {
     for own in bounds.as_slice() {
         let sides = match draws.below(6) {
             0 => Sides::open(),
@@ -84,39 +93,49 @@ fn scope(alloc: Global, draws: &mut Draws, bounds: &Bounds) -> Result<Bounds, Al
     if draws.once_in(4) && scope.len() > 0 {
         scope.set_sides(0, sides(draws, Numbers::Whole));
     }
-    Ok(scope)
+    Ok(())
 }
 
-/// Coefficients on so many columns, half of them 0 or so.
-fn coefficients(
-    alloc: Global,
-    draws: &mut Draws,
-    numbers: Numbers,
-    columns: u32,
-) -> Result<Scratch, AllocError> {
-    let mut scratch = Scratch::new(alloc, columns.min(64) as usize)?;
+/// Draws coefficients on so many columns, half of them 0 or so.
+fn fill_coefficients(draws: &mut Draws, numbers: Numbers, columns: u32, scratch: &mut Scratch) {
     for column in 0..columns {
         if draws.once_in(2) && (column as usize) < scratch.row.entries().len() {
             scratch.row.set(column, draws.number(numbers));
         }
     }
-    Ok(scratch)
 }
 
-/// Adds a row to a pool, where it fits.
-fn add_row(
+/// Adds a row to the pool, where it fits; `false` where there is no memory.
+fn is_added(
     alloc: Global,
     draws: &mut Draws,
     numbers: Numbers,
-    bounds: &Bounds,
-    pool: &mut RowPool,
-) -> Result<(), AllocError> {
-    let row = coefficients(alloc, draws, numbers, bounds.len().min(64) as u32)?;
-    let scope = scope(alloc, draws, bounds)?;
-    if row.row.entries().len() == pool.columns() && scope.len() == pool.columns() {
-        pool.add(alloc, &row, draws.number(numbers), &scope)?;
+    row: &Scratch,
+    scope: &Bounds,
+    asked: &mut Asked,
+) -> bool {
+    let columns = asked.pool.columns();
+    if row.row.entries().len() != columns || scope.len() != columns {
+        return true;
     }
-    Ok(())
+    asked
+        .pool
+        .add(alloc, row, draws.number(numbers), scope)
+        .is_ok()
+}
+
+/// Draws a row, and adds it to the pool.
+fn add_row(alloc: Global, draws: &mut Draws, numbers: Numbers, asked: &mut Asked) -> bool {
+    let columns = asked.bounds.len().min(64);
+    let Ok(mut row) = Scratch::new(alloc, columns) else {
+        return false;
+    };
+    fill_coefficients(draws, numbers, columns as u32, &mut row);
+    let Ok(mut scope) = Bounds::new(alloc, 0) else {
+        return false;
+    };
+    fill_scope(draws, &asked.bounds, &mut scope).is_ok()
+        && is_added(alloc, draws, numbers, &row, &scope, asked)
 }
 
 /// The name of a row: of one of the first five of the program, of one of the first four of the pool, or the cutoff row.
@@ -175,25 +194,34 @@ fn lengthen(draws: &mut Draws, combo: &mut Combo) -> Result<(), AllocError> {
     Ok(())
 }
 
-/// A combination.
-fn combo(
+/// Fills an empty combination.
+fn fill_combo(
+    draws: &mut Draws,
+    numbers: Numbers,
+    columns: u32,
+    combo: &mut Combo,
+) -> Result<(), AllocError> {
+    add_rows(draws, numbers, combo)?;
+    add_columns(draws, numbers, columns, true, &mut combo.lows)?;
+    add_columns(draws, numbers, columns, false, &mut combo.highs)?;
+    if draws.once_in(60) {
+        lengthen(draws, combo)?;
+    }
+    Ok(())
+}
+
+/// Adds a row of the program.
+fn add_own(
     alloc: Global,
     draws: &mut Draws,
     numbers: Numbers,
     columns: u32,
-) -> Result<Combo, AllocError> {
-    let mut combo = Combo {
-        rows: Vec::new(alloc),
-        lows: Vec::new(alloc),
-        highs: Vec::new(alloc),
-    };
-    add_rows(draws, numbers, &mut combo)?;
-    add_columns(draws, numbers, columns, true, &mut combo.lows)?;
-    add_columns(draws, numbers, columns, false, &mut combo.highs)?;
-    if draws.once_in(60) {
-        lengthen(draws, &mut combo)?;
+    own: &mut Vec<Row>,
+) -> bool {
+    match row(alloc, draws, numbers, columns) {
+        Some(row) => own.push(row).is_ok(),
+        None => false,
     }
-    Ok(combo)
 }
 
 /// Puts rows of the program and a cutoff row in, which is left out once in 6 times.
@@ -203,30 +231,29 @@ fn put_rows(
     numbers: Numbers,
     columns: u32,
     asked: &mut Asked,
-) -> Result<(), Fail> {
+) -> bool {
     for _ in 0..2 + draws.below(3) {
-        asked.own.push(row(alloc, draws, numbers, columns)?)?;
+        if !add_own(alloc, draws, numbers, columns, &mut asked.own) {
+            return false;
+        }
     }
     if !draws.once_in(6) {
-        asked.cutoff = Some(row(alloc, draws, numbers, columns)?);
+        asked.cutoff = row(alloc, draws, numbers, columns);
     }
-    Ok(())
+    true
 }
 
 /// Puts rows of the pool in, the second of which is taken out again once in 3 times.
-fn put_pool(
-    alloc: Global,
-    draws: &mut Draws,
-    numbers: Numbers,
-    asked: &mut Asked,
-) -> Result<(), AllocError> {
+fn put_pool(alloc: Global, draws: &mut Draws, numbers: Numbers, asked: &mut Asked) -> bool {
     for _ in 0..3 + draws.below(2) {
-        add_row(alloc, draws, numbers, &asked.bounds, &mut asked.pool)?;
+        if !add_row(alloc, draws, numbers, asked) {
+            return false;
+        }
     }
     if draws.once_in(3) {
         asked.pool.retire(1);
     }
-    Ok(())
+    true
 }
 
 /// Puts in what is asked of the combination.
@@ -251,20 +278,27 @@ fn put_questions(
     Ok(())
 }
 
-/// A case over one to five columns.
-pub fn drawn(alloc: Global, draws: &mut Draws) -> Result<Asked, Fail> {
+/// How many columns a case has, from one to five, and its numbers.
+pub fn shape(draws: &mut Draws) -> (u32, Numbers) {
     let numbers = match draws.below(4) {
         0 => Numbers::Wild,
         1 => Numbers::Mixed,
         _ => Numbers::Whole,
     };
-    let columns = 1 + draws.below(5);
-    let mut asked = Asked::new(alloc, 0)?;
-    asked.bounds = bounds(alloc, draws, numbers, columns)?;
-    asked.pool = RowPool::new(alloc, columns as usize);
-    asked.combo = combo(alloc, draws, numbers, columns)?;
-    put_rows(alloc, draws, numbers, columns, &mut asked)?;
-    put_pool(alloc, draws, numbers, &mut asked)?;
-    put_questions(draws, numbers, columns, &mut asked)?;
-    Ok(asked)
+    (1 + draws.below(5), numbers)
+}
+
+/// Fills an empty case over so many columns.
+pub fn is_drawn(
+    alloc: Global,
+    draws: &mut Draws,
+    numbers: Numbers,
+    columns: u32,
+    asked: &mut Asked,
+) -> bool {
+    fill_bounds(draws, numbers, columns, &mut asked.bounds).is_ok()
+        && fill_combo(draws, numbers, columns, &mut asked.combo).is_ok()
+        && put_rows(alloc, draws, numbers, columns, asked)
+        && put_pool(alloc, draws, numbers, asked)
+        && put_questions(draws, numbers, columns, asked).is_ok()
 }

@@ -1,12 +1,32 @@
 //! The pool of rows.
-use crate::draws::fraction;
-use crate::single_calls::{row_of_pair, up_to};
+use crate::single_calls::{is_half_a_row, put_columns};
 use cip_cert::Scratch;
 use cip_frac::Frac;
 use cip_lin::Bounds;
 use cip_rows::{Added, RowPool};
 use std::alloc::Global;
-use std::test::Fail;
+
+/// A pool, a row that is added to it, and two boxes of five columns: from 0 to 1, and from 0 to 2.
+#[derive(Drop)]
+struct Pooled {
+    pool: RowPool,
+    row: Scratch,
+    narrow: Bounds,
+    wide: Bounds,
+}
+
+/// An empty pool, and no coefficient yet.
+fn empty_pool(alloc: Global) -> Option<Pooled> {
+    let row = Scratch::new(alloc, 5).ok()?;
+    let narrow = Bounds::new(alloc, 0).ok()?;
+    let wide = Bounds::new(alloc, 0).ok()?;
+    Some(Pooled {
+        pool: RowPool::new(alloc, 5),
+        row,
+        narrow,
+        wide,
+    })
+}
 
 /// What adding a row comes to, where its columns are the pool's and there is memory.
 fn added(
@@ -20,10 +40,7 @@ fn added(
     if scratch.row.entries().len() != columns || scope.len() != columns {
         return None;
     }
-    match pool.add(alloc, scratch, Frac::from(least), scope) {
-        Ok(added) => Some(added),
-        Err(_) => None,
-    }
+    pool.add(alloc, scratch, Frac::from(least), scope).ok()
 }
 
 /// How many rows may be used in a box, where its columns are the pool's.
@@ -38,66 +55,77 @@ fn usable(pool: &RowPool, bounds: &Bounds) -> Option<usize> {
     Some(count)
 }
 
-#[test]
-fn a_row_is_known_inside_its_scope(rt: HostRuntime) -> Result<(), Fail> {
-    let alloc = rt.alloc();
-    let mut row = Scratch::new(alloc, 5)?;
-    let answer = row_of_pair(alloc, fraction(-1, 2), None, &mut row)?;
-    assert_eq!(rt; answer, Some(Ok(Frac::from(-1))));
-    let narrow = up_to(alloc, 1)?;
-    let wide = up_to(alloc, 2)?;
-    let mut pool = RowPool::new(alloc, 5);
-    assert_eq!(rt;
-        added(alloc, &mut pool, &row, -1, &narrow),
-        Some(Added::New(0))
-    );
-    assert_eq!(rt;
-        added(alloc, &mut pool, &row, -1, &narrow),
-        Some(Added::Known(0))
-    );
-    assert_eq!(rt; usable(&pool, &wide), Some(0));
-    assert_eq!(rt;
-        added(alloc, &mut pool, &row, -1, &wide),
-        Some(Added::New(1))
-    );
-    assert_eq!(rt; usable(&pool, &wide), Some(1));
-    assert_eq!(rt; usable(&pool, &narrow), Some(2));
-    Ok(())
+impl Pooled {
+    /// Gives the boxes their columns.
+    fn is_filled(&mut self) -> bool {
+        put_columns(&mut self.narrow, 1).is_ok() && put_columns(&mut self.wide, 2).is_ok()
+    }
+
+    /// What adding the row comes to, with the narrow box as its scope.
+    fn is_added(&mut self, alloc: Global, least: i64, want: Added) -> bool {
+        added(alloc, &mut self.pool, &self.row, least, &self.narrow) == Some(want)
+    }
+
+    /// The same with the wide one.
+    fn is_added_widely(&mut self, alloc: Global, least: i64, want: Added) -> bool {
+        added(alloc, &mut self.pool, &self.row, least, &self.wide) == Some(want)
+    }
+
+    /// How many rows may be used in the wide and in the narrow box.
+    fn are_usable(&self, wide: usize, narrow: usize) -> bool {
+        usable(&self.pool, &self.wide) == Some(wide)
+            && usable(&self.pool, &self.narrow) == Some(narrow)
+    }
+
+    /// A row is known inside its scope, and new in a wider one.
+    fn knows_rows(&mut self, alloc: Global) -> bool {
+        self.is_filled()
+            && is_half_a_row(alloc, &mut self.row)
+            && self.is_added(alloc, -1, Added::New(0))
+            && self.is_added(alloc, -1, Added::Known(0))
+            && self.are_usable(0, 1)
+            && self.is_added_widely(alloc, -1, Added::New(1))
+            && self.are_usable(1, 2)
+    }
+
+    /// 8,192 rows are new.
+    fn fills(&mut self, alloc: Global) -> bool {
+        for number in 0..8192_u32 {
+            let new = Added::New(u64::from(number));
+            if !self.is_added(alloc, i64::from(number), new) {
+                return false;
+            }
+        }
+        true
+    }
+
+    /// There are 4,096 rows, of which the first has the number 4,097.
+    fn is_half_left(&self) -> bool {
+        let rows = self.pool.rows();
+        rows.len() == 4096 && rows[0].id == 4097
+    }
+
+    /// A full pool takes a row once another one is gone, and has lost the older half when it has aged.
+    fn loses_rows(&mut self, alloc: Global) -> bool {
+        let is_full = self.is_filled()
+            && self.fills(alloc)
+            && self.is_added(alloc, 8192, Added::Full)
+            && self.is_added(alloc, 5, Added::Known(5));
+        self.pool.retire(5);
+        let is_taken = self.is_added(alloc, 5, Added::New(8192));
+        self.pool.age();
+        is_full && is_taken && self.is_half_left() && self.is_added(alloc, 7, Added::New(8193))
+    }
 }
 
 #[test]
-fn a_full_pool_is_full_until_rows_go(rt: HostRuntime) -> Result<(), Fail> {
-    let alloc = rt.alloc();
-    let row = Scratch::new(alloc, 5)?;
-    let scope = up_to(alloc, 1)?;
-    let mut pool = RowPool::new(alloc, 5);
-    for number in 0..8192_u32 {
-        let new = Some(Added::New(u64::from(number)));
-        assert_eq!(rt;
-            added(alloc, &mut pool, &row, i64::from(number), &scope),
-            new
-        );
-    }
-    assert_eq!(rt;
-        added(alloc, &mut pool, &row, 8192, &scope),
-        Some(Added::Full)
-    );
-    assert_eq!(rt;
-        added(alloc, &mut pool, &row, 5, &scope),
-        Some(Added::Known(5))
-    );
-    pool.retire(5);
-    assert_eq!(rt;
-        added(alloc, &mut pool, &row, 5, &scope),
-        Some(Added::New(8192))
-    );
-    pool.age();
-    let rows = pool.rows();
-    assert_eq!(rt; rows.len(), 4096);
-    assert_eq!(rt; rows[0].id, 4097);
-    assert_eq!(rt;
-        added(alloc, &mut pool, &row, 7, &scope),
-        Some(Added::New(8193))
-    );
-    Ok(())
+fn a_row_is_known_inside_its_scope(rt: HostRuntime) {
+    let mut pooled = empty_pool(rt.alloc()).expect(&rt, "memory");
+    assert!(rt; pooled.knows_rows(rt.alloc()));
+}
+
+#[test]
+fn a_full_pool_is_full_until_rows_go(rt: HostRuntime) {
+    let mut pooled = empty_pool(rt.alloc()).expect(&rt, "memory");
+    assert!(rt; pooled.loses_rows(rt.alloc()));
 }

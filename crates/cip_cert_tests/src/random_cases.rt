@@ -1,13 +1,12 @@
 //! The checks against the slow ones, on 1,000 cases that look random.
 use crate::asked::Asked;
-use crate::drawn::drawn;
+use crate::drawn::{is_drawn, shape};
 use crate::draws::Draws;
 use crate::slow_answers::{slow_cost, slow_emptiness, slow_row, slow_side};
-use crate::slow_sums::{Sum, slow_sum};
+use crate::slow_sums::{Sum, is_summed};
 use cip_cert::{CutFault, Place, Scratch};
 use cip_frac::Frac;
-use std::process::Abort;
-use std::test::Fail;
+use std::alloc::Global;
 
 /// The number of kinds of answers.
 const KINDS: usize = 14;
@@ -68,67 +67,104 @@ fn count(counts: &mut [u32], fault: Option<CutFault>) {
 }
 
 /// What is worked in, reused from case to case, and how many answers of each kind there were.
-#[derive(Debug, Drop)]
+#[derive(Drop)]
 struct Room {
     scratch: Scratch,
-    costs: Vec<Frac>,
-    counts: Vec<u32>,
+    costs: [Frac; 8],
+    counts: [u32; KINDS],
+}
+
+/// Each coefficient of a column is that of the sum, or 0.
+fn are_coefficients(coefficients: &[Frac], sums: &[Frac]) -> bool {
+    for column in 0..coefficients.len() {
+        let sum = match sums.get(column) {
+            Some(sum) => *sum,
+            None => Frac::zero(),
+        };
+        if coefficients[column] != sum {
+            return false;
+        }
+    }
+    true
 }
 
 /// Compares the row, with its coefficients where it is accepted.
-fn compare_row(rt: &impl Abort, asked: &Asked, sum: &Sum, room: &mut Room) {
+fn is_row(asked: &Asked, sum: &Sum, room: &mut Room) -> bool {
     let row = slow_row(asked, sum);
     let fault = fault_of(&row);
     count(room.counts.as_mut_slice(), fault);
-    assert_eq!(rt; asked.derived(&mut room.scratch), Some(row));
-    if fault.is_some() {
-        return;
-    }
-    let coefficients = room.scratch.row.entries();
-    for column in 0..coefficients.len() {
-        let coefficient = match sum.coefficients.as_slice().get(column) {
-            Some(coefficient) => *coefficient,
-            None => Frac::zero(),
-        };
-        assert_eq!(rt; coefficients[column], coefficient);
-    }
+    asked.derived(&mut room.scratch) == Some(row)
+        && (fault.is_some()
+            || are_coefficients(room.scratch.row.entries(), sum.coefficients.as_slice()))
 }
 
-/// Compares the bound at the costs, and that at costs 0.
-fn compare_bounds(rt: &impl Abort, asked: &Asked, sum: &Sum, room: &mut Room) {
+/// Compares the bound at the costs.
+fn is_bound(asked: &Asked, sum: &Sum, room: &mut Room) -> bool {
     let cost = slow_cost(asked, sum);
     count(room.counts.as_mut_slice(), fault_of(&cost));
-    assert_eq!(rt; asked.bounded(&mut room.scratch), Some(cost));
+    asked.bounded(&mut room.scratch) == Some(cost)
+}
+
+/// Compares the bound at costs 0.
+fn is_emptiness(asked: &Asked, sum: &Sum, room: &mut Room) -> bool {
     let emptiness = slow_emptiness(asked, sum);
     count(room.counts.as_mut_slice(), fault_of(&emptiness));
-    assert_eq!(rt; asked.emptied(&mut room.scratch), Some(emptiness));
+    asked.emptied(&mut room.scratch) == Some(emptiness)
 }
 
 /// Compares the side.
-fn compare_side(rt: &impl Abort, asked: &Asked, sum: &Sum, room: &mut Room) {
+fn is_side(asked: &Asked, sum: &Sum, room: &mut Room) -> bool {
     let side = slow_side(asked, sum, room.costs.as_mut_slice());
     count(room.counts.as_mut_slice(), fault_of(&side));
-    assert_eq!(rt; asked.reduced(&mut room.scratch), Some(side));
+    asked.reduced(&mut room.scratch) == Some(side)
+}
+
+/// Compares all answers.
+fn is_answered(alloc: Global, asked: &Asked, room: &mut Room) -> bool {
+    let mut sum = Sum::new(alloc);
+    is_summed(alloc, asked, &mut sum)
+        && is_row(asked, &sum, room)
+        && is_bound(asked, &sum, room)
+        && is_emptiness(asked, &sum, room)
+        && is_side(asked, &sum, room)
+}
+
+/// Draws a case, and compares its answers.
+fn agrees(alloc: Global, draws: &mut Draws, room: &mut Room) -> bool {
+    let (columns, numbers) = shape(draws);
+    match Asked::new(alloc, columns as usize) {
+        Ok(mut asked) => is_drawn(alloc, draws, numbers, columns, &mut asked)
+            && is_answered(alloc, &asked, room),
+        Err(_) => false,
+    }
+}
+
+/// The first of a thousand cases that doesn't agree, or a thousand; then how many answers there are of the rarest kind.
+fn told(alloc: Global, room: &mut Room) -> (usize, u32) {
+    let mut draws = Draws::new(1);
+    for number in 0..1000 {
+        if !agrees(alloc, &mut draws, room) {
+            return (number, 0);
+        }
+    }
+    let mut fewest = u32::MAX;
+    for count in room.counts {
+        fewest = fewest.min(count);
+    }
+    (1000, fewest)
 }
 
 #[test]
-fn random_combinations_agree(rt: HostRuntime) -> Result<(), Fail> {
-    let alloc = rt.alloc();
-    let mut draws = Draws::new(1);
+fn random_combinations_agree(rt: HostRuntime) {
+    let scratch = Scratch::new(rt.alloc(), 8).expect(&rt, "memory");
     let mut room = Room {
-        scratch: Scratch::new(alloc, 8)?,
-        costs: vec![in alloc; Frac::zero(); 8]?,
-        counts: vec![in alloc; 0; KINDS]?,
+        scratch,
+        costs: [Frac::zero(); 8],
+        counts: [0; KINDS],
     };
-    for _ in 0..1000 {
-        let asked = drawn(alloc, &mut draws)?;
-        let sum = slow_sum(alloc, &asked)?;
-        compare_row(&rt, &asked, &sum, &mut room);
-        compare_bounds(&rt, &asked, &sum, &mut room);
-        compare_side(&rt, &asked, &sum, &mut room);
-    }
-    for count in &room.counts {
-        assert!(rt; *count >= FEWEST, "{room:?}");
-    }
-    Ok(())
+    let (agreeing, fewest) = told(rt.alloc(), &mut room);
+    assert!(rt;
+        agreeing == 1000 && fewest >= FEWEST,
+        "{agreeing} cases, {fewest} answers"
+    );
 }

@@ -5,168 +5,295 @@ use cip_cert::{CutFault, Place, Scratch};
 use cip_frac::Frac;
 use cip_lin::{Bounds, ColumnMultiple, Row, RowId, RowMultiple, Side, Sides, Term};
 use std::alloc::{AllocError, Global};
-use std::test::Fail;
 
-/// A row over five columns, of which those with a coefficient 0 have no term.
-fn row(
-    alloc: Global,
-    coefficients: [i64; 5],
+/// A row over five columns, of which those with a coefficient 0 have no term, its sides, and its factor by numerator and
+/// denominator, where it is in the combination.
+type Line = ([i64; 5], Option<i64>, Option<i64>, Option<(i64, i64)>);
+
+/// What is asked.
+#[derive(Clone, Copy)]
+enum Question {
+    /// The row, rounded.
+    Row,
+    Emptiness,
+    Bound,
+    /// Whether this is a high side of the first column.
+    HighSide(i64),
+}
+
+/// What is answered.
+#[derive(Clone, Copy)]
+enum Want {
+    /// A number, by numerator and denominator.
+    Number(i64, i64),
+    Empty,
+    NotWhole(usize),
+    NoSideOf(usize),
+    WrongSignOf(usize),
+    /// The sum isn't above 0, but 0.
+    NotPositive,
+    /// No side is implied that is as strong, but this one.
+    NotImplied(i64),
+}
+
+/// Five whole columns from 0 to a number, each of cost 1, and rows; the factor of the low side of the first column, if
+/// there is one; what is asked, and what is answered.
+#[derive(Clone, Copy)]
+struct Case {
+    top: i64,
+    lines: &'static [Line],
     low: Option<i64>,
-    high: Option<i64>,
-) -> Result<Row, Fail> {
-    let mut row = Row::empty(alloc, low.map(Frac::from), high.map(Frac::from));
+    question: Question,
+    want: Want,
+}
+
+/// Half of 2x + 2y at most 3, for x and y from 0 to 1: x + y is at most 1.
+const HALF_A_ROW: Case = Case {
+    top: 1,
+    lines: &[([2, 2, 0, 0, 0], None, Some(3), Some((-1, 2)))],
+    low: None,
+    question: Question::Row,
+    want: Want::Number(-1, 1),
+};
+
+const CASES: [Case; 9] = [
+    HALF_A_ROW,
+    // a third of it has no whole coefficients
+    Case {
+        lines: &[([2, 2, 0, 0, 0], None, Some(3), Some((-1, 3)))],
+        want: Want::NotWhole(0),
+        ..HALF_A_ROW
+    },
+    // it has no low side
+    Case {
+        lines: &[([2, 2, 0, 0, 0], None, Some(3), Some((1, 2)))],
+        want: Want::NoSideOf(0),
+        ..HALF_A_ROW
+    },
+    // a low side has no negative factor
+    Case {
+        low: Some(-1),
+        want: Want::WrongSignOf(1),
+        ..HALF_A_ROW
+    },
+    // x is at least 2 and at most 1
+    Case {
+        top: 5,
+        lines: &[
+            ([1, 0, 0, 0, 0], Some(2), None, Some((1, 1))),
+            ([1, 0, 0, 0, 0], None, Some(1), Some((-1, 1))),
+        ],
+        low: None,
+        question: Question::Emptiness,
+        want: Want::Empty,
+    },
+    // neither of them is used
+    Case {
+        top: 5,
+        lines: &[
+            ([1, 0, 0, 0, 0], Some(2), None, None),
+            ([1, 0, 0, 0, 0], None, Some(1), None),
+        ],
+        low: None,
+        question: Question::Emptiness,
+        want: Want::NotPositive,
+    },
+    // half of an equation bounds the cost
+    Case {
+        top: 1,
+        lines: &[([2, 2, 2, 2, 2], Some(5), Some(5), Some((1, 2)))],
+        low: None,
+        question: Question::Bound,
+        want: Want::Number(5, 2),
+    },
+    // 2a + 3b + c at most 5 implies that a is at most 2
+    Case {
+        top: 10,
+        lines: &[([2, 3, 1, 0, 0], None, Some(5), Some((-1, 1)))],
+        low: None,
+        question: Question::HighSide(2),
+        want: Want::Number(2, 1),
+    },
+    // and not that it is at most 1
+    Case {
+        top: 10,
+        lines: &[([2, 3, 1, 0, 0], None, Some(5), Some((-1, 1)))],
+        low: None,
+        question: Question::HighSide(1),
+        want: Want::NotImplied(2),
+    },
+];
+
+/// Appends the terms of a row.
+fn is_filled(row: &mut Row, coefficients: [i64; 5]) -> bool {
     for col in 0..5_u32 {
         let coef = Frac::from(coefficients[col as usize]);
-        if !coef.is_zero() {
-            row.append(Term { col, coef })?;
+        if !coef.is_zero() && row.append(Term { col, coef }).is_err() {
+            return false;
         }
     }
-    Ok(row)
+    true
 }
 
-/// Five columns from 0 to a number.
-pub fn up_to(alloc: Global, high: i64) -> Result<Bounds, AllocError> {
-    let sides = Sides {
-        low: Some(Frac::zero()),
-        high: Some(Frac::from(high)),
-    };
-    let mut bounds = Bounds::new(alloc, 0)?;
+/// Adds at most five rows, with their factors.
+fn are_added(alloc: Global, lines: &[Line], asked: &mut Asked) -> bool {
+    if lines.len() > 5 {
+        return false;
+    }
+    for at in 0..lines.len() {
+        let (coefficients, low, high, factor) = lines[at];
+        let mut row = Row::empty(alloc, low.map(Frac::from), high.map(Frac::from));
+        if !is_filled(&mut row, coefficients) || asked.own.push(row).is_err() {
+            return false;
+        }
+        if !is_used(at as u32, factor, asked) {
+            return false;
+        }
+    }
+    true
+}
+
+/// Puts a row into the combination, where it has a factor.
+fn is_used(number: u32, factor: Option<(i64, i64)>, asked: &mut Asked) -> bool {
+    match factor {
+        Some((over, under)) => {
+            let factor = fraction(over as i128, under as i128);
+            let row = RowId::Own(number);
+            asked.combo.rows.push(RowMultiple { row, factor }).is_ok()
+        }
+        None => true,
+    }
+}
+
+/// Appends five columns from 0 to a number.
+pub fn put_columns(bounds: &mut Bounds, high: i64) -> Result<(), AllocError> {
     for _ in 0..5 {
-        bounds.push(sides)?;
+        bounds.push(Sides {
+            low: Some(Frac::zero()),
+            high: Some(Frac::from(high)),
+        })?;
     }
-    Ok(bounds)
+    Ok(())
 }
 
-/// Five whole columns from 0 to a number, each of cost 1, with one row and a factor for it.
-fn one_row(alloc: Global, top: i64, row: Row, factor: Frac) -> Result<Asked, AllocError> {
-    let mut asked = Asked::new(alloc, 5)?;
-    asked.bounds = up_to(alloc, top)?;
-    asked.own.push(row)?;
-    let row = RowId::Own(0);
-    asked.combo.rows.push(RowMultiple { row, factor })?;
-    Ok(asked)
+/// Makes five columns whole, and gives each the cost 1.
+fn put_costs(asked: &mut Asked) -> Result<(), AllocError> {
+    for _ in 0..5 {
+        asked.whole.push(true)?;
+        asked.costs.push(Frac::one())?;
+    }
+    Ok(())
 }
 
-/// What `derive` answers with rounding for a multiple of 2 x + 2 y at most 3, and with one of the low side of x where it
-/// is given; the first two coefficients stand in the scratch.
-pub fn row_of_pair(
-    alloc: Global,
-    factor: Frac,
-    low: Option<Frac>,
-    scratch: &mut Scratch,
-) -> Result<Option<Result<Frac, CutFault>>, Fail> {
-    let row = row(alloc, [2, 2, 0, 0, 0], None, Some(3))?;
-    let mut asked = one_row(alloc, 1, row, factor)?;
+/// Puts the low side of the first column in, where it has a factor.
+fn is_low_used(low: Option<i64>, asked: &mut Asked) -> bool {
+    match low {
+        Some(factor) => {
+            let factor = Frac::from(factor);
+            asked
+                .combo
+                .lows
+                .push(ColumnMultiple { col: 0, factor })
+                .is_ok()
+        }
+        None => true,
+    }
+}
+
+/// Puts a case in, where nothing is yet.
+fn is_put(alloc: Global, case: &Case, asked: &mut Asked) -> bool {
     asked.round = true;
-    if let Some(factor) = low {
-        asked.combo.lows.push(ColumnMultiple { col: 0, factor })?;
-    }
-    Ok(asked.derived(scratch))
-}
-
-#[test]
-fn half_a_row_is_rounded(rt: HostRuntime) -> Result<(), Fail> {
-    let mut scratch = Scratch::new(rt.alloc(), 5)?;
-    let answer = row_of_pair(rt.alloc(), fraction(-1, 2), None, &mut scratch)?;
-    let (one, zero) = (Frac::from(-1), Frac::zero());
-    assert_eq!(rt; answer, Some(Ok(one)));
-    assert_eq!(rt;
-        scratch.row.entries(),
-        [one, one, zero, zero, zero].as_slice()
-    );
-    Ok(())
-}
-
-#[test]
-fn rows_are_refused(rt: HostRuntime) -> Result<(), Fail> {
-    let mut scratch = Scratch::new(rt.alloc(), 5)?;
-    let open = CutFault::NoSide {
-        place: Place::Entry(0),
-    };
-    let negative = Some(Frac::from(-1));
-    let cases = [
-        (fraction(-1, 3), None, CutFault::NotWhole { column: 0 }),
-        (fraction(1, 2), None, open),
-        (fraction(-1, 2), negative, CutFault::WrongSign { entry: 1 }),
-    ];
-    for (factor, low, fault) in cases {
-        let answer = row_of_pair(rt.alloc(), factor, low, &mut scratch)?;
-        assert_eq!(rt; answer, Some(Err(fault)));
-    }
-    Ok(())
-}
-
-/// What `empties` answers for a multiple of x at least 2 and one of x at most 1, or for neither.
-fn emptiness(
-    alloc: Global,
-    is_empty: bool,
-    scratch: &mut Scratch,
-) -> Result<Option<Result<(), CutFault>>, Fail> {
-    let above = row(alloc, [1, 0, 0, 0, 0], Some(2), None)?;
-    let below = row(alloc, [1, 0, 0, 0, 0], None, Some(1))?;
-    let mut asked = one_row(alloc, 5, above, Frac::one())?;
-    asked.own.push(below)?;
-    let row = RowId::Own(1);
-    let factor = Frac::from(-1);
-    asked.combo.rows.push(RowMultiple { row, factor })?;
-    if is_empty {
-        asked.combo.rows.clear();
-    }
-    Ok(asked.emptied(scratch))
-}
-
-#[test]
-fn rows_that_exclude_each_other_empty(rt: HostRuntime) -> Result<(), Fail> {
-    let mut scratch = Scratch::new(rt.alloc(), 5)?;
-    let answer = emptiness(rt.alloc(), false, &mut scratch)?;
-    assert_eq!(rt; answer, Some(Ok(())));
-    let nothing = CutFault::NotPositive {
-        value: Frac::zero(),
-    };
-    let answer = emptiness(rt.alloc(), true, &mut scratch)?;
-    assert_eq!(rt; answer, Some(Err(nothing)));
-    Ok(())
-}
-
-/// What `lower_bound` answers for half of an equation.
-fn half_an_equation(
-    alloc: Global,
-    scratch: &mut Scratch,
-) -> Result<Option<Result<Frac, CutFault>>, Fail> {
-    let row = row(alloc, [2, 2, 2, 2, 2], Some(5), Some(5))?;
-    let asked = one_row(alloc, 1, row, fraction(1, 2))?;
-    Ok(asked.bounded(scratch))
-}
-
-#[test]
-fn half_an_equation_bounds(rt: HostRuntime) -> Result<(), Fail> {
-    let mut scratch = Scratch::new(rt.alloc(), 5)?;
-    let answer = half_an_equation(rt.alloc(), &mut scratch)?;
-    assert_eq!(rt; answer, Some(Ok(fraction(5, 2))));
-    Ok(())
-}
-
-/// What `reduction` answers for a high side of a under 2 a + 3 b + c at most 5.
-fn high_side(
-    alloc: Global,
-    value: Frac,
-    scratch: &mut Scratch,
-) -> Result<Option<Result<Frac, CutFault>>, Fail> {
-    let row = row(alloc, [2, 3, 1, 0, 0], None, Some(5))?;
-    let mut asked = one_row(alloc, 10, row, Frac::from(-1))?;
     asked.side = Side::High;
-    asked.value = value;
-    Ok(asked.reduced(scratch))
+    if let Question::HighSide(value) = case.question {
+        asked.value = Frac::from(value);
+    }
+    put_columns(&mut asked.bounds, case.top).is_ok()
+        && put_costs(asked).is_ok()
+        && are_added(alloc, case.lines, asked)
+        && is_low_used(case.low, asked)
+}
+
+fn is_number(answer: Option<Result<Frac, CutFault>>, want: Want) -> bool {
+    match (answer, want) {
+        (Some(Ok(number)), Want::Number(over, under)) => {
+            number == fraction(over as i128, under as i128)
+        }
+        (Some(Err(fault)), _) => is_fault(fault, want),
+        _ => false,
+    }
+}
+
+fn is_empty(answer: Option<Result<(), CutFault>>, want: Want) -> bool {
+    match (answer, want) {
+        (Some(Ok(())), Want::Empty) => true,
+        (Some(Err(fault)), _) => is_fault(fault, want),
+        _ => false,
+    }
+}
+
+fn is_fault(fault: CutFault, want: Want) -> bool {
+    match want {
+        Want::Number(_, _) => false,
+        Want::Empty => false,
+        Want::NotWhole(column) => fault == CutFault::NotWhole { column },
+        Want::NoSideOf(entry) => {
+            let place = Place::Entry(entry);
+            fault == CutFault::NoSide { place }
+        }
+        Want::WrongSignOf(entry) => fault == CutFault::WrongSign { entry },
+        Want::NotPositive => {
+            let value = Frac::zero();
+            fault == CutFault::NotPositive { value }
+        }
+        Want::NotImplied(side) => {
+            let implied = Some(Frac::from(side));
+            fault == CutFault::NotImplied { implied }
+        }
+    }
+}
+
+/// Asks, and compares the answer.
+fn is_answered(asked: &Asked, case: &Case, scratch: &mut Scratch) -> bool {
+    match case.question {
+        Question::Row => is_number(asked.derived(scratch), case.want),
+        Question::Emptiness => is_empty(asked.emptied(scratch), case.want),
+        Question::Bound => is_number(asked.bounded(scratch), case.want),
+        Question::HighSide(_) => is_number(asked.reduced(scratch), case.want),
+    }
+}
+
+fn is_as(alloc: Global, case: &Case, scratch: &mut Scratch) -> bool {
+    match Asked::new(alloc, 5) {
+        Ok(mut asked) => is_put(alloc, case, &mut asked) && is_answered(&asked, case, scratch),
+        Err(_) => false,
+    }
+}
+
+/// Half of a row is rounded; its coefficients, -1 on the first two columns, stand in the scratch.
+pub fn is_half_a_row(alloc: Global, scratch: &mut Scratch) -> bool {
+    let (one, zero) = (Frac::from(-1), Frac::zero());
+    is_as(alloc, &HALF_A_ROW, scratch)
+        && scratch.row.entries() == [one, one, zero, zero, zero].as_slice()
+}
+
+/// The first case that is answered otherwise; their number where there is none.
+fn first_wrong(alloc: Global, scratch: &mut Scratch) -> usize {
+    for at in 0..CASES.len() {
+        if !is_as(alloc, &CASES[at], scratch) {
+            return at;
+        }
+    }
+    CASES.len()
 }
 
 #[test]
-fn a_row_implies_a_side(rt: HostRuntime) -> Result<(), Fail> {
-    let mut scratch = Scratch::new(rt.alloc(), 5)?;
-    let two = Frac::from(2);
-    let answer = high_side(rt.alloc(), two, &mut scratch)?;
-    assert_eq!(rt; answer, Some(Ok(two)));
-    let weaker = CutFault::NotImplied { implied: Some(two) };
-    let answer = high_side(rt.alloc(), Frac::one(), &mut scratch)?;
-    assert_eq!(rt; answer, Some(Err(weaker)));
-    Ok(())
+fn checks_answer_as_worked_out(rt: HostRuntime) {
+    let mut scratch = Scratch::new(rt.alloc(), 5).expect(&rt, "memory");
+    assert_eq!(rt; first_wrong(rt.alloc(), &mut scratch), 9);
+}
+
+#[test]
+fn half_a_row_is_rounded(rt: HostRuntime) {
+    let mut scratch = Scratch::new(rt.alloc(), 5).expect(&rt, "memory");
+    assert!(rt; is_half_a_row(rt.alloc(), &mut scratch));
 }

@@ -2,17 +2,24 @@
 use crate::asked::Asked;
 use cip_cert::{CutFault, Place};
 use cip_frac::Frac;
-use cip_lin::{Row, RowId, RowMultiple, Sides, Term};
+use cip_lin::{ColumnMultiple, Row, RowId, RowMultiple, Sides};
 use std::alloc::{AllocError, Global};
 
 /// The most entries of a combination.
 const MOST: usize = 4096;
 
-/// A factor, a row with a coefficient for each column, and the side that is used.
-#[derive(Debug, Drop)]
+/// What a part is a multiple of.
+#[derive(Clone, Copy)]
+enum Name {
+    Row(RowId),
+    Column(u32),
+}
+
+/// A factor, the row or the column whose side it is of, and the side that is used.
+#[derive(Clone, Copy)]
 struct Part {
     factor: Frac,
-    row: Vec<Frac>,
+    name: Name,
     side: Frac,
 }
 
@@ -120,91 +127,59 @@ fn column_side(
     }
 }
 
-/// A row with a coefficient for each column.
-fn spread(alloc: Global, terms: &[Term], columns: usize) -> Result<Vec<Frac>, AllocError> {
-    let mut row = vec![in alloc; Frac::zero(); columns]?;
-    for term in terms {
-        let column = term.col as usize;
-        if column < row.len() {
-            row[column] = term.coef;
-        }
-    }
-    Ok(row)
+/// The part of a row, or why it is none.
+fn row_part(asked: &Asked, entry: usize, multiple: RowMultiple) -> Result<Part, CutFault> {
+    let row = named(asked, entry, multiple.row)?;
+    let side = side_of(row, entry, multiple.factor)?;
+    Ok(Part {
+        factor: multiple.factor,
+        name: Name::Row(multiple.row),
+        side,
+    })
 }
 
-/// Puts a part at the end.
-fn push_part(
-    alloc: Global,
-    columns: usize,
-    parts: &mut Vec<Part>,
-    factor: Frac,
-    terms: &[Term],
-    side: Frac,
-) -> Result<(), AllocError> {
-    let row = spread(alloc, terms, columns)?;
-    parts.push(Part { factor, row, side })?;
-    Ok(())
-}
-
-/// Puts the part of a row at the end, or answers why it is none.
-fn push_row(
-    alloc: Global,
+/// The part of a column's side, or why it is none.
+fn column_part(
     asked: &Asked,
-    parts: &mut Vec<Part>,
-    multiple: RowMultiple,
-) -> Result<Option<CutFault>, AllocError> {
-    let entry = parts.len();
-    let row = match named(asked, entry, multiple.row) {
-        Ok(row) => row,
-        Err(fault) => return Ok(Some(fault)),
-    };
-    match side_of(row, entry, multiple.factor) {
-        Ok(side) => push_part(
-            alloc,
-            asked.bounds.len(),
-            parts,
-            multiple.factor,
-            row.terms(),
-            side,
-        )?,
-        Err(fault) => return Ok(Some(fault)),
-    }
-    Ok(None)
-}
-
-/// Puts the part of a column's side at the end, or answers why it is none.
-fn push_column(
-    alloc: Global,
-    asked: &Asked,
-    parts: &mut Vec<Part>,
-    column: u32,
-    factor: Frac,
+    entry: usize,
+    multiple: ColumnMultiple,
     is_low: bool,
-) -> Result<Option<CutFault>, AllocError> {
+) -> Result<Part, CutFault> {
+    let factor = multiple.factor;
     let has_sign = if is_low {
         factor > Frac::zero()
     } else {
         factor < Frac::zero()
     };
-    let terms = [Term {
-        col: column,
-        coef: Frac::one(),
-    }];
-    match column_side(asked, parts.len(), column, has_sign, is_low) {
-        Ok(side) => push_part(alloc, asked.bounds.len(), parts, factor, &terms, side)?,
-        Err(fault) => return Ok(Some(fault)),
+    match column_side(asked, entry, multiple.col, has_sign, is_low) {
+        Ok(side) => Ok(Part {
+            factor,
+            name: Name::Column(multiple.col),
+            side,
+        }),
+        Err(fault) => Err(fault),
     }
-    Ok(None)
+}
+
+/// Puts a part at the end, or answers why it is none.
+fn put(
+    parts: &mut Vec<Part>,
+    part: Result<Part, CutFault>,
+) -> Result<Option<CutFault>, AllocError> {
+    match part {
+        Ok(part) => {
+            parts.push(part)?;
+            Ok(None)
+        }
+        Err(fault) => Ok(Some(fault)),
+    }
 }
 
 /// Puts the parts of the rows into the list, up to the first that is none.
-fn push_rows(
-    alloc: Global,
-    asked: &Asked,
-    parts: &mut Vec<Part>,
-) -> Result<Option<CutFault>, AllocError> {
+fn put_rows(asked: &Asked, parts: &mut Vec<Part>) -> Result<Option<CutFault>, AllocError> {
     for multiple in &asked.combo.rows {
-        let fault = push_row(alloc, asked, parts, *multiple)?;
+        let entry = parts.len();
+        let fault = put(parts, row_part(asked, entry, *multiple))?;
         if fault.is_some() {
             return Ok(fault);
         }
@@ -213,8 +188,7 @@ fn push_rows(
 }
 
 /// The same for low or for high sides.
-fn push_columns(
-    alloc: Global,
+fn put_columns(
     asked: &Asked,
     parts: &mut Vec<Part>,
     is_low: bool,
@@ -225,7 +199,8 @@ fn push_columns(
         asked.combo.highs.as_slice()
     };
     for multiple in multiples {
-        let fault = push_column(alloc, asked, parts, multiple.col, multiple.factor, is_low)?;
+        let entry = parts.len();
+        let fault = put(parts, column_part(asked, entry, *multiple, is_low))?;
         if fault.is_some() {
             return Ok(fault);
         }
@@ -234,20 +209,16 @@ fn push_columns(
 }
 
 /// Puts all parts into the list, up to the first that is none.
-fn push_all(
-    alloc: Global,
-    asked: &Asked,
-    parts: &mut Vec<Part>,
-) -> Result<Option<CutFault>, AllocError> {
-    let fault = push_rows(alloc, asked, parts)?;
+fn put_all(asked: &Asked, parts: &mut Vec<Part>) -> Result<Option<CutFault>, AllocError> {
+    let fault = put_rows(asked, parts)?;
     if fault.is_some() {
         return Ok(fault);
     }
-    let fault = push_columns(alloc, asked, parts, true)?;
+    let fault = put_columns(asked, parts, true)?;
     if fault.is_some() {
         return Ok(fault);
     }
-    push_columns(alloc, asked, parts, false)
+    put_columns(asked, parts, false)
 }
 
 /// A sum with a product added, if neither overflows.
@@ -261,19 +232,39 @@ pub fn plus(sum: Frac, a: Frac, b: Frac) -> Option<Frac> {
     }
 }
 
-/// The number that a part adds to: of a column, or of the right side where the column isn't there.
-fn number_of(part: &Part, column: usize) -> Frac {
-    match part.row.as_slice().get(column) {
-        Some(coefficient) => *coefficient,
-        None => part.side,
+/// The coefficient of a row on a column.
+fn row_coefficient(row: &Row, column: usize) -> Frac {
+    for term in row.terms() {
+        if term.col as usize == column {
+            return term.coef;
+        }
+    }
+    Frac::zero()
+}
+
+/// The coefficient of a part on a column.
+fn coefficient(asked: &Asked, name: Name, column: usize) -> Frac {
+    match name {
+        Name::Column(own) if own as usize == column => Frac::one(),
+        Name::Column(_) => Frac::zero(),
+        Name::Row(name) => match named(asked, 0, name) {
+            Ok(row) => row_coefficient(row, column),
+            Err(_) => Frac::zero(),
+        },
     }
 }
 
-/// The sum in a column of factors times coefficients, or the first part at which it overflows.
-fn column_sum(parts: &[Part], column: usize) -> Result<Frac, usize> {
+/// The sum of factors times coefficients on a column, or times sides where there is none, or the first part at which it
+/// overflows.
+fn column_sum(asked: &Asked, parts: &[Part], column: Option<usize>) -> Result<Frac, usize> {
     let mut sum = Frac::zero();
     for at in 0..parts.len() {
-        match plus(sum, parts[at].factor, number_of(&parts[at], column)) {
+        let Part { factor, name, side } = parts[at];
+        let number = match column {
+            Some(column) => coefficient(asked, name, column),
+            None => side,
+        };
+        match plus(sum, factor, number) {
             Some(value) => sum = value,
             None => return Err(at),
         }
@@ -282,10 +273,10 @@ fn column_sum(parts: &[Part], column: usize) -> Result<Frac, usize> {
 }
 
 /// The first part at which a column or the right side overflows.
-fn first_overflow(parts: &[Part], columns: usize) -> Option<usize> {
-    let mut first = None;
-    for column in 0..=columns {
-        if let Err(at) = column_sum(parts, column) {
+fn first_overflow(asked: &Asked, parts: &[Part], columns: usize) -> Option<usize> {
+    let mut first = column_sum(asked, parts, None).err();
+    for column in 0..columns {
+        if let Err(at) = column_sum(asked, parts, Some(column)) {
             match first {
                 Some(earlier) if earlier <= at => {}
                 _ => first = Some(at),
@@ -295,16 +286,20 @@ fn first_overflow(parts: &[Part], columns: usize) -> Option<usize> {
     first
 }
 
-/// The sums in all columns, 0 where one overflows.
-fn column_sums(alloc: Global, parts: &[Part], columns: usize) -> Result<Vec<Frac>, AllocError> {
-    let mut sums = Vec::new(alloc);
+/// Appends the sums in all columns, 0 where one overflows.
+fn put_sums(
+    asked: &Asked,
+    parts: &[Part],
+    columns: usize,
+    sums: &mut Vec<Frac>,
+) -> Result<(), AllocError> {
     for column in 0..columns {
-        match column_sum(parts, column) {
+        match column_sum(asked, parts, Some(column)) {
             Ok(sum) => sums.push(sum)?,
             Err(_) => sums.push(Frac::zero())?,
         }
     }
-    Ok(sums)
+    Ok(())
 }
 
 /// Whether a combination has too many entries.
@@ -317,26 +312,44 @@ fn is_too_long(asked: &Asked) -> bool {
     asked.combo.rows.len().saturating_add(bounds) > MOST
 }
 
-/// The sum of a combination: an entry that can't be used comes after an overflow at an earlier one.
-pub fn slow_sum(alloc: Global, asked: &Asked) -> Result<Sum, AllocError> {
+impl Sum {
+    /// No column, and nothing in it.
+    pub fn new(alloc: Global) -> Sum {
+        Sum {
+            coefficients: Vec::new(alloc),
+            least: Frac::zero(),
+            fault: None,
+        }
+    }
+}
+
+/// Puts the sum of these parts into one that is empty.
+fn put_sum(
+    asked: &Asked,
+    parts: &[Part],
+    fault: Option<CutFault>,
+    sum: &mut Sum,
+) -> Result<(), AllocError> {
     let columns = asked.bounds.len();
-    let mut parts = Vec::new(alloc);
-    let fault = push_all(alloc, asked, &mut parts)?;
-    let fault = match first_overflow(parts.as_slice(), columns) {
+    sum.fault = match first_overflow(asked, parts, columns) {
         _ if is_too_long(asked) => Some(CutFault::TooLong),
         Some(at) => Some(CutFault::Wide {
             place: Place::Entry(at),
         }),
         None => fault,
     };
-    let least = match column_sum(parts.as_slice(), columns) {
-        Ok(least) => least,
-        Err(_) => Frac::zero(),
-    };
-    let coefficients = column_sums(alloc, parts.as_slice(), columns)?;
-    Ok(Sum {
-        coefficients,
-        least,
-        fault,
-    })
+    if let Ok(least) = column_sum(asked, parts, None) {
+        sum.least = least;
+    }
+    put_sums(asked, parts, columns, &mut sum.coefficients)
+}
+
+/// Puts the sum of a combination into one that is empty: an entry that can't be used comes after an overflow at an
+/// earlier one.
+pub fn is_summed(alloc: Global, asked: &Asked, sum: &mut Sum) -> bool {
+    let mut parts = Vec::new(alloc);
+    match put_all(asked, &mut parts) {
+        Ok(fault) => put_sum(asked, parts.as_slice(), fault, sum).is_ok(),
+        Err(_) => false,
+    }
 }
