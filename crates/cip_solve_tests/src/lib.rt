@@ -1,7 +1,11 @@
-//! Tests of the search over small programs, worked out by hand.
+//! Tests of the points held, of the work on single nodes, and of searches over it, on programs worked out by hand.
 #![tactic(auto)]
 
 #[cfg(test)]
+mod incumbents;
+#[cfg(test)]
 mod programs;
+#[cfg(test)]
+mod roots;
 #[cfg(test)]
 mod searches;
