@@ -6,8 +6,8 @@ use cip_frac::Frac;
 use cip_lin::{Bounds, ColumnMultiple, Row, RowId, RowMultiple, Side, Sides, Term};
 use std::alloc::{AllocError, Global};
 
-/// A row over five columns, of which those with a coefficient 0 have no term, its sides, and its factor by numerator and
-/// denominator, where it is in the combination.
+/// A row over five columns, of which those with a coefficient 0 have no term, its sides, and its factor by numerator
+/// and denominator, where it is in the combination.
 type Line = ([i64; 5], Option<i64>, Option<i64>, Option<(i64, i64)>);
 
 /// What is asked.

@@ -18,8 +18,8 @@ enum Want {
     Unbounded,
 }
 
-/// A program: its rows, the sides of its columns, its costs and what they are divided by. Then what is answered, how many
-/// moves by the list that takes at most, and whether the rule of few moves gets there.
+/// A program: its rows, the sides of its columns, its costs and what they are divided by. Then what is answered, how
+/// many moves by the list that takes at most, and whether the rule of few moves gets there.
 #[derive(Clone, Copy)]
 struct Case {
     rows: &'static [Line],

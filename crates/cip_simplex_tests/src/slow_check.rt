@@ -1,4 +1,5 @@
-//! A plain check of what is answered, from the rows, the sides and the costs alone. A sum that leaves the range is `None`.
+//! A plain check of what is answered, from the rows, the sides and the costs alone.
+//! A sum that leaves the range is `None`.
 use cip_frac::Frac;
 use cip_lin::{Bounds, ColumnMultiple, Combo, Row, RowId, Sides, Term};
 use cip_simplex::LpAnswer;
