@@ -15,7 +15,7 @@ use cip_model::Blocks;
 use std::alloc::{AllocError, Global};
 
 /// What the words come to where the text ends.
-#[derive(Debug, Drop)]
+#[derive(Drop)]
 pub(crate) struct Ending {
     pub(crate) row_blocks: Vec<Option<u32>>,
     pub(crate) owners: Owners,

@@ -4,38 +4,30 @@ ghost use Rattle.cip_line_stream.specs.PieceFaults.{has_kind_to};
 ghost use Rattle.cip_blocks.specs.BlockKinds.{kind_number, kind_name};
 
 use cip_line_stream::KnownFault;
+use std::{error, fmt};
 use thiserror::Error;
 
 /// A kind of fault. Of several rules that a word breaks, or that are broken behind the last line, the least kind
 /// counts.
-#[derive(Clone, Copy, PartialEq, Eq, Debug, Error)]
+#[derive(Clone, Copy, PartialEq, Eq, Debug)]
 pub enum BlockKind {
     /// A word out of its place, or `PRESOLVED` with another value than 0.
-    #[error("BadWord")]
     BadWord,
     /// A number of blocks that is not from 1 to 4,096.
-    #[error("BadCount")]
     BadCount,
     /// A block that is none of so many, or one again.
-    #[error("BadBlock")]
     BadBlock,
     /// A name that no row of the program has.
-    #[error("UnknownRow")]
     UnknownRow,
     /// A row again.
-    #[error("RowTwice")]
     RowTwice,
     /// A column with entries in two blocks.
-    #[error("LinkingColumn")]
     LinkingColumn,
     /// A column of a block without two finite bounds.
-    #[error("OpenColumn")]
     OpenColumn,
     /// No `NBLOCKS`, or a block that was not begun.
-    #[error("Missing")]
     Missing,
     /// A byte too many.
-    #[error("TooLong")]
     TooLong,
 }
 
@@ -129,3 +121,11 @@ impl BlockKind {
         }
     }
 }
+
+impl fmt::Display for BlockKind {
+    fn fmt<W: fmt::Write>(&self, f: &mut fmt::Formatter<W>) -> fmt::Result {
+        f.write_str(self.name())
+    }
+}
+
+impl error::Error for BlockKind {}

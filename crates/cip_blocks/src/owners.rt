@@ -12,7 +12,7 @@ use std::alloc::{AllocError, Global};
 
 /// The block of each column, if a block has an entry of it; and whether a column has entries in two blocks, of which
 /// the first then stands for it.
-#[derive(Debug, Drop)]
+#[derive(Drop)]
 pub(crate) struct Owners {
     pub(crate) blocks: Vec<Option<u32>>,
     pub(crate) links: bool,

@@ -13,7 +13,7 @@ use std::alloc::AllocError;
 
 /// What a row's denominator and the numbers so far tell: a divisor that they may have in common, and a number that none
 /// of them is above.
-#[derive(Clone, Copy, Debug)]
+#[derive(Clone, Copy)]
 pub(crate) struct Near {
     pub(crate) g: u64,
     pub(crate) most: u64,
@@ -21,7 +21,7 @@ pub(crate) struct Near {
 
 /// What has come of a row: it is written, over this denominator; or a number isn't below 2^42, nor can be made so; or a
 /// number doesn't fit 64 bits, as long as nothing is divided.
-#[derive(Clone, Copy, Debug)]
+#[derive(Clone, Copy)]
 pub(crate) enum Put {
     Written(u64),
     Large,

@@ -128,7 +128,7 @@ fn least(first: u32, second: u32) -> u32
 
 /// The next variable on which one of two lists has a number, or the number of variables where there is none; the
 /// numbers on it, and the places where the lists go on behind it.
-#[derive(Clone, Copy, Debug)]
+#[derive(Clone, Copy)]
 pub(crate) struct Step {
     pub(crate) k: u32,
     pub(crate) n: i64,

@@ -4,11 +4,10 @@ use crate::moves::{cost_on, entry_at, exchange, flip, has_row, is_row_whole, val
 use crate::numbers::numbers_compare;
 use crate::program::Program;
 use crate::random::{COLUMNS, ROWS, Random};
-use cip_dict::{Dict, Line, MoveFault, Place, Stand};
+use cip_dict::{Dict, Line, MoveFault, Place, Spare, Stand};
 use cip_frac::Frac;
 use cip_lin::Sides;
-use std::alloc::Global;
-use std::test::Fail;
+use std::alloc::{AllocError, Global};
 
 const VARIABLES: u32 = COLUMNS + ROWS;
 
@@ -21,6 +20,18 @@ enum Outcome {
     Refused,
     // an operation leaves the range on the column more
     Apart,
+    // the two answer otherwise
+    Different,
+}
+
+// whether the two go on together
+#[derive(Clone, Copy, PartialEq, Eq)]
+enum Going {
+    On,
+    // an operation left the range on the column more
+    Ends,
+    // they differ
+    Wrong,
 }
 
 #[derive(Drop)]
@@ -37,7 +48,7 @@ struct Pair {
     plain: Dict,
 }
 
-fn add_great_column(program: &mut Program) -> Result<(), Fail> {
+fn add_great_column(program: &mut Program) -> Result<(), AllocError> {
     let great = Frac::from(8796093022208);
     program.columns.push(Sides {
         low: Some(Frac::zero()),
@@ -51,16 +62,16 @@ fn add_great_column(program: &mut Program) -> Result<(), Fail> {
 }
 
 // both first states of a program, to which the column is added
-fn pair_of(alloc: Global, program: &mut Program) -> Result<Pair, Fail> {
-    let whole = program.first(alloc)?;
-    add_great_column(program)?;
-    let plain = program.first(alloc)?;
-    Ok(Pair { whole, plain })
-}
-
-fn both_forms(alloc: Global, random: &mut Random) -> Result<Pair, Fail> {
-    let mut program = random.program(alloc)?;
-    pair_of(alloc, &mut program)
+fn pair_of(alloc: Global, program: &mut Program) -> Option<Pair> {
+    let mut spare = Spare::new(alloc);
+    let whole = program.first(alloc, &mut spare);
+    if add_great_column(program).is_err() {
+        return None;
+    }
+    match (whole, program.first(alloc, &mut spare)) {
+        (Some(whole), Some(plain)) => Some(Pair { whole, plain }),
+        _ => None,
+    }
 }
 
 // a variable, where there is one more column
@@ -82,11 +93,11 @@ fn place_beyond(place: Place) -> Place {
 }
 
 // what came of an operation that leaves the range of fractions in the dictionary of fractions, and in the other one
-fn refused(whole: Option<Place>, plain: Place) -> Result<Outcome, Fail> {
+fn refused(whole: Option<Place>, plain: Place) -> Outcome {
     match whole {
-        Some(place) if place_beyond(place) == plain => Ok(Outcome::Refused),
-        _ if plain.variable == Some(COLUMNS) => Ok(Outcome::Apart),
-        _ => Err(Fail::new("one place")),
+        Some(place) if place_beyond(place) == plain => Outcome::Refused,
+        _ if plain.variable == Some(COLUMNS) => Outcome::Apart,
+        _ => Outcome::Different,
     }
 }
 
@@ -111,31 +122,31 @@ impl Pair {
         self.whole.cost() == self.plain.cost()
     }
 
-    fn exchange(&mut self, i: u32, j: u32, to: Stand) -> Result<Outcome, Fail> {
+    fn exchange(&mut self, i: u32, j: u32, to: Stand) -> Outcome {
         let first = exchange(&mut self.whole, i, j, to);
         match (first, exchange(&mut self.plain, beyond(i), beyond(j), to)) {
-            (None, None) => Ok(Outcome::Impossible),
-            (Some(Ok(())), Some(Ok(()))) => Ok(Outcome::Made),
+            (None, None) => Outcome::Impossible,
+            (Some(Ok(())), Some(Ok(()))) => Outcome::Made,
             (Some(Ok(())), Some(Err(MoveFault::OutOfRange { place }))) => refused(None, place),
             (
                 Some(Err(MoveFault::OutOfRange { place: here })),
                 Some(Err(MoveFault::OutOfRange { place: there })),
             ) => refused(Some(here), there),
-            _ => Err(Fail::new("one exchange")),
+            _ => Outcome::Different,
         }
     }
 
-    fn flip(&mut self, j: u32) -> Result<Outcome, Fail> {
+    fn flip(&mut self, j: u32) -> Outcome {
         let first = flip(&mut self.whole, j);
         match (first, flip(&mut self.plain, beyond(j))) {
-            (None, None) => Ok(Outcome::Impossible),
-            (Some(Ok(())), Some(Ok(()))) => Ok(Outcome::Made),
+            (None, None) => Outcome::Impossible,
+            (Some(Ok(())), Some(Ok(()))) => Outcome::Made,
             (Some(Err(here)), Some(Err(there))) => refused(Some(here.place), there.place),
-            _ => Err(Fail::new("one flip")),
+            _ => Outcome::Different,
         }
     }
 
-    fn make_move(&mut self, random: &mut Random) -> Result<Outcome, Fail> {
+    fn make_move(&mut self, random: &mut Random) -> Outcome {
         let j = random.below(VARIABLES);
         if random.below(6) == 0 {
             return self.flip(j);
@@ -144,11 +155,11 @@ impl Pair {
         self.exchange(i, j, random.stand())
     }
 
-    // counts the rows, and refuses one of the second dictionary that is whole
-    fn count_rows(&self, counts: &mut Counts) -> Result<(), Fail> {
+    // counts the rows, unless one of the second dictionary is whole
+    fn count_rows(&self, counts: &mut Counts) -> bool {
         for v in 0..VARIABLES {
             if is_row_whole(&self.plain, beyond(v)) {
-                return Err(Fail::new("rows of fractions"));
+                return false;
             }
             if has_row(&self.whole, v) {
                 counts.rows = counts.rows.saturating_add(1);
@@ -157,50 +168,57 @@ impl Pair {
                 counts.whole_rows = counts.whole_rows.saturating_add(1);
             }
         }
-        Ok(())
+        true
     }
 
-    fn compare(&self, counts: &mut Counts) -> Result<(), Fail> {
-        if !self.agree() {
-            return Err(Fail::new("two states"));
+    // whether the two have one state, and the numbers of each line compare as its entries do
+    fn compare(&self, counts: &mut Counts) -> Going {
+        if self.agree() && numbers_compare(&self.whole, VARIABLES) && self.count_rows(counts) {
+            Going::On
+        } else {
+            Going::Wrong
         }
-        if !numbers_compare(&self.whole, VARIABLES) {
-            return Err(Fail::new("numbers of one line"));
-        }
-        self.count_rows(counts)
     }
 
-    // a move, and a comparison after it; answers whether the two still go together
-    fn step(&mut self, random: &mut Random, counts: &mut Counts) -> Result<bool, Fail> {
-        match self.make_move(random)? {
-            Outcome::Impossible => return Ok(true),
-            Outcome::Apart => return Ok(false),
+    // a move, and a comparison after it
+    fn step(&mut self, random: &mut Random, counts: &mut Counts) -> Going {
+        match self.make_move(random) {
+            Outcome::Impossible => return Going::On,
+            Outcome::Apart => return Going::Ends,
+            Outcome::Different => return Going::Wrong,
             Outcome::Made => counts.made = counts.made.saturating_add(1),
             Outcome::Refused => counts.refused = counts.refused.saturating_add(1),
         }
-        self.compare(counts)?;
-        Ok(true)
+        self.compare(counts)
     }
 
-    fn move_on(&mut self, random: &mut Random, counts: &mut Counts) -> Result<(), Fail> {
-        self.compare(counts)?;
+    // forty moves, or as many as go together
+    fn move_on(&mut self, random: &mut Random, counts: &mut Counts) -> bool {
+        let mut going = self.compare(counts);
         for _ in 0..40 {
-            if !self.step(random, counts)? {
-                return Ok(());
+            if going != Going::On {
+                break;
             }
+            going = self.step(random, counts);
         }
-        Ok(())
+        going != Going::Wrong
     }
 }
 
 // two states of one program, compared before and after each move
-fn try_one(alloc: Global, random: &mut Random, counts: &mut Counts) -> Result<(), Fail> {
-    let mut pair = both_forms(alloc, random)?;
-    pair.move_on(random, counts)
+fn is_alike(alloc: Global, random: &mut Random, counts: &mut Counts) -> bool {
+    let mut program = Program::new(alloc);
+    if random.fill(&mut program).is_err() {
+        return false;
+    }
+    match pair_of(alloc, &mut program) {
+        Some(mut pair) => pair.move_on(random, counts),
+        None => false,
+    }
 }
 
 #[test]
-fn a_thousand_programs_move_alike_on_both_forms(rt: HostRuntime) -> Result<(), Fail> {
+fn a_thousand_programs_move_alike_on_both_forms(rt: HostRuntime) {
     let mut random = Random::new(20261127);
     let mut counts = Counts {
         made: 0,
@@ -208,11 +226,12 @@ fn a_thousand_programs_move_alike_on_both_forms(rt: HostRuntime) -> Result<(), F
         rows: 0,
         whole_rows: 0,
     };
-    for _ in 0..1000 {
-        try_one(rt.alloc(), &mut random, &mut counts)?;
+    for number in 0..1000 {
+        assert!(rt;
+            is_alike(rt.alloc(), &mut random, &mut counts),
+            "program {number}"
+        );
     }
-    assert!(rt; counts.made > 3000);
-    assert!(rt; counts.refused > 10);
+    assert!(rt; counts.made > 3000 && counts.refused > 10);
     assert!(rt; counts.whole_rows > counts.rows / 2);
-    Ok(())
 }

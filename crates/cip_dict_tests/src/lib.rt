@@ -14,6 +14,4 @@ mod program;
 #[cfg(test)]
 mod random;
 #[cfg(test)]
-mod told;
-#[cfg(test)]
-mod whole_rows;
+mod steps;

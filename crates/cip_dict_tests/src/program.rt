@@ -6,7 +6,6 @@ use cip_dict::{Dict, Spare};
 use cip_frac::Frac;
 use cip_lin::Sides;
 use std::alloc::Global;
-use std::test::Fail;
 
 /// A row, a column and the coefficient there.
 pub(crate) type Entry = (u32, u32, Frac);
@@ -36,27 +35,6 @@ fn are_within(entries: &[Entry], rows: usize, columns: usize) -> bool
     true
 }
 
-// the first state of a program of fewer than 100 rows and columns
-fn first_of(
-    alloc: Global,
-    entries: &[Entry],
-    rows: &[Sides],
-    columns: &[Sides],
-    costs: &[Frac],
-) -> Option<Dict> {
-    if rows.len() >= 100 || columns.len() >= 100 || costs.len() != columns.len() {
-        return None;
-    }
-    if !are_within(entries, rows.len(), columns.len()) {
-        return None;
-    }
-    let mut spare = Spare::new(alloc);
-    match Dict::first(alloc, &mut spare, entries, rows, columns, costs) {
-        Ok(dict) => Some(dict),
-        Err(_) => None,
-    }
-}
-
 impl Program {
     pub(crate) fn new(alloc: Global) -> Program {
         Program {
@@ -67,13 +45,18 @@ impl Program {
         }
     }
 
-    pub(crate) fn first(&self, alloc: Global) -> Result<Dict, Fail> {
+    /// The first state of a program of fewer than 100 rows and columns.
+    pub(crate) fn first(&self, alloc: Global, spare: &mut Spare) -> Option<Dict> {
         let entries = self.entries.as_slice();
         let rows = self.rows.as_slice();
         let columns = self.columns.as_slice();
-        match first_of(alloc, entries, rows, columns, self.costs.as_slice()) {
-            Some(dict) => Ok(dict),
-            None => Err(Fail::new("a first state")),
+        let costs = self.costs.as_slice();
+        if rows.len() >= 100 || columns.len() >= 100 || costs.len() != columns.len() {
+            return None;
         }
+        if !are_within(entries, rows.len(), columns.len()) {
+            return None;
+        }
+        Dict::first(alloc, spare, entries, rows, columns, costs).ok()
     }
 }

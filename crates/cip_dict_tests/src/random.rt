@@ -5,8 +5,7 @@ use crate::program::Program;
 use cip_dict::Stand;
 use cip_frac::Frac;
 use cip_lin::Sides;
-use std::alloc::Global;
-use std::test::Fail;
+use std::alloc::{AllocError, Global};
 
 /// The rows and columns of a program.
 pub(crate) const ROWS: u32 = 4;
@@ -75,7 +74,7 @@ impl Random {
     }
 
     // appends a row, in which one number of `one_in` is great
-    fn add_row(&mut self, program: &mut Program, row: u32, one_in: u32) -> Result<(), Fail>
+    fn add_row(&mut self, program: &mut Program, row: u32, one_in: u32) -> Result<(), AllocError>
         requires { 0 < one_in }
     {
         program.rows.push(self.sides())?;
@@ -86,7 +85,7 @@ impl Random {
         Ok(())
     }
 
-    fn add_columns(&mut self, program: &mut Program) -> Result<(), Fail> {
+    fn add_columns(&mut self, program: &mut Program) -> Result<(), AllocError> {
         for _ in 0..COLUMNS {
             program.columns.push(self.sides())?;
             program.costs.push(self.number(false))?;
@@ -94,14 +93,13 @@ impl Random {
         Ok(())
     }
 
-    // a program, of which one in ten has many great numbers
-    pub(crate) fn program(&mut self, alloc: Global) -> Result<Program, Fail> {
-        let mut program = Program::new(alloc);
+    // fills an empty program; one in ten has many great numbers
+    pub(crate) fn fill(&mut self, program: &mut Program) -> Result<(), AllocError> {
         let one_in = if self.below(10) == 0 { 2 } else { 40 };
-        self.add_columns(&mut program)?;
+        self.add_columns(program)?;
         for row in 0..ROWS {
-            self.add_row(&mut program, row, one_in)?;
+            self.add_row(program, row, one_in)?;
         }
-        Ok(program)
+        Ok(())
     }
 }

@@ -1,4 +1,5 @@
 pub mod Changes
 pub mod Domain
+pub mod Halves
 pub mod Narrowing
 pub mod Trail

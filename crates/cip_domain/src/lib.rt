@@ -4,14 +4,13 @@
 ghost use Rattle.cip_domain.specs.Narrowing.{ChangesAreMet, OrderIsFree};
 
 mod changes;
+mod halves;
 mod stores;
 
 pub use changes::Change;
 pub use cip_lin::Side;
+pub use halves::{can_halve, high_change, low_change};
 pub use stores::{DomainStore, Mark, Tightened};
-
-#[cfg(test)]
-mod tests;
 
 /// A point lies in a box after changes exactly where it lies in the box and each change allows it.
 pub fn changes_are_met()

@@ -7,8 +7,6 @@ mod gcd;
 mod in_place;
 mod operations;
 mod order;
-#[cfg(test)]
-mod tests;
 mod text;
 mod words;
 

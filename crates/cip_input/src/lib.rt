@@ -11,6 +11,3 @@ pub use block_texts::{UnreadBlocks, read_blocks};
 pub use laws::programs_are_limited;
 pub use models::{Unread, read_program};
 pub use points::{UnreadPoint, read_point};
-
-#[cfg(test)]
-mod tests;

@@ -35,8 +35,8 @@ impl<'a, R: Print> HostSink<Printer<'a, R>> {
 }
 
 impl<W: Write> HostSink<W> {
-    /// This writer, with no fault yet.
-    pub(crate) fn over(writer: W) -> Self
+    /// A sink over this writer, with no fault yet.
+    pub fn over(writer: W) -> Self
         ensures { result ≡ 0 }
     {
         HostSink { writer, faults: 0 }

@@ -72,7 +72,7 @@ fn open_file<R: Files>(runtime: &R, name: &str) -> io::Result<R::File> {
 }
 
 /// Makes an opened file the current one. Where none was opened, a fault is counted and the current one stays.
-pub(crate) fn keep<F: Drop>(
+fn keep<F: Drop>(
     file: &mut Option<F>,
     faults: &mut u64,
     opened: io::Result<F>,
@@ -95,7 +95,7 @@ pub(crate) fn keep<F: Drop>(
 }
 
 /// Reads once; with no file there is nothing to read. Where the read failed, a fault is counted.
-pub(crate) fn read_once<F: Read>(
+fn read_once<F: Read>(
     file: &mut Option<F>,
     faults: &mut u64,
     into: &mut [u8],

@@ -23,6 +23,3 @@ pub use store::Store;
 /// The outside failed: a fault was counted.
 #[derive(Debug, Clone, Copy, PartialEq, Eq)]
 pub struct Failed;
-
-#[cfg(test)]
-mod tests;

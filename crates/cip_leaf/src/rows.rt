@@ -16,7 +16,7 @@ use cip_lin::{Row, RowFault as AppendFault, Term};
 use std::alloc::{AllocError, Global};
 
 /// Why the rows of a leaf's program were not made.
-#[derive(Clone, Copy, Debug, PartialEq, Eq)]
+#[derive(Clone, Copy, PartialEq, Eq)]
 pub(crate) enum RowsFault {
     /// The fixed part of the row of this number overflows, or what a side leaves of it does.
     Wide(u32),
@@ -25,7 +25,7 @@ pub(crate) enum RowsFault {
 }
 
 /// Why one row was not made.
-#[derive(Clone, Copy, Debug, PartialEq, Eq)]
+#[derive(Clone, Copy, PartialEq, Eq)]
 enum RowFault {
     /// Its fixed part overflows, or what a side leaves of it does.
     Wide,

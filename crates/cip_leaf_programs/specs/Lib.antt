@@ -2,3 +2,4 @@ pub mod Examples
 pub mod LeafProgram
 pub mod Statements
 pub mod WideLeaf
+pub mod WideNodes

@@ -14,6 +14,3 @@ pub use extremes::{add_least, least};
 pub use outcomes::Least;
 pub use rows::{Row, RowFault, Term};
 pub use sides::Side;
-
-#[cfg(test)]
-mod tests;

@@ -26,11 +26,11 @@ use Rattle.cip_headline.specs.Headline.{IsSpent, EndsWith, EndsItself}
 use Rattle.cip_headline.proofs.Ends.{budgets_suffice}
 use Rattle.cip_main.specs.declared.plain.Plain.{Plain}
 use Rattle.cip_main.specs.declared.plain.Plain.TheVariants.{Usage, ReadFault, Refused, NoMemory}
-use Rattle.cip_main.specs.Answering.{IsLogged}
-use Rattle.cip_main.specs.Checking.{checked}
+use Rattle.cip_answering.specs.Answering.{IsLogged}
+use Rattle.cip_answering.specs.Checking.{checked}
 use Rattle.cip_main.specs.Plain.{plain_status}
 use Rattle.cip_main.specs.Running.{Call, IsStoreSound, IsSinkSound, GivesPlain, IsAnswered, IsChecked, TellsVerdict, ArePulled, BlocksAreRead, Ran, gives_plain, gives_figures, gives_verdict, IsStatus, write_fault, TellsTruth, Asks, AsksOf, AsksWith, AsksToCheck, RefusesBlocks, IsCutShort, Headline, BreaksSome, CheckClause, HasBlocksFault, HasPointFault, IsFirstFault, TellsModelFault, TellsBlockFault, TellsPointFault, UsageClause, behind_up_to, PullsToFault, ReadFaultClause, RefusedClause, WriteFaultClause, SpentLog, FiguresReachGap, GapLog, OverflowClause, MemoryClause, Runs}
-use Rattle.cip_main.specs.Saying.{Says}
+use Rattle.cip_answering.specs.Saying.{Says}
 use Rattle.cip_main.specs.Tasks.{TaskCause, model_of, second_of, FailsBehind, HasFaultyModel, HasFaultyBlocks, HasFaultyPoint}
 use Rattle.cip_main.proofs.Readings.{told, some_job}
 use Rattle.cip_main.proofs.Statuses.{says_usage, says_read_fault, says_refused, says_no_memory, plain_below_five, plain_not_one, plain_not_ten, plain_not_eleven, plain_not_thirteen, plain_is, is_breach, is_overflow, figures_not_one, figures_not_two, figures_not_three, figures_not_four, figures_not_five, is_spent, is_near, gap_by_word, is_wide, exit_is, verdict_not_two, verdict_not_three, verdict_not_four, verdict_not_five, verdict_not_six, verdict_not_ten, verdict_not_thirteen, verdict_is}

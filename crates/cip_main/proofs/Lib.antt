@@ -1,7 +1,5 @@
 pub mod Clauses
 pub mod Readings
 pub mod RefusalTexts
-pub mod Searches
 pub mod Statuses
-pub mod TrueFigures
 pub mod Ways

@@ -34,10 +34,10 @@ use Rattle.cip_main.specs.declared.refusals.TextFault.{TextFault}
 use Rattle.cip_main.specs.declared.refusals.TextFault.TheVariants.{Model, Blocks, Point}
 use Rattle.cip_main.specs.declared.plain.Plain.{Plain}
 use Rattle.cip_main.specs.declared.plain.Plain.TheVariants.{Usage, ReadFault, Refused, NoMemory}
-use Rattle.cip_main.specs.Answering.{Answers}
-use Rattle.cip_main.specs.Checking.{checked}
+use Rattle.cip_answering.specs.Answering.{Answers}
+use Rattle.cip_answering.specs.Checking.{checked}
 use Rattle.cip_main.specs.Plain.{plain_text, plain_status}
-use Rattle.cip_main.specs.Saying.{Says}
+use Rattle.cip_answering.specs.Saying.{Says}
 use Rattle.cip_main.specs.Tasks.{TaskCause, model_of, second_of}
 
 -- a call: the job that its words mean, if they are accepted; store, sink and logs before and after it; its status

@@ -30,7 +30,7 @@ use Rattle.cip_input.specs.declared.points.UnreadPoint.TheVariants as unread_poi
 use Rattle.cip_main.specs.declared.refusals.TextFault.TheVariants.{Model, Blocks, Point}
 use Rattle.cip_main.specs.declared.plain.Plain.{Plain}
 use Rattle.cip_main.specs.declared.plain.Plain.TheVariants.{Usage, ReadFault, Refused, NoMemory}
-use Rattle.cip_main.specs.Answering.{limits_of}
+use Rattle.cip_answering.specs.Answering.{limits_of}
 use Rattle.cip_main.specs.declared.tasks.Task.{Task}
 use Rattle.cip_main.specs.declared.tasks.Task.TheVariants as task
 

@@ -1,7 +1,7 @@
 //! The answers without figures.
 ghost use Rattle.std.specs.Prelude.{◌≡◌, ◌+◌, ◌≤◌, ◌++◌, length, take, drop};
 ghost use Rattle.cip_main.specs.Plain.{plain_text, plain_status};
-ghost use Rattle.cip_main.specs.Saying.{Says};
+ghost use Rattle.cip_answering.specs.Saying.{Says};
 ghost use Rattle.cip_main.specs.Refusals.{refused_text};
 
 use crate::refusals::TextFault;

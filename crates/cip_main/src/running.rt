@@ -2,10 +2,9 @@
 ghost use Rattle.cip_words.specs.Jobs.{job_of};
 ghost use Rattle.cip_main.specs.Running.{Runs, call_of};
 
-use crate::checking::check_and_report;
 use crate::plain::say;
-use crate::solving::solve_and_report;
 use crate::tasks::{Task, read_task};
+use cip_answering::{check_and_report, solve_and_report};
 use cip_io::{Sink, Store};
 use cip_solve::Log;
 use cip_words::Words;

@@ -3,7 +3,7 @@ ghost use Rattle.std.specs.Prelude.{◌≡◌, ◌<◌, ℕ, List, Option, Some,
 ghost use Rattle.cip_words.specs.Jobs.{Job as Asked, Limits, Solve, Check, job_of};
 ghost use Rattle.cip_io.specs.Store.{StoreTells};
 ghost use Rattle.cip_input.specs.ModelsRead.{Reads};
-ghost use Rattle.cip_main.specs.Answering.{limits_of};
+ghost use Rattle.cip_answering.specs.Answering.{limits_of};
 ghost use Rattle.cip_main.specs.Tasks.{TakesBlocks, IsTask, TaskCause};
 
 use crate::plain::Plain;

@@ -2,73 +2,53 @@
 ghost use Rattle.std.specs.Prelude.{◌≡◌, ◌<◌, ◌≤◌};
 ghost use Rattle.cip_mps.specs.MpsFaultKinds.{kind_number};
 
+use std::{error, fmt};
 use thiserror::Error;
 
 /// A kind of fault. Of several rules that a line breaks the least kind counts.
-#[derive(Clone, Copy, PartialEq, Eq, Debug, Error)]
+#[derive(Clone, Copy, PartialEq, Eq, Debug)]
 pub enum FaultKind {
     /// A section line whose word is none of the eight.
-    #[error("kind 1 UnknownSection")]
     UnknownSection,
     /// A section again or out of order, or a line of fields where none may stand.
-    #[error("kind 2 SectionOrder")]
     SectionOrder,
     /// ENDATA without ROWS or COLUMNS before it.
-    #[error("kind 3 MissingSection")]
     MissingSection,
     /// A wrong number of words or fields.
-    #[error("kind 4 FieldCount")]
     FieldCount,
     /// A text that is no number.
-    #[error("kind 5 BadNumber")]
     BadNumber,
     /// A number, or a side, above 2^127-1 in size.
-    #[error("kind 6 NumberHuge")]
     NumberHuge,
     /// A number that needs more digits than are kept.
-    #[error("kind 7 NumberTooFine")]
     NumberTooFine,
     /// A row that was not given before.
-    #[error("kind 8 UnknownRow")]
     UnknownRow,
     /// A column that was not given before.
-    #[error("kind 9 UnknownColumn")]
     UnknownColumn,
     /// A row again.
-    #[error("kind 10 DuplicateRow")]
     DuplicateRow,
     /// A second value for a row in a column, in RHS or in RANGES.
-    #[error("kind 11 DuplicateEntry")]
     DuplicateEntry,
     /// A column again, behind lines of another column.
-    #[error("kind 12 ColumnSplit")]
     ColumnSplit,
     /// A type of a row that is none of the four.
-    #[error("kind 13 BadRowType")]
     BadRowType,
     /// A type of a bound that is none of the ten.
-    #[error("kind 14 BadBoundType")]
     BadBoundType,
     /// A marker that neither begins nor ends the whole columns.
-    #[error("kind 15 BadMarker")]
     BadMarker,
     /// No row of type N.
-    #[error("kind 16 NoObjective")]
     NoObjective,
     /// No ENDATA.
-    #[error("kind 17 NoEnd")]
     NoEnd,
     /// A row, a column, an entry or a byte too many.
-    #[error("kind 18 TooMany")]
     TooMany,
     /// The name of a row or a column is over 255 bytes.
-    #[error("kind 19 NameTooLong")]
     NameTooLong,
     /// RANGES on a row of type N.
-    #[error("kind 20 RangeOnObjective")]
     RangeOnObjective,
     /// A sense or a bound that is not in the profile.
-    #[error("kind 21 OutOfProfile")]
     OutOfProfile,
 }
 
@@ -153,4 +133,39 @@ impl FaultKind {
             FaultKind::OutOfProfile => 21,
         }
     }
+
+    /// The kind with its number and its name, as an error prints it.
+    fn text(self) -> &'static str {
+        match self {
+            FaultKind::UnknownSection => "kind 1 UnknownSection",
+            FaultKind::SectionOrder => "kind 2 SectionOrder",
+            FaultKind::MissingSection => "kind 3 MissingSection",
+            FaultKind::FieldCount => "kind 4 FieldCount",
+            FaultKind::BadNumber => "kind 5 BadNumber",
+            FaultKind::NumberHuge => "kind 6 NumberHuge",
+            FaultKind::NumberTooFine => "kind 7 NumberTooFine",
+            FaultKind::UnknownRow => "kind 8 UnknownRow",
+            FaultKind::UnknownColumn => "kind 9 UnknownColumn",
+            FaultKind::DuplicateRow => "kind 10 DuplicateRow",
+            FaultKind::DuplicateEntry => "kind 11 DuplicateEntry",
+            FaultKind::ColumnSplit => "kind 12 ColumnSplit",
+            FaultKind::BadRowType => "kind 13 BadRowType",
+            FaultKind::BadBoundType => "kind 14 BadBoundType",
+            FaultKind::BadMarker => "kind 15 BadMarker",
+            FaultKind::NoObjective => "kind 16 NoObjective",
+            FaultKind::NoEnd => "kind 17 NoEnd",
+            FaultKind::TooMany => "kind 18 TooMany",
+            FaultKind::NameTooLong => "kind 19 NameTooLong",
+            FaultKind::RangeOnObjective => "kind 20 RangeOnObjective",
+            FaultKind::OutOfProfile => "kind 21 OutOfProfile",
+        }
+    }
 }
+
+impl fmt::Display for FaultKind {
+    fn fmt<W: fmt::Write>(&self, f: &mut fmt::Formatter<W>) -> fmt::Result {
+        f.write_str(self.text())
+    }
+}
+
+impl error::Error for FaultKind {}

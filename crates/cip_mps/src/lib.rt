@@ -13,6 +13,3 @@ pub use faults::{FaultKind, MpsFault, ReadFault};
 pub use laws::known_faults_stay;
 pub use reader::MpsReader;
 pub use whole_text::read_mps;
-
-#[cfg(test)]
-mod tests;

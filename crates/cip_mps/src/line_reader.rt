@@ -25,7 +25,7 @@ pub(crate) struct LineReader {
 }
 
 /// What a line comes to.
-#[derive(Clone, Copy, Debug, PartialEq, Eq)]
+#[derive(Clone, Copy, PartialEq, Eq)]
 pub(crate) enum Step {
     /// The next line is read.
     GoesOn,

@@ -17,7 +17,6 @@ mod row_draft;
 mod row_lines;
 mod row_program;
 mod sections;
-mod sides;
 mod steps;
 mod values;
 

@@ -8,7 +8,7 @@ use cip_mps_lines::Pairs;
 
 /// The numbers of the rows that the one or two values of a line name; `None` for a row that wasn't given, and for a
 /// second value that the line doesn't have.
-#[derive(Clone, Copy, Debug)]
+#[derive(Clone, Copy)]
 pub(crate) struct RowNumbers {
     pub(crate) first: Option<usize>,
     pub(crate) second: Option<usize>,

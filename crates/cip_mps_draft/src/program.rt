@@ -1,9 +1,11 @@
 //! The program that the lines of a text have said.
-ghost use Rattle.std.specs.Prelude.{◌≡◌, ◌≤◌, ◌<◌, true, false, length, slice_index_or, unwrap_or, ◌++◌, ◌∷◌, [], if◌then◌else◌, IfOk, OnOk, MatchOption};
+ghost use Rattle.std.specs.Prelude.{◌≡◌, ◌≤◌, ◌<◌, true, false, length, map, slice_index_or, unwrap_or, ◌++◌, ◌∷◌, [], if◌then◌else◌, IfOk, OnOk, MatchOption};
+ghost use Rattle.std.specs.List.{filter};
 ghost use Rattle.cip_rational.specs.Rational.{negate};
 ghost use Rattle.cip_problem.specs.Limits.{most_columns};
 ghost use Rattle.cip_mps_rules.specs.MpsWords.{is_in};
-ghost use Rattle.cip_mps_steps.specs.MpsState.{no_row, is_kept, right_side_of, objective_row, kept_names, minimized_by, costs_from, program_from};
+ghost use Rattle.cip_mps_rules.specs.MpsBounds.{settled, column_sides};
+ghost use Rattle.cip_mps_steps.specs.MpsState.{no_row, is_kept, right_side_of, objective_row, kept_names, minimized_by, costs_from, finished_row, program_from};
 ghost use Rattle.cip_mps_steps.specs.MpsSoundState.{rises};
 ghost use Rattle.cip_model.specs.Programs.{is_maximize};
 ghost use Rattle.cip_mps_draft.specs.DraftStates.{kept};
@@ -14,6 +16,7 @@ use crate::name_index::NameIndex;
 use crate::row_draft::{Held, RowDraft};
 use crate::row_program::finished_rows;
 use cip_frac::Frac;
+use cip_lin::{Bounds, Row};
 use cip_model::{Names, Parts, Program, Sense};
 use cip_mps_steps::numbers_are_of_names;
 use std::alloc::{AllocError, Global};
@@ -116,31 +119,79 @@ fn sense_of(sense: Option<bool>) -> Sense
     }
 }
 
+/// What a program takes of the names and numbers of a draft, besides its rows and the names of its columns.
+#[derive(Drop)]
+struct Copied {
+    row_names: Names,
+    costs: Vec<Frac>,
+    whole: Vec<bool>,
+    bounds: Bounds,
+}
+
 impl Draft {
+    /// Its names of rows, costs, whole columns and bounds. `Err` comes where a growth was refused.
+    fn copied(&self) -> Result<Copied, AllocError>
+        ensures row_names { IfOk result (λ copied. copied.row_names ≡ kept_names self.now.row_names self.now.rows.items) }
+        ensures costs { IfOk result (λ copied. copied.costs.items
+            ≡ costs_from self.now.sense (objective_row self.now.rows.items).held 0 (length self.now.column_names)) }
+        ensures whole { IfOk result (λ copied. copied.whole.items
+            ≡ map (λ column. (settled column).whole) self.now.columns.items) }
+        ensures bounds { IfOk result (λ copied. copied.bounds
+            ≡ map (λ column. column_sides (settled column)) self.now.columns.items) }
+    {
+        let alloc = self.alloc;
+        let rows = self.rows.as_slice();
+        let columns = self.columns.as_slice();
+        let whole = wholes_of(alloc, columns)?;
+        let bounds = bounds_of(alloc, columns)?;
+        let costs = objective_costs(alloc, self.sense, rows, columns.len())?;
+        let row_names = names_of(alloc, &self.row_names, rows)?;
+        Ok(Copied {
+            row_names,
+            costs,
+            whole,
+            bounds,
+        })
+    }
+
+    /// The names of its columns, and the rows of the program. `Err` comes where a growth was refused.
+    fn into_rows(self) -> Result<(Names, Vec<Row>), AllocError>
+        ensures names { IfOk result (λ parts. parts.0 ≡ self.column_names) }
+        ensures rows { IfOk result (λ parts. parts.1.items ≡ map finished_row (filter is_kept self.rows.items)) }
+    {
+        let Draft {
+            alloc,
+            rows,
+            column_names,
+            ..
+        } = self;
+        let rows = finished_rows(alloc, rows)?;
+        Ok((column_names.into_names(), rows))
+    }
+
     /// The program of the lines that were read. `Err` comes where a growth was refused.
     pub fn into_program(self) -> Result<Program, AllocError>
         ensures { IfOk result (λ program. program ≡ program_from (kept self)) }
     {
-        let Draft {
-            alloc,
-            sense,
+        let copied = self.copied()?;
+        let constant = objective_constant(self.sense, self.rows.as_slice());
+        let sense = sense_of(self.sense);
+        let (column_names, rows) = self.into_rows()?;
+        let Copied {
+            row_names,
+            costs,
+            whole,
+            bounds,
+        } = copied;
+        let parts = Parts {
+            column_names,
             row_names,
             rows,
-            column_names,
-            columns,
-            ..
-        } = self;
-        let costs = objective_costs(alloc, sense, rows.as_slice(), columns.len())?;
-        let constant = objective_constant(sense, rows.as_slice());
-        let parts = Parts {
-            column_names: column_names.into_names(),
-            row_names: names_of(alloc, &row_names, rows.as_slice())?,
-            rows: finished_rows(alloc, rows)?,
             costs,
             constant,
-            sense: sense_of(sense),
-            whole: wholes_of(alloc, columns.as_slice())?,
-            bounds: bounds_of(alloc, columns.as_slice())?,
+            sense,
+            whole,
+            bounds,
         };
         Ok(Program::new(parts))
     }

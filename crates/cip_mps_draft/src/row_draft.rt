@@ -7,9 +7,9 @@ ghost use Rattle.cip_mps_steps.specs.MpsState.{is_zero_value, finished_row};
 ghost use Rattle.cip_mps_steps.specs.MpsSteps.{or_else, new_row, overflows_with, with_held, with_right_side, with_range};
 ghost use Rattle.cip_mps_steps.specs.MpsSoundState.{held_below};
 
-use crate::sides::{is_free_kind, is_wide};
 use cip_frac::Frac;
 use cip_mps_lines::RowKind;
+use cip_mps_sides::{is_free_kind, is_wide};
 use std::alloc::{AllocError, Global};
 use std::marker::Model;
 

@@ -11,9 +11,9 @@ ghost use Rattle.cip_mps_draft.specs.DraftLines.{row_line_tests};
 
 use crate::draft::Draft;
 use crate::row_draft::RowDraft;
-use crate::sides::is_free_kind;
 use cip_model::{LONGEST_NAME, MOST_ROWS};
 use cip_mps_lines::RowKind;
+use cip_mps_sides::is_free_kind;
 use std::alloc::AllocError;
 
 impl Draft {

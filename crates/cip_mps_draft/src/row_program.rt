@@ -1,63 +1,15 @@
 //! The rows of the program.
-ghost use Rattle.std.specs.Prelude.{◌≡◌, ◌++◌, ◌∷◌, [], true, false, map, IfOk, OnOk, nat_lt, if◌then◌else◌};
+ghost use Rattle.std.specs.Prelude.{◌≡◌, ◌++◌, ◌∷◌, [], true, map, IfOk, OnOk, nat_lt};
 ghost use Rattle.std.specs.List.{filter, list_all};
-ghost use Rattle.cip_rational.specs.Range.{sum_overflows, difference_overflows};
-ghost use Rattle.cip_mps_lines.specs.MpsKinds.{row_kind_in};
 ghost use Rattle.cip_mps_rules.specs.MpsProgram as text;
 ghost use Rattle.cip_mps_steps.specs.MpsState.{is_kept, is_zero_value, sides_with, right_side_of, terms_from, finished_row};
 ghost use Rattle.cip_mps_steps.specs.MpsSoundState.{rises};
 
 use crate::row_draft::{Held, RowDraft};
-use crate::sides::moves_low;
 use cip_frac::Frac;
 use cip_lin::{Row, RowFault, Sides, Term};
-use cip_mps_lines::RowKind;
+use cip_mps_sides::row_sides;
 use std::alloc::{AllocError, Global};
-
-/// The sides of a row without a value in RANGES.
-fn plain_sides(kind: RowKind, right_side: Frac) -> Sides
-    ensures { result ≡ text.plain_sides (row_kind_in kind) right_side }
-{
-    match kind {
-        RowKind::Free => Sides::open(),
-        RowKind::AtMost => Sides {
-            low: None,
-            high: Some(right_side),
-        },
-        RowKind::AtLeast => Sides {
-            low: Some(right_side),
-            high: None,
-        },
-        RowKind::EqualTo => Sides {
-            low: Some(right_side),
-            high: Some(right_side),
-        },
-    }
-}
-
-/// The sides of a row with a value in RANGES of this size, where the moved side can be formed.
-fn ranged(low: bool, right_side: Frac, size: Frac) -> Sides
-    requires { (if low then difference_overflows right_side size else sum_overflows right_side size) ≡ false }
-    ensures { result ≡ text.ranged low right_side size }
-{
-    if low {
-        match right_side.sub(size) {
-            Ok(moved) => Sides {
-                low: Some(moved),
-                high: Some(right_side),
-            },
-            Err(_) => unreachable!(),
-        }
-    } else {
-        match right_side.add(size) {
-            Ok(moved) => Sides {
-                low: Some(right_side),
-                high: Some(moved),
-            },
-            Err(_) => unreachable!(),
-        }
-    }
-}
 
 /// Whether a value is 0.
 fn is_zero(value: Frac) -> bool
@@ -105,10 +57,7 @@ impl RowDraft {
         ensures { result ≡ sides_with self.now.kind (right_side_of self.now) self.now.range }
     {
         let right_side = self.right_side.unwrap_or(Frac::zero());
-        match self.range {
-            None => plain_sides(self.kind, right_side),
-            Some(range) => ranged(moves_low(self.kind, range), right_side, range.abs()),
-        }
+        row_sides(self.kind, right_side, self.range)
     }
 
     /// The row of the program; this one isn't of type N.

@@ -8,7 +8,7 @@ use cip_text::Fields;
 const MOST: usize = 6;
 
 /// The first fields of a line: six at most.
-#[derive(Clone, Copy, Debug)]
+#[derive(Clone, Copy)]
 pub(crate) struct Words<'a> {
     pub(crate) words: [&'a [u8]; 6],
     pub(crate) count: usize,

@@ -19,6 +19,3 @@ pub use one_line::record_of;
 pub use place::Place;
 pub use sayings::said;
 pub use words::{BoundKind, Part, RowKind, sense_of};
-
-#[cfg(test)]
-mod tests;

@@ -1,6 +1,6 @@
 -- A search begins with its root.
 use borrow.Author.Differences.{up, down, le_out}
-use Rattle.std.proofs.Common.{◌≡◌, ◌⊎◌, inl, inr, ℕ, zero, suc, ◌+◌, ◌^◌, ◌≤◌, ℤ, pos, negsuc, ◌≤ℤ◌, neg_ℤ, unsigned_abs, Bool, true, false, if◌then◌else◌, List, [], ◌∷◌, length, Option, None, Some, IfSome, Result, Ok, Err, IfOk, refl, sym, ap, ◌∙◌, subst, arith}
+use Rattle.std.proofs.Common.{◌≡◌, ◌⊎◌, inl, inr, ℕ, zero, suc, ◌+◌, ◌^◌, ◌≤◌, ℤ, pos, negsuc, ◌≤ℤ◌, neg_ℤ, unsigned_abs, Bool, true, false, List, [], ◌∷◌, length, Option, None, Some, IfSome, Result, Ok, Err, IfOk, refl, sym, ap, ◌∙◌, subst, arith}
 use Rattle.std.specs.Prelude.{option_map, MatchBool}
 use Rattle.std.proofs.lemmas.Bool.{cases_lt}
 use Rattle.std.proofs.lemmas.List.Elements.{All-get_or}
@@ -31,7 +31,8 @@ use Rattle.cip_search.proofs.Members.{only_one}
 use Rattle.cip_tree.specs.Nodes.{Nodes}
 use Rattle.cip_tree.specs.Moves.{IsNew}
 use Rattle.cip_node_rules.specs.SplitRules.{AreNear}
-use Rattle.cip_node.specs.Beginning.{value_of, root_value, IsRootBound, IsNear, HasNearSides, AreNearColumns}
+use Rattle.cip_node_rules.specs.RootBounds.{value_of, rounded_if}
+use Rattle.cip_node.specs.Beginning.{root_value, IsRootBound, IsNear, HasNearSides, AreNearColumns}
 use Rattle.cip_node.specs.KeptNodes.{farthest, IsNearBox, IsKept}
 use Rattle.cip_node.proofs.Rounded.{rounded_holds}
 
@@ -92,10 +93,6 @@ near_box program ids h = λ column w. elim (cases_lt column (length program.boun
 ]
 
 -- ---- the root's bound
-
--- a bound, rounded up where costs are whole
-abbrev pub rounded_if : Bool → ℚ → ℚ
-rounded_if whole bound = if whole then integer (ceil bound) else bound
 
 pub value_holds : (program : Program) (least : Least) (whole : Bool) → IsWellFormed program → (whole ≡ true → HasWholeCosts program) → BoundHolds (box_bound program program.bounds) least → IfSome (option_map (rounded_if whole) (value_of least)) (IsBoundIn program None program.bounds)
 value_holds program (Value v) whole formed w h = rounded_holds program None program.bounds v whole w (λ point i b. root_bound_holds program v formed h point i.feasible)

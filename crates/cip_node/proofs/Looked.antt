@@ -1,5 +1,5 @@
--- A box without a whole value has no improving point.
-use Rattle.std.proofs.Common.{inl, inr, false, List, Option, Some, ap, ◌∙◌, subst}
+-- What the look of a node's box tells: a box without a whole value has no improving point.
+use Rattle.std.proofs.Common.{◌≡◌, inl, inr, Bool, false, List, Option, Some, refl, sym, ap, ◌∙◌, subst}
 use Rattle.std.proofs.lemmas.Option.{slice_get-get_or}
 use Rattle.cip_rational.specs.Rational.{ℚ, numerator}
 use Rattle.cip_rational.proofs.Rational.Whole.{whole_is}
@@ -8,7 +8,9 @@ use Rattle.cip_problem.specs.Box.{Between, sides_at}
 use Rattle.cip_problem.specs.Activity.{value_at}
 use Rattle.cip_problem.proofs.Points.AtPlaces.{in_box_at, whole_at}
 use Rattle.cip_cuts.specs.Improving.{HasNoImproving}
-use Rattle.cip_node.specs.declared.looks.Looked.TheVariants.{Empty}
+use Rattle.cip_node_rules.specs.BoxLooks.{IsBoxLook}
+use Rattle.cip_node_rules.specs.declared.looks.Looked.{Looked}
+use Rattle.cip_node_rules.specs.declared.looks.Looked.TheVariants.{Empty, Leaf, Open}
 use Rattle.cip_node.specs.Looking.{IsLook}
 
 pub look_empty : (program : Program) (held : Option ℚ) (box own : List Sides) → IsLook program.integral box own Empty → HasNoImproving program held own
@@ -19,3 +21,13 @@ look_empty program held box own (inr h) = λ point i w.
       number = numerator (value_at point h.0);
       between = subst (Between (sides_at own h.0).low (sides_at own h.0).high) (whole_is (value_at point h.0) whole) (in_box_at own point h.0 w);
     })
+
+own_look : (integral : List Bool) (own : List Sides) (looked : Looked) → IsBoxLook integral own looked → IsLook integral own own looked
+own_look integral own Empty l = inr l
+own_look integral own Leaf l = (record { same = refl; wholes = l.0 }, l.1)
+own_look integral own Open l = (record { same = refl; wholes = l.0 }, l.1)
+
+-- the look of the box in work, where that is the node's
+pub look_entered : (integral : List Bool) (box own : List Sides) (looked : Looked) → box ≡ own → IsBoxLook integral box looked → IsLook integral box own looked
+look_entered integral box own looked e l =
+    subst (λ b. IsLook integral b own looked) (sym e) (own_look integral own looked (subst (λ b. IsBoxLook integral b looked) e l))

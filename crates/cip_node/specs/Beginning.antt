@@ -1,17 +1,10 @@
 -- What a search begins with.
-use Rattle.std.specs.Prelude.{◌≡◌, ◌^◌, All, Option, None, Some, IfSome, option_map, pos}
+use Rattle.std.specs.Prelude.{◌≡◌, ◌^◌, All, Option, IfSome, option_map, pos}
 use Rattle.cip_rational.specs.Rational.{ℚ, integer, ceil, absolute, ◌<ℚ◌}
 use Rattle.cip_problem.specs.Program.{Sides, Program}
 use Rattle.cip_cuts.specs.Cuts.{HasWholeCosts}
-use Rattle.cip_lin.specs.declared.outcomes.Least.{Least}
-use Rattle.cip_lin.specs.declared.outcomes.Least.TheVariants.{Value, NoBound, Wide}
 use Rattle.cip_model.specs.Least.{least_cost_from}
-
--- a least cost, if it has a value
-abbrev pub value_of : Least → Option ℚ
-value_of (Value value) = Some value
-value_of NoBound = None
-value_of Wide = None
+use Rattle.cip_node_rules.specs.RootBounds.{value_of}
 
 -- the box bound of a program, none where a side is open or a sum of it overflows
 abbrev pub root_value : Program → Option ℚ

@@ -5,8 +5,8 @@ use Rattle.cip_problem.specs.Program.{Sides}
 use Rattle.cip_problem.specs.Box.{IsInBox}
 use Rattle.cip_problem.specs.Wholes.{AllHaveWholes}
 use Rattle.cip_node_rules.specs.OpenColumns.{is_open_at, IsFirstColumn, PassesNowhere, LacksWhole}
-use Rattle.cip_node.specs.declared.looks.Looked.{Looked}
-use Rattle.cip_node.specs.declared.looks.Looked.TheVariants.{Empty, Leaf, Open}
+use Rattle.cip_node_rules.specs.declared.looks.Looked.{Looked}
+use Rattle.cip_node_rules.specs.declared.looks.Looked.TheVariants.{Empty, Leaf, Open}
 
 -- the box in work is the node's, and each whole column has a whole value
 pub record IsFull (integral : List Bool) (box own : List Sides) : Type 0 where

@@ -8,9 +8,10 @@ use Rattle.cip_problem.specs.Points.{IsFeasible}
 use Rattle.cip_problem.specs.Log.{End, Split, Closed, Parked, Node, AllFollow, matters}
 use Rattle.cip_cuts.specs.Improving.{HasNoImproving}
 use Rattle.cip_cert.specs.Lent.{Lent}
-use Rattle.cip_leaves.specs.Leaf.{IsLeaf, IsPointOf, IsOnlyLeaf}
+use Rattle.cip_leaves.specs.Leaf.{IsPointOf, IsOnlyLeaf}
 use Rattle.cip_leaves.specs.Searched.{first_node, NoMore}
-use Rattle.cip_leaf_programs.specs.WideLeaf.{Shown, IsWideBy}
+use Rattle.cip_leaf_programs.specs.WideLeaf.{Shown}
+use Rattle.cip_leaf_programs.specs.WideNodes.{IsWideAs}
 use Rattle.cip_leaf.specs.LeafAnswers.{shown_as}
 use Rattle.cip_model.specs.Rays.{IsShownRay}
 use Rattle.cip_node_bounds.specs.declared.relaxed.Mark.{Mark}
@@ -85,12 +86,6 @@ pub record IsHalved
   pub tried : HasTried program held lent (box_of old node) point mark
 
 -- ---- leaves that can't be closed
-
--- the box of a node has one whole assignment, this leaf, which is wide by what is shown
-pub record IsWideAs (program : Program) (node : Node) (leaf : List ℚ) (shown : Shown) : Type 0 where
-  pub only : IsOnlyLeaf program.integral node.box leaf
-  pub is_leaf : IsLeaf program leaf
-  pub wide : IsWideBy program leaf shown
 
 -- it was put aside as a wide leaf
 pub record IsAside

@@ -1,10 +1,11 @@
 //! What a search begins with.
-ghost use Rattle.std.specs.Prelude.{◌≡◌, [], None, IfOk, IfSome, MatchBool};
+ghost use Rattle.std.specs.Prelude.{◌≡◌, [], None, IfOk, IfSome, MatchBool, length};
 ghost use Rattle.cip_problem.specs.WellFormed.{columns};
 ghost use Rattle.cip_cuts.specs.Cuts.{HasWholeCosts};
 ghost use Rattle.cip_cuts.specs.Improving.{IsBoundIn};
 ghost use Rattle.cip_incumbent.specs.HeldPoint.{nothing_held};
 ghost use Rattle.cip_tree.specs.Moves.{IsNew};
+ghost use Rattle.cip_node_bounds.specs.NodeRows.{BeginWith};
 ghost use Rattle.cip_node.specs.Beginning.{IsRootBound, AreNearColumns};
 ghost use Rattle.cip_node.specs.Cores.{IsReady};
 ghost use Rattle.cip_node.specs.KeptNodes.{cost_held, IsKept};
@@ -15,10 +16,9 @@ use cip_cert::Scratch;
 use cip_domain::DomainStore;
 use cip_frac::Frac;
 use cip_incumbent::Incumbent;
-use cip_lin::Least;
 use cip_model::Program;
 use cip_node_bounds::NodeRows;
-use cip_node_rules::{has_whole_costs, rounded_bound};
+use cip_node_rules::{has_whole_costs, rounded_least};
 use cip_rows::RowPool;
 use cip_tree::Tree;
 use std::alloc::{AllocError, Global};
@@ -38,10 +38,7 @@ fn rounded_box_bound(program: &Program, whole_costs: bool) -> Option<Frac>
     ensures holds { IfSome result (IsBoundIn program.now None program.now.bounds) }
 {
     let _columns = program.columns();
-    match program.box_bound(program.bounds()) {
-        Least::Value(bound) => Some(rounded_bound(bound, whole_costs)),
-        Least::NoBound | Least::Wide => None,
-    }
+    rounded_least(program.box_bound(program.bounds()), whole_costs)
 }
 
 /// The bound of the root of a search: the box bound, rounded up where the cost of each point with whole values on whole
@@ -66,6 +63,35 @@ fn rooted_tree(alloc: Global, program: &Program) -> Result<Tree, AllocError>
     Tree::new(alloc, root, program.whole(), bound)
 }
 
+/// What nodes are worked on in: the box in work, the rows of a linear program, and what checks work in.
+#[derive(Drop)]
+struct Workplace {
+    domain: DomainStore,
+    rows: NodeRows,
+    scratch: Scratch,
+}
+
+impl Workplace {
+    /// The workplace of a program: the box in work is the program's, and the rows are its rows. `Err` comes where
+    /// memory was refused.
+    fn new(alloc: Global, program: &Program) -> Result<Workplace, AllocError>
+        ensures domain { IfOk result
+            (λ place. place.domain ≡ record { box = program.now.bounds; before = []; spare = 0 }) }
+        ensures rows { IfOk result (λ place. BeginWith program.now place.rows.rows.items) }
+        ensures scratch { IfOk result (λ place. length place.scratch.row.entries ≡ columns program.now) }
+    {
+        let columns = program.columns();
+        let bounds = program.bounds().copied(alloc)?;
+        let scratch = Scratch::new(alloc, columns)?;
+        let rows = NodeRows::new(alloc, program)?;
+        Ok(Workplace {
+            domain: DomainStore::new(alloc, bounds),
+            rows,
+            scratch,
+        })
+    }
+}
+
 impl<'a> Core<'a> {
     /// What a search of a program begins with: its root is open, with the box bound, rounded up where all costs are
     /// whole, or without a bound where a side is open or a sum of it overflows; the pool has no row, and no point is
@@ -86,19 +112,20 @@ impl<'a> Core<'a> {
     {
         let whole_costs = are_costs_whole(program);
         let columns = program.columns();
-        let tree = rooted_tree(alloc, program)?;
-        let domain = DomainStore::new(alloc, program.bounds().copied(alloc)?);
-        let start = domain.mark();
-        let rows = NodeRows::new(alloc, program)?;
-        let scratch = Scratch::new(alloc, columns)?;
         let incumbent = Incumbent::new(alloc, program)?;
+        let Workplace {
+            domain,
+            rows,
+            scratch,
+        } = Workplace::new(alloc, program)?;
+        let tree = rooted_tree(alloc, program)?;
         Ok(Core {
             program,
             whole_costs,
             pool: RowPool::new(alloc, columns),
             cutoff: None,
+            start: domain.mark(),
             domain,
-            start,
             rows,
             scratch,
             starts: Starts::new(alloc),

@@ -77,7 +77,7 @@ impl<'a> Core<'a> {
 }
 
 /// What the linear program of a node leaves of it.
-#[derive(Debug, Drop)]
+#[derive(Drop)]
 pub(crate) enum Bounded {
     /// The node's box has no improving point.
     Empty,

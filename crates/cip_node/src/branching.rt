@@ -1,6 +1,5 @@
 //! A node that is open is pruned or split.
-ghost use Rattle.std.specs.Prelude.{◌≡◌, ◌<◌, ◌^◌, ◌∷◌, [], true, ℕ, length, option_map, Option, IfSome, MatchOption, MatchResult};
-ghost use Rattle.cip_problem.specs.Log.{matters};
+ghost use Rattle.std.specs.Prelude.{◌≡◌, ◌<◌, ◌^◌, ◌∷◌, [], ℕ, length, option_map, Option, IfSome, MatchOption, MatchResult};
 ghost use Rattle.cip_problem.specs.Wholes.{AllHaveWholes};
 ghost use Rattle.cip_problem.specs.WellFormed.{columns};
 ghost use Rattle.cip_tree.specs.Nodes.{IsTaken, box_of, shown};
@@ -15,19 +14,9 @@ use crate::cores::Core;
 use crate::ends::NodeEnd;
 use crate::steps::held_cost;
 use cip_frac::Frac;
-use cip_node_rules::{Place, chosen_place};
+use cip_node_rules::{Place, chosen_place, does_matter};
 use cip_tree::Node;
 use std::alloc::AllocError;
-
-/// Whether a bound matters beside the cost held, as it does where it is below that, or where one of them isn't there.
-pub fn does_matter(held: Option<Frac>, bound: Option<Frac>) -> bool
-    ensures { result ≡ matters held bound }
-{
-    match (held, bound) {
-        (Some(cost), Some(bound)) => bound < cost,
-        _ => true,
-    }
-}
 
 impl<'a> Core<'a> {
     /// Where the box in work is split: by a point of its linear program, if there is one, else by the last linear values,

@@ -8,20 +8,9 @@ ghost use Rattle.cip_node.specs.Looking.{IsLook};
 use crate::entering::enter;
 use cip_domain::{DomainStore, Mark};
 use cip_model::Program;
-use cip_node_rules::{lacking_column, open_column};
+use cip_node_rules::{Looked, look_at};
 use cip_tree::{Node, Tree};
 use std::alloc::AllocError;
-
-/// What the look of a node's box comes to.
-#[derive(Clone, Copy, Debug, PartialEq, Eq)]
-pub(crate) enum Looked {
-    /// The box has no point, or a whole column of it has no whole value.
-    Empty,
-    /// Each whole column has one whole value.
-    Leaf,
-    /// Each whole column has a whole value, and one of them has two.
-    Open,
-}
 
 /// Makes the box of a node the box in work, and looks at its whole columns. `Err` comes where memory was refused.
 pub(crate) fn look(
@@ -42,12 +31,5 @@ pub(crate) fn look(
         return Ok(Looked::Empty);
     }
     let _columns = program.columns();
-    let whole = program.whole();
-    if lacking_column(whole, domain.bounds()).is_some() {
-        return Ok(Looked::Empty);
-    }
-    match open_column(whole, domain.bounds()) {
-        None => Ok(Looked::Leaf),
-        Some(_) => Ok(Looked::Open),
-    }
+    Ok(look_at(program.whole(), domain.bounds()))
 }

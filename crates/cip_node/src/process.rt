@@ -10,7 +10,8 @@ ghost use Rattle.cip_node.specs.NodeEnds.{IsEnd, IsOpenAgain};
 
 use crate::cores::Core;
 use crate::ends::{NodeEnd, NodeRecord};
-use crate::looks::{Looked, look};
+use crate::looks::look;
+use cip_node_rules::Looked;
 use cip_tree::Node;
 use std::alloc::{AllocError, Global};
 

@@ -1,2 +1,4 @@
+pub mod BoxLooks
 pub mod OpenColumns
+pub mod RootBounds
 pub mod SplitRules

@@ -1,11 +1,17 @@
-//! What is done with a node by the look of its box and of a point: whether it is empty or a leaf, where it is split, and
-//! whether its bound may be rounded.
+//! What is done with a node by the look of its box and of a point: whether it is empty or a leaf, whether it is
+//! pruned, where it is split, and whether its bound may be rounded.
 #![tactic(auto)]
 
 mod columns;
+mod looks;
+mod pruning;
+mod roots;
 mod splits;
 mod values;
 
 pub use columns::{fractional_column, has_whole, lacking_column, open_column};
+pub use looks::{Looked, look_at};
+pub use pruning::does_matter;
+pub use roots::rounded_least;
 pub use splits::{Place, chosen_place, middle, moved, splits_leave_both};
 pub use values::{are_whole, has_whole_costs, rounded_bound};

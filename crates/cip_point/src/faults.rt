@@ -4,28 +4,23 @@ ghost use Rattle.cip_line_stream.specs.PieceFaults.{has_kind_to};
 ghost use Rattle.cip_point.specs.PointKinds.{kind_number, kind_name};
 
 use cip_line_stream::KnownFault;
+use std::{error, fmt};
 use thiserror::Error;
 
 /// A kind of fault. Of several rules that a line breaks the least kind counts.
-#[derive(Clone, Copy, PartialEq, Eq, Debug, Error)]
+#[derive(Clone, Copy, PartialEq, Eq, Debug)]
 pub enum PointKind {
     /// A line that has not two fields.
-    #[error("BadLine")]
     BadLine,
     /// A name that no column of the program has.
-    #[error("UnknownColumn")]
     UnknownColumn,
     /// A column again.
-    #[error("ColumnTwice")]
     ColumnTwice,
     /// A text that is no fraction, one with 0 below the line, or one out of range.
-    #[error("BadFraction")]
     BadFraction,
     /// A column without a line.
-    #[error("ColumnMissing")]
     ColumnMissing,
     /// A byte too many.
-    #[error("TooLong")]
     TooLong,
 }
 
@@ -109,3 +104,11 @@ impl PointKind {
         }
     }
 }
+
+impl fmt::Display for PointKind {
+    fn fmt<W: fmt::Write>(&self, f: &mut fmt::Formatter<W>) -> fmt::Result {
+        f.write_str(self.name())
+    }
+}
+
+impl error::Error for PointKind {}

@@ -1,5 +1,5 @@
 -- Whole fractions compare as their numerators do.
-use Rattle.std.proofs.Common.{◌≡◌, ◌*◌, ◌<◌, ℤ, pos, ◌*ℤ◌, int_lt, not, Bool, true, false, refl, sym, ap, ap₂, ◌∙◌, arith, lit<}
+use Rattle.std.proofs.Common.{◌≡◌, ℤ, pos, ◌*ℤ◌, int_lt, not, Bool, true, false, refl, sym, ap, ap₂, ◌∙◌, arith, lit<}
 use Rattle.std.proofs.lemmas.Int.{ints}
 use Rattle.cip_rational.specs.Rational.{ℚ, le_test, lt_test, ratio, numerator, denominator, is_ratio}
 use Rattle.cip_rational.proofs.Rational.Ratio.{ratio-lt_test}

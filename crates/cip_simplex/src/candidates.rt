@@ -16,14 +16,14 @@ use std::cmp::Ordering;
 
 /// What a candidate is worth by fractions: the greater rate is better, of equal ones the greater size; a rate out of
 /// range is below all others.
-#[derive(Debug, Drop)]
+#[derive(Drop)]
 pub(crate) struct ExactWorth {
     pub(crate) rate: Option<Frac>,
     pub(crate) size: Frac,
 }
 
 /// What a candidate is worth: by whole numbers where lines are kept as such over one denominator, else by fractions.
-#[derive(Debug, Drop)]
+#[derive(Drop)]
 pub(crate) enum Worth {
     /// The size of the number of the cost: the greater is better.
     Number(u64),
@@ -35,7 +35,7 @@ pub(crate) enum Worth {
 }
 
 /// A variable that may be chosen.
-#[derive(Debug, Drop)]
+#[derive(Drop)]
 pub(crate) struct Candidate {
     pub(crate) variable: u32,
     pub(crate) worth: Worth,

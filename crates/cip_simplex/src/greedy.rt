@@ -42,6 +42,24 @@ fn descend_from(
     Ok(Some(found))
 }
 
+/// What `descend_from` answers, and where the variables are at the last state in range. `Err` where memory was refused.
+fn descend(
+    alloc: Global,
+    lp: &Lp,
+    dict: &mut Dict,
+    start: &Start,
+    limit: u32,
+) -> Result<(Option<LpAnswer>, Start), AllocError>
+    requires first { dict.old ≡ first_of_program lp.now }
+    requires long { length start.now ≡ variables lp.now }
+    ensures { IfOk result (λ solved. IsReached lp.now solved.0 solved.1) }
+{
+    let _columns = lp.columns();
+    let found = descend_from(alloc, lp, dict, start, limit)?;
+    let last = Start::at(alloc, dict)?;
+    Ok((found, last))
+}
+
 /// Solves a linear program by the simplex method with moves that are chosen so that they are few, beginning with those
 /// of a start, which says of each variable of the program where it is to be. While a basic variable is outside its
 /// sides, the one that is so by most leaves to the side that it breaks, and of those that bring it nearer the one
@@ -63,10 +81,9 @@ pub fn solve_greedily(
 {
     match first_state(alloc, solver, lp) {
         Ok(mut dict) => {
-            let found = descend_from(alloc, lp, &mut dict, start, limit)?;
-            let last = Start::at(alloc, &dict)?;
+            let solved = descend(alloc, lp, &mut dict, start, limit);
             dict.give_back(&mut solver.spare);
-            Ok((found, last))
+            solved
         }
         Err(FirstFault::OutOfRange { place: _ }) => {
             let slack = Start::slack(alloc, lp)?;

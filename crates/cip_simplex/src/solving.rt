@@ -103,6 +103,26 @@ fn solve_at(
     }
 }
 
+/// What `solve_at` answers, and where the variables are at the last state in range. `Err` where memory was refused.
+fn solve_in(
+    alloc: Global,
+    lp: &Lp,
+    dict: &mut Dict,
+    start: &Start,
+    limit: u32,
+) -> Result<(LpAnswer, Start), AllocError>
+    requires first { dict.old ≡ first_of_program lp.now }
+    requires long { length start.now ≡ variables lp.now }
+    ensures { IfOk result (λ solved.
+        IsAnswer (answer_on lp.now limit (begun lp.now start.now).wide (begun lp.now start.now)) solved.0
+        × (solved.1 ≡ stands_of (last_on limit (begun lp.now start.now).wide (begun lp.now start.now)))) }
+{
+    let _columns = lp.columns();
+    let found = solve_at(alloc, lp, dict, start, limit)?;
+    let last = Start::at(alloc, dict)?;
+    Ok((found, last))
+}
+
 /// What `solve_from` answers, and where the variables are at the last state in range. `Err` where memory was refused.
 fn solve_begun(
     alloc: Global,
@@ -117,14 +137,13 @@ fn solve_begun(
 {
     match first_state(alloc, solver, lp) {
         Ok(mut dict) => {
-            let found = solve_at(alloc, lp, &mut dict, start, limit)?;
-            let last = Start::at(alloc, &dict)?;
+            let solved = solve_in(alloc, lp, &mut dict, start, limit);
             dict.give_back(&mut solver.spare);
-            Ok((found, last))
+            solved
         }
         Err(FirstFault::OutOfRange { place: _ }) => {
-            let moves = Vec::new(alloc);
             let slack = Start::slack(alloc, lp)?;
+            let moves = Vec::new(alloc);
             Ok((LpAnswer::Wide { moves }, slack))
         }
         Err(FirstFault::NoMemory) => Err(AllocError),

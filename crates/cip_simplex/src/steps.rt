@@ -19,7 +19,7 @@ use cip_dictionary::{Move, Stand};
 use std::alloc::AllocError;
 
 /// What the rule says at a state before ways are formed.
-#[derive(Debug, Drop)]
+#[derive(Drop)]
 pub(crate) enum Choice {
     /// The low side of this variable is above its high one.
     Crossed(u32),
@@ -34,7 +34,7 @@ pub(crate) enum Choice {
 }
 
 /// What a step comes to.
-#[derive(Debug, Drop)]
+#[derive(Drop)]
 pub(crate) enum Advance {
     /// This move was made.
     Made(Move),
@@ -45,7 +45,7 @@ pub(crate) enum Advance {
 }
 
 /// Why a list of moves ends.
-#[derive(Debug, Drop)]
+#[derive(Drop)]
 pub(crate) enum Ending {
     /// The last state is an end.
     Ends(Step),

@@ -18,7 +18,7 @@ use cip_lin::Sides;
 use std::marker::Model;
 
 /// A way of a variable to a side: whose side that is, where that variable then stands, and how far it is.
-#[derive(Debug, Drop)]
+#[derive(Drop)]
 pub(crate) struct Way {
     pub(crate) variable: u32,
     pub(crate) to: Stand,

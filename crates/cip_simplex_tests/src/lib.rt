@@ -3,12 +3,10 @@
 #![tactic(auto)]
 
 #[cfg(test)]
-mod cycling;
+mod by_hand;
 #[cfg(test)]
-mod greedy_tests;
+mod programs;
 #[cfg(test)]
-mod hand_tests;
-#[cfg(test)]
-mod random_tests;
+mod random;
 #[cfg(test)]
 mod slow_check;

@@ -1,55 +1,45 @@
-//! A plain check of what is answered, from the rows, the sides and the costs alone.
+//! A plain check of what is answered, from the rows, the sides and the costs alone. A sum that leaves the range is `None`.
 use cip_frac::Frac;
 use cip_lin::{Bounds, ColumnMultiple, Combo, Row, RowId, Sides, Term};
 use cip_simplex::LpAnswer;
-use std::test::Fail;
 
 /// What was solved.
-#[derive(Drop)]
+#[derive(Clone, Copy)]
 pub(crate) struct Program<'a> {
     pub(crate) rows: &'a [Row],
     pub(crate) bounds: &'a Bounds,
     pub(crate) costs: &'a [Frac],
 }
 
-fn fail(text: &str) -> Fail {
-    Fail::new(text)
-}
-
 // sum + a * b
-fn plus(sum: Frac, a: Frac, b: Frac) -> Result<Frac, Fail> {
-    let Ok(product) = a.mul(b) else {
-        return Err(fail("a product is wide"));
-    };
-    match sum.add(product) {
-        Ok(value) => Ok(value),
-        Err(_) => Err(fail("a sum is wide")),
+fn plus(sum: Frac, a: Frac, b: Frac) -> Option<Frac> {
+    match a.mul(b) {
+        Ok(product) => sum.add(product).ok(),
+        Err(_) => None,
     }
-}
-
-fn dot(xs: &[Frac], ys: &[Frac]) -> Result<Frac, Fail> {
-    let mut sum = Frac::zero();
-    for (x, y) in xs.iter().zip(ys) {
-        sum = plus(sum, *x, *y)?;
-    }
-    Ok(sum)
 }
 
 fn value_at(point: &[Frac], column: u32) -> Frac {
-    let k = column as usize;
-    if k < point.len() {
-        point[k]
-    } else {
-        Frac::zero()
+    match point.get(column as usize) {
+        Some(value) => *value,
+        None => Frac::zero(),
     }
 }
 
-fn activity(terms: &[Term], point: &[Frac]) -> Result<Frac, Fail> {
+fn dot(xs: &[Frac], ys: &[Frac]) -> Option<Frac> {
+    let mut sum = Frac::zero();
+    for at in 0..xs.len().min(ys.len()) {
+        sum = plus(sum, xs[at], ys[at])?;
+    }
+    Some(sum)
+}
+
+fn activity(terms: &[Term], point: &[Frac]) -> Option<Frac> {
     let mut sum = Frac::zero();
     for term in terms {
         sum = plus(sum, term.coef, value_at(point, term.col))?;
     }
-    Ok(sum)
+    Some(sum)
 }
 
 fn sides_of(row: &Row) -> Sides {
@@ -59,56 +49,79 @@ fn sides_of(row: &Row) -> Sides {
     }
 }
 
-/// A point keeps all sides.
-pub(crate) fn check_point(program: &Program, point: &[Frac]) -> Result<(), Fail> {
-    if point.len() != program.bounds.len() {
-        return Err(fail("the point is of another length"));
+// a value lies between sides
+fn keeps(sides: Sides, value: Option<Frac>) -> bool {
+    match value {
+        Some(value) => sides.contains(value),
+        None => false,
     }
-    for (sides, value) in program.bounds.as_slice().iter().zip(point) {
-        if !sides.contains(*value) {
-            return Err(fail("a value is outside"));
-        }
-    }
-    check_rows(program, point)
 }
 
-fn check_rows(program: &Program, point: &[Frac]) -> Result<(), Fail> {
+// a point keeps the sides of all columns
+fn keeps_bounds(program: Program<'_>, point: &[Frac]) -> bool {
+    let bounds = program.bounds.as_slice();
+    if point.len() != bounds.len() {
+        return false;
+    }
+    for at in 0..point.len() {
+        if !bounds[at].contains(point[at]) {
+            return false;
+        }
+    }
+    true
+}
+
+// a point keeps the sides of all rows
+fn keeps_rows(program: Program<'_>, point: &[Frac]) -> bool {
     for row in program.rows {
-        let sum = activity(row.terms(), point)?;
-        if !sides_of(row).contains(sum) {
-            return Err(fail("a row is broken"));
+        if !keeps(sides_of(row), activity(row.terms(), point)) {
+            return false;
         }
     }
-    Ok(())
+    true
 }
 
-fn stays(sides: Sides, change: Frac) -> bool {
+// a value stays between sides, however often it is changed so
+fn stays(sides: Sides, change: Option<Frac>) -> bool {
+    let Some(change) = change else {
+        return false;
+    };
     let up = sides.low.is_none() || Frac::zero() <= change;
     let down = sides.high.is_none() || change <= Frac::zero();
     up && down
 }
 
-/// A ray keeps all sides, and the cost falls along it.
-pub(crate) fn check_ray(program: &Program, ray: &[Frac]) -> Result<(), Fail> {
-    if ray.len() != program.bounds.len() {
-        return Err(fail("the ray is of another length"));
+// a ray keeps the sides of all columns
+fn stays_in_bounds(program: Program<'_>, ray: &[Frac]) -> bool {
+    let bounds = program.bounds.as_slice();
+    if ray.len() != bounds.len() {
+        return false;
     }
-    for (sides, change) in program.bounds.as_slice().iter().zip(ray) {
-        if !stays(*sides, *change) {
-            return Err(fail("a side is left"));
+    for at in 0..ray.len() {
+        if !stays(bounds[at], Some(ray[at])) {
+            return false;
         }
     }
+    true
+}
+
+// a ray keeps the sides of all rows
+fn stays_in_rows(program: Program<'_>, ray: &[Frac]) -> bool {
     for row in program.rows {
-        let sum = activity(row.terms(), ray)?;
-        if !stays(sides_of(row), sum) {
-            return Err(fail("a side of a row is left"));
+        if !stays(sides_of(row), activity(row.terms(), ray)) {
+            return false;
         }
     }
-    if dot(program.costs, ray)? < Frac::zero() {
-        Ok(())
-    } else {
-        Err(fail("the cost doesn't fall"))
-    }
+    true
+}
+
+// a ray keeps all sides, and the cost falls along it
+fn is_ray(program: Program<'_>, ray: &[Frac]) -> bool {
+    let falls = match dot(program.costs, ray) {
+        Some(change) => change < Frac::zero(),
+        None => false,
+    };
+    falls && stays_in_bounds(program, ray) && stays_in_rows(program, ray)
 }
 
 fn side_for(sides: Sides, factor: Frac) -> Option<Frac> {
@@ -119,60 +132,50 @@ fn side_for(sides: Sides, factor: Frac) -> Option<Frac> {
     }
 }
 
-fn row_by(program: &Program, id: RowId) -> Result<usize, Fail> {
+fn row_by<'a>(program: Program<'a>, id: RowId) -> Option<&'a Row> {
     match id {
-        RowId::Own(r) => Ok(r as usize),
-        _ => Err(fail("a row of another kind")),
+        RowId::Own(r) => program.rows.get(r as usize),
+        _ => None,
     }
 }
 
-fn bound_sides(program: &Program, column: u32) -> Result<Sides, Fail> {
-    if (column as usize) < program.bounds.len() {
-        Ok(program.bounds.sides(column))
-    } else {
-        Err(fail("no such column"))
+fn bound_sides(program: Program<'_>, column: u32) -> Option<Sides> {
+    program.bounds.as_slice().get(column as usize).copied()
+}
+
+// the sum of factors times sides of rows
+fn row_delta(program: Program<'_>, combo: &Combo) -> Option<Frac> {
+    let mut sum = Frac::zero();
+    for part in &combo.rows {
+        let side = side_for(sides_of(row_by(program, part.row)?), part.factor)?;
+        sum = plus(sum, part.factor, side)?;
     }
+    Some(sum)
+}
+
+// a sum with factors above 0 times low sides, or factors below 0 times high sides
+fn bound_delta(
+    program: Program<'_>,
+    parts: &[ColumnMultiple],
+    is_low: bool,
+    start: Frac,
+) -> Option<Frac> {
+    let mut sum = start;
+    for part in parts {
+        let sides = bound_sides(program, part.col)?;
+        if part.factor.is_zero() || part.factor.is_positive() != is_low {
+            return None;
+        }
+        sum = plus(sum, part.factor, side_for(sides, part.factor)?)?;
+    }
+    Some(sum)
 }
 
 // the sum of factors times sides
-fn delta(program: &Program, combo: &Combo) -> Result<Frac, Fail> {
-    let mut sum = Frac::zero();
-    for part in &combo.rows {
-        let r = row_by(program, part.row)?;
-        if r >= program.rows.len() {
-            return Err(fail("no such row"));
-        }
-        let side = side_for(sides_of(&program.rows[r]), part.factor).ok_or("an open side")?;
-        sum = plus(sum, part.factor, side)?;
-    }
-    sum = low_delta(program, combo, sum)?;
-    high_delta(program, combo, sum)
-}
-
-fn low_delta(program: &Program, combo: &Combo, mut sum: Frac) -> Result<Frac, Fail> {
-    for part in &combo.lows {
-        let side = bound_sides(program, part.col)?
-            .low
-            .ok_or("an open low side")?;
-        if part.factor <= Frac::zero() {
-            return Err(fail("a low side by a factor not above 0"));
-        }
-        sum = plus(sum, part.factor, side)?;
-    }
-    Ok(sum)
-}
-
-fn high_delta(program: &Program, combo: &Combo, mut sum: Frac) -> Result<Frac, Fail> {
-    for part in &combo.highs {
-        let side = bound_sides(program, part.col)?
-            .high
-            .ok_or("an open high side")?;
-        if part.factor >= Frac::zero() {
-            return Err(fail("a high side by a factor not below 0"));
-        }
-        sum = plus(sum, part.factor, side)?;
-    }
-    Ok(sum)
+fn delta(program: Program<'_>, combo: &Combo) -> Option<Frac> {
+    let rows = row_delta(program, combo)?;
+    let lows = bound_delta(program, combo.lows.as_slice(), true, rows)?;
+    bound_delta(program, combo.highs.as_slice(), false, lows)
 }
 
 // the coefficient of a row on a column
@@ -185,81 +188,78 @@ fn coefficient(terms: &[Term], column: u32) -> Frac {
     Frac::zero()
 }
 
-// the coefficient of the sum on a column
-fn combined(program: &Program, combo: &Combo, column: u32) -> Result<Frac, Fail> {
-    let mut sum = Frac::zero();
-    for part in &combo.rows {
-        let r = row_by(program, part.row)?;
-        if r < program.rows.len() {
-            sum = plus(
-                sum,
-                part.factor,
-                coefficient(program.rows[r].terms(), column),
-            )?;
-        }
-    }
-    sum = of_column(&combo.lows, column, sum)?;
-    of_column(&combo.highs, column, sum)
-}
-
-fn of_column(parts: &[ColumnMultiple], column: u32, mut sum: Frac) -> Result<Frac, Fail> {
+fn of_column(parts: &[ColumnMultiple], column: u32, start: Frac) -> Option<Frac> {
+    let mut sum = start;
     for part in parts {
         if part.col == column {
             sum = plus(sum, part.factor, Frac::one())?;
         }
     }
-    Ok(sum)
+    Some(sum)
+}
+
+// the coefficient of the sum of rows on a column
+fn of_rows(program: Program<'_>, combo: &Combo, column: u32) -> Option<Frac> {
+    let mut sum = Frac::zero();
+    for part in &combo.rows {
+        let row = row_by(program, part.row)?;
+        sum = plus(sum, part.factor, coefficient(row.terms(), column))?;
+    }
+    Some(sum)
 }
 
 // what a column costs beyond the sum
-fn rest(program: &Program, combo: &Combo, costs: &[Frac], column: u32) -> Result<Frac, Fail> {
-    let own = combined(program, combo, column)?;
+fn rest(program: Program<'_>, combo: &Combo, costs: &[Frac], column: u32) -> Option<Frac> {
+    let rows = of_rows(program, combo, column)?;
+    let lows = of_column(combo.lows.as_slice(), column, rows)?;
+    let own = of_column(combo.highs.as_slice(), column, lows)?;
     plus(value_at(costs, column), own, Frac::one().neg())
 }
 
 // a sum with the least of a rest between sides
-fn plus_rest(sum: Frac, sides: Sides, rest: Frac) -> Result<Frac, Fail> {
+fn plus_rest(sum: Frac, sides: Sides, rest: Frac) -> Option<Frac> {
     if rest.is_zero() {
-        return Ok(sum);
+        return Some(sum);
     }
-    let side = side_for(sides, rest).ok_or("an open side of the rest")?;
-    plus(sum, rest, side)
+    plus(sum, rest, side_for(sides, rest)?)
 }
 
-/// What costs come to at least by a combination: the sum of its sides, and the least of the rest in the box.
-pub(crate) fn bound(program: &Program, combo: &Combo, costs: &[Frac]) -> Result<Frac, Fail> {
+// what costs come to at least by a combination: the sum of its sides, and the least of the rest in the box
+fn bound(program: Program<'_>, combo: &Combo, costs: &[Frac]) -> Option<Frac> {
     let mut sum = delta(program, combo)?;
     let mut column = 0u32;
     for sides in program.bounds.as_slice() {
         sum = plus_rest(sum, *sides, rest(program, combo, costs, column)?)?;
         column = column.wrapping_add(1);
     }
-    Ok(sum)
+    Some(sum)
+}
+
+fn is_point(program: Program<'_>, point: &[Frac]) -> bool {
+    keeps_bounds(program, point) && keeps_rows(program, point)
+}
+
+// a combination shows that no point is there
+fn is_empty(program: Program<'_>, combo: &Combo) -> bool {
+    match bound(program, combo, &[]) {
+        Some(least) => Frac::zero() < least,
+        None => false,
+    }
 }
 
 /// What an answer says is so.
-pub(crate) fn check_answer(program: &Program, found: &LpAnswer) -> Result<(), Fail> {
+pub(crate) fn is_right(program: Program<'_>, found: &LpAnswer) -> bool {
     match found {
         LpAnswer::Optimal { point, combo, cost } => {
-            check_point(program, point)?;
-            if dot(program.costs, point)? != *cost
-                || bound(program, combo, program.costs)? != *cost
-            {
-                return Err(fail("the bound isn't the cost"));
-            }
-            Ok(())
+            is_point(program, point.as_slice())
+                && dot(program.costs, point.as_slice()) == Some(*cost)
+                && bound(program, combo, program.costs) == Some(*cost)
         }
-        LpAnswer::Infeasible { combo } => {
-            if bound(program, combo, &[])? <= Frac::zero() {
-                return Err(fail("the box isn't empty"));
-            }
-            Ok(())
-        }
+        LpAnswer::Infeasible { combo } => is_empty(program, combo),
         LpAnswer::Unbounded { point, ray } => {
-            check_point(program, point)?;
-            check_ray(program, ray)
+            is_point(program, point.as_slice()) && is_ray(program, ray.as_slice())
         }
-        LpAnswer::Wide { moves: _ } => Err(fail("wide")),
-        LpAnswer::Limit => Err(fail("the limit is reached")),
+        LpAnswer::Wide { moves: _ } => false,
+        LpAnswer::Limit => false,
     }
 }

@@ -21,10 +21,10 @@ use Rattle.cip_search_ends.specs.SearchEnds.{AreTrueEntries, IsTrueEntry, IsAnsw
 use Rattle.cip_search_ends.specs.EndLaws.{ComesTo}
 use Rattle.cip_search_ends.proofs.EndsRight.{ends_are_right}
 use Rattle.cip_report.specs.declared.figures.Held.{Held}
-use Rattle.cip_solve.specs.AnswerOf.{held_of}
-use Rattle.cip_solve.specs.Bounds.{is_no_more, capped}
+use Rattle.cip_endings.specs.AnswerOf.{held_of}
+use Rattle.cip_endings.specs.LeastBounds.{is_no_more, capped}
 use Rattle.cip_solve.specs.Stopping.{WasLeast, BestIs}
-use Rattle.cip_solve.proofs.BoundLaws.{no_more_tells, more_below}
+use Rattle.cip_endings.proofs.BoundLaws.{no_more_tells, more_below}
 
 -- ---- the point
 

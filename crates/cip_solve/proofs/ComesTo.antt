@@ -16,11 +16,11 @@ use Rattle.cip_search_ends.specs.EndLaws.{IsShownNode, ComesTo}
 use Rattle.cip_report.specs.declared.figures.Shown.{Shown}
 use Rattle.cip_report.specs.declared.figures.Ended.{Ended}
 use Rattle.cip_report.specs.declared.figures.Ended.TheVariants.{Optimal, Infeasible, Unbounded, NodeLimit, Gap, Wide, NoMemory}
-use Rattle.cip_solve.specs.AnswerOf.{shown_of, ended_of}
-use Rattle.cip_solve.specs.Bounds.{least_of, bound_held}
-use Rattle.cip_solve.specs.Stopping.{one_matters, IsShownWorst, EndsBy}
-use Rattle.cip_solve.specs.Worst.{IsFirstWorst, IsWorst, worst_bound}
-use Rattle.cip_solve.specs.declared.worst.Worst.{Worst}
+use Rattle.cip_endings.specs.AnswerOf.{shown_of, ended_of}
+use Rattle.cip_endings.specs.LeastBounds.{least_of, bound_held}
+use Rattle.cip_endings.specs.Ends.{one_matters, IsShownWorst, EndsBy}
+use Rattle.cip_endings.specs.Worst.{IsFirstWorst, IsWorst, worst_bound}
+use Rattle.cip_endings.specs.declared.worst.Worst.{Worst}
 use Rattle.cip_solve.proofs.LeastBounds.{IsLeastAmong, least_both, least_held}
 
 -- ---- the least bound of nodes

@@ -23,17 +23,18 @@ use Rattle.cip_node.specs.KeptNodes.{cost_held, state_of, IsHolding}
 use Rattle.cip_report.specs.declared.figures.Ended.{Ended}
 use Rattle.cip_report.specs.declared.figures.Ended.TheVariants.{Optimal, Infeasible, Unbounded, NodeLimit, Gap, Wide, NoMemory}
 use Rattle.cip_report.specs.declared.figures.Held.{Held}
-use Rattle.cip_solve.specs.AnswerOf.{held_of, ended_of}
-use Rattle.cip_solve.specs.Bounds.{least_of, bound_held, flat, capped}
-use Rattle.cip_solve.specs.Gaps.{reaches_gap}
+use Rattle.cip_endings.specs.AnswerOf.{held_of, ended_of}
+use Rattle.cip_endings.specs.LeastBounds.{least_of, bound_held, flat, capped}
+use Rattle.cip_endings.specs.Gaps.{reaches_gap}
 use Rattle.cip_solve.specs.Logs.{numbers_of}
-use Rattle.cip_solve.specs.Stopping.{one_matters, EndsBy, WasLeast, BestIs}
-use Rattle.cip_solve.specs.Worst.{worst_bound}
+use Rattle.cip_endings.specs.Ends.{one_matters, EndsBy}
+use Rattle.cip_solve.specs.Stopping.{WasLeast, BestIs}
+use Rattle.cip_endings.specs.Worst.{worst_bound}
 use Rattle.cip_solve.specs.Searching.{IsEndless, HasReachedGap, StopsStill, StopsEndless, StopsRefused, IsWithin}
-use Rattle.cip_solve.specs.declared.worst.Worst.{Worst}
+use Rattle.cip_endings.specs.declared.worst.Worst.{Worst}
 use Rattle.cip_solve.proofs.AnswerLaws.{same_cost, is_point, refused_is_right, still_is_right}
 use Rattle.cip_solve.proofs.ComesTo.{open_least, parked_least, least_of_all, comes_to}
-use Rattle.cip_solve.proofs.GapLaws.{gap_reached, reached_gap}
+use Rattle.cip_endings.proofs.GapLaws.{gap_reached, reached_gap}
 use Rattle.cip_solve.proofs.LeastBounds.{same_least}
 use Rattle.cip_solve.proofs.TurnLaws.{flat_least, not_empty, some_held, held_there, least_there}
 

@@ -25,7 +25,7 @@ use Rattle.cip_report.specs.declared.figures.Shown.{Shown}
 use Rattle.cip_report.specs.declared.figures.Shown.TheVariants.{Place, Moves}
 use Rattle.cip_report.specs.declared.figures.Held.{Held}
 use Rattle.cip_report.specs.declared.figures.Answer.{Answer}
-use Rattle.cip_solve.specs.AnswerOf.{shown_of, ended_of, held_of, answer_of}
+use Rattle.cip_endings.specs.AnswerOf.{shown_of, ended_of, held_of, answer_of}
 use Rattle.cip_solve.proofs.FirstRows.{first_row_there}
 
 point_fits : (program : Program) (best : Option Held) → IsWellFormed program → IfSome (option_map held_of best) (IsHeldPoint program) → IfSome best (λ held. length held.point.items ≡ columns program)

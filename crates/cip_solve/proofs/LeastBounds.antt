@@ -8,8 +8,8 @@ use Rattle.cip_leaves.specs.Searched.{NoMore, IsCostHeld}
 use Rattle.cip_search.specs.Endings.{IsBoundOfOne, IsLeastBound}
 use Rattle.cip_search.proofs.Bounds.{no_more_itself}
 use Rattle.cip_search.proofs.Relaxed.{no_more_trans}
-use Rattle.cip_solve.specs.Bounds.{is_no_more, least_of, bound_held}
-use Rattle.cip_solve.proofs.BoundLaws.{no_more_tells, more_below}
+use Rattle.cip_endings.specs.LeastBounds.{is_no_more, least_of, bound_held}
+use Rattle.cip_endings.proofs.BoundLaws.{no_more_tells, more_below}
 
 -- the least of some bounds, if there are any
 abbrev pub IsLeastAmong : (Option ℚ → Type 0) → Option (Option ℚ) → Type 0

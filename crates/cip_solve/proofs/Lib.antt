@@ -1,12 +1,9 @@
 pub mod AnswerLaws
 pub mod BegunLaws
-pub mod BoundLaws
 pub mod ComesTo
 pub mod FinishLaws
 pub mod FirstRows
 pub mod Fits
-pub mod GapLaws
 pub mod LeastBounds
 pub mod TurnLaws
 pub mod WorkedNodes
-pub mod WorstLaws

@@ -27,14 +27,14 @@ use Rattle.cip_node.specs.NodeEnds.{LeavesEntry, IsEndless as EndsEndless, IsEnd
 use Rattle.cip_node.specs.declared.cores.Core.{Core}
 use Rattle.cip_node.specs.declared.ends.NodeEnd.{NodeEnd}
 use Rattle.cip_node.specs.declared.ends.NodeEnd.TheVariants as by
-use Rattle.cip_solve.specs.Bounds.{least_of, bound_held, flat}
-use Rattle.cip_solve.specs.Gaps.{reaches_gap}
+use Rattle.cip_endings.specs.LeastBounds.{least_of, bound_held, flat}
+use Rattle.cip_endings.specs.Gaps.{reaches_gap}
 use Rattle.cip_solve.specs.Logs.{marks_by}
 use Rattle.cip_solve.specs.Solved.{own_rows}
 use Rattle.cip_solve.specs.Searching.{IsStill, IsTold, HasReachedGap, StopsEndless, StopsRefused, StopsAs, IsKeptAs}
 use Rattle.cip_solve.specs.Stopping.{WasLeast}
-use Rattle.cip_solve.specs.Worst.{IsWorst, worst_bound}
-use Rattle.cip_solve.specs.declared.worst.Worst.{Worst}
+use Rattle.cip_endings.specs.Worst.{IsWorst, worst_bound}
+use Rattle.cip_endings.specs.declared.worst.Worst.{Worst}
 use Rattle.cip_solve.specs.declared.turns.Stop.{Stop}
 use Rattle.cip_solve.specs.declared.turns.Stop.TheVariants.{Still}
 use Rattle.cip_solve.proofs.LeastBounds.{IsLeastAmong}

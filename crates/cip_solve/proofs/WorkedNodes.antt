@@ -20,15 +20,16 @@ use Rattle.cip_node_bounds.specs.Relaxing.{IsMark}
 use Rattle.cip_node_bounds.specs.declared.relaxed.Mark.{Mark}
 use Rattle.cip_node.specs.Bounding.{IsAsGood}
 use Rattle.cip_node.specs.KeptNodes.{IsKept}
-use Rattle.cip_node.specs.NodeEnds.{with_bound, LeavesEntry, IsWideAs, IsAside, IsEnd}
+use Rattle.cip_leaf_programs.specs.WideNodes.{IsWideAs}
+use Rattle.cip_node.specs.NodeEnds.{with_bound, LeavesEntry, IsAside, IsEnd}
 use Rattle.cip_node.specs.declared.ends.NodeEnd.{NodeEnd}
 use Rattle.cip_node.specs.declared.ends.NodeEnd.TheVariants as by
 use Rattle.cip_leaf_programs.specs.WideLeaf.{Shown}
 use Rattle.cip_solve.specs.Logs.{numbers_of, marks_by}
 use Rattle.cip_solve.specs.Solved.{own_rows, IsMet, AreMet}
 use Rattle.cip_solve.specs.Searching.{IsTold, IsWorseOf}
-use Rattle.cip_solve.specs.Worst.{IsWorst}
-use Rattle.cip_solve.specs.declared.worst.Worst.{Worst}
+use Rattle.cip_endings.specs.Worst.{IsWorst}
+use Rattle.cip_endings.specs.declared.worst.Worst.{Worst}
 
 -- ---- the entry
 

@@ -1,9 +1,5 @@
-pub mod AnswerOf
-pub mod Bounds
-pub mod Gaps
 pub mod Logs
 pub mod Searching
 pub mod Solved
 pub mod Statements
 pub mod Stopping
-pub mod Worst

@@ -16,13 +16,13 @@ use Rattle.cip_node_bounds.specs.declared.relaxed.Mark.{Mark}
 use Rattle.cip_node.specs.KeptNodes.{cost_held, IsSearchOf, IsKept, IsHolding}
 use Rattle.cip_node.specs.declared.ends.NodeEnd.{NodeEnd}
 use Rattle.cip_node.specs.declared.ends.NodeEnd.TheVariants as by
-use Rattle.cip_solve.specs.AnswerOf.{shown_of}
-use Rattle.cip_solve.specs.Gaps.{reaches_gap}
+use Rattle.cip_endings.specs.AnswerOf.{shown_of}
+use Rattle.cip_endings.specs.Gaps.{reaches_gap}
 use Rattle.cip_solve.specs.Logs.{numbers_of}
 use Rattle.cip_solve.specs.Solved.{AreMet}
 use Rattle.cip_solve.specs.Stopping.{WasLeast}
-use Rattle.cip_solve.specs.Worst.{IsWorst, IsWorse}
-use Rattle.cip_solve.specs.declared.worst.Worst.{Worst}
+use Rattle.cip_endings.specs.Worst.{IsWorst, IsWorse}
+use Rattle.cip_endings.specs.declared.worst.Worst.{Worst}
 use Rattle.cip_solve.specs.declared.turns.Stop.{Stop}
 use Rattle.cip_solve.specs.declared.turns.Stop.TheVariants as kinds
 

@@ -7,7 +7,7 @@ use Rattle.cip_problem.specs.Log.{Entry}
 use Rattle.cip_node_bounds.specs.declared.relaxed.Mark.{Mark}
 use Rattle.cip_report.specs.Answers.{AnswerFits}
 use Rattle.cip_report.specs.declared.figures.Answer.{Answer}
-use Rattle.cip_solve.specs.AnswerOf.{answer_of}
+use Rattle.cip_endings.specs.AnswerOf.{answer_of}
 use Rattle.cip_solve.specs.Solved.{IsSolved}
 
 -- an answer can be printed

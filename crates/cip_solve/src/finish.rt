@@ -9,18 +9,16 @@ ghost use Rattle.cip_tree.specs.Nodes.{Nodes};
 ghost use Rattle.cip_node_bounds.specs.declared.relaxed.Mark.{Mark};
 ghost use Rattle.cip_node.specs.Cores.{IsReady};
 ghost use Rattle.cip_node.specs.KeptNodes.{IsHolding};
-ghost use Rattle.cip_solve.specs.AnswerOf.{answer_of};
+ghost use Rattle.cip_endings.specs.AnswerOf.{answer_of};
 ghost use Rattle.cip_solve.specs.Logs.{entries_of, marked_in, numbers_of};
 ghost use Rattle.cip_solve.specs.Searching.{IsStill, IsTold, IsEndless, StopsStill, StopsEndless, StopsRefused, StopsAs, IsWithin};
 ghost use Rattle.cip_solve.specs.Solved.{AreMet};
 ghost use Rattle.cip_solve.specs.Stopping.{BestIs};
 
-use crate::bounds::{capped, flat};
-use crate::ends::ended_at;
 use crate::logs::Log;
 use crate::solving::Options;
-use crate::turns::{Search, Stop, least_left};
-use crate::worst::Worst;
+use crate::turns::{Search, Stop};
+use cip_endings::{Worst, capped, ended_at, flat, least_left};
 use cip_frac::Frac;
 use cip_incumbent::Incumbent;
 use cip_model::{Program, Verdict};
@@ -102,6 +100,31 @@ fn refused_answer(incumbent: &Incumbent, bound: Option<Frac>, point: Vec<Frac>) 
     }
 }
 
+/// The answer of a search that stopped so, its point written to a list of as many values.
+fn answer_at(
+    core: &Core<'_>,
+    worst: Option<Worst>,
+    stop: Stop,
+    options: &Options,
+    point: Vec<Frac>,
+) -> Answer
+    requires stop { StopsAs core.now.program.now core.now.tree.root.bound options.now.nodes options.now.gap
+        core.now.tree core.now.incumbent worst stop }
+    requires holding { IsHolding core.now.program.now core.now.incumbent }
+    requires point { length point.items ≡ columns core.now.program.now }
+    ensures { (marks : List (ℕ × Mark))
+        → IsWithin core.now.program.now core.now.tree.root.bound options.now.nodes core.now.tree.log marks
+        → IsSearchAnswer core.now.program.now core.now.tree.root.bound options.now.nodes options.now.gap
+        core.now.tree.log (numbers_of marks) (answer_of result) }
+{
+    let _columns = core.program.columns();
+    match stop {
+        Stop::Still => still_answer(&core.tree, &core.incumbent, worst, &options.gap, point),
+        Stop::Endless { point, ray } => endless_answer(core.program, point, ray),
+        Stop::NoMemory { bound } => refused_answer(&core.incumbent, bound, point),
+    }
+}
+
 impl<'a> Search<'a> {
     /// The answer of a search that stopped so, its point written to a list of as many values; what it did is left in
     /// the log.
@@ -118,18 +141,8 @@ impl<'a> Search<'a> {
             log.new.marks.items }
     {
         let Search { core, worst, marks } = self;
-        let Core {
-            program,
-            tree,
-            incumbent,
-            ..
-        } = core;
-        let _columns = program.columns();
-        let answer = match stop {
-            Stop::Still => still_answer(&tree, &incumbent, worst, &options.gap, point),
-            Stop::Endless { point, ray } => endless_answer(program, point, ray),
-            Stop::NoMemory { bound } => refused_answer(&incumbent, bound, point),
-        };
+        let answer = answer_at(&core, worst, stop, options, point);
+        let Core { tree, .. } = core;
         log.taken = tree.take_log();
         log.marks = marks;
         answer

@@ -2,7 +2,7 @@
 ghost use Rattle.std.specs.Prelude.{◌≡◌, ℕ, Option, [], ◌<◌};
 ghost use Rattle.cip_rational.specs.Rational.{ℚ};
 ghost use Rattle.cip_node.specs.Beginning.{AreNearColumns};
-ghost use Rattle.cip_solve.specs.AnswerOf.{answer_of};
+ghost use Rattle.cip_endings.specs.AnswerOf.{answer_of};
 ghost use Rattle.cip_solve.specs.Logs.{entries_of};
 ghost use Rattle.cip_solve.specs.Solved.{IsSolved};
 

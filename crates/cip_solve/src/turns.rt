@@ -3,21 +3,17 @@ ghost use Rattle.std.specs.Prelude.{◌≡◌, ℕ, ◌+◌, ◌<◌, ◌≤◌,
 ghost use Rattle.std.specs.Prelude.{vec_len, vec_capacity};
 ghost use Rattle.cip_rational.specs.Rational.{ℚ};
 ghost use Rattle.cip_node.specs.Cores.{IsReady};
-ghost use Rattle.cip_solve.specs.Bounds.{least_of, bound_held};
 ghost use Rattle.cip_solve.specs.Logs.{marks_by};
 ghost use Rattle.cip_solve.specs.Searching.{IsStill, IsTold, IsKeptAs, HasReachedGap, StopsAs};
-ghost use Rattle.cip_solve.specs.Worst.{worst_bound};
 
-use crate::bounds::{bound_held, flat, least_of};
-use crate::gaps::reaches_gap;
-use crate::worst::{Worst, printed_shown, worse, worst_bound};
+use cip_endings::{Worst, flat, least_left, printed_shown, reaches_gap, worse};
 use cip_frac::Frac;
 use cip_node::{Core, NodeEnd, NodeRecord, held_cost};
 use cip_node_bounds::Mark;
 use std::alloc::Global;
 
 /// How a search stops.
-#[derive(Debug, Drop)]
+#[derive(Drop)]
 pub(crate) enum Stop {
     /// No node is open, the budget is spent, or the gap that was asked for is reached.
     Still,
@@ -25,17 +21,6 @@ pub(crate) enum Stop {
     Endless { point: Vec<Frac>, ray: Vec<Frac> },
     /// Memory was refused, and before that this was the least bound.
     NoMemory { bound: Option<Frac> },
-}
-
-/// The least of the cost held, of the least bound of open nodes, and of the bound of the worst leaf.
-pub(crate) fn least_left(
-    held: Option<Frac>,
-    waiting: Option<Option<Frac>>,
-    worst: &Option<Worst>,
-) -> Option<Option<Frac>>
-    ensures { result ≡ least_of (bound_held held) (least_of waiting (worst_bound worst.now)) }
-{
-    least_of(bound_held(held), least_of(waiting, worst_bound(worst)))
 }
 
 /// A search: what it works with, the worst parked leaf, and the marks so far.

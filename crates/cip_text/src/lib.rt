@@ -9,8 +9,6 @@ mod line_cuts;
 mod number_text;
 mod parts;
 mod reading;
-#[cfg(test)]
-mod tests;
 mod text_lines;
 
 pub use fraction_text::fraction;

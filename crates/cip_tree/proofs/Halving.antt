@@ -3,19 +3,19 @@ use Rattle.std.proofs.Common.{inl, inr, ◌≡◌, ◌≢◌, ℕ, zero, suc, �
 use Rattle.std.proofs.lemmas.List.{get_or-set_same, get_or-set_other, reverse-append}
 use Rattle.std.proofs.lemmas.Bool.{cases_eq}
 use Rattle.std.specs.Prelude.{slice_get}
-use Rattle.cip_rational.specs.Rational.{ℚ, floor, ceil, integer, ◌<ℚ◌}
+use Rattle.cip_rational.specs.Rational.{ℚ, integer, ◌<ℚ◌}
 use Rattle.std.proofs.lemmas.Int.{ints}
-use Rattle.std.specs.Prelude.{◌==◌, length, ◌≤ℤ◌, ◌<ℤ◌}
+use Rattle.std.specs.Prelude.{◌==◌, length}
 use Rattle.cip_domain.proofs.Boxes.{length-narrowed}
-use Rattle.cip_rational.proofs.Rational.Order.{≤ℚ_refl, ≤ℚ_trans, <ℚ_of_lt_of_le, <ℚ_of_le_of_lt, le_test_of_lt}
-use Rattle.cip_rational.proofs.Rational.Rounding.{integer_lt, integer_le, le_integer, le_ceil, ceil_least, floor_le, floor_greatest}
+use Rattle.cip_rational.proofs.Rational.Order.{≤ℚ_trans, <ℚ_of_lt_of_le, <ℚ_of_le_of_lt, le_test_of_lt}
+use Rattle.cip_rational.proofs.Rational.Rounding.{integer_lt}
 use Rattle.cip_problem.specs.Program.{Sides}
 use Rattle.cip_problem.specs.Box.{no_sides, sides_at, low_inside, high_inside}
 use Rattle.cip_problem.specs.Wholes.{HasWhole, AllHaveWholes}
 use Rattle.cip_problem.specs.Log.{low_half, high_half, CanSplit}
 use Rattle.cip_lin.specs.declared.sides.Side.TheVariants.{Low, High}
 use Rattle.cip_domain.specs.Changes.{Change, with_side, tightened_sides, tightened, narrowed}
-use Rattle.cip_tree.specs.Moves.{CanHalve, low_sides, high_sides}
+use Rattle.cip_domain.specs.Halves.{CanHalve, low_sides, high_sides}
 
 below_next : (at : ℤ) → integer at <ℚ integer (at +ℤ pos 1)
 below_next at = integer_lt at (at +ℤ pos 1) (omega (arith, ints))
@@ -77,30 +77,6 @@ one_more box column told change sides next l e f =
     f ∙ ap (λ s. changed_sides column s change) e
     ∙ sym (sides_after (narrowed box (reverse told)) column change (omega (arith, l, length-narrowed box (reverse told))))
     ∙ ap (λ t. sides_at (narrowed box t) column) (sym (reverse-append told (change ∷ [])))
-
-pub low_whole : (low : ℚ) (at : ℤ) → ceil low ≤ℤ at → HasWhole (low_sides (record { low = Some low; high = None }) at)
-low_whole low at h = record { number = at; between = record { above = ≤ℚ_trans (le_ceil low) (integer_le (ceil low) at h); below = ≤ℚ_refl (integer at) } }
-
-pub whole_low : (low : ℚ) (at : ℤ) → at <ℤ ceil low → ¬ HasWhole (low_sides (record { low = Some low; high = None }) at)
-whole_low low at h k =
-    let a = ceil_least low k.number k.between.above in
-    let b = le_integer k.number at k.between.below in
-    omega (arith, ints, a, b, h)
-
-pub high_whole : (high : ℚ) (at : ℤ) → at <ℤ floor high → HasWhole (high_sides (record { low = None; high = Some high }) at)
-high_whole high at h = record { number = at +ℤ pos 1; between = record { above = ≤ℚ_refl (integer (at +ℤ pos 1)); below = ≤ℚ_trans (integer_le (at +ℤ pos 1) (floor high) (omega (arith, ints, h))) (floor_le high) } }
-
-pub whole_high : (high : ℚ) (at : ℤ) → floor high ≤ℤ at → ¬ HasWhole (high_sides (record { low = None; high = Some high }) at)
-whole_high high at h k =
-    let a = floor_greatest high k.number k.between.below in
-    let b = le_integer (at +ℤ pos 1) k.number k.between.above in
-    omega (arith, ints, a, b, h)
-
-pub open_low : (at : ℤ) → HasWhole (low_sides (record { low = None; high = None }) at)
-open_low at = record { number = at; between = record { above = tt; below = ≤ℚ_refl (integer at) } }
-
-pub open_high : (at : ℤ) → HasWhole (high_sides (record { low = None; high = None }) at)
-open_high at = record { number = at +ℤ pos 1; between = record { above = ≤ℚ_refl (integer (at +ℤ pos 1)); below = tt } }
 
 zip_length : (integral : List Bool) (box : List Sides) → AllHaveWholes integral box → length integral ≡ length box
 zip_length [] [] h = refl

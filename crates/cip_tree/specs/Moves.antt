@@ -1,11 +1,9 @@
 -- How a tree changes from call to call.
-use Rattle.std.specs.Prelude.{◌≡◌, ◌≢◌, ℕ, ◌<◌, ◌≤◌, ◌+◌, ◌^◌, ℤ, pos, ◌+ℤ◌, unsigned_abs, Bool, List, [], ◌∷◌, ◌++◌, Option, None, Some, All, Contains}
+use Rattle.std.specs.Prelude.{◌≡◌, ◌≢◌, ℕ, ◌<◌, ◌≤◌, ◌+◌, ◌^◌, ℤ, unsigned_abs, Bool, List, [], ◌∷◌, ◌++◌, Option, None, All, Contains}
 use Rattle.std.specs.List.Sorted.{IsPermutation}
 use Rattle.cip_rational.specs.Rational.{ℚ}
 use Rattle.cip_problem.specs.Program.{Sides}
 use Rattle.cip_problem.specs.Log.{Node, Split, low_half, high_half, CanSplit}
-use Rattle.cip_rational.specs.Rational.{integer}
-use Rattle.cip_problem.specs.Wholes.{HasWhole}
 use Rattle.cip_tree.specs.Bounds.{IsBoundAtMost}
 use Rattle.cip_tree.specs.Queue.{bound_below}
 use Rattle.cip_tree.specs.Searched.{HasNotEnded, HalvesHold}
@@ -54,19 +52,6 @@ abbrev pub is_cheaper : ℚ → Node → Bool
 is_cheaper cost node = bound_below cost node.bound
 
 -- ---- splits
-
--- the sides of the values up to a whole number, and from the next one on
-abbrev pub low_sides : Sides → ℤ → Sides
-low_sides sides at = record { low = sides.low; high = Some (integer at) }
-
-abbrev pub high_sides : Sides → ℤ → Sides
-high_sides sides at = record { low = Some (integer (at +ℤ pos 1)); high = sides.high }
-
--- sides can be split at a whole number that is not too far from 0: each half has a whole value
-pub record CanHalve (sides : Sides) (at : ℤ) : Type 0 where
-  pub near : unsigned_abs at ≤ 2 ^ 101
-  pub low : HasWhole (low_sides sides at)
-  pub high : HasWhole (high_sides sides at)
 
 -- a node in work was split: it has ended, and its halves are open, with its bound and the next two numbers; they hold
 -- each point of its box whose column is whole

@@ -4,7 +4,7 @@ use Rattle.cip_problem.specs.Box.{sides_at}
 use Rattle.cip_tree.specs.declared.splits.SplitFault.{SplitFault}
 use Rattle.cip_tree.specs.declared.splits.SplitFault.TheVariants.{NotWhole, Outside, NoMemory}
 use Rattle.cip_tree.specs.Nodes.{TakenNode, Nodes, box_of}
-use Rattle.cip_tree.specs.Moves.{CanHalve}
+use Rattle.cip_domain.specs.Halves.{CanHalve}
 
 -- the column isn't whole; it is, and its sides can't be halved there; or memory was refused
 abbrev pub IsSplitFault : Nodes → TakenNode → ℕ → ℤ → SplitFault → Type 0

@@ -9,7 +9,7 @@ use std::alloc::Global;
 use std::marker::Model;
 
 /// Where a node stands.
-#[derive(Clone, Copy, Debug, PartialEq, Eq)]
+#[derive(Clone, Copy, PartialEq, Eq)]
 pub(crate) enum Stage {
     /// It waits in the queue.
     Open,
@@ -22,7 +22,7 @@ pub(crate) enum Stage {
 }
 
 /// How a split gave a node.
-#[derive(Clone, Copy, Debug)]
+#[derive(Clone, Copy)]
 pub(crate) struct Origin {
     // the place of the node that was split
     pub(crate) parent: usize,

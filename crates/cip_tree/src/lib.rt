@@ -16,6 +16,3 @@ pub use logs::{End, Logged, searched_logs_are_logs};
 pub use nodes::Node;
 pub use splits::SplitFault;
 pub use trees::Tree;
-
-#[cfg(test)]
-mod tests;

@@ -15,7 +15,7 @@ use std::collections::BinaryHeap;
 use std::marker::Model;
 
 /// An open node: its bound, its id, and the place where it is kept.
-#[derive(Clone, Copy, Debug)]
+#[derive(Clone, Copy)]
 pub(crate) struct OpenNode {
     pub(crate) bound: Option<Frac>,
     pub(crate) id: u64,

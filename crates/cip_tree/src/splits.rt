@@ -1,13 +1,11 @@
 //! Splits of one column.
 ghost use Rattle.std.specs.Prelude.{◌≡◌, ◌<◌, length, slice_get, ◌==◌, ◌↔◌, ◌^◌, ◌≤◌, ◌+ℤ◌, pos, unsigned_abs, IsTrue, None, Some, if◌then◌else◌};
 ghost use Rattle.cip_rational.specs.Rational.{integer};
-ghost use Rattle.cip_problem.specs.Wholes.{HasWhole};
+ghost use Rattle.cip_lin.specs.declared.sides.Side.TheVariants.{Low, High};
 ghost use Rattle.cip_domain.specs.Changes.{tightened_sides};
-ghost use Rattle.cip_tree.specs.Moves.{CanHalve, low_sides, high_sides};
 
 use crate::kept::Origin;
-use cip_domain::{Change, Side};
-use cip_frac::Frac;
+use cip_domain::{Change, high_change, low_change};
 use cip_lin::Sides;
 use std::alloc::AllocError;
 
@@ -32,65 +30,18 @@ impl From<AllocError> for SplitFault {
     }
 }
 
-/// Whether a number isn't too far from 0.
-fn is_near(at: i128) -> bool
-    ensures { IsTrue result ↔ (unsigned_abs at ≤ 2 ^ 101) }
-{
-    at.unsigned_abs() <= 1 << 101
-}
-
-/// Whether a whole number lies between a low side and a whole number, itself among them.
-fn has_low(low: Option<Frac>, at: i128) -> bool
-    ensures { IsTrue result ↔ HasWhole (low_sides (record { low = low; high = None }) at) }
-{
-    match low {
-        None => true,
-        Some(low) => { if low.ceil() <= at { true } else { false } }
-    }
-}
-
-/// Whether a whole number above another lies below a high side.
-fn has_high(high: Option<Frac>, at: i128) -> bool
-    ensures { IsTrue result ↔ HasWhole (high_sides (record { low = None; high = high }) at) }
-{
-    match high {
-        None => true,
-        Some(high) => { if at < high.floor() { true } else { false } }
-    }
-}
-
-/// Whether a column with these sides can be split at a whole number.
-pub(crate) fn can_halve(sides: Sides, at: i128) -> bool
-    ensures { IsTrue result ↔ CanHalve sides at }
-{
-    is_near(at) && has_low(sides.low, at) && has_high(sides.high, at)
-}
-
-/// A whole number as a fraction.
-fn whole(at: i128) -> Frac
-    requires { unsigned_abs at ≤ 2 ^ 102 }
-    ensures { result ≡ integer at }
-{
-    match Frac::whole(at) {
-        Ok(value) => value,
-        Err(_) => unreachable!(),
-    }
-}
-
 /// How the low half of a split is given.
 pub(crate) fn low_origin(parent: usize, col: u32, at: i128) -> Origin
     requires { unsigned_abs at ≤ 2 ^ 101 }
     ensures { result ≡ record {
       parent = parent;
-      change = record { column = col; side = Side.High; value = integer at };
+      change = record { column = col; side = High; value = integer at };
     } }
 {
-    let change = Change {
-        col,
-        side: Side::High,
-        value: whole(at),
-    };
-    Origin { parent, change }
+    Origin {
+        parent,
+        change: low_change(col, at),
+    }
 }
 
 /// How the high half of a split is given.
@@ -98,15 +49,13 @@ pub(crate) fn high_origin(parent: usize, col: u32, at: i128) -> Origin
     requires { unsigned_abs at ≤ 2 ^ 101 }
     ensures { result ≡ record {
       parent = parent;
-      change = record { column = col; side = Side.Low; value = integer (at +ℤ pos 1) };
+      change = record { column = col; side = Low; value = integer (at +ℤ pos 1) };
     } }
 {
-    let change = Change {
-        col,
-        side: Side::Low,
-        value: whole(at + 1),
-    };
-    Origin { parent, change }
+    Origin {
+        parent,
+        change: high_change(col, at),
+    }
 }
 
 /// The sides of a column after a change, which may be of another one.

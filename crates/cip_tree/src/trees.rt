@@ -18,7 +18,8 @@ use crate::kept::{Kept, Stage, new_kept, origin_at, part, release, restage};
 use crate::logs::{End, Logged};
 use crate::nodes::Node;
 use crate::queue::{OpenNode, Queue};
-use crate::splits::{SplitFault, can_halve, flag_at, high_origin, low_origin, sides_past};
+use crate::splits::{SplitFault, flag_at, high_origin, low_origin, sides_past};
+use cip_domain::can_halve;
 use cip_frac::Frac;
 use cip_lin::{Bounds, Sides};
 use slab::Slab;
@@ -33,7 +34,7 @@ pub struct Tree {
     root: Bounds,
     root_bound: Option<Frac>,
     whole: Vec<bool>,
-    pub(crate) kept: Slab<Kept>,
+    kept: Slab<Kept>,
     queue: Queue,
     parked: Vec<OpenNode>,
     log: Vec<Logged>,
@@ -244,7 +245,7 @@ impl Tree {
     }
 
     /// The sides of a column in the box of a node in work.
-    pub(crate) fn sides(&self, node: &Node, col: u32) -> Sides
+    pub fn sides(&self, node: &Node, col: u32) -> Sides
         requires taken { IsTaken self.now node.now }
         requires column { col < length self.now.root.box }
         ensures { result ≡ sides_at (box_of self.now node.now) col }

@@ -4,6 +4,3 @@
 mod words;
 
 pub use words::{Job, Words, WordsFault};
-
-#[cfg(test)]
-mod tests;

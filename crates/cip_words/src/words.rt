@@ -1,8 +1,9 @@
 //! The words of a command line.
-ghost use Rattle.std.specs.Prelude.{◌≡◌, ◌++◌, ◌∷◌, [], Some, None, IfOk, OnOk, OnErr, MatchResult, option_map, option_and_then, length};
-ghost use Rattle.clap.specs.Words.{app_of, kind_of, rows_of, found_of, subcommand_rows_of};
+ghost use Rattle.std.specs.Prelude.{◌≡◌, ◌++◌, ◌∷◌, [], true, false, Some, None, IfOk, OnOk, OnErr, MatchResult, option_map, option_and_then, length};
+ghost use Rattle.clap.specs.Words.{app_of, kind_of, rows_of, found_of, new_rule, rule_of, subcommand_rows_of};
+ghost use Rattle.clap.specs.declared.builder.action.ArgAction.TheVariants.{SetTrue};
 ghost use Rattle.clap.specs.declared.error.kind.ErrorKind.TheVariants.{OutOfMemory};
-ghost use Rattle.cip_words.specs.Jobs.{AsksForSome, cip_command, nodes_of, at_least_zero, gap_of, job_behind, check_behind, job_at, job_of};
+ghost use Rattle.cip_words.specs.Jobs.{AsksForSome, IsAddedAs, solve_command, check_command, cip_command, nodes_of, at_least_zero, gap_of, job_behind, check_behind, job_at, job_of};
 ghost use Rattle.cip_number_text.specs.Numeral.{value_of};
 ghost use Rattle.cip_number_text.specs.FractionText.{fraction_of};
 ghost use Rattle.cip_words.specs.WordsRead.{meant, WordsCause};
@@ -83,30 +84,60 @@ impl From<AllocError> for WordsFault {
     }
 }
 
+/// A value that has to be there, behind no name.
+fn wanted<'a>(alloc: Global, id: &'a str) -> Arg<'a>
+    ensures rule { rule_of result ≡ record (new_rule id.entry.now) { required = true } }
+    ensures local { result.global ≡ false }
+{
+    Arg::new(alloc, id).required(true)
+}
+
+/// A value that may be there, behind `--` and the name.
+fn option<'a>(alloc: Global, id: &'a str) -> Arg<'a>
+    ensures rule { rule_of result ≡ record (new_rule id.entry.now) { long = Some id.entry.now } }
+    ensures local { result.global ≡ false }
+{
+    Arg::new(alloc, id).long(id)
+}
+
+/// A name behind `--` that may be there, without a value.
+fn flag<'a>(alloc: Global, id: &'a str) -> Arg<'a>
+    ensures rule { rule_of result
+        ≡ record (new_rule id.entry.now) { long = Some id.entry.now; action = Some SetTrue } }
+    ensures local { result.global ≡ false }
+{
+    option(alloc, id).action(ArgAction::SetTrue)
+}
+
+/// The subcommand `solve MODEL [--blocks FILE] [--nodes N] [--gap G] [--plain]`.
+fn solving<'a>(alloc: Global) -> Result<Command<'a>, AllocError>
+    ensures { IfOk result (IsAddedAs solve_command.top) }
+{
+    Command::new(alloc, "solve")
+        .arg(wanted(alloc, "model"))?
+        .arg(option(alloc, "blocks"))?
+        .arg(option(alloc, "nodes"))?
+        .arg(option(alloc, "gap"))?
+        .arg(flag(alloc, "plain"))
+}
+
+/// The subcommand `check MODEL POINT`.
+fn checking<'a>(alloc: Global) -> Result<Command<'a>, AllocError>
+    ensures { IfOk result (IsAddedAs check_command.top) }
+{
+    let check = Command::new(alloc, "check").arg(wanted(alloc, "model"))?;
+    check.arg(wanted(alloc, "point"))
+}
+
 /// The command: `solve MODEL [--blocks FILE] [--nodes N] [--gap G] [--plain]`, and `check MODEL POINT`.
 fn command<'a>(alloc: Global) -> Result<Command<'a>, AllocError>
     ensures { IfOk result (λ command. app_of command ≡ cip_command) }
 {
-    let model = Arg::new(alloc, "model").required(true);
-    let blocks = Arg::new(alloc, "blocks").long("blocks");
-    let nodes = Arg::new(alloc, "nodes").long("nodes");
-    let gap = Arg::new(alloc, "gap").long("gap");
-    let plain = Arg::new(alloc, "plain")
-        .long("plain")
-        .action(ArgAction::SetTrue);
-    let solve = Command::new(alloc, "solve")
-        .arg(model)?
-        .arg(blocks)?
-        .arg(nodes)?
-        .arg(gap)?
-        .arg(plain)?;
-    let checked = Arg::new(alloc, "model").required(true);
-    let point = Arg::new(alloc, "point").required(true);
-    let check = Command::new(alloc, "check").arg(checked)?.arg(point)?;
-    Command::new(alloc, "cip")
+    let solve = solving(alloc)?;
+    let solver = Command::new(alloc, "cip")
         .no_binary_name(true)
-        .subcommand(solve)?
-        .subcommand(check)
+        .subcommand(solve)?;
+    solver.subcommand(checking(alloc)?)
 }
 
 /// The number of nodes that a word says, from 1 to the most.

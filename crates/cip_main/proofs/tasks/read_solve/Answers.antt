@@ -1,5 +1,5 @@
 use Rattle.cip_words.specs.Jobs.{Solve}
-use Rattle.cip_main.specs.Answering.{limits_of}
+use Rattle.cip_answering.specs.Answering.{limits_of}
 use Rattle.cip_main.proofs.Readings.{not_done, unread_cause, is_solve}
 use Rattle.cip_main.proofs.tasks.read_solve.Goals as goal
 

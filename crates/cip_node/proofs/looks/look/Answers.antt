@@ -1,15 +1,19 @@
 use Rattle.std.proofs.Common.{length, ap, sym, ◌∙◌, subst}
 use Rattle.cip_tree.specs.Nodes.{node_changes, box_of}
+use Rattle.cip_node_rules.specs.BoxLooks.{IsBoxLook}
 use Rattle.cip_node.specs.Entering.{IsEntered}
 use Rattle.cip_node.proofs.BoxInWork.{narrowed_long}
+use Rattle.cip_node.proofs.Looked.{look_entered}
 use Rattle.cip_node.proofs.looks.look.Goals as goal
 
-pub lacking_column-requires-clause-long : goal.lacking_column-requires-clause-long
-lacking_column-requires-clause-long c =
+pub look_at-requires-clause-long : goal.look_at-requires-clause-long
+look_at-requires-clause-long c =
     let e = subst (IsEntered c.enter.new.domain.box (box_of c.args.tree.now c.args.node.now)) c.if-not-branch.false c.in_ok-enter.ensures.entered in
-    ap length c.whole-whole.ensures.whole ∙ c.whole-whole.ensures.formed.integral ∙ sym c.requires.columns ∙ sym (narrowed_long c.args.tree.now.root.box (node_changes c.args.tree.now c.args.node.now)) ∙ sym (ap length e) ∙ sym (ap length c.bounds.ensures)
+    ap length c.whole.ensures.whole ∙ c.whole.ensures.formed.integral ∙ sym c.requires.columns ∙ sym (narrowed_long c.args.tree.now.root.box (node_changes c.args.tree.now c.args.node.now)) ∙ sym (ap length e) ∙ sym (ap length c.bounds.ensures)
 
-pub open_column-requires-clause-long : goal.open_column-requires-clause-long
-open_column-requires-clause-long c =
+pub returns-clause-look : goal.returns-clause-look
+returns-clause-look c =
     let e = subst (IsEntered c.enter.new.domain.box (box_of c.args.tree.now c.args.node.now)) c.if-not-branch.false c.in_ok-enter.ensures.entered in
-    ap length c.whole-whole.ensures.whole ∙ c.whole-whole.ensures.formed.integral ∙ sym c.requires.columns ∙ sym (narrowed_long c.args.tree.now.root.box (node_changes c.args.tree.now c.args.node.now)) ∙ sym (ap length e) ∙ sym (ap length c.bounds-2.ensures)
+    look_entered c.args.program.now.integral c.enter.new.domain.box (box_of c.args.tree.now c.args.node.now) c.look_at.result e
+    (subst (λ i. IsBoxLook i c.enter.new.domain.box c.look_at.result) c.whole.ensures.whole
+    (subst (λ b. IsBoxLook c.whole.result.now b c.look_at.result) c.bounds.ensures c.look_at.ensures))

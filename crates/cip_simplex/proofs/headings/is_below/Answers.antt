@@ -1,7 +1,7 @@
-use Rattle.std.proofs.Common.{◌≡◌, ◌∙◌, ℤ, pos, to_z, of_z, int_lt, ap₂, arith}
+use Rattle.std.proofs.Common.{◌≡◌, ◌∙◌, to_z, of_z, int_lt, ap₂, arith}
 use Rattle.std.specs.Int.{w128}
 use Rattle.std.proofs.lemmas.Int.{ints}
-use Rattle.cip_rational.specs.Rational.{numerator, denominator}
+use Rattle.cip_rational.specs.Rational.{denominator}
 use Rattle.cip_rational.proofs.Comparisons.{is_lt-compare}
 use Rattle.cip_simplex.proofs.WholeOrder.{whole_below}
 use Rattle.cip_simplex.proofs.headings.is_below.Goals as goal

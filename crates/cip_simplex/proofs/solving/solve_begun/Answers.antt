@@ -1,4 +1,5 @@
 use Rattle.std.proofs.Common.{sym, ap, ◌∙◌, subst}
+use Rattle.std.proofs.lemmas.Result.{IfOk-weaker}
 use Rattle.cip_bland.specs.EndAnswers as def
 use Rattle.cip_simplex.specs.LpAnswers.{IsAnswer}
 use Rattle.cip_simplex.specs.Starts.{stands_of}
@@ -6,12 +7,13 @@ use Rattle.cip_simplex.specs.declared.answers.LpAnswer.TheVariants.{Wide}
 use Rattle.cip_simplex.proofs.Solved.{from_in_range, from_out_of_range}
 use Rattle.cip_simplex.proofs.solving.solve_begun.Goals as goal
 
-pub returns-in_ok-last-in-Ok : goal.returns-in_ok-last-in-Ok
-returns-in_ok-last-in-Ok c =
-    let same = from_in_range c.args.lp.now c.args.start.now c.args.limit c.in-Ok.ensures.0 in (
-      subst (λ (a : def.Answer). IsAnswer a c.in_ok-found-in-Ok.found) (sym same.0) c.in_ok-found-in-Ok.ensures.answer.0,
-      c.in_ok-last-in-Ok.ensures ∙ ap stands_of (c.in_ok-found-in-Ok.ensures.answer.1 ∙ sym same.1),
-    )
+pub returns-in-Ok : goal.returns-in-Ok
+returns-in-Ok c =
+    let same = from_in_range c.args.lp.now c.args.start.now c.args.limit c.in-Ok.ensures.0 in
+    IfOk-weaker c.solve_in-solved.result _ _ (λ solved h. (
+      subst (λ (a : def.Answer). IsAnswer a solved.0) (sym same.0) h.0,
+      h.1 ∙ ap stands_of (sym same.1),
+    )) c.solve_in-solved.ensures
 
 pub returns-in_ok-slack-in-Err-OutOfRange : goal.returns-in_ok-slack-in-Err-OutOfRange
 returns-in_ok-slack-in-Err-OutOfRange c =

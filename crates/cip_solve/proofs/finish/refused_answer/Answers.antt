@@ -1,5 +1,5 @@
 use Rattle.std.proofs.Common.{◌∙◌, ap}
-use Rattle.cip_solve.specs.Bounds.{capped}
+use Rattle.cip_endings.specs.LeastBounds.{capped}
 use Rattle.cip_solve.proofs.FinishLaws.{refused_right}
 use Rattle.cip_solve.proofs.finish.refused_answer.Goals as goal
 

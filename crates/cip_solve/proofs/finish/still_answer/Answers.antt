@@ -1,9 +1,9 @@
 use Rattle.std.proofs.Common.{◌≡◌, ◌∙◌, true, false, ap, subst}
 use Rattle.cip_report.specs.declared.figures.Ended.TheVariants.{Gap}
-use Rattle.cip_solve.specs.Bounds.{least_of, bound_held, flat}
-use Rattle.cip_solve.specs.Gaps.{reaches_gap}
-use Rattle.cip_solve.specs.Stopping.{EndsBy}
-use Rattle.cip_solve.specs.Worst.{worst_bound}
+use Rattle.cip_endings.specs.LeastBounds.{least_of, bound_held, flat}
+use Rattle.cip_endings.specs.Gaps.{reaches_gap}
+use Rattle.cip_endings.specs.Ends.{EndsBy}
+use Rattle.cip_endings.specs.Worst.{worst_bound}
 use Rattle.cip_solve.proofs.FinishLaws.{still_right}
 use Rattle.cip_solve.proofs.finish.still_answer.Goals as goal
 

@@ -1,7 +1,7 @@
 use Rattle.std.proofs.Common.{IfSome, sym, subst}
 use Rattle.cip_problem.specs.Points.{IsLowerBound}
 use Rattle.cip_search_ends.specs.SearchAnswers.{IsSearchAnswer}
-use Rattle.cip_solve.specs.AnswerOf.{answer_of}
+use Rattle.cip_endings.specs.AnswerOf.{answer_of}
 use Rattle.cip_solve.specs.Logs.{entries_of, marked_in}
 use Rattle.cip_solve.specs.Solved.{AreMet}
 use Rattle.cip_solve.proofs.BegunLaws.{start_lower}

@@ -1,7 +1,7 @@
 use Rattle.std.proofs.Common.{◌∙◌, ap, sym}
-use Rattle.cip_solve.specs.Bounds.{least_of, bound_held, flat}
-use Rattle.cip_solve.specs.Gaps.{reaches_gap}
-use Rattle.cip_solve.specs.Worst.{worst_bound}
+use Rattle.cip_endings.specs.LeastBounds.{least_of, bound_held, flat}
+use Rattle.cip_endings.specs.Gaps.{reaches_gap}
+use Rattle.cip_endings.specs.Worst.{worst_bound}
 use Rattle.cip_solve.proofs.TurnLaws.{near_there}
 use Rattle.cip_solve.proofs.turns.Search.has_reached_gap.Goals as goal
 

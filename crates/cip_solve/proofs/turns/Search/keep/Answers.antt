@@ -1,7 +1,7 @@
 use Rattle.std.proofs.Common.{None, refl, sym, subst}
 use Rattle.cip_solve.specs.Searching.{IsKeptAs}
-use Rattle.cip_solve.specs.Worst.{IsWorse}
-use Rattle.cip_solve.specs.declared.worst.Worst.{Worst}
+use Rattle.cip_endings.specs.Worst.{IsWorse}
+use Rattle.cip_endings.specs.declared.worst.Worst.{Worst}
 use Rattle.cip_solve.proofs.turns.Search.keep.Goals as goal
 
 pub returns-in-Parked-clause-kept : goal.returns-in-Parked-clause-kept

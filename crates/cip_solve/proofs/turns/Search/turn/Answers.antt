@@ -1,8 +1,8 @@
 use Rattle.std.proofs.Common.{◌≡◌, ◌∙◌, ◌++◌, None, IfSome, ap, sym, subst, arith, length}
-use Rattle.cip_solve.specs.Bounds.{least_of, bound_held, flat}
+use Rattle.cip_endings.specs.LeastBounds.{least_of, bound_held, flat}
 use Rattle.cip_solve.specs.Logs.{marks_by}
 use Rattle.cip_solve.specs.Searching.{IsTold}
-use Rattle.cip_solve.specs.Worst.{worst_bound}
+use Rattle.cip_endings.specs.Worst.{worst_bound}
 use Rattle.cip_tree.specs.Nodes.{box_of}
 use Rattle.cip_node_bounds.specs.Relaxing.{IsMark}
 use Rattle.cip_node.specs.Cores.{rows_lent}

@@ -14,7 +14,7 @@ use Rattle.cip_tree.specs.declared.queue.OpenNode.{OpenNode}
 use Rattle.cip_tree.specs.Entries.{entry_of}
 use Rattle.cip_tree.specs.Slots.{open_slot, IsParted}
 use Rattle.cip_tree.specs.Nodes.{Nodes, TakenNode, base_at, base_changes, node_changes, box_of}
-use Rattle.cip_tree.specs.Moves.{CanHalve}
+use Rattle.cip_domain.specs.Halves.{CanHalve}
 use Rattle.cip_tree.specs.Inside.{bases, nodes_at, IsInOrder}
 use Rattle.cip_tree.proofs.Paths.{in_work}
 use Rattle.cip_tree.proofs.Halving.{long_box, can_split, low_is_half, high_is_half}

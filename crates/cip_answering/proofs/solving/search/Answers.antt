@@ -1,0 +1,21 @@
+use Rattle.std.proofs.Common.{◌≡◌, ◌++◌, ◌∷◌, [], refl, sym, subst, inl, rules}
+use Rattle.cip_solve.specs.Logs.{entries_of}
+use Rattle.cip_answering.specs.Answering.{Searched, limits_of}
+use Rattle.cip_answering.proofs.Searches.{not_searched}
+use Rattle.cip_answering.proofs.solving.search.Goals as goal
+
+pub returns-then-is_err : goal.returns-then-is_err
+returns-then-is_err c =
+    let same : c.reserve.new.self.items ≡ c.args.logs.now.items = search rules in
+    subst (λ items. Searched c.args.program.now (limits_of c.args.options.now) c.args.logs.now.items items c.unsearched.result) (sym same)
+    (not_searched c.args.program.now (limits_of c.args.options.now) c.args.logs.now.items c.unsearched.result (c.unsearched.ensures c.args.options.now.nodes c.args.options.now.gap))
+
+pub returns : goal.returns
+returns c =
+    let pushed : c.push.new.self.items ≡ c.args.logs.now.items ++ c.solve-answer.new.log ∷ [] = search rules in
+    record {
+      entries = entries_of c.solve-answer.new.log;
+      marks = c.solve-answer.new.log.marks.items;
+      right = c.solve-answer.ensures;
+      logged = inl (record { log = c.solve-answer.new.log; added = pushed; entries_are = refl; marks_are = refl });
+    }

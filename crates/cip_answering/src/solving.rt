@@ -1,0 +1,60 @@
+//! Solving a program and reporting.
+ghost use Rattle.std.specs.Prelude.{◌<◌};
+ghost use Rattle.cip_input.specs.LimitedModels.{IsLimited};
+ghost use Rattle.cip_answers.specs.Figures.{answer_text, exit_status, names_of};
+ghost use Rattle.cip_report.specs.Answers.{figures_of, AnswerFits};
+ghost use Rattle.cip_answering.specs.Answering.{Answers, Searched, limits_of};
+ghost use Rattle.cip_answering.specs.Saying.{Says};
+
+use cip_io::{Failed, Sink};
+use cip_model::Program;
+use cip_report::{Answer, report};
+use cip_solve::{Log, Options, solve, unsearched};
+use std::alloc::Global;
+
+/// Searches a program, and adds the log.
+fn search(alloc: Global, program: &Program, options: &Options, logs: &mut Vec<Log>) -> Answer
+    requires limited { IsLimited program.now }
+    requires some { 0 < options.now.nodes }
+    ensures { Searched program.now (limits_of options.now) logs.old.items logs.new.items result }
+{
+    if logs.reserve(1).is_err() {
+        return unsearched(program);
+    }
+    let mut log = Log::new(alloc);
+    let answer = solve(alloc, program, options, &mut log);
+    let _ = logs.push(log);
+    answer
+}
+
+/// Writes an answer; the status that goes with its end, or 5 where the sink failed.
+fn tell<K: Sink>(program: &Program, answer: &Answer, out: &mut K) -> u8
+    requires { AnswerFits program.now answer.now }
+    ensures { let figures = figures_of program.now answer.now in
+        Says (K.tells out.old) (K.tells out.new)
+        (answer_text (names_of program.now) figures) (exit_status figures.status) result }
+{
+    match report(program, answer, out) {
+        Ok(()) => answer.ended.status(),
+        Err(Failed) => 5,
+    }
+}
+
+/// Solves a program as the options say, and writes the answer with its figures, whatever the end; its status, or
+/// 5 where the sink failed. A search adds one log to `logs`, or none where memory was refused before it had room for
+/// one: then the answer is want of memory, with the bound of the root.
+pub fn solve_and_report<K: Sink>(
+    alloc: Global,
+    program: &Program,
+    options: &Options,
+    out: &mut K,
+    logs: &mut Vec<Log>,
+) -> u8
+    requires limited { IsLimited program.now }
+    requires some { 0 < options.now.nodes }
+    ensures { Answers program.now (limits_of options.now) (K.tells out.old) (K.tells out.new)
+        logs.old.items logs.new.items result }
+{
+    let answer = search(alloc, program, options, logs);
+    tell(program, &answer, out)
+}

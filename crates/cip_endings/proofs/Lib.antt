@@ -1,0 +1,3 @@
+pub mod BoundLaws
+pub mod GapLaws
+pub mod WorstLaws

@@ -1,0 +1,5 @@
+pub mod AnswerOf
+pub mod Ends
+pub mod Gaps
+pub mod LeastBounds
+pub mod Worst

@@ -1,0 +1,13 @@
+//! How a search ends by what is left of it: the least bound, the parked leaf that is to be shown, and the gap that was
+//! asked for.
+#![tactic(auto)]
+
+mod bounds;
+mod ends;
+mod gaps;
+mod worst;
+
+pub use bounds::{bound_held, capped, flat, is_no_more, least_of, lesser};
+pub use ends::ended_at;
+pub use gaps::reaches_gap;
+pub use worst::{Worst, least_left, printed_shown, worse, worst_bound};

@@ -1,0 +1,90 @@
+//! The parts of a row.
+use crate::setup::{Setup, key_and_value};
+use cip_io::MemoryStore;
+use cip_main::Words;
+use std::alloc::{AllocError, Global};
+use std::str::Split;
+
+/// A row: a head, in which lines of all its runs stand in front of those of each, and texts.
+#[derive(Clone, Copy)]
+pub struct Row<'a> {
+    shared: &'a str,
+    runs: &'a str,
+    texts: Option<&'a str>,
+}
+
+impl<'a> Row<'a> {
+    /// The row that a file holds; `None` where no line is `run`, or the last one has no line feed.
+    pub fn read(file: &'a str) -> Option<Self> {
+        let file = file.strip_suffix('\n')?;
+        let (head, texts) = match file.split_once("\ntext ") {
+            Some((head, texts)) => (head, Some(texts)),
+            None => (file, None),
+        };
+        let (shared, runs) = head.split_once("\nrun")?;
+        Some(Row {
+            shared,
+            runs,
+            texts,
+        })
+    }
+
+    /// What each of its lines `run` has behind it, up to the next.
+    pub fn runs(&self) -> Split<'a, &'static str> {
+        self.runs.split("\nrun")
+    }
+
+    /// The setup of a run; `None` where a line is none of a head.
+    pub fn setup(&self, own: &'a str) -> Option<Setup<'a>> {
+        let mut setup = Setup::new();
+        for line in self.shared.split('\n').chain(own.split('\n')) {
+            setup.read(line)?;
+        }
+        Some(setup)
+    }
+
+    /// The words of a run.
+    pub fn words(&self, alloc: Global, own: &str) -> Result<Words, AllocError> {
+        let mut words = Words::new(alloc)?;
+        for line in self.shared.split('\n').chain(own.split('\n')) {
+            let (key, value) = key_and_value(line);
+            if key == "word" {
+                words.add(value)?;
+            }
+        }
+        Ok(words)
+    }
+
+    /// The store of a run, with the texts.
+    pub fn store(&self, alloc: Global, setup: &Setup<'_>) -> Result<MemoryStore, AllocError> {
+        let mut store = MemoryStore::new(alloc, setup.piece);
+        if let Some(call) = setup.fail {
+            store.fail_at(call)?;
+        }
+        let Some(texts) = self.texts else {
+            return Ok(store);
+        };
+        for text in texts.split("\ntext ") {
+            add_text(alloc, &mut store, text, setup.cut)?;
+        }
+        Ok(store)
+    }
+}
+
+/// Adds a text under the name in its first line: the lines behind that, the last one without its line feed where it
+/// is cut.
+fn add_text(
+    alloc: Global,
+    store: &mut MemoryStore,
+    text: &str,
+    cut: Option<&str>,
+) -> Result<(), AllocError> {
+    let Some((name, lines)) = text.split_once('\n') else {
+        return store.add(text, b"");
+    };
+    let mut text = String::from_str(alloc, lines)?;
+    if cut != Some(name) {
+        text.push('\n')?;
+    }
+    store.add(name, text.as_bytes())
+}

@@ -1,0 +1,372 @@
+//! Linear programs worked out by hand.
+use crate::programs::Posed;
+use crate::slow_check::{Program, is_right};
+use cip_frac::Frac;
+use cip_lin::{Row, Sides, Term};
+use cip_simplex::{Lp, LpAnswer, Solver, Start, solve, solve_from, solve_fully, solve_greedily};
+use std::alloc::Global;
+
+/// A row: its coefficients by column, what they are divided by, and its sides.
+type Line = (&'static [i64], i64, Option<i64>, Option<i64>);
+
+/// What is answered.
+#[derive(Clone, Copy)]
+enum Want {
+    /// The point, what its values are divided by, and the cost by numerator and denominator.
+    Optimal(&'static [i64], i64, (i64, i64)),
+    Infeasible,
+    Unbounded,
+}
+
+/// A program: its rows, the sides of its columns, its costs and what they are divided by. Then what is answered, how many
+/// moves by the list that takes at most, and whether the rule of few moves gets there.
+#[derive(Clone, Copy)]
+struct Case {
+    rows: &'static [Line],
+    columns: &'static [(i64, Option<i64>)],
+    costs: &'static [i64],
+    under: i64,
+    want: Want,
+    moves: u32,
+    is_quick: bool,
+}
+
+/// 2a + 3b + c <= 5, 4a + b + 2c <= 11, 3a + 4b + 2c <= 8, each from 0 to 10.
+const THREE_COLUMNS: Case = Case {
+    rows: &[
+        (&[2, 3, 1], 1, None, Some(5)),
+        (&[4, 1, 2], 1, None, Some(11)),
+        (&[3, 4, 2], 1, None, Some(8)),
+    ],
+    columns: &[(0, Some(10)), (0, Some(10)), (0, Some(10))],
+    costs: &[-5, -4, -3],
+    under: 1,
+    want: Want::Optimal(&[2, 0, 1], 1, (-13, 1)),
+    moves: 100,
+    is_quick: true,
+};
+
+const CASES: [Case; 5] = [
+    THREE_COLUMNS,
+    // two units are no three
+    Case {
+        rows: &[(&[1, 1], 1, Some(3), None)],
+        columns: &[(0, Some(1)), (0, Some(1))],
+        costs: &[1, 1],
+        under: 1,
+        want: Want::Infeasible,
+        moves: 100,
+        is_quick: true,
+    },
+    // a cost falls without end
+    Case {
+        rows: &[(&[1, -1], 1, None, Some(2))],
+        columns: &[(0, None), (0, None)],
+        costs: &[-1, 0],
+        under: 1,
+        want: Want::Unbounded,
+        moves: 100,
+        is_quick: true,
+    },
+    // crossed sides have no point
+    Case {
+        rows: &[(&[1], 1, Some(3), Some(2))],
+        columns: &[(0, Some(10))],
+        costs: &[1],
+        under: 1,
+        want: Want::Infeasible,
+        moves: 0,
+        is_quick: true,
+    },
+    // minimise -3/4 x1 + 150 x2 - 1/50 x3 + 6 x4, where 1/4 x1 - 60 x2 - 1/25 x3 + 9 x4 <= 0,
+    // 1/2 x1 - 90 x2 - 1/50 x3 + 3 x4 <= 0 and x3 <= 1, a row: other rules for the entering variable never end here
+    Case {
+        rows: &[
+            (&[25, -6000, -4, 900], 100, None, Some(0)),
+            (&[25, -4500, -1, 150], 50, None, Some(0)),
+            (&[0, 0, 1], 1, None, Some(1)),
+        ],
+        columns: &[(0, None), (0, None), (0, None), (0, None)],
+        costs: &[-75, 15000, -2, 600],
+        under: 100,
+        want: Want::Optimal(&[1, 0, 25, 0], 25, (-1, 20)),
+        moves: 100,
+        is_quick: false,
+    },
+];
+
+fn fraction(over: i64, under: i64) -> Frac {
+    match Frac::new(over as i128, under as i128) {
+        Ok(value) => value,
+        Err(_) => Frac::zero(),
+    }
+}
+
+/// Appends the terms of a row.
+fn put_terms(row: &mut Row, coefficients: &[i64], under: i64) -> bool {
+    let mut col = 0u32;
+    for coefficient in coefficients {
+        let coef = fraction(*coefficient, under);
+        if !coef.is_zero() && row.append(Term { col, coef }).is_err() {
+            return false;
+        }
+        col = col.wrapping_add(1);
+    }
+    true
+}
+
+fn put_rows(alloc: Global, posed: &mut Posed, lines: &[Line]) -> bool {
+    for (coefficients, under, low, high) in lines {
+        let mut row = Row::empty(alloc, low.map(Frac::from), high.map(Frac::from));
+        if !put_terms(&mut row, coefficients, *under) || posed.rows.push(row).is_err() {
+            return false;
+        }
+    }
+    true
+}
+
+fn put_bounds(posed: &mut Posed, columns: &[(i64, Option<i64>)]) -> bool {
+    for (low, high) in columns {
+        let sides = Sides {
+            low: Some(Frac::from(*low)),
+            high: high.map(Frac::from),
+        };
+        if posed.bounds.push(sides).is_err() {
+            return false;
+        }
+    }
+    true
+}
+
+fn put_costs(posed: &mut Posed, costs: &[i64], under: i64) -> bool {
+    for cost in costs {
+        if posed.costs.push(fraction(*cost, under)).is_err() {
+            return false;
+        }
+    }
+    true
+}
+
+/// Puts a case into an empty program.
+fn is_put(alloc: Global, posed: &mut Posed, case: &Case) -> bool {
+    put_rows(alloc, posed, case.rows)
+        && put_bounds(posed, case.columns)
+        && put_costs(posed, case.costs, case.under)
+}
+
+fn is_point(point: &[Frac], values: &[i64], under: i64) -> bool {
+    if point.len() != values.len() {
+        return false;
+    }
+    for at in 0..point.len() {
+        if point[at] != fraction(values[at], under) {
+            return false;
+        }
+    }
+    true
+}
+
+/// An answer is right, and the one that is wanted.
+fn is_as(program: Program<'_>, found: &LpAnswer, want: Want) -> bool {
+    let is_wanted = match (found, want) {
+        (
+            LpAnswer::Optimal {
+                point,
+                combo: _,
+                cost,
+            },
+            Want::Optimal(values, under, least),
+        ) => is_point(point.as_slice(), values, under) && *cost == fraction(least.0, least.1),
+        (LpAnswer::Infeasible { combo: _ }, Want::Infeasible) => true,
+        (LpAnswer::Unbounded { point: _, ray: _ }, Want::Unbounded) => true,
+        _ => false,
+    };
+    is_wanted && is_right(program, found)
+}
+
+/// By the list, in so many moves.
+fn is_solved(alloc: Global, solver: &mut Solver, program: Program<'_>, case: &Case) -> bool {
+    if !Lp::is_solvable(program.rows, program.bounds, program.costs) {
+        return false;
+    }
+    let lp = Lp::new(program.rows, program.bounds, program.costs);
+    match solve(alloc, solver, &lp, case.moves) {
+        Ok(found) => is_as(program, &found, case.want),
+        Err(_) => false,
+    }
+}
+
+/// By the list, without a limit.
+fn is_fully_solved(alloc: Global, solver: &mut Solver, program: Program<'_>, want: Want) -> bool {
+    if !Lp::is_solvable(program.rows, program.bounds, program.costs) {
+        return false;
+    }
+    let lp = Lp::new(program.rows, program.bounds, program.costs);
+    match solve_fully(alloc, solver, &lp) {
+        Ok(found) => is_as(program, &found, want),
+        Err(_) => false,
+    }
+}
+
+/// With few moves, from the first state.
+fn is_quickly_solved(alloc: Global, solver: &mut Solver, program: Program<'_>, want: Want) -> bool {
+    if !Lp::is_solvable(program.rows, program.bounds, program.costs) {
+        return false;
+    }
+    let lp = Lp::new(program.rows, program.bounds, program.costs);
+    let Ok(start) = Start::slack(alloc, &lp) else {
+        return false;
+    };
+    match solve_greedily(alloc, solver, &lp, &start, 100) {
+        Ok((found, _last)) => match found {
+            Some(found) => is_as(program, &found, want),
+            None => false,
+        },
+        Err(_) => false,
+    }
+}
+
+/// In each of these ways.
+fn is_answered(alloc: Global, program: Program<'_>, case: &Case) -> bool {
+    let mut solver = Solver::new(alloc);
+    is_solved(alloc, &mut solver, program, case)
+        && is_fully_solved(alloc, &mut solver, program, case.want)
+        && (!case.is_quick || is_quickly_solved(alloc, &mut solver, program, case.want))
+}
+
+/// The program of a case.
+fn posed(alloc: Global, case: &Case) -> Option<Posed> {
+    match Posed::new(alloc) {
+        Ok(mut posed) => {
+            if is_put(alloc, &mut posed, case) {
+                Some(posed)
+            } else {
+                None
+            }
+        }
+        Err(_) => None,
+    }
+}
+
+fn is_so(alloc: Global, case: &Case) -> bool {
+    match posed(alloc, case) {
+        Some(posed) => is_answered(alloc, posed.program(), case),
+        None => false,
+    }
+}
+
+#[test]
+fn programs_are_answered_in_each_way(rt: HostRuntime) {
+    for at in 0..CASES.len() {
+        assert!(rt; is_so(rt.alloc(), &CASES[at]), "case {at}");
+    }
+}
+
+/// The list answers so after so many moves from a start; then where variables are.
+fn start_behind(
+    alloc: Global,
+    program: Program<'_>,
+    start: &Start,
+    moves: u32,
+    want: Option<Want>,
+) -> Option<Start> {
+    if !Lp::is_solvable(program.rows, program.bounds, program.costs)
+        || start.len() != program.bounds.len() + program.rows.len()
+    {
+        return None;
+    }
+    let lp = Lp::new(program.rows, program.bounds, program.costs);
+    let mut solver = Solver::new(alloc);
+    let Ok((found, last)) = solve_from(alloc, &mut solver, &lp, start, moves) else {
+        return None;
+    };
+    let is_wanted = match want {
+        Some(want) => is_as(program, &found, want),
+        None => matches!(&found, LpAnswer::Limit),
+    };
+    if is_wanted { Some(last) } else { None }
+}
+
+/// Where variables are in the first state.
+fn first_start(alloc: Global, program: Program<'_>) -> Option<Start> {
+    if !Lp::is_solvable(program.rows, program.bounds, program.costs) {
+        return None;
+    }
+    let lp = Lp::new(program.rows, program.bounds, program.costs);
+    Start::slack(alloc, &lp).ok()
+}
+
+/// From the first state no move is made; then the optimum is found, and from there it is found without a move.
+fn is_found_from_starts(alloc: Global, program: Program<'_>, want: Want) -> bool {
+    let Some(first) = first_start(alloc, program) else {
+        return false;
+    };
+    let Some(slack) = start_behind(alloc, program, &first, 0, None) else {
+        return false;
+    };
+    let Some(last) = start_behind(alloc, program, &slack, 100, Some(want)) else {
+        return false;
+    };
+    start_behind(alloc, program, &last, 0, Some(want)).is_some()
+}
+
+/// No move leads to no answer, by either rule; the start then fits six variables, and can be made to fit eight.
+fn is_limited(alloc: Global, program: Program<'_>) -> bool {
+    if !Lp::is_solvable(program.rows, program.bounds, program.costs) {
+        return false;
+    }
+    let lp = Lp::new(program.rows, program.bounds, program.costs);
+    let mut solver = Solver::new(alloc);
+    let is_list_limited = matches!(solve(alloc, &mut solver, &lp, 0), Ok(LpAnswer::Limit));
+    let Ok(first) = Start::slack(alloc, &lp) else {
+        return false;
+    };
+    let Ok((found, start)) = solve_greedily(alloc, &mut solver, &lp, &first, 0) else {
+        return false;
+    };
+    let is_fitted = match start.fitted(alloc, 8) {
+        Ok(fitted) => fitted.len() == 8,
+        Err(_) => false,
+    };
+    is_list_limited && found.is_none() && is_fitted && start.len() == 6
+}
+
+fn has_starts(alloc: Global) -> bool {
+    match posed(alloc, &THREE_COLUMNS) {
+        Some(posed) => is_found_from_starts(alloc, posed.program(), THREE_COLUMNS.want)
+            && is_limited(alloc, posed.program()),
+        None => false,
+    }
+}
+
+#[test]
+fn starts_are_told(rt: HostRuntime) {
+    assert!(rt; has_starts(rt.alloc()));
+}
+
+/// 5,800 rows without a term, all of which are basic.
+fn are_many_put(alloc: Global, posed: &mut Posed) -> bool {
+    for _ in 0..5800 {
+        if posed.rows.push(Row::empty(alloc, None, None)).is_err() {
+            return false;
+        }
+    }
+    true
+}
+
+fn are_many_solved(alloc: Global) -> bool {
+    match Posed::new(alloc) {
+        Ok(mut posed) => {
+            let mut solver = Solver::new(alloc);
+            let nothing = Want::Optimal(&[], 1, (0, 1));
+            are_many_put(alloc, &mut posed)
+                && is_quickly_solved(alloc, &mut solver, posed.program(), nothing)
+        }
+        Err(_) => false,
+    }
+}
+
+#[test]
+fn many_rows_without_columns_are_solved(rt: HostRuntime) {
+    assert!(rt; are_many_solved(rt.alloc()));
+}

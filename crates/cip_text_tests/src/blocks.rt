@@ -1,0 +1,103 @@
+//! Texts of blocks.
+use crate::programs::{APART, JOINED, program_of};
+use cip_blocks::{BlockReader, ReadFault, read_blocks};
+use cip_model::Blocks;
+use std::alloc::Global;
+
+/// What a text comes to for the program of another.
+fn read(alloc: Global, model: &str, text: &str) -> Result<Blocks, ReadFault> {
+    match program_of(alloc, model) {
+        None => Err(ReadFault::NoMemory),
+        Some(program) => read_blocks(alloc, text.as_bytes(), &program),
+    }
+}
+
+/// The same in pieces of one size.
+fn read_pieces(alloc: Global, model: &str, text: &str, size: usize) -> Result<Blocks, ReadFault> {
+    let Some(program) = program_of(alloc, model) else {
+        return Err(ReadFault::NoMemory);
+    };
+    let mut reader = BlockReader::new(alloc, &program);
+    let mut rest = text.as_bytes();
+    for _ in 0..text.len() {
+        let count = if rest.len() < size { rest.len() } else { size };
+        reader.feed(&rest[..count])?;
+        rest = &rest[count..];
+    }
+    reader.finish()
+}
+
+/// What a text says.
+#[derive(Clone, Copy)]
+enum Told {
+    /// The block of this number, from 0, has so many rows and columns.
+    Block(usize, usize, usize),
+    /// So many rows are master rows, and so many columns are of no block.
+    Rest(usize, usize),
+    /// A fault: its line and its kind.
+    Fault(usize, u32),
+}
+
+fn says(blocks: &Blocks, want: Told) -> bool {
+    match want {
+        Told::Block(block, rows, columns) => {
+            block < blocks.count()
+                && blocks.rows(block).len() == rows
+                && blocks.columns(block).len() == columns
+        }
+        Told::Rest(rows, columns) => {
+            blocks.master_rows().len() == rows && blocks.free_columns().len() == columns
+        }
+        Told::Fault(_, _) => false,
+    }
+}
+
+fn is_as(read: &Result<Blocks, ReadFault>, want: Told) -> bool {
+    match (read, want) {
+        (Err(ReadFault::Faulty(fault)), Told::Fault(line, kind)) => {
+            fault.line == line && fault.kind.number() == kind
+        }
+        (Err(_), _) => false,
+        (Ok(blocks), _) => says(blocks, want),
+    }
+}
+
+/// Rows on columns of their own.
+const TWO: &str = "\\ three\nNBLOCKS 02\nBLOCK 1\nR1\nBLOCK 2 R2\n";
+
+/// A text of a program, one of blocks, and what that says.
+const CASES: [(&str, &str, Told); 10] = [
+    (APART, TWO, Told::Block(0, 1, 1)),
+    (APART, TWO, Told::Block(1, 1, 2)),
+    (APART, TWO, Told::Rest(1, 1)),
+    // a column with entries in two blocks
+    (
+        JOINED,
+        "NBLOCKS 2\nBLOCK 1\nR1\nBLOCK 2\nR2\n",
+        Told::Fault(6, 6),
+    ),
+    (APART, "R1\n", Told::Fault(1, 1)),
+    (APART, "NBLOCKS 4097\n", Told::Fault(1, 2)),
+    (APART, "NBLOCKS 1\nBLOCK 2\n", Told::Fault(2, 3)),
+    (APART, "NBLOCKS 1\nBLOCK 1\nCOST\n", Told::Fault(3, 4)),
+    (APART, "NBLOCKS 1\nBLOCK 1\nR1\nR1\n", Told::Fault(4, 5)),
+    (APART, "NBLOCKS 2\nBLOCK 1\nR1\n", Told::Fault(4, 8)),
+];
+
+#[test]
+fn blocks_are_read(rt: HostRuntime) {
+    for at in 0..CASES.len() {
+        let (model, text, want) = CASES[at];
+        assert!(rt; is_as(&read(rt.alloc(), model, text), want), "case {at}");
+    }
+}
+
+const PIECES: &str = "NBLOCKS 1\nBLOCK 1\nR2\nR3\n";
+
+#[test]
+fn pieces(rt: HostRuntime) {
+    for size in [1, 2, 3, 7] {
+        let read = read_pieces(rt.alloc(), APART, PIECES, size);
+        assert!(rt; is_as(&read, Told::Block(0, 2, 3)), "pieces of {size}");
+    }
+}

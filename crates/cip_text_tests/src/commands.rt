@@ -1,0 +1,69 @@
+//! Words that are read.
+use cip_words::{Job, Words, WordsFault};
+use std::alloc::Global;
+
+/// Words, and how many nodes they ask for at most, over the text `M`; 0 where they are refused.
+const CASES: [(&[&str], u64); 24] = [
+    (&["solve", "M"], 1_000_000),
+    (&["solve", "M", "--nodes", "5"], 5),
+    (&["solve", "--nodes=7", "--plain", "M"], 7),
+    (
+        &["solve", "M", "--nodes", "1099511627776"],
+        1_099_511_627_776,
+    ),
+    (&["solve", "M", "--nodes", "1099511627777"], 0),
+    (&["solve", "M", "--nodes", "0"], 0),
+    (&["solve", "M", "--nodes", "1", "--nodes", "1"], 0),
+    (&["solve", "M", "--off", "nosuch"], 0),
+    (&["solve"], 0),
+    (&[], 0),
+    (&["--help"], 0),
+    (&["--version"], 0),
+    (&["solve", "M", "--plain"], 1_000_000),
+    (&["solve", "M", "--nodes=5"], 5),
+    (&["solve", "-h"], 0),
+    (&["check"], 0),
+    (&["help"], 0),
+    (&["solve", "M", "--version"], 0),
+    (&["solve", "M", "M"], 0),
+    (&["solve", "M", "--gap", "1/2"], 1_000_000),
+    (&["solve", "--gap=0", "M", "--nodes", "5"], 5),
+    (&["solve", "M", "--gap", "x"], 0),
+    (&["solve", "M", "--gap", "-1"], 0),
+    (&["solve", "M", "--gap=-1"], 0),
+];
+
+/// Whether these words ask for so many nodes at most, over the text `M`; 0 where they are refused.
+fn asks(words: &Words, nodes: u64) -> bool {
+    match words.job() {
+        Ok(
+            Job::Solve {
+                model,
+                blocks: _,
+                nodes: told,
+                gap: _,
+            },
+        ) => model == "M" && told == nodes,
+        Ok(Job::Check { .. }) => false,
+        Err(fault) => nodes == 0 && fault == WordsFault::Refused,
+    }
+}
+
+fn are_read(alloc: Global, list: &[&str], nodes: u64) -> bool {
+    let Ok(mut words) = Words::new(alloc) else {
+        return false;
+    };
+    for word in list {
+        if words.add(word).is_err() {
+            return false;
+        }
+    }
+    asks(&words, nodes)
+}
+
+#[test]
+fn words_are_read(rt: HostRuntime) {
+    for at in 0..CASES.len() {
+        assert!(rt; are_read(rt.alloc(), CASES[at].0, CASES[at].1), "case {at}");
+    }
+}

@@ -1,0 +1,120 @@
+//! Stores and sinks: that calls succeed, and what the system answers.
+use cip_io::{
+    Failed, HostSink, HostStore, MemorySink, MemoryStore, Sink, SoundStore, Store, push_all,
+};
+use std::alloc::{AllocError, Global};
+use std::test::Fail;
+use std::{fs, process};
+
+pub(crate) const TEXT: &[u8] = b"0123456789";
+
+/// Whether the calls of a store answer these sizes of pieces, 99 for an `Err`, and the pieces are the whole text.
+pub(crate) fn gives<S: Store>(store: &mut S, sizes: &[usize], text: &[u8]) -> bool {
+    let mut at = 0usize;
+    let mut buffer = [0; 6];
+    for size in sizes {
+        match store.pull(&mut buffer) {
+            Ok(count) => {
+                let end = at.saturating_add(count);
+                if count != *size || text.get(at..end) != Some(&buffer[..count]) {
+                    return false;
+                }
+                at = end;
+            }
+            Err(Failed) if *size == 99 => {}
+            Err(Failed) => return false,
+        }
+    }
+    at == text.len()
+}
+
+/// A store with an older and a newer text under one name, of which the third call fails.
+fn store_of(alloc: Global, greatest_piece: usize) -> Result<MemoryStore, AllocError> {
+    let mut store = MemoryStore::new(alloc, greatest_piece.max(1));
+    store.add("model", b"older")?;
+    store.add("model", TEXT)?;
+    store.fail_at(3)?;
+    Ok(store)
+}
+
+/// The greatest piece of a store, and the sizes that its calls answer.
+const PIECES: [(usize, &[usize]); 3] = [
+    (1, &[1, 99, 1, 1, 1, 1, 1, 1, 1, 1, 1, 0]),
+    (4, &[4, 99, 4, 2, 0]),
+    (8, &[6, 99, 4, 0]),
+];
+
+fn comes_in_pieces(alloc: Global, greatest_piece: usize, sizes: &[usize]) -> bool {
+    match store_of(alloc, greatest_piece) {
+        Ok(mut store) => store.choose("model").is_ok()
+            && gives(&mut store, sizes, TEXT)
+            && store.choose("absent").is_err(),
+        Err(_) => false,
+    }
+}
+
+#[test]
+fn a_text_comes_in_pieces(rt: HostRuntime) {
+    for at in 0..PIECES.len() {
+        let (greatest_piece, sizes) = PIECES[at];
+        assert!(rt;
+            comes_in_pieces(rt.alloc(), greatest_piece, sizes),
+            "case {at}"
+        );
+    }
+}
+
+fn is_sound(alloc: Global) -> bool {
+    let mut store = SoundStore::new(alloc, 4);
+    store.add("model", TEXT).is_ok()
+        && store.choose("model").is_ok()
+        && gives(&mut store, &[4, 4, 2, 0], TEXT)
+        && store.choose("absent").is_ok()
+        && gives(&mut store, &[0], b"")
+}
+
+#[test]
+fn a_sound_store_gives_its_texts(rt: HostRuntime) {
+    assert!(rt; is_sound(rt.alloc()));
+}
+
+fn has_room_for_ten(alloc: Global) -> bool {
+    let Ok(mut sink) = MemorySink::new(alloc, 10) else {
+        return false;
+    };
+    push_all(&mut sink, b"0123").is_ok()
+        && sink.push(b"456") == Ok(3)
+        && push_all(&mut sink, b"789ab").is_err()
+        && sink.taken() == TEXT
+        && sink.push(b"c").is_err()
+        && push_all(&mut sink, b"").is_ok()
+}
+
+#[test]
+fn a_sink_has_room_for_ten(rt: HostRuntime) {
+    assert!(rt; has_room_for_ten(rt.alloc()));
+}
+
+/// Writes the text into a file, reads it, and removes the file.
+fn is_file_read(rt: &HostRuntime, path: &str) -> bool {
+    let is_written = fs::write(rt, path, TEXT).is_ok();
+    let mut store = HostStore::new(rt);
+    let is_read = store.choose(path).is_ok()
+        && store.choose("/tmp/cip_text_absent").is_err()
+        && store.choose("/tmp").is_err()
+        && gives(&mut store, &[6, 4, 0], TEXT);
+    let is_removed = fs::remove_file(rt, path).is_ok();
+    is_written && is_read && is_removed
+}
+
+#[test]
+fn a_file_is_read(rt: HostRuntime) -> Result<(), Fail> {
+    let path = format!(in rt.alloc(); "/tmp/cip_text_{}", process::id(rt.process()))?;
+    assert!(rt; is_file_read(&rt, path.as_str()));
+    Ok(())
+}
+
+#[test]
+fn the_output_takes_a_piece(rt: HostRuntime) {
+    assert!(rt; push_all(&mut HostSink::new(&rt), b"a piece\n").is_ok());
+}

@@ -1,0 +1,69 @@
+//! Programs from stores in memory.
+use cip_input::{Unread, read_program};
+use cip_io::MemoryStore;
+use cip_model::Program;
+use std::alloc::{AllocError, Global};
+
+/// One row and one whole column.
+const SMALL: &str = "ROWS\n N COST\n L R1\nCOLUMNS\n M 'MARKER' 'INTORG'\n x COST 1 R1 2\nENDATA\n";
+
+/// Line 3 has a type of row that is none.
+const FAULTY: &str =
+    "ROWS\n N COST\n X R1\nCOLUMNS\n M 'MARKER' 'INTORG'\n x COST 1 R1 2\nENDATA\n";
+
+/// What is read of a text.
+#[derive(Clone, Copy)]
+enum Told {
+    /// A program of so many columns and rows.
+    Size(usize, usize),
+    /// A fault: its line and its kind.
+    Fault(usize, u32),
+    /// The store failed.
+    Failed,
+}
+
+/// A text, which call of its store fails, where one does, and what is read.
+const CASES: [(&str, u64, Told); 4] = [
+    (SMALL, 0, Told::Size(1, 1)),
+    (FAULTY, 0, Told::Fault(3, 13)),
+    (SMALL, 1, Told::Failed),
+    // a call behind the fault
+    (FAULTY, 12, Told::Failed),
+];
+
+/// A store with this text under `model`, in pieces of five bytes, of which one call fails.
+fn store_of(alloc: Global, text: &str, failing: u64) -> Result<MemoryStore, AllocError> {
+    let mut store = MemoryStore::new(alloc, 5);
+    store.add("model", text.as_bytes())?;
+    store.fail_at(failing)?;
+    Ok(store)
+}
+
+/// What is read of the text of a store of which one call fails.
+fn read(alloc: Global, text: &str, failing: u64) -> Result<Program, Unread> {
+    match store_of(alloc, text, failing) {
+        Ok(mut store) => read_program(alloc, &mut store, "model"),
+        Err(_) => Err(Unread::NoMemory),
+    }
+}
+
+fn is_as(read: &Result<Program, Unread>, want: Told) -> bool {
+    match (read, want) {
+        (Ok(program), Told::Size(columns, rows)) => {
+            program.columns() == columns && program.rows().len() == rows
+        }
+        (Err(Unread::Faulty(fault)), Told::Fault(line, kind)) => {
+            fault.line == line && fault.kind.number() == kind
+        }
+        (Err(Unread::StoreFailed), Told::Failed) => true,
+        _ => false,
+    }
+}
+
+#[test]
+fn programs_are_pulled(rt: HostRuntime) {
+    for at in 0..CASES.len() {
+        let (text, failing, want) = CASES[at];
+        assert!(rt; is_as(&read(rt.alloc(), text, failing), want), "case {at}");
+    }
+}

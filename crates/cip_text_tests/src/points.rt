@@ -1,0 +1,88 @@
+//! Texts of points.
+use crate::programs::{JOINED, program_of};
+use cip_frac::Frac;
+use cip_point::{PointReader, ReadFault, read_point};
+use std::alloc::Global;
+
+/// What a text comes to.
+fn read(alloc: Global, text: &str) -> Result<Vec<Frac>, ReadFault> {
+    match program_of(alloc, JOINED) {
+        None => Err(ReadFault::NoMemory),
+        Some(program) => read_point(alloc, text.as_bytes(), &program),
+    }
+}
+
+/// The same in pieces of one size.
+fn read_pieces(alloc: Global, text: &str, size: usize) -> Result<Vec<Frac>, ReadFault> {
+    let Some(program) = program_of(alloc, JOINED) else {
+        return Err(ReadFault::NoMemory);
+    };
+    let mut reader = PointReader::new(alloc, &program);
+    let mut rest = text.as_bytes();
+    for _ in 0..text.len() {
+        let count = if rest.len() < size { rest.len() } else { size };
+        reader.feed(&rest[..count])?;
+        rest = &rest[count..];
+    }
+    reader.finish()
+}
+
+/// What a text says.
+#[derive(Clone, Copy)]
+enum Told {
+    /// The values, by numerator and denominator.
+    Values([(i128, i128); 3]),
+    /// A fault: its line and its kind.
+    Fault(usize, u32),
+}
+
+fn has(point: &[Frac], values: [(i128, i128); 3]) -> bool {
+    point.len() == 3
+        && (0..3).all(|at| {
+            point[at].numerator() == values[at].0 && point[at].denominator() == values[at].1
+        })
+}
+
+fn is_as(read: &Result<Vec<Frac>, ReadFault>, want: Told) -> bool {
+    match (read, want) {
+        (Ok(point), Told::Values(values)) => has(point.as_slice(), values),
+        (Err(ReadFault::Faulty(fault)), Told::Fault(line, kind)) => {
+            fault.line == line && fault.kind.number() == kind
+        }
+        _ => false,
+    }
+}
+
+/// A text, and what it says.
+const CASES: [(&str, Told); 7] = [
+    (
+        "* a point\nc 1\n\n a\t2\r\nb 0",
+        Told::Values([(2, 1), (0, 1), (1, 1)]),
+    ),
+    (
+        "a 1/2\nb -3/6\nc 1.50\n",
+        Told::Values([(1, 2), (-1, 2), (3, 2)]),
+    ),
+    ("a 1\nb\n", Told::Fault(2, 1)),
+    ("a 1\nd x\n", Told::Fault(2, 2)),
+    ("a 1\na x\n", Told::Fault(2, 3)),
+    ("a 1/0\n", Told::Fault(1, 4)),
+    ("a 1\nb 2", Told::Fault(3, 5)),
+];
+
+#[test]
+fn points_are_read(rt: HostRuntime) {
+    for at in 0..CASES.len() {
+        let (text, want) = CASES[at];
+        assert!(rt; is_as(&read(rt.alloc(), text), want), "case {at}");
+    }
+}
+
+#[test]
+fn pieces(rt: HostRuntime) {
+    let values = [(1, 2), (0, 1), (1, 1)];
+    for size in [1, 2, 3, 7] {
+        let read = read_pieces(rt.alloc(), "a 1/2\nb 0\nc 1\n", size);
+        assert!(rt; is_as(&read, Told::Values(values)), "pieces of {size}");
+    }
+}

@@ -1,0 +1,260 @@
+//! Nodes: their boxes, their order and their log.
+ghost use Rattle.std.specs.Prelude.{◌≡◌, [], ◌∷◌, true, false, length};
+ghost use Rattle.cip_tree.specs.Nodes.{IsTaken};
+
+use crate::boxes::between;
+use crate::splits::{is_node, split, two_columns};
+use cip_domain::Change;
+use cip_frac::Frac;
+use cip_lin::Side;
+use cip_tree::{End, Logged, Node, SplitFault, Tree};
+use std::test::Fail;
+
+/// The root is split at 1, and each half has its sides.
+fn halves_end_and_begin(tree: &mut Tree) -> bool
+    requires flags { tree.old.integral ≡ true ∷ false ∷ [] }
+    requires columns { length tree.old.root.box ≡ 2 }
+{
+    if !is_halved(tree, None) {
+        return false;
+    }
+    let (Some(low), Some(high)) = (tree.next(), tree.next()) else {
+        return false;
+    };
+    is_node(tree, &low, 1, between(0, 1))
+        && tree.sides(&low, 1) == between(0, 3)
+        && is_node(tree, &high, 2, between(2, 3))
+        && tree.next().is_none()
+}
+
+#[test]
+fn halves_end_and_begin_at_the_split(rt: HostRuntime) -> Result<(), Fail> {
+    let mut tree = two_columns(rt.alloc())?;
+    assert!(rt; halves_end_and_begin(&mut tree));
+    Ok(())
+}
+
+/// A column and a number at which the root is split, and why it isn't.
+const ROOT_SPLITS: [(u32, i128, Option<SplitFault>); 5] = [
+    (0, 0, None),
+    (0, 2, None),
+    (0, 3, Some(SplitFault::Outside)),
+    (0, -1, Some(SplitFault::Outside)),
+    (1, 1, Some(SplitFault::NotWhole)),
+];
+
+/// What the split of the root comes to.
+fn root_split(tree: &mut Tree, col: u32, at: i128, want: Option<SplitFault>) -> bool
+    requires flags { tree.old.integral ≡ true ∷ false ∷ [] }
+    requires columns { length tree.old.root.box ≡ 2 }
+{
+    let Some(root) = tree.next() else {
+        return false;
+    };
+    if col >= 2 {
+        return false;
+    }
+    match (split(tree, &root, 1, col, at), want) {
+        (Some(Ok(halves)), None) => halves == (1, 2),
+        (Some(Err(fault)), Some(wanted)) => fault == wanted,
+        _ => false,
+    }
+}
+
+#[test]
+fn splits_of_other_columns_and_at_the_ends_are_refused(rt: HostRuntime) -> Result<(), Fail> {
+    for at in 0..ROOT_SPLITS.len() {
+        let (col, place, want) = ROOT_SPLITS[at];
+        let mut tree = two_columns(rt.alloc())?;
+        assert!(rt; root_split(&mut tree, col, place, want), "case {at}");
+    }
+    Ok(())
+}
+
+/// The next node is the root, at most 2.
+fn gives_back_the_root(tree: &mut Tree) -> bool
+    requires columns { length tree.old.root.box ≡ 2 }
+{
+    match tree.next() {
+        Some(again) => is_node(tree, &again, 0, between(0, 2)),
+        None => false,
+    }
+}
+
+/// The root is noted to be at most 2 and then at most 3, and put back: it stays at most 2.
+fn keeps_the_stronger(tree: &mut Tree) -> bool
+    requires columns { length tree.old.root.box ≡ 2 }
+{
+    let Some(mut root) = tree.next() else {
+        return false;
+    };
+    let is_noted = root.note(0, Side::High, Frac::from(2)).is_ok();
+    let is_strong = is_node(tree, &root, 0, between(0, 2));
+    let is_noted_again = root.note(0, Side::High, Frac::from(3)).is_ok();
+    let stays = is_node(tree, &root, 0, between(0, 2));
+    tree.put_back(root);
+    is_noted
+        && is_strong
+        && is_noted_again
+        && stays
+        && tree.open_count() == 1
+        && tree.log().is_empty()
+        && gives_back_the_root(tree)
+}
+
+#[test]
+fn the_stronger_change_counts(rt: HostRuntime) -> Result<(), Fail> {
+    let mut tree = two_columns(rt.alloc())?;
+    assert!(rt; keeps_the_stronger(&mut tree));
+    Ok(())
+}
+
+/// A change of the first column.
+fn change(side: Side, value: i64) -> Option<Change> {
+    Some(Change {
+        col: 0,
+        side,
+        value: Frac::from(value),
+    })
+}
+
+/// The changes of node 3, which is at least 2 and at most 2.
+fn has_two_changes(tree: &Tree, node: &Node) -> bool
+    requires taken { IsTaken tree.now node.now }
+    requires columns { length tree.now.root.box ≡ 2 }
+{
+    let mut changes = tree.changes(node);
+    changes.next() == change(Side::High, 2)
+        && changes.next() == change(Side::Low, 2)
+        && changes.next().is_none()
+        && is_node(tree, node, 3, between(2, 2))
+}
+
+/// The root is split at 1, its high half at 2, and the low half of that is taken.
+fn is_split_twice(tree: &mut Tree) -> bool
+    requires flags { tree.old.integral ≡ true ∷ false ∷ [] }
+    requires columns { length tree.old.root.box ≡ 2 }
+{
+    if !is_halved(tree, None) {
+        return false;
+    }
+    let (Some(_), Some(high)) = (tree.next(), tree.next()) else {
+        return false;
+    };
+    if split(tree, &high, 2, 0, 2) != Some(Ok((3, 4))) {
+        return false;
+    }
+    match tree.next() {
+        Some(node) => has_two_changes(tree, &node),
+        None => false,
+    }
+}
+
+#[test]
+fn changes_go_from_the_node_up(rt: HostRuntime) -> Result<(), Fail> {
+    let mut tree = two_columns(rt.alloc())?;
+    assert!(rt; is_split_twice(&mut tree));
+    Ok(())
+}
+
+/// Splits the root, of this bound, at 1 into nodes 1 and 2.
+fn is_halved(tree: &mut Tree, bound: Option<Frac>) -> bool
+    requires flags { tree.old.integral ≡ true ∷ false ∷ [] }
+    requires columns { length tree.old.root.box ≡ 2 }
+    ensures root { tree.new.root ≡ tree.old.root }
+    ensures integral { tree.new.integral ≡ tree.old.integral }
+{
+    let Some(mut root) = tree.next() else {
+        return false;
+    };
+    if let Some(bound) = bound {
+        root.raise(bound);
+    }
+    split(tree, &root, 1, 0, 1) == Some(Ok((1, 2)))
+}
+
+/// The least bound of the open nodes is this number.
+fn has_bound(tree: &Tree, bound: i64) -> bool {
+    tree.bound() == Some(Some(Frac::from(bound)))
+}
+
+/// Node 1 is raised to 4 and put back; then node 2 comes first, and is parked; then node 1.
+fn takes_the_least_first(tree: &mut Tree) -> bool {
+    let Some(mut low) = tree.next() else {
+        return false;
+    };
+    let is_low = low.id() == 1;
+    low.raise(Frac::from(4));
+    tree.put_back(low);
+    let Some(high) = tree.next() else {
+        return false;
+    };
+    let is_high = high.id() == 2 && has_bound(tree, 4);
+    tree.park(high);
+    let stays = has_bound(tree, 4);
+    match tree.next() {
+        Some(last) => is_low && is_high && stays && last.id() == 1 && tree.bound().is_none(),
+        None => false,
+    }
+}
+
+#[test]
+fn the_least_bound_comes_first(rt: HostRuntime) -> Result<(), Fail> {
+    let mut tree = two_columns(rt.alloc())?;
+    assert!(rt; is_halved(&mut tree, Some(Frac::from(3))));
+    assert!(rt; has_bound(&tree, 3));
+    assert!(rt; takes_the_least_first(&mut tree));
+    Ok(())
+}
+
+/// The end of a node of bound 3.
+fn ended(id: u64, end: End) -> Logged {
+    Logged {
+        id,
+        bound: Some(Frac::from(3)),
+        end,
+    }
+}
+
+/// Parks the first node, and closes the second; no other is open.
+fn are_ended(tree: &mut Tree) -> bool {
+    let Some(low) = tree.next() else {
+        return false;
+    };
+    tree.park(low);
+    let Some(high) = tree.next() else {
+        return false;
+    };
+    tree.close(high);
+    tree.next().is_none()
+}
+
+#[test]
+fn ends_are_logged_in_their_order(rt: HostRuntime) -> Result<(), Fail> {
+    let mut tree = two_columns(rt.alloc())?;
+    assert!(rt; is_halved(&mut tree, Some(Frac::from(3))) && are_ended(&mut tree));
+    let split = End::Split {
+        col: 0,
+        at: 1,
+        low: 1,
+        high: 2,
+    };
+    let log = [
+        ended(0, split),
+        ended(1, End::Parked),
+        ended(2, End::Closed),
+    ];
+    assert!(rt; tree.take_log().as_slice() == log.as_slice());
+    Ok(())
+}
+
+#[test]
+fn nodes_are_closed_from_a_cost(rt: HostRuntime) -> Result<(), Fail> {
+    let mut tree = two_columns(rt.alloc())?;
+    assert!(rt; is_halved(&mut tree, Some(Frac::from(3))));
+    tree.close_from(Frac::from(4));
+    assert!(rt; tree.open_count() == 2);
+    tree.close_from(Frac::from(3));
+    assert!(rt; tree.open_count() == 0 && tree.log().len() == 1);
+    Ok(())
+}
