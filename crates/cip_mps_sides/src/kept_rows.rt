@@ -57,8 +57,8 @@ fn ranged(low: bool, right_side: Frac, size: Frac) -> Sides
     }
 }
 
-/// The sides of a row that isn't of type N, by its type, its right-hand side and its value in RANGES, if it has one, where
-/// the side that this moves can be formed.
+/// The sides of a row that isn't of type N, by its type, its right-hand side and its value in RANGES, if it has one,
+/// where the side that this moves can be formed.
 pub fn row_sides(kind: RowKind, right_side: Frac, range: Option<Frac>) -> Sides
     requires kept { is_free (row_kind_in kind) ≡ false }
     requires fits { moved_overflows (row_kind_in kind) right_side range ≡ false }

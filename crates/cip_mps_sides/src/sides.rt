@@ -45,8 +45,8 @@ fn side_overflows(low: bool, right_side: Frac, size: Frac) -> bool
     }
 }
 
-/// Whether the side that a value of RANGES moves can't be formed; `false` where there is no value, or the row is of type
-/// N.
+/// Whether the side that a value of RANGES moves can't be formed; `false` where there is no value, or the row is of
+/// type N.
 pub fn is_wide(kind: RowKind, right_side: Frac, range: Option<Frac>) -> bool
     ensures { result ≡ moved_overflows (row_kind_in kind) right_side range }
 {

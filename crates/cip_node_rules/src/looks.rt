@@ -17,8 +17,8 @@ pub enum Looked {
     Open,
 }
 
-/// What the look of a box comes to, by its whole columns: empty where one has no whole value, a leaf where each has one,
-/// and else open.
+/// What the look of a box comes to, by its whole columns: empty where one has no whole value, a leaf where each has
+/// one, and else open.
 pub fn look_at(whole: &[bool], bounds: &Bounds) -> Looked
     requires columns { length whole.now ≤ most_columns }
     requires long { length whole.now ≡ length bounds.now }
