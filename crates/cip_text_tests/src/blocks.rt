@@ -1,7 +1,7 @@
 //! Texts of blocks.
 use crate::programs::{APART, JOINED, program_of};
 use cip_blocks::{BlockReader, ReadFault, read_blocks};
-use cip_model::Blocks;
+use cip_model::{Blocks, Program};
 use std::alloc::Global;
 
 /// What a text comes to for the program of another.
@@ -12,19 +12,37 @@ fn read(alloc: Global, model: &str, text: &str) -> Result<Blocks, ReadFault> {
     }
 }
 
-/// The same in pieces of one size.
-fn read_pieces(alloc: Global, model: &str, text: &str, size: usize) -> Result<Blocks, ReadFault> {
-    let Some(program) = program_of(alloc, model) else {
-        return Err(ReadFault::NoMemory);
-    };
-    let mut reader = BlockReader::new(alloc, &program);
-    let mut rest = text.as_bytes();
+/// Feeds a text in pieces of one size.
+fn feed(reader: &mut BlockReader<'_>, text: &[u8], size: usize) -> Result<(), ReadFault> {
+    let mut rest = text;
     for _ in 0..text.len() {
         let count = if rest.len() < size { rest.len() } else { size };
         reader.feed(&rest[..count])?;
         rest = &rest[count..];
     }
-    reader.finish()
+    Ok(())
+}
+
+/// What a text in such pieces comes to for a program.
+fn read_fed(
+    alloc: Global,
+    program: &Program,
+    text: &str,
+    size: usize,
+) -> Result<Blocks, ReadFault> {
+    let mut reader = BlockReader::new(alloc, program);
+    match feed(&mut reader, text.as_bytes(), size) {
+        Ok(()) => reader.finish(),
+        Err(fault) => Err(fault),
+    }
+}
+
+/// The same for the program of another text.
+fn read_pieces(alloc: Global, model: &str, text: &str, size: usize) -> Result<Blocks, ReadFault> {
+    match program_of(alloc, model) {
+        None => Err(ReadFault::NoMemory),
+        Some(program) => read_fed(alloc, &program, text, size),
+    }
 }
 
 /// What a text says.
@@ -84,11 +102,15 @@ const CASES: [(&str, &str, Told); 10] = [
     (APART, "NBLOCKS 2\nBLOCK 1\nR1\n", Told::Fault(4, 8)),
 ];
 
+/// What is read of a case.
+fn is_read(alloc: Global, (model, text, want): (&str, &str, Told)) -> bool {
+    is_as(&read(alloc, model, text), want)
+}
+
 #[test]
 fn blocks_are_read(rt: HostRuntime) {
     for at in 0..CASES.len() {
-        let (model, text, want) = CASES[at];
-        assert!(rt; is_as(&read(rt.alloc(), model, text), want), "case {at}");
+        assert!(rt; is_read(rt.alloc(), CASES[at]), "case {at}");
     }
 }
 

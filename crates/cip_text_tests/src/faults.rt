@@ -1,6 +1,6 @@
 //! The first fault of a text of free MPS.
 use crate::programs::{code, fault_at_end};
-use cip_mps::MpsReader;
+use cip_mps::{MpsReader, ReadFault};
 use std::alloc::Global;
 
 /// Lines 1 to 4.
@@ -19,15 +19,18 @@ const LONG: &str = " L \
     AAAAAAAAAAAAAAAAAAAAAAAAAAAAAAAAAAAAAAAAAAAAAAAAAAAAAAAAAAAAAAAA\
     AAAAAAAAAAAAAAAAAAAAAAAAAAAAAAAAAAAAAAAAAAAAAAAAAAAAAAAAAAAAAAAA\n";
 
+/// Feeds the parts of a start, and then a text.
+fn feed(reader: &mut MpsReader, start: &[&str], text: &str) -> Result<(), ReadFault> {
+    for part in start {
+        reader.feed(part.as_bytes())?;
+    }
+    reader.feed(text.as_bytes())
+}
+
 /// The fault of a text behind this start.
 fn fault_of(alloc: Global, start: &[&str], text: &str) -> Option<(usize, u32)> {
     let mut reader = MpsReader::new(alloc);
-    for part in start {
-        if let Err(fault) = reader.feed(part.as_bytes()) {
-            return code(fault);
-        }
-    }
-    match reader.feed(text.as_bytes()) {
+    match feed(&mut reader, start, text) {
         Ok(()) => fault_at_end(reader),
         Err(fault) => code(fault),
     }

@@ -1,18 +1,21 @@
 //! Texts of free MPS up to the limits and one past them.
 use crate::programs::{code, fault_at_end};
-use cip_mps::MpsReader;
+use cip_mps::{MpsReader, ReadFault};
 use std::alloc::Global;
 
-/// The fault of a text of so many pieces of 4,096 blanks, and of these bytes behind them.
-fn fault_of_blanks(alloc: Global, pieces: u32, behind: &[u8]) -> Option<(usize, u32)> {
-    let mut reader = MpsReader::new(alloc);
+/// Feeds so many pieces of 4,096 blanks, and these bytes behind them.
+fn feed_blanks(reader: &mut MpsReader, pieces: u32, behind: &[u8]) -> Result<(), ReadFault> {
     let piece = [b' '; 4_096];
     for _ in 0..pieces {
-        if let Err(fault) = reader.feed(&piece) {
-            return code(fault);
-        }
+        reader.feed(&piece)?;
     }
-    match reader.feed(behind) {
+    reader.feed(behind)
+}
+
+/// The fault of such a text.
+fn fault_of_blanks(alloc: Global, pieces: u32, behind: &[u8]) -> Option<(usize, u32)> {
+    let mut reader = MpsReader::new(alloc);
+    match feed_blanks(&mut reader, pieces, behind) {
         Ok(()) => fault_at_end(reader),
         Err(fault) => code(fault),
     }
@@ -37,7 +40,29 @@ fn digits(number: u32) -> [u8; 5] {
     ]
 }
 
-/// The fault of a text that begins so, and has so many lines of these words with a number of five digits between them.
+/// Feeds so many lines of these words with a number of five digits between them.
+fn feed_lines(reader: &mut MpsReader, count: u32, words: (&str, &str)) -> Result<(), ReadFault> {
+    for number in 0..count {
+        let name = digits(number);
+        reader.feed(words.0.as_bytes())?;
+        reader.feed(name.as_slice())?;
+        reader.feed(words.1.as_bytes())?;
+    }
+    Ok(())
+}
+
+/// Feeds a text that begins so, and goes on with such lines.
+fn feed(
+    reader: &mut MpsReader,
+    start: &str,
+    count: u32,
+    words: (&str, &str),
+) -> Result<(), ReadFault> {
+    reader.feed(start.as_bytes())?;
+    feed_lines(reader, count, words)
+}
+
+/// The fault of such a text.
 fn fault_of_lines(
     alloc: Global,
     start: &str,
@@ -45,18 +70,10 @@ fn fault_of_lines(
     words: (&str, &str),
 ) -> Option<(usize, u32)> {
     let mut reader = MpsReader::new(alloc);
-    if let Err(fault) = reader.feed(start.as_bytes()) {
-        return code(fault);
+    match feed(&mut reader, start, count, words) {
+        Ok(()) => fault_at_end(reader),
+        Err(fault) => code(fault),
     }
-    for number in 0..count {
-        let name = digits(number);
-        for piece in [words.0.as_bytes(), name.as_slice(), words.1.as_bytes()] {
-            if let Err(fault) = reader.feed(piece) {
-                return code(fault);
-            }
-        }
-    }
-    fault_at_end(reader)
 }
 
 #[test]

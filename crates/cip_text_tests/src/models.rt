@@ -60,10 +60,14 @@ fn is_as(read: &Result<Program, Unread>, want: Told) -> bool {
     }
 }
 
+/// What is read of a case.
+fn is_read(alloc: Global, (text, failing, want): (&str, u64, Told)) -> bool {
+    is_as(&read(alloc, text, failing), want)
+}
+
 #[test]
 fn programs_are_pulled(rt: HostRuntime) {
     for at in 0..CASES.len() {
-        let (text, failing, want) = CASES[at];
-        assert!(rt; is_as(&read(rt.alloc(), text, failing), want), "case {at}");
+        assert!(rt; is_read(rt.alloc(), CASES[at]), "case {at}");
     }
 }

@@ -1,32 +1,42 @@
 //! Texts of free MPS in pieces, and without their ends.
 use crate::programs::{JOINED, code, size_of};
-use cip_mps::{MpsReader, read_mps};
+use cip_mps::{MpsReader, ReadFault, read_mps};
 use std::alloc::Global;
+
+/// Feeds a text in two pieces.
+fn feed_cut(reader: &mut MpsReader, text: &[u8], place: usize) -> Result<(), ReadFault> {
+    let place = place.min(text.len());
+    reader.feed(&text[..place])?;
+    reader.feed(&text[place..])
+}
 
 /// How many columns and rows the program of a text has that comes in two pieces.
 fn cut_at(alloc: Global, text: &[u8], place: usize) -> Option<(usize, usize)> {
     let mut reader = MpsReader::new(alloc);
-    if place > text.len()
-        || reader.feed(&text[..place]).is_err()
-        || reader.feed(&text[place..]).is_err()
-    {
-        return None;
+    match feed_cut(&mut reader, text, place) {
+        Ok(()) => size_of(&reader.finish()),
+        Err(_) => None,
     }
-    size_of(&reader.finish())
+}
+
+/// Feeds a text in pieces of one size.
+fn feed(reader: &mut MpsReader, text: &[u8], size: usize) -> Result<(), ReadFault> {
+    let mut rest = text;
+    for _ in 0..text.len() {
+        let count = if rest.len() < size { rest.len() } else { size };
+        reader.feed(&rest[..count])?;
+        rest = &rest[count..];
+    }
+    Ok(())
 }
 
 /// The same of a text that comes in pieces of one size.
 fn in_pieces(alloc: Global, text: &[u8], size: usize) -> Option<(usize, usize)> {
     let mut reader = MpsReader::new(alloc);
-    let mut rest = text;
-    for _ in 0..text.len() {
-        let count = if rest.len() < size { rest.len() } else { size };
-        if reader.feed(&rest[..count]).is_err() {
-            return None;
-        }
-        rest = &rest[count..];
+    match feed(&mut reader, text, size) {
+        Ok(()) => size_of(&reader.finish()),
+        Err(_) => None,
     }
-    size_of(&reader.finish())
 }
 
 /// A text has three columns and three rows, cut at each of these places.

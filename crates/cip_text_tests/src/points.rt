@@ -1,6 +1,7 @@
 //! Texts of points.
 use crate::programs::{JOINED, program_of};
 use cip_frac::Frac;
+use cip_model::Program;
 use cip_point::{PointReader, ReadFault, read_point};
 use std::alloc::Global;
 
@@ -12,19 +13,36 @@ fn read(alloc: Global, text: &str) -> Result<Vec<Frac>, ReadFault> {
     }
 }
 
-/// The same in pieces of one size.
-fn read_pieces(alloc: Global, text: &str, size: usize) -> Result<Vec<Frac>, ReadFault> {
-    let Some(program) = program_of(alloc, JOINED) else {
-        return Err(ReadFault::NoMemory);
-    };
-    let mut reader = PointReader::new(alloc, &program);
-    let mut rest = text.as_bytes();
+/// Feeds a text in pieces of one size.
+fn feed(reader: &mut PointReader<'_>, text: &[u8], size: usize) -> Result<(), ReadFault> {
+    let mut rest = text;
     for _ in 0..text.len() {
         let count = if rest.len() < size { rest.len() } else { size };
         reader.feed(&rest[..count])?;
         rest = &rest[count..];
     }
-    reader.finish()
+    Ok(())
+}
+
+/// What a text in such pieces comes to for a program.
+fn read_fed(
+    alloc: Global,
+    program: &Program,
+    text: &str,
+    size: usize,
+) -> Result<Vec<Frac>, ReadFault> {
+    let mut reader = PointReader::new(alloc, program);
+    match feed(&mut reader, text.as_bytes(), size) {
+        Ok(()) => reader.finish(),
+        Err(fault) => Err(fault),
+    }
+}
+
+fn read_pieces(alloc: Global, text: &str, size: usize) -> Result<Vec<Frac>, ReadFault> {
+    match program_of(alloc, JOINED) {
+        None => Err(ReadFault::NoMemory),
+        Some(program) => read_fed(alloc, &program, text, size),
+    }
 }
 
 /// What a text says.
@@ -70,11 +88,15 @@ const CASES: [(&str, Told); 7] = [
     ("a 1\nb 2", Told::Fault(3, 5)),
 ];
 
+/// What is read of a case.
+fn is_read(alloc: Global, (text, want): (&str, Told)) -> bool {
+    is_as(&read(alloc, text), want)
+}
+
 #[test]
 fn points_are_read(rt: HostRuntime) {
     for at in 0..CASES.len() {
-        let (text, want) = CASES[at];
-        assert!(rt; is_as(&read(rt.alloc(), text), want), "case {at}");
+        assert!(rt; is_read(rt.alloc(), CASES[at]), "case {at}");
     }
 }
 

@@ -3,7 +3,7 @@ use crate::programs::{APART, JOINED, program_of};
 use cip_frac::Frac;
 use cip_input::{UnreadBlocks, UnreadPoint, read_blocks, read_point};
 use cip_io::MemoryStore;
-use cip_model::Blocks;
+use cip_model::{Blocks, Program};
 use std::alloc::{AllocError, Global};
 
 /// A store with this text under `text`, in pieces of five bytes.
@@ -14,24 +14,34 @@ fn store_of(alloc: Global, text: &str) -> Result<MemoryStore, AllocError> {
 }
 
 /// The point of a text, for a program.
-fn point_of(alloc: Global, model: &str, text: &str) -> Result<Vec<Frac>, UnreadPoint> {
-    let Some(program) = program_of(alloc, model) else {
-        return Err(UnreadPoint::NoMemory);
-    };
+fn point_for(alloc: Global, program: &Program, text: &str) -> Result<Vec<Frac>, UnreadPoint> {
     match store_of(alloc, text) {
-        Ok(mut store) => read_point(alloc, &mut store, "text", &program),
+        Ok(mut store) => read_point(alloc, &mut store, "text", program),
         Err(_) => Err(UnreadPoint::NoMemory),
     }
 }
 
+/// The same for the program of another text.
+fn point_of(alloc: Global, model: &str, text: &str) -> Result<Vec<Frac>, UnreadPoint> {
+    match program_of(alloc, model) {
+        Some(program) => point_for(alloc, &program, text),
+        None => Err(UnreadPoint::NoMemory),
+    }
+}
+
 /// The blocks of a text, for a program.
-fn blocks_of(alloc: Global, model: &str, text: &str) -> Result<Blocks, UnreadBlocks> {
-    let Some(program) = program_of(alloc, model) else {
-        return Err(UnreadBlocks::NoMemory);
-    };
+fn blocks_for(alloc: Global, program: &Program, text: &str) -> Result<Blocks, UnreadBlocks> {
     match store_of(alloc, text) {
-        Ok(mut store) => read_blocks(alloc, &mut store, "text", &program),
+        Ok(mut store) => read_blocks(alloc, &mut store, "text", program),
         Err(_) => Err(UnreadBlocks::NoMemory),
+    }
+}
+
+/// The same for the program of another text.
+fn blocks_of(alloc: Global, model: &str, text: &str) -> Result<Blocks, UnreadBlocks> {
+    match program_of(alloc, model) {
+        Some(program) => blocks_for(alloc, &program, text),
+        None => Err(UnreadBlocks::NoMemory),
     }
 }
 
