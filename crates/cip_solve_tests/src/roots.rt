@@ -1,11 +1,15 @@
 //! How roots end.
+ghost use Rattle.std.specs.Prelude.{[]};
+ghost use Rattle.cip_node.specs.Cores.{IsReady};
+ghost use Rattle.cip_node.specs.KeptNodes.{cost_held, IsKept};
+
 use crate::programs::{FREE_COLUMN, has_near_columns, program_of};
 use cip_frac::Frac;
 use cip_leaf::Shown;
 use cip_model::{Place, Program};
-use cip_node::{Core, NodeEnd};
+use cip_node::{Core, NodeEnd, NodeRecord};
 use cip_tree::End;
-use std::alloc::Global;
+use std::alloc::{AllocError, Global};
 
 /// How a root ends.
 #[derive(Clone, Copy)]
@@ -149,17 +153,36 @@ fn goes_up(point: &[Frac], ray: &[Frac]) -> bool {
     point == origin.as_slice() && ray == up.as_slice()
 }
 
-fn is_of_kind(end: &NodeEnd, kind: Kind) -> bool {
-    match (end, kind) {
-        (NodeEnd::Pruned, Kind::Pruned) => true,
-        (NodeEnd::Empty, Kind::Empty) => true,
-        (NodeEnd::Solved, Kind::Solved) => true,
-        (NodeEnd::Split(_, _), Kind::Split) => true,
-        (NodeEnd::Parked { leaf, bound, shown }, Kind::WideLeaf) => {
-            is_eighteen(leaf.as_slice(), *bound, *shown)
-        }
-        (NodeEnd::Ray { point, ray }, Kind::Ray) => goes_up(point.as_slice(), ray.as_slice()),
+fn is_wide_leaf(end: &NodeEnd) -> bool {
+    match end {
+        NodeEnd::Parked { leaf, bound, shown } => is_eighteen(leaf.as_slice(), *bound, *shown),
         _ => false,
+    }
+}
+
+fn is_ray(end: &NodeEnd) -> bool {
+    match end {
+        NodeEnd::Ray { point, ray } => goes_up(point.as_slice(), ray.as_slice()),
+        _ => false,
+    }
+}
+
+fn is_of_kind(end: &NodeEnd, kind: Kind) -> bool {
+    match kind {
+        Kind::Pruned => matches!(end, NodeEnd::Pruned),
+        Kind::Empty => matches!(end, NodeEnd::Empty),
+        Kind::Solved => matches!(end, NodeEnd::Solved),
+        Kind::Split => matches!(end, NodeEnd::Split(_, _)),
+        Kind::WideLeaf => is_wide_leaf(end),
+        Kind::Ray => is_ray(end),
+    }
+}
+
+/// A root has ended so, without a mark.
+fn has_ended(ended: Result<(NodeEnd, NodeRecord), AllocError>, kind: Kind) -> bool {
+    match ended {
+        Ok((end, record)) => is_of_kind(&end, kind) && record.mark.is_none(),
+        Err(_) => false,
     }
 }
 
@@ -186,31 +209,34 @@ fn is_left(core: &Core<'_>, case: &Case) -> bool {
         && core.tree.open_count() == case.waiting
 }
 
-/// Takes up the root of a program, and works on it.
-fn is_worked(alloc: Global, program: &Program, case: &Case) -> bool {
-    if !has_near_columns(program) {
-        return false;
-    }
-    let Ok(mut core) = Core::new(alloc, program) else {
-        return false;
-    };
-    let Some(node) = core.take() else {
-        return false;
-    };
+/// Takes up the root, and works on it.
+fn is_worked(alloc: Global, core: &mut Core<'_>, case: &Case) -> bool
+    requires kept { IsKept core.old.program.now core.old.tree (cost_held core.old.incumbent) [] }
+    requires ready { IsReady core.old }
+{
     if core.tree.ids() != 1 {
         return false;
     }
-    match core.process(alloc, node) {
-        Ok((end, record)) => is_of_kind(&end, case.kind)
-            && record.mark.is_none()
-            && is_left(&core, case),
+    match core.take() {
+        Some(node) => has_ended(core.process(alloc, node), case.kind) && is_left(core, case),
+        None => false,
+    }
+}
+
+/// Begins a search of a program, and works on its root.
+fn is_begun(alloc: Global, program: &Program, case: &Case) -> bool {
+    if !has_near_columns(program) {
+        return false;
+    }
+    match Core::new(alloc, program) {
+        Ok(mut core) => is_worked(alloc, &mut core, case),
         Err(_) => false,
     }
 }
 
 fn is_as(alloc: Global, case: &Case) -> bool {
     match program_of(alloc, case.text) {
-        Some(program) => is_worked(alloc, &program, case),
+        Some(program) => is_begun(alloc, &program, case),
         None => false,
     }
 }

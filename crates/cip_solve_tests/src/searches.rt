@@ -255,9 +255,14 @@ fn is_searched(alloc: Global, program: &Program, log: &mut Log, case: &Case) -> 
     is_answer(&solve(alloc, program, &options, log), case) && has(log, case.told)
 }
 
+/// Searches a program, with a log that has nothing yet.
+fn is_begun(alloc: Global, program: &Program, case: &Case) -> bool {
+    is_searched(alloc, program, &mut Log::new(alloc), case)
+}
+
 fn is_as(alloc: Global, case: &Case) -> bool {
     match program_of(alloc, case.text) {
-        Some(program) => is_searched(alloc, &program, &mut Log::new(alloc), case),
+        Some(program) => is_begun(alloc, &program, case),
         None => false,
     }
 }
@@ -274,15 +279,19 @@ const UNSEARCHED: &str =
     "ROWS\n N COST\n G R\nCOLUMNS\n a COST 2 R 1\nBOUNDS\n LO B a 3\n UI B a 5\nENDATA\n";
 
 /// The bound is that of the root, and nothing is held.
-fn is_unsearched(answer: &Answer) -> bool {
+fn is_root_alone(answer: &Answer) -> bool {
     matches!(answer.ended, Ended::NoMemory)
         && answer.bound == Some(Frac::from(6))
         && answer.best.is_none()
 }
 
+fn is_unsearched(program: &Program) -> bool {
+    is_root_alone(&unsearched(program))
+}
+
 fn is_left_unsearched(alloc: Global) -> bool {
     match program_of(alloc, UNSEARCHED) {
-        Some(program) => is_unsearched(&unsearched(&program)),
+        Some(program) => is_unsearched(&program),
         None => false,
     }
 }
