@@ -208,21 +208,59 @@ fn is_fully_solved(alloc: Global, solver: &mut Solver, program: Program<'_>, wan
     }
 }
 
-/// With few moves, from the first state.
-fn is_quickly_solved(alloc: Global, solver: &mut Solver, program: Program<'_>, want: Want) -> bool {
+/// Where variables are in the first state.
+fn first_start(alloc: Global, program: Program<'_>) -> Option<Start> {
     if !Lp::is_solvable(program.rows, program.bounds, program.costs) {
-        return false;
+        return None;
     }
     let lp = Lp::new(program.rows, program.bounds, program.costs);
-    let Ok(start) = Start::slack(alloc, &lp) else {
-        return false;
-    };
-    match solve_greedily(alloc, solver, &lp, &start, 100) {
-        Ok((found, _last)) => match found {
-            Some(found) => is_as(program, &found, want),
-            None => false,
-        },
-        Err(_) => false,
+    Start::slack(alloc, &lp).ok()
+}
+
+/// What is found in so many moves by the rule of few moves, from a start that fits.
+fn found_greedily(
+    alloc: Global,
+    solver: &mut Solver,
+    program: Program<'_>,
+    start: &Start,
+    moves: u32,
+) -> Option<(Option<LpAnswer>, Start)> {
+    if !Lp::is_solvable(program.rows, program.bounds, program.costs)
+        || start.len() != program.bounds.len() + program.rows.len()
+    {
+        return None;
+    }
+    let lp = Lp::new(program.rows, program.bounds, program.costs);
+    solve_greedily(alloc, solver, &lp, start, moves).ok()
+}
+
+/// Something is found, which is wanted.
+fn is_found(program: Program<'_>, found: &Option<LpAnswer>, want: Want) -> bool {
+    match found {
+        Some(found) => is_as(program, found, want),
+        None => false,
+    }
+}
+
+/// With few moves, from a start.
+fn is_found_greedily(
+    alloc: Global,
+    solver: &mut Solver,
+    program: Program<'_>,
+    start: &Start,
+    want: Want,
+) -> bool {
+    match found_greedily(alloc, solver, program, start, 100) {
+        Some((found, _last)) => is_found(program, &found, want),
+        None => false,
+    }
+}
+
+/// With few moves, from the first state.
+fn is_quickly_solved(alloc: Global, solver: &mut Solver, program: Program<'_>, want: Want) -> bool {
+    match first_start(alloc, program) {
+        Some(first) => is_found_greedily(alloc, solver, program, &first, want),
+        None => false,
     }
 }
 
@@ -287,15 +325,6 @@ fn start_behind(
     if is_wanted { Some(last) } else { None }
 }
 
-/// Where variables are in the first state.
-fn first_start(alloc: Global, program: Program<'_>) -> Option<Start> {
-    if !Lp::is_solvable(program.rows, program.bounds, program.costs) {
-        return None;
-    }
-    let lp = Lp::new(program.rows, program.bounds, program.costs);
-    Start::slack(alloc, &lp).ok()
-}
-
 /// From the first state no move is made; then the optimum is found, and from there it is found without a move.
 fn is_found_from_starts(alloc: Global, program: Program<'_>, want: Want) -> bool {
     let Some(first) = first_start(alloc, program) else {
@@ -310,25 +339,39 @@ fn is_found_from_starts(alloc: Global, program: Program<'_>, want: Want) -> bool
     start_behind(alloc, program, &last, 0, Some(want)).is_some()
 }
 
-/// No move leads to no answer, by either rule; the start then fits six variables, and can be made to fit eight.
-fn is_limited(alloc: Global, program: Program<'_>) -> bool {
+/// No move leads to no answer by the list.
+fn is_list_limited(alloc: Global, program: Program<'_>) -> bool {
     if !Lp::is_solvable(program.rows, program.bounds, program.costs) {
         return false;
     }
     let lp = Lp::new(program.rows, program.bounds, program.costs);
     let mut solver = Solver::new(alloc);
-    let is_list_limited = matches!(solve(alloc, &mut solver, &lp, 0), Ok(LpAnswer::Limit));
-    let Ok(first) = Start::slack(alloc, &lp) else {
-        return false;
-    };
-    let Ok((found, start)) = solve_greedily(alloc, &mut solver, &lp, &first, 0) else {
-        return false;
-    };
-    let is_fitted = match start.fitted(alloc, 8) {
-        Ok(fitted) => fitted.len() == 8,
+    matches!(solve(alloc, &mut solver, &lp, 0), Ok(LpAnswer::Limit))
+}
+
+/// A start fits six variables, and can be made to fit eight.
+fn is_fitted(alloc: Global, start: &Start) -> bool {
+    match start.fitted(alloc, 8) {
+        Ok(fitted) => fitted.len() == 8 && start.len() == 6,
         Err(_) => false,
-    };
-    is_list_limited && found.is_none() && is_fitted && start.len() == 6
+    }
+}
+
+/// No move leads to no answer by the rule of few moves, and the start behind it fits.
+fn is_greedily_limited(alloc: Global, program: Program<'_>, first: &Start) -> bool {
+    match found_greedily(alloc, &mut Solver::new(alloc), program, first, 0) {
+        Some((found, start)) => found.is_none() && is_fitted(alloc, &start),
+        None => false,
+    }
+}
+
+/// No move leads to no answer, by either rule.
+fn is_limited(alloc: Global, program: Program<'_>) -> bool {
+    match first_start(alloc, program) {
+        Some(first) => is_list_limited(alloc, program)
+            && is_greedily_limited(alloc, program, &first),
+        None => false,
+    }
 }
 
 fn has_starts(alloc: Global) -> bool {

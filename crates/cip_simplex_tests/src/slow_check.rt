@@ -1,7 +1,7 @@
 //! A plain check of what is answered, from the rows, the sides and the costs alone.
 //! A sum that leaves the range is `None`.
 use cip_frac::Frac;
-use cip_lin::{Bounds, ColumnMultiple, Combo, Row, RowId, Sides, Term};
+use cip_lin::{Bounds, ColumnMultiple, Combo, Row, RowId, RowMultiple, Sides, Term};
 use cip_simplex::LpAnswer;
 
 /// What was solved.
@@ -20,6 +20,14 @@ fn plus(sum: Frac, a: Frac, b: Frac) -> Option<Frac> {
     }
 }
 
+// the same of numbers that may not be there
+fn plus_some(sum: Option<Frac>, a: Frac, b: Option<Frac>) -> Option<Frac> {
+    match (sum, b) {
+        (Some(sum), Some(b)) => plus(sum, a, b),
+        _ => None,
+    }
+}
+
 fn value_at(point: &[Frac], column: u32) -> Frac {
     match point.get(column as usize) {
         Some(value) => *value,
@@ -28,19 +36,19 @@ fn value_at(point: &[Frac], column: u32) -> Frac {
 }
 
 fn dot(xs: &[Frac], ys: &[Frac]) -> Option<Frac> {
-    let mut sum = Frac::zero();
+    let mut sum = Some(Frac::zero());
     for at in 0..xs.len().min(ys.len()) {
-        sum = plus(sum, xs[at], ys[at])?;
+        sum = plus_some(sum, xs[at], Some(ys[at]));
     }
-    Some(sum)
+    sum
 }
 
 fn activity(terms: &[Term], point: &[Frac]) -> Option<Frac> {
-    let mut sum = Frac::zero();
+    let mut sum = Some(Frac::zero());
     for term in terms {
-        sum = plus(sum, term.coef, value_at(point, term.col))?;
+        sum = plus_some(sum, term.coef, Some(value_at(point, term.col)));
     }
-    Some(sum)
+    sum
 }
 
 fn sides_of(row: &Row) -> Sides {
@@ -144,14 +152,32 @@ fn bound_sides(program: Program<'_>, column: u32) -> Option<Sides> {
     program.bounds.as_slice().get(column as usize).copied()
 }
 
+// the side of a row that a factor uses
+fn row_side(program: Program<'_>, part: RowMultiple) -> Option<Frac> {
+    match row_by(program, part.row) {
+        Some(row) => side_for(sides_of(row), part.factor),
+        None => None,
+    }
+}
+
 // the sum of factors times sides of rows
 fn row_delta(program: Program<'_>, combo: &Combo) -> Option<Frac> {
-    let mut sum = Frac::zero();
+    let mut sum = Some(Frac::zero());
     for part in &combo.rows {
-        let side = side_for(sides_of(row_by(program, part.row)?), part.factor)?;
-        sum = plus(sum, part.factor, side)?;
+        sum = plus_some(sum, part.factor, row_side(program, *part));
     }
-    Some(sum)
+    sum
+}
+
+// the side of a column that a factor above 0 uses, which is the low one, or one below 0
+fn bound_side(program: Program<'_>, part: ColumnMultiple, is_low: bool) -> Option<Frac> {
+    if part.factor.is_zero() || part.factor.is_positive() != is_low {
+        return None;
+    }
+    match bound_sides(program, part.col) {
+        Some(sides) => side_for(sides, part.factor),
+        None => None,
+    }
 }
 
 // a sum with factors above 0 times low sides, or factors below 0 times high sides
@@ -159,23 +185,19 @@ fn bound_delta(
     program: Program<'_>,
     parts: &[ColumnMultiple],
     is_low: bool,
-    start: Frac,
+    start: Option<Frac>,
 ) -> Option<Frac> {
     let mut sum = start;
     for part in parts {
-        let sides = bound_sides(program, part.col)?;
-        if part.factor.is_zero() || part.factor.is_positive() != is_low {
-            return None;
-        }
-        sum = plus(sum, part.factor, side_for(sides, part.factor)?)?;
+        sum = plus_some(sum, part.factor, bound_side(program, *part, is_low));
     }
-    Some(sum)
+    sum
 }
 
 // the sum of factors times sides
 fn delta(program: Program<'_>, combo: &Combo) -> Option<Frac> {
-    let rows = row_delta(program, combo)?;
-    let lows = bound_delta(program, combo.lows.as_slice(), true, rows)?;
+    let rows = row_delta(program, combo);
+    let lows = bound_delta(program, combo.lows.as_slice(), true, rows);
     bound_delta(program, combo.highs.as_slice(), false, lows)
 }
 
@@ -189,51 +211,59 @@ fn coefficient(terms: &[Term], column: u32) -> Frac {
     Frac::zero()
 }
 
-fn of_column(parts: &[ColumnMultiple], column: u32, start: Frac) -> Option<Frac> {
+fn of_column(parts: &[ColumnMultiple], column: u32, start: Option<Frac>) -> Option<Frac> {
     let mut sum = start;
     for part in parts {
         if part.col == column {
-            sum = plus(sum, part.factor, Frac::one())?;
+            sum = plus_some(sum, part.factor, Some(Frac::one()));
         }
     }
-    Some(sum)
+    sum
+}
+
+// the coefficient of the row of a part on a column
+fn row_coefficient(program: Program<'_>, part: RowMultiple, column: u32) -> Option<Frac> {
+    match row_by(program, part.row) {
+        Some(row) => Some(coefficient(row.terms(), column)),
+        None => None,
+    }
 }
 
 // the coefficient of the sum of rows on a column
 fn of_rows(program: Program<'_>, combo: &Combo, column: u32) -> Option<Frac> {
-    let mut sum = Frac::zero();
+    let mut sum = Some(Frac::zero());
     for part in &combo.rows {
-        let row = row_by(program, part.row)?;
-        sum = plus(sum, part.factor, coefficient(row.terms(), column))?;
+        sum = plus_some(sum, part.factor, row_coefficient(program, *part, column));
     }
-    Some(sum)
+    sum
 }
 
 // what a column costs beyond the sum
 fn rest(program: Program<'_>, combo: &Combo, costs: &[Frac], column: u32) -> Option<Frac> {
-    let rows = of_rows(program, combo, column)?;
-    let lows = of_column(combo.lows.as_slice(), column, rows)?;
-    let own = of_column(combo.highs.as_slice(), column, lows)?;
-    plus(value_at(costs, column), own, Frac::one().neg())
+    let rows = of_rows(program, combo, column);
+    let lows = of_column(combo.lows.as_slice(), column, rows);
+    let own = of_column(combo.highs.as_slice(), column, lows);
+    plus_some(Some(value_at(costs, column)), Frac::one().neg(), own)
 }
 
 // a sum with the least of a rest between sides
-fn plus_rest(sum: Frac, sides: Sides, rest: Frac) -> Option<Frac> {
-    if rest.is_zero() {
-        return Some(sum);
+fn plus_rest(sum: Option<Frac>, sides: Sides, rest: Option<Frac>) -> Option<Frac> {
+    match rest {
+        Some(rest) if rest.is_zero() => sum,
+        Some(rest) => plus_some(sum, rest, side_for(sides, rest)),
+        None => None,
     }
-    plus(sum, rest, side_for(sides, rest)?)
 }
 
 // what costs come to at least by a combination: the sum of its sides, and the least of the rest in the box
 fn bound(program: Program<'_>, combo: &Combo, costs: &[Frac]) -> Option<Frac> {
-    let mut sum = delta(program, combo)?;
+    let mut sum = delta(program, combo);
     let mut column = 0u32;
     for sides in program.bounds.as_slice() {
-        sum = plus_rest(sum, *sides, rest(program, combo, costs, column)?)?;
+        sum = plus_rest(sum, *sides, rest(program, combo, costs, column));
         column = column.wrapping_add(1);
     }
-    Some(sum)
+    sum
 }
 
 fn is_point(program: Program<'_>, point: &[Frac]) -> bool {
