@@ -4,14 +4,6 @@ use cip_blocks::{BlockReader, ReadFault, read_blocks};
 use cip_model::{Blocks, Program};
 use std::alloc::Global;
 
-/// What a text comes to for the program of another.
-fn read(alloc: Global, model: &str, text: &str) -> Result<Blocks, ReadFault> {
-    match program_of(alloc, model) {
-        None => Err(ReadFault::NoMemory),
-        Some(program) => read_blocks(alloc, text.as_bytes(), &program),
-    }
-}
-
 /// Feeds a text in pieces of one size.
 fn feed(reader: &mut BlockReader<'_>, text: &[u8], size: usize) -> Result<(), ReadFault> {
     let mut rest = text;
@@ -37,11 +29,16 @@ fn read_fed(
     }
 }
 
-/// The same for the program of another text.
-fn read_pieces(alloc: Global, model: &str, text: &str, size: usize) -> Result<Blocks, ReadFault> {
-    match program_of(alloc, model) {
-        None => Err(ReadFault::NoMemory),
-        Some(program) => read_fed(alloc, &program, text, size),
+/// What a text comes to for a program, whole or in pieces of one size.
+fn read(
+    alloc: Global,
+    program: &Program,
+    text: &str,
+    size: Option<usize>,
+) -> Result<Blocks, ReadFault> {
+    match size {
+        None => read_blocks(alloc, text.as_bytes(), program),
+        Some(size) => read_fed(alloc, program, text, size),
     }
 }
 
@@ -84,7 +81,9 @@ fn is_as(read: &Result<Blocks, ReadFault>, want: Told) -> bool {
 const TWO: &str = "\\ three\nNBLOCKS 02\nBLOCK 1\nR1\nBLOCK 2 R2\n";
 
 /// A text of a program, one of blocks, and what that says.
-const CASES: [(&str, &str, Told); 10] = [
+type Case = (&'static str, &'static str, Told);
+
+const CASES: [Case; 10] = [
     (APART, TWO, Told::Block(0, 1, 1)),
     (APART, TWO, Told::Block(1, 1, 2)),
     (APART, TWO, Told::Rest(1, 1)),
@@ -102,24 +101,34 @@ const CASES: [(&str, &str, Told); 10] = [
     (APART, "NBLOCKS 2\nBLOCK 1\nR1\n", Told::Fault(4, 8)),
 ];
 
-/// What is read of a case.
-fn is_read(alloc: Global, (model, text, want): (&str, &str, Told)) -> bool {
-    is_as(&read(alloc, model, text), want)
+/// What a case says, whole or in pieces of one size.
+fn is_read(alloc: Global, (model, text, want): Case, size: Option<usize>) -> bool {
+    match program_of(alloc, model) {
+        Some(program) => is_as(&read(alloc, &program, text, size), want),
+        None => false,
+    }
+}
+
+/// The first of these cases that says something else; their number where there is none.
+fn first_wrong(alloc: Global, cases: &[Case]) -> usize {
+    for at in 0..cases.len() {
+        if !is_read(alloc, cases[at], None) {
+            return at;
+        }
+    }
+    cases.len()
 }
 
 #[test]
 fn blocks_are_read(rt: HostRuntime) {
-    for at in 0..CASES.len() {
-        assert!(rt; is_read(rt.alloc(), CASES[at]), "case {at}");
-    }
+    assert_eq!(rt; first_wrong(rt.alloc(), &CASES), 10);
 }
 
-const PIECES: &str = "NBLOCKS 1\nBLOCK 1\nR2\nR3\n";
+const PIECES: Case = (APART, "NBLOCKS 1\nBLOCK 1\nR2\nR3\n", Told::Block(0, 2, 3));
 
 #[test]
 fn pieces(rt: HostRuntime) {
     for size in [1, 2, 3, 7] {
-        let read = read_pieces(rt.alloc(), APART, PIECES, size);
-        assert!(rt; is_as(&read, Told::Block(0, 2, 3)), "pieces of {size}");
+        assert!(rt; is_read(rt.alloc(), PIECES, Some(size)), "pieces of {size}");
     }
 }

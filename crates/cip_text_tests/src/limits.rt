@@ -12,15 +12,6 @@ fn feed_blanks(reader: &mut MpsReader, pieces: u32, behind: &[u8]) -> Result<(),
     reader.feed(behind)
 }
 
-/// The fault of such a text.
-fn fault_of_blanks(alloc: Global, pieces: u32, behind: &[u8]) -> Option<(usize, u32)> {
-    let mut reader = MpsReader::new(alloc);
-    match feed_blanks(&mut reader, pieces, behind) {
-        Ok(()) => fault_at_end(reader),
-        Err(fault) => code(fault),
-    }
-}
-
 /// The digit of a number at this power of ten.
 fn digit(number: u32, power: u32) -> u8 {
     if power == 0 {
@@ -51,65 +42,76 @@ fn feed_lines(reader: &mut MpsReader, count: u32, words: (&str, &str)) -> Result
     Ok(())
 }
 
-/// Feeds a text that begins so, and goes on with such lines.
-fn feed(
-    reader: &mut MpsReader,
-    start: &str,
-    count: u32,
-    words: (&str, &str),
-) -> Result<(), ReadFault> {
-    reader.feed(start.as_bytes())?;
-    feed_lines(reader, count, words)
+/// A long text.
+#[derive(Clone, Copy)]
+enum Long {
+    /// So many pieces of 4,096 blanks, and these bytes behind them.
+    Blanks(u32, &'static str),
+    /// It begins so, and goes on with so many lines of these words.
+    Lines(&'static str, u32, (&'static str, &'static str)),
+}
+
+/// Feeds a long text.
+fn feed(reader: &mut MpsReader, text: Long) -> Result<(), ReadFault> {
+    match text {
+        Long::Blanks(pieces, behind) => feed_blanks(reader, pieces, behind.as_bytes()),
+        Long::Lines(start, count, words) => {
+            reader.feed(start.as_bytes())?;
+            feed_lines(reader, count, words)
+        }
+    }
 }
 
 /// The fault of such a text.
-fn fault_of_lines(
-    alloc: Global,
-    start: &str,
-    count: u32,
-    words: (&str, &str),
-) -> Option<(usize, u32)> {
+fn fault_of(alloc: Global, text: Long) -> Option<(usize, u32)> {
     let mut reader = MpsReader::new(alloc);
-    match feed(&mut reader, start, count, words) {
+    match feed(&mut reader, text) {
         Ok(()) => fault_at_end(reader),
         Err(fault) => code(fault),
     }
 }
 
-#[test]
-fn bytes(rt: HostRuntime) {
-    assert!(rt;
-        fault_of_blanks(rt.alloc(), 16_384, b"") == Some((2, 17)),
-        "most bytes"
-    );
-    assert!(rt;
-        fault_of_blanks(rt.alloc(), 16_384, b" ") == Some((1, 18)),
-        "one more"
-    );
-}
+/// A text, and its fault: line and kind.
+type Case = (Long, (usize, u32));
 
-/// A text that begins so, its number of lines, the words of each, and its fault.
-const LINES: [(&str, u32, (&str, &str), (usize, u32)); 3] = [
-    // the most rows
-    ("ROWS\n N COST\n", 65_536, (" L R", "\n"), (65_539, 17)),
-    // one more
-    ("ROWS\n N COST\n", 65_537, (" L R", "\n"), (65_539, 18)),
-    // one column more than there may be
+/// The most bytes, and one more.
+const BYTES: [Case; 2] = [
+    (Long::Blanks(16_384, ""), (2, 17)),
+    (Long::Blanks(16_384, " "), (1, 18)),
+];
+
+/// The most rows, one more, and one column more than there may be.
+const LINES: [Case; 3] = [
     (
-        "ROWS\n N COST\nCOLUMNS\n",
-        65_537,
-        (" x", " COST 1\n"),
+        Long::Lines("ROWS\n N COST\n", 65_536, (" L R", "\n")),
+        (65_539, 17),
+    ),
+    (
+        Long::Lines("ROWS\n N COST\n", 65_537, (" L R", "\n")),
+        (65_539, 18),
+    ),
+    (
+        Long::Lines("ROWS\n N COST\nCOLUMNS\n", 65_537, (" x", " COST 1\n")),
         (65_540, 18),
     ),
 ];
 
+/// The first of these texts with another fault; their number where there is none.
+fn first_wrong(alloc: Global, cases: &[Case]) -> usize {
+    for at in 0..cases.len() {
+        if fault_of(alloc, cases[at].0) != Some(cases[at].1) {
+            return at;
+        }
+    }
+    cases.len()
+}
+
+#[test]
+fn bytes(rt: HostRuntime) {
+    assert_eq!(rt; first_wrong(rt.alloc(), &BYTES), 2);
+}
+
 #[test]
 fn rows_and_columns(rt: HostRuntime) {
-    for at in 0..LINES.len() {
-        let (start, count, words, fault) = LINES[at];
-        assert!(rt;
-            fault_of_lines(rt.alloc(), start, count, words) == Some(fault),
-            "case {at}"
-        );
-    }
+    assert_eq!(rt; first_wrong(rt.alloc(), &LINES), 3);
 }

@@ -47,22 +47,33 @@ fn read(alloc: Global, text: &str, failing: u64) -> Result<Program, Unread> {
     }
 }
 
-fn is_as(read: &Result<Program, Unread>, want: Told) -> bool {
-    match (read, want) {
-        (Ok(program), Told::Size(columns, rows)) => {
-            program.columns() == columns && program.rows().len() == rows
-        }
-        (Err(Unread::Faulty(fault)), Told::Fault(line, kind)) => {
+fn is_size(program: &Program, want: Told) -> bool {
+    match want {
+        Told::Size(columns, rows) => program.columns() == columns && program.rows().len() == rows,
+        _ => false,
+    }
+}
+
+fn is_fault(fault: Unread, want: Told) -> bool {
+    match (fault, want) {
+        (Unread::Faulty(fault), Told::Fault(line, kind)) => {
             fault.line == line && fault.kind.number() == kind
         }
-        (Err(Unread::StoreFailed), Told::Failed) => true,
+        (Unread::StoreFailed, Told::Failed) => true,
         _ => false,
+    }
+}
+
+fn is_as(read: Result<Program, Unread>, want: Told) -> bool {
+    match read {
+        Ok(program) => is_size(&program, want),
+        Err(fault) => is_fault(fault, want),
     }
 }
 
 /// What is read of a case.
 fn is_read(alloc: Global, (text, failing, want): (&str, u64, Told)) -> bool {
-    is_as(&read(alloc, text, failing), want)
+    is_as(read(alloc, text, failing), want)
 }
 
 #[test]

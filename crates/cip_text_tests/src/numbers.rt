@@ -6,8 +6,11 @@ const GREATEST: i128 = 0x7FFF_FFFF_FFFF_FFFF_FFFF_FFFF_FFFF_FFFF;
 
 const TEN_TO_38: i128 = 100_000_000_000_000_000_000_000_000_000_000_000_000;
 
-/// A text, and the numerator and denominator of its number, or why it is none.
-const NUMBERS: [(&str, Result<(i128, i128), NumberFault>); 17] = [
+/// A text, and the numerator and denominator that it says, or why it says none.
+type Told = (&'static str, Result<(i128, i128), NumberFault>);
+
+/// Texts of numbers.
+const NUMBERS: [Told; 17] = [
     ("1.50e1", Ok((15, 1))),
     (".5", Ok((1, 2))),
     ("5.", Ok((5, 1))),
@@ -39,8 +42,8 @@ const NUMBERS: [(&str, Result<(i128, i128), NumberFault>); 17] = [
     ("1e", Err(NumberFault::NotANumber)),
 ];
 
-/// The same of texts of fractions.
-const FRACTIONS: [(&str, Result<(i128, i128), NumberFault>); 3] = [
+/// Texts of fractions.
+const FRACTIONS: [Told; 3] = [
     ("-2/6", Ok((-1, 3))),
     ("2.50", Ok((5, 2))),
     ("1/0", Err(NumberFault::NotANumber)),
@@ -54,9 +57,6 @@ fn comes_to(told: Result<Frac, NumberFault>, want: Result<(i128, i128), NumberFa
     }
 }
 
-/// A text, and the numerator and denominator that it says, or why it says none.
-type Told = (&'static str, Result<(i128, i128), NumberFault>);
-
 fn is_number((text, want): Told) -> bool {
     comes_to(number(text.as_bytes()), want)
 }
@@ -65,18 +65,34 @@ fn is_fraction((text, want): Told) -> bool {
     comes_to(fraction(text.as_bytes()), want)
 }
 
+/// The first text that says another number; their number where there is none.
+fn first_wrong_number(cases: &[Told]) -> usize {
+    for at in 0..cases.len() {
+        if !is_number(cases[at]) {
+            return at;
+        }
+    }
+    cases.len()
+}
+
+/// The same of fractions.
+fn first_wrong_fraction(cases: &[Told]) -> usize {
+    for at in 0..cases.len() {
+        if !is_fraction(cases[at]) {
+            return at;
+        }
+    }
+    cases.len()
+}
+
 #[test]
 fn numbers(rt: HostRuntime) {
-    for at in 0..NUMBERS.len() {
-        assert!(rt; is_number(NUMBERS[at]), "case {at}");
-    }
+    assert_eq!(rt; first_wrong_number(&NUMBERS), 17);
 }
 
 #[test]
 fn fractions(rt: HostRuntime) {
-    for at in 0..FRACTIONS.len() {
-        assert!(rt; is_fraction(FRACTIONS[at]), "case {at}");
-    }
+    assert_eq!(rt; first_wrong_fraction(&FRACTIONS), 3);
 }
 
 const TEXT: &str = "* comment\n\n \t\r\n A\tb \r\nRHS x\n\\ z";

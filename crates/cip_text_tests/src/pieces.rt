@@ -1,26 +1,26 @@
 //! Texts of free MPS in pieces, and without their ends.
-use crate::programs::{JOINED, code, size_of};
+use crate::programs::{JOINED, code, size_at_end};
 use cip_mps::{MpsReader, ReadFault, read_mps};
 use std::alloc::Global;
 
+/// How a text is cut.
+#[derive(Clone, Copy)]
+enum Cut {
+    /// Into two pieces, at this place.
+    At(usize),
+    /// Into pieces of this size.
+    Pieces(usize),
+}
+
 /// Feeds a text in two pieces.
-fn feed_cut(reader: &mut MpsReader, text: &[u8], place: usize) -> Result<(), ReadFault> {
+fn feed_halves(reader: &mut MpsReader, text: &[u8], place: usize) -> Result<(), ReadFault> {
     let place = place.min(text.len());
     reader.feed(&text[..place])?;
     reader.feed(&text[place..])
 }
 
-/// How many columns and rows the program of a text has that comes in two pieces.
-fn cut_at(alloc: Global, text: &[u8], place: usize) -> Option<(usize, usize)> {
-    let mut reader = MpsReader::new(alloc);
-    match feed_cut(&mut reader, text, place) {
-        Ok(()) => size_of(&reader.finish()),
-        Err(_) => None,
-    }
-}
-
 /// Feeds a text in pieces of one size.
-fn feed(reader: &mut MpsReader, text: &[u8], size: usize) -> Result<(), ReadFault> {
+fn feed_pieces(reader: &mut MpsReader, text: &[u8], size: usize) -> Result<(), ReadFault> {
     let mut rest = text;
     for _ in 0..text.len() {
         let count = if rest.len() < size { rest.len() } else { size };
@@ -30,11 +30,18 @@ fn feed(reader: &mut MpsReader, text: &[u8], size: usize) -> Result<(), ReadFaul
     Ok(())
 }
 
-/// The same of a text that comes in pieces of one size.
-fn in_pieces(alloc: Global, text: &[u8], size: usize) -> Option<(usize, usize)> {
+fn feed(reader: &mut MpsReader, text: &[u8], cut: Cut) -> Result<(), ReadFault> {
+    match cut {
+        Cut::At(place) => feed_halves(reader, text, place),
+        Cut::Pieces(size) => feed_pieces(reader, text, size),
+    }
+}
+
+/// How many columns and rows the program of a text has that is cut so.
+fn size_of(alloc: Global, text: &[u8], cut: Cut) -> Option<(usize, usize)> {
     let mut reader = MpsReader::new(alloc);
-    match feed(&mut reader, text, size) {
-        Ok(()) => size_of(&reader.finish()),
+    match feed(&mut reader, text, cut) {
+        Ok(()) => size_at_end(reader),
         Err(_) => None,
     }
 }
@@ -42,7 +49,7 @@ fn in_pieces(alloc: Global, text: &[u8], size: usize) -> Option<(usize, usize)> 
 /// A text has three columns and three rows, cut at each of these places.
 fn is_read_cut(alloc: Global, text: &[u8], places: usize) -> bool {
     for place in 0..places {
-        if cut_at(alloc, text, place) != Some((3, 3)) {
+        if size_of(alloc, text, Cut::At(place)) != Some((3, 3)) {
             return false;
         }
     }
@@ -53,8 +60,8 @@ fn is_read_cut(alloc: Global, text: &[u8], places: usize) -> bool {
 fn pieces(rt: HostRuntime) {
     let text = JOINED.as_bytes();
     assert!(rt; is_read_cut(rt.alloc(), text, text.len()));
-    assert!(rt; in_pieces(rt.alloc(), text, 1) == Some((3, 3)));
-    assert!(rt; in_pieces(rt.alloc(), text, 7) == Some((3, 3)));
+    assert!(rt; size_of(rt.alloc(), text, Cut::Pieces(1)) == Some((3, 3)));
+    assert!(rt; size_of(rt.alloc(), text, Cut::Pieces(7)) == Some((3, 3)));
 }
 
 /// The fault of a text without so many of its last bytes.

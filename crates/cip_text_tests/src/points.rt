@@ -5,14 +5,6 @@ use cip_model::Program;
 use cip_point::{PointReader, ReadFault, read_point};
 use std::alloc::Global;
 
-/// What a text comes to.
-fn read(alloc: Global, text: &str) -> Result<Vec<Frac>, ReadFault> {
-    match program_of(alloc, JOINED) {
-        None => Err(ReadFault::NoMemory),
-        Some(program) => read_point(alloc, text.as_bytes(), &program),
-    }
-}
-
 /// Feeds a text in pieces of one size.
 fn feed(reader: &mut PointReader<'_>, text: &[u8], size: usize) -> Result<(), ReadFault> {
     let mut rest = text;
@@ -38,10 +30,16 @@ fn read_fed(
     }
 }
 
-fn read_pieces(alloc: Global, text: &str, size: usize) -> Result<Vec<Frac>, ReadFault> {
-    match program_of(alloc, JOINED) {
-        None => Err(ReadFault::NoMemory),
-        Some(program) => read_fed(alloc, &program, text, size),
+/// What a text comes to for a program, whole or in pieces of one size.
+fn read(
+    alloc: Global,
+    program: &Program,
+    text: &str,
+    size: Option<usize>,
+) -> Result<Vec<Frac>, ReadFault> {
+    match size {
+        None => read_point(alloc, text.as_bytes(), program),
+        Some(size) => read_fed(alloc, program, text, size),
     }
 }
 
@@ -88,23 +86,38 @@ const CASES: [(&str, Told); 7] = [
     ("a 1\nb 2", Told::Fault(3, 5)),
 ];
 
-/// What is read of a case.
-fn is_read(alloc: Global, (text, want): (&str, Told)) -> bool {
-    is_as(&read(alloc, text), want)
+/// A text says this for the program of another.
+fn is_read(alloc: Global, text: &str, size: Option<usize>, want: Told) -> bool {
+    match program_of(alloc, JOINED) {
+        Some(program) => is_as(&read(alloc, &program, text, size), want),
+        None => false,
+    }
+}
+
+/// The first of these texts that says something else; their number where there is none.
+fn first_wrong(alloc: Global, cases: &[(&str, Told)]) -> usize {
+    for at in 0..cases.len() {
+        if !is_read(alloc, cases[at].0, None, cases[at].1) {
+            return at;
+        }
+    }
+    cases.len()
 }
 
 #[test]
 fn points_are_read(rt: HostRuntime) {
-    for at in 0..CASES.len() {
-        assert!(rt; is_read(rt.alloc(), CASES[at]), "case {at}");
-    }
+    assert_eq!(rt; first_wrong(rt.alloc(), &CASES), 7);
+}
+
+/// A text is read in pieces of this size.
+fn is_read_by(alloc: Global, size: usize) -> bool {
+    let values = [(1, 2), (0, 1), (1, 1)];
+    is_read(alloc, "a 1/2\nb 0\nc 1\n", Some(size), Told::Values(values))
 }
 
 #[test]
 fn pieces(rt: HostRuntime) {
-    let values = [(1, 2), (0, 1), (1, 1)];
     for size in [1, 2, 3, 7] {
-        let read = read_pieces(rt.alloc(), "a 1/2\nb 0\nc 1\n", size);
-        assert!(rt; is_as(&read, Told::Values(values)), "pieces of {size}");
+        assert!(rt; is_read_by(rt.alloc(), size), "pieces of {size}");
     }
 }

@@ -32,9 +32,9 @@ pub(crate) fn fault_at_end(reader: MpsReader) -> Option<(usize, u32)> {
     }
 }
 
-/// How many columns and rows a program has that was read.
-pub(crate) fn size_of(read: &Result<Program, ReadFault>) -> Option<(usize, usize)> {
-    match read {
+/// How many columns and rows the program has that the end of a text comes to.
+pub(crate) fn size_at_end(reader: MpsReader) -> Option<(usize, usize)> {
+    match reader.finish() {
         Ok(program) => Some((program.columns(), program.rows().len())),
         Err(_) => None,
     }

@@ -1,7 +1,7 @@
 //! The sides of rows and columns of texts of free MPS.
+use crate::programs::program_of;
 use cip_frac::Frac;
 use cip_model::Program;
-use cip_mps::read_mps;
 use std::alloc::Global;
 
 /// An equal row whose right-hand side is 4, with a negative value in RANGES.
@@ -52,32 +52,50 @@ fn has_column_between(program: &Program, low: Option<i128>, high: Option<i128>) 
     }
 }
 
-/// The first row of the program of a text lies between these sides.
-fn gives_row(alloc: Global, text: &str, low: Option<i128>, high: Option<i128>) -> bool {
-    match read_mps(alloc, text.as_bytes()) {
-        Ok(program) => has_row_between(&program, low, high),
-        Err(_) => false,
+/// What lies between the sides of a case.
+#[derive(Clone, Copy)]
+enum Which {
+    FirstRow,
+    FirstColumn,
+}
+
+/// A text, what of its program is asked, and the sides of that.
+type Case = (&'static str, Which, Option<i128>, Option<i128>);
+
+const CASES: [Case; 6] = [
+    (RANGE_BELOW, Which::FirstRow, Some(2), Some(4)),
+    (RANGE_ABOVE, Which::FirstRow, Some(4), Some(6)),
+    (SECOND_SET, Which::FirstRow, None, Some(1)),
+    (MADE_WHOLE, Which::FirstColumn, Some(0), Some(4)),
+    (NO_HIGH_SIDE, Which::FirstColumn, Some(0), None),
+    (NEGATIVE, Which::FirstColumn, None, Some(-3)),
+];
+
+fn has_sides(program: &Program, (_, which, low, high): Case) -> bool {
+    match which {
+        Which::FirstRow => has_row_between(program, low, high),
+        Which::FirstColumn => has_column_between(program, low, high),
     }
 }
 
-/// The first column of the program of a text lies between these sides.
-fn gives_column(alloc: Global, text: &str, low: Option<i128>, high: Option<i128>) -> bool {
-    match read_mps(alloc, text.as_bytes()) {
-        Ok(program) => has_column_between(&program, low, high),
-        Err(_) => false,
+fn is_as(alloc: Global, case: Case) -> bool {
+    match program_of(alloc, case.0) {
+        Some(program) => has_sides(&program, case),
+        None => false,
     }
 }
 
-#[test]
-fn sides_of_the_first_row(rt: HostRuntime) {
-    assert!(rt; gives_row(rt.alloc(), RANGE_BELOW, Some(2), Some(4)));
-    assert!(rt; gives_row(rt.alloc(), RANGE_ABOVE, Some(4), Some(6)));
-    assert!(rt; gives_row(rt.alloc(), SECOND_SET, None, Some(1)));
+/// The first of these cases that is wrong; their number where there is none.
+fn first_wrong(alloc: Global, cases: &[Case]) -> usize {
+    for at in 0..cases.len() {
+        if !is_as(alloc, cases[at]) {
+            return at;
+        }
+    }
+    cases.len()
 }
 
 #[test]
-fn sides_of_the_first_column(rt: HostRuntime) {
-    assert!(rt; gives_column(rt.alloc(), MADE_WHOLE, Some(0), Some(4)));
-    assert!(rt; gives_column(rt.alloc(), NO_HIGH_SIDE, Some(0), None));
-    assert!(rt; gives_column(rt.alloc(), NEGATIVE, None, Some(-3)));
+fn sides_of_the_first(rt: HostRuntime) {
+    assert_eq!(rt; first_wrong(rt.alloc(), &CASES), 6);
 }

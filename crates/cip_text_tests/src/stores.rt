@@ -21,14 +21,6 @@ fn point_for(alloc: Global, program: &Program, text: &str) -> Result<Vec<Frac>, 
     }
 }
 
-/// The same for the program of another text.
-fn point_of(alloc: Global, model: &str, text: &str) -> Result<Vec<Frac>, UnreadPoint> {
-    match program_of(alloc, model) {
-        Some(program) => point_for(alloc, &program, text),
-        None => Err(UnreadPoint::NoMemory),
-    }
-}
-
 /// The blocks of a text, for a program.
 fn blocks_for(alloc: Global, program: &Program, text: &str) -> Result<Blocks, UnreadBlocks> {
     match store_of(alloc, text) {
@@ -37,41 +29,46 @@ fn blocks_for(alloc: Global, program: &Program, text: &str) -> Result<Blocks, Un
     }
 }
 
-/// The same for the program of another text.
-fn blocks_of(alloc: Global, model: &str, text: &str) -> Result<Blocks, UnreadBlocks> {
-    match program_of(alloc, model) {
-        Some(program) => blocks_for(alloc, &program, text),
-        None => Err(UnreadBlocks::NoMemory),
-    }
-}
-
-/// The first value of a point is this whole number.
-fn begins_with(read: &Result<Vec<Frac>, UnreadPoint>, number: i128) -> bool {
-    match read {
+/// The first value of the point of a text, where that is a whole number.
+fn first_value(alloc: Global, program: &Program, text: &str) -> Option<i128> {
+    match point_for(alloc, program, text) {
         Ok(point) => match point.first() {
-            Some(value) => value.denominator() == 1 && value.numerator() == number,
-            None => false,
+            Some(value) if value.denominator() == 1 => Some(value.numerator()),
+            _ => None,
         },
-        Err(_) => false,
+        Err(_) => None,
     }
 }
 
-/// How many blocks there are.
-fn count_of(read: &Result<Blocks, UnreadBlocks>) -> usize {
-    match read {
-        Ok(blocks) => blocks.count(),
-        Err(_) => 0,
+/// How many blocks a text has.
+fn count_of(alloc: Global, program: &Program, text: &str) -> Option<usize> {
+    match blocks_for(alloc, program, text) {
+        Ok(blocks) => Some(blocks.count()),
+        Err(_) => None,
+    }
+}
+
+fn is_point_pulled(alloc: Global) -> bool {
+    match program_of(alloc, JOINED) {
+        Some(program) => first_value(alloc, &program, "a 2\nb 0\nc 1\n") == Some(2),
+        None => false,
+    }
+}
+
+fn are_blocks_pulled(alloc: Global) -> bool {
+    let text = "NBLOCKS 2\nBLOCK 1\nR1\nBLOCK 2 R2\n";
+    match program_of(alloc, APART) {
+        Some(program) => count_of(alloc, &program, text) == Some(2),
+        None => false,
     }
 }
 
 #[test]
 fn a_point_is_pulled(rt: HostRuntime) {
-    let read = point_of(rt.alloc(), JOINED, "a 2\nb 0\nc 1\n");
-    assert!(rt; begins_with(&read, 2));
+    assert!(rt; is_point_pulled(rt.alloc()));
 }
 
 #[test]
 fn blocks_are_pulled(rt: HostRuntime) {
-    let read = blocks_of(rt.alloc(), APART, "NBLOCKS 2\nBLOCK 1\nR1\nBLOCK 2 R2\n");
-    assert!(rt; count_of(&read) == 2);
+    assert!(rt; are_blocks_pulled(rt.alloc()));
 }
