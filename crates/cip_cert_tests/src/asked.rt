@@ -10,7 +10,7 @@ use cip_rows::RowPool;
 use std::alloc::{AllocError, Global};
 
 /// Rows, a box and a combination, and what the checks are asked beside.
-#[derive(Debug, Drop)]
+#[derive(Drop)]
 pub struct Asked {
     pub own: Vec<Row>,
     pub pool: RowPool,

@@ -4,7 +4,7 @@ ghost use Rattle.std.specs.Prelude.{◌<◌};
 use cip_frac::Frac;
 
 /// Which numbers a case has.
-#[derive(Clone, Copy, Debug, PartialEq, Eq)]
+#[derive(Clone, Copy, PartialEq, Eq)]
 pub enum Numbers {
     /// Small whole ones.
     Whole,
@@ -15,7 +15,7 @@ pub enum Numbers {
 }
 
 /// A linear congruential generator of 64 bits.
-#[derive(Debug, Drop)]
+#[derive(Drop)]
 pub struct Draws {
     state: u64,
 }

@@ -125,14 +125,42 @@ const CASES: [Case; 9] = [
 ];
 
 /// Appends the terms of a row.
-fn is_filled(row: &mut Row, coefficients: [i64; 5]) -> bool {
-    for col in 0..5_u32 {
-        let coef = Frac::from(coefficients[col as usize]);
+fn is_filled(row: &mut Row, coefficients: &[i64]) -> bool {
+    let mut col = 0u32;
+    for coefficient in coefficients {
+        let coef = Frac::from(*coefficient);
         if !coef.is_zero() && row.append(Term { col, coef }).is_err() {
             return false;
         }
+        col = col.wrapping_add(1);
     }
     true
+}
+
+/// A side, where there is one.
+fn side_of(side: Option<i64>) -> Option<Frac> {
+    match side {
+        Some(side) => Some(Frac::from(side)),
+        None => None,
+    }
+}
+
+/// The row with these sides and coefficients.
+fn row_of(alloc: Global, low: Option<i64>, high: Option<i64>, values: &[i64]) -> Option<Row> {
+    let mut row = Row::empty(alloc, side_of(low), side_of(high));
+    if is_filled(&mut row, values) {
+        Some(row)
+    } else {
+        None
+    }
+}
+
+/// Adds a row of this number, with its factor.
+fn is_added(alloc: Global, number: u32, line: &Line, asked: &mut Asked) -> bool {
+    match row_of(alloc, line.1, line.2, line.0.as_slice()) {
+        Some(row) => asked.own.push(row).is_ok() && is_used(number, line.3, asked),
+        None => false,
+    }
 }
 
 /// Adds at most five rows, with their factors.
@@ -141,12 +169,7 @@ fn are_added(alloc: Global, lines: &[Line], asked: &mut Asked) -> bool {
         return false;
     }
     for at in 0..lines.len() {
-        let (coefficients, low, high, factor) = lines[at];
-        let mut row = Row::empty(alloc, low.map(Frac::from), high.map(Frac::from));
-        if !is_filled(&mut row, coefficients) || asked.own.push(row).is_err() {
-            return false;
-        }
-        if !is_used(at as u32, factor, asked) {
+        if !is_added(alloc, at as u32, &lines[at], asked) {
             return false;
         }
     }

@@ -24,7 +24,7 @@ struct Part {
 }
 
 /// The sum of a combination, or why there is none; then the rest counts for nothing.
-#[derive(Debug, Drop)]
+#[derive(Drop)]
 pub struct Sum {
     pub coefficients: Vec<Frac>,
     pub least: Frac,
@@ -104,6 +104,15 @@ fn side_of(row: &Row, entry: usize, factor: Frac) -> Result<Frac, CutFault> {
     }
 }
 
+/// Whether the factor of a low side is positive, or that of a high side negative.
+fn has_sign_of_side(factor: Frac, is_low: bool) -> bool {
+    if is_low {
+        factor > Frac::zero()
+    } else {
+        factor < Frac::zero()
+    }
+}
+
 /// The side of a column that an entry uses, where its factor has this sign.
 fn column_side(
     asked: &Asked,
@@ -146,11 +155,7 @@ fn column_part(
     is_low: bool,
 ) -> Result<Part, CutFault> {
     let factor = multiple.factor;
-    let has_sign = if is_low {
-        factor > Frac::zero()
-    } else {
-        factor < Frac::zero()
-    };
+    let has_sign = has_sign_of_side(factor, is_low);
     match column_side(asked, entry, multiple.col, has_sign, is_low) {
         Ok(side) => Ok(Part {
             factor,
@@ -254,17 +259,21 @@ fn coefficient(asked: &Asked, name: Name, column: usize) -> Frac {
     }
 }
 
+/// What the factor of a part is multiplied with: its coefficient on a column, or its side where there is none.
+fn number_of(asked: &Asked, part: Part, column: Option<usize>) -> Frac {
+    match column {
+        Some(column) => coefficient(asked, part.name, column),
+        None => part.side,
+    }
+}
+
 /// The sum of factors times coefficients on a column, or times sides where there is none, or the first part at which it
 /// overflows.
 fn column_sum(asked: &Asked, parts: &[Part], column: Option<usize>) -> Result<Frac, usize> {
     let mut sum = Frac::zero();
     for at in 0..parts.len() {
-        let Part { factor, name, side } = parts[at];
-        let number = match column {
-            Some(column) => coefficient(asked, name, column),
-            None => side,
-        };
-        match plus(sum, factor, number) {
+        let part = parts[at];
+        match plus(sum, part.factor, number_of(asked, part, column)) {
             Some(value) => sum = value,
             None => return Err(at),
         }
