@@ -67,13 +67,19 @@ fn says(blocks: &Blocks, want: Told) -> bool {
     }
 }
 
-fn is_as(read: &Result<Blocks, ReadFault>, want: Told) -> bool {
-    match (read, want) {
-        (Err(ReadFault::Faulty(fault)), Told::Fault(line, kind)) => {
+fn is_fault(fault: ReadFault, want: Told) -> bool {
+    match (fault, want) {
+        (ReadFault::Faulty(fault), Told::Fault(line, kind)) => {
             fault.line == line && fault.kind.number() == kind
         }
-        (Err(_), _) => false,
-        (Ok(blocks), _) => says(blocks, want),
+        _ => false,
+    }
+}
+
+fn is_as(read: Result<Blocks, ReadFault>, want: Told) -> bool {
+    match read {
+        Ok(blocks) => says(&blocks, want),
+        Err(fault) => is_fault(fault, want),
     }
 }
 
@@ -83,7 +89,7 @@ const TWO: &str = "\\ three\nNBLOCKS 02\nBLOCK 1\nR1\nBLOCK 2 R2\n";
 /// A text of a program, one of blocks, and what that says.
 type Case = (&'static str, &'static str, Told);
 
-const CASES: [Case; 10] = [
+const CASES: &[Case] = &[
     (APART, TWO, Told::Block(0, 1, 1)),
     (APART, TWO, Told::Block(1, 1, 2)),
     (APART, TWO, Told::Rest(1, 1)),
@@ -101,10 +107,15 @@ const CASES: [Case; 10] = [
     (APART, "NBLOCKS 2\nBLOCK 1\nR1\n", Told::Fault(4, 8)),
 ];
 
-/// What a case says, whole or in pieces of one size.
-fn is_read(alloc: Global, (model, text, want): Case, size: Option<usize>) -> bool {
-    match program_of(alloc, model) {
-        Some(program) => is_as(&read(alloc, &program, text, size), want),
+/// What the blocks of a case say for a program, whole or in pieces of one size.
+fn is_told(alloc: Global, program: &Program, case: Case, size: Option<usize>) -> bool {
+    is_as(read(alloc, program, case.1, size), case.2)
+}
+
+/// The same for the program of the case.
+fn is_read(alloc: Global, case: Case, size: Option<usize>) -> bool {
+    match program_of(alloc, case.0) {
+        Some(program) => is_told(alloc, &program, case, size),
         None => false,
     }
 }
@@ -121,7 +132,7 @@ fn first_wrong(alloc: Global, cases: &[Case]) -> usize {
 
 #[test]
 fn blocks_are_read(rt: HostRuntime) {
-    assert_eq!(rt; first_wrong(rt.alloc(), &CASES), 10);
+    assert_eq!(rt; first_wrong(rt.alloc(), CASES), 10);
 }
 
 const PIECES: Case = (APART, "NBLOCKS 1\nBLOCK 1\nR2\nR3\n", Told::Block(0, 2, 3));

@@ -59,13 +59,26 @@ fn has(point: &[Frac], values: [(i128, i128); 3]) -> bool {
         })
 }
 
-fn is_as(read: &Result<Vec<Frac>, ReadFault>, want: Told) -> bool {
-    match (read, want) {
-        (Ok(point), Told::Values(values)) => has(point.as_slice(), values),
-        (Err(ReadFault::Faulty(fault)), Told::Fault(line, kind)) => {
+fn is_point(point: &[Frac], want: Told) -> bool {
+    match want {
+        Told::Values(values) => has(point, values),
+        Told::Fault(_, _) => false,
+    }
+}
+
+fn is_fault(fault: ReadFault, want: Told) -> bool {
+    match (fault, want) {
+        (ReadFault::Faulty(fault), Told::Fault(line, kind)) => {
             fault.line == line && fault.kind.number() == kind
         }
         _ => false,
+    }
+}
+
+fn is_as(read: Result<Vec<Frac>, ReadFault>, want: Told) -> bool {
+    match read {
+        Ok(point) => is_point(point.as_slice(), want),
+        Err(fault) => is_fault(fault, want),
     }
 }
 
@@ -89,7 +102,7 @@ const CASES: [(&str, Told); 7] = [
 /// A text says this for the program of another.
 fn is_read(alloc: Global, text: &str, size: Option<usize>, want: Told) -> bool {
     match program_of(alloc, JOINED) {
-        Some(program) => is_as(&read(alloc, &program, text, size), want),
+        Some(program) => is_as(read(alloc, &program, text, size), want),
         None => false,
     }
 }
