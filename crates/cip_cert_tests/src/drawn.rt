@@ -77,18 +77,22 @@ fn fill_bounds(
     Ok(())
 }
 
+/// The same sides, sometimes without the high one, or without both.
+fn widened(draws: &mut Draws, own: Sides) -> Sides {
+    match draws.below(6) {
+        0 => Sides::open(),
+        1 => Sides {
+            low: own.low,
+            high: None,
+        },
+        _ => own,
+    }
+}
+
 /// Fills an empty box with the same sides as another one, some open; once in 4 times one column has others.
 fn fill_scope(draws: &mut Draws, bounds: &Bounds, scope: &mut Bounds) -> Result<(), AllocError> {
     for own in bounds.as_slice() {
-        let sides = match draws.below(6) {
-            0 => Sides::open(),
-            1 => Sides {
-                low: own.low,
-                high: None,
-            },
-            _ => *own,
-        };
-        scope.push(sides)?;
+        scope.push(widened(draws, *own))?;
     }
     if draws.once_in(4) && scope.len() > 0 {
         scope.set_sides(0, sides(draws, Numbers::Whole));
@@ -124,18 +128,31 @@ fn is_added(
         .is_ok()
 }
 
+/// Draws a scope for a row, and adds that to the pool.
+fn add_scoped(
+    alloc: Global,
+    draws: &mut Draws,
+    numbers: Numbers,
+    row: &Scratch,
+    asked: &mut Asked,
+) -> bool {
+    match Bounds::new(alloc, 0) {
+        Ok(mut scope) => fill_scope(draws, &asked.bounds, &mut scope).is_ok()
+            && is_added(alloc, draws, numbers, row, &scope, asked),
+        Err(_) => false,
+    }
+}
+
 /// Draws a row, and adds it to the pool.
 fn add_row(alloc: Global, draws: &mut Draws, numbers: Numbers, asked: &mut Asked) -> bool {
     let columns = asked.bounds.len().min(64);
-    let Ok(mut row) = Scratch::new(alloc, columns) else {
-        return false;
-    };
-    fill_coefficients(draws, numbers, columns as u32, &mut row);
-    let Ok(mut scope) = Bounds::new(alloc, 0) else {
-        return false;
-    };
-    fill_scope(draws, &asked.bounds, &mut scope).is_ok()
-        && is_added(alloc, draws, numbers, &row, &scope, asked)
+    match Scratch::new(alloc, columns) {
+        Ok(mut row) => {
+            fill_coefficients(draws, numbers, columns as u32, &mut row);
+            add_scoped(alloc, draws, numbers, &row, asked)
+        }
+        Err(_) => false,
+    }
 }
 
 /// The name of a row: of one of the first five of the program, of one of the first four of the pool, or the cutoff row.
