@@ -1,2 +1,4 @@
+pub mod Left
+pub mod RootBox
 pub mod Searches
 pub mod TrueFigures

@@ -1,3 +1,5 @@
 pub mod Answering
 pub mod Checking
+pub mod RootBox
 pub mod Saying
+pub mod Work

@@ -3,8 +3,9 @@ ghost use Rattle.std.specs.Prelude.{◌<◌};
 ghost use Rattle.cip_input.specs.LimitedModels.{IsLimited};
 ghost use Rattle.cip_answers.specs.Figures.{answer_text, exit_status, names_of};
 ghost use Rattle.cip_report.specs.Answers.{figures_of, AnswerFits};
-ghost use Rattle.cip_answering.specs.Answering.{Answers, Searched, limits_of};
+ghost use Rattle.cip_answering.specs.Answering.{limits_of};
 ghost use Rattle.cip_answering.specs.Saying.{Says};
+ghost use Rattle.cip_answering.specs.Work.{Searched, Works};
 
 use cip_io::{Failed, Sink};
 use cip_model::Program;
@@ -40,9 +41,10 @@ fn tell<K: Sink>(program: &Program, answer: &Answer, out: &mut K) -> u8
     }
 }
 
-/// Solves a program as the options say, and writes the answer with its figures, whatever the end; its status, or
-/// 5 where the sink failed. A search adds one log to `logs`, or none where memory was refused before it had room for
-/// one: then the answer is want of memory, with the bound of the root.
+/// Solves a program as the options say, and writes what the search found, whatever the end: the point held, and the
+/// bound as the least of what is left. It answers the status of the end, or 5 where the sink failed. A search adds one
+/// log to `logs`, or none where memory was refused before it had room for one: then the answer is want of memory, with
+/// the bound of the root.
 pub fn solve_and_report<K: Sink>(
     alloc: Global,
     program: &Program,
@@ -52,7 +54,7 @@ pub fn solve_and_report<K: Sink>(
 ) -> u8
     requires limited { IsLimited program.now }
     requires some { 0 < options.now.nodes }
-    ensures { Answers program.now (limits_of options.now) (K.tells out.old) (K.tells out.new)
+    ensures { Works program.now (limits_of options.now) (K.tells out.old) (K.tells out.new)
         logs.old.items logs.new.items result }
 {
     let answer = search(alloc, program, options, logs);

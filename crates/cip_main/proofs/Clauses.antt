@@ -1,5 +1,5 @@
 -- The clauses of `run`, each from what the call does.
-use Rattle.std.specs.Prelude.{◌≡◌, ◌≢◌, ◌⊎◌, refl, ℕ, List, Option, None, Some, IfSome, length, ◌*◌, ◌-◌, ◌≤◌, ◌<◌, max}
+use Rattle.std.specs.Prelude.{◌≡◌, ◌≢◌, ◌⊎◌, ⊤, refl, ℕ, List, Option, None, Some, IfSome, length, ◌*◌, ◌-◌, ◌≤◌, ◌<◌, max}
 use Rattle.std.proofs.Common.{sym, ap, ◌∙◌, subst, inl, inr, arith}
 use Rattle.cip_io.specs.Faults.{Rose}
 use Rattle.cip_io.specs.Store.{StoreTells}
@@ -29,7 +29,7 @@ use Rattle.cip_main.specs.declared.plain.Plain.TheVariants.{Usage, ReadFault, Re
 use Rattle.cip_answering.specs.Answering.{IsLogged}
 use Rattle.cip_answering.specs.Checking.{checked}
 use Rattle.cip_main.specs.Plain.{plain_status}
-use Rattle.cip_main.specs.Running.{Call, IsStoreSound, IsSinkSound, GivesPlain, IsAnswered, IsChecked, TellsVerdict, ArePulled, BlocksAreRead, Ran, gives_plain, gives_figures, gives_verdict, IsStatus, write_fault, TellsTruth, Asks, AsksOf, AsksWith, AsksToCheck, RefusesBlocks, IsCutShort, Headline, BreaksSome, CheckClause, HasBlocksFault, HasPointFault, IsFirstFault, TellsModelFault, TellsBlockFault, TellsPointFault, UsageClause, behind_up_to, PullsToFault, ReadFaultClause, RefusedClause, WriteFaultClause, SpentLog, FiguresReachGap, GapLog, OverflowClause, MemoryClause, Runs}
+use Rattle.cip_main.specs.Running.{Call, IsStoreSound, IsSinkSound, GivesPlain, IsAnswered, IsChecked, TellsVerdict, ArePulled, BlocksAreRead, Ran, gives_plain, gives_figures, gives_verdict, IsStatus, write_fault, TellsTruth, Asks, AsksOf, AsksWith, AsksToCheck, RefusesBlocks, IsCutShort, Headline, BreaksSome, CheckClause, HasBlocksFault, HasPointFault, IsFirstFault, TellsModelFault, TellsBlockFault, TellsPointFault, UsageClause, behind_up_to, PullsToFault, ReadFaultClause, RefusedClause, WriteFaultClause, SpentLog, FiguresReachGap, GapLog, OverflowClause, MemoryClause, TellsWork, WorkClause, Runs}
 use Rattle.cip_answering.specs.Saying.{Says}
 use Rattle.cip_main.specs.Tasks.{TaskCause, model_of, second_of, FailsBehind, HasFaultyModel, HasFaultyBlocks, HasFaultyPoint}
 use Rattle.cip_main.proofs.Readings.{told, some_job}
@@ -235,6 +235,24 @@ headline : (call : Call) → Ran call → Headline call
 headline call (gives_plain answer g) text limits program asks h = inr (headline_plain call answer g text limits program asks h)
 headline call (gives_figures a) text limits program asks h = inl (headline_figures call text limits program asks h a)
 headline call (gives_verdict c) text limits program asks h = absurd (solve_check asks.job c.asked)
+
+-- ---- the work
+
+-- where figures are told, they are those of what a search found
+abbrev pub WorkOf : (call : Call) → Ran call → Type 0
+WorkOf call (gives_plain answer g) = ⊤
+WorkOf call (gives_figures a) = TellsWork call a.program a.limits
+WorkOf call (gives_verdict c) = ⊤
+
+work_figures : (call : Call) (text : List ℕ) (limits : Limits) (program : Program) → Asks call text limits → HasProgram text program → (a : IsAnswered call) → TellsWork call a.program a.limits → TellsWork call program limits
+work_figures call text limits program asks h a w =
+    subst (λ p. TellsWork call p limits) (one_program text a.program program (program_asked call text (of_solve call text limits asks) a) h)
+    (subst (λ n. TellsWork call a.program n) (same_limits a.asked asks.job) w)
+
+work_clause : (call : Call) (r : Ran call) → WorkOf call r → WorkClause call
+work_clause call (gives_plain answer g) w text limits program asks h = inr (headline_plain call answer g text limits program asks h)
+work_clause call (gives_figures a) w text limits program asks h = inl (work_figures call text limits program asks h a w)
+work_clause call (gives_verdict c) w text limits program asks h = absurd (solve_check asks.job c.asked)
 
 -- ---- checks
 
@@ -477,7 +495,7 @@ write_fault_clause call (gives_verdict c) = write_fault_of call _ (said_verdict 
 not_lacking : NodeLimit ≡ LacksMemory → ⊥
 not_lacking e = cc
 
-spent_of : (call : Call) (a : IsAnswered call) → a.answers.figures.status ≡ NodeLimit → IsLogged call.logs call.logs_after a.answers.entries a.answers.marks a.answers.figures.status → SpentLog call
+spent_of : (call : Call) (a : IsAnswered call) → a.answers.figures.status ≡ NodeLimit → IsLogged call.logs call.logs_after a.answers.entries a.answers.figures.status → SpentLog call
 spent_of call a limit (inl l) =
     let both : EndsWith a.program a.answers.start a.limits.nodes a.limits.gap a.answers.entries a.answers.figures NodeLimit = subst (EndsWith a.program a.answers.start a.limits.nodes a.limits.gap a.answers.entries a.answers.figures) limit a.answers.are_true.ends in
     let spent = both.0 in
@@ -567,11 +585,12 @@ memory_clause call (gives_figures a) e = inr a
 memory_clause call (gives_verdict c) e = absurd (verdict_not_six (checked c.program c.point) (own_answer call _ 6 (said_verdict call c) e six_five))
 
 -- all of them
-pub runs : (call : Call) → Ran call → Runs call
-runs call r = record {
+pub runs : (call : Call) (r : Ran call) → WorkOf call r → Runs call
+runs call r w = record {
   ran = r;
   statuses = statuses call r;
   headline = headline call r;
+  work = work_clause call r w;
   check = check_clause call r;
   usage = usage_clause call r;
   read_fault = read_fault_clause call r;

@@ -11,7 +11,7 @@ use Rattle.cip_input.specs.TextsRead.{ReadsText}
 use Rattle.cip_main.specs.declared.plain.Plain.{Plain}
 use Rattle.cip_words.specs.Jobs.{Limits}
 use Rattle.cip_main.specs.Tasks.{TakesBlocks, IsSolve, IsCheck}
-use Rattle.cip_main.specs.Running.{Call, BlocksAreRead, IsPulledBehind, TellsTruth, TellsVerdict, GivesPlain, gives_plain, gives_figures, gives_verdict, Runs}
+use Rattle.cip_main.specs.Running.{Call, BlocksAreRead, IsPulledBehind, TellsWork, TellsVerdict, GivesPlain, gives_plain, gives_figures, gives_verdict, Runs}
 use Rattle.cip_main.proofs.Readings.{told, value_told}
 use Rattle.cip_main.proofs.Clauses.{runs}
 use Rattle.std.proofs.Common.{◌∙◌, ap, subst}
@@ -34,8 +34,8 @@ none_failed program None old between new t = ap (λ (store : StoreTells). store.
 none_failed program (Some name) old between new t = t.1.sound
 
 -- a program was read and solved
-pub answered : (call : Call) (program : Program) (limits : Limits) → IsSolve call.job call.store call.store_after program limits → TellsTruth call program limits → Runs call
-answered call program limits s t = runs call (gives_figures (record {
+pub answered : (call : Call) (program : Program) (limits : Limits) → IsSolve call.job call.store call.store_after program limits → TellsWork call program limits → Runs call
+answered call program limits s w = runs call (gives_figures (record {
   model = s.model;
   blocks = s.blocks;
   limits = limits;
@@ -43,10 +43,10 @@ answered call program limits s t = runs call (gives_figures (record {
   program = program;
   is_read = told _ program s.reads.is_read;
   are_read = are_read program s.blocks call.store s.between call.store_after s.takes_blocks;
-  answers = t;
+  answers = w.answers;
   pulled = record { between = s.between; model_pulled = s.reads.pulled; second_pulled = behind program s.blocks call.store s.between call.store_after s.takes_blocks };
   sound = none_failed program s.blocks call.store s.between call.store_after s.takes_blocks ∙ s.reads.sound;
-}))
+})) w
 
 -- a point was read and checked
 pub verdict_told : (call : Call) (program : Program) (point shown : List ℚ) → IsCheck call.job call.store call.store_after program point → shown ≡ point → TellsVerdict call program shown → Runs call
@@ -61,8 +61,8 @@ verdict_told call program point shown k e t = runs call (gives_verdict (record {
   verdict = subst (TellsVerdict call program) e t;
   pulled = record { between = k.between; model_pulled = k.reads.pulled; second_pulled = k.reads_point.pulled };
   sound = k.reads_point.sound ∙ k.reads.sound;
-}))
+})) tt
 
 -- there was no task
 pub plain_told : (call : Call) (answer : Plain) → GivesPlain call answer → Runs call
-plain_told call answer g = runs call (gives_plain answer g)
+plain_told call answer g = runs call (gives_plain answer g) tt

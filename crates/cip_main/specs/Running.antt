@@ -36,6 +36,7 @@ use Rattle.cip_main.specs.declared.plain.Plain.{Plain}
 use Rattle.cip_main.specs.declared.plain.Plain.TheVariants.{Usage, ReadFault, Refused, NoMemory}
 use Rattle.cip_answering.specs.Answering.{Answers}
 use Rattle.cip_answering.specs.Checking.{checked}
+use Rattle.cip_answering.specs.Work.{Works}
 use Rattle.cip_main.specs.Plain.{plain_text, plain_status}
 use Rattle.cip_answering.specs.Saying.{Says}
 use Rattle.cip_main.specs.Tasks.{TaskCause, model_of, second_of}
@@ -393,11 +394,25 @@ OverflowClause call = call.status ≡ 11 → OverflowLog call ⊎ PointOverflows
 abbrev pub MemoryClause : Call → Type 0
 MemoryClause call = call.status ≡ 6 → GivesPlain call NoMemory ⊎ IsAnswered call
 
+-- true figures of the program were told to the sink, and they are those of what a search of it found: the point that it
+-- held, and as the bound the least of what it left
+abbrev pub TellsWork : Call → Program → Limits → Type 0
+TellsWork call program limits =
+    Works program limits call.sink call.sink_after call.logs call.logs_after call.status
+
+-- where the words ask for the program of a text, the figures that are told are those of what a search found; and where
+-- none are told, that is for what the headline says
+abbrev pub WorkClause : Call → Type 0
+WorkClause call =
+    (text : List ℕ) (limits : Limits) (program : Program) → Asks call text limits → HasProgram text program
+    → TellsWork call program limits ⊎ (RefusesBlocks call program ⊎ IsCutShort call)
+
 -- what holds of every call, part by part
 pub record Runs (call : Call) : Type 0 where
   pub ran : Ran call
   pub statuses : IsStatus call.status
   pub headline : Headline call
+  pub work : WorkClause call
   pub check : CheckClause call
   pub usage : UsageClause call
   pub read_fault : ReadFaultClause call

@@ -1,6 +1,7 @@
 use Rattle.std.proofs.Common.{◌≡◌, ◌++◌, ◌∷◌, [], refl, sym, subst, inl, rules}
 use Rattle.cip_solve.specs.Logs.{entries_of}
-use Rattle.cip_answering.specs.Answering.{Searched, limits_of}
+use Rattle.cip_answering.specs.Answering.{limits_of}
+use Rattle.cip_answering.specs.Work.{Searched}
 use Rattle.cip_answering.proofs.Searches.{not_searched}
 use Rattle.cip_answering.proofs.solving.search.Goals as goal
 
@@ -17,5 +18,6 @@ returns c =
       entries = entries_of c.solve-answer.new.log;
       marks = c.solve-answer.new.log.marks.items;
       right = c.solve-answer.ensures;
-      logged = inl (record { log = c.solve-answer.new.log; added = pushed; entries_are = refl; marks_are = refl });
+      logged = inl (record { log = c.solve-answer.new.log; added = pushed; entries_are = refl });
+      marked = inl (record { log = c.solve-answer.new.log; added = pushed; marks_are = refl });
     }

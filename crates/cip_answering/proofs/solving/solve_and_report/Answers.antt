@@ -1,9 +1,9 @@
 use Rattle.cip_answering.specs.Answering.{limits_of}
-use Rattle.cip_answering.proofs.Searches.{answers_of, fits}
+use Rattle.cip_answering.proofs.Searches.{works_of, fits}
 use Rattle.cip_answering.proofs.solving.solve_and_report.Goals as goal
 
 pub tell-requires : goal.tell-requires
 tell-requires g c = fits c.args.program.now (limits_of c.args.options.now) _ _ c.search-answer.result c.requires.limited c.search-answer.ensures
 
 pub returns : goal.returns
-returns g c = answers_of c.args.program.now (limits_of c.args.options.now) _ _ c.search-answer.result _ _ _ c.requires.limited c.search-answer.ensures c.tell.ensures
+returns g c = works_of c.args.program.now (limits_of c.args.options.now) _ _ c.search-answer.result _ _ _ c.requires.limited c.search-answer.ensures c.tell.ensures
