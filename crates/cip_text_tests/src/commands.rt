@@ -3,7 +3,7 @@ use cip_words::{Job, Words, WordsFault};
 use std::alloc::Global;
 
 /// Words, and how many nodes they ask for at most, over the text `M`; 0 where they are refused.
-const CASES: [(&[&str], u64); 24] = [
+const CASES: [(&[&str], u64); 30] = [
     (&["solve", "M"], 1_000_000),
     (&["solve", "M", "--nodes", "5"], 5),
     (&["solve", "--nodes=7", "--plain", "M"], 7),
@@ -13,6 +13,12 @@ const CASES: [(&[&str], u64); 24] = [
     ),
     (&["solve", "M", "--nodes", "1099511627777"], 0),
     (&["solve", "M", "--nodes", "0"], 0),
+    (&["solve", "M", "--nodes", "+5"], 0),
+    (&["solve", "M", "--nodes=05"], 0),
+    (&["solve", "M", "--nodes", "00"], 0),
+    (&["solve", "M", "--nodes", ""], 0),
+    (&["solve", "M", "--nodes", "5x"], 0),
+    (&["solve", "M", "--nodes", "10"], 10),
     (&["solve", "M", "--nodes", "1", "--nodes", "1"], 0),
     (&["solve", "M", "--off", "nosuch"], 0),
     (&["solve"], 0),

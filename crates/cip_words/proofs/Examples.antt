@@ -32,7 +32,16 @@ pub past_most : job_of (codes "solve" ∷ codes "M" ∷ codes "--nodes" ∷ code
 unfolding clap_on_literals cip_command job_of
 past_most = refl
 
--- so are words without a name, a second name, other commands, and the asks for help and version
+-- so are a sign and a 0 in front
+pub plus : job_of (codes "solve" ∷ codes "M" ∷ codes "--nodes" ∷ codes "+5" ∷ []) ≡ None
+unfolding clap_on_literals cip_command job_of
+plus = refl
+
+pub zero_in_front : job_of (codes "solve" ∷ codes "M" ∷ codes "--nodes" ∷ codes "05" ∷ []) ≡ None
+unfolding clap_on_literals cip_command job_of
+zero_in_front = refl
+
+-- and words without a name, a second name, other commands, and the asks for help and version
 pub no_word : job_of [] ≡ None
 unfolding clap_on_literals cip_command job_of
 no_word = refl

@@ -1,16 +1,17 @@
 -- The number of nodes that a word says.
-use Rattle.std.specs.Prelude.{◌≡◌, Bool, true, false, ℕ, ◌^◌, ◌<◌, ◌≤◌, List, [], ◌∷◌, Option, None, Some, refl, if◌then◌else◌, option_and_then}
+use Rattle.std.specs.Prelude.{◌≡◌, ◌==◌, ◌&&◌, Bool, true, false, cond, ℕ, ◌^◌, ◌<◌, ◌≤◌, List, [], ◌∷◌, drop, Option, None, Some, refl, if◌then◌else◌, option_and_then}
 use Rattle.std.proofs.Common.{sym, ap, ap₂, ◌∙◌, arith}
 use lib.Chars.{codes}
 use Rattle.std.specs.Str.{bytes_eq}
 use Rattle.clap.specs.Words.{Kinds, Row, Text, fault_of, first_of, first_value, rows_of, subcommand_of}
 use Rattle.clap.specs.declared.parser.matches.Found.{Found}
-use Rattle.clap.proofs.WalkLemmas.{first_value-rows}
+use Rattle.clap.proofs.WalkLemmas.{both, first_value-rows}
 use Rattle.std.specs.Str.Parse.{IsNumeral, digits_value, without_leading_plus}
 use Rattle.clap.specs.ValueTests.{is_unsigned_in}
 use Rattle.clap.specs.Values.{IsUnsignedIn}
 use Rattle.clap.specs.declared.builder.value_parser.ValueParser.TheVariants as vp
 use Rattle.clap.proofs.ValueTestLemmas.{accepts-Accepts, Accepts-accepts}
+use Rattle.std.proofs.lemmas.Bool.{eqb-true, leb-true}
 use Rattle.std.proofs.lemmas.Option.{same_Some}
 use Rattle.cip_rational.specs.Rational.{ℚ, zeroℚ, le_test}
 use Rattle.cip_number_text.specs.Numeral.{value_of}
@@ -18,23 +19,41 @@ use Rattle.cip_number_text.specs.FractionText.{fraction_of}
 use Rattle.cip_text.specs.NumberFaults.{faulty}
 use Rattle.cip_text.specs.declared.number_text.NumberFault.{NumberFault}
 use Rattle.cip_text.specs.declared.number_text.NumberFault.TheVariants.{NotANumber, Huge, TooFine}
-use Rattle.cip_words.specs.Jobs.{Limits, Job, Solve, Check, AsksForSome, at_least_zero, gap_of, cip_command, check_behind, check_with, job_at, job_behind, job_of, solve_with, most_nodes, nodes_of, unless_faulty, usual_nodes}
+use Rattle.cip_words.specs.Jobs.{Limits, Job, Solve, Check, AsksForSome, at_least_zero, begins_above_zero, gap_of, cip_command, check_behind, check_with, job_at, job_behind, job_of, solve_with, most_nodes, nodes_of, unless_faulty, usual_nodes}
 
-number_of : (same : Bool) (text : List ℕ) → is_unsigned_in 1 most_nodes text ≡ same → nodes_of (Some text) ≡ (if same then Some (digits_value 10 (without_leading_plus text)) else None)
-number_of same text e = ap (λ (b : Bool). if b then Some (digits_value 10 (without_leading_plus text)) else None) e
+-- a text that begins above 0 has no `+` in front
+plus_kept : (byte : ℕ) (bytes : List ℕ) (same : Bool) → (byte == 43) ≡ same → 49 ≤ byte → drop (cond same 1 0) (byte ∷ bytes) ≡ byte ∷ bytes
+plus_kept byte bytes true e h = absurd (omega (arith, eqb-true _ _ e, h))
+plus_kept byte bytes false e h = refl
+
+no_plus : (text : List ℕ) → begins_above_zero text ≡ true → without_leading_plus text ≡ text
+no_plus [] e = absurd (cc)
+no_plus (byte ∷ bytes) e = plus_kept byte bytes (byte == 43) refl (leb-true _ _ (both _ _ e).0)
+
+number_of : (same : Bool) (text : List ℕ) → (begins_above_zero text && is_unsigned_in 1 most_nodes text) ≡ same → nodes_of (Some text) ≡ (if same then Some (digits_value 10 text) else None)
+number_of same text e = ap (λ (b : Bool). if b then Some (digits_value 10 text) else None) e
+
+both_true : (a b : Bool) → a ≡ true → b ≡ true → (a && b) ≡ true
+both_true a b e f = ap₂ (λ (x y : Bool). x && y) e f
 
 -- a number in the range
-pub some_nodes : (text : List ℕ) (n : ℕ) → IsNumeral 10 (without_leading_plus text) → digits_value 10 (without_leading_plus text) < 2 ^ 64 → n ≡ digits_value 10 (without_leading_plus text) → 1 ≤ n → n ≤ most_nodes → nodes_of (Some text) ≡ Some n
-some_nodes text n numeral fits e low high =
-    number_of true text (Accepts-accepts false (vp.Unsigned 1 most_nodes) text (numeral, fits, omega (arith, e, low), omega (arith, e, high))) ∙ ap Some (sym e)
+pub some_nodes : (text : List ℕ) (n : ℕ) → begins_above_zero text ≡ true → IsNumeral 10 (without_leading_plus text) → digits_value 10 (without_leading_plus text) < 2 ^ 64 → n ≡ digits_value 10 (without_leading_plus text) → 1 ≤ n → n ≤ most_nodes → nodes_of (Some text) ≡ Some n
+some_nodes text n above numeral fits e low high =
+    let unsigned = Accepts-accepts false (vp.Unsigned 1 most_nodes) text (numeral, fits, omega (arith, e, low), omega (arith, e, high)) in
+    number_of true text (both_true _ _ above unsigned) ∙ ap Some (sym (e ∙ ap (digits_value 10) (no_plus text above)))
+
+is_not : (b : Bool) → (b ≡ true → ⊥) → (same : Bool) → b ≡ same → b ≡ false
+is_not b n true e = absurd (n e)
+is_not b n false e = e
 
 -- and what is none
 pub no_nodes : (text : List ℕ) → (IsUnsignedIn 1 most_nodes text → ⊥) → nodes_of (Some text) ≡ None
-no_nodes text n = number_of false text (is_not (is_unsigned_in 1 most_nodes text) refl)
-  where
-    is_not : (b : Bool) → is_unsigned_in 1 most_nodes text ≡ b → b ≡ false
-    is_not true e = absurd (n (accepts-Accepts false (vp.Unsigned 1 most_nodes) text e))
-    is_not false e = refl
+no_nodes text n =
+    number_of false text (is_not _ (λ e. n (accepts-Accepts false (vp.Unsigned 1 most_nodes) text (both _ _ e).1)) _ refl)
+
+-- neither does a text with a sign or a 0 in front say one
+pub not_above : (text : List ℕ) → begins_above_zero text ≡ false → nodes_of (Some text) ≡ None
+not_above text e = number_of false text (ap (λ (b : Bool). b && is_unsigned_in 1 most_nodes text) e)
 
 -- ---- the gap that a word says
 
@@ -91,10 +110,11 @@ no_program f m = check_from f None (first_value f (codes "point")) m refl
 
 -- ---- the range of the number
 
-range_of : (text : List ℕ) (nodes : ℕ) (same : Bool) → is_unsigned_in 1 most_nodes text ≡ same → (if same then Some (digits_value 10 (without_leading_plus text)) else None) ≡ Some nodes → (1 ≤ nodes) × (nodes ≤ most_nodes)
+range_of : (text : List ℕ) (nodes : ℕ) (same : Bool) → (begins_above_zero text && is_unsigned_in 1 most_nodes text) ≡ same → (if same then Some (digits_value 10 text) else None) ≡ Some nodes → (1 ≤ nodes) × (nodes ≤ most_nodes)
 range_of text nodes true e h =
-    let within = accepts-Accepts false (vp.Unsigned 1 most_nodes) text e in
-    let same : digits_value 10 (without_leading_plus text) ≡ nodes = cc in
+    let parts = both _ _ e in
+    let within = accepts-Accepts false (vp.Unsigned 1 most_nodes) text parts.1 in
+    let same : digits_value 10 (without_leading_plus text) ≡ nodes = ap (digits_value 10) (no_plus text parts.0) ∙ same_Some _ _ h in
     (omega (arith, same, within.2), omega (arith, same, within.3))
 range_of text nodes false e h = absurd (cc)
 
@@ -103,7 +123,7 @@ usual_range nodes h = let same : usual_nodes ≡ nodes = cc in (omega (arith, sa
 
 nodes_range : (word : Option (List ℕ)) (nodes : ℕ) → nodes_of word ≡ Some nodes → (1 ≤ nodes) × (nodes ≤ most_nodes)
 nodes_range None nodes h = usual_range nodes h
-nodes_range (Some text) nodes h = range_of text nodes (is_unsigned_in 1 most_nodes text) refl h
+nodes_range (Some text) nodes h = range_of text nodes (begins_above_zero text && is_unsigned_in 1 most_nodes text) refl h
 
 limits_same : (model other : List ℕ) (blocks others : Option (List ℕ)) (x y : Limits) → Solve model blocks x ≡ Solve other others y → x ≡ y
 limits_same model other blocks others x y e = cc

@@ -3,10 +3,10 @@
 --                      `check MODEL POINT`
 --     job_of words      the job of the words, where they are accepted
 use lib.Chars.{codes}
-use Rattle.std.specs.Prelude.{◌≡◌, ⊤, ℕ, ◌≤◌, true, List, [], ◌∷◌, Option, None, Some}
+use Rattle.std.specs.Prelude.{◌≡◌, ⊤, ℕ, ◌≤◌, nat_le, Bool, true, false, ◌&&◌, List, [], ◌∷◌, Option, None, Some}
 use Rattle.std.specs.Prelude.{option_map, option_and_then, if◌then◌else◌}
 use Rattle.std.specs.Str.{bytes_eq}
-use Rattle.std.specs.Str.Parse.{digits_value, without_leading_plus}
+use Rattle.std.specs.Str.Parse.{digits_value}
 use Rattle.clap.specs.Words.{App, Kinds, Row, Rule, Text, fault_of, first_of, new_app, new_rule, subcommand_of}
 use Rattle.clap.specs.Words.{AddsSubcommand, Shape, app_of, with_rule, with_subcommand}
 use Rattle.clap.specs.declared.builder.command.Command.{Command}
@@ -84,11 +84,16 @@ cip_command = with_subcommand (with_subcommand bare_command solve_command.top) c
 
 -- ---- what the words mean
 
--- N: a number in decimal digits, a `+` before it or not, from 1 to the most nodes
+-- a text that begins with a digit from 1 to 9: neither with a sign nor with a 0
+abbrev pub begins_above_zero : List ℕ → Bool
+begins_above_zero [] = false
+begins_above_zero (byte ∷ bytes) = nat_le 49 byte && nat_le byte 57
+
+-- N: decimal digits without a sign or a 0 in front, that say a number from 1 to the most nodes
 abbrev pub nodes_of : Option Text → Option ℕ
 nodes_of None = Some usual_nodes
 nodes_of (Some text) =
-    if is_unsigned_in 1 most_nodes text then Some (digits_value 10 (without_leading_plus text)) else None
+    if begins_above_zero text && is_unsigned_in 1 most_nodes text then Some (digits_value 10 text) else None
 
 -- G: a text of a fraction that is at least 0; without a word no gap is asked for
 abbrev pub at_least_zero : Option ℚ → Option ℚ

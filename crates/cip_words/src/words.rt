@@ -3,7 +3,7 @@ ghost use Rattle.std.specs.Prelude.{◌≡◌, ◌++◌, ◌∷◌, [], true, fa
 ghost use Rattle.clap.specs.Words.{app_of, kind_of, rows_of, found_of, new_rule, rule_of, subcommand_rows_of};
 ghost use Rattle.clap.specs.declared.builder.action.ArgAction.TheVariants.{SetTrue};
 ghost use Rattle.clap.specs.declared.error.kind.ErrorKind.TheVariants.{OutOfMemory};
-ghost use Rattle.cip_words.specs.Jobs.{AsksForSome, IsAddedAs, solve_command, check_command, cip_command, nodes_of, at_least_zero, gap_of, job_behind, check_behind, job_at, job_of};
+ghost use Rattle.cip_words.specs.Jobs.{AsksForSome, IsAddedAs, solve_command, check_command, cip_command, begins_above_zero, nodes_of, at_least_zero, gap_of, job_behind, check_behind, job_at, job_of};
 ghost use Rattle.cip_number_text.specs.Numeral.{value_of};
 ghost use Rattle.cip_number_text.specs.FractionText.{fraction_of};
 ghost use Rattle.cip_words.specs.WordsRead.{meant, WordsCause};
@@ -140,10 +140,23 @@ fn command<'a>(alloc: Global) -> Result<Command<'a>, AllocError>
     solver.subcommand(checking(alloc)?)
 }
 
-/// The number of nodes that a word says, from 1 to the most.
+/// Whether a text begins with a digit from 1 to 9.
+fn begins_above_zero(text: &[u8]) -> bool
+    ensures { result ≡ begins_above_zero text.now }
+{
+    match text {
+        [] => false,
+        [first, ..] => b'1' <= *first && *first <= b'9',
+    }
+}
+
+/// The number of nodes that a word says, from 1 to the most, in digits without a sign or a 0 in front.
 fn number_in(text: &str) -> Option<u64>
     ensures { result ≡ nodes_of (Some text.now) }
 {
+    if !begins_above_zero(text.as_bytes()) {
+        return None;
+    }
     match text.parse::<u64>() {
         Ok(nodes) if 1 <= nodes && nodes <= MOST_NODES => Some(nodes),
         _ => None,
