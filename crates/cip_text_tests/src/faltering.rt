@@ -1,4 +1,4 @@
-//! A file and a writer that fail in their midst.
+//! Files of a system and a writer, which answer in short pieces and fail in their midst.
 use crate::files::{TEXT, gives};
 use cip_io::{HostSink, HostStore, Store, push_all};
 use std::alloc::Allocator;
@@ -6,9 +6,25 @@ use std::fs::{Metadata, OpenFile, OpenOptions};
 use std::io;
 use std::rt::Files;
 
-/// An open file with the text, read in pieces of four bytes, of which one read fails.
+/// The names of a system's files, which differ by blanks at their ends, and their texts.
+const FILES: [(&str, &[u8]); 3] = [("M", TEXT), (" M", b"front"), ("M ", b"other")];
+
+/// The text of the file of this name.
+fn text_of(name: &str) -> Option<&'static [u8]> {
+    for at in 0..FILES.len() {
+        let (file, text) = FILES[at];
+        if file == name {
+            return Some(text);
+        }
+    }
+    None
+}
+
+/// An open file, read in pieces of at most so many bytes, of which one read fails.
 #[derive(Drop)]
 struct FalteringFile {
+    text: &'static [u8],
+    greatest_piece: usize,
     at: usize,
     calls: usize,
     failing: usize,
@@ -25,8 +41,8 @@ impl io::Read for FalteringFile {
         if self.calls == self.failing {
             return Err(io::Error::from(io::ErrorKind::TimedOut));
         }
-        let rest = TEXT.get(self.at..).unwrap_or(&[]);
-        let count = buf.len().min(rest.len()).min(4);
+        let rest = self.text.get(self.at..).unwrap_or(&[]);
+        let count = buf.len().min(rest.len()).min(self.greatest_piece);
         buf[..count].copy_from_slice(&rest[..count]);
         self.at = self.at.saturating_add(count);
         Ok(count)
@@ -51,7 +67,7 @@ impl io::Seek for FalteringFile {
 
 impl OpenFile for FalteringFile {
     fn metadata(&self) -> io::Result<Metadata> {
-        Ok(Metadata::of_file(10))
+        Ok(Metadata::of_file(self.text.len() as u64))
     }
 
     fn set_len(&self, _size: u64) -> io::Result<()> {
@@ -70,6 +86,7 @@ impl OpenFile for FalteringFile {
 /// A system of which each file is such a one.
 #[derive(Drop)]
 struct FalteringFiles {
+    greatest_piece: usize,
     failing: usize,
 }
 
@@ -78,12 +95,17 @@ impl Files for FalteringFiles {
 
     type Dir = FalteringFile;
 
-    fn open_file(&self, _how: &OpenOptions, _path: &str) -> io::Result<FalteringFile> {
-        Ok(FalteringFile {
-            at: 0,
-            calls: 0,
-            failing: self.failing,
-        })
+    fn open_file(&self, _how: &OpenOptions, path: &str) -> io::Result<FalteringFile> {
+        match text_of(path) {
+            Some(text) => Ok(FalteringFile {
+                text,
+                greatest_piece: self.greatest_piece,
+                at: 0,
+                calls: 0,
+                failing: self.failing,
+            }),
+            None => Err(io::Error::from(io::ErrorKind::NotFound)),
+        }
     }
 
     fn open_dir(&self, _path: &str) -> io::Result<FalteringFile> {
@@ -123,25 +145,59 @@ impl Files for FalteringFiles {
     }
 }
 
-/// Which read fails, and what each call answers.
-const READS: [(usize, &[usize]); 4] = [
-    (0, &[4, 4, 2, 0, 0]),
-    (1, &[99, 4, 4, 2, 0]),
-    (3, &[4, 4, 99, 2, 0]),
-    (4, &[4, 4, 2, 99, 0]),
+/// The greatest piece, which read fails, and what each call answers.
+const READS: [(usize, usize, &[usize]); 6] = [
+    (4, 0, &[4, 4, 2, 0, 0]),
+    (4, 1, &[99, 4, 4, 2, 0]),
+    (4, 3, &[4, 4, 99, 2, 0]),
+    (4, 4, &[4, 4, 2, 99, 0]),
+    (1, 0, &[1, 1, 1, 1, 1, 1, 1, 1, 1, 1, 0]),
+    (6, 0, &[6, 4, 0]),
 ];
 
-fn is_read(failing: usize, answers: &[usize]) -> bool {
-    let mut store = HostStore::new(FalteringFiles { failing });
-    store.choose("a file").is_ok() && gives(&mut store, answers, TEXT)
+fn is_read(greatest_piece: usize, failing: usize, answers: &[usize]) -> bool {
+    let mut store = HostStore::new(FalteringFiles {
+        greatest_piece,
+        failing,
+    });
+    store.choose("M").is_ok() && gives(&mut store, answers, TEXT)
 }
 
 #[test]
-fn a_read_fails_in_mid_file(rt: HostRuntime) {
+fn a_read_is_short_or_fails_in_mid_file(rt: HostRuntime) {
     for at in 0..READS.len() {
-        let (failing, answers) = READS[at];
-        assert!(rt; is_read(failing, answers), "case {at}");
+        let (greatest_piece, failing, answers) = READS[at];
+        assert!(rt; is_read(greatest_piece, failing, answers), "case {at}");
     }
+}
+
+/// Names in the order in which they are chosen, and the pieces that are pulled of each before the next.
+const CHOSEN: [(&str, &[usize], &[u8]); 5] = [
+    ("M", &[4], b"0123"),
+    (" M", &[4, 1, 0], b"front"),
+    ("M ", &[4, 1, 0], b"other"),
+    ("M", &[4, 4], b"01234567"),
+    ("M", &[4, 4, 2, 0], TEXT),
+];
+
+/// Each name chooses its own file, from its start, whatever was open before; a name that is none's fails.
+fn are_chosen() -> bool {
+    let mut store = HostStore::new(FalteringFiles {
+        greatest_piece: 4,
+        failing: 0,
+    });
+    for at in 0..CHOSEN.len() {
+        let (name, sizes, text) = CHOSEN[at];
+        if store.choose(name).is_err() || !gives(&mut store, sizes, text) {
+            return false;
+        }
+    }
+    store.choose(" M ").is_err() && store.choose("").is_err()
+}
+
+#[test]
+fn each_name_chooses_its_own_file(rt: HostRuntime) {
+    assert!(rt; are_chosen());
 }
 
 /// A writer that takes three bytes at once, and one call fails or takes nothing.

@@ -95,22 +95,28 @@ fn a_sink_has_room_for_ten(rt: HostRuntime) {
     assert!(rt; has_room_for_ten(rt.alloc()));
 }
 
-/// Writes the text into a file, reads it, and removes the file.
-fn is_file_read(rt: &HostRuntime, path: &str) -> bool {
-    let is_written = fs::write(rt, path, TEXT).is_ok();
+/// Writes two texts into files, reads the first in part and then the second, and removes both.
+fn are_files_read(rt: &HostRuntime, path: &str, other: &str) -> bool {
+    let is_written = fs::write(rt, path, b"0123456").is_ok();
+    let is_other_written = fs::write(rt, other, TEXT).is_ok();
     let mut store = HostStore::new(rt);
     let is_read = store.choose(path).is_ok()
         && store.choose("/tmp/cip_text_absent").is_err()
         && store.choose("/tmp").is_err()
+        && gives(&mut store, &[6], b"012345")
+        && store.choose(other).is_ok()
         && gives(&mut store, &[6, 4, 0], TEXT);
     let is_removed = fs::remove_file(rt, path).is_ok();
-    is_written && is_read && is_removed
+    let is_other_removed = fs::remove_file(rt, other).is_ok();
+    is_written && is_other_written && is_read && is_removed && is_other_removed
 }
 
+/// The name of the second file has a blank at its end more.
 #[test]
-fn a_file_is_read(rt: HostRuntime) -> Result<(), Fail> {
+fn files_are_read(rt: HostRuntime) -> Result<(), Fail> {
     let path = format!(in rt.alloc(); "/tmp/cip_text_{}", process::id(rt.process()))?;
-    assert!(rt; is_file_read(&rt, path.as_str()));
+    let other = format!(in rt.alloc(); "{} ", path.as_str())?;
+    assert!(rt; are_files_read(&rt, path.as_str(), other.as_str()));
     Ok(())
 }
 
