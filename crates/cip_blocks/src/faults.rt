@@ -124,7 +124,8 @@ impl BlockKind {
 
 impl fmt::Display for BlockKind {
     fn fmt<W: fmt::Write>(&self, f: &mut fmt::Formatter<W>) -> fmt::Result {
-        f.write_str(self.name())
+        let (number, name) = (self.number(), self.name());
+        write!(f, "kind {number} {name}")
     }
 }
 

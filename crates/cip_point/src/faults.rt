@@ -107,7 +107,8 @@ impl PointKind {
 
 impl fmt::Display for PointKind {
     fn fmt<W: fmt::Write>(&self, f: &mut fmt::Formatter<W>) -> fmt::Result {
-        f.write_str(self.name())
+        let (number, name) = (self.number(), self.name());
+        write!(f, "kind {number} {name}")
     }
 }
 
