@@ -7,7 +7,7 @@ record or a data type; lemmas that definitions rest on are not followed, since t
 
 Without a word it prints each definition with the line that says it in words, file by file. --files prints the files
 with their counts, --table a table of crates for docs/ARCHITECTURE.md. A definition that is reached only through fields
-of these names (`is_search` where nothing is said: how nodes were split, of which no figure speaks) has a star.
+of these names (`work` where nothing is said: how a search worked, a part of the contract beside the headline) has a star.
 Types of code, and words of std and clap, end the way; they are named at the end."""
 import argparse
 import re
@@ -280,7 +280,7 @@ def main():
     reader = argparse.ArgumentParser(description=__doc__, formatter_class=argparse.RawDescriptionHelpFormatter)
     reader.add_argument("--files", dest="how", action="store_const", const="files", default="all")
     reader.add_argument("--table", dest="how", action="store_const", const="table")
-    reader.add_argument("--apart", nargs="*", default=["is_search"])
+    reader.add_argument("--apart", nargs="*", default=["work"])
     asked = reader.parse_args()
     starts = list(roots())
     reached, figures = follow(starts), follow(starts, tuple(asked.apart))
