@@ -62,8 +62,8 @@ def watch(run):
         stats = {int(it): stat_of(it) for it in os.listdir("/proc") if it.isdigit()}
         stats = {pid: it for pid, it in stats.items() if it}
         for pid in below(run.pid, {pid: it[0] for pid, it in stats.items()}):
-            if pid not in places:
-                places[pid] = place_of(pid)
+            # (a process that is just being made has its maker's name)
+            places[pid] = places.get(pid) or place_of(pid)
             if pid in stats and places[pid]:
                 seconds[pid] = max(seconds.get(pid, 0.0), stats[pid][1])
         time.sleep(0.25)
