@@ -65,11 +65,25 @@ fn write_once<W: Write>(writer: &mut W, faults: &mut u64, piece: &[u8]) -> Resul
     ensures ok { OnOk result (faults.new ≡ faults.old) }
     ensures err { OnErr result (faults.new ≡ next_count faults.old) }
 {
-    match writer.write(piece) {
+    match write_through(writer, piece) {
         Ok(count) if count > 0 => Ok(count),
         _ => {
             *faults = faults.saturating_add(1);
             Err(Failed)
         }
     }
+}
+
+/// Writes once, and again where a signal interrupted the write: that is no fault.
+fn write_through<W: Write>(writer: &mut W, piece: &[u8]) -> io::Result<usize>
+    ensures within { IfOk result (λ n. n ≤ length piece.now) }
+    ensures bytes { WriteAppends (W.contents writer.old) (W.contents writer.new) result piece.now }
+{
+    for _ in 0..u64::MAX {
+        match writer.write(piece) {
+            Err(error) if error.kind() == io::ErrorKind::Interrupted => {}
+            written => return written,
+        }
+    }
+    Err(io::Error::from(io::ErrorKind::TimedOut))
 }

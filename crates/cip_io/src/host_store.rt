@@ -108,11 +108,25 @@ fn read_once<F: Read>(
     let Some(file) = file else {
         return Ok(0);
     };
-    match file.read(into) {
+    match read_through(file, into) {
         Ok(count) => Ok(count),
         Err(_) => {
             *faults = faults.saturating_add(1);
             Err(Failed)
         }
     }
+}
+
+/// Reads once, and again where a signal interrupted the read: that is no fault.
+fn read_through<F: Read>(file: &mut F, into: &mut [u8]) -> io::Result<usize>
+    ensures within { IfOk result (λ n. n ≤ length into.old) }
+    ensures bytes { ReadConsumes (F.remaining file.old) (F.remaining file.new) result into.new }
+{
+    for _ in 0..u64::MAX {
+        match file.read(into) {
+            Err(error) if error.kind() == io::ErrorKind::Interrupted => {}
+            read => return read,
+        }
+    }
+    Err(io::Error::from(io::ErrorKind::TimedOut))
 }
