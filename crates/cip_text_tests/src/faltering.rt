@@ -20,7 +20,7 @@ fn text_of(name: &str) -> Option<&'static [u8]> {
     None
 }
 
-/// An open file, read in pieces of at most so many bytes, of which one read fails.
+/// An open file, read in pieces of at most so many bytes, of which one read has this fault.
 #[derive(Drop)]
 struct FalteringFile {
     text: &'static [u8],
@@ -28,6 +28,7 @@ struct FalteringFile {
     at: usize,
     calls: usize,
     failing: usize,
+    fault: io::ErrorKind,
 }
 
 /// What else a file or its system is asked.
@@ -39,7 +40,7 @@ impl io::Read for FalteringFile {
     fn read(&mut self, buf: &mut [u8]) -> io::Result<usize> {
         self.calls = self.calls.saturating_add(1);
         if self.calls == self.failing {
-            return Err(io::Error::from(io::ErrorKind::TimedOut));
+            return Err(io::Error::from(self.fault));
         }
         let rest = self.text.get(self.at..).unwrap_or(&[]);
         let count = buf.len().min(rest.len()).min(self.greatest_piece);
@@ -88,6 +89,7 @@ impl OpenFile for FalteringFile {
 struct FalteringFiles {
     greatest_piece: usize,
     failing: usize,
+    fault: io::ErrorKind,
 }
 
 impl Files for FalteringFiles {
@@ -103,6 +105,7 @@ impl Files for FalteringFiles {
                 at: 0,
                 calls: 0,
                 failing: self.failing,
+                fault: self.fault,
             }),
             None => Err(io::Error::from(io::ErrorKind::NotFound)),
         }
@@ -145,20 +148,28 @@ impl Files for FalteringFiles {
     }
 }
 
-/// The greatest piece, which read fails, and what each call answers.
-const READS: [(usize, usize, &[usize]); 6] = [
-    (4, 0, &[4, 4, 2, 0, 0]),
-    (4, 1, &[99, 4, 4, 2, 0]),
-    (4, 3, &[4, 4, 99, 2, 0]),
-    (4, 4, &[4, 4, 2, 99, 0]),
-    (1, 0, &[1, 1, 1, 1, 1, 1, 1, 1, 1, 1, 0]),
-    (6, 0, &[6, 4, 0]),
+/// The greatest piece, which read has which fault, and what each call answers: one that was interrupted has none.
+const READS: [(usize, usize, io::ErrorKind, &[usize]); 8] = [
+    (4, 0, io::ErrorKind::TimedOut, &[4, 4, 2, 0, 0]),
+    (4, 1, io::ErrorKind::TimedOut, &[99, 4, 4, 2, 0]),
+    (4, 3, io::ErrorKind::TimedOut, &[4, 4, 99, 2, 0]),
+    (4, 4, io::ErrorKind::TimedOut, &[4, 4, 2, 99, 0]),
+    (
+        1,
+        0,
+        io::ErrorKind::TimedOut,
+        &[1, 1, 1, 1, 1, 1, 1, 1, 1, 1, 0],
+    ),
+    (6, 0, io::ErrorKind::TimedOut, &[6, 4, 0]),
+    (4, 1, io::ErrorKind::Interrupted, &[4, 4, 2, 0]),
+    (4, 3, io::ErrorKind::Interrupted, &[4, 4, 2, 0]),
 ];
 
-fn is_read(greatest_piece: usize, failing: usize, answers: &[usize]) -> bool {
+fn is_read(greatest_piece: usize, failing: usize, fault: io::ErrorKind, answers: &[usize]) -> bool {
     let mut store = HostStore::new(FalteringFiles {
         greatest_piece,
         failing,
+        fault,
     });
     store.choose("M").is_ok() && gives(&mut store, answers, TEXT)
 }
@@ -166,8 +177,11 @@ fn is_read(greatest_piece: usize, failing: usize, answers: &[usize]) -> bool {
 #[test]
 fn a_read_is_short_or_fails_in_mid_file(rt: HostRuntime) {
     for at in 0..READS.len() {
-        let (greatest_piece, failing, answers) = READS[at];
-        assert!(rt; is_read(greatest_piece, failing, answers), "case {at}");
+        let (greatest_piece, failing, fault, answers) = READS[at];
+        assert!(rt;
+            is_read(greatest_piece, failing, fault, answers),
+            "case {at}"
+        );
     }
 }
 
@@ -185,6 +199,7 @@ fn are_chosen() -> bool {
     let mut store = HostStore::new(FalteringFiles {
         greatest_piece: 4,
         failing: 0,
+        fault: io::ErrorKind::TimedOut,
     });
     for at in 0..CHOSEN.len() {
         let (name, sizes, text) = CHOSEN[at];
@@ -209,17 +224,16 @@ struct FalteringWriter {
     is_right: bool,
     calls: usize,
     failing: usize,
-    fails: bool,
+    fault: Option<io::ErrorKind>,
 }
 
 impl io::Write for FalteringWriter {
     fn write(&mut self, buf: &[u8]) -> io::Result<usize> {
         self.calls = self.calls.saturating_add(1);
         if self.calls == self.failing {
-            return if self.fails {
-                Err(io::Error::from(io::ErrorKind::BrokenPipe))
-            } else {
-                Ok(0)
+            return match self.fault {
+                Some(fault) => Err(io::Error::from(fault)),
+                None => Ok(0),
             };
         }
         let count = buf.len().min(3);
@@ -234,26 +248,27 @@ impl io::Write for FalteringWriter {
     }
 }
 
-/// Which call fails, whether it answers an error or takes nothing, and how many bytes are taken before.
-const WRITES: [(usize, bool, usize); 5] = [
-    (0, true, 10),
-    (1, false, 0),
-    (2, true, 3),
-    (3, false, 6),
-    (4, true, 9),
+/// Which call takes nothing, its fault if it answers one, and how many bytes are taken before the push fails.
+const WRITES: [(usize, Option<io::ErrorKind>, usize); 6] = [
+    (0, None, 10),
+    (1, None, 0),
+    (2, Some(io::ErrorKind::BrokenPipe), 3),
+    (3, None, 6),
+    (4, Some(io::ErrorKind::BrokenPipe), 9),
+    (2, Some(io::ErrorKind::Interrupted), 10),
 ];
 
 /// Pushes the text, and then the rest of it.
-fn is_taken(failing: usize, fails: bool, before: usize) -> bool {
+fn is_taken(failing: usize, fault: Option<io::ErrorKind>, before: usize) -> bool {
     let mut writer = FalteringWriter {
         at: 0,
         is_right: true,
         calls: 0,
         failing,
-        fails,
+        fault,
     };
     let has_failed = push_all(&mut HostSink::over(&mut writer), TEXT).is_err();
-    if has_failed != (failing > 0) || writer.at != before {
+    if has_failed != (before < 10) || writer.at != before {
         return false;
     }
     let rest = TEXT.get(before..).unwrap_or(&[]);
@@ -264,7 +279,7 @@ fn is_taken(failing: usize, fails: bool, before: usize) -> bool {
 #[test]
 fn a_write_is_short_or_takes_nothing(rt: HostRuntime) {
     for at in 0..WRITES.len() {
-        let (failing, fails, before) = WRITES[at];
-        assert!(rt; is_taken(failing, fails, before), "case {at}");
+        let (failing, fault, before) = WRITES[at];
+        assert!(rt; is_taken(failing, fault, before), "case {at}");
     }
 }
