@@ -1,4 +1,5 @@
 pub mod Left
 pub mod RootBox
 pub mod Searches
+pub mod Told
 pub mod TrueFigures

@@ -2,7 +2,9 @@
 #![tactic(auto)]
 
 mod checking;
+mod laws;
 mod solving;
 
 pub use checking::check_and_report;
+pub use laws::{bounds_are_told, points_are_told};
 pub use solving::solve_and_report;
