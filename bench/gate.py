@@ -8,7 +8,7 @@
 Each check is a process of its own. While the gate runs, the processes below it are looked at four times a second, and
 what each has used of a processor is counted for the crate that it is called with: for its wrong bodies where it runs
 in a copy that such a body is tried in, for its tests where it checks or compiles these, else for its proof (with the
-code that is made of it). The line 'other' holds rt itself and the runs of programs and tests.
+code that is made of it). The line 'other' holds rt itself, the linkers, and the runs of programs and tests.
 """
 import os
 import subprocess
@@ -21,13 +21,13 @@ KINDS = ("proof", "tests", "edits")
 
 
 def stat_of(pid):
-    """The parent of a process and the seconds that it and its ended children used, or None where it is gone."""
+    """The parent of a process and the seconds that it used by itself, or None where it is gone."""
     try:
         with open(f"/proc/{pid}/stat", encoding="utf-8", errors="replace") as it:
             fields = it.read().rpartition(")")[2].split()
     except OSError:
         return None
-    return int(fields[1]), sum(map(int, fields[11:15])) / TICK
+    return int(fields[1]), sum(map(int, fields[11:13])) / TICK
 
 
 def place_of(pid):
