@@ -16,7 +16,7 @@ use Rattle.cip_mps_rules.specs.MpsBounds.{Bounded, unbounded, with_bound, bounde
 use Rattle.cip_mps_rules.specs.MpsProgram.{program_of}
 use Rattle.cip_mps_rules.specs.MpsStatements.{facts_after}
 use Rattle.cip_mps_steps.specs.MpsStepStatements.{is_far_value, ValuesAreTested}
-use Rattle.cip_input.specs.LimitedModels.{IsNear, HasNearSides}
+use Rattle.cip_problem.specs.NearSides.{IsNear, HasNearSides}
 
 -- ---- 0 and 1
 

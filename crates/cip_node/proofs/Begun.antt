@@ -32,7 +32,8 @@ use Rattle.cip_tree.specs.Nodes.{Nodes}
 use Rattle.cip_tree.specs.Moves.{IsNew}
 use Rattle.cip_node_rules.specs.SplitRules.{AreNear}
 use Rattle.cip_node_rules.specs.RootBounds.{value_of, rounded_if}
-use Rattle.cip_node.specs.Beginning.{root_value, IsRootBound, IsNear, HasNearSides, AreNearColumns}
+use Rattle.cip_problem.specs.NearSides.{IsNear, HasNearSides}
+use Rattle.cip_node.specs.Beginning.{root_value, IsRootBound, AreNearColumns}
 use Rattle.cip_node.specs.KeptNodes.{farthest, IsNearBox, IsKept}
 use Rattle.cip_node.proofs.Rounded.{rounded_holds}
 

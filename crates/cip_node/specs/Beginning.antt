@@ -1,7 +1,8 @@
 -- What a search begins with.
-use Rattle.std.specs.Prelude.{◌≡◌, ◌^◌, All, Option, IfSome, option_map, pos}
-use Rattle.cip_rational.specs.Rational.{ℚ, integer, ceil, absolute, ◌<ℚ◌}
-use Rattle.cip_problem.specs.Program.{Sides, Program}
+use Rattle.std.specs.Prelude.{◌≡◌, All, Option, option_map}
+use Rattle.cip_rational.specs.Rational.{ℚ, integer, ceil}
+use Rattle.cip_problem.specs.Program.{Program}
+use Rattle.cip_problem.specs.NearSides.{HasNearSides}
 use Rattle.cip_cuts.specs.Cuts.{HasWholeCosts}
 use Rattle.cip_model.specs.Least.{least_cost_from}
 use Rattle.cip_node_rules.specs.RootBounds.{value_of}
@@ -15,15 +16,6 @@ pub record IsRootBound (program : Program) (start : Option ℚ) : Type 0 where
   pub whole : HasWholeCosts program → start ≡ option_map (λ bound. integer (ceil bound)) (root_value program)
   pub plain : ¬ HasWholeCosts program → start ≡ root_value program
 
--- a side, where it is there, has a size below 10^20
-abbrev pub IsNear : Option ℚ → Type 0
-IsNear side = IfSome side (λ value. absolute value <ℚ integer (pos (10 ^ 20)))
-
--- so have both sides of a column
-pub record HasNearSides (sides : Sides) : Type 0 where
-  pub low : IsNear sides.low
-  pub high : IsNear sides.high
-
--- so have the sides of all columns
+-- the sides of all columns have sizes below 10^20
 abbrev pub AreNearColumns : Program → Type 0
 AreNearColumns program = All HasNearSides program.bounds

@@ -6,6 +6,7 @@ pub mod Examples
 pub mod Limits
 pub mod Log
 pub mod Names
+pub mod NearSides
 pub mod Points
 pub mod Program
 pub mod RowTerms

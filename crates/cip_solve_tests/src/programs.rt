@@ -1,6 +1,7 @@
 //! Programs of texts of free MPS.
 ghost use Rattle.std.specs.Prelude.{IsTrue};
-ghost use Rattle.cip_node.specs.Beginning.{HasNearSides, AreNearColumns, IsNear};
+ghost use Rattle.cip_problem.specs.NearSides.{IsNear, HasNearSides};
+ghost use Rattle.cip_node.specs.Beginning.{AreNearColumns};
 
 use cip_frac::Frac;
 use cip_lin::Sides;

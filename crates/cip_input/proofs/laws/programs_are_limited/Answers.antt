@@ -1,7 +1,7 @@
 use Rattle.std.proofs.Common.{subst}
 use Rattle.std.specs.Prelude.{All}
 use Rattle.cip_problem.specs.Program.{Program}
-use Rattle.cip_input.specs.LimitedModels.{HasNearSides}
+use Rattle.cip_problem.specs.NearSides.{HasNearSides}
 use Rattle.cip_input.proofs.NearSides.{sides_near}
 use Rattle.cip_input.proofs.laws.programs_are_limited.Goals as goal
 

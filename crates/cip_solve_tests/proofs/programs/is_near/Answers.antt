@@ -4,7 +4,7 @@ use Rattle.cip_rational.specs.Rational.{◌<ℚ◌, integer, absolute}
 use Rattle.cip_rational.proofs.Comparisons.{is_lt-compare}
 use Rattle.cip_rational.proofs.Rational.Order.{<ℚ_of_lt_of_le, lt_of_test}
 use Rattle.cip_rational.proofs.Rational.Rounding.{integer_le}
-use Rattle.cip_node.specs.Beginning.{IsNear}
+use Rattle.cip_problem.specs.NearSides.{IsNear}
 use Rattle.cip_solve_tests.proofs.programs.is_near.Goals as goal
 
 pub returns-in-Some : goal.returns-in-Some
