@@ -12,8 +12,8 @@ use Rattle.cip_rational.proofs.Rational.Lowest.{denominator-pos}
 use Rattle.cip_dictionary.specs.Operations.{Product, Sum, placed, first_overflow, is_zero, sum_at}
 use Rattle.cip_dictionary.specs.declared.places.Line.TheVariants.{Cost}
 use Rattle.cip_dictionary.specs.declared.places.Place.{Place}
-use Rattle.cip_dict.specs.Values.{IsAdded, IsShort}
-use Rattle.cip_dict.specs.WholeLines.{IsSmall}
+use Rattle.cip_dict.specs.Values.{IsAdded}
+use Rattle.cip_dict.specs.WholeLines.{HasTermsBelow}
 use Rattle.cip_dict.proofs.Formed.{sum_zero_left, sum_zero_right}
 use Rattle.cip_dict.proofs.WholeLines.{whole_lines_tell}
 
@@ -39,7 +39,7 @@ fits place c a b p s = formed (is_zero a || is_zero b) false false place a b c p
 
 -- short numbers are small
 
-small_of : (q : ℚ) → IsShort q → IsSmall q
+small_of : (q : ℚ) → HasTermsBelow (2 ^ 20) q → HasTermsBelow (2 ^ 42) q
 small_of q h = record { top = omega (arith, h.top); bottom = omega (arith, h.bottom) }
 
 commuted : (a b : ℤ) → a *ℤ b ≡ b *ℤ a
@@ -56,9 +56,9 @@ sum_is q t n below h =
     ∙ ratio-add (numerator q) (n *ℤ numerator t) (denominator q) (below * denominator t) (denominator-pos q) (mul-pos h (denominator-pos t))
     ∙ ap (λ x. ratio (x +ℤ n *ℤ numerator t *ℤ pos (denominator q)) (denominator q * (below * denominator t))) (commuted (numerator q) (pos (below * denominator t)))
 
-pub short_added : (q t : ℚ) (n : ℤ) (below : ℕ) (new : ℚ) (z : ℤ) (u : ℕ) → 0 < below → magnitude n < 2 ^ 20 → below < 2 ^ 20 → IsShort q → IsShort t → z ≡ pos (below * denominator t) *ℤ numerator q +ℤ n *ℤ numerator t *ℤ pos (denominator q) → u ≡ denominator q * (below * denominator t) → new ≡ ratio z u → IsAdded true q (ratio n below) t new
+pub short_added : (q t : ℚ) (n : ℤ) (below : ℕ) (new : ℚ) (z : ℤ) (u : ℕ) → 0 < below → magnitude n < 2 ^ 20 → below < 2 ^ 20 → HasTermsBelow (2 ^ 20) q → HasTermsBelow (2 ^ 20) t → z ≡ pos (below * denominator t) *ℤ numerator q +ℤ n *ℤ numerator t *ℤ pos (denominator q) → u ≡ denominator q * (below * denominator t) → new ≡ ratio z u → IsAdded true q (ratio n below) t new
 short_added q t n below new z u h hn hb hq ht ez eu e =
-    let entry : IsSmall (ratio n below) = whole_lines_tell.small n below h (omega (arith, hn)) (omega (arith, hb)) in
+    let entry : HasTermsBelow (2 ^ 42) (ratio n below) = whole_lines_tell.small n below h (omega (arith, hn)) (omega (arith, hb)) in
     let p = whole_lines_tell.products (ratio n below) t entry (small_of t ht) in
     let s = whole_lines_tell.sums q (ratio n below) t (small_of q hq) entry (small_of t ht) in
     ((λ place. fits place q (ratio n below) t p s), e ∙ ap₂ (λ x y. ratio x y) ez eu ∙ sym (sum_is q t n below h))

@@ -1,6 +1,6 @@
 -- Lines that are written in whole numbers.
-use Rattle.std.proofs.Common.{◌≡◌, ℕ, ◌<◌, ◌≤◌, Bool, true, List, length, None, Ok, refl, sym, ap, ◌∙◌, subst, arith}
-use Rattle.cip_rational.specs.Rational.{ℚ, inverse, ratio}
+use Rattle.std.proofs.Common.{◌≡◌, ℕ, ◌<◌, Bool, true, List, length, None, Ok, refl, sym, ◌∙◌, subst, arith}
+use Rattle.cip_rational.specs.Rational.{ℚ}
 use Rattle.cip_problem.specs.Activity.{value_at}
 use Rattle.cip_dictionary.specs.Tables.{table, each}
 use Rattle.cip_dictionary.specs.Exchange.{solved, substituted}
@@ -9,7 +9,7 @@ use Rattle.cip_dictionary.specs.MoveOperations.{solved_operations, substituted_o
 use Rattle.cip_dictionary.specs.declared.places.Line.{Line}
 use Rattle.cip_dictionary.specs.declared.places.Line.TheVariants.{Cost}
 use Rattle.cip_dict.specs.SparseLines.{Kept, entry_on, dense, kept_of, AreKept}
-use Rattle.cip_dict.specs.WholeLines.{Whole, over, number_on, IsWhole, IsForm, IsPut}
+use Rattle.cip_dict.specs.WholeLines.{Whole, over, IsWhole, IsForm, IsPut}
 use Rattle.cip_dict.proofs.Dense.{dense_len, dense_read, solved_written, substituted_written}
 use Rattle.cip_dict.proofs.KeptLoops.{are_kept}
 use Rattle.cip_dict.proofs.WholePuts.{put_tells}

@@ -1,24 +1,15 @@
 -- Sums that fit 64 bits, and their division where they stand.
-use Rattle.std.proofs.Common.{◌≡◌, ℕ, zero, suc, ◌*◌, ◌<◌, ◌^◌, ℤ, pos, ◌*ℤ◌, to_z, of_z, List, [], ◌∷◌, ◌++◌, length, get_or, set, refl, sym, ap, ap₂, ◌∙◌, subst, arith}
+use Rattle.std.proofs.Common.{◌≡◌, ℕ, zero, suc, ◌*◌, ◌<◌, ◌^◌, ℤ, pos, ◌*ℤ◌, to_z, of_z, List, [], ◌∷◌, length, get_or, set, refl, sym, ap, ap₂, ◌∙◌, subst, arith}
 use Rattle.std.specs.Int.{w64}
 use Rattle.std.proofs.lemmas.Int.{ints}
 use Rattle.cip_rational.specs.Rational.{ℚ, ratio}
 use Rattle.cip_rational.specs.Range.{magnitude}
 use Rattle.cip_dict.specs.SparseLines.{Kept}
-use Rattle.cip_dict.specs.WholeLines.{Whole, over, AreNear, AreSmall}
+use Rattle.cip_dict.specs.WholeLines.{Whole, over, AreBelow}
 use Rattle.cip_dict.proofs.WholeLines.{whole_lines_tell}
 
 pub read_near : (z : ℤ) → magnitude z < 2 ^ 63 → to_z w64 (of_z w64 z) ≡ z
 read_near z h = omega (arith, ints, h)
-
-pub near_append : (es : List Whole) (k : ℕ) (z : ℤ) → AreNear es → magnitude z < 2 ^ 63 → AreNear (es ++ (k, z) ∷ [])
-near_append [] k z h l = (l, tt)
-near_append (e ∷ es) k z h l = (h.0, near_append es k z h.1 l)
-
-pub item_near : (es : List Whole) (p : ℕ) (b : Whole) → AreNear es → p < length es → magnitude (get_or es p b).1 < 2 ^ 63
-item_near [] p b h l = absurd (omega (arith, l))
-item_near (e ∷ es) zero b h l = h.0
-item_near (e ∷ es) (suc p) b h l = item_near es p b h.1 (omega (arith, l))
 
 -- the first p numbers of a list have been divided by g, which leaves them below 2^42
 abbrev pub IsDivided : ℕ → ℕ → List Whole → List Whole → Type 0
@@ -55,7 +46,7 @@ divided_over g (suc p) (a ∷ ns) (b ∷ bs) hg l h d hd =
     let rest : over d ns ≡ over (d * g) bs = divided_over g p ns bs hg (omega (arith, l)) h.3 d hd in
     ap₂ (λ (e : Kept) (es : List Kept). e ∷ es) first rest
 
-pub divided_small : (g p : ℕ) (now old : List Whole) → length old ≡ p → IsDivided g p now old → AreSmall now
+pub divided_small : (g p : ℕ) (now old : List Whole) → length old ≡ p → IsDivided g p now old → AreBelow (2 ^ 42) now
 divided_small g zero [] old l h = tt
 divided_small g zero (a ∷ ns) old l h = absurd (omega (arith, l, ap length h))
 divided_small g (suc p) [] old l h = tt

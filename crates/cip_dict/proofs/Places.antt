@@ -2,7 +2,7 @@
 use Rattle.std.proofs.Common.{◌≡◌, ℕ, zero, suc, ◌+◌, ◌-◌, ◌/◌, ◌<◌, ◌≤◌, cond, List, [], ◌∷◌, length, get_or, refl, sym, ap, ◌∙◌, subst, inl, inr, arith}
 use Rattle.std.proofs.lemmas.Bool.{cases_eq, cases_lt, eq-eqb, ne_eqb}
 use Rattle.cip_rational.specs.Rational.{zeroℚ}
-use Rattle.cip_dict.specs.SparseLines.{Kept, entry_on, AreKept, IsPlace, IsNext}
+use Rattle.cip_dict.specs.SparseLines.{Kept, entry_on, AreKept, AreRising, IsPlace, IsNext}
 
 pub same_default : {X : Type 0} (xs : List X) (i : ℕ) (d e : X) → i < length xs → get_or xs i d ≡ get_or xs i e
 same_default [] i d e h = absurd (omega (arith, h))
@@ -23,16 +23,20 @@ none_below (e ∷ es) least n k h l =
     passed e es k (λ (s : e.0 ≡ k). absurd (omega (arith, s, h.0, l))) ∙ none_below es (suc e.0) n k h.3 (omega (arith, h.0, l))
 
 -- variables rise
-pub rising : (es : List Kept) (least n a b : ℕ) (c d : Kept) → AreKept least n es → a < b → b < length es → (get_or es a c).0 < (get_or es b d).0
-rising [] least n a b c d h l w = absurd (omega (arith, w))
-rising (e ∷ es) least n a zero c d h l w = absurd (omega (arith, l))
-rising (e ∷ es) least n zero (suc b) c d h l w = first_least es (suc e.0) n b d h.3 (omega (arith, w))
+pub rising_kept : (es : List Kept) (least n : ℕ) → AreKept least n es → AreRising least es
+rising_kept [] least n h = tt
+rising_kept (e ∷ es) least n h = (h.0, rising_kept es (suc e.0) n h.3)
+
+rising : {A : Type 0} (es : List (ℕ × A)) (least a b : ℕ) (c d : ℕ × A) → AreRising least es → a < b → b < length es → (get_or es a c).0 < (get_or es b d).0
+rising [] least a b c d h l w = absurd (omega (arith, w))
+rising (e ∷ es) least a zero c d h l w = absurd (omega (arith, l))
+rising (e ∷ es) least zero (suc b) c d h l w = first_least es (suc e.0) b d h.1 (omega (arith, w))
   where
-    first_least : (es : List Kept) (least n b : ℕ) (d : Kept) → AreKept least n es → b < length es → least ≤ (get_or es b d).0
-    first_least [] least n b d h w = absurd (omega (arith, w))
-    first_least (e ∷ es) least n zero d h w = h.0
-    first_least (e ∷ es) least n (suc b) d h w = let r : suc e.0 ≤ (get_or es b d).0 = first_least es (suc e.0) n b d h.3 (omega (arith, w)) in omega (arith, r, h.0)
-rising (e ∷ es) least n (suc a) (suc b) c d h l w = rising es (suc e.0) n a b c d h.3 (omega (arith, l)) (omega (arith, w))
+    first_least : {A : Type 0} (es : List (ℕ × A)) (least b : ℕ) (d : ℕ × A) → AreRising least es → b < length es → least ≤ (get_or es b d).0
+    first_least [] least b d h w = absurd (omega (arith, w))
+    first_least (e ∷ es) least zero d h w = h.0
+    first_least (e ∷ es) least (suc b) d h w = let r : suc e.0 ≤ (get_or es b d).0 = first_least es (suc e.0) b d h.1 (omega (arith, w)) in omega (arith, r, h.0)
+rising (e ∷ es) least (suc a) (suc b) c d h l w = rising es (suc e.0) a b c d h.1 (omega (arith, l)) (omega (arith, w))
 
 pub all_below : (es : List Kept) (least n b : ℕ) (d : Kept) → AreKept least n es → b < length es → (get_or es b d).0 < n
 all_below [] least n b d h w = absurd (omega (arith, w))
@@ -47,7 +51,7 @@ place_within k [] (suc p) h = absurd h
 place_within k (e ∷ es) zero h = omega arith
 place_within k (e ∷ es) (suc p) h = omega (arith, place_within k es p h.1)
 
-pub place_of : (k : ℕ) (es : List Kept) (p : ℕ) → p ≤ length es → ((a : ℕ) (d : Kept) → a < p → (get_or es a d).0 < k) → ((a : ℕ) (d : Kept) → p ≤ a → a < length es → k ≤ (get_or es a d).0) → IsPlace k es p
+pub place_of : {A : Type 0} (k : ℕ) (es : List (ℕ × A)) (p : ℕ) → p ≤ length es → ((a : ℕ) (d : ℕ × A) → a < p → (get_or es a d).0 < k) → ((a : ℕ) (d : ℕ × A) → p ≤ a → a < length es → k ≤ (get_or es a d).0) → IsPlace k es p
 place_of k [] zero l before after = tt
 place_of k [] (suc p) l before after = absurd (omega (arith, l))
 place_of k (e ∷ es) zero l before after = after 0 e (omega arith) (omega arith)
@@ -108,22 +112,20 @@ entry_between m k es p least n h i l f =
 pub middle_within : (low high : ℕ) → low < high → low + (high - low) / 2 < high
 middle_within low high h = omega arith
 
-pub more_before : (es : List Kept) (m k : ℕ) (e : Kept) (least n : ℕ) → AreKept least n es → m < length es → (get_or es m e).0 < k → (a : ℕ) (d : Kept) → a < m + 1 → (get_or es a d).0 < k
-more_before es m k e least n kept l h a d b =
+pub more_before : {A : Type 0} (es : List (ℕ × A)) (m k : ℕ) (e : ℕ × A) → AreRising 0 es → m < length es → (get_or es m e).0 < k → (a : ℕ) (d : ℕ × A) → a < m + 1 → (get_or es a d).0 < k
+more_before es m k e up l h a d b =
     elim (cases_eq a m) [
-      | inl f ↦ (let same : get_or es m d ≡ get_or es m e = same_default es m d e l in
-          let s : (get_or es m d).0 ≡ (get_or es m e).0 = ap (λ (p : Kept). p.0) same in
+      | inl f ↦ (let s : (get_or es m d).0 ≡ (get_or es m e).0 = ap (λ p. p.0) (same_default es m d e l) in
           subst (λ (i : ℕ). (get_or es i d).0 < k) (sym f) (omega (arith, s, h)))
-      | inr ne ↦ (let r : (get_or es a d).0 < (get_or es m e).0 = rising es least n a m d e kept (omega (arith, b, ne)) l in omega (arith, r, h))
+      | inr ne ↦ (let r : (get_or es a d).0 < (get_or es m e).0 = rising es 0 a m d e up (omega (arith, b, ne)) l in omega (arith, r, h))
     ]
 
-pub less_after : (es : List Kept) (m k : ℕ) (e : Kept) (least n : ℕ) → AreKept least n es → m < length es → k ≤ (get_or es m e).0 → (a : ℕ) (d : Kept) → m ≤ a → a < length es → k ≤ (get_or es a d).0
-less_after es m k e least n kept l h a d b w =
+pub less_after : {A : Type 0} (es : List (ℕ × A)) (m k : ℕ) (e : ℕ × A) → AreRising 0 es → m < length es → k ≤ (get_or es m e).0 → (a : ℕ) (d : ℕ × A) → m ≤ a → a < length es → k ≤ (get_or es a d).0
+less_after es m k e up l h a d b w =
     elim (cases_eq a m) [
-      | inl f ↦ (let same : get_or es m d ≡ get_or es m e = same_default es m d e l in
-          let s : (get_or es m d).0 ≡ (get_or es m e).0 = ap (λ (p : Kept). p.0) same in
+      | inl f ↦ (let s : (get_or es m d).0 ≡ (get_or es m e).0 = ap (λ p. p.0) (same_default es m d e l) in
           subst (λ (i : ℕ). k ≤ (get_or es i d).0) (sym f) (omega (arith, s, h)))
-      | inr ne ↦ (let r : (get_or es m e).0 < (get_or es a d).0 = rising es least n m a e d kept (omega (arith, b, ne)) w in omega (arith, r, h))
+      | inr ne ↦ (let r : (get_or es m e).0 < (get_or es a d).0 = rising es 0 m a e d up (omega (arith, b, ne)) w in omega (arith, r, h))
     ]
 
 -- ---- the variable of the entry at a place

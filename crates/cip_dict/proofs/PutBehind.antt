@@ -6,21 +6,20 @@ use Rattle.cip_rational.specs.Rational.{ℚ, zeroℚ, ratio}
 use Rattle.cip_rational.specs.Range.{magnitude}
 use Rattle.cip_dictionary.specs.Operations.{is_zero}
 use Rattle.cip_dictionary.proofs.Zeros.{zero_of, nonzero_of}
-use Rattle.cip_dict.specs.SparseLines.{Kept, entry_on, AreKept, IsPlace, kept_at}
+use Rattle.cip_dict.specs.SparseLines.{Kept, entry_on, AreKept, AreRising, IsPlace, kept_at}
 use Rattle.cip_dict.specs.WholeLines.{Whole, over, IsWhole}
 use Rattle.cip_dict.proofs.Places.{place_of, more_before}
 use Rattle.cip_dict.proofs.PutEntries.{insert_entry, insert_kept, gone_already}
-use Rattle.cip_dict.proofs.WholeParts.{length_over, at_over, over_append, ratio_none, none_ratio}
-use Rattle.cip_dict.proofs.WholeLoops.{small_append}
+use Rattle.cip_dict.proofs.WholeParts.{length_over, over_place, over_append, ratio_none, none_ratio, append_below}
 
 -- where the last entry is on a variable below k, all are
-pub last_below : (es : List Kept) (m k : ℕ) (e : Kept) (n : ℕ) → AreKept 0 n es → m + 1 ≡ length es → (get_or es m e).0 < k → IsPlace k es (length es)
-last_below es m k e n h l below =
+pub last_below : {A : Type 0} (es : List (ℕ × A)) (m k : ℕ) (e : ℕ × A) → AreRising 0 es → m + 1 ≡ length es → (get_or es m e).0 < k → IsPlace k es (length es)
+last_below es m k e up l below =
     place_of k es (length es) (omega arith)
-    (λ a d w. more_before es m k e 0 n h (omega (arith, l)) below a d (omega (arith, l, w)))
+    (λ a d w. more_before es m k e up (omega (arith, l)) below a d (omega (arith, l, w)))
     (λ a d u w. absurd (omega (arith, u, w)))
 
-pub none_below_any : (es : List Kept) (k : ℕ) → length es ≡ 0 → IsPlace k es (length es)
+pub none_below_any : {A : Type 0} (es : List (ℕ × A)) (k : ℕ) → length es ≡ 0 → IsPlace k es (length es)
 none_below_any [] k h = tt
 none_below_any (e ∷ es) k h = absurd (omega (arith, h))
 
@@ -54,19 +53,9 @@ end_kept k n q es h i l = either_kept (is_zero q) k n q es h i l refl
 
 -- ---- numbers over 1
 
-pub whole_below : (es : List Whole) (m k : ℕ) (e : Whole) (n : ℕ) → AreKept 0 n (over 1 es) → m + 1 ≡ length es → (get_or es m e).0 < k → IsPlace k (over 1 es) (length es)
-whole_below es m k e n h l below =
-    let long : length (over 1 es) ≡ length es = length_over 1 es in
-    let s : (get_or (over 1 es) m (0, zeroℚ)).0 ≡ (get_or es m e).0 = ap (λ (x : Kept). x.0) (at_over 1 es m (0, zeroℚ) e (omega (arith, l))) in
-    subst (λ p. IsPlace k (over 1 es) p) long (last_below (over 1 es) m k (0, zeroℚ) n h (omega (arith, l, long)) (omega (arith, s, below)))
-
-pub whole_none : (es : List Whole) (k : ℕ) → length es ≡ 0 → IsPlace k (over 1 es) (length es)
-whole_none [] k h = tt
-whole_none (e ∷ es) k h = absurd (omega (arith, h))
-
-module _ (k : ℕ) (entry : ℚ) (number : ℤ) (below : ℕ) (one : below ≡ 1) (is : ratio number 1 ≡ entry) (es : List Whole) (place : IsPlace k (over 1 es) (length es)) where
-  over_place : IsPlace k (over below es) (length (over below es))
-  over_place = subst (λ d. IsPlace k (over d es) (length (over d es))) (sym one) (subst (λ p. IsPlace k (over 1 es) p) (sym (length_over 1 es)) place)
+module _ (k : ℕ) (entry : ℚ) (number : ℤ) (below : ℕ) (one : below ≡ 1) (is : ratio number 1 ≡ entry) (es : List Whole) (place : IsPlace k es (length es)) where
+  at_end : IsPlace k (over below es) (length (over below es))
+  at_end = subst (λ p. IsPlace k (over below es) p) (sym (length_over below es)) (over_place below k es (length es) place)
 
   same : ratio number below ≡ entry
   same = ap (ratio number) one ∙ is
@@ -75,19 +64,19 @@ module _ (k : ℕ) (entry : ℚ) (number : ℤ) (below : ℕ) (one : below ≡ 1
   more new e = ap (over below) e ∙ over_append below es ((k, number) ∷ []) ∙ ap (λ q. over below es ++ (k, q) ∷ []) same
 
   pub behind_entry : (new : List Whole) → new ≡ es ++ (k, number) ∷ [] → (v : ℕ) → entry_on (over below new) v ≡ cond (v == k) entry (entry_on (over below es) v)
-  behind_entry new e v = ap (λ xs. entry_on xs v) (more new e) ∙ last_entry k v entry (over below es) over_place
+  behind_entry new e v = ap (λ xs. entry_on xs v) (more new e) ∙ last_entry k v entry (over below es) at_end
 
   pub behind_kept : (new : List Whole) → new ≡ es ++ (k, number) ∷ [] → ¬ (number ≡ pos 0) → (n : ℕ) → k < n → AreKept 0 n (over below es) → AreKept 0 n (over below new)
   behind_kept new e other n l h =
       subst (λ xs. AreKept 0 n xs) (sym (more new e))
-      (last_kept k n entry (over below es) h over_place l (λ z. other (none_ratio number 1 (lit< tt) (is ∙ z))))
+      (last_kept k n entry (over below es) h at_end l (λ z. other (none_ratio number 1 (lit< tt) (is ∙ z))))
 
   pub nothing_entry : (n : ℕ) → AreKept 0 n (over below es) → number ≡ pos 0 → (v : ℕ) → entry_on (over below es) v ≡ cond (v == k) entry (entry_on (over below es) v)
-  nothing_entry n h z v = none_entry k v entry (over below es) n h over_place (sym is ∙ ap (λ m. ratio m 1) z ∙ ratio_none 1 (lit< tt))
+  nothing_entry n h z v = none_entry k v entry (over below es) n h at_end (sym is ∙ ap (λ m. ratio m 1) z ∙ ratio_none 1 (lit< tt))
 
 pub behind_whole : (k : ℕ) (number : ℤ) (below : ℕ) (es new : List Whole) → IsWhole below es → magnitude number < 2 ^ 42 → new ≡ es ++ (k, number) ∷ [] → IsWhole below new
 behind_whole k number below es new h l e = record {
   positive = h.positive;
   small = h.small;
-  numbers = rw e (small_append es k number h.numbers l);
+  numbers = rw e (append_below (2 ^ 42) es k number h.numbers l);
 }

@@ -1,17 +1,14 @@
 -- Loops from number to number keep what one over all variables would.
-use Rattle.std.proofs.Common.{◌≡◌, ℕ, zero, suc, ◌+◌, ◌-◌, ◌*◌, ◌<◌, ◌≤◌, ◌==◌, ◌^◌, ℤ, pos, neg_ℤ, ◌+ℤ◌, ◌*ℤ◌, unsigned_abs, Bool, true, false, cond, List, [], ◌∷◌, ◌++◌, length, take, get_or, refl, sym, ap, ap₂, ◌∙◌, subst, arith, lit<}
+use Rattle.std.proofs.Common.{◌≡◌, ℕ, zero, suc, ◌+◌, ◌-◌, ◌*◌, ◌<◌, ◌≤◌, ◌==◌, ℤ, pos, neg_ℤ, ◌*ℤ◌, Bool, true, false, cond, List, [], ◌∷◌, ◌++◌, length, take, get_or, refl, sym, ap, ap₂, ◌∙◌, subst, arith, lit<}
 use Rattle.std.proofs.lemmas.Bool.{eq-eqb, ne_eqb}
 use Rattle.std.proofs.lemmas.Int.{ints}
 use Rattle.std.proofs.lemmas.List.{append-nil, take_more}
-use Rattle.cip_rational.specs.Rational.{ℚ, zeroℚ, ratio}
-use Rattle.cip_rational.specs.Range.{magnitude}
+use Rattle.cip_rational.specs.Rational.{ratio}
 use Rattle.cip_dictionary.specs.Exchange.{is_absent}
-use Rattle.cip_dictionary.specs.Operations.{is_zero}
-use Rattle.cip_dictionary.proofs.Zeros.{is_zero_of, is_zero_false, zero_of}
-use Rattle.cip_dict.specs.SparseLines.{Kept, kept_at, kept_of, AreKept}
-use Rattle.cip_dict.specs.WholeLines.{Whole, over, number_on, is_none, whole_at, wholes_of, put_number, turned_number, AreSmall, AreWide}
+use Rattle.cip_dict.specs.SparseLines.{AreKept}
+use Rattle.cip_dict.specs.WholeLines.{Whole, over, number_on, is_none, whole_at, wholes_of, put_number, turned_number}
 use Rattle.cip_dict.proofs.WholeLines.{whole_lines_tell}
-use Rattle.cip_dict.proofs.WholeParts.{ratio_none, none_ratio, over_append}
+use Rattle.cip_dict.proofs.WholeParts.{ratio_none, over_append}
 
 pub none_is : (z : ℤ) → z ≡ pos 0 → is_none z ≡ true
 none_is z e = ap is_none e
@@ -55,20 +52,7 @@ put_none basic i j f x row new k r n =
     let q : number_on row k *ℤ pos f ≡ pos 0 = none_times (number_on row k) f r in
     either_none (k == i) (is_absent basic j k) _ _ _ p refl (omega (arith, ints, p, q))
 
-pub wide_append : (es : List Whole) (k : ℕ) (z : ℤ) → AreWide es → magnitude z < 2 ^ 86 → AreWide (es ++ (k, z) ∷ [])
-wide_append [] k z h l = (l, tt)
-wide_append (e ∷ es) k z h l = (h.0, wide_append es k z h.1 l)
-
-pub small_append : (es : List Whole) (k : ℕ) (z : ℤ) → AreSmall es → magnitude z < 2 ^ 42 → AreSmall (es ++ (k, z) ∷ [])
-small_append [] k z h l = (l, tt)
-small_append (e ∷ es) k z h l = (h.0, small_append es k z h.1 l)
-
 -- ---- dividing
-
-pub item_wide : (es : List Whole) (p : ℕ) (b : Whole) → AreWide es → p < length es → magnitude (get_or es p b).1 < 2 ^ 86
-item_wide [] p b h l = absurd (omega (arith, l))
-item_wide (e ∷ es) zero b h l = h.0
-item_wide (e ∷ es) (suc p) b h l = item_wide es p b h.1 (omega (arith, l))
 
 pub divided_more : (es : List Whole) (at g : ℕ) (out new : List Whole) (w : ℤ) → 0 < g → at < length es → ((d : ℕ) → 0 < d → over d out ≡ over (d * g) (take at es)) → new ≡ out ++ ((get_or es at (0, pos 0)).0, w) ∷ [] → (get_or es at (0, pos 0)).1 ≡ w *ℤ pos g → (d : ℕ) → 0 < d → over d new ≡ over (d * g) (take (at + 1) es)
 divided_more es at g out new w hg l h is e d hd =

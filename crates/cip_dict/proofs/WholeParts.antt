@@ -1,6 +1,6 @@
 -- Lists of whole numbers over one denominator, as lists of kept entries.
 use borrow.Author.Differences.{product_is, lt_T, lt_in}
-use Rattle.std.proofs.Common.{◌≡◌, ◌≢◌, not, int_lt, ℕ, zero, suc, ◌+◌, ◌*◌, ◌<◌, ◌≤◌, ◌==◌, ◌^◌, ℤ, pos, ◌*ℤ◌, cond, Bool, true, false, to_z, of_z, List, [], ◌∷◌, ◌++◌, length, get_or, refl, sym, ap, ◌∙◌, subst, arith, lit<}
+use Rattle.std.proofs.Common.{◌≡◌, ◌≢◌, not, int_lt, ℕ, zero, suc, ◌*◌, ◌<◌, ◌≤◌, ◌==◌, ◌^◌, ℤ, pos, ◌*ℤ◌, cond, Bool, true, false, to_z, of_z, List, [], ◌∷◌, ◌++◌, length, get_or, refl, sym, ap, ◌∙◌, arith, lit<}
 use Rattle.std.specs.Int.{w64}
 use Rattle.std.proofs.lemmas.Bool.{eq-eqb, ne_eqb, true≢false}
 use Rattle.std.proofs.lemmas.Int.{ints}
@@ -14,10 +14,10 @@ use Rattle.cip_frac.specs.declared.fraction.FracFault.TheVariants.{ZeroBelow, Wi
 use Rattle.cip_rational.proofs.Rational.Ratio.{same_truth, ratio_same, same_ratio, ratio-mul, ratio-lt_test, integer_ratio}
 use Rattle.cip_dictionary.specs.Operations.{is_zero}
 use Rattle.cip_dictionary.proofs.Zeros.{is_zero_of, is_zero_false}
-use Rattle.cip_dict.specs.SparseLines.{Kept, entry_on, AreKept, IsPlace}
+use Rattle.cip_dict.specs.SparseLines.{Kept, entry_on, AreKept, AreRising, IsPlace}
 use Rattle.cip_dict.proofs.WholeLines.{whole_lines_tell}
-use Rattle.cip_dict.proofs.Places.{entry_miss, all_below, more_before, less_after}
-use Rattle.cip_dict.specs.WholeLines.{Whole, over, number_on, AreSmall}
+use Rattle.cip_dict.proofs.Places.{entry_miss, all_below}
+use Rattle.cip_dict.specs.WholeLines.{Whole, over, number_on, AreBelow}
 
 -- ---- 0
 
@@ -87,10 +87,20 @@ place_over c d k [] (suc p) h = absurd h
 place_over c d k (e ∷ es) zero h = h
 place_over c d k (e ∷ es) (suc p) h = (h.0, place_over c d k es p h.1)
 
+pub rising_over : (d least n : ℕ) (es : List Whole) → AreKept least n (over d es) → AreRising least es
+rising_over d least n [] h = tt
+rising_over d least n (e ∷ es) h = (h.0, rising_over d (suc e.0) n es h.3)
+
+pub over_place : (d k : ℕ) (es : List Whole) (p : ℕ) → IsPlace k es p → IsPlace k (over d es) p
+over_place d k [] zero h = tt
+over_place d k [] (suc p) h = absurd h
+over_place d k (e ∷ es) zero h = h
+over_place d k (e ∷ es) (suc p) h = (h.0, over_place d k es p h.1)
+
 pub none_over : (d : ℕ) (es : List Whole) (k : ℕ) → 0 < d → entry_on (over d es) k ≡ zeroℚ → number_on es k ≡ pos 0
 none_over d es k h e = none_ratio (number_on es k) d h (sym (entry_over d es k h) ∙ e)
 
-pub number_small : (es : List Whole) (k : ℕ) → AreSmall es → magnitude (number_on es k) < 2 ^ 42
+pub number_small : (es : List Whole) (k : ℕ) → AreBelow (2 ^ 42) es → magnitude (number_on es k) < 2 ^ 42
 number_small [] k h = lit< tt
 number_small (e ∷ es) k h = either (e.0 == k) e.1 (number_on es k) h.0 (number_small es k h.1)
   where
@@ -133,25 +143,19 @@ below_over es p n b h l =
 
 -- ---- a search
 
-pub before_over : (es : List Whole) (m k : ℕ) (e : Whole) (n : ℕ) → AreKept 0 n (over 1 es) → m < length es → (get_or es m e).0 < k → (a : ℕ) (d : Kept) → a < m + 1 → (get_or (over 1 es) a d).0 < k
-before_over es m k e n kept l h =
-    let s : (get_or (over 1 es) m (e.0, zeroℚ)).0 ≡ (get_or es m e).0 = ap (λ (x : Kept). x.0) (at_over 1 es m (e.0, zeroℚ) e l) in
-    more_before (over 1 es) m k (e.0, zeroℚ) 0 n kept (omega (arith, l, length_over 1 es)) (omega (arith, s, h))
-
-pub after_over : (es : List Whole) (m k : ℕ) (e : Whole) (n : ℕ) → AreKept 0 n (over 1 es) → m < length es → k ≤ (get_or es m e).0 → (a : ℕ) (d : Kept) → m ≤ a → a < length (over 1 es) → k ≤ (get_or (over 1 es) a d).0
-after_over es m k e n kept l h =
-    let s : (get_or (over 1 es) m (e.0, zeroℚ)).0 ≡ (get_or es m e).0 = ap (λ (x : Kept). x.0) (at_over 1 es m (e.0, zeroℚ) e l) in
-    less_after (over 1 es) m k (e.0, zeroℚ) 0 n kept (omega (arith, l, length_over 1 es)) (omega (arith, s, h))
-
 -- ---- numbers as the code reads them
 
 pub read_small : (z : ℤ) → magnitude z < 2 ^ 42 → to_z w64 (of_z w64 z) ≡ z
 read_small z h = omega (arith, ints, h)
 
-pub item_small : (es : List Whole) (p : ℕ) (b : Whole) → AreSmall es → p < length es → magnitude (get_or es p b).1 < 2 ^ 42
-item_small [] p b h l = absurd (omega (arith, l))
-item_small (e ∷ es) zero b h l = h.0
-item_small (e ∷ es) (suc p) b h l = item_small es p b h.1 (omega (arith, l))
+pub item_below : (bound : ℕ) (es : List Whole) (p : ℕ) (b : Whole) → AreBelow bound es → p < length es → magnitude (get_or es p b).1 < bound
+item_below bound [] p b h l = absurd (omega (arith, l))
+item_below bound (e ∷ es) zero b h l = h.0
+item_below bound (e ∷ es) (suc p) b h l = item_below bound es p b h.1 (omega (arith, l))
+
+pub append_below : (bound : ℕ) (es : List Whole) (k : ℕ) (z : ℤ) → AreBelow bound es → magnitude z < bound → AreBelow bound (es ++ (k, z) ∷ [])
+append_below bound [] k z h l = (l, tt)
+append_below bound (e ∷ es) k z h l = (h.0, append_below bound es k z h.1 l)
 
 -- a fraction of two integers
 pub quotient_ratio : (n : ℤ) (d : ℕ) → 0 < d → quotient_of n (pos d) ≡ ratio n d

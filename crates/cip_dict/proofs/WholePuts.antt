@@ -1,9 +1,9 @@
 -- Rows of whole numbers tell what rows of fractions would, and none of their operations leaves the range.
-use Rattle.std.proofs.Common.{◌≡◌, ◌≢◌, ℕ, zero, suc, ◌+◌, ◌*◌, ◌<◌, ◌≤◌, ◌==◌, ◌^◌, ℤ, pos, neg_ℤ, ◌+ℤ◌, ◌*ℤ◌, unsigned_abs, Bool, true, false, cond, List, [], ◌∷◌, ◌++◌, None, refl, sym, ap, ap₂, ◌∙◌, subst, arith, lit<}
-use Rattle.std.proofs.lemmas.Bool.{cases_Bool, eqb-true, ne_eqb}
+use Rattle.std.proofs.Common.{◌≡◌, ℕ, zero, suc, ◌*◌, ◌<◌, ◌==◌, ◌^◌, ℤ, pos, neg_ℤ, ◌+ℤ◌, ◌*ℤ◌, unsigned_abs, Bool, true, false, cond, List, [], ◌∷◌, ◌++◌, None, refl, sym, ap, ap₂, ◌∙◌, subst, arith}
+use Rattle.std.proofs.lemmas.Bool.{eqb-true}
 use Rattle.std.proofs.lemmas.Int.{ints}
 use Rattle.std.proofs.Math.Nat.{mul-pos}
-use Rattle.cip_rational.specs.Rational.{ℚ, ◌+ℚ◌, ◌*ℚ◌, zeroℚ, negate, inverse, ratio}
+use Rattle.cip_rational.specs.Rational.{ℚ, ◌+ℚ◌, ◌*ℚ◌, negate, inverse, ratio}
 use Rattle.cip_rational.specs.Range.{magnitude, sum_overflows, product_overflows}
 use Rattle.cip_rational.proofs.Rational.Inverse.{inverse_zero}
 use Rattle.cip_rational.proofs.Rational.Ratio.{ratio-negate}
@@ -15,8 +15,8 @@ use Rattle.cip_dictionary.specs.declared.places.Line.{Line}
 use Rattle.cip_dictionary.specs.declared.places.Place.{Place}
 use Rattle.cip_dictionary.proofs.Overflow.{overflow-append}
 use Rattle.cip_dictionary.proofs.Zeros.{is_zero_of, is_zero_false}
-use Rattle.cip_dict.specs.SparseLines.{Kept, entry_on, kept_at, kept_of}
-use Rattle.cip_dict.specs.WholeLines.{Whole, over, number_on, is_none, whole_at, wholes_of, put_number, turned_number, AreSmall, IsWhole, IsPut, IsSmall}
+use Rattle.cip_dict.specs.SparseLines.{entry_on, kept_at, kept_of}
+use Rattle.cip_dict.specs.WholeLines.{Whole, over, number_on, is_none, whole_at, wholes_of, put_number, turned_number, IsWhole, IsPut, HasTermsBelow}
 use Rattle.cip_dict.proofs.Formed.{product_zero_left, product_zero_right, product_fits, sum_zero_left, sum_zero_right, sum_fits}
 use Rattle.cip_dict.proofs.WholeLines.{whole_lines_tell}
 use Rattle.cip_dict.proofs.WholeParts.{ratio_none, none_ratio, entry_over, over_append, number_small}
@@ -70,13 +70,13 @@ put_by true absent d y z q a b c h f g = f refl
 put_by false true d y z q a b c h f g = ratio_none d h
 put_by false false d y z q a b c h f g = g
 
-put_fits : (place : Place) (leaving absent : Bool) (q a b c : ℚ) → IsSmall q → IsSmall a → IsSmall b → IsSmall c → first_overflow (substituted_operations_at place leaving absent q a b c) ≡ None
+put_fits : (place : Place) (leaving absent : Bool) (q a b c : ℚ) → HasTermsBelow (2 ^ 42) q → HasTermsBelow (2 ^ 42) a → HasTermsBelow (2 ^ 42) b → HasTermsBelow (2 ^ 42) c → first_overflow (substituted_operations_at place leaving absent q a b c) ≡ None
 put_fits place true absent q a b c sq sa sb sc = product_none place b q (whole_lines_tell.products b q sb sq)
 put_fits place false true q a b c sq sa sb sc = refl
 put_fits place false false q a b c sq sa sb sc = sum_none place a b c (whole_lines_tell.products b c sb sc) (whole_lines_tell.sums a b c sa sb sc)
 
-pub entry_small : (d k : ℕ) (es : List Whole) → IsWhole d es → IsSmall (entry_on (over d es) k)
-entry_small d k es h = subst IsSmall (sym (entry_over d es k h.positive)) (whole_lines_tell.small (number_on es k) d h.positive (number_small es k h.numbers) h.small)
+pub entry_small : (d k : ℕ) (es : List Whole) → IsWhole d es → HasTermsBelow (2 ^ 42) (entry_on (over d es) k)
+entry_small d k es h = subst (HasTermsBelow (2 ^ 42)) (sym (entry_over d es k h.positive)) (whole_lines_tell.small (number_on es k) d h.positive (number_small es k h.numbers) h.small)
 
 pub put_tells : (n : ℕ) (line : Line) (basic : ℕ → Bool) (i j : ℕ) (q : ℚ) (d : ℕ) (row : List Whole) (e : ℕ) (new : List Whole) (below : ℕ) (out : List Whole) → IsWhole d row → IsWhole e new → entry_on (over e new) i ≡ q → IsPut n basic i j d row e new below out
     → (first_overflow (each n (substituted_operations line basic i j q (entry_on (over e new)) (entry_on (over d row)))) ≡ None)
@@ -91,7 +91,7 @@ put_tells n line basic i j q d row e new below out hr hn leaving p =
     let own : number_on row j ≡ p.2 *ℤ pos p.1 = p.6 in
     let b : entry_on (over d row) j ≡ ratio (p.2 *ℤ pos p.1) d = entry_over d row j hr.positive ∙ ap (λ z. ratio z d) own in
     let c : (k : ℕ) → entry_on (over e new) k ≡ ratio (number_on new k) (p.1 * p.0) = λ k. entry_over e new k hn.positive ∙ ap (ratio (number_on new k)) parts in (
-      each_fits n _ (λ k l. put_fits (entry_place line k) (k == i) (is_absent basic j k) q _ _ _ (subst IsSmall leaving (entry_small e i new hn)) (entry_small d k row hr) (entry_small d j row hr) (entry_small e k new hn)),
+      each_fits n _ (λ k l. put_fits (entry_place line k) (k == i) (is_absent basic j k) q _ _ _ (subst (HasTermsBelow (2 ^ 42)) leaving (entry_small e i new hn)) (entry_small d k row hr) (entry_small d j row hr) (entry_small e k new hn)),
       p.7 ∙ over_kept n (d * p.0) (put_number basic i j p.0 p.2 row new) _ (mul-pos hr.positive hf) (λ k l.
           put_by (k == i) (is_absent basic j k) (d * p.0) (p.2 *ℤ number_on new k) (number_on row k *ℤ pos p.0 +ℤ p.2 *ℤ number_on new k) q _ _ _ (mul-pos hr.positive hf)
           (λ s. sym (whole_lines_tell.put_alone p.2 (number_on new k) d p.0 p.1 hr.positive hf hg)
@@ -108,7 +108,7 @@ turned_by false true positive p y n q a h e f g = ratio_none p h
 turned_by false false true p y n q a h e f g = f refl
 turned_by false false false p y n q a h e f g = g refl
 
-turned_fits : (place : Place) (leaving absent : Bool) (q a : ℚ) → IsSmall q → IsSmall (negate a) → first_overflow (solved_operations_at place leaving absent q a) ≡ None
+turned_fits : (place : Place) (leaving absent : Bool) (q a : ℚ) → HasTermsBelow (2 ^ 42) q → HasTermsBelow (2 ^ 42) (negate a) → first_overflow (solved_operations_at place leaving absent q a) ≡ None
 turned_fits place true absent q a sq sa = refl
 turned_fits place false true q a sq sa = refl
 turned_fits place false false q a sq sa = product_none place (negate a) q (whole_lines_tell.products (negate a) q sa sq)
@@ -123,9 +123,9 @@ pub turned_tells : (n : ℕ) (line : Line) (basic : ℕ → Bool) (i j : ℕ) (q
     → (first_overflow (each n (solved_operations line basic i j q (entry_on (over d row)))) ≡ None)
     × (over p out ≡ kept_of n (solved basic i j q (entry_on (over d row))))
 turned_tells n line basic i j q d row p positive y out hr hp e sy sp f g is =
-    let small_q : IsSmall q = subst IsSmall e (whole_lines_tell.small y p hp sy sp) in
-    let small_a : (k : ℕ) → IsSmall (negate (entry_on (over d row) k)) = λ k.
-    subst IsSmall (sym (ap negate (entry_over d row k hr.positive) ∙ ratio-negate (number_on row k) d))
+    let small_q : HasTermsBelow (2 ^ 42) q = subst (HasTermsBelow (2 ^ 42)) e (whole_lines_tell.small y p hp sy sp) in
+    let small_a : (k : ℕ) → HasTermsBelow (2 ^ 42) (negate (entry_on (over d row) k)) = λ k.
+    subst (HasTermsBelow (2 ^ 42)) (sym (ap negate (entry_over d row k hr.positive) ∙ ratio-negate (number_on row k) d))
     (whole_lines_tell.small (neg_ℤ (number_on row k)) d hr.positive (neg_small (number_on row k) (number_small row k hr.numbers)) hr.small) in (
       each_fits n _ (λ k l. turned_fits (entry_place line k) (k == i) (is_absent basic j k) q _ small_q (small_a k)),
       ap (over p) is ∙ over_kept n p (turned_number basic i j positive y row) _ hp (λ k l.

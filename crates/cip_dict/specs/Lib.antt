@@ -3,6 +3,7 @@ pub mod Entries
 pub mod FirstLists
 pub mod Lists
 pub mod MoveFaults
+pub mod Pivots
 pub mod Row
 pub mod SparseLines
 pub mod State

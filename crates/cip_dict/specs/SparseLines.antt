@@ -33,8 +33,13 @@ kept_of (suc n) f = kept_of n f ++ kept_at n (f n)
 
 -- ---- going from entry to entry
 
--- the entries before place p are on variables below k, and the first from there on, if there is one, isn't
-abbrev pub IsPlace : ℕ → List Kept → ℕ → Type 0
+-- in a list with something for each of some variables these rise, from `least` on
+abbrev pub AreRising : {A : Type 0} → ℕ → List (ℕ × A) → Type 0
+AreRising least [] = ⊤
+AreRising least (e ∷ es) = (least ≤ e.0) × AreRising (suc e.0) es
+
+-- what stands before place p is on variables below k, and the first from there on, if there is one, isn't
+abbrev pub IsPlace : {A : Type 0} → ℕ → List (ℕ × A) → ℕ → Type 0
 IsPlace k [] zero = ⊤
 IsPlace k [] (suc p) = ⊥
 IsPlace k (e ∷ es) zero = k ≤ e.0

@@ -1,7 +1,6 @@
 -- The values of a dictionary after a variable has moved, by its lists.
-use Rattle.std.specs.Prelude.{◌≡◌, ℕ, ◌==◌, ◌<◌, ◌^◌, Bool, true, false, ◌||◌, List, [], Option, Some, None, if◌then◌else◌}
-use Rattle.cip_rational.specs.Rational.{ℚ, ◌+ℚ◌, ◌*ℚ◌, numerator, denominator}
-use Rattle.cip_rational.specs.Range.{magnitude}
+use Rattle.std.specs.Prelude.{◌≡◌, ℕ, ◌==◌, Bool, true, false, ◌||◌, List, [], Option, Some, None, if◌then◌else◌}
+use Rattle.cip_rational.specs.Rational.{ℚ, ◌+ℚ◌, ◌*ℚ◌}
 use Rattle.cip_problem.specs.Activity.{value_at}
 use Rattle.cip_dictionary.specs.Exchange.{moved_at}
 use Rattle.cip_dictionary.specs.Operations.{Placed, first_overflow, value_place, sum_at}
@@ -15,11 +14,6 @@ use Rattle.cip_dict.specs.Lists.{basic_in, entry_in}
 abbrev pub IsAdded : Bool → ℚ → ℚ → ℚ → ℚ → Type 0
 IsAdded true c a b new = ((place : Place) → first_overflow (sum_at place c a b) ≡ None) × (new ≡ c +ℚ a *ℚ b)
 IsAdded false c a b new = (place : Place) → first_overflow (sum_at place c a b) ≡ Some place
-
--- numerator and denominator, in lowest terms, are below 2^20
-pub record IsShort (q : ℚ) : Type 0 where
-  pub top : magnitude (numerator q) < 2 ^ 20
-  pub bottom : denominator q < 2 ^ 20
 
 -- the value of v after j has moved by t
 abbrev pub moved_in : List (Option Stand) → List (List ℚ) → ℕ → ℚ → List ℚ → ℕ → ℚ

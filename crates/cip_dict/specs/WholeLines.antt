@@ -52,20 +52,10 @@ IsPut n basic i j d row e new below out =
     (f g : ℕ) × (x : ℤ) × (0 < f) × (0 < g) × (e ≡ g * f) × (number_on row j ≡ x *ℤ pos g)
     × (over below out ≡ over (d * f) (wholes_of n (put_number basic i j f x row new)))
 
--- the numbers are below 2^86, so that no sum of them leaves 128 bits
-abbrev pub AreWide : List Whole → Type 0
-AreWide [] = ⊤
-AreWide (e ∷ es) = (magnitude e.1 < 2 ^ 86) × AreWide es
-
--- the numbers are below 2^63, so that each fits 64 bits
-abbrev pub AreNear : List Whole → Type 0
-AreNear [] = ⊤
-AreNear (e ∷ es) = (magnitude e.1 < 2 ^ 63) × AreNear es
-
--- the numbers are below 2^42
-abbrev pub AreSmall : List Whole → Type 0
-AreSmall [] = ⊤
-AreSmall (e ∷ es) = (magnitude e.1 < 2 ^ 42) × AreSmall es
+-- the numbers are below a bound: 2^42 in lines, 2^63 where they fit 64 bits, and 2^86 where no sum leaves 128 bits
+abbrev pub AreBelow : ℕ → List Whole → Type 0
+AreBelow bound [] = ⊤
+AreBelow bound (e ∷ es) = (magnitude e.1 < bound) × AreBelow bound es
 
 -- the entries that a line keeps: whole numbers over one denominator, or fractions
 abbrev pub kept_in : Bool → ℕ → List Whole → List Kept → List Kept
@@ -76,7 +66,7 @@ kept_in false below wholes entries = entries
 pub record IsWhole (below : ℕ) (wholes : List Whole) : Type 0 where
   pub positive : 0 < below
   pub small : below < 2 ^ 42
-  pub numbers : AreSmall wholes
+  pub numbers : AreBelow (2 ^ 42) wholes
 
 -- a line of n variables keeps entries so
 pub record IsForm (n : ℕ) (is_whole : Bool) (below : ℕ) (wholes : List Whole) (entries : List Kept) : Type 0 where
@@ -88,10 +78,10 @@ pub record IsSpelled (n : ℕ) (line : List ℚ) (entries : List Kept) : Type 0 
   pub kept : AreKept 0 n entries
   pub same : dense n entries ≡ line
 
--- numerator and denominator, in lowest terms, are below 2^42
-pub record IsSmall (q : ℚ) : Type 0 where
-  pub top : magnitude (numerator q) < 2 ^ 42
-  pub bottom : denominator q < 2 ^ 42
+-- numerator and denominator, in lowest terms, are below a bound
+pub record HasTermsBelow (bound : ℕ) (q : ℚ) : Type 0 where
+  pub top : magnitude (numerator q) < bound
+  pub bottom : denominator q < bound
 
 -- ---- what is said of them, as one statement
 
@@ -99,9 +89,10 @@ pub record IsSmall (q : ℚ) : Type 0 where
 -- row that leaves is turned round, and another row, of numbers n and x * g over d where that has y over g * f, becomes
 -- n * f + x * y over d * f; what all its numbers have in common can be left out
 pub record WholeLinesTell : Type 0 where
-  pub small : (z : ℤ) (d : ℕ) → 0 < d → magnitude z < 2 ^ 42 → d < 2 ^ 42 → IsSmall (ratio z d)
-  pub products : (a b : ℚ) → IsSmall a → IsSmall b → product_overflows a b ≡ false
-  pub sums : (a b c : ℚ) → IsSmall a → IsSmall b → IsSmall c → sum_overflows a (b *ℚ c) ≡ false
+  pub small : (z : ℤ) (d : ℕ) → 0 < d → magnitude z < 2 ^ 42 → d < 2 ^ 42 → HasTermsBelow (2 ^ 42) (ratio z d)
+  pub products : (a b : ℚ) → HasTermsBelow (2 ^ 42) a → HasTermsBelow (2 ^ 42) b → product_overflows a b ≡ false
+  pub sums : (a b c : ℚ) → HasTermsBelow (2 ^ 42) a → HasTermsBelow (2 ^ 42) b → HasTermsBelow (2 ^ 42) c
+      → sum_overflows a (b *ℚ c) ≡ false
   pub turned : (p d : ℕ) → 0 < p → 0 < d → inverse (ratio (pos p) d) ≡ ratio (pos d) p
   pub turned_back : (p d : ℕ) → 0 < p → 0 < d → inverse (ratio (neg_ℤ (pos p)) d) ≡ ratio (neg_ℤ (pos d)) p
   pub solved : (n : ℤ) (p d : ℕ) → 0 < p → 0 < d

@@ -13,9 +13,10 @@ ghost use Rattle.cip_dictionary.specs.MoveOperations.{exchange_operations, flip_
 
 use crate::exchange::{plan, take_over};
 use crate::fault::{FirstFault, MoveFault, OutOfRange};
-use crate::first::{all_sides, first_lists, room_for, stands};
+use crate::first::{System, all_sides, first_lists, first_stands, room_for};
 use crate::flip::{plan_flip, take_flip};
 use crate::lists::{Lists, Room};
+use crate::pivots::Exchange;
 use crate::spare::Spare;
 use cip_dictionary::Stand;
 use cip_frac::Frac;
@@ -71,17 +72,15 @@ impl Dict {
             (IsFirstFault p) }
     {
         let n = column_sides.len() + row_sides.len();
-        let places = stands(alloc, spare, column_sides, n)?;
+        let places = first_stands(alloc, spare, column_sides, n)?;
         let standing = places.as_slice();
-        let found = match first_lists(
-            alloc,
-            spare,
-            standing,
+        let system = System {
             entries,
-            row_sides,
-            column_sides,
+            rows: row_sides,
+            columns: column_sides,
             costs,
-        ) {
+        };
+        let found = match first_lists(alloc, spare, standing, &system) {
             Ok(found) => found,
             Err(fault) => return Err(fault),
         };
@@ -103,8 +102,7 @@ impl Dict {
         spare.keep_form(self.lists.costs);
         spare.keep_numbers(self.lists.values);
         spare.keep_form(self.room.entering);
-        spare.keep_entries(self.room.spelled.entries);
-        spare.keep_entries(self.room.fractions);
+        spare.keep_scratch(self.room.scratch);
         spare.keep_forms(self.room.rows);
         spare.keep_form(self.room.costs);
         spare.keep_numbers(self.room.values);
@@ -238,8 +236,8 @@ impl Dict {
         self.lists.costs.sign_at(at)
     }
 
-    /// The number of the cost on a variable, where its line is kept as whole numbers over one denominator: these compare
-    /// as its entries do. It is for choices of which any is right, and no clause says what it is.
+    /// The number of the cost on a variable, where its line is kept as whole numbers over one denominator: these
+    /// compare as its entries do. It is for choices of which any is right, and no clause says what it is.
     pub fn cost_number(&self, k: u32) -> Option<i64>
         requires { k < def.size self.now }
     {
@@ -289,10 +287,15 @@ impl Dict {
     {
         let sides = self.sides.as_slice();
         let standing = self.standing.as_slice();
-        match plan(sides, standing, &self.lists, i, j, stand, &mut self.room) {
+        let asked = Exchange {
+            leaving: i,
+            entering: j,
+            to: stand,
+        };
+        match plan(sides, standing, &self.lists, asked, &mut self.room) {
             Ok(cost) => {
-                let lists = &mut self.lists;
-                take_over(&mut self.standing, i, j, stand, cost, lists, &mut self.room);
+                let standing = &mut self.standing;
+                take_over(standing, asked, cost, &mut self.lists, &mut self.room);
                 Ok(())
             }
             Err(fault) => Err(fault),

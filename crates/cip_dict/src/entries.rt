@@ -3,8 +3,6 @@ ghost use Rattle.std.specs.Prelude.{◌≡◌, ◌∷◌, [], Some, None, MatchR
 ghost use Rattle.cip_rational.specs.Rational.{◌+ℚ◌, ◌-ℚ◌, ◌*ℚ◌, lt_test};
 ghost use Rattle.cip_rational.specs.Range.{difference_overflows};
 ghost use Rattle.cip_dictionary.specs.Operations.{first_overflow, is_zero, product_at, sum_at, Difference, Product, Sum, placed};
-ghost use Rattle.cip_dictionary.specs.Exchange.{solved_at, substituted_at};
-ghost use Rattle.cip_dictionary.specs.MoveOperations.{solved_operations_at, substituted_operations_at};
 ghost use Rattle.cip_dict.specs.Values.{IsAdded};
 
 use crate::fault::OutOfRange;
@@ -73,55 +71,6 @@ pub(crate) fn sum(place: Place, c: Frac, a: Frac, b: Frac) -> Result<Frac, OutOf
         Ok(total)
     } else {
         Err(OutOfRange { place })
-    }
-}
-
-/// An entry of the row of the variable that enters: q on the variable that leaves, nothing on one that is absent, and
-/// else that of the row which leaves, negated and times q.
-#[inline(always)]
-pub(crate) fn solved_entry(
-    place: Place,
-    leaving: bool,
-    absent: bool,
-    q: Frac,
-    a: Frac,
-) -> Result<Frac, OutOfRange>
-    ensures { MatchResult result
-        (λ v. (first_overflow (solved_operations_at place leaving absent q a) ≡ None)
-        × (v ≡ solved_at leaving absent q a))
-        (λ fault. first_overflow (solved_operations_at place leaving absent q a) ≡ Some fault.place) }
-{
-    if leaving {
-        Ok(q)
-    } else if absent {
-        Ok(Frac::zero())
-    } else {
-        product(place, a.neg(), q)
-    }
-}
-
-/// An entry a of another row, which has b on the variable that enters, in whose row c stands at that place.
-#[inline(always)]
-pub(crate) fn substituted_entry(
-    place: Place,
-    leaving: bool,
-    absent: bool,
-    q: Frac,
-    a: Frac,
-    b: Frac,
-    c: Frac,
-) -> Result<Frac, OutOfRange>
-    ensures { MatchResult result
-        (λ v. (first_overflow (substituted_operations_at place leaving absent q a b c) ≡ None)
-        × (v ≡ substituted_at leaving absent q a b c))
-        (λ fault. first_overflow (substituted_operations_at place leaving absent q a b c) ≡ Some fault.place) }
-{
-    if leaving {
-        product(place, b, q)
-    } else if absent {
-        Ok(Frac::zero())
-    } else {
-        sum(place, a, b, c)
     }
 }
 

@@ -5,10 +5,9 @@ ghost use Rattle.cip_problem.specs.Box.{sides_at};
 ghost use Rattle.cip_problem.specs.Activity.{value_at};
 ghost use Rattle.cip_dictionary.specs.Tables.{table, each};
 ghost use Rattle.cip_dictionary.specs.Operations.{first_overflow, is_zero};
-ghost use Rattle.cip_dictionary.specs.Exchange.{solved, substituted};
-ghost use Rattle.cip_dictionary.specs.MoveOperations.{solved_operations, substituted_operations};
 ghost use Rattle.cip_dict.specs.Lists.{basic_in, entry_in};
-ghost use Rattle.cip_dict.specs.Row.{row_in, form_operations_in, written_form, taken_form, AreMarked, HasRows, HasRowsAfter, HasSpelled};
+ghost use Rattle.cip_dict.specs.Pivots.{solved_by, solved_operations_by, substituted_by, substituted_operations_by};
+ghost use Rattle.cip_dict.specs.Row.{row_in, taken_form, AreMarked, HasRows, HasRowsAfter, HasSpelled};
 ghost use Rattle.cip_dictionary.specs.Dictionary.{standing_value};
 ghost use Rattle.cip_dictionary.specs.Exchange.{CanExchange, exchanged};
 ghost use Rattle.cip_dictionary.specs.MoveOperations.{exchange_operations};
@@ -20,197 +19,137 @@ use crate::entries::{step_to, sum};
 use crate::fault::{MoveFault, OutOfRange};
 use crate::forms::{Form, count_room};
 use crate::lines::{write_solved, write_substituted};
-use crate::lists::{Lists, Room, Spelled};
+use crate::lists::{Lists, Room, Scratch};
+use crate::pivots::{Exchange, Pivot};
 use crate::rows::{take_rows, write_rows};
-use crate::values::{take_values, value_of, write_moved};
+use crate::values::{Shift, take_values, value_of, write_moved};
 use cip_dictionary::{Line, Stand};
 use cip_frac::Frac;
 use cip_lin::Sides;
 
-/// Writes the row of the cost, and counts what it has room for then; `new` is the row of the variable j that enters,
-/// `entering` are its fractions, spelled where they are needed, and i leaves. The last two are lists to work with.
+/// Writes the row of the cost, and counts what it has room for then; `new` is the row of the variable that enters.
 fn write_costs(
-    standing: &[Option<Stand>],
-    i: u32,
-    j: u32,
-    q: Frac,
+    pivot: &Pivot,
     new: &Form,
-    entering: &mut Spelled,
     costs: &Form,
     out: &mut Form,
-    held: &mut usize,
-    sums: &mut Vec<(u32, i128)>,
-    spelled: &mut Vec<(u32, Frac)>,
+    scratch: &mut Scratch,
 ) -> Result<(), MoveFault>
-    requires few { length standing.now < 2 ^ 32 }
-    requires leaving { i < length standing.now }
-    requires entering { j < length standing.now }
-    requires new_long { length new.now ≡ length standing.now }
-    requires new_spelled { HasSpelled new.now entering.old }
-    requires is_leaving { value_at new.now i ≡ q }
-    requires costs_long { length costs.now ≡ length standing.now }
-    ensures written { let operations =
-        each (length standing.now)
-        (substituted_operations Line.Cost (basic_in standing.now) i j q (value_at new.now) (value_at costs.now)) in
+    requires few { length pivot.now.standing.now < 2 ^ 32 }
+    requires leaving { pivot.now.leaving < length pivot.now.standing.now }
+    requires entering { pivot.now.entering < length pivot.now.standing.now }
+    requires new_long { length new.now ≡ length pivot.now.standing.now }
+    requires new_spelled { HasSpelled new.now scratch.old.entering }
+    requires is_leaving { value_at new.now pivot.now.leaving ≡ pivot.now.inverse }
+    requires costs_long { length costs.now ≡ length pivot.now.standing.now }
+    ensures written { let n = length pivot.now.standing.now in
+        let operations =
+        each n (substituted_operations_by Line.Cost pivot.now (value_at new.now) (value_at costs.now)) in
         MatchResult result
         (λ _. (first_overflow operations ≡ None)
-        × (out.new ≡ table (length standing.now)
-        (substituted (basic_in standing.now) i j q (value_at new.now) (value_at costs.now))))
+        × (out.new ≡ table n (substituted_by pivot.now (value_at new.now) (value_at costs.now))))
         (IsMoveFault operations) }
-    ensures long { length out.new ≡ length standing.now }
+    ensures long { length out.new ≡ length pivot.now.standing.now }
 {
     let before = out.room();
-    match write_substituted(
-        Line::Cost,
-        standing,
-        i,
-        j,
-        q,
-        new,
-        entering,
-        costs,
-        out,
-        sums,
-        spelled,
-    ) {
+    match write_substituted(Line::Cost, pivot, new, costs, out, scratch) {
         Ok(()) => (),
         Err(fault) => return Err(fault),
     }
-    match count_room(out, before, held) {
+    match count_room(out, before, &mut scratch.held) {
         Ok(()) => Ok(()),
         Err(_) => Err(MoveFault::NoMemory),
     }
 }
 
-/// Writes the rows that change and the row of the cost, where the row of j, which enters, is written already.
-fn write_others(
-    standing: &[Option<Stand>],
-    i: u32,
-    j: u32,
-    q: Frac,
-    lists: &Lists,
-    room: &mut Room,
-) -> Result<(), MoveFault>
-    requires few { length standing.now < 2 ^ 32 }
-    requires leaving { i < length standing.now }
-    requires entering { j < length standing.now }
-    requires lists_long { HasLists standing.now lists.now }
-    requires room_long { HasRoom standing.now room.old }
-    requires is_spelled { HasSpelled room.old.entering room.old.spelled }
-    requires is_entering { room.old.entering ≡ table (length standing.now) (entering_in standing.now i j q lists.now) }
-    ensures written { MatchResult result
-        (λ _. (first_overflow (other_operations standing.now i j q lists.now) ≡ None)
-        × OthersWritten standing.now i j q lists.now room.old room.new)
-        (IsMoveFault (other_operations standing.now i j q lists.now)) }
-    ensures long { HasRoom standing.now room.new }
+/// Writes the rows that change and the row of the cost, where that of the variable that enters is written already.
+fn write_others(pivot: &Pivot, lists: &Lists, room: &mut Room) -> Result<(), MoveFault>
+    requires few { length pivot.now.standing.now < 2 ^ 32 }
+    requires leaving { pivot.now.leaving < length pivot.now.standing.now }
+    requires entering { pivot.now.entering < length pivot.now.standing.now }
+    requires lists_long { HasLists pivot.now.standing.now lists.now }
+    requires room_long { HasRoom pivot.now.standing.now room.old }
+    requires is_spelled { HasSpelled room.old.entering room.old.scratch.entering }
+    requires is_entering { let p = pivot.now in room.old.entering
+        ≡ table (length p.standing.now) (entering_in p.standing.now p.leaving p.entering p.inverse lists.now) }
+    ensures written { let p = pivot.now in
+        let operations = other_operations p.standing.now p.leaving p.entering p.inverse lists.now in
+        MatchResult result
+        (λ _. (first_overflow operations ≡ None)
+        × OthersWritten p.standing.now p.leaving p.entering p.inverse lists.now room.old room.new)
+        (IsMoveFault operations) }
+    ensures long { HasRoom pivot.now.standing.now room.new }
 {
     let new = &room.entering;
     let rows = lists.rows.as_slice();
     let others = room.rows.as_mut_slice();
-    match write_rows(
-        standing,
-        i,
-        j,
-        q,
-        new,
-        &mut room.spelled,
-        rows,
-        others,
-        room.changed.as_mut_slice(),
-        &mut room.held,
-        &mut room.sums,
-        &mut room.fractions,
-    ) {
+    let changed = room.changed.as_mut_slice();
+    match write_rows(pivot, new, rows, others, changed, &mut room.scratch) {
         Ok(()) => (),
         Err(fault) => return Err(fault),
     }
-    write_costs(
-        standing,
-        i,
-        j,
-        q,
-        new,
-        &mut room.spelled,
-        &lists.costs,
-        &mut room.costs,
-        &mut room.held,
-        &mut room.sums,
-        &mut room.fractions,
-    )
+    write_costs(pivot, new, &lists.costs, &mut room.costs, &mut room.scratch)
 }
 
-/// Writes the row of the variable j that enters, by that of i, which leaves, and counts what it has room for then. It
-/// isn't spelled yet.
+/// Writes the row of the variable that enters, by `row`, that of the one that leaves, and counts what it has room for
+/// then. It isn't spelled yet.
 fn write_entering(
-    standing: &[Option<Stand>],
-    i: u32,
-    j: u32,
-    q: Frac,
+    pivot: &Pivot,
     row: &Form,
     new: &mut Form,
-    spelled: &mut Spelled,
-    held: &mut usize,
+    scratch: &mut Scratch,
 ) -> Result<(), MoveFault>
-    requires few { length standing.now < 2 ^ 32 }
-    requires leaving { i < length standing.now }
-    requires entering { j < length standing.now }
-    requires nonzero { is_zero q ≡ false }
-    requires pivot { q ≡ inverse (value_at row.now j) }
-    requires row_long { length row.now ≡ length standing.now }
-    ensures written { let operations =
-        each (length standing.now)
-        (solved_operations (Line.Row j) (basic_in standing.now) i j q (value_at row.now)) in
+    requires few { length pivot.now.standing.now < 2 ^ 32 }
+    requires leaving { pivot.now.leaving < length pivot.now.standing.now }
+    requires entering { pivot.now.entering < length pivot.now.standing.now }
+    requires nonzero { is_zero pivot.now.inverse ≡ false }
+    requires pivot { pivot.now.inverse ≡ inverse (value_at row.now pivot.now.entering) }
+    requires row_long { length row.now ≡ length pivot.now.standing.now }
+    ensures written { let n = length pivot.now.standing.now in
+        let operations = each n (solved_operations_by pivot.now (value_at row.now)) in
         MatchResult result
-        (λ _. (first_overflow operations ≡ None)
-        × (new.new ≡ table (length standing.now) (solved (basic_in standing.now) i j q (value_at row.now))))
+        (λ _. (first_overflow operations ≡ None) × (new.new ≡ table n (solved_by pivot.now (value_at row.now))))
         (IsMoveFault operations) }
-    ensures long { length new.new ≡ length standing.now }
-    ensures spelled { HasSpelled new.new spelled.new }
+    ensures long { length new.new ≡ length pivot.now.standing.now }
+    ensures spelled { HasSpelled new.new scratch.new.entering }
 {
     let before = new.room();
-    spelled.is_done = false;
-    match write_solved(standing, i, j, q, row, new) {
+    scratch.entering.is_done = false;
+    match write_solved(pivot, row, new) {
         Ok(()) => (),
         Err(fault) => return Err(fault),
     }
-    match count_room(new, before, held) {
+    match count_room(new, before, &mut scratch.held) {
         Ok(()) => Ok(()),
         Err(_) => Err(MoveFault::NoMemory),
     }
 }
 
-/// Writes the row of the variable j that enters, the rows that change, and the row of the cost; i leaves, and q is 1
-/// over its entry on j.
-fn write_lines(
-    standing: &[Option<Stand>],
-    i: u32,
-    j: u32,
-    q: Frac,
-    lists: &Lists,
-    room: &mut Room,
-) -> Result<(), MoveFault>
-    requires few { length standing.now < 2 ^ 32 }
-    requires leaving { i < length standing.now }
-    requires basic { basic_in standing.now i ≡ true }
-    requires nonzero { is_zero q ≡ false }
-    requires pivot { q ≡ inverse (entry_in lists.now.rows.items i j) }
-    requires entering { j < length standing.now }
-    requires lists_long { HasLists standing.now lists.now }
-    requires room_long { HasRoom standing.now room.old }
-    ensures written { MatchResult result
-        (λ _. (first_overflow (lines_operations standing.now i j q lists.now) ≡ None)
-        × LinesWritten standing.now i j q lists.now room.old room.new)
-        (IsMoveFault (lines_operations standing.now i j q lists.now)) }
-    ensures long { HasRoom standing.now room.new }
+/// Writes the row of the variable that enters, the rows that change, and the row of the cost.
+fn write_lines(pivot: &Pivot, lists: &Lists, room: &mut Room) -> Result<(), MoveFault>
+    requires few { length pivot.now.standing.now < 2 ^ 32 }
+    requires leaving { pivot.now.leaving < length pivot.now.standing.now }
+    requires basic { basic_in pivot.now.standing.now pivot.now.leaving ≡ true }
+    requires nonzero { is_zero pivot.now.inverse ≡ false }
+    requires pivot { pivot.now.inverse
+        ≡ inverse (entry_in lists.now.rows.items pivot.now.leaving pivot.now.entering) }
+    requires entering { pivot.now.entering < length pivot.now.standing.now }
+    requires lists_long { HasLists pivot.now.standing.now lists.now }
+    requires room_long { HasRoom pivot.now.standing.now room.old }
+    ensures written { let p = pivot.now in
+        let operations = lines_operations p.standing.now p.leaving p.entering p.inverse lists.now in
+        MatchResult result
+        (λ _. (first_overflow operations ≡ None)
+        × LinesWritten p.standing.now p.leaving p.entering p.inverse lists.now room.old room.new)
+        (IsMoveFault operations) }
+    ensures long { HasRoom pivot.now.standing.now room.new }
 {
-    let row = &lists.rows[i as usize];
-    let new = &mut room.entering;
-    let spelled = &mut room.spelled;
-    match write_entering(standing, i, j, q, row, new, spelled, &mut room.held) {
+    let row = &lists.rows[pivot.leaving as usize];
+    match write_entering(pivot, row, &mut room.entering, &mut room.scratch) {
         Ok(()) => (),
         Err(fault) => return Err(fault),
     }
-    write_others(standing, i, j, q, lists, room)
+    write_others(pivot, lists, room)
 }
 
 /// A number of a list.
@@ -221,64 +160,66 @@ pub(crate) fn number(numbers: &[Frac], k: u32) -> Frac
     numbers[k as usize]
 }
 
-/// Writes the values after j has moved by t, where i leaves, and answers the cost.
-fn write_moves(
-    standing: &[Option<Stand>],
-    i: u32,
-    j: u32,
-    t: Frac,
-    lists: &Lists,
-    room: &mut Room,
-) -> Result<Frac, OutOfRange>
-    requires few { length standing.now < 2 ^ 32 }
-    requires entering { j < length standing.now }
-    requires lists_long { HasLists standing.now lists.now }
-    requires room_long { HasRoom standing.now room.old }
-    requires marked { AreMarked standing.now i j lists.now.rows.items room.old.changed.items }
-    ensures written { MatchResult result
-        (λ cost. (first_overflow (moves_operations standing.now j t lists.now) ≡ None)
-        × MovesWritten standing.now j t lists.now room.old room.new cost)
-        (λ fault. first_overflow (moves_operations standing.now j t lists.now) ≡ Some fault.place) }
-    ensures long { HasRoom standing.now room.new }
+/// Writes the values after the variable that enters has moved by t, and answers the cost.
+fn write_moves(pivot: &Pivot, t: Frac, lists: &Lists, room: &mut Room) -> Result<Frac, OutOfRange>
+    requires few { length pivot.now.standing.now < 2 ^ 32 }
+    requires entering { pivot.now.entering < length pivot.now.standing.now }
+    requires lists_long { HasLists pivot.now.standing.now lists.now }
+    requires room_long { HasRoom pivot.now.standing.now room.old }
+    requires marked { AreMarked pivot.now.standing.now pivot.now.leaving pivot.now.entering lists.now.rows.items
+        room.old.changed.items }
+    ensures written { let p = pivot.now in
+        MatchResult result
+        (λ cost. (first_overflow (moves_operations p.standing.now p.entering t lists.now) ≡ None)
+        × MovesWritten p.standing.now p.entering t lists.now room.old room.new cost)
+        (λ fault. first_overflow (moves_operations p.standing.now p.entering t lists.now) ≡ Some fault.place) }
+    ensures long { HasRoom pivot.now.standing.now room.new }
 {
-    let rows = lists.rows.as_slice();
-    let values = lists.values.as_slice();
+    let shift = Shift {
+        rows: lists.rows.as_slice(),
+        values: lists.values.as_slice(),
+        by: t,
+    };
     let changed = room.changed.as_slice();
-    let out = room.values.as_mut_slice();
-    match write_moved(standing, rows, i, j, changed, t, values, out) {
+    match write_moved(pivot, &shift, changed, room.values.as_mut_slice()) {
         Ok(()) => (),
         Err(fault) => return Err(fault),
     }
-    let entry = lists.costs.entry(j);
+    let entry = lists.costs.entry(pivot.entering);
     sum(value_of(Line::Cost), lists.cost, entry, t)
 }
 
-/// Writes the values after an exchange, by which i goes to a side, and answers the cost; q is 1 over the entry of i on
-/// j, which enters.
+/// Writes the values after an exchange, by which the one that leaves goes to a side, and answers the cost.
 fn write_values(
-    standing: &[Option<Stand>],
-    i: u32,
-    j: u32,
+    pivot: &Pivot,
     side: Frac,
-    q: Frac,
     lists: &Lists,
     room: &mut Room,
 ) -> Result<Frac, OutOfRange>
-    requires few { length standing.now < 2 ^ 32 }
-    requires leaving { i < length standing.now }
-    requires entering { j < length standing.now }
-    requires lists_long { HasLists standing.now lists.now }
-    requires room_long { HasRoom standing.now room.old }
-    requires marked { AreMarked standing.now i j lists.now.rows.items room.old.changed.items }
-    ensures written { MatchResult result
-        (λ cost. (first_overflow (values_operations standing.now i j side q lists.now) ≡ None)
-        × MovesWritten standing.now j (step_in i side q lists.now) lists.now room.old room.new cost)
-        (λ fault. first_overflow (values_operations standing.now i j side q lists.now) ≡ Some fault.place) }
-    ensures long { HasRoom standing.now room.new }
+    requires few { length pivot.now.standing.now < 2 ^ 32 }
+    requires leaving { pivot.now.leaving < length pivot.now.standing.now }
+    requires entering { pivot.now.entering < length pivot.now.standing.now }
+    requires lists_long { HasLists pivot.now.standing.now lists.now }
+    requires room_long { HasRoom pivot.now.standing.now room.old }
+    requires marked { AreMarked pivot.now.standing.now pivot.now.leaving pivot.now.entering lists.now.rows.items
+        room.old.changed.items }
+    ensures written { let p = pivot.now in
+        let operations = values_operations p.standing.now p.leaving p.entering side p.inverse lists.now in
+        let t = step_in p.leaving side p.inverse lists.now in
+        MatchResult result
+        (λ cost. (first_overflow operations ≡ None)
+        × MovesWritten p.standing.now p.entering t lists.now room.old room.new cost)
+        (λ fault. first_overflow operations ≡ Some fault.place) }
+    ensures long { HasRoom pivot.now.standing.now room.new }
 {
-    let value = number(lists.values.as_slice(), i);
-    match step_to(value_of(Line::Row(i)), side, value, q) {
-        Ok(t) => write_moves(standing, i, j, t, lists, room),
+    let value = number(lists.values.as_slice(), pivot.leaving);
+    match step_to(
+        value_of(Line::Row(pivot.leaving)),
+        side,
+        value,
+        pivot.inverse,
+    ) {
+        Ok(t) => write_moves(pivot, t, lists, room),
         Err(fault) => Err(fault),
     }
 }
@@ -295,7 +236,7 @@ pub(crate) fn value_at_stand(sides: Sides, at: Stand) -> Frac
 }
 
 /// 1 over the entry of i on j, which isn't 0.
-fn pivot_of(rows: &[Form], i: u32, j: u32) -> Frac
+fn inverse_of(rows: &[Form], i: u32, j: u32) -> Frac
     requires within { i < length rows.now }
     requires long { j < length (row_in rows.now i) }
     requires nonzero { entry_in rows.now i j ≢ zeroℚ }
@@ -318,29 +259,34 @@ pub(crate) fn plan(
     sides: &[Sides],
     standing: &[Option<Stand>],
     lists: &Lists,
-    i: u32,
-    j: u32,
-    to: Stand,
+    asked: Exchange,
     room: &mut Room,
 ) -> Result<Frac, MoveFault>
     requires few { length standing.now < 2 ^ 32 }
     requires sides_long { length sides.now ≡ length standing.now }
     requires lists_long { HasLists standing.now lists.now }
     requires room_long { HasRoom standing.now room.old }
-    requires can { CanExchange (state sides.now standing.now lists.now) i j to }
+    requires can { CanExchange (state sides.now standing.now lists.now) asked.leaving asked.entering asked.to }
     ensures written { let d = state sides.now standing.now lists.now in
+        let operations = exchange_operations d asked.leaving asked.entering asked.to in
         MatchResult result
-        (λ cost. (first_overflow (exchange_operations d i j to) ≡ None) × IsPlanned d i j to room.new cost)
-        (IsMoveFault (exchange_operations d i j to)) }
+        (λ cost. (first_overflow operations ≡ None)
+        × IsPlanned d asked.leaving asked.entering asked.to room.new cost)
+        (IsMoveFault operations) }
     ensures long { HasRoom standing.now room.new }
 {
-    let q = pivot_of(lists.rows.as_slice(), i, j);
-    match write_lines(standing, i, j, q, lists, room) {
+    let pivot = Pivot {
+        standing,
+        leaving: asked.leaving,
+        entering: asked.entering,
+        inverse: inverse_of(lists.rows.as_slice(), asked.leaving, asked.entering),
+    };
+    match write_lines(&pivot, lists, room) {
         Ok(()) => (),
         Err(fault) => return Err(fault),
     }
-    let side = side_of(sides, i, to);
-    match write_values(standing, i, j, side, q, lists, room) {
+    let side = side_of(sides, asked.leaving, asked.to);
+    match write_values(&pivot, side, lists, room) {
         Ok(cost) => Ok(cost),
         Err(fault) => Err(MoveFault::OutOfRange { place: fault.place }),
     }
@@ -373,66 +319,71 @@ fn swap_rows(i: u32, j: u32, rows: &mut [Form])
     rows.swap(i as usize, j as usize);
 }
 
-/// Takes the rows that were written for those that they replace: those that change, and that of j, which enters; i
-/// leaves.
+/// Takes the rows that were written for those that they replace: those that change, and that of the variable that
+/// enters.
 fn take_over_rows(
     standing: &[Option<Stand>],
-    i: u32,
-    j: u32,
+    asked: Exchange,
     changed: &[bool],
     rows: &mut [Form],
     other: &mut [Form],
     entering: &mut Form,
 )
-    requires leaving { i < length standing.now }
-    requires entering { j < length standing.now }
-    requires basic { basic_in standing.now i ≡ true }
-    requires nonbasic { basic_in standing.now j ≡ false }
-    requires marked { AreMarked standing.now i j rows.old changed.now }
+    requires leaving { asked.leaving < length standing.now }
+    requires entering { asked.entering < length standing.now }
+    requires basic { basic_in standing.now asked.leaving ≡ true }
+    requires nonbasic { basic_in standing.now asked.entering ≡ false }
+    requires marked { AreMarked standing.now asked.leaving asked.entering rows.old changed.now }
     requires rows_long { HasRows standing.now rows.old }
     requires other_long { HasRows standing.now other.old }
     requires entering_long { length entering.old ≡ length standing.now }
-    ensures rows { (v : ℕ) → v < length standing.now → row_in rows.new v
-        ≡ entered_form i j (table (length standing.now) (taken_form standing.now i j rows.old other.old))
-        entering.old v }
-    ensures rows_long { HasRowsAfter standing.now i j rows.new }
-    ensures other_long { HasRowsAfter standing.now i j other.new }
+    ensures rows { let taken = taken_form standing.now asked.leaving asked.entering rows.old other.old in
+        (v : ℕ) → v < length standing.now → row_in rows.new v
+        ≡ entered_form asked.leaving asked.entering (table (length standing.now) taken) entering.old v }
+    ensures rows_long { HasRowsAfter standing.now asked.leaving asked.entering rows.new }
+    ensures other_long { HasRowsAfter standing.now asked.leaving asked.entering other.new }
     ensures entering_long { length entering.new ≡ length standing.now }
 {
-    take_rows(standing, i, j, changed, rows, other);
-    enter_row(i, j, rows, entering);
-    swap_rows(i, j, other);
+    take_rows(
+        standing,
+        asked.leaving,
+        asked.entering,
+        changed,
+        rows,
+        other,
+    );
+    enter_row(asked.leaving, asked.entering, rows, entering);
+    swap_rows(asked.leaving, asked.entering, other);
 }
 
-/// Takes over what was planned: the rows, the costs, the values, the cost, and where i, which leaves, and j, which
-/// enters, then stand.
+/// Takes over what was planned: the rows, the costs, the values, the cost, and where the two variables then stand.
 pub(crate) fn take_over(
     standing: &mut Vec<Option<Stand>>,
-    i: u32,
-    j: u32,
-    to: Stand,
+    asked: Exchange,
     cost: Frac,
     lists: &mut Lists,
     room: &mut Room,
 )
-    requires leaving { i < length standing.old.items }
-    requires entering { j < length standing.old.items }
-    requires basic { basic_in standing.old.items i ≡ true }
-    requires nonbasic { basic_in standing.old.items j ≡ false }
+    requires leaving { asked.leaving < length standing.old.items }
+    requires entering { asked.entering < length standing.old.items }
+    requires basic { basic_in standing.old.items asked.leaving ≡ true }
+    requires nonbasic { basic_in standing.old.items asked.entering ≡ false }
     requires lists_long { HasLists standing.old.items lists.old }
     requires room_long { HasRoom standing.old.items room.old }
-    requires marked { AreMarked standing.old.items i j lists.old.rows.items room.old.changed.items }
-    ensures { IsTakenOver standing.old.items i j to cost lists.old room.old standing.new.items lists.new room.new }
+    requires marked { AreMarked standing.old.items asked.leaving asked.entering lists.old.rows.items
+        room.old.changed.items }
+    ensures { IsTakenOver standing.old.items asked.leaving asked.entering asked.to cost lists.old room.old
+        standing.new.items lists.new room.new }
 {
     let rows = lists.rows.as_mut_slice();
     let other = room.rows.as_mut_slice();
     let places = standing.as_slice();
     let changed = room.changed.as_slice();
-    take_over_rows(places, i, j, changed, rows, other, &mut room.entering);
+    take_over_rows(places, asked, changed, rows, other, &mut room.entering);
     std::mem::swap(&mut lists.costs, &mut room.costs);
-    let moved = room.values.as_slice();
-    take_values(places, j, lists.values.as_mut_slice(), moved);
+    let values = lists.values.as_mut_slice();
+    take_values(places, asked.entering, values, room.values.as_slice());
     lists.cost = cost;
-    standing[i as usize] = Some(to);
-    standing[j as usize] = None;
+    standing[asked.leaving as usize] = Some(asked.to);
+    standing[asked.entering as usize] = None;
 }

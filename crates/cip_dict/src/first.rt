@@ -17,16 +17,26 @@ use crate::exchange::value_at_stand;
 use crate::fault::{FirstFault, OutOfRange};
 use crate::forms::{Form, room_of};
 use crate::lines::is_basic;
-use crate::lists::{Lists, Room, Spelled};
-use crate::settle::settled;
+use crate::lists::{Lists, Room, Scratch, Spelled};
+use crate::settle::settle_lists;
 use crate::spare::Spare;
 use cip_dictionary::{Line, Stand};
 use cip_frac::Frac;
 use cip_lin::Sides;
 use std::alloc::{AllocError, Global};
 
+/// A linear program: its entries, each a row, a column and the coefficient there, the sides of rows and of columns, and
+/// the costs.
+#[derive(Clone, Copy)]
+pub(crate) struct System<'a> {
+    pub(crate) entries: &'a [(u32, u32, Frac)],
+    pub(crate) rows: &'a [Sides],
+    pub(crate) columns: &'a [Sides],
+    pub(crate) costs: &'a [Frac],
+}
+
 /// Where a column with these sides stands at first.
-fn stand_first(sides: Sides) -> Stand
+fn first_stand(sides: Sides) -> Stand
     ensures { result ≡ first_stand sides }
 {
     match (sides.low, sides.high) {
@@ -41,14 +51,14 @@ fn stand_of(columns: &[Sides], v: usize) -> Option<Stand>
     ensures { result ≡ stand_in columns.now v }
 {
     if v < columns.len() {
-        Some(stand_first(columns[v]))
+        Some(first_stand(columns[v]))
     } else {
         None
     }
 }
 
 /// Where all n variables stand at first; `Err` where the memory was refused.
-pub(crate) fn stands(
+pub(crate) fn first_stands(
     alloc: Global,
     spare: &mut Spare,
     columns: &[Sides],
@@ -145,7 +155,7 @@ fn column_at(columns: &[Sides], k: usize) -> Frac
     requires { k < length columns.now }
     ensures { result ≡ column_value columns.now k }
 {
-    value_at_stand(columns[k], stand_first(columns[k]))
+    value_at_stand(columns[k], first_stand(columns[k]))
 }
 
 /// The values of the columns at first; `Err` where the memory was refused.
@@ -210,7 +220,7 @@ fn row_values(
 }
 
 /// The rows of all variables at first; `Err` where the memory was refused.
-fn filled_rows(
+fn first_rows(
     alloc: Global,
     spare: &mut Spare,
     standing: &[Option<Stand>],
@@ -282,7 +292,7 @@ fn all_values(
 {
     let at = column_values(alloc, spare, columns)?;
     let begun = at.as_slice();
-    let mut values = spare.copied(alloc, begun)?;
+    let mut values = spare.copy_of(alloc, begun)?;
     let found = rows_and_cost(columns.len(), m, rows, costs, begun, &mut values);
     spare.keep_numbers(at);
     match found {
@@ -306,6 +316,19 @@ pub(crate) fn all_sides(
     Ok(sides)
 }
 
+/// Lists to work with, where all lines and the room for them hold so many entries.
+fn scratch_for(alloc: Global, spare: &mut Spare, held: usize) -> Scratch {
+    Scratch {
+        entering: Spelled {
+            entries: spare.entries(alloc),
+            is_done: false,
+        },
+        row: spare.entries(alloc),
+        sums: Vec::new(alloc),
+        held,
+    }
+}
+
 /// Room for what a move writes, beside these lists; `Err` where the memory was refused.
 pub(crate) fn room_for(
     alloc: Global,
@@ -322,15 +345,10 @@ pub(crate) fn room_for(
     let changed = spare.marks(alloc, standing.len())?;
     let held = room_of(lists.rows.as_slice()).saturating_add(room_of(rows.as_slice()));
     let others = lists.costs.room().saturating_add(costs.room());
+    let held = held.saturating_add(others).saturating_add(entering.room());
     Ok(Room {
-        held: held.saturating_add(others).saturating_add(entering.room()),
+        scratch: scratch_for(alloc, spare, held),
         entering,
-        spelled: Spelled {
-            entries: spare.entries(alloc),
-            is_done: false,
-        },
-        sums: Vec::new(alloc),
-        fractions: spare.entries(alloc),
         rows,
         changed,
         costs,
@@ -343,28 +361,27 @@ fn lists_for(
     alloc: Global,
     spare: &mut Spare,
     standing: &[Option<Stand>],
-    entries: &[(u32, u32, Frac)],
-    row_sides: &[Sides],
-    column_sides: &[Sides],
-    costs: &[Frac],
+    system: &System,
 ) -> Result<Lists, FirstFault>
-    requires few { length column_sides.now + length row_sides.now < 2 ^ 32 }
+    requires few { length system.now.columns.now + length system.now.rows.now < 2 ^ 32 }
     requires stands { standing.now
-        ≡ table (length column_sides.now + length row_sides.now) (stand_in column_sides.now) }
-    requires within { AreWithin (length row_sides.now) (length column_sides.now) entries.now }
-    requires costs_long { length costs.now ≡ length column_sides.now }
-    ensures { let p = system_in entries.now row_sides.now column_sides.now costs.now in
+        ≡ table (length system.now.columns.now + length system.now.rows.now) (stand_in system.now.columns.now) }
+    requires within { AreWithin (length system.now.rows.now) (length system.now.columns.now) system.now.entries.now }
+    requires costs_long { length system.now.costs.now ≡ length system.now.columns.now }
+    ensures { let s = system.now in
+        let p = system_in s.entries.now s.rows.now s.columns.now s.costs.now in
         MatchResult result
         (λ lists. (first_overflow (first_operations p) ≡ None)
-        × (state (column_sides.now ++ row_sides.now) standing.now lists ≡ first p)
+        × (state (system.now.columns.now ++ system.now.rows.now) standing.now lists ≡ first p)
         × HasLists standing.now lists)
         (IsFirstFault p) }
 {
-    let m = row_sides.len();
-    let rows = filled_rows(alloc, spare, standing, column_sides, entries, m)?;
-    let all = all_costs(alloc, spare, costs, standing.len())?;
+    let m = system.rows.len();
+    let columns = system.columns;
+    let rows = first_rows(alloc, spare, standing, columns, system.entries, m)?;
+    let all = all_costs(alloc, spare, system.costs, standing.len())?;
     let lines = rows.as_slice();
-    match all_values(alloc, spare, column_sides, m, lines, &all) {
+    match all_values(alloc, spare, columns, m, lines, &all) {
         Ok((values, cost)) => Ok(Lists {
             rows,
             costs: all,
@@ -380,33 +397,23 @@ pub(crate) fn first_lists(
     alloc: Global,
     spare: &mut Spare,
     standing: &[Option<Stand>],
-    entries: &[(u32, u32, Frac)],
-    row_sides: &[Sides],
-    column_sides: &[Sides],
-    costs: &[Frac],
+    system: &System,
 ) -> Result<Lists, FirstFault>
-    requires few { length column_sides.now + length row_sides.now < 2 ^ 32 }
+    requires few { length system.now.columns.now + length system.now.rows.now < 2 ^ 32 }
     requires stands { standing.now
-        ≡ table (length column_sides.now + length row_sides.now) (stand_in column_sides.now) }
-    requires within { AreWithin (length row_sides.now) (length column_sides.now) entries.now }
-    requires costs_long { length costs.now ≡ length column_sides.now }
-    ensures { let p = system_in entries.now row_sides.now column_sides.now costs.now in
+        ≡ table (length system.now.columns.now + length system.now.rows.now) (stand_in system.now.columns.now) }
+    requires within { AreWithin (length system.now.rows.now) (length system.now.columns.now) system.now.entries.now }
+    requires costs_long { length system.now.costs.now ≡ length system.now.columns.now }
+    ensures { let s = system.now in
+        let p = system_in s.entries.now s.rows.now s.columns.now s.costs.now in
         MatchResult result
         (λ lists. (first_overflow (first_operations p) ≡ None)
-        × (state (column_sides.now ++ row_sides.now) standing.now lists ≡ first p)
+        × (state (system.now.columns.now ++ system.now.rows.now) standing.now lists ≡ first p)
         × HasLists standing.now lists)
         (IsFirstFault p) }
 {
-    match lists_for(
-        alloc,
-        spare,
-        standing,
-        entries,
-        row_sides,
-        column_sides,
-        costs,
-    ) {
-        Ok(found) => match settled(found) {
+    match lists_for(alloc, spare, standing, system) {
+        Ok(found) => match settle_lists(found) {
             Ok(lists) => Ok(lists),
             Err(_) => Err(FirstFault::NoMemory),
         },

@@ -17,7 +17,7 @@ use crate::exchange::{number, side_of};
 use crate::fault::OutOfRange;
 use crate::lines::is_basic;
 use crate::lists::{Lists, Room};
-use crate::values::{take_values, value_of, write_flipped};
+use crate::values::{Shift, take_values, value_of, write_flipped};
 use cip_dictionary::{Line, Stand};
 use cip_frac::Frac;
 use cip_lin::Sides;
@@ -76,17 +76,12 @@ fn write_flips(
         (λ fault. first_overflow (flips_operations standing.now j t lists.now) ≡ Some fault.place) }
     ensures long { HasRoom standing.now room.new }
 {
-    let rows = lists.rows.as_slice();
-    let values = lists.values.as_slice();
-    match write_flipped(
-        standing,
-        rows,
-        j,
-        t,
-        side,
-        values,
-        room.values.as_mut_slice(),
-    ) {
+    let shift = Shift {
+        rows: lists.rows.as_slice(),
+        values: lists.values.as_slice(),
+        by: t,
+    };
+    match write_flipped(standing, &shift, j, side, room.values.as_mut_slice()) {
         Ok(()) => (),
         Err(fault) => return Err(fault),
     }

@@ -9,6 +9,7 @@ ghost use Rattle.cip_dict.specs.SparseLines.{Kept, entry_on, AreKept};
 
 use crate::entries::sum;
 use crate::fault::OutOfRange;
+use crate::listed::is_within;
 use crate::values::value_of;
 use cip_dictionary::Line;
 use cip_frac::Frac;
@@ -28,17 +29,6 @@ fn entry_step(
         (λ fault. first_overflow operations ≡ Some fault.place) }
 {
     sum(value_of(line), total, entry.1, values[entry.0 as usize])
-}
-
-/// Whether there is an entry at a place, on one of the first n variables.
-#[inline(always)]
-fn is_within(entries: &[(u32, Frac)], place: usize, n: usize) -> bool
-    ensures within { result ≡ true → place < length entries.now }
-    ensures below { result ≡ true → (d : Kept) → (slice_index_or entries.now place d).0 < n }
-    ensures past { result ≡ false → (d : Kept) → place < length entries.now
-        → n ≤ (slice_index_or entries.now place d).0 }
-{
-    place < entries.len() && (entries[place].0 as usize) < n
 }
 
 /// The value of a form on the first n variables, by its entries that aren't 0: the products added one after another.

@@ -5,38 +5,9 @@ ghost use Rattle.cip_dictionary.specs.Operations.{is_zero};
 ghost use Rattle.cip_dict.specs.SparseLines.{Kept, entry_on, AreKept, kept_at, IsPlace, IsNext};
 
 use crate::entries::vanishes;
+use crate::listed::{is_past, place_from, stands_at};
 use cip_frac::Frac;
 use std::alloc::AllocError;
-
-/// The place of the first entry on a variable from k on, or the number of entries.
-fn place_from(entries: &[(u32, Frac)], k: u32) -> usize
-    requires { (n : ℕ) × AreKept 0 n entries.now }
-    ensures { IsPlace k entries.now result }
-{
-    let mut low = 0;
-    let mut high = entries.len();
-    while low < high {
-        let middle = low + (high - low) / 2;
-        if entries[middle].0 < k {
-            low = middle + 1;
-        } else {
-            high = middle;
-        }
-    }
-    low
-}
-
-/// Whether the entry at a place is that on variable k.
-#[inline(always)]
-fn stands_at(entries: &[(u32, Frac)], place: usize, k: u32) -> bool
-    ensures within { result ≡ true → place < length entries.now }
-    ensures fits { result ≡ true → place + 1 < 2 ^ 64 }
-    ensures yes { result ≡ true → (d : Kept) → (slice_index_or entries.now place d).0 ≡ k }
-    ensures no { result ≡ false
-        → (d : Kept) → place < length entries.now → (slice_index_or entries.now place d).0 ≢ k }
-{
-    place < entries.len() && entries[place].0 == k
-}
 
 /// The entry on variable k, of which the place is known.
 #[inline(always)]
@@ -168,16 +139,6 @@ fn let_go_at(entries: &mut Vec<(u32, Frac)>, place: usize, k: u32)
     if stands_at(entries.as_slice(), place, k) {
         let _gone = entries.remove(place);
     }
-}
-
-/// Whether all entries are on variables below k.
-#[inline(always)]
-fn is_past(entries: &[(u32, Frac)], k: u32) -> bool
-    requires { (n : ℕ) × AreKept 0 n entries.now }
-    ensures { result ≡ true → IsPlace k entries.now (length entries.now) }
-{
-    let len = entries.len();
-    len == 0 || entries[len - 1].0 < k
 }
 
 /// Puts an entry on variable k, whatever stood there. `Err` where memory was refused.

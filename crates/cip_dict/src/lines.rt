@@ -1,24 +1,24 @@
 //! The lines of a dictionary, entry by entry.
-ghost use Rattle.std.specs.Prelude.{◌≡◌, ◌==◌, ◌&&◌, not, ◌<◌, ◌≤◌, ◌^◌, ◌∷◌, ◌++◌, [], true, false, pos, neg_ℤ, unsigned_abs, length, Some, None, OnOk, OnErr, IfOk, MatchResult, if◌then◌else◌};
+ghost use Rattle.std.specs.Prelude.{◌≡◌, ◌==◌, ◌&&◌, not, ◌<◌, ◌≤◌, ◌^◌, ◌∷◌, ◌++◌, List, [], true, false, pos, neg_ℤ, unsigned_abs, length, Some, None, OnOk, OnErr, IfOk, MatchResult, if◌then◌else◌};
 ghost use Rattle.cip_rational.specs.Rational.{ℚ, inverse, ratio};
 ghost use Rattle.cip_dictionary.specs.declared.places.Line as places;
 ghost use Rattle.cip_problem.specs.Activity.{value_at};
 ghost use Rattle.cip_dictionary.specs.Tables.{table, each};
-ghost use Rattle.cip_dictionary.specs.Operations.{first_overflow, is_zero, entry_place};
-ghost use Rattle.cip_dictionary.specs.Exchange.{is_absent, solved_at, solved, substituted_at, substituted};
-ghost use Rattle.cip_dictionary.specs.MoveOperations.{solved_operations_at, solved_operations, substituted_operations_at, substituted_operations};
+ghost use Rattle.cip_dictionary.specs.Operations.{Placed, first_overflow, is_zero, entry_place};
 ghost use Rattle.cip_dict.specs.Lists.{basic_in};
 ghost use Rattle.cip_dict.specs.MoveFaults.{IsMoveFault};
+ghost use Rattle.cip_dict.specs.Pivots.{absent_by, solved_by, solved_operations_by, substituted_by, substituted_operations_by, solved_on, solved_operations_on, substituted_on, substituted_operations_on};
 ghost use Rattle.cip_dict.specs.Row.{HasSpelled};
 ghost use Rattle.cip_dict.specs.SparseLines.{entry_on, kept_at, kept_of, AreKept};
 ghost use Rattle.cip_dict.specs.WholeLines.{over, number_on, IsWhole, IsSpelled};
 
-use crate::entries::{solved_entry, substituted_entry};
+use crate::entries::{product, sum};
 use crate::fault::{MoveFault, OutOfRange};
 use crate::forms::Form;
 use crate::kept::{entry_from, keep_entry, next_variable, place_past};
-use crate::lists::Spelled;
-use crate::whole::number_of;
+use crate::lists::{Scratch, Spelled};
+use crate::pivots::Pivot;
+use crate::whole::{Wholes, number_of};
 use crate::whole_sums::put_whole;
 use crate::whole_turns::turn_entries;
 use cip_dictionary::{Line, Place, Stand};
@@ -45,39 +45,80 @@ pub(crate) fn place_on(line: Line, k: u32) -> Place
     }
 }
 
-/// Whether no entry stands on variable k after j has entered: k is basic, or j. (The one that leaves is asked for
-/// before.)
+/// Whether no entry stands on variable k after an exchange: k is basic, or the one that enters. (The one that leaves is
+/// asked for before.)
 #[inline(always)]
-pub(crate) fn is_absent_on(standing: &[Option<Stand>], j: u32, k: u32) -> bool
-    requires { k < length standing.now }
-    ensures { result ≡ is_absent (basic_in standing.now) j k }
+pub(crate) fn is_absent_on(pivot: &Pivot, k: u32) -> bool
+    requires { k < length pivot.now.standing.now }
+    ensures { result ≡ absent_by pivot.now k }
 {
-    is_basic(standing, k as usize) || k == j
+    is_basic(pivot.standing, k as usize) || k == pivot.entering
 }
 
-/// Keeps the entry on variable k of the row of i solved for j, where q is 1 over the entry of i on j, and a that of i
-/// on k.
+/// The entry on variable k of the row of the variable that enters, where a stands on k in that of the one that leaves:
+/// nothing where no entry stands, and else a negated, over the entry on the variable that enters.
 #[inline(always)]
-fn keep_solved(
-    standing: &[Option<Stand>],
-    i: u32,
-    j: u32,
-    q: Frac,
-    a: Frac,
+fn solved_entry(pivot: &Pivot, k: u32, a: Frac) -> Result<Frac, OutOfRange>
+    requires { k < length pivot.now.standing.now }
+    ensures { MatchResult result
+        (λ v. (first_overflow (solved_operations_on pivot.now k a) ≡ None) × (v ≡ solved_on pivot.now k a))
+        (λ fault. first_overflow (solved_operations_on pivot.now k a) ≡ Some fault.place) }
+{
+    if k == pivot.leaving {
+        Ok(pivot.inverse)
+    } else if is_absent_on(pivot, k) {
+        Ok(Frac::zero())
+    } else {
+        product(
+            place_on(Line::Row(pivot.entering), k),
+            a.neg(),
+            pivot.inverse,
+        )
+    }
+}
+
+/// The entry on variable k of another line, where a stands on k and b on the variable that enters, in whose row c
+/// stands on k.
+#[inline(always)]
+fn substituted_entry(
+    line: Line,
+    pivot: &Pivot,
     k: u32,
-    out: &mut Vec<(u32, Frac)>,
-) -> Result<(), MoveFault>
-    requires { k < length standing.now }
-    ensures written { let absent = is_absent (basic_in standing.now) j k in
-        let operations = solved_operations_at (entry_place (Line.Row j) k) (k == i) absent q a in
+    a: Frac,
+    b: Frac,
+    c: Frac,
+) -> Result<Frac, OutOfRange>
+    requires { k < length pivot.now.standing.now }
+    ensures { let operations = substituted_operations_on line pivot.now k a b c in
         MatchResult result
-        (λ _. (first_overflow operations ≡ None)
-        × (out.new.items ≡ out.old.items ++ kept_at k (solved_at (k == i) absent q a)))
+        (λ v. (first_overflow operations ≡ None) × (v ≡ substituted_on pivot.now k a b c))
+        (λ fault. first_overflow operations ≡ Some fault.place) }
+{
+    if k == pivot.leaving {
+        product(place_on(line, k), b, pivot.inverse)
+    } else if is_absent_on(pivot, k) {
+        Ok(Frac::zero())
+    } else {
+        sum(place_on(line, k), a, b, c)
+    }
+}
+
+/// Keeps the entry that was formed for variable k at the end, unless it is 0.
+#[inline(always)]
+fn keep_formed(
+    out: &mut Vec<(u32, Frac)>,
+    k: u32,
+    formed: Result<Frac, OutOfRange>,
+) -> Result<(), MoveFault>
+    ensures written { (operations : List Placed) (value : ℚ)
+        → MatchResult formed (λ v. (first_overflow operations ≡ None) × (v ≡ value))
+        (λ fault. first_overflow operations ≡ Some fault.place)
+        → MatchResult result
+        (λ _. (first_overflow operations ≡ None) × (out.new.items ≡ out.old.items ++ kept_at k value))
         (IsMoveFault operations) }
     ensures left { OnErr result (out.new.items ≡ out.old.items) }
 {
-    let absent = is_absent_on(standing, j, k);
-    match solved_entry(place_on(Line::Row(j), k), k == i, absent, q, a) {
+    match formed {
         Ok(entry) => match keep_entry(out, k, entry) {
             Ok(()) => Ok(()),
             Err(_) => Err(MoveFault::NoMemory),
@@ -86,38 +127,34 @@ fn keep_solved(
     }
 }
 
-/// Keeps the entries of the row of i solved for j, where q is 1 over the entry of i on j: those on the variables on
-/// which the row of i has an entry, and that on i, `leaving`.
+/// Keeps the entries of the row of the variable that enters: those on the variables on which `row`, that of the one
+/// that leaves, has an entry, and that on the one that leaves, `leaving`.
 fn solve_entries(
-    standing: &[Option<Stand>],
-    i: u32,
-    j: u32,
-    q: Frac,
+    pivot: &Pivot,
     row: &[(u32, Frac)],
     leaving: &[(u32, Frac)],
     out: &mut Vec<(u32, Frac)>,
 ) -> Result<(), MoveFault>
-    requires few { length standing.now < 2 ^ 32 }
-    requires row_kept { AreKept 0 (length standing.now) row.now }
-    requires leaves { leaving.now ≡ (i, q) ∷ [] }
-    requires leaving_kept { AreKept 0 (length standing.now) leaving.now }
-    ensures written { let operations =
-        each (length standing.now) (solved_operations (Line.Row j) (basic_in standing.now) i j q (entry_on row.now)) in
+    requires few { length pivot.now.standing.now < 2 ^ 32 }
+    requires row_kept { AreKept 0 (length pivot.now.standing.now) row.now }
+    requires leaves { leaving.now ≡ (pivot.now.leaving, pivot.now.inverse) ∷ [] }
+    requires leaving_kept { AreKept 0 (length pivot.now.standing.now) leaving.now }
+    ensures written { let n = length pivot.now.standing.now in
+        let operations = each n (solved_operations_by pivot.now (entry_on row.now)) in
         MatchResult result
         (λ _. (first_overflow operations ≡ None)
-        × (out.new.items
-        ≡ kept_of (length standing.now) (solved (basic_in standing.now) i j q (entry_on row.now))))
+        × (out.new.items ≡ kept_of n (solved_by pivot.now (entry_on row.now))))
         (IsMoveFault operations) }
-    ensures kept { AreKept 0 (length standing.now) out.new.items }
+    ensures kept { AreKept 0 (length pivot.now.standing.now) out.new.items }
 {
     out.clear();
-    let len = standing.len() as u32;
+    let len = pivot.standing.len() as u32;
     let mut here = 0;
     let mut there = 0;
     let mut k = next_variable(row, here, leaving, there, len);
     while k < len {
         let a = entry_from(row, here, k);
-        match keep_solved(standing, i, j, q, a, k, out) {
+        match keep_formed(out, k, solved_entry(pivot, k, a)) {
             Ok(()) => (),
             Err(fault) => return Err(fault),
         }
@@ -146,66 +183,52 @@ fn with_sign(positive: bool, below: u64) -> i64
     if positive { signed } else { -signed }
 }
 
-/// Turns the row of i round, whose numbers are `row` over `below`; answers the denominator then.
+/// Turns the row of the variable that leaves round, whose numbers are `row` over `below`; answers the denominator then.
 fn turn_whole(
-    standing: &[Option<Stand>],
-    i: u32,
-    j: u32,
-    q: Frac,
+    pivot: &Pivot,
     row: &[(u32, i64)],
     below: u64,
     out: &mut Vec<(u32, i64)>,
 ) -> Result<u64, AllocError>
-    requires few { length standing.now < 2 ^ 32 }
-    requires leaving { i < length standing.now }
-    requires row_kept { AreKept 0 (length standing.now) (over 1 row.now) }
+    requires few { length pivot.now.standing.now < 2 ^ 32 }
+    requires leaving { pivot.now.leaving < length pivot.now.standing.now }
+    requires row_kept { AreKept 0 (length pivot.now.standing.now) (over 1 row.now) }
     requires row_whole { IsWhole below row.now }
-    requires pivot { q ≡ inverse (ratio (number_on row.now j) below) }
-    requires nonzero { is_zero q ≡ false }
-    ensures { IfOk result (λ under. IsWhole under out.new.items
-        × (first_overflow (each (length standing.now)
-        (solved_operations (Line.Row j) (basic_in standing.now) i j q (entry_on (over below row.now)))) ≡ None)
-        × (over under out.new.items
-        ≡ kept_of (length standing.now) (solved (basic_in standing.now) i j q (entry_on (over below row.now))))) }
+    requires pivot { pivot.now.inverse ≡ inverse (ratio (number_on row.now pivot.now.entering) below) }
+    requires nonzero { is_zero pivot.now.inverse ≡ false }
+    ensures { let n = length pivot.now.standing.now in
+        IfOk result (λ under. IsWhole under out.new.items
+        × (first_overflow (each n (solved_operations_by pivot.now (entry_on (over below row.now)))) ≡ None)
+        × (over under out.new.items ≡ kept_of n (solved_by pivot.now (entry_on (over below row.now))))) }
 {
-    let own = number_of(row, j);
+    let own = number_of(row, pivot.entering);
     let positive = is_positive(own);
     let d = with_sign(positive, below);
-    let leaving = [(i, d)];
-    turn_entries(standing, i, j, positive, d, row, &leaving, out)?;
+    let leaving = [(pivot.leaving, d)];
+    turn_entries(pivot, positive, d, row, &leaving, out)?;
     Ok(own.unsigned_abs())
 }
 
-/// Writes the row of the variable j that enters: the row of i, which leaves, solved for j, where q is 1 over its entry
-/// on j.
-pub(crate) fn write_solved(
-    standing: &[Option<Stand>],
-    i: u32,
-    j: u32,
-    q: Frac,
-    row: &Form,
-    out: &mut Form,
-) -> Result<(), MoveFault>
-    requires few { length standing.now < 2 ^ 32 }
-    requires leaving { i < length standing.now }
-    requires entering { j < length standing.now }
-    requires nonzero { is_zero q ≡ false }
-    requires pivot { q ≡ inverse (value_at row.now j) }
-    requires row_long { length row.now ≡ length standing.now }
-    ensures written { let operations =
-        each (length standing.now) (solved_operations (Line.Row j) (basic_in standing.now) i j q (value_at row.now)) in
+/// Writes the row of the variable that enters: `row`, that of the one that leaves, solved for it.
+pub(crate) fn write_solved(pivot: &Pivot, row: &Form, out: &mut Form) -> Result<(), MoveFault>
+    requires few { length pivot.now.standing.now < 2 ^ 32 }
+    requires leaving { pivot.now.leaving < length pivot.now.standing.now }
+    requires entering { pivot.now.entering < length pivot.now.standing.now }
+    requires nonzero { is_zero pivot.now.inverse ≡ false }
+    requires pivot { pivot.now.inverse ≡ inverse (value_at row.now pivot.now.entering) }
+    requires row_long { length row.now ≡ length pivot.now.standing.now }
+    ensures written { let n = length pivot.now.standing.now in
+        let operations = each n (solved_operations_by pivot.now (value_at row.now)) in
         MatchResult result
-        (λ _. (first_overflow operations ≡ None)
-        × (out.new ≡ table (length standing.now) (solved (basic_in standing.now) i j q (value_at row.now))))
+        (λ _. (first_overflow operations ≡ None) × (out.new ≡ table n (solved_by pivot.now (value_at row.now))))
         (IsMoveFault operations) }
-    ensures long { length out.new ≡ length standing.now }
+    ensures long { length out.new ≡ length pivot.now.standing.now }
 {
-    out.len = standing.len();
+    out.len = pivot.standing.len();
     out.is_whole = false;
     out.entries.clear();
     if row.is_whole {
-        let wholes = row.wholes.as_slice();
-        match turn_whole(standing, i, j, q, wholes, row.below, &mut out.wholes) {
+        match turn_whole(pivot, row.wholes.as_slice(), row.below, &mut out.wholes) {
             Ok(below) => {
                 out.below = below;
                 out.is_whole = true;
@@ -214,81 +237,42 @@ pub(crate) fn write_solved(
             Err(_) => return Err(MoveFault::NoMemory),
         }
     }
-    let leaving = [(i, q)];
-    let entries = row.entries.as_slice();
-    solve_entries(standing, i, j, q, entries, &leaving, &mut out.entries)
+    let leaving = [(pivot.leaving, pivot.inverse)];
+    solve_entries(pivot, row.entries.as_slice(), &leaving, &mut out.entries)
 }
 
-/// Keeps the entry on variable k of a line other than that of j, which has a on k and b on j; c stands on k in the row
-/// of j.
-#[inline(always)]
-fn keep_substituted(
-    line: Line,
-    standing: &[Option<Stand>],
-    i: u32,
-    j: u32,
-    q: Frac,
-    a: Frac,
-    b: Frac,
-    c: Frac,
-    k: u32,
-    out: &mut Vec<(u32, Frac)>,
-) -> Result<(), MoveFault>
-    requires { k < length standing.now }
-    ensures written { let absent = is_absent (basic_in standing.now) j k in
-        let operations = substituted_operations_at (entry_place line k) (k == i) absent q a b c in
-        MatchResult result
-        (λ _. (first_overflow operations ≡ None)
-        × (out.new.items ≡ out.old.items ++ kept_at k (substituted_at (k == i) absent q a b c)))
-        (IsMoveFault operations) }
-    ensures left { OnErr result (out.new.items ≡ out.old.items) }
-{
-    let absent = is_absent_on(standing, j, k);
-    match substituted_entry(place_on(line, k), k == i, absent, q, a, b, c) {
-        Ok(entry) => match keep_entry(out, k, entry) {
-            Ok(()) => Ok(()),
-            Err(_) => Err(MoveFault::NoMemory),
-        },
-        Err(fault) => Err(MoveFault::OutOfRange { place: fault.place }),
-    }
-}
-
-/// Keeps the entries of a line other than that of j, which has b on j: the row of j, `new`, put in its place; i leaves.
+/// Keeps the entries of another line, which has b on the variable that enters: the row of that, `new`, put in its
+/// place.
 fn substitute_entries(
     line: Line,
-    standing: &[Option<Stand>],
-    i: u32,
-    j: u32,
-    q: Frac,
+    pivot: &Pivot,
     b: Frac,
     new: &[(u32, Frac)],
     row: &[(u32, Frac)],
     out: &mut Vec<(u32, Frac)>,
 ) -> Result<(), MoveFault>
-    requires few { length standing.now < 2 ^ 32 }
-    requires row_kept { AreKept 0 (length standing.now) row.now }
-    requires new_kept { AreKept 0 (length standing.now) new.now }
-    requires leaving { entry_on new.now i ≡ q }
-    requires on { b ≡ entry_on row.now j }
-    ensures written { let operations =
-        each (length standing.now)
-        (substituted_operations line (basic_in standing.now) i j q (entry_on new.now) (entry_on row.now)) in
+    requires few { length pivot.now.standing.now < 2 ^ 32 }
+    requires row_kept { AreKept 0 (length pivot.now.standing.now) row.now }
+    requires new_kept { AreKept 0 (length pivot.now.standing.now) new.now }
+    requires leaving { entry_on new.now pivot.now.leaving ≡ pivot.now.inverse }
+    requires on { b ≡ entry_on row.now pivot.now.entering }
+    ensures written { let n = length pivot.now.standing.now in
+        let operations = each n (substituted_operations_by line pivot.now (entry_on new.now) (entry_on row.now)) in
         MatchResult result
         (λ _. (first_overflow operations ≡ None)
-        × (out.new.items ≡ kept_of (length standing.now)
-        (substituted (basic_in standing.now) i j q (entry_on new.now) (entry_on row.now))))
+        × (out.new.items ≡ kept_of n (substituted_by pivot.now (entry_on new.now) (entry_on row.now))))
         (IsMoveFault operations) }
-    ensures kept { AreKept 0 (length standing.now) out.new.items }
+    ensures kept { AreKept 0 (length pivot.now.standing.now) out.new.items }
 {
     out.clear();
-    let len = standing.len() as u32;
+    let len = pivot.standing.len() as u32;
     let mut here = 0;
     let mut there = 0;
     let mut k = next_variable(row, here, new, there, len);
     while k < len {
         let a = entry_from(row, here, k);
         let c = entry_from(new, there, k);
-        match keep_substituted(line, standing, i, j, q, a, b, c, k, out) {
+        match keep_formed(out, k, substituted_entry(line, pivot, k, a, b, c)) {
             Ok(()) => (),
             Err(fault) => return Err(fault),
         }
@@ -299,85 +283,74 @@ fn substitute_entries(
     Ok(())
 }
 
-/// Keeps the entries of a line other than that of j, by fractions: the row of j, of which these are the fractions, put
-/// in its place; i leaves. The line is spelled into `spelled`.
+/// Keeps the entries of another line, by fractions: the row of the variable that enters, of which these are the
+/// fractions, put in its place. The line is spelled into `spelled`.
 fn substitute_spelled(
     line: Line,
-    standing: &[Option<Stand>],
-    i: u32,
-    j: u32,
-    q: Frac,
+    pivot: &Pivot,
     entering: &[(u32, Frac)],
     row: &Form,
     spelled: &mut Vec<(u32, Frac)>,
     out: &mut Vec<(u32, Frac)>,
 ) -> Result<(), MoveFault>
-    requires few { length standing.now < 2 ^ 32 }
-    requires entering { j < length standing.now }
-    requires new_kept { AreKept 0 (length standing.now) entering.now }
-    requires leaving { entry_on entering.now i ≡ q }
-    requires row_long { length row.now ≡ length standing.now }
-    ensures written { let operations =
-        each (length standing.now)
-        (substituted_operations line (basic_in standing.now) i j q (entry_on entering.now) (value_at row.now)) in
+    requires few { length pivot.now.standing.now < 2 ^ 32 }
+    requires entering { pivot.now.entering < length pivot.now.standing.now }
+    requires new_kept { AreKept 0 (length pivot.now.standing.now) entering.now }
+    requires leaving { entry_on entering.now pivot.now.leaving ≡ pivot.now.inverse }
+    requires row_long { length row.now ≡ length pivot.now.standing.now }
+    ensures written { let n = length pivot.now.standing.now in
+        let operations = each n (substituted_operations_by line pivot.now (entry_on entering.now) (value_at row.now)) in
         MatchResult result
         (λ _. (first_overflow operations ≡ None)
-        × (out.new.items ≡ kept_of (length standing.now)
-        (substituted (basic_in standing.now) i j q (entry_on entering.now) (value_at row.now))))
+        × (out.new.items ≡ kept_of n (substituted_by pivot.now (entry_on entering.now) (value_at row.now))))
         (IsMoveFault operations) }
-    ensures kept { AreKept 0 (length standing.now) out.old.items → AreKept 0 (length standing.now) out.new.items }
+    ensures kept { let n = length pivot.now.standing.now in AreKept 0 n out.old.items → AreKept 0 n out.new.items }
 {
-    let b = row.entry(j);
+    let b = row.entry(pivot.entering);
     match row.spell(spelled) {
         Ok(()) => (),
         Err(_) => return Err(MoveFault::NoMemory),
     }
-    let entries = spelled.as_slice();
-    substitute_entries(line, standing, i, j, q, b, entering, entries, out)
+    substitute_entries(line, pivot, b, entering, spelled.as_slice(), out)
 }
 
-/// Writes a line other than that of the variable j that enters in whole numbers, where that and the row of j, `new`,
-/// are kept so and the numbers stay small; answers whether it did. i leaves.
+/// Writes another line in whole numbers, where that and the row of the variable that enters, `new`, are kept so and the
+/// numbers stay small; answers whether it did.
 fn put_form(
-    standing: &[Option<Stand>],
-    i: u32,
-    j: u32,
+    pivot: &Pivot,
     new: &Form,
     row: &Form,
     out: &mut Form,
     sums: &mut Vec<(u32, i128)>,
 ) -> Result<bool, AllocError>
-    requires few { length standing.now < 2 ^ 32 }
-    requires entering { j < length standing.now }
-    requires leaving { i < length standing.now }
-    requires new_long { length new.now ≡ length standing.now }
-    requires row_long { length row.now ≡ length standing.now }
-    ensures written { IfOk result (λ done. done ≡ true → (line : places.Line) (q : ℚ) → value_at new.now i ≡ q
-        → (first_overflow (each (length standing.now)
-        (substituted_operations line (basic_in standing.now) i j q (value_at new.now) (value_at row.now))) ≡ None)
-        × (out.new ≡ table (length standing.now)
-        (substituted (basic_in standing.now) i j q (value_at new.now) (value_at row.now)))) }
-    ensures long { length out.new ≡ length standing.now }
+    requires few { length pivot.now.standing.now < 2 ^ 32 }
+    requires entering { pivot.now.entering < length pivot.now.standing.now }
+    requires leaving { pivot.now.leaving < length pivot.now.standing.now }
+    requires new_long { length new.now ≡ length pivot.now.standing.now }
+    requires row_long { length row.now ≡ length pivot.now.standing.now }
+    requires is_leaving { value_at new.now pivot.now.leaving ≡ pivot.now.inverse }
+    ensures written { let n = length pivot.now.standing.now in
+        IfOk result (λ done. done ≡ true → (line : places.Line)
+        → (first_overflow (each n (substituted_operations_by line pivot.now (value_at new.now) (value_at row.now)))
+        ≡ None)
+        × (out.new ≡ table n (substituted_by pivot.now (value_at new.now) (value_at row.now)))) }
+    ensures long { length out.new ≡ length pivot.now.standing.now }
 {
-    out.len = standing.len();
+    out.len = pivot.standing.len();
     out.is_whole = false;
     out.entries.clear();
     if !row.is_whole || !new.is_whole {
         return Ok(false);
     }
-    let own = row.wholes.as_slice();
-    let wholes = new.wholes.as_slice();
-    match put_whole(
-        standing,
-        i,
-        j,
-        own,
-        row.below,
-        wholes,
-        new.below,
-        sums,
-        &mut out.wholes,
-    ) {
+    let own = Wholes {
+        numbers: row.wholes.as_slice(),
+        below: row.below,
+    };
+    let other = Wholes {
+        numbers: new.wholes.as_slice(),
+        below: new.below,
+    };
+    match put_whole(pivot, &own, &other, sums, &mut out.wholes) {
         Ok(Some(below)) => {
             out.below = below;
             out.is_whole = true;
@@ -388,47 +361,32 @@ fn put_form(
     }
 }
 
-/// Writes a line other than that of the variable j that enters, by fractions.
+/// Writes another line by fractions; `entering` are those of the row of the variable that enters.
 fn write_parted(
     line: Line,
-    standing: &[Option<Stand>],
-    i: u32,
-    j: u32,
-    q: Frac,
+    pivot: &Pivot,
     entering: &[(u32, Frac)],
     row: &Form,
     out: &mut Form,
     spelled: &mut Vec<(u32, Frac)>,
 ) -> Result<(), MoveFault>
-    requires few { length standing.now < 2 ^ 32 }
-    requires entering { j < length standing.now }
-    requires new_kept { AreKept 0 (length standing.now) entering.now }
-    requires leaving { entry_on entering.now i ≡ q }
-    requires row_long { length row.now ≡ length standing.now }
-    ensures written { let operations =
-        each (length standing.now)
-        (substituted_operations line (basic_in standing.now) i j q (entry_on entering.now) (value_at row.now)) in
+    requires few { length pivot.now.standing.now < 2 ^ 32 }
+    requires entering { pivot.now.entering < length pivot.now.standing.now }
+    requires new_kept { AreKept 0 (length pivot.now.standing.now) entering.now }
+    requires leaving { entry_on entering.now pivot.now.leaving ≡ pivot.now.inverse }
+    requires row_long { length row.now ≡ length pivot.now.standing.now }
+    ensures written { let n = length pivot.now.standing.now in
+        let operations = each n (substituted_operations_by line pivot.now (entry_on entering.now) (value_at row.now)) in
         MatchResult result
         (λ _. (first_overflow operations ≡ None)
-        × (out.new ≡ table (length standing.now)
-        (substituted (basic_in standing.now) i j q (entry_on entering.now) (value_at row.now))))
+        × (out.new ≡ table n (substituted_by pivot.now (entry_on entering.now) (value_at row.now))))
         (IsMoveFault operations) }
-    ensures long { length out.new ≡ length standing.now }
+    ensures long { length out.new ≡ length pivot.now.standing.now }
 {
-    out.len = standing.len();
+    out.len = pivot.standing.len();
     out.is_whole = false;
     out.entries.clear();
-    substitute_spelled(
-        line,
-        standing,
-        i,
-        j,
-        q,
-        entering,
-        row,
-        spelled,
-        &mut out.entries,
-    )
+    substitute_spelled(line, pivot, entering, row, spelled, &mut out.entries)
 }
 
 /// Spells a line, where that isn't done. `Err` where memory was refused.
@@ -444,50 +402,43 @@ fn ensure_spelled(line: &Form, spelled: &mut Spelled) -> Result<(), AllocError>
     Ok(())
 }
 
-/// Writes a line other than that of the variable j that enters: the row of j, `new`, put in its place; i leaves.
-/// `entering` are the fractions of that row, spelled where a line needs them. The others are lists to work with.
+/// Writes another line: the row of the variable that enters, `new`, put in its place. In `scratch` that row is spelled,
+/// where a line needs it so.
 pub(crate) fn write_substituted(
     line: Line,
-    standing: &[Option<Stand>],
-    i: u32,
-    j: u32,
-    q: Frac,
+    pivot: &Pivot,
     new: &Form,
-    entering: &mut Spelled,
     row: &Form,
     out: &mut Form,
-    sums: &mut Vec<(u32, i128)>,
-    spelled: &mut Vec<(u32, Frac)>,
+    scratch: &mut Scratch,
 ) -> Result<(), MoveFault>
-    requires few { length standing.now < 2 ^ 32 }
-    requires entering { j < length standing.now }
-    requires leaving { i < length standing.now }
-    requires new_long { length new.now ≡ length standing.now }
-    requires new_spelled { HasSpelled new.now entering.old }
-    requires row_long { length row.now ≡ length standing.now }
-    requires is_leaving { value_at new.now i ≡ q }
-    ensures written { let operations =
-        each (length standing.now)
-        (substituted_operations line (basic_in standing.now) i j q (value_at new.now) (value_at row.now)) in
+    requires few { length pivot.now.standing.now < 2 ^ 32 }
+    requires entering { pivot.now.entering < length pivot.now.standing.now }
+    requires leaving { pivot.now.leaving < length pivot.now.standing.now }
+    requires new_long { length new.now ≡ length pivot.now.standing.now }
+    requires new_spelled { HasSpelled new.now scratch.old.entering }
+    requires row_long { length row.now ≡ length pivot.now.standing.now }
+    requires is_leaving { value_at new.now pivot.now.leaving ≡ pivot.now.inverse }
+    ensures written { let n = length pivot.now.standing.now in
+        let operations = each n (substituted_operations_by line pivot.now (value_at new.now) (value_at row.now)) in
         MatchResult result
         (λ _. (first_overflow operations ≡ None)
-        × (out.new ≡ table (length standing.now)
-        (substituted (basic_in standing.now) i j q (value_at new.now) (value_at row.now))))
+        × (out.new ≡ table n (substituted_by pivot.now (value_at new.now) (value_at row.now))))
         (IsMoveFault operations) }
-    ensures long { length out.new ≡ length standing.now }
-    ensures spelled { HasSpelled new.now entering.new }
+    ensures long { length out.new ≡ length pivot.now.standing.now }
+    ensures spelled { HasSpelled new.now scratch.new.entering }
 {
-    match put_form(standing, i, j, new, row, out, sums) {
+    match put_form(pivot, new, row, out, &mut scratch.sums) {
         Ok(true) => return Ok(()),
         Ok(false) => (),
         Err(_) => return Err(MoveFault::NoMemory),
     }
-    match ensure_spelled(new, entering) {
+    match ensure_spelled(new, &mut scratch.entering) {
         Ok(()) => (),
         Err(_) => return Err(MoveFault::NoMemory),
     }
-    let entries = entering.entries.as_slice();
-    write_parted(line, standing, i, j, q, entries, row, out, spelled)
+    let entries = scratch.entering.entries.as_slice();
+    write_parted(line, pivot, entries, row, out, &mut scratch.row)
 }
 
 /// The entry of a line on variable k.

@@ -23,20 +23,27 @@ pub(crate) struct Spelled {
     pub(crate) is_done: bool,
 }
 
+/// Lists to work with as lines are written.
+#[derive(Debug, Drop)]
+pub(crate) struct Scratch {
+    /// The fractions of the row of the variable that enters.
+    pub(crate) entering: Spelled,
+    /// Those of another row.
+    pub(crate) row: Vec<(u32, Frac)>,
+    /// Sums of whole numbers.
+    pub(crate) sums: Vec<(u32, i128)>,
+    /// How many entries all lines and the room for them may hold, and at most `usize::MAX`.
+    pub(crate) held: usize,
+}
+
 /// Room for the lists that a move writes, and for the row of the variable that enters.
 #[derive(Debug, Drop)]
 pub(crate) struct Room {
     pub(crate) entering: Form,
-    /// The fractions of the row of the variable that enters.
-    pub(crate) spelled: Spelled,
-    /// Lists to work with: sums of whole numbers, and the fractions of a row.
-    pub(crate) sums: Vec<(u32, i128)>,
-    pub(crate) fractions: Vec<(u32, Frac)>,
+    pub(crate) scratch: Scratch,
     pub(crate) rows: Vec<Form>,
     /// Of each variable, whether its row was written last.
     pub(crate) changed: Vec<bool>,
     pub(crate) costs: Form,
     pub(crate) values: Vec<Frac>,
-    /// How many entries the lists of the rows and these have room for, and at most `usize::MAX`.
-    pub(crate) held: usize,
 }

@@ -3,7 +3,8 @@ ghost use Rattle.std.specs.Prelude.{◌≡◌, ◌*◌, ◌^◌, ◌<◌, pos, �
 ghost use Rattle.cip_rational.specs.Rational.{ratio, numerator, denominator};
 ghost use Rattle.cip_rational.specs.Range.{magnitude};
 ghost use Rattle.cip_problem.specs.Activity.{value_at};
-ghost use Rattle.cip_dict.specs.Values.{IsAdded, IsShort};
+ghost use Rattle.cip_dict.specs.Values.{IsAdded};
+ghost use Rattle.cip_dict.specs.WholeLines.{HasTermsBelow};
 
 use crate::entries::{add_product, vanishes};
 use crate::forms::Form;
@@ -17,7 +18,7 @@ const SHORT: u64 = 1 << 20;
 /// Numerator and denominator of a number, where both are below 2^20.
 #[inline(always)]
 fn short_terms(q: Frac) -> Option<(i64, u64)>
-    ensures { IfSome result (λ terms. (terms.0 ≡ numerator q) × (terms.1 ≡ denominator q) × IsShort q) }
+    ensures { IfSome result (λ terms. (terms.0 ≡ numerator q) × (terms.1 ≡ denominator q) × HasTermsBelow (2 ^ 20) q) }
 {
     let a = q.numerator();
     let b = q.denominator();
@@ -50,9 +51,31 @@ fn long_product(a: i64, c: i64) -> i64
     a * c
 }
 
+/// a * c
+#[inline(always)]
+fn short_size(a: u64, c: u64) -> u64
+    requires first { a < 2 ^ 20 }
+    requires second { c < 2 ^ 20 }
+    ensures value { result ≡ a * c }
+    ensures short { result < 2 ^ 40 }
+{
+    a * c
+}
+
+/// a * c
+#[inline(always)]
+fn long_size(a: u64, c: u64) -> u64
+    requires first { a < 2 ^ 20 }
+    requires second { c < 2 ^ 40 }
+    ensures value { result ≡ a * c }
+    ensures short { result < 2 ^ 60 }
+{
+    a * c
+}
+
 /// Numerator and denominator of a / b + (n / below) * (c / d), not in lowest terms.
 #[inline(always)]
-fn added_terms(a: i64, b: u64, c: i64, d: u64, n: i64, below: u64) -> (i64, u64)
+fn terms_of_sum(a: i64, b: u64, c: i64, d: u64, n: i64, below: u64) -> (i64, u64)
     requires own { magnitude a < 2 ^ 20 }
     requires own_below { b < 2 ^ 20 }
     requires factor { magnitude c < 2 ^ 20 }
@@ -63,15 +86,15 @@ fn added_terms(a: i64, b: u64, c: i64, d: u64, n: i64, below: u64) -> (i64, u64)
     ensures under { result.1 ≡ b * (below * d) }
     ensures short { magnitude result.0 < 2 ^ 61 }
 {
-    let under = below * d;
+    let under = short_size(below, d);
     let first = long_product(under as i64, a);
     let second = long_product(short_product(n, c), b as i64);
-    (first + second, b * under)
+    (first + second, long_size(b, under))
 }
 
 /// n over d in lowest terms.
 #[inline(always)]
-fn lowest(n: i64, d: u64) -> Option<Frac>
+fn quotient(n: i64, d: u64) -> Option<Frac>
     requires { 0 < d }
     ensures { IfSome result (λ value. value ≡ ratio n d) }
 {
@@ -96,8 +119,8 @@ fn short_sum(value: Frac, n: i64, below: u64, t: Frac) -> Option<Frac>
     let Some((c, d)) = short_terms(t) else {
         return None;
     };
-    let (over, under) = added_terms(a, b, c, d, n, below);
-    match lowest(over, under) {
+    let (over, under) = terms_of_sum(a, b, c, d, n, below);
+    match quotient(over, under) {
         Some(sum) => Some(sum),
         None => None,
     }

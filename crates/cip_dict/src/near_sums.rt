@@ -1,14 +1,15 @@
 //! Sums of whole numbers that fit 64 bits: written at once, and divided where they stand.
 ghost use Rattle.std.specs.Prelude.{◌≡◌, ℕ, ◌^◌, ◌*◌, ◌<◌, ◌≤◌, ◌++◌, true, length, OnOk, IfOk, IfSome};
 ghost use Rattle.cip_rational.specs.Range.{magnitude};
-ghost use Rattle.cip_dict.specs.Lists.{basic_in};
+ghost use Rattle.cip_dict.specs.Pivots.{put_by};
 ghost use Rattle.cip_dict.specs.SparseLines.{AreKept};
-ghost use Rattle.cip_dict.specs.WholeLines.{over, AreNear, AreSmall, whole_at, wholes_of, put_number};
+ghost use Rattle.cip_dict.specs.WholeLines.{over, AreBelow, whole_at, wholes_of};
 ghost use Rattle.cip_dict.specs.declared.near_sums.Put.TheVariants.{Written};
 
+use crate::pivots::Pivot;
 use crate::whole::next_step;
-use crate::whole_sums::{SMALL, divided, number_put, short_common, short_part};
-use cip_dictionary::Stand;
+use crate::whole_sums::{Factors, SMALL, short_common, short_part, small_part, substituted_number};
+use crate::whole_turns::keep_number;
 use std::alloc::AllocError;
 
 /// What a row's denominator and the numbers so far tell: a divisor that they may have in common, and a number that none
@@ -63,60 +64,43 @@ fn with_number(near: Near, z: i64) -> Near
     Near { g, most }
 }
 
-/// Keeps a number at the end, unless it is 0.
-#[inline(always)]
-fn keep_near(numbers: &mut Vec<(u32, i64)>, k: u32, z: i64) -> Result<(), AllocError>
-    requires { magnitude z < 2 ^ 63 }
-    ensures kept { OnOk result (numbers.new.items ≡ numbers.old.items ++ whole_at k z) }
-    ensures near { AreNear numbers.old.items → AreNear numbers.new.items }
-    ensures small { magnitude z < 2 ^ 42 → AreSmall numbers.old.items → AreSmall numbers.new.items }
-{
-    if z != 0 {
-        numbers.push((k, z))?;
-    }
-    Ok(())
-}
-
-/// Keeps the numbers of a row after that of j, whose numbers are `new`, has been put in its place, and tells of them
-/// and the denominator `under`; i leaves. None where a number doesn't fit 64 bits.
+/// Keeps the numbers of a row after that of the variable that enters, whose numbers are `new`, has been put in its
+/// place, and tells of them and the denominator `under`. None where a number doesn't fit 64 bits.
 fn sum_near(
-    standing: &[Option<Stand>],
-    i: u32,
-    j: u32,
-    f: u64,
-    x: i64,
+    pivot: &Pivot,
+    factors: Factors,
     row: &[(u32, i64)],
     new: &[(u32, i64)],
     under: u64,
     out: &mut Vec<(u32, i64)>,
 ) -> Result<Option<Near>, AllocError>
-    requires few { length standing.now < 2 ^ 32 }
-    requires factor_small { f < 2 ^ 42 }
-    requires own_small { magnitude x < 2 ^ 42 }
-    requires row_kept { AreKept 0 (length standing.now) (over 1 row.now) }
-    requires row_small { AreSmall row.now }
-    requires new_kept { AreKept 0 (length standing.now) (over 1 new.now) }
-    requires new_small { AreSmall new.now }
+    requires few { length pivot.now.standing.now < 2 ^ 32 }
+    requires factor_small { factors.own < 2 ^ 42 }
+    requires own_small { magnitude factors.new < 2 ^ 42 }
+    requires row_kept { AreKept 0 (length pivot.now.standing.now) (over 1 row.now) }
+    requires row_small { AreBelow (2 ^ 42) row.now }
+    requires new_kept { AreKept 0 (length pivot.now.standing.now) (over 1 new.now) }
+    requires new_small { AreBelow (2 ^ 42) new.now }
     requires positive { 0 < under }
-    ensures told { IfOk result (λ found. IfSome found (λ near. (0 < near.g)
-        × (near.most < 2 ^ 42 → (under < 2 ^ 42) × AreSmall out.new.items)
-        × (out.new.items
-        ≡ wholes_of (length standing.now) (put_number (basic_in standing.now) i j f x row.now new.now)))) }
-    ensures near { AreNear out.new.items }
+    ensures told { let n = length pivot.now.standing.now in
+        IfOk result (λ found. IfSome found (λ near. (0 < near.g)
+        × (near.most < 2 ^ 42 → (under < 2 ^ 42) × AreBelow (2 ^ 42) out.new.items)
+        × (out.new.items ≡ wholes_of n (put_by pivot.now factors row.now new.now)))) }
+    ensures near { AreBelow (2 ^ 63) out.new.items }
 {
     out.clear();
-    let len = standing.len() as u32;
+    let len = pivot.standing.len() as u32;
     let mut near = Near {
         g: under,
         most: under,
     };
     let mut step = next_step(row, 0, new, 0, len);
     while step.k < len {
-        let z = number_put(standing, i, j, f, x, step.n, step.y, step.k);
+        let z = substituted_number(pivot, factors, step.n, step.y, step.k);
         if !is_near(z) {
             return Ok(None);
         }
-        keep_near(out, step.k, z as i64)?;
+        keep_number(out, step.k, z as i64)?;
         near = with_number(near, z as i64);
         step = next_step(row, step.here, new, step.there, len);
     }
@@ -126,12 +110,12 @@ fn sum_near(
 /// Divides all numbers by g, where they stand; answers whether that leaves whole numbers below 2^42.
 fn divide_near(numbers: &mut [(u32, i64)], g: u64) -> bool
     requires positive { 0 < g }
-    requires near { AreNear numbers.old }
+    requires near { AreBelow (2 ^ 63) numbers.old }
     ensures divided { result ≡ true → (d : ℕ) → 0 < d → over d numbers.new ≡ over (d * g) numbers.old }
-    ensures small { result ≡ true → AreSmall numbers.new }
+    ensures small { result ≡ true → AreBelow (2 ^ 42) numbers.new }
 {
     for at in 0..numbers.len() {
-        match divided(i128::from(numbers[at].1), u128::from(g)) {
+        match small_part(i128::from(numbers[at].1), u128::from(g)) {
             Some(number) => numbers[at].1 = number,
             None => return false,
         }
@@ -144,8 +128,8 @@ fn divide_near(numbers: &mut [(u32, i64)], g: u64) -> bool
 fn reduce_near(numbers: &mut [(u32, i64)], under: u64, g: u64) -> Option<u64>
     requires positive { 0 < under }
     requires divisor { 0 < g }
-    requires near { AreNear numbers.old }
-    ensures { IfSome result (λ below. (0 < below) × (below < 2 ^ 42) × AreSmall numbers.new
+    requires near { AreBelow (2 ^ 63) numbers.old }
+    ensures { IfSome result (λ below. (0 < below) × (below < 2 ^ 42) × AreBelow (2 ^ 42) numbers.new
         × (over below numbers.new ≡ over under numbers.old)) }
 {
     match short_part(under, g) {
@@ -160,33 +144,30 @@ fn reduce_near(numbers: &mut [(u32, i64)], under: u64, g: u64) -> Option<u64>
     }
 }
 
-/// Writes the numbers of a row over `under` after that of j, `new`, has been put in its place, without what they have
-/// in common; i leaves.
+/// Writes the numbers of a row over `under` after that of the variable that enters, `new`, has been put in its place,
+/// without what they have in common.
 pub(crate) fn put_near(
-    standing: &[Option<Stand>],
-    i: u32,
-    j: u32,
-    f: u64,
-    x: i64,
+    pivot: &Pivot,
+    factors: Factors,
     row: &[(u32, i64)],
     new: &[(u32, i64)],
     under: u64,
     out: &mut Vec<(u32, i64)>,
 ) -> Result<Put, AllocError>
-    requires few { length standing.now < 2 ^ 32 }
-    requires factor_small { f < 2 ^ 42 }
-    requires own_small { magnitude x < 2 ^ 42 }
-    requires row_kept { AreKept 0 (length standing.now) (over 1 row.now) }
-    requires row_small { AreSmall row.now }
-    requires new_kept { AreKept 0 (length standing.now) (over 1 new.now) }
-    requires new_small { AreSmall new.now }
+    requires few { length pivot.now.standing.now < 2 ^ 32 }
+    requires factor_small { factors.own < 2 ^ 42 }
+    requires own_small { magnitude factors.new < 2 ^ 42 }
+    requires row_kept { AreKept 0 (length pivot.now.standing.now) (over 1 row.now) }
+    requires row_small { AreBelow (2 ^ 42) row.now }
+    requires new_kept { AreKept 0 (length pivot.now.standing.now) (over 1 new.now) }
+    requires new_small { AreBelow (2 ^ 42) new.now }
     requires positive { 0 < under }
-    ensures { IfOk result (λ put. (below : ℕ) → put ≡ Written below
-        → (0 < below) × (below < 2 ^ 42) × AreSmall out.new.items
-        × (over below out.new.items
-        ≡ over under (wholes_of (length standing.now) (put_number (basic_in standing.now) i j f x row.now new.now)))) }
+    ensures { let n = length pivot.now.standing.now in
+        IfOk result (λ put. (below : ℕ) → put ≡ Written below
+        → (0 < below) × (below < 2 ^ 42) × AreBelow (2 ^ 42) out.new.items
+        × (over below out.new.items ≡ over under (wholes_of n (put_by pivot.now factors row.now new.now)))) }
 {
-    let Some(near) = sum_near(standing, i, j, f, x, row, new, under, out)? else {
+    let Some(near) = sum_near(pivot, factors, row, new, under, out)? else {
         return Ok(Put::Far);
     };
     if near.g == 1 {

@@ -1,9 +1,10 @@
-//! What tells the entries of one line apart without a fraction: their numbers, where the line is whole, and their signs.
-ghost use Rattle.std.specs.Prelude.{◌≡◌, ℕ, ◌<◌, length, slice_index_or};
+//! What tells the entries of one line apart without a fraction: their numbers, where the line is whole, and their
+//! signs.
+ghost use Rattle.std.specs.Prelude.{◌≡◌, ℕ, ◌<◌, length, slice_index_or, ◌^◌};
 ghost use Rattle.cip_rational.specs.Rational.{zeroℚ, lt_test};
 ghost use Rattle.cip_problem.specs.Activity.{value_at};
 ghost use Rattle.cip_dict.specs.SparseLines.{Kept, kept_of};
-ghost use Rattle.cip_dict.specs.WholeLines.{over, AreSmall};
+ghost use Rattle.cip_dict.specs.WholeLines.{over, AreBelow};
 
 use crate::forms::Form;
 use crate::whole::number_of;
@@ -32,7 +33,7 @@ fn entry_sign_at(entries: &[(u32, Frac)], place: usize) -> (u32, bool)
 #[inline(always)]
 fn whole_sign_at(wholes: &[(u32, i64)], place: usize) -> (u32, bool)
     requires there { place < length wholes.now }
-    requires small { AreSmall wholes.now }
+    requires small { AreBelow (2 ^ 42) wholes.now }
     ensures variable { (below : ℕ) (d : Kept) → 0 < below
         → result.0 ≡ (slice_index_or (over below wholes.now) place d).0 }
     ensures above { (below : ℕ) (d : Kept) → 0 < below

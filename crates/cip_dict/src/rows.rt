@@ -1,19 +1,19 @@
 //! The rows of basic variables in an exchange.
-ghost use Rattle.std.specs.Prelude.{◌≡◌, ℕ, ◌<◌, ◌^◌, true, [], length, false, None, OnOk, MatchResult, slice_index_or, if◌then◌else◌};
+ghost use Rattle.std.specs.Prelude.{◌≡◌, ℕ, ◌<◌, ◌^◌, true, [], length, false, None, OnOk, IfOk, MatchResult, slice_index_or, if◌then◌else◌};
 ghost use Rattle.cip_problem.specs.Activity.{value_at};
 ghost use Rattle.cip_dictionary.specs.Tables.{table, each};
 ghost use Rattle.cip_dictionary.specs.Operations.{first_overflow};
-ghost use Rattle.cip_dictionary.specs.Exchange.{substituted};
 ghost use Rattle.cip_dict.specs.Lists.{basic_in};
 ghost use Rattle.cip_dict.specs.MoveFaults.{IsMoveFault};
-ghost use Rattle.cip_dict.specs.Row.{form_changes, form_operations_in, written_form, taken_form, row_in, AreMarked, HasRows, HasSpelled};
+ghost use Rattle.cip_dict.specs.Pivots.{changes_by, form_operations_by, written_by};
+ghost use Rattle.cip_dict.specs.Row.{form_changes, taken_form, row_in, AreMarked, HasRows, HasSpelled};
 
 use crate::fault::MoveFault;
 use crate::forms::{Form, count_room};
 use crate::lines::{is_basic, write_substituted};
-use crate::lists::Spelled;
+use crate::lists::Scratch;
+use crate::pivots::Pivot;
 use cip_dictionary::{Line, Stand};
-use cip_frac::Frac;
 
 /// Whether the row of variable v changes when i leaves and j enters: it is basic, stays so, and has an entry on j.
 #[inline(always)]
@@ -26,114 +26,84 @@ fn is_changed(standing: &[Option<Stand>], i: u32, j: u32, v: usize, row: &Form) 
     is_basic(standing, v) && v != i as usize && row.has(j)
 }
 
-/// Writes the row of variable v, where it changes, marks whether it does, and counts what the row has room for then;
-/// `new` is the row of the variable j that enters, and i leaves.
+/// Writes the row of variable v, where it changes, and counts what it has room for then; answers whether it does. `new`
+/// is the row of the variable that enters.
 fn write_row(
-    standing: &[Option<Stand>],
-    i: u32,
-    j: u32,
-    q: Frac,
+    pivot: &Pivot,
     new: &Form,
-    entering: &mut Spelled,
     v: usize,
     row: &Form,
     out: &mut Form,
-    changed: &mut bool,
-    held: &mut usize,
-    sums: &mut Vec<(u32, i128)>,
-    spelled: &mut Vec<(u32, Frac)>,
-) -> Result<(), MoveFault>
-    requires few { length standing.now < 2 ^ 32 }
-    requires within { v < length standing.now }
-    requires entering { j < length standing.now }
-    requires leaving { i < length standing.now }
-    requires new_long { length new.now ≡ length standing.now }
-    requires new_spelled { HasSpelled new.now entering.old }
-    requires is_leaving { value_at new.now i ≡ q }
-    requires row_long { basic_in standing.now v ≡ true → length row.now ≡ length standing.now }
-    requires out_long { basic_in standing.now v ≡ true → length out.old ≡ length standing.now }
-    ensures written { MatchResult result
-        (λ _. (first_overflow (form_operations_in standing.now i j q (value_at new.now) v row.now) ≡ None)
-        × (out.new ≡ written_form standing.now i j q (value_at new.now) v row.now out.old))
-        (IsMoveFault (form_operations_in standing.now i j q (value_at new.now) v row.now)) }
+    scratch: &mut Scratch,
+) -> Result<bool, MoveFault>
+    requires few { length pivot.now.standing.now < 2 ^ 32 }
+    requires within { v < length pivot.now.standing.now }
+    requires entering { pivot.now.entering < length pivot.now.standing.now }
+    requires leaving { pivot.now.leaving < length pivot.now.standing.now }
+    requires new_long { length new.now ≡ length pivot.now.standing.now }
+    requires new_spelled { HasSpelled new.now scratch.old.entering }
+    requires is_leaving { value_at new.now pivot.now.leaving ≡ pivot.now.inverse }
+    requires row_long { basic_in pivot.now.standing.now v ≡ true → length row.now ≡ length pivot.now.standing.now }
+    requires out_long { basic_in pivot.now.standing.now v ≡ true → length out.old ≡ length pivot.now.standing.now }
+    ensures written { let operations = form_operations_by pivot.now (value_at new.now) v row.now in
+        MatchResult result
+        (λ _. (first_overflow operations ≡ None)
+        × (out.new ≡ written_by pivot.now (value_at new.now) v row.now out.old))
+        (IsMoveFault operations) }
     ensures long { length out.new ≡ length out.old }
-    ensures marked { changed.new ≡ form_changes standing.now i j v row.now }
-    ensures spelled { HasSpelled new.now entering.new }
+    ensures marked { IfOk result (λ changes. changes ≡ changes_by pivot.now v row.now) }
+    ensures spelled { HasSpelled new.now scratch.new.entering }
 {
-    let changes = is_changed(standing, i, j, v, row);
-    *changed = changes;
+    let changes = is_changed(pivot.standing, pivot.leaving, pivot.entering, v, row);
     if !changes {
-        return Ok(());
+        return Ok(false);
     }
     let before = out.room();
-    let line = Line::Row(v as u32);
-    match write_substituted(
-        line, standing, i, j, q, new, entering, row, out, sums, spelled,
-    ) {
+    match write_substituted(Line::Row(v as u32), pivot, new, row, out, scratch) {
         Ok(()) => (),
         Err(fault) => return Err(fault),
     }
-    match count_room(out, before, held) {
-        Ok(()) => Ok(()),
+    match count_room(out, before, &mut scratch.held) {
+        Ok(()) => Ok(true),
         Err(_) => Err(MoveFault::NoMemory),
     }
 }
 
-/// Writes the rows that change, and marks them; `new` is the row of the variable j that enters, and i leaves. Rows that
-/// don't change are left alone, and all keep their lengths.
+/// Writes the rows that change, and marks them; `new` is the row of the variable that enters. Rows that don't change
+/// are left alone, and all keep their lengths.
 pub(crate) fn write_rows(
-    standing: &[Option<Stand>],
-    i: u32,
-    j: u32,
-    q: Frac,
+    pivot: &Pivot,
     new: &Form,
-    entering: &mut Spelled,
     rows: &[Form],
     out: &mut [Form],
     changed: &mut [bool],
-    held: &mut usize,
-    sums: &mut Vec<(u32, i128)>,
-    spelled: &mut Vec<(u32, Frac)>,
+    scratch: &mut Scratch,
 ) -> Result<(), MoveFault>
-    requires few { length standing.now < 2 ^ 32 }
-    requires entering { j < length standing.now }
-    requires leaving { i < length standing.now }
-    requires new_long { length new.now ≡ length standing.now }
-    requires new_spelled { HasSpelled new.now entering.old }
-    requires is_leaving { value_at new.now i ≡ q }
-    requires rows_long { HasRows standing.now rows.now }
-    requires out_long { HasRows standing.now out.old }
-    requires changed_long { length changed.old ≡ length standing.now }
-    ensures written { let operations =
-        each (length standing.now)
-        (λ v. form_operations_in standing.now i j q (value_at new.now) v (row_in rows.now v)) in
+    requires few { length pivot.now.standing.now < 2 ^ 32 }
+    requires entering { pivot.now.entering < length pivot.now.standing.now }
+    requires leaving { pivot.now.leaving < length pivot.now.standing.now }
+    requires new_long { length new.now ≡ length pivot.now.standing.now }
+    requires new_spelled { HasSpelled new.now scratch.old.entering }
+    requires is_leaving { value_at new.now pivot.now.leaving ≡ pivot.now.inverse }
+    requires rows_long { HasRows pivot.now.standing.now rows.now }
+    requires out_long { HasRows pivot.now.standing.now out.old }
+    requires changed_long { length changed.old ≡ length pivot.now.standing.now }
+    ensures written { let n = length pivot.now.standing.now in
+        let operations = each n (λ v. form_operations_by pivot.now (value_at new.now) v (row_in rows.now v)) in
         MatchResult result
         (λ _. (first_overflow operations ≡ None)
-        × (out.new ≡ table (length standing.now)
-        (λ v. written_form standing.now i j q (value_at new.now) v (row_in rows.now v) (row_in out.old v))))
+        × (out.new ≡ table n
+        (λ v. written_by pivot.now (value_at new.now) v (row_in rows.now v) (row_in out.old v))))
         (IsMoveFault operations) }
-    ensures marked { OnOk result (AreMarked standing.now i j rows.now changed.new) }
-    ensures long { HasRows standing.now out.new }
+    ensures marked { OnOk result
+        (AreMarked pivot.now.standing.now pivot.now.leaving pivot.now.entering rows.now changed.new) }
+    ensures long { HasRows pivot.now.standing.now out.new }
     ensures changed_long { length changed.new ≡ length changed.old }
-    ensures spelled { HasSpelled new.now entering.new }
+    ensures spelled { HasSpelled new.now scratch.new.entering }
 {
-    for v in 0..standing.len() {
-        match write_row(
-            standing,
-            i,
-            j,
-            q,
-            new,
-            entering,
-            v,
-            &rows[v],
-            &mut out[v],
-            &mut changed[v],
-            held,
-            sums,
-            spelled,
-        ) {
-            Ok(()) => (),
+    for v in 0..pivot.standing.len() {
+        match write_row(pivot, new, v, &rows[v], &mut out[v], scratch) {
+            Ok(changes) => changed[v] = changes,
             Err(fault) => return Err(fault),
         }
     }

@@ -2,7 +2,7 @@
 ghost use Rattle.std.specs.Prelude.{◌≡◌, ℕ, pos, ◌*◌, ◌^◌, ◌<◌, ◌*ℤ◌, true, length, IfSome, IfOk};
 ghost use Rattle.cip_rational.specs.Rational.{ratio, numerator, denominator};
 ghost use Rattle.cip_rational.specs.Range.{magnitude};
-ghost use Rattle.cip_dict.specs.WholeLines.{over, AreSmall};
+ghost use Rattle.cip_dict.specs.WholeLines.{over, AreBelow};
 
 use crate::forms::Form;
 use crate::kept::entry_at;
@@ -110,7 +110,7 @@ pub(crate) fn settle_entries(
     requires positive { 0 < below }
     requires small { below < 2 ^ 42 }
     ensures { IfOk result (λ all. all ≡ true
-        → AreSmall out.new.items × (over below out.new.items ≡ entries.now)) }
+        → AreBelow (2 ^ 42) out.new.items × (over below out.new.items ≡ entries.now)) }
 {
     out.clear();
     for at in 0..entries.len() {
@@ -133,8 +133,9 @@ fn settle_rows(rows: &mut [Form]) -> Result<(), AllocError>
     Ok(())
 }
 
-/// The same lists, whose lines are kept as whole numbers from now on, where they can be. `Err` where memory was refused.
-pub(crate) fn settled(lists: Lists) -> Result<Lists, AllocError>
+/// The same lists, whose lines are kept as whole numbers from now on, where they can be. `Err` where memory was
+/// refused.
+pub(crate) fn settle_lists(lists: Lists) -> Result<Lists, AllocError>
     ensures rows { IfOk result (λ same. same.rows.items ≡ lists.rows.items) }
     ensures costs { IfOk result (λ same. same.costs ≡ lists.costs) }
     ensures values { IfOk result (λ same. same.values.items ≡ lists.values.items) }

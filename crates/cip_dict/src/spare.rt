@@ -3,6 +3,7 @@ ghost use Rattle.std.specs.Prelude.{◌≡◌, false, [], IfOk, replicate};
 ghost use Rattle.cip_rational.specs.Rational.{zeroℚ};
 
 use crate::forms::Form;
+use crate::lists::Scratch;
 use cip_dictionary::Stand;
 use cip_frac::Frac;
 use cip_lin::Sides;
@@ -62,7 +63,7 @@ impl Spare {
     }
 
     /// These numbers; `Err` where the memory was refused.
-    pub(crate) fn copied(
+    pub(crate) fn copy_of(
         &mut self,
         alloc: Global,
         numbers: &[Frac],
@@ -180,6 +181,12 @@ impl Spare {
         if list.capacity() > 0 && room <= MOST_SPARE && self.entries.push(list).is_ok() {
             self.room = room;
         }
+    }
+
+    /// Keeps the lists of fractions of what a dictionary works with.
+    pub(crate) fn keep_scratch(&mut self, scratch: Scratch) {
+        self.keep_entries(scratch.entering.entries);
+        self.keep_entries(scratch.row);
     }
 
     /// The same of a list of whole numbers.

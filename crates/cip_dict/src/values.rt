@@ -7,15 +7,28 @@ ghost use Rattle.cip_dictionary.specs.Operations.{first_overflow, value_place};
 ghost use Rattle.cip_dictionary.specs.declared.places.Line.TheVariants.{Row};
 ghost use Rattle.std.specs.Bool.{MatchBool};
 ghost use Rattle.cip_dict.specs.Lists.{basic_in};
-ghost use Rattle.cip_dict.specs.Row.{form_changes, AreMarked, HasRows};
+ghost use Rattle.cip_dict.specs.Pivots.{changes_by};
+ghost use Rattle.cip_dict.specs.Row.{AreMarked, HasRows};
 ghost use Rattle.cip_dict.specs.Values.{IsAdded, moved_in, moved_operations_in, flipped_operations_in, value_moves, taken_value};
 
 use crate::fault::OutOfRange;
 use crate::forms::Form;
 use crate::lines::{is_basic, number_at};
+use crate::pivots::Pivot;
 use crate::rows::is_marked;
 use cip_dictionary::{Line, Place, Stand};
 use cip_frac::Frac;
+
+/// By how much a variable moves, and what moves with it.
+#[derive(Clone, Copy)]
+pub(crate) struct Shift<'a> {
+    /// The rows of all variables.
+    pub(crate) rows: &'a [Form],
+    /// Their values before.
+    pub(crate) values: &'a [Frac],
+    /// By how much.
+    pub(crate) by: Frac,
+}
 
 /// The place of the value of a line.
 #[inline(always)]
@@ -48,180 +61,159 @@ fn is_moved(standing: &[Option<Stand>], j: u32, v: usize) -> bool
     is_basic(standing, v) || v == j as usize
 }
 
-/// Writes a value after j has moved by t, to which its row adds; `false` where an operation leaves the range.
+/// Writes the value of the basic variable v, which is what it was, after the variable that enters has moved by t;
+/// `false` where an operation leaves the range. A row that doesn't change has no entry on that, but for the row of the
+/// one that leaves.
 #[inline(always)]
-fn move_by(row: &Form, j: u32, t: Frac, before: Frac, value: &mut Frac) -> bool
-    requires { j < length row.now }
-    ensures { IsAdded result before (value_at row.now j) t value.new }
+fn move_basic(pivot: &Pivot, t: Frac, v: usize, row: &Form, changes: bool, value: &mut Frac) -> bool
+    requires on { pivot.now.entering < length row.now }
+    requires basic { basic_in pivot.now.standing.now v ≡ true }
+    requires marked { changes ≡ changes_by pivot.now v row.now }
+    ensures { IsAdded result value.old (value_at row.now pivot.now.entering) t value.new }
 {
-    *value = before;
-    row.add_times(j, t, value)
-}
-
-/// Writes the value of the basic variable v after j has moved by t, as i leaves; `false` where an operation leaves the
-/// range. A row that doesn't change has no entry on j, but for that of i.
-#[inline(always)]
-fn move_basic(
-    standing: &[Option<Stand>],
-    i: u32,
-    j: u32,
-    t: Frac,
-    v: usize,
-    row: &Form,
-    changes: bool,
-    before: Frac,
-    value: &mut Frac,
-) -> bool
-    requires on { j < length row.now }
-    requires basic { basic_in standing.now v ≡ true }
-    requires marked { changes ≡ form_changes standing.now i j v row.now }
-    ensures { IsAdded result before (value_at row.now j) t value.new }
-{
-    if changes || v == i as usize {
-        move_by(row, j, t, before, value)
+    if changes || v == pivot.leaving as usize {
+        row.add_times(pivot.entering, t, value)
     } else {
-        *value = before;
         true
     }
 }
 
-/// Writes the value of variable v after j has moved by t, as i leaves, if it may change; `false` where an operation
+/// Writes the value of variable v after the one that enters has moved, if it may change; `false` where an operation
 /// leaves the range.
 #[inline(always)]
-fn move_on(
-    standing: &[Option<Stand>],
-    rows: &[Form],
-    i: u32,
-    j: u32,
-    changed: &[bool],
-    t: Frac,
-    values: &[Frac],
-    v: usize,
-    value: &mut Frac,
-) -> bool
-    requires few { length standing.now < 2 ^ 32 }
-    requires entering { j < length standing.now }
-    requires within { v < length standing.now }
-    requires rows_long { HasRows standing.now rows.now }
-    requires values_long { length values.now ≡ length standing.now }
-    requires marked { AreMarked standing.now i j rows.now changed.now }
-    ensures { MatchBool result
-        ((first_overflow (moved_operations_in standing.now rows.now j t values.now v) ≡ None)
-        × ((if value_moves standing.now j v then value.new else value_at values.now v)
-        ≡ moved_in standing.now rows.now j t values.now v))
-        (first_overflow (moved_operations_in standing.now rows.now j t values.now v) ≡ Some (value_place (Row v))) }
+fn move_on(pivot: &Pivot, shift: &Shift, changed: &[bool], v: usize, value: &mut Frac) -> bool
+    requires few { length pivot.now.standing.now < 2 ^ 32 }
+    requires entering { pivot.now.entering < length pivot.now.standing.now }
+    requires within { v < length pivot.now.standing.now }
+    requires rows_long { HasRows pivot.now.standing.now shift.now.rows.now }
+    requires values_long { length shift.now.values.now ≡ length pivot.now.standing.now }
+    requires marked { AreMarked pivot.now.standing.now pivot.now.leaving pivot.now.entering shift.now.rows.now
+        changed.now }
+    ensures { let p = pivot.now in
+        let s = shift.now in
+        let operations = moved_operations_in p.standing.now s.rows.now p.entering s.by s.values.now v in
+        MatchBool result
+        ((first_overflow operations ≡ None)
+        × ((if value_moves p.standing.now p.entering v then value.new else value_at s.values.now v)
+        ≡ moved_in p.standing.now s.rows.now p.entering s.by s.values.now v))
+        (first_overflow operations ≡ Some (value_place (Row v))) }
 {
-    if v == j as usize {
-        *value = number_at(values, v);
-        value.add_assign(t)
-    } else if is_basic(standing, v) {
-        let changes = is_marked(changed, v);
-        let before = number_at(values, v);
-        move_basic(standing, i, j, t, v, &rows[v], changes, before, value)
+    if v == pivot.entering as usize {
+        *value = number_at(shift.values, v);
+        value.add_assign(shift.by)
+    } else if is_basic(pivot.standing, v) {
+        *value = number_at(shift.values, v);
+        move_basic(
+            pivot,
+            shift.by,
+            v,
+            &shift.rows[v],
+            is_marked(changed, v),
+            value,
+        )
     } else {
         true
     }
 }
 
-/// Writes the values of basic variables and of j after j, which enters, has moved by t, where i leaves, and the rows that
-/// change are marked.
+/// Writes the values of basic variables and of the one that enters after that has moved, where the rows that change are
+/// marked.
 pub(crate) fn write_moved(
-    standing: &[Option<Stand>],
-    rows: &[Form],
-    i: u32,
-    j: u32,
+    pivot: &Pivot,
+    shift: &Shift,
     changed: &[bool],
-    t: Frac,
-    values: &[Frac],
     out: &mut [Frac],
 ) -> Result<(), OutOfRange>
-    requires few { length standing.now < 2 ^ 32 }
-    requires entering { j < length standing.now }
-    requires rows_long { HasRows standing.now rows.now }
-    requires values_long { length values.now ≡ length standing.now }
-    requires out_long { length out.old ≡ length standing.now }
-    requires marked { AreMarked standing.now i j rows.now changed.now }
-    ensures written { let operations =
-        each (length standing.now) (moved_operations_in standing.now rows.now j t values.now) in
+    requires few { length pivot.now.standing.now < 2 ^ 32 }
+    requires entering { pivot.now.entering < length pivot.now.standing.now }
+    requires rows_long { HasRows pivot.now.standing.now shift.now.rows.now }
+    requires values_long { length shift.now.values.now ≡ length pivot.now.standing.now }
+    requires out_long { length out.old ≡ length pivot.now.standing.now }
+    requires marked { AreMarked pivot.now.standing.now pivot.now.leaving pivot.now.entering shift.now.rows.now
+        changed.now }
+    ensures written { let p = pivot.now in
+        let s = shift.now in
+        let n = length p.standing.now in
+        let operations = each n (moved_operations_in p.standing.now s.rows.now p.entering s.by s.values.now) in
         MatchResult result
         (λ _. (first_overflow operations ≡ None)
-        × (table (length standing.now) (taken_value standing.now j values.now out.new)
-        ≡ table (length standing.now) (moved_in standing.now rows.now j t values.now)))
+        × (table n (taken_value p.standing.now p.entering s.values.now out.new)
+        ≡ table n (moved_in p.standing.now s.rows.now p.entering s.by s.values.now)))
         (λ fault. first_overflow operations ≡ Some fault.place) }
     ensures long { length out.new ≡ length out.old }
 {
-    for v in 0..standing.len() {
-        if !move_on(standing, rows, i, j, changed, t, values, v, &mut out[v]) {
+    for v in 0..pivot.standing.len() {
+        if !move_on(pivot, shift, changed, v, &mut out[v]) {
             return Err(out_of_range(v));
         }
     }
     Ok(())
 }
 
-/// Writes the value of variable v after j, which isn't basic, has flipped by t to a side, if it may change; `false` where
-/// an operation leaves the range. For the value of j nothing is formed.
+/// Writes the value of variable v after j, which isn't basic, has flipped to a side, if it may change; `false` where an
+/// operation leaves the range. For the value of j nothing is formed.
 #[inline(always)]
 fn flip_on(
     standing: &[Option<Stand>],
-    rows: &[Form],
+    shift: &Shift,
     j: u32,
-    t: Frac,
     side: Frac,
-    values: &[Frac],
     v: usize,
     value: &mut Frac,
 ) -> bool
     requires few { length standing.now < 2 ^ 32 }
     requires flips { j < length standing.now }
     requires nonbasic { basic_in standing.now j ≡ false }
-    requires arrives { side ≡ value_at values.now j +ℚ t }
+    requires arrives { side ≡ value_at shift.now.values.now j +ℚ shift.now.by }
     requires within { v < length standing.now }
-    requires rows_long { HasRows standing.now rows.now }
-    requires values_long { length values.now ≡ length standing.now }
-    ensures { MatchBool result
-        ((first_overflow (flipped_operations_in standing.now rows.now j t values.now v) ≡ None)
-        × ((if value_moves standing.now j v then value.new else value_at values.now v)
-        ≡ moved_in standing.now rows.now j t values.now v))
-        (first_overflow (flipped_operations_in standing.now rows.now j t values.now v) ≡ Some (value_place (Row v))) }
+    requires rows_long { HasRows standing.now shift.now.rows.now }
+    requires values_long { length shift.now.values.now ≡ length standing.now }
+    ensures { let s = shift.now in
+        let operations = flipped_operations_in standing.now s.rows.now j s.by s.values.now v in
+        MatchBool result
+        ((first_overflow operations ≡ None)
+        × ((if value_moves standing.now j v then value.new else value_at s.values.now v)
+        ≡ moved_in standing.now s.rows.now j s.by s.values.now v))
+        (first_overflow operations ≡ Some (value_place (Row v))) }
 {
     if v == j as usize {
         *value = side;
         true
     } else if is_basic(standing, v) {
-        move_by(&rows[v], j, t, number_at(values, v), value)
+        *value = number_at(shift.values, v);
+        shift.rows[v].add_times(j, shift.by, value)
     } else {
         true
     }
 }
 
-/// Writes the values of basic variables and of j after j, which isn't basic, has flipped by t to a side.
+/// Writes the values of basic variables and of j after j, which isn't basic, has flipped to a side.
 pub(crate) fn write_flipped(
     standing: &[Option<Stand>],
-    rows: &[Form],
+    shift: &Shift,
     j: u32,
-    t: Frac,
     side: Frac,
-    values: &[Frac],
     out: &mut [Frac],
 ) -> Result<(), OutOfRange>
     requires few { length standing.now < 2 ^ 32 }
     requires flips { j < length standing.now }
     requires nonbasic { basic_in standing.now j ≡ false }
-    requires arrives { side ≡ value_at values.now j +ℚ t }
-    requires rows_long { HasRows standing.now rows.now }
-    requires values_long { length values.now ≡ length standing.now }
+    requires arrives { side ≡ value_at shift.now.values.now j +ℚ shift.now.by }
+    requires rows_long { HasRows standing.now shift.now.rows.now }
+    requires values_long { length shift.now.values.now ≡ length standing.now }
     requires out_long { length out.old ≡ length standing.now }
-    ensures written { let operations =
-        each (length standing.now) (flipped_operations_in standing.now rows.now j t values.now) in
+    ensures written { let s = shift.now in
+        let n = length standing.now in
+        let operations = each n (flipped_operations_in standing.now s.rows.now j s.by s.values.now) in
         MatchResult result
         (λ _. (first_overflow operations ≡ None)
-        × (table (length standing.now) (taken_value standing.now j values.now out.new)
-        ≡ table (length standing.now) (moved_in standing.now rows.now j t values.now)))
+        × (table n (taken_value standing.now j s.values.now out.new)
+        ≡ table n (moved_in standing.now s.rows.now j s.by s.values.now)))
         (λ fault. first_overflow operations ≡ Some fault.place) }
     ensures long { length out.new ≡ length out.old }
 {
     for v in 0..standing.len() {
-        if !flip_on(standing, rows, j, t, side, values, v, &mut out[v]) {
+        if !flip_on(standing, shift, j, side, v, &mut out[v]) {
             return Err(out_of_range(v));
         }
     }

@@ -3,11 +3,19 @@ ghost use Rattle.std.specs.Prelude.{◌≡◌, ◌≢◌, ℕ, suc, pos, ◌+◌
 ghost use Rattle.cip_rational.specs.Rational.{ratio};
 ghost use Rattle.cip_rational.specs.Range.{magnitude};
 ghost use Rattle.cip_dict.specs.SparseLines.{Kept, entry_on, AreKept, IsPlace, IsNext};
-ghost use Rattle.cip_dict.specs.WholeLines.{Whole, over, number_on, AreSmall, IsWhole};
+ghost use Rattle.cip_dict.specs.WholeLines.{Whole, over, number_on, AreBelow, IsWhole};
 
 use crate::kept::put_entry;
+use crate::listed::{place_from, stands_at};
 use cip_frac::Frac;
 use std::alloc::AllocError;
+
+/// Whole numbers over one denominator.
+#[derive(Clone, Copy)]
+pub(crate) struct Wholes<'a> {
+    pub(crate) numbers: &'a [(u32, i64)],
+    pub(crate) below: u64,
+}
 
 /// n over d, as a fraction.
 pub(crate) fn fraction(n: i64, d: u64) -> Frac
@@ -24,41 +32,11 @@ pub(crate) fn fraction(n: i64, d: u64) -> Frac
     }
 }
 
-/// The place of the first number on a variable from k on, or the number of them all.
-fn place_from(wholes: &[(u32, i64)], k: u32) -> usize
-    requires { (n : ℕ) × AreKept 0 n (over 1 wholes.now) }
-    ensures { IsPlace k (over 1 wholes.now) result }
-{
-    let mut low = 0;
-    let mut high = wholes.len();
-    while low < high {
-        let middle = low + (high - low) / 2;
-        if wholes[middle].0 < k {
-            low = middle + 1;
-        } else {
-            high = middle;
-        }
-    }
-    low
-}
-
-/// Whether the number at a place is that on variable k.
-#[inline(always)]
-fn stands_at(wholes: &[(u32, i64)], place: usize, k: u32) -> bool
-    ensures within { result ≡ true → place < length wholes.now }
-    ensures fits { result ≡ true → place + 1 < 2 ^ 64 }
-    ensures yes { result ≡ true → (d : Whole) → (slice_index_or wholes.now place d).0 ≡ k }
-    ensures no { result ≡ false
-        → (d : Whole) → place < length wholes.now → (slice_index_or wholes.now place d).0 ≢ k }
-{
-    place < wholes.len() && wholes[place].0 == k
-}
-
 /// The number on variable k, of which the place is known.
 #[inline(always)]
 pub(crate) fn number_from(wholes: &[(u32, i64)], place: usize, k: u32) -> i64
     requires kept { (n : ℕ) × AreKept 0 n (over 1 wholes.now) }
-    requires small { AreSmall wholes.now }
+    requires small { AreBelow (2 ^ 42) wholes.now }
     requires at { IsPlace k (over 1 wholes.now) place }
     ensures value { result ≡ number_on wholes.now k }
     ensures small { magnitude result < 2 ^ 42 }
@@ -73,7 +51,7 @@ pub(crate) fn number_from(wholes: &[(u32, i64)], place: usize, k: u32) -> i64
 /// The number on variable k.
 pub(crate) fn number_of(wholes: &[(u32, i64)], k: u32) -> i64
     requires kept { (n : ℕ) × AreKept 0 n (over 1 wholes.now) }
-    requires small { AreSmall wholes.now }
+    requires small { AreBelow (2 ^ 42) wholes.now }
     ensures value { result ≡ number_on wholes.now k }
     ensures small { magnitude result < 2 ^ 42 }
 {
@@ -84,7 +62,7 @@ pub(crate) fn number_of(wholes: &[(u32, i64)], k: u32) -> i64
 #[inline(always)]
 fn head_at(wholes: &[(u32, i64)], place: usize, len: u32) -> (u32, i64)
     requires kept { AreKept 0 len (over 1 wholes.now) }
-    requires small { AreSmall wholes.now }
+    requires small { AreBelow (2 ^ 42) wholes.now }
     ensures within { result.0 ≤ len }
     ensures first { (d : Whole) → place < length wholes.now → result ≡ slice_index_or wholes.now place d }
     ensures last { length wholes.now ≤ place → result.0 ≡ len }
@@ -100,7 +78,7 @@ fn head_at(wholes: &[(u32, i64)], place: usize, len: u32) -> (u32, i64)
 /// The number on variable k, of which the place is known, and the place of the variable after k; `head` is the variable
 /// and the number at that place.
 #[inline(always)]
-fn taken(wholes: &[(u32, i64)], place: usize, head: (u32, i64), k: u32) -> (i64, usize)
+fn take_number(wholes: &[(u32, i64)], place: usize, head: (u32, i64), k: u32) -> (i64, usize)
     requires kept { (n : ℕ) × AreKept 0 n (over 1 wholes.now) }
     requires small { magnitude head.1 < 2 ^ 42 }
     requires there { head.0 ≡ k → place < length wholes.now }
@@ -147,13 +125,14 @@ pub(crate) fn next_step(
     len: u32,
 ) -> Step
     requires row_kept { AreKept 0 len (over 1 row.now) }
-    requires row_small { AreSmall row.now }
+    requires row_small { AreBelow (2 ^ 42) row.now }
     requires new_kept { AreKept 0 len (over 1 new.now) }
-    requires new_small { AreSmall new.now }
+    requires new_small { AreBelow (2 ^ 42) new.now }
     ensures within { result.k ≤ len }
     ensures next { (from : ℕ) → from ≤ len → IsPlace from (over 1 row.now) here → IsPlace from (over 1 new.now) there
         → IsNext (over 1 row.now) (over 1 new.now) here there from result.k }
-    ensures row_value { result.k < len → IsPlace result.k (over 1 row.now) here → result.n ≡ number_on row.now result.k }
+    ensures row_value { result.k < len → IsPlace result.k (over 1 row.now) here
+        → result.n ≡ number_on row.now result.k }
     ensures new_value { result.k < len → IsPlace result.k (over 1 new.now) there
         → result.y ≡ number_on new.now result.k }
     ensures row_small { magnitude result.n < 2 ^ 42 }
@@ -175,8 +154,8 @@ pub(crate) fn next_step(
             there,
         };
     }
-    let (n, after) = taken(row, here, first, k);
-    let (y, beyond) = taken(new, there, second, k);
+    let (n, after) = take_number(row, here, first, k);
+    let (y, beyond) = take_number(new, there, second, k);
     Step {
         k,
         n,

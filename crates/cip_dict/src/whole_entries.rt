@@ -12,22 +12,13 @@ ghost use Rattle.cip_dict.specs.WholeLines.{Whole, over, IsWhole};
 use crate::entries::{sum, vanishes};
 use crate::fault::OutOfRange;
 use crate::lines::number_at;
+use crate::listed::{is_past, is_within};
 use crate::values::value_of;
 use crate::whole::fraction;
 use crate::whole_sums::SMALL;
 use cip_dictionary::Line;
 use cip_frac::Frac;
 use std::alloc::AllocError;
-
-/// Whether all numbers are on variables below k.
-#[inline(always)]
-fn is_past(wholes: &[(u32, i64)], k: u32) -> bool
-    requires { (n : ℕ) × AreKept 0 n (over 1 wholes.now) }
-    ensures { result ≡ true → IsPlace k (over 1 wholes.now) (length wholes.now) }
-{
-    let len = wholes.len();
-    len == 0 || wholes[len - 1].0 < k
-}
 
 /// The number that an entry is, where it is whole and below 2^42.
 #[inline(always)]
@@ -69,17 +60,6 @@ pub(crate) fn put_behind(
         wholes.push((k, number))?;
     }
     Ok(true)
-}
-
-/// Whether there is a number at a place, on one of the first n variables.
-#[inline(always)]
-fn is_within(wholes: &[(u32, i64)], place: usize, n: usize) -> bool
-    ensures within { result ≡ true → place < length wholes.now }
-    ensures below { result ≡ true → (d : Whole) → (slice_index_or wholes.now place d).0 < n }
-    ensures past { result ≡ false → (d : Whole) → place < length wholes.now
-        → n ≤ (slice_index_or wholes.now place d).0 }
-{
-    place < wholes.len() && (wholes[place].0 as usize) < n
 }
 
 /// A sum with the product of an entry, as a number over a denominator, and the value of its variable.

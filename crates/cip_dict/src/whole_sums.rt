@@ -2,15 +2,15 @@
 ghost use Rattle.std.specs.Prelude.{◌≡◌, ◌≢◌, ℕ, suc, pos, ◌+◌, ◌*◌, ◌^◌, ◌<◌, ◌≤◌, ◌==◌, ◌++◌, ◌∷◌, [], ◌+ℤ◌, ◌*ℤ◌, neg_ℤ, true, false, length, IfSome, OnOk, OnErr, IfOk, if◌then◌else◌};
 ghost use Rattle.cip_rational.specs.Rational.{ratio};
 ghost use Rattle.cip_rational.specs.Range.{magnitude};
-ghost use Rattle.cip_dictionary.specs.Exchange.{is_absent};
 ghost use Rattle.cip_dict.specs.Lists.{basic_in};
-ghost use Rattle.cip_dict.specs.SparseLines.{AreKept, IsPlace};
-ghost use Rattle.cip_dict.specs.WholeLines.{Whole, over, number_on, AreSmall, AreWide, IsWhole, IsPut, whole_at, wholes_of, put_number};
+ghost use Rattle.cip_dict.specs.Pivots.{absent_by, put_by};
+ghost use Rattle.cip_dict.specs.SparseLines.{AreKept};
+ghost use Rattle.cip_dict.specs.WholeLines.{over, AreBelow, IsWhole, IsPut, whole_at, wholes_of};
 
 use crate::lines::is_absent_on;
 use crate::near_sums::{Put, put_near};
-use crate::whole::{next_step, number_of};
-use cip_dictionary::Stand;
+use crate::pivots::Pivot;
+use crate::whole::{Wholes, next_step, number_of};
 use cip_frac::short_gcd;
 use std::alloc::AllocError;
 
@@ -39,43 +39,44 @@ fn sum_of(a: i128, c: i128) -> i128
     a + c
 }
 
-/// The number on variable k of a row after that of j has been put in its place: n * f + x * y, x * y on i, which
-/// leaves, and 0 where no entry stands.
+/// By what the numbers of a row are multiplied as that of the variable that enters is put in its place, and by what the
+/// numbers of that.
+#[derive(Clone, Copy)]
+pub(crate) struct Factors {
+    pub(crate) own: u64,
+    pub(crate) new: i64,
+}
+
+/// The number on variable k of a row after that of the variable that enters has been put in its place: n and y stand on
+/// k in the two, n isn't counted on the one that leaves, and 0 stands where there is no entry.
 #[inline(always)]
-pub(crate) fn number_put(
-    standing: &[Option<Stand>],
-    i: u32,
-    j: u32,
-    f: u64,
-    x: i64,
-    n: i64,
-    y: i64,
-    k: u32,
-) -> i128
-    requires within { k < length standing.now }
-    requires factor_small { f < 2 ^ 42 }
-    requires own_small { magnitude x < 2 ^ 42 }
+pub(crate) fn substituted_number(pivot: &Pivot, factors: Factors, n: i64, y: i64, k: u32) -> i128
+    requires within { k < length pivot.now.standing.now }
+    requires factor_small { factors.own < 2 ^ 42 }
+    requires own_small { magnitude factors.new < 2 ^ 42 }
     requires row_small { magnitude n < 2 ^ 42 }
     requires new_small { magnitude y < 2 ^ 42 }
-    ensures value { result ≡ (if k == i then x *ℤ y
-        else (if is_absent (basic_in standing.now) j k then pos 0 else n *ℤ pos f +ℤ x *ℤ y)) }
+    ensures value { result ≡ (if k == pivot.now.leaving then factors.new *ℤ y
+        else (if absent_by pivot.now k then pos 0 else n *ℤ pos factors.own +ℤ factors.new *ℤ y)) }
     ensures small { magnitude result < 2 ^ 86 }
 {
-    if k == i {
-        product_of(x, y)
-    } else if is_absent_on(standing, j, k) {
+    if k == pivot.leaving {
+        product_of(factors.new, y)
+    } else if is_absent_on(pivot, k) {
         0
     } else {
-        sum_of(product_of(n, f as i64), product_of(x, y))
+        sum_of(
+            product_of(n, factors.own as i64),
+            product_of(factors.new, y),
+        )
     }
 }
 
 /// Keeps a number at the end, unless it is 0.
 #[inline(always)]
 fn keep_sum(sums: &mut Vec<(u32, i128)>, k: u32, z: i128) -> Result<(), AllocError>
-    requires { magnitude z < 2 ^ 86 }
     ensures kept { OnOk result (sums.new.items ≡ sums.old.items ++ whole_at k z) }
-    ensures wide { AreWide sums.old.items → AreWide sums.new.items }
+    ensures below { (bound : ℕ) → magnitude z < bound → AreBelow bound sums.old.items → AreBelow bound sums.new.items }
 {
     if z != 0 {
         sums.push((k, z))?;
@@ -83,33 +84,31 @@ fn keep_sum(sums: &mut Vec<(u32, i128)>, k: u32, z: i128) -> Result<(), AllocErr
     Ok(())
 }
 
-/// Keeps the numbers of a row after that of j, whose numbers are `new`, has been put in its place; i leaves.
-pub(crate) fn sum_entries(
-    standing: &[Option<Stand>],
-    i: u32,
-    j: u32,
-    f: u64,
-    x: i64,
+/// Keeps the numbers of a row after that of the variable that enters, whose numbers are `new`, has been put in its
+/// place.
+fn sum_entries(
+    pivot: &Pivot,
+    factors: Factors,
     row: &[(u32, i64)],
     new: &[(u32, i64)],
     sums: &mut Vec<(u32, i128)>,
 ) -> Result<(), AllocError>
-    requires few { length standing.now < 2 ^ 32 }
-    requires factor_small { f < 2 ^ 42 }
-    requires own_small { magnitude x < 2 ^ 42 }
-    requires row_kept { AreKept 0 (length standing.now) (over 1 row.now) }
-    requires row_small { AreSmall row.now }
-    requires new_kept { AreKept 0 (length standing.now) (over 1 new.now) }
-    requires new_small { AreSmall new.now }
+    requires few { length pivot.now.standing.now < 2 ^ 32 }
+    requires factor_small { factors.own < 2 ^ 42 }
+    requires own_small { magnitude factors.new < 2 ^ 42 }
+    requires row_kept { AreKept 0 (length pivot.now.standing.now) (over 1 row.now) }
+    requires row_small { AreBelow (2 ^ 42) row.now }
+    requires new_kept { AreKept 0 (length pivot.now.standing.now) (over 1 new.now) }
+    requires new_small { AreBelow (2 ^ 42) new.now }
     ensures kept { OnOk result (sums.new.items
-        ≡ wholes_of (length standing.now) (put_number (basic_in standing.now) i j f x row.now new.now)) }
-    ensures wide { AreWide sums.new.items }
+        ≡ wholes_of (length pivot.now.standing.now) (put_by pivot.now factors row.now new.now)) }
+    ensures wide { AreBelow (2 ^ 86) sums.new.items }
 {
     sums.clear();
-    let len = standing.len() as u32;
+    let len = pivot.standing.len() as u32;
     let mut step = next_step(row, 0, new, 0, len);
     while step.k < len {
-        let z = number_put(standing, i, j, f, x, step.n, step.y, step.k);
+        let z = substituted_number(pivot, factors, step.n, step.y, step.k);
         keep_sum(sums, step.k, z)?;
         step = next_step(row, step.here, new, step.there, len);
     }
@@ -146,7 +145,7 @@ fn part_of(size: u128, g: u128) -> Option<u128>
 
 /// The whole number w for which z = w * g, where there is one below 2^42.
 #[inline(always)]
-pub(crate) fn divided(z: i128, g: u128) -> Option<i64>
+pub(crate) fn small_part(z: i128, g: u128) -> Option<i64>
     requires { 0 < g }
     ensures { IfSome result (λ w. (z ≡ w *ℤ pos g) × (magnitude w < 2 ^ 42)) }
 {
@@ -234,13 +233,13 @@ fn common_of(sums: &[(u32, i128)], start: u128) -> u128
 /// Divides all numbers by g; answers whether that leaves whole numbers below 2^42.
 fn divide_all(sums: &[(u32, i128)], g: u128, out: &mut Vec<(u32, i64)>) -> Result<bool, AllocError>
     requires positive { 0 < g }
-    requires wide { AreWide sums.now }
+    requires wide { AreBelow (2 ^ 86) sums.now }
     ensures divided { IfOk result (λ all. all ≡ true → (d : ℕ) → 0 < d → over d out.new.items ≡ over (d * g) sums.now) }
-    ensures small { AreSmall out.new.items }
+    ensures small { AreBelow (2 ^ 42) out.new.items }
 {
     out.clear();
     for at in 0..sums.len() {
-        match divided(sums[at].1, g) {
+        match small_part(sums[at].1, g) {
             Some(number) => out.push((sums[at].0, number))?,
             None => return Ok(false),
         }
@@ -248,23 +247,31 @@ fn divide_all(sums: &[(u32, i128)], g: u128, out: &mut Vec<(u32, i64)>) -> Resul
     Ok(true)
 }
 
-/// The number on j of a row and the denominator of another, without a divisor that they have in common.
-fn split(own: i64, below: u64) -> (i64, u64)
+/// The factors for a row with the number `own` on the variable that enters, whose row has the denominator `below`:
+/// without a divisor that they have in common.
+fn split(own: i64, below: u64) -> Factors
     requires own_small { magnitude own < 2 ^ 42 }
     requires positive { 0 < below }
     requires below_small { below < 2 ^ 42 }
-    ensures parts { (g : ℕ) × (0 < g) × (own ≡ result.0 *ℤ pos g) × (below ≡ g * result.1) }
-    ensures own_small { magnitude result.0 < 2 ^ 42 }
-    ensures positive { 0 < result.1 }
-    ensures below_small { result.1 < 2 ^ 42 }
+    ensures parts { (g : ℕ) × (0 < g) × (own ≡ result.new *ℤ pos g) × (below ≡ g * result.own) }
+    ensures own_small { magnitude result.new < 2 ^ 42 }
+    ensures positive { 0 < result.own }
+    ensures below_small { result.own < 2 ^ 42 }
 {
+    let whole = Factors {
+        own: below,
+        new: own,
+    };
     let g = short_common(below, own.unsigned_abs());
     if below % g != 0 {
-        return (own, below);
+        return whole;
     }
-    match divided(i128::from(own), u128::from(g)) {
-        Some(x) => (x, below / g),
-        None => (own, below),
+    match small_part(i128::from(own), u128::from(g)) {
+        Some(new) => Factors {
+            own: below / g,
+            new,
+        },
+        None => whole,
     }
 }
 
@@ -276,9 +283,9 @@ fn reduce(
     out: &mut Vec<(u32, i64)>,
 ) -> Result<Option<u64>, AllocError>
     requires positive { 0 < under }
-    requires wide { AreWide sums.now }
-    ensures { IfOk result (λ found. IfSome found (λ below. (0 < below) × (below < 2 ^ 42) × AreSmall out.new.items
-        × (over below out.new.items ≡ over under sums.now))) }
+    requires wide { AreBelow (2 ^ 86) sums.now }
+    ensures { IfOk result (λ found. IfSome found (λ below. (0 < below) × (below < 2 ^ 42)
+        × AreBelow (2 ^ 42) out.new.items × (over below out.new.items ≡ over under sums.now))) }
 {
     let g = common_of(sums, under);
     let Some(below) = part_of(under, g) else {
@@ -294,38 +301,34 @@ fn reduce(
     }
 }
 
-/// Writes the numbers of a row after that of j, `new`, has been put in its place; i leaves. Answers the denominator
-/// then, where all are below 2^42.
+/// Writes the numbers of a row after that of the variable that enters, `new`, has been put in its place. Answers the
+/// denominator then, where all are below 2^42.
 pub(crate) fn put_whole(
-    standing: &[Option<Stand>],
-    i: u32,
-    j: u32,
-    row: &[(u32, i64)],
-    row_below: u64,
-    new: &[(u32, i64)],
-    new_below: u64,
+    pivot: &Pivot,
+    row: &Wholes,
+    new: &Wholes,
     sums: &mut Vec<(u32, i128)>,
     out: &mut Vec<(u32, i64)>,
 ) -> Result<Option<u64>, AllocError>
-    requires few { length standing.now < 2 ^ 32 }
-    requires row_kept { AreKept 0 (length standing.now) (over 1 row.now) }
-    requires row_whole { IsWhole row_below row.now }
-    requires new_kept { AreKept 0 (length standing.now) (over 1 new.now) }
-    requires new_whole { IsWhole new_below new.now }
-    ensures { IfOk result (λ found. IfSome found (λ below. IsWhole below out.new.items
-        × IsPut (length standing.now) (basic_in standing.now) i j row_below row.now new_below new.now below
-        out.new.items)) }
+    requires few { length pivot.now.standing.now < 2 ^ 32 }
+    requires row_kept { AreKept 0 (length pivot.now.standing.now) (over 1 row.now.numbers.now) }
+    requires row_whole { IsWhole row.now.below row.now.numbers.now }
+    requires new_kept { AreKept 0 (length pivot.now.standing.now) (over 1 new.now.numbers.now) }
+    requires new_whole { IsWhole new.now.below new.now.numbers.now }
+    ensures { let p = pivot.now in
+        IfOk result (λ found. IfSome found (λ below. IsWhole below out.new.items
+        × IsPut (length p.standing.now) (basic_in p.standing.now) p.leaving p.entering row.now.below row.now.numbers.now
+        new.now.below new.now.numbers.now below out.new.items)) }
 {
-    let own = number_of(row, j);
-    let (x, f) = split(own, new_below);
-    let under = u128::from(row_below) * u128::from(f);
+    let factors = split(number_of(row.numbers, pivot.entering), new.below);
+    let under = u128::from(row.below) * u128::from(factors.own);
     if under <= u64::MAX as u128 {
-        match put_near(standing, i, j, f, x, row, new, under as u64, out)? {
+        match put_near(pivot, factors, row.numbers, new.numbers, under as u64, out)? {
             Put::Written(below) => return Ok(Some(below)),
             Put::Large => return Ok(None),
             Put::Far => (),
         }
     }
-    sum_entries(standing, i, j, f, x, row, new, sums)?;
+    sum_entries(pivot, factors, row.numbers, new.numbers, sums)?;
     reduce(sums.as_slice(), under, out)
 }

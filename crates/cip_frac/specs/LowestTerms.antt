@@ -26,4 +26,7 @@ lowest_terms_of q = record { numerator = numerator q; denominator = denominator 
 
 pub gives_back : (f : Inside) → HasLowest f → lowest_terms_of (rational_of f) ≡ f
 gives_back f h =
-    rw (numerator_lowest f.numerator f.denominator h.positive h.lowest, denominator_lowest f.numerator f.denominator h.positive h.lowest) refl
+    rw (
+      numerator_lowest f.numerator f.denominator h.positive h.lowest,
+      denominator_lowest f.numerator f.denominator h.positive h.lowest,
+    ) refl

@@ -33,7 +33,9 @@ pub same_equivalence : IsEquivalence same_rational
 same_equivalence =
     record {
       refl = λ a. same_from_equal a a refl;
-      symm = λ a b. both_ways _ _ (λ t. same_from_equal b a (sym (equal_from_same a b t))) (λ t. same_from_equal a b (sym (equal_from_same b a t)));
+      symm = λ a b. both_ways _ _
+          (λ t. same_from_equal b a (sym (equal_from_same a b t)))
+          (λ t. same_from_equal a b (sym (equal_from_same b a t)));
       congr = λ a b c p. ap (λ x. same_rational x c) (equal_from_same a b p);
     }
 

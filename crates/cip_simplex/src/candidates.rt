@@ -88,7 +88,7 @@ fn is_better(candidate: &Candidate, other: &Candidate) -> bool {
 }
 
 /// The better of what was found and another candidate, the first of equal ones.
-fn better(found: Option<Candidate>, other: Candidate) -> Candidate
+fn better_of(found: Option<Candidate>, other: Candidate) -> Candidate
     ensures { free.IsOneOf found (Some other) (Some result) }
 {
     match found {
@@ -130,7 +130,7 @@ fn violation(sides: Sides, value: Frac) -> Option<Frac> {
 }
 
 /// Variable v, which is outside its sides, as one that may leave.
-fn leaving(dict: &Dict, v: u32) -> Candidate
+fn leaving_candidate(dict: &Dict, v: u32) -> Candidate
     requires { v < def.size dict.now }
     ensures { result.variable ≡ v }
 {
@@ -152,14 +152,14 @@ pub(crate) fn worst_outside(dict: &Dict) -> Option<u32>
         if !is_outside(dict, v as u32) {
             continue;
         }
-        worst = Some(better(worst, leaving(dict, v as u32)));
+        worst = Some(better_of(worst, leaving_candidate(dict, v as u32)));
     }
     variable_of(worst)
 }
 
 /// The negative of the size of a cost over that of an entry: by how little the cost rises. None where the entry is 0 or
 /// that is out of range.
-fn saving(cost: Frac, entry: Frac) -> Option<Frac> {
+fn negative_ratio(cost: Frac, entry: Frac) -> Option<Frac> {
     if entry.is_zero() {
         return None;
     }
@@ -169,8 +169,8 @@ fn saving(cost: Frac, entry: Frac) -> Option<Frac> {
     }
 }
 
-/// What variable k is worth as one that may enter, on which the entry of i of this place stands: the less the cost rises
-/// by it, the more, and where that is the same, the greater the entry is.
+/// What variable k is worth as one that may enter, on which the entry of i of this place stands: the less the cost
+/// rises by it, the more, and where that is the same, the greater the entry is.
 fn worth_entering(dict: &Dict, i: u32, at: usize, k: u32) -> Worth
     requires leaving { i < def.size dict.now }
     requires basic { def.is_basic dict.now i ≡ true }
@@ -183,13 +183,13 @@ fn worth_entering(dict: &Dict, i: u32, at: usize, k: u32) -> Worth
         return Worth::Ratio { cost, entry };
     }
     let (_, entry) = dict.row_entry(i, at);
-    let rate = saving(dict.cost_entry(k), entry);
+    let rate = negative_ratio(dict.cost_entry(k), entry);
     let size = entry.abs();
     Worth::Exact(ExactWorth { rate, size })
 }
 
 /// Variable k, on which the entry of i of this place stands, as one that may enter.
-fn entering(dict: &Dict, i: u32, at: usize, k: u32) -> Candidate
+fn entering_candidate(dict: &Dict, i: u32, at: usize, k: u32) -> Candidate
     requires leaving { i < def.size dict.now }
     requires basic { def.is_basic dict.now i ≡ true }
     requires there { at < length (kept_of (def.size dict.now) (def.entry dict.now i)) }
@@ -216,7 +216,7 @@ fn best_driving(dict: &Dict, i: u32, heading: Heading) -> Option<u32>
         if !may_go(dict, k, heading_if(heading, above)) {
             continue;
         }
-        best = Some(better(best, entering(dict, i, at, k)));
+        best = Some(better_of(best, entering_candidate(dict, i, at, k)));
     }
     variable_of(best)
 }
@@ -244,7 +244,7 @@ fn worth_lowering(dict: &Dict, at: usize) -> Worth
 }
 
 /// Variable k, on which the entry of the cost of this place stands, as one that may enter.
-fn lowering(dict: &Dict, at: usize, k: u32) -> Candidate
+fn lowering_candidate(dict: &Dict, at: usize, k: u32) -> Candidate
     requires { at < length (kept_of (def.size dict.now) (def.cost_entry dict.now)) }
     ensures { result.variable ≡ k }
 {
@@ -265,7 +265,7 @@ pub(crate) fn best_improving(dict: &Dict) -> Option<u32>
         if !may_go(dict, k, heading_if(Heading::Down, above)) {
             continue;
         }
-        best = Some(better(best, lowering(dict, at, k)));
+        best = Some(better_of(best, lowering_candidate(dict, at, k)));
     }
     variable_of(best)
 }

@@ -15,7 +15,7 @@ ghost use Rattle.cip_simplex.specs.LpAnswers.{IsCombo, IsAnswer};
 use crate::answers::LpAnswer;
 use crate::choice::outside_heading;
 use crate::combos::combination;
-use crate::headings::{along, back_of};
+use crate::headings::{back_of, change_along};
 use crate::lp::Lp;
 use crate::ways::falling_heading;
 use cip_bland::{Heading, Step};
@@ -45,9 +45,9 @@ fn change_at(dict: &Dict, j: u32, heading: Heading, v: u32) -> Frac
     ensures { result ≡ change_of dict.now j v }
 {
     if v == j {
-        along(heading, Frac::one())
+        change_along(heading, Frac::one())
     } else if dict.stand(v).is_none() {
-        along(heading, dict.entry(v, j))
+        change_along(heading, dict.entry(v, j))
     } else {
         Frac::zero()
     }
@@ -128,9 +128,9 @@ fn multiplier_at(dict: &Dict, i: u32, heading: Heading, v: u32, entry: Frac) -> 
     ensures { result ≡ row_multiplier dict.now i v }
 {
     if v == i {
-        along(back_of(heading), Frac::one())
+        change_along(back_of(heading), Frac::one())
     } else {
-        along(heading, entry)
+        change_along(heading, entry)
     }
 }
 
@@ -245,7 +245,7 @@ fn optimum(alloc: Global, dict: &Dict, columns: usize, rows: usize) -> Result<Lp
 }
 
 /// What a ray answers: its point, and by how much the columns change along it.
-fn unbounded(alloc: Global, dict: &Dict, j: u32, columns: usize) -> Result<LpAnswer, AllocError>
+fn ray_answer(alloc: Global, dict: &Dict, j: u32, columns: usize) -> Result<LpAnswer, AllocError>
     requires few { def.size dict.now < 2 ^ 32 }
     requires within { columns ≤ def.size dict.now }
     requires entering { j < def.size dict.now }
@@ -280,7 +280,7 @@ pub(crate) fn end_answer(
             Ok(LpAnswer::Infeasible { combo })
         }
         Step::Optimum => optimum(alloc, dict, columns, rows),
-        Step::Ray(j) => unbounded(alloc, dict, j, columns),
+        Step::Ray(j) => ray_answer(alloc, dict, j, columns),
         Step::Makes(_) => Ok(LpAnswer::Limit),
     }
 }

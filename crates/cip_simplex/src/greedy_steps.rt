@@ -43,8 +43,8 @@ fn pick_improving(dict: &Dict) -> Choice
 }
 
 /// What is chosen before ways are formed, where no sides cross: while a basic variable is outside its sides, the one
-/// that is so by most leaves, and the one for which the cost rises by least enters; else the one by which the cost falls
-/// fastest enters.
+/// that is so by most leaves, and the one for which the cost rises by least enters; else the one by which the cost
+/// falls fastest enters.
 fn pick(dict: &Dict) -> Choice
     requires few { def.size dict.now < 2 ^ 32 }
     requires uncrossed { NonePasses dict.now (rule.is_crossed dict.now) }

@@ -21,7 +21,7 @@ pub(crate) fn back_of(heading: Heading) -> Heading
 }
 
 /// How far a change goes that way.
-pub(crate) fn along(heading: Heading, change: Frac) -> Frac
+pub(crate) fn change_along(heading: Heading, change: Frac) -> Frac
     ensures { result ≡ def.along heading change }
 {
     match heading {

@@ -93,7 +93,7 @@ impl Start {
     }
 
     /// Where a variable is to stand; `None` where it is to be basic, or this says nothing of it.
-    fn wish(&self, v: usize) -> Option<Stand>
+    fn wished_stand(&self, v: usize) -> Option<Stand>
         ensures { result ≡ definitions.wish self.now v }
     {
         if v < self.standing.len() {
@@ -111,7 +111,7 @@ impl Start {
     {
         let mut standing = Vec::with_capacity(alloc, n)?;
         for v in 0..n {
-            standing.push(self.wish(v))?;
+            standing.push(self.wished_stand(v))?;
         }
         Ok(Start { standing })
     }

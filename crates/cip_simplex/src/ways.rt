@@ -9,7 +9,7 @@ ghost use Rattle.cip_bland.specs.Headings as headings;
 ghost use Rattle.cip_bland.specs.Rule as rule;
 ghost use Rattle.cip_bland.specs.MoveList.{is_out_of_range, own_way_operations, wide_way, first_wide_way};
 
-use crate::headings::{along, goal_ahead, heading_for, heading_if, is_below};
+use crate::headings::{change_along, goal_ahead, heading_for, heading_if, is_below};
 use cip_bland::Heading;
 use cip_dict::Dict;
 use cip_dictionary::{Move, Stand};
@@ -115,7 +115,7 @@ fn own_way(dict: &Dict, j: u32, heading: Heading) -> Result<Option<Way>, Move>
         Some(change) => Ok(Some(Way {
             variable: j,
             to,
-            length: along(heading, change),
+            length: change_along(heading, change),
         })),
         None => Err(Move::Flip(j)),
     }
@@ -154,7 +154,7 @@ fn basic_way(dict: &Dict, j: u32, heading: Heading, v: u32) -> Result<Option<Way
         Some(change) => Ok(Some(Way {
             variable: v,
             to,
-            length: along(heading, change),
+            length: change_along(heading, change),
         })),
         None => Err(Move::Exchange(v, j, to)),
     }
@@ -183,7 +183,7 @@ fn way_to(dict: &Dict, j: u32, heading: Heading, v: u32) -> Result<Option<Way>, 
 }
 
 /// The shorter of two ways, the first where they are equal.
-fn shorter(first: Option<Way>, second: Option<Way>) -> Option<Way>
+fn shorter_way(first: Option<Way>, second: Option<Way>) -> Option<Way>
     ensures { result ≡ rule.shorter first second }
 {
     match (first, second) {
@@ -214,7 +214,7 @@ pub(crate) fn shortest_way(dict: &Dict, j: u32) -> Result<Option<Way>, Move>
     let mut best = None;
     for v in 0..dict.len() {
         match way_to(dict, j, heading, v as u32) {
-            Ok(found) => best = shorter(best, found),
+            Ok(found) => best = shorter_way(best, found),
             Err(wide) => return Err(wide),
         }
     }

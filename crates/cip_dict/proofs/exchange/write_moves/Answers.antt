@@ -10,20 +10,20 @@ use Rattle.cip_dict.proofs.exchange.write_moves.Goals as goal
 
 pub returns-in-Err-clause-written : goal.returns-in-Err-clause-written
 returns-in-Err-clause-written c =
-    let h = rw (c.as_slice-rows.ensures.value, c.as_slice-values.ensures.value) at c.in-Err.ensures.written in
+    let h = rw (c.as_slice.ensures.value, c.as_slice-2.ensures.value) at c.in-Err.ensures.written in
     overflow-found _ _ c.in-Err.fault.place h
 
 pub returns-clause-written : goal.returns-clause-written
 returns-clause-written c =
-    let h = rw (c.as_slice-rows.ensures.value, c.as_slice-values.ensures.value) at c.in-Ok.ensures.written in
+    let h = rw (c.as_slice.ensures.value, c.as_slice-2.ensures.value) at c.in-Ok.ensures.written in
     let e = c.entry-entry.ensures in
     let last = rw (c.value_of.ensures, e) at c.sum.ensures in
-    then_rest _ _ c.sum.result (λ v. v ≡ c.args.lists.now.cost +ℚ value_at c.args.lists.now.costs c.args.j *ℚ c.args.t) _ h.0 last
+    then_rest _ _ c.sum.result (λ v. v ≡ c.args.lists.now.cost +ℚ value_at c.args.lists.now.costs c.args.pivot.now.entering *ℚ c.args.t) _ h.0 last
     (λ v p. record {
       entering = refl;
       rows = refl;
       changed = refl;
       costs = refl;
-      values = ap (λ xs. table (length c.args.standing.now) (taken_value c.args.standing.now c.args.j c.args.lists.now.values.items xs)) (written_back c.args.room.now.values.len _ c.write_moved.new.out c.args.room.now.values.items (omega (arith, c.args.room.now.values.ok.0, c.in-Ok.ensures.long, ap length c.as_mut_slice-out.ensures.value))) ∙ h.1;
+      values = ap (λ xs. table (length c.args.pivot.now.standing.now) (taken_value c.args.pivot.now.standing.now c.args.pivot.now.entering c.args.lists.now.values.items xs)) (written_back c.args.room.now.values.len _ c.write_moved.new.out c.args.room.now.values.items (omega (arith, c.args.room.now.values.ok.0, c.in-Ok.ensures.long, ap length c.as_mut_slice.ensures.value))) ∙ h.1;
       cost_is = p;
     })

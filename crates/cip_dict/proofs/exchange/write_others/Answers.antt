@@ -12,26 +12,26 @@ use Rattle.cip_dict.proofs.exchange.write_others.Goals as goal
 
 pub write_rows-requires-clause-is_leaving : goal.write_rows-requires-clause-is_leaving
 write_rows-requires-clause-is_leaving c =
-    leaving_entry (length c.args.standing.now) (basic_in c.args.standing.now) c.args.i c.args.j c.args.q (entry_in c.args.lists.now.rows.items c.args.i) c.args.room.now.entering c.requires.is_entering c.requires.leaving
+    leaving_entry (length c.args.pivot.now.standing.now) (basic_in c.args.pivot.now.standing.now) c.args.pivot.now.leaving c.args.pivot.now.entering c.args.pivot.now.inverse (entry_in c.args.lists.now.rows.items c.args.pivot.now.leaving) c.args.room.now.entering c.requires.is_entering c.requires.leaving
 
 pub returns-in-Err-clause-written : goal.returns-in-Err-clause-written
 returns-in-Err-clause-written c =
     let h = rw c.as_slice-rows.ensures.value at c.in-Err.ensures.written in
-    fault_found _ _ c.in-Err.fault (fault_same _ _ c.in-Err.fault (ap first_overflow (sym (form_operations_new c.args.standing.now c.args.i c.args.j c.args.q c.args.room.now.entering _ c.requires.is_entering (row_in c.args.lists.now.rows.items)))) h)
+    fault_found _ _ c.in-Err.fault (fault_same _ _ c.in-Err.fault (ap first_overflow (sym (form_operations_new c.args.pivot.now.standing.now c.args.pivot.now.leaving c.args.pivot.now.entering c.args.pivot.now.inverse c.args.room.now.entering _ c.requires.is_entering (row_in c.args.lists.now.rows.items)))) h)
 
 pub returns-clause-written : goal.returns-clause-written
 returns-clause-written c =
     let rows = rw (c.as_slice-rows.ensures.value, c.as_mut_slice-others.ensures.value) at c.in-Ok.ensures.written in
-    let line = line_new (length c.args.standing.now) c.args.room.now.entering (entering_in c.args.standing.now c.args.i c.args.j c.args.q c.args.lists.now) c.requires.is_entering Cost (basic_in c.args.standing.now) c.args.i c.args.j c.args.q (value_at c.args.lists.now.costs) c.write_costs.new.out c.write_costs.result c.write_costs.ensures.written in
+    let line = line_new (length c.args.pivot.now.standing.now) c.args.room.now.entering (entering_in c.args.pivot.now.standing.now c.args.pivot.now.leaving c.args.pivot.now.entering c.args.pivot.now.inverse c.args.lists.now) c.requires.is_entering Cost (basic_in c.args.pivot.now.standing.now) c.args.pivot.now.leaving c.args.pivot.now.entering c.args.pivot.now.inverse (value_at c.args.lists.now.costs) c.write_costs.new.out c.write_costs.result c.write_costs.ensures.written in
     then_moves _ _ c.write_costs.result _ _
-    (ap first_overflow (sym (form_operations_new c.args.standing.now c.args.i c.args.j c.args.q c.args.room.now.entering _ c.requires.is_entering (row_in c.args.lists.now.rows.items))) ∙ rows.0) line
+    (ap first_overflow (sym (form_operations_new c.args.pivot.now.standing.now c.args.pivot.now.leaving c.args.pivot.now.entering c.args.pivot.now.inverse c.args.room.now.entering _ c.requires.is_entering (row_in c.args.lists.now.rows.items))) ∙ rows.0) line
     (λ v p. record {
       entering = refl;
-      rows = written_back c.args.room.now.rows.len _ c.write_rows.new.out c.args.room.now.rows.items (omega (arith, c.args.room.now.rows.ok.0, c.in-Ok.ensures.long.each_one, c.requires.room_long.rows.each_one)) ∙ rows.1 ∙ written_new c.args.standing.now c.args.i c.args.j c.args.q c.args.room.now.entering _ c.requires.is_entering (row_in c.args.lists.now.rows.items) (row_in c.args.room.now.rows.items);
+      rows = written_back c.args.room.now.rows.len _ c.write_rows.new.out c.args.room.now.rows.items (omega (arith, c.args.room.now.rows.ok.0, c.in-Ok.ensures.long.each_one, c.requires.room_long.rows.each_one)) ∙ rows.1 ∙ written_new c.args.pivot.now.standing.now c.args.pivot.now.leaving c.args.pivot.now.entering c.args.pivot.now.inverse c.args.room.now.entering _ c.requires.is_entering (row_in c.args.lists.now.rows.items) (row_in c.args.room.now.rows.items);
       changed = rw (written_back c.args.room.now.changed.len _ c.write_rows.new.changed c.args.room.now.changed.items (omega (arith, c.args.room.now.changed.ok.0, c.in-Ok.ensures.changed_long, c.requires.room_long.changed))) (rw c.as_slice-rows.ensures.value at c.in-Ok.ensures.marked);
       costs = p;
     })
 
 pub write_costs-requires-clause-is_leaving : goal.write_costs-requires-clause-is_leaving
 write_costs-requires-clause-is_leaving c =
-    leaving_entry (length c.args.standing.now) (basic_in c.args.standing.now) c.args.i c.args.j c.args.q (entry_in c.args.lists.now.rows.items c.args.i) c.args.room.now.entering c.requires.is_entering c.requires.leaving
+    leaving_entry (length c.args.pivot.now.standing.now) (basic_in c.args.pivot.now.standing.now) c.args.pivot.now.leaving c.args.pivot.now.entering c.args.pivot.now.inverse (entry_in c.args.lists.now.rows.items c.args.pivot.now.leaving) c.args.room.now.entering c.requires.is_entering c.requires.leaving

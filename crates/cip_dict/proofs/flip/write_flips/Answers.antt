@@ -10,12 +10,12 @@ use Rattle.cip_dict.proofs.flip.write_flips.Goals as goal
 
 pub returns-in-Err-clause-written : goal.returns-in-Err-clause-written
 returns-in-Err-clause-written c =
-    let h = rw (c.as_slice-rows.ensures.value, c.as_slice-values.ensures.value) at c.in-Err.ensures.written in
+    let h = rw (c.as_slice.ensures.value, c.as_slice-2.ensures.value) at c.in-Err.ensures.written in
     overflow-found _ _ c.in-Err.fault.place h
 
 pub returns-clause-written : goal.returns-clause-written
 returns-clause-written c =
-    let h = rw (c.as_slice-rows.ensures.value, c.as_slice-values.ensures.value) at c.in-Ok.ensures.written in
+    let h = rw (c.as_slice.ensures.value, c.as_slice-2.ensures.value) at c.in-Ok.ensures.written in
     let e = c.entry-entry.ensures in
     let last = rw (c.value_of.ensures, e) at c.sum.ensures in
     then_rest _ _ c.sum.result (λ v. v ≡ c.args.lists.now.cost +ℚ value_at c.args.lists.now.costs c.args.j *ℚ c.args.t) _ h.0 last

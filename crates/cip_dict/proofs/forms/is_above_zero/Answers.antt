@@ -1,4 +1,4 @@
-use Rattle.std.proofs.Common.{◌≡◌, ap, sym, ◌∙◌, to_z, of_z, pos, int_lt, arith}
+use Rattle.std.proofs.Common.{◌≡◌, ap, ◌∙◌, to_z, of_z, pos, int_lt, arith}
 use Rattle.std.specs.Int.{w64}
 use Rattle.std.proofs.lemmas.Int.{ints}
 use Rattle.cip_dict.proofs.WholeParts.{above_ratio}

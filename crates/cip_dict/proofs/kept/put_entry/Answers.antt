@@ -2,6 +2,7 @@ use Rattle.std.proofs.Common.{◌≡◌, sym}
 use Rattle.cip_rational.specs.Rational.{zeroℚ}
 use Rattle.cip_dictionary.proofs.Zeros.{zero_of}
 use Rattle.cip_dict.proofs.PutBehind.{end_entry, end_kept}
+use Rattle.cip_dict.proofs.Places.{rising_kept}
 use Rattle.cip_dict.proofs.kept.put_entry.Goals as goal
 
 pub returns-then-is_past-clause-put : goal.returns-then-is_past-clause-put
@@ -18,3 +19,9 @@ pub returns-then-vanishes-clause-put : goal.returns-then-vanishes-clause-put
 returns-then-vanishes-clause-put c =
     let z : c.args.entry ≡ zeroℚ = zero_of c.args.entry (sym c.if-vanishes.ensures) in
     λ v. rw z (c.let_go_at.ensures.gone v)
+
+pub is_past-requires : goal.is_past-requires
+is_past-requires c = rw c.as_slice.ensures.value (rising_kept c.args.entries.now.items 0 c.requires.0 c.requires.2)
+
+pub place_from-place-requires : goal.place_from-place-requires
+place_from-place-requires c = rw c.as_slice-2.ensures.value (rising_kept c.args.entries.now.items 0 c.requires.0 c.requires.2)

@@ -12,31 +12,31 @@ pub loop-k-init : goal.loop-k-init
 loop-k-init c =
     let next : IsNext c.args.row.now c.args.new.now 0 0 0 c.next_variable-k.result = c.next_variable-k.ensures.next 0 (omega arith) (place_zero c.args.row.now) (place_zero c.args.new.now) in
     let begun = pass_gap 0 c.next_variable-k.result
-    (substituted_operations c.args.line (basic_in c.args.standing.now) c.args.i c.args.j c.args.q (entry_on c.args.new.now) (entry_on c.args.row.now))
-    (substituted (basic_in c.args.standing.now) c.args.i c.args.j c.args.q (entry_on c.args.new.now) (entry_on c.args.row.now))
+    (substituted_operations c.args.line (basic_in c.args.pivot.now.standing.now) c.args.pivot.now.leaving c.args.pivot.now.entering c.args.pivot.now.inverse (entry_on c.args.new.now) (entry_on c.args.row.now))
+    (substituted (basic_in c.args.pivot.now.standing.now) c.args.pivot.now.leaving c.args.pivot.now.entering c.args.pivot.now.inverse (entry_on c.args.new.now) (entry_on c.args.row.now))
     c.clear.new.self.items next.order refl c.clear.ensures.items
-    (λ m a b. substituted_gap c.args.line (basic_in c.args.standing.now) c.args.i c.args.j c.args.q (entry_on c.args.new.now) (entry_on c.args.row.now) m c.requires.leaving (next.row_none m a b) (next.new_none m a b)) in
+    (λ m a b. substituted_gap c.args.line (basic_in c.args.pivot.now.standing.now) c.args.pivot.now.leaving c.args.pivot.now.entering c.args.pivot.now.inverse (entry_on c.args.new.now) (entry_on c.args.row.now) m c.requires.leaving (next.row_none m a b) (next.new_none m a b)) in
     record { within = c.next_variable-k.ensures.within; row_place = next.row_place; new_place = next.new_place; fits = begun.0; written = begun.1 }
 
 pub loop-k-preserved : goal.loop-k-preserved
 loop-k-preserved c =
     let next : IsNext c.args.row.now c.args.new.now c.place_past-here.result c.place_past-there.result (suc c.loop-k.k) c.next_variable-k-in-loop-k.result =
     c.next_variable-k-in-loop-k.ensures.next (suc c.loop-k.k) (omega arith) c.place_past-here.ensures c.place_past-there.ensures in
-    let here = rw (c.entry_from-a.ensures, c.entry_from-c.ensures, c.requires.on) at c.in-Ok.ensures.written in
+    let here = c.in-Ok.ensures.written _ _ (rw (c.entry_from-a.ensures, c.entry_from-c.ensures, c.requires.on) at c.substituted_entry.ensures) in
     let more = keep_more c.loop-k.k c.next_variable-k-in-loop-k.result
-    (substituted_operations c.args.line (basic_in c.args.standing.now) c.args.i c.args.j c.args.q (entry_on c.args.new.now) (entry_on c.args.row.now))
-    (substituted (basic_in c.args.standing.now) c.args.i c.args.j c.args.q (entry_on c.args.new.now) (entry_on c.args.row.now))
-    c.loop-k.out.items c.keep_substituted.new.out.items next.order c.loop-k.invariant.fits here.0 c.loop-k.invariant.written here.1
-    (λ m a b. substituted_gap c.args.line (basic_in c.args.standing.now) c.args.i c.args.j c.args.q (entry_on c.args.new.now) (entry_on c.args.row.now) m c.requires.leaving (next.row_none m a b) (next.new_none m a b)) in
+    (substituted_operations c.args.line (basic_in c.args.pivot.now.standing.now) c.args.pivot.now.leaving c.args.pivot.now.entering c.args.pivot.now.inverse (entry_on c.args.new.now) (entry_on c.args.row.now))
+    (substituted (basic_in c.args.pivot.now.standing.now) c.args.pivot.now.leaving c.args.pivot.now.entering c.args.pivot.now.inverse (entry_on c.args.new.now) (entry_on c.args.row.now))
+    c.loop-k.out.items c.keep_formed.new.out.items next.order c.loop-k.invariant.fits here.0 c.loop-k.invariant.written here.1
+    (λ m a b. substituted_gap c.args.line (basic_in c.args.pivot.now.standing.now) c.args.pivot.now.leaving c.args.pivot.now.entering c.args.pivot.now.inverse (entry_on c.args.new.now) (entry_on c.args.row.now) m c.requires.leaving (next.row_none m a b) (next.new_none m a b)) in
     record { within = c.next_variable-k-in-loop-k.ensures.within; row_place = next.row_place; new_place = next.new_place; fits = more.0; written = more.1 }
 
 pub returns-in-Err-clause-written : goal.returns-in-Err-clause-written
 returns-in-Err-clause-written c =
-    fault_at (length c.args.standing.now) c.loop-k.k _ c.in-Err.fault (omega arith) c.loop-k.invariant.fits
-    (rw (c.entry_from-a.ensures, c.entry_from-c.ensures, c.requires.on) at c.in-Err.ensures.written)
+    fault_at (length c.args.pivot.now.standing.now) c.loop-k.k _ c.in-Err.fault (omega arith) c.loop-k.invariant.fits
+    (c.in-Err.ensures.written _ _ (rw (c.entry_from-a.ensures, c.entry_from-c.ensures, c.requires.on) at c.substituted_entry.ensures))
 
 pub returns-in-Err-clause-kept : goal.returns-in-Err-clause-kept
-returns-in-Err-clause-kept c = are_kept c.loop-k.k (length c.args.standing.now) _ _ (c.in-Err.ensures.left ∙ c.loop-k.invariant.written) c.loop-k.invariant.within
+returns-in-Err-clause-kept c = are_kept c.loop-k.k (length c.args.pivot.now.standing.now) _ _ (c.in-Err.ensures.left ∙ c.loop-k.invariant.written) c.loop-k.invariant.within
 
 pub returns-clause-kept : goal.returns-clause-kept
-returns-clause-kept c = are_kept c.loop-k.k (length c.args.standing.now) _ _ c.loop-k.invariant.written c.loop-k.invariant.within
+returns-clause-kept c = are_kept c.loop-k.k (length c.args.pivot.now.standing.now) _ _ c.loop-k.invariant.written c.loop-k.invariant.within

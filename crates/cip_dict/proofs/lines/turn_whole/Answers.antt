@@ -1,9 +1,8 @@
-use Rattle.std.proofs.Common.{◌≡◌, ℤ, pos, neg_ℤ, to_z, of_z, cond, length, sym, ap, ◌∙◌, arith, subst, ◌<◌, ◌^◌, unsigned_abs, Bool, true, false, ℕ, lit<}
+use Rattle.std.proofs.Common.{◌≡◌, pos, neg_ℤ, to_z, of_z, cond, length, sym, ap, ◌∙◌, arith, ◌<◌, unsigned_abs, Bool, true, false, ℕ, lit<}
 use Rattle.std.specs.Int.{w64}
 use Rattle.std.proofs.lemmas.Int.{ints}
 use Rattle.cip_dictionary.specs.declared.places.Line.TheVariants.{Row}
 use Rattle.cip_dict.specs.Lists.{basic_in}
-use Rattle.cip_dict.specs.WholeLines.{wholes_of, turned_number}
 use Rattle.cip_dict.proofs.WholeParts.{read_small, none_ratio}
 use Rattle.cip_dict.proofs.WholePuts.{turned_whole}
 use Rattle.cip_dict.proofs.lines.turn_whole.Goals as goal
@@ -18,7 +17,7 @@ returns c =
     let p : c.unsigned_abs.result ≡ unsigned_abs c.number_of-own.result = c.unsigned_abs.ensures.value ∙ ap unsigned_abs own in
     let sign = rw own at c.is_positive-positive.ensures in
     let d : to_z w64 (of_z w64 c.with_sign-d.result) ≡ cond c.is_positive-positive.result (pos c.args.below) (neg_ℤ (pos c.args.below)) = read_small c.with_sign-d.result c.with_sign-d.ensures.small ∙ c.with_sign-d.ensures.value in
-    let t = turned_whole (length c.args.standing.now) (Row c.args.j) (basic_in c.args.standing.now) c.args.i c.args.j c.args.q c.args.below c.args.row.now c.number_of-own.result c.unsigned_abs.result c.is_positive-positive.result c.turn_entries.new.out.items
+    let t = turned_whole (length c.args.pivot.now.standing.now) (Row c.args.pivot.now.entering) (basic_in c.args.pivot.now.standing.now) c.args.pivot.now.leaving c.args.pivot.now.entering c.args.pivot.now.inverse c.args.below c.args.row.now c.number_of-own.result c.unsigned_abs.result c.is_positive-positive.result c.turn_entries.new.out.items
     c.requires.row_whole c.number_of-own.ensures.value c.requires.pivot c.requires.nonzero p (omega (arith, p, c.number_of-own.ensures.small)) sign.yes sign.no
     (rw d at c.in_ok-turn_entries.ensures.kept) in
     (record { positive = t.0; small = omega (arith, p, c.number_of-own.ensures.small); numbers = c.in_ok-turn_entries.ensures.small }, t.1, t.2)

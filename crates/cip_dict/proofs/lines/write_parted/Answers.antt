@@ -9,11 +9,11 @@ use Rattle.cip_dict.proofs.lines.write_parted.Goals as goal
 
 pub returns-clause-written : goal.returns-clause-written
 returns-clause-written c =
-    dense_written (length c.args.standing.now)
-    (substituted_operations c.args.line (basic_in c.args.standing.now) c.args.i c.args.j c.args.q (entry_on c.args.entering.now) (value_at c.args.row.now))
-    (substituted_operations c.args.line (basic_in c.args.standing.now) c.args.i c.args.j c.args.q (entry_on c.args.entering.now) (value_at c.args.row.now))
-    (substituted (basic_in c.args.standing.now) c.args.i c.args.j c.args.q (entry_on c.args.entering.now) (value_at c.args.row.now))
-    (substituted (basic_in c.args.standing.now) c.args.i c.args.j c.args.q (entry_on c.args.entering.now) (value_at c.args.row.now))
+    dense_written (length c.args.pivot.now.standing.now)
+    (substituted_operations c.args.line (basic_in c.args.pivot.now.standing.now) c.args.pivot.now.leaving c.args.pivot.now.entering c.args.pivot.now.inverse (entry_on c.args.entering.now) (value_at c.args.row.now))
+    (substituted_operations c.args.line (basic_in c.args.pivot.now.standing.now) c.args.pivot.now.leaving c.args.pivot.now.entering c.args.pivot.now.inverse (entry_on c.args.entering.now) (value_at c.args.row.now))
+    (substituted (basic_in c.args.pivot.now.standing.now) c.args.pivot.now.leaving c.args.pivot.now.entering c.args.pivot.now.inverse (entry_on c.args.entering.now) (value_at c.args.row.now))
+    (substituted (basic_in c.args.pivot.now.standing.now) c.args.pivot.now.leaving c.args.pivot.now.entering c.args.pivot.now.inverse (entry_on c.args.entering.now) (value_at c.args.row.now))
     c.substitute_spelled.new.out.items c.substitute_spelled.result (λ k l. refl) (λ k l. refl) c.substitute_spelled.ensures.written
 
 pub returns-clause-long : goal.returns-clause-long

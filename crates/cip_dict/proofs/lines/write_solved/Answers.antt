@@ -1,4 +1,4 @@
-use Rattle.std.proofs.Common.{◌≡◌, length, arith, sym, ap, ◌∙◌}
+use Rattle.std.proofs.Common.{length, arith, sym, ap, ◌∙◌}
 use Rattle.cip_rational.specs.Rational.{inverse}
 use Rattle.cip_dictionary.specs.declared.places.Line.TheVariants.{Row}
 use Rattle.cip_dictionary.proofs.Zeros.{nonzero_of}
@@ -12,21 +12,21 @@ use Rattle.cip_dict.proofs.lines.write_solved.Goals as goal
 
 pub turn_whole-requires-clause-row_kept : goal.turn_whole-requires-clause-row_kept
 turn_whole-requires-clause-row_kept c =
-    rw c.as_slice-wholes.ensures.value (as_long c.row.inside.len (length c.args.standing.now) (over c.row.inside.below c.row.inside.wholes.items) (over 1 c.row.inside.wholes.items) c.args.row.now (whole_view c.row.inside.len c.row.inside.is_whole c.row.inside.below c.row.inside.wholes.items c.row.inside.entries.items c.args.row.now c.row.invariant c.row.view_is c.if-row.true) c.requires.row_long (one_kept c.row.inside.len c.row.inside.is_whole c.row.inside.below c.row.inside.wholes.items c.row.inside.entries.items c.args.row.now c.row.invariant c.row.view_is c.if-row.true))
+    rw c.as_slice.ensures.value (as_long c.row.inside.len (length c.args.pivot.now.standing.now) (over c.row.inside.below c.row.inside.wholes.items) (over 1 c.row.inside.wholes.items) c.args.row.now (whole_view c.row.inside.len c.row.inside.is_whole c.row.inside.below c.row.inside.wholes.items c.row.inside.entries.items c.args.row.now c.row.invariant c.row.view_is c.if-row.true) c.requires.row_long (one_kept c.row.inside.len c.row.inside.is_whole c.row.inside.below c.row.inside.wholes.items c.row.inside.entries.items c.args.row.now c.row.invariant c.row.view_is c.if-row.true))
 
 pub turn_whole-requires-clause-pivot : goal.turn_whole-requires-clause-pivot
 turn_whole-requires-clause-pivot c =
-    rw c.as_slice-wholes.ensures.value (c.requires.pivot ∙ ap inverse (sym (whole_read c.row.inside.len c.row.inside.is_whole c.row.inside.below c.row.inside.wholes.items c.row.inside.entries.items c.args.row.now c.row.invariant c.row.view_is c.args.j c.if-row.true (omega (arith, c.requires.entering, c.requires.row_long)))))
+    rw c.as_slice.ensures.value (c.requires.pivot ∙ ap inverse (sym (whole_read c.row.inside.len c.row.inside.is_whole c.row.inside.below c.row.inside.wholes.items c.row.inside.entries.items c.args.row.now c.row.invariant c.row.view_is c.args.pivot.now.entering c.if-row.true (omega (arith, c.requires.entering, c.requires.row_long)))))
 
 pub invariant_of-out : goal.invariant_of-out
 invariant_of-out c =
-    let turned = rw c.as_slice-wholes.ensures.value at c.in-Ok.ensures in
-    whole_form (length c.args.standing.now) c.in-Ok.below c.turn_whole.new.out.items c.clear.new.self.items turned.0 (are_kept (length c.args.standing.now) (length c.args.standing.now) _ _ turned.2 (omega arith))
+    let turned = rw c.as_slice.ensures.value at c.in-Ok.ensures in
+    whole_form (length c.args.pivot.now.standing.now) c.in-Ok.below c.turn_whole.new.out.items c.clear.new.self.items turned.0 (are_kept (length c.args.pivot.now.standing.now) (length c.args.pivot.now.standing.now) _ _ turned.2 (omega arith))
 
 pub returns-in-Ok-clause-written : goal.returns-in-Ok-clause-written
 returns-in-Ok-clause-written c =
-    let turned = rw c.as_slice-wholes.ensures.value at c.in-Ok.ensures in
-    turn_written (length c.args.standing.now) (Row c.args.j) (basic_in c.args.standing.now) c.args.i c.args.j c.args.q c.args.row.now c.row.inside.len c.row.inside.below c.row.inside.wholes.items c.in-Ok.below c.turn_whole.new.out.items (whole_view c.row.inside.len c.row.inside.is_whole c.row.inside.below c.row.inside.wholes.items c.row.inside.entries.items c.args.row.now c.row.invariant c.row.view_is c.if-row.true) c.requires.row_long turned.1 turned.2
+    let turned = rw c.as_slice.ensures.value at c.in-Ok.ensures in
+    turn_written (length c.args.pivot.now.standing.now) (Row c.args.pivot.now.entering) (basic_in c.args.pivot.now.standing.now) c.args.pivot.now.leaving c.args.pivot.now.entering c.args.pivot.now.inverse c.args.row.now c.row.inside.len c.row.inside.below c.row.inside.wholes.items c.in-Ok.below c.turn_whole.new.out.items (whole_view c.row.inside.len c.row.inside.is_whole c.row.inside.below c.row.inside.wholes.items c.row.inside.entries.items c.args.row.now c.row.invariant c.row.view_is c.if-row.true) c.requires.row_long turned.1 turned.2
 
 pub returns-in-Ok-clause-long : goal.returns-in-Ok-clause-long
 returns-in-Ok-clause-long c = dense_long _ _
@@ -36,15 +36,15 @@ returns-in-Err-clause-long c = dense_long _ _
 
 pub solve_entries-requires-clause-row_kept : goal.solve_entries-requires-clause-row_kept
 solve_entries-requires-clause-row_kept c =
-    rw c.as_slice-entries.ensures.value (dense_kept c.row.inside.len (length c.args.standing.now) c.row.inside.entries.items c.args.row.now (parted_view c.row.inside.len c.row.inside.is_whole c.row.inside.below c.row.inside.wholes.items c.row.inside.entries.items c.args.row.now c.row.invariant c.row.view_is c.if-row.false) c.requires.row_long (parted_kept c.row.inside.len c.row.inside.is_whole c.row.inside.below c.row.inside.wholes.items c.row.inside.entries.items c.args.row.now c.row.invariant c.row.view_is c.if-row.false))
+    rw c.as_slice-2.ensures.value (dense_kept c.row.inside.len (length c.args.pivot.now.standing.now) c.row.inside.entries.items c.args.row.now (parted_view c.row.inside.len c.row.inside.is_whole c.row.inside.below c.row.inside.wholes.items c.row.inside.entries.items c.args.row.now c.row.invariant c.row.view_is c.if-row.false) c.requires.row_long (parted_kept c.row.inside.len c.row.inside.is_whole c.row.inside.below c.row.inside.wholes.items c.row.inside.entries.items c.args.row.now c.row.invariant c.row.view_is c.if-row.false))
 
 pub solve_entries-requires-clause-leaving_kept : goal.solve_entries-requires-clause-leaving_kept
-solve_entries-requires-clause-leaving_kept c = (omega arith, c.requires.leaving, nonzero_of c.args.q c.requires.nonzero, tt)
+solve_entries-requires-clause-leaving_kept c = (omega arith, c.requires.leaving, nonzero_of c.args.pivot.now.inverse c.requires.nonzero, tt)
 
 pub returns-clause-written : goal.returns-clause-written
 returns-clause-written c =
-    solved_written (length c.args.standing.now) (basic_in c.args.standing.now) c.args.i c.args.j c.args.q c.row.inside.len c.row.inside.entries.items c.args.row.now (parted_view c.row.inside.len c.row.inside.is_whole c.row.inside.below c.row.inside.wholes.items c.row.inside.entries.items c.args.row.now c.row.invariant c.row.view_is c.if-row.false) c.requires.row_long c.solve_entries.new.out.items c.solve_entries.result (Row c.args.j)
-    (rw c.as_slice-entries.ensures.value at c.solve_entries.ensures.written)
+    solved_written (length c.args.pivot.now.standing.now) (basic_in c.args.pivot.now.standing.now) c.args.pivot.now.leaving c.args.pivot.now.entering c.args.pivot.now.inverse c.row.inside.len c.row.inside.entries.items c.args.row.now (parted_view c.row.inside.len c.row.inside.is_whole c.row.inside.below c.row.inside.wholes.items c.row.inside.entries.items c.args.row.now c.row.invariant c.row.view_is c.if-row.false) c.requires.row_long c.solve_entries.new.out.items c.solve_entries.result (Row c.args.pivot.now.entering)
+    (rw c.as_slice-2.ensures.value at c.solve_entries.ensures.written)
 
 pub returns-clause-long : goal.returns-clause-long
 returns-clause-long c = dense_long _ _

@@ -1,4 +1,4 @@
-use Rattle.std.proofs.Common.{◌≡◌, ℕ, length, refl, sym, subst, arith, ◌∙◌}
+use Rattle.std.proofs.Common.{ℕ, length, sym, subst, arith, ◌∙◌}
 use Rattle.cip_problem.specs.Activity.{value_at}
 use Rattle.cip_dict.specs.Lists.{basic_in}
 use Rattle.cip_dict.specs.WholeLines.{IsSpelled}
@@ -6,14 +6,14 @@ use Rattle.cip_dict.proofs.Dense.{dense_read, entering_written}
 use Rattle.cip_dict.proofs.lines.write_substituted.Goals as goal
 
 pub returns-in-Ok-true-clause-written : goal.returns-in-Ok-true-clause-written
-returns-in-Ok-true-clause-written c = c.in-Ok-true.ensures.written c.in-Ok-true.field-0-test c.args.line c.args.q c.requires.is_leaving
+returns-in-Ok-true-clause-written c = c.in-Ok-true.ensures.written c.in-Ok-true.field-0-test c.args.line
 
 pub write_parted-requires-clause-leaving : goal.write_parted-requires-clause-leaving
 write_parted-requires-clause-leaving c =
     rw c.as_slice-entries.ensures.value
-    (sym (dense_read (length c.args.new.now) c.ensure_spelled.new.spelled.entries.items c.args.new.now c.args.i c.in-Ok.ensures.done.same (omega (arith, c.requires.leaving, c.requires.new_long))) ∙ c.requires.is_leaving)
+    (sym (dense_read (length c.args.new.now) c.ensure_spelled.new.spelled.entries.items c.args.new.now c.args.pivot.now.leaving c.in-Ok.ensures.done.same (omega (arith, c.requires.leaving, c.requires.new_long))) ∙ c.requires.is_leaving)
 
 pub returns-clause-written : goal.returns-clause-written
 returns-clause-written c =
-    let spelled : IsSpelled (length c.args.standing.now) c.args.new.now c.ensure_spelled.new.spelled.entries.items = subst (λ (n : ℕ). IsSpelled n c.args.new.now c.ensure_spelled.new.spelled.entries.items) c.requires.new_long c.in-Ok.ensures.done in
-    entering_written (length c.args.standing.now) c.args.line (basic_in c.args.standing.now) c.args.i c.args.j c.args.q c.ensure_spelled.new.spelled.entries.items c.args.new.now spelled.same c.requires.new_long (value_at c.args.row.now) c.write_parted.new.out c.write_parted.result (rw c.as_slice-entries.ensures.value at c.write_parted.ensures.written)
+    let spelled : IsSpelled (length c.args.pivot.now.standing.now) c.args.new.now c.ensure_spelled.new.spelled.entries.items = subst (λ (n : ℕ). IsSpelled n c.args.new.now c.ensure_spelled.new.spelled.entries.items) c.requires.new_long c.in-Ok.ensures.done in
+    entering_written (length c.args.pivot.now.standing.now) c.args.line (basic_in c.args.pivot.now.standing.now) c.args.pivot.now.leaving c.args.pivot.now.entering c.args.pivot.now.inverse c.ensure_spelled.new.spelled.entries.items c.args.new.now spelled.same c.requires.new_long (value_at c.args.row.now) c.write_parted.new.out c.write_parted.result (rw c.as_slice-entries.ensures.value at c.write_parted.ensures.written)

@@ -5,11 +5,11 @@ use Rattle.cip_rational.specs.Range.{magnitude}
 use Rattle.cip_dict.proofs.Added.{short_added, common_some, read_word}
 use Rattle.cip_dict.proofs.moved.short_sum.Goals as goal
 
-pub lowest-requires : goal.lowest-requires
-lowest-requires c = common_some c.args.value c.args.t c.args.below c.added_terms-over.result.1 c.requires (rw (c.in-Some.ensures.1, c.in-Some-short_terms.ensures.1) at c.added_terms-over.ensures.under)
+pub quotient-requires : goal.quotient-requires
+quotient-requires c = common_some c.args.value c.args.t c.args.below c.terms_of_sum-over.result.1 c.requires (rw (c.in-Some.ensures.1, c.in-Some-short_terms.ensures.1) at c.terms_of_sum-over.ensures.under)
 
-pub returns-in-Some-lowest : goal.returns-in-Some-lowest
-returns-in-Some-lowest c =
+pub returns-in-Some-quotient : goal.returns-in-Some-quotient
+returns-in-Some-quotient c =
     let hn : magnitude c.args.n < 2 ^ 20 = omega (arith, ints, c.unsigned_abs.ensures.value, c.if-unsigned_abs-ge-SHORT.false) in
     let hb : c.args.below < 2 ^ 20 = omega (arith, c.if-below-ge-SHORT.false) in
     let a : magnitude c.in-Some.a < 2 ^ 20 = rw c.in-Some.ensures.0 c.in-Some.ensures.2.top in
@@ -17,7 +17,7 @@ returns-in-Some-lowest c =
     let own = read_word c.in-Some.a (omega (arith, a)) in
     let factor = read_word c.in-Some-short_terms.c (omega (arith, f)) in
     let n = read_word c.args.n (omega (arith, hn)) in
-    let total = read_word c.added_terms-over.result.0 (omega (arith, c.added_terms-over.ensures.short)) in
-    let over = rw (own, n, factor, c.in-Some.ensures.0, c.in-Some.ensures.1, c.in-Some-short_terms.ensures.0, c.in-Some-short_terms.ensures.1) at c.added_terms-over.ensures.over in
-    let under = rw (c.in-Some.ensures.1, c.in-Some-short_terms.ensures.1) at c.added_terms-over.ensures.under in
-    short_added c.args.value c.args.t c.args.n c.args.below c.in-Some-lowest.sum c.added_terms-over.result.0 c.added_terms-over.result.1 c.requires hn hb c.in-Some.ensures.2 c.in-Some-short_terms.ensures.2 over under (c.in-Some-lowest.ensures ∙ ap (λ z. ratio z c.added_terms-over.result.1) total)
+    let total = read_word c.terms_of_sum-over.result.0 (omega (arith, c.terms_of_sum-over.ensures.short)) in
+    let over = rw (own, n, factor, c.in-Some.ensures.0, c.in-Some.ensures.1, c.in-Some-short_terms.ensures.0, c.in-Some-short_terms.ensures.1) at c.terms_of_sum-over.ensures.over in
+    let under = rw (c.in-Some.ensures.1, c.in-Some-short_terms.ensures.1) at c.terms_of_sum-over.ensures.under in
+    short_added c.args.value c.args.t c.args.n c.args.below c.in-Some-quotient.sum c.terms_of_sum-over.result.0 c.terms_of_sum-over.result.1 c.requires hn hb c.in-Some.ensures.2 c.in-Some-short_terms.ensures.2 over under (c.in-Some-quotient.ensures ∙ ap (λ z. ratio z c.terms_of_sum-over.result.1) total)

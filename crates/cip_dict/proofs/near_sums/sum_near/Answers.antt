@@ -1,9 +1,9 @@
-use Rattle.std.proofs.Common.{◌≡◌, ◌<◌, ◌≤◌, ◌∙◌, to_z, of_z, length, arith, suc, sym, subst, lit<}
+use Rattle.std.proofs.Common.{◌≡◌, ◌<◌, ◌≤◌, ◌∙◌, to_z, of_z, length, arith, suc, sym, subst, lit<, ◌^◌}
 use Rattle.std.specs.Int.{w64, w128}
 use Rattle.std.proofs.lemmas.Int.{ints}
 use Rattle.cip_dict.specs.Lists.{basic_in}
 use Rattle.cip_dict.specs.SparseLines.{IsNext}
-use Rattle.cip_dict.specs.WholeLines.{over, put_number, AreNear, AreSmall}
+use Rattle.cip_dict.specs.WholeLines.{over, put_number, AreBelow}
 use Rattle.cip_dict.proofs.Places.{place_zero}
 use Rattle.cip_dict.proofs.WholeParts.{none_over, read_small}
 use Rattle.cip_dict.proofs.WholeLoops.{whole_gap, whole_more, put_none}
@@ -21,23 +21,23 @@ loop-step-init c =
       new_small = c.next_step-step.ensures.new_small;
       row_past = λ l. c.next_step-step.ensures.row_past l next.row_place;
       new_past = λ l. c.next_step-step.ensures.new_past l next.new_place;
-      written = whole_gap 0 c.next_step-step.result.k (put_number (basic_in c.args.standing.now) c.args.i c.args.j c.args.f (to_z w64 (of_z w64 c.args.x)) c.args.row.now c.args.new.now) c.clear.new.self.items next.order c.clear.ensures.items
-          (λ m a b. put_none (basic_in c.args.standing.now) c.args.i c.args.j c.args.f (to_z w64 (of_z w64 c.args.x)) c.args.row.now c.args.new.now m (none_over 1 c.args.row.now m (lit< tt) (next.row_none m a b)) (none_over 1 c.args.new.now m (lit< tt) (next.new_none m a b)));
+      written = whole_gap 0 c.next_step-step.result.k (put_number (basic_in c.args.pivot.now.standing.now) c.args.pivot.now.leaving c.args.pivot.now.entering c.args.factors.own c.args.factors.new c.args.row.now c.args.new.now) c.clear.new.self.items next.order c.clear.ensures.items
+          (λ m a b. put_none (basic_in c.args.pivot.now.standing.now) c.args.pivot.now.leaving c.args.pivot.now.entering c.args.factors.own c.args.factors.new c.args.row.now c.args.new.now m (none_over 1 c.args.row.now m (lit< tt) (next.row_none m a b)) (none_over 1 c.args.new.now m (lit< tt) (next.new_none m a b)));
       positive = c.requires.positive;
       under = λ s. s;
-      small = λ _. subst AreSmall (sym c.clear.ensures.items) tt;
-      near = subst AreNear (sym c.clear.ensures.items) tt;
+      small = λ _. subst (AreBelow (2 ^ 42)) (sym c.clear.ensures.items) tt;
+      near = subst (AreBelow (2 ^ 63)) (sym c.clear.ensures.items) tt;
     }
 
 pub loop-step-preserved : goal.loop-step-preserved
 loop-step-preserved c =
-    let l : c.loop-step.step.k < length c.args.standing.now = omega arith in
+    let l : c.loop-step.step.k < length c.args.pivot.now.standing.now = omega arith in
     let next : IsNext (over 1 c.args.row.now) (over 1 c.args.new.now) c.loop-step.step.here c.loop-step.step.there (suc c.loop-step.step.k) c.next_step-step-in-loop-step.result.k =
     c.next_step-step-in-loop-step.ensures.next (suc c.loop-step.step.k) (omega arith) (c.loop-step.invariant.row_past l) (c.loop-step.invariant.new_past l) in
-    let z : c.number_put-z.result ≡ put_number (basic_in c.args.standing.now) c.args.i c.args.j c.args.f (to_z w64 (of_z w64 c.args.x)) c.args.row.now c.args.new.now c.loop-step.step.k =
-    rw (read_small c.loop-step.step.n c.loop-step.invariant.row_small, read_small c.loop-step.step.y c.loop-step.invariant.new_small, c.loop-step.invariant.row_value l, c.loop-step.invariant.new_value l) at c.number_put-z.ensures.value in
-    let kept : to_z w128 (of_z w128 c.number_put-z.result) ≡ c.number_put-z.result = omega (arith, ints, c.number_put-z.ensures.small) in
-    let short : to_z w64 (of_z w64 (to_z w128 (of_z w128 c.number_put-z.result))) ≡ to_z w128 (of_z w128 c.number_put-z.result) = read_near (to_z w128 (of_z w128 c.number_put-z.result)) (c.is_near.ensures c.if-not-is_near.false) in
+    let z : c.substituted_number-z.result ≡ put_number (basic_in c.args.pivot.now.standing.now) c.args.pivot.now.leaving c.args.pivot.now.entering c.args.factors.own c.args.factors.new c.args.row.now c.args.new.now c.loop-step.step.k =
+    rw (read_small c.loop-step.step.n c.loop-step.invariant.row_small, read_small c.loop-step.step.y c.loop-step.invariant.new_small, c.loop-step.invariant.row_value l, c.loop-step.invariant.new_value l) at c.substituted_number-z.ensures.value in
+    let kept : to_z w128 (of_z w128 c.substituted_number-z.result) ≡ c.substituted_number-z.result = omega (arith, ints, c.substituted_number-z.ensures.small) in
+    let short : to_z w64 (of_z w64 (to_z w128 (of_z w128 c.substituted_number-z.result))) ≡ to_z w128 (of_z w128 c.substituted_number-z.result) = read_near (to_z w128 (of_z w128 c.substituted_number-z.result)) (c.is_near.ensures c.if-not-is_near.false) in
     record {
       within = c.next_step-step-in-loop-step.ensures.within;
       row_value = λ l. c.next_step-step-in-loop-step.ensures.row_value l next.row_place;
@@ -46,18 +46,23 @@ loop-step-preserved c =
       new_small = c.next_step-step-in-loop-step.ensures.new_small;
       row_past = λ l. c.next_step-step-in-loop-step.ensures.row_past l next.row_place;
       new_past = λ l. c.next_step-step-in-loop-step.ensures.new_past l next.new_place;
-      written = whole_more c.loop-step.step.k c.next_step-step-in-loop-step.result.k (put_number (basic_in c.args.standing.now) c.args.i c.args.j c.args.f (to_z w64 (of_z w64 c.args.x)) c.args.row.now c.args.new.now) (to_z w64 (of_z w64 (to_z w128 (of_z w128 c.number_put-z.result)))) c.loop-step.out.items c.keep_near.new.numbers.items next.order c.loop-step.invariant.written c.in_ok-keep_near.ensures.kept (short ∙ kept ∙ z)
-          (λ m a b. put_none (basic_in c.args.standing.now) c.args.i c.args.j c.args.f (to_z w64 (of_z w64 c.args.x)) c.args.row.now c.args.new.now m (none_over 1 c.args.row.now m (lit< tt) (next.row_none m a b)) (none_over 1 c.args.new.now m (lit< tt) (next.new_none m a b)));
+      written = whole_more c.loop-step.step.k c.next_step-step-in-loop-step.result.k (put_number (basic_in c.args.pivot.now.standing.now) c.args.pivot.now.leaving c.args.pivot.now.entering c.args.factors.own c.args.factors.new c.args.row.now c.args.new.now) (to_z w64 (of_z w64 (to_z w128 (of_z w128 c.substituted_number-z.result)))) c.loop-step.out.items c.keep_number.new.numbers.items next.order c.loop-step.invariant.written c.in_ok-keep_number.ensures.kept (short ∙ kept ∙ z)
+          (λ m a b. put_none (basic_in c.args.pivot.now.standing.now) c.args.pivot.now.leaving c.args.pivot.now.entering c.args.factors.own c.args.factors.new c.args.row.now c.args.new.now m (none_over 1 c.args.row.now m (lit< tt) (next.row_none m a b)) (none_over 1 c.args.new.now m (lit< tt) (next.new_none m a b)));
       positive = c.with_number-near.ensures.positive;
       under = λ s. c.loop-step.invariant.under (omega (arith, s, c.with_number-near.ensures.before));
-      small = λ s. c.in_ok-keep_near.ensures.small (omega (arith, s, c.with_number-near.ensures.this)) (c.loop-step.invariant.small (omega (arith, s, c.with_number-near.ensures.before)));
-      near = c.in_ok-keep_near.ensures.near c.loop-step.invariant.near;
+      small = λ s. c.in_ok-keep_number.ensures.below (2 ^ 42) (omega (arith, s, c.with_number-near.ensures.this)) (c.loop-step.invariant.small (omega (arith, s, c.with_number-near.ensures.before)));
+      near = c.in_ok-keep_number.ensures.below (2 ^ 63) (rw short (c.is_near.ensures c.if-not-is_near.false)) c.loop-step.invariant.near;
     }
 
 pub loop-step-smaller : goal.loop-step-smaller
 loop-step-smaller c =
-    let l : c.loop-step.step.k < length c.args.standing.now = omega arith in
+    let l : c.loop-step.step.k < length c.args.pivot.now.standing.now = omega arith in
     let next : IsNext (over 1 c.args.row.now) (over 1 c.args.new.now) c.loop-step.step.here c.loop-step.step.there (suc c.loop-step.step.k) c.next_step-step-in-loop-step.result.k =
     c.next_step-step-in-loop-step.ensures.next (suc c.loop-step.step.k) (omega arith) (c.loop-step.invariant.row_past l) (c.loop-step.invariant.new_past l) in
     let o : suc c.loop-step.step.k ≤ c.next_step-step-in-loop-step.result.k = next.order in
     omega (arith, o, l)
+
+pub returns-in_err-keep_number-clause-near : goal.returns-in_err-keep_number-clause-near
+returns-in_err-keep_number-clause-near c =
+    let near = c.is_near.ensures c.if-not-is_near.false in
+    c.in_err-keep_number.ensures.below (2 ^ 63) (rw (read_near (to_z w128 (of_z w128 c.substituted_number-z.result)) near) near) c.loop-step.invariant.near

@@ -10,7 +10,7 @@ use Rattle.cip_dict.proofs.rows.write_rows.Goals as goal
 pub returns-in-Err-clause-written : goal.returns-in-Err-clause-written
 returns-in-Err-clause-written c =
     let r : c.index-rows-v.result ≡ row_in c.args.rows.now c.loop-v.v = row_read c.args.rows.now c.loop-v.v c.index-rows-v.result (omega (arith, c.requires.rows_long.each_one)) c.index-rows-v.is in
-    fault_at (length c.args.standing.now) c.loop-v.v _ c.in-Err.fault c.loop-v-test.true c.loop-v.invariant.fits (rw r at c.in-Err.ensures.written)
+    fault_at (length c.args.pivot.now.standing.now) c.loop-v.v _ c.in-Err.fault c.loop-v-test.true c.loop-v.invariant.fits (rw r at c.in-Err.ensures.written)
 
 pub loop-v-preserved : goal.loop-v-preserved
 loop-v-preserved c =
@@ -22,14 +22,14 @@ loop-v-preserved c =
       fits = first_more c.loop-v.v _ c.loop-v.invariant.fits (rw r at c.in-Ok.ensures.written.0);
       written = written_more _ c.loop-v.out c.loop-v.v c.write_row.new.out [] within c.loop-v.invariant.written (rw (r, o) at c.in-Ok.ensures.written.1);
       rest = λ m l. get_or-set_other c.loop-v.out c.loop-v.v m c.write_row.new.out [] (λ (e : m ≡ c.loop-v.v). omega (arith, l, e)) ∙ c.loop-v.invariant.rest m (omega (arith, l));
-      long = HasRows-set c.args.standing.now c.loop-v.out c.loop-v.v c.write_row.new.out c.loop-v.invariant.long (c.in-Ok.ensures.long ∙ ap length (sym c.index-out-v.is ∙ here)) within;
-      marked = written_more _ c.loop-v.changed c.loop-v.v c.write_row.new.changed false (omega (arith, c.loop-v.invariant.changed_long, c.requires.changed_long)) c.loop-v.invariant.marked (rw r at c.in-Ok.ensures.marked);
-      changed_long = length-set c.loop-v.changed c.loop-v.v c.write_row.new.changed ∙ c.loop-v.invariant.changed_long;
+      long = HasRows-set c.args.pivot.now.standing.now c.loop-v.out c.loop-v.v c.write_row.new.out c.loop-v.invariant.long (c.in-Ok.ensures.long ∙ ap length (sym c.index-out-v.is ∙ here)) within;
+      marked = written_more _ c.loop-v.changed c.loop-v.v c.in-Ok.changes false (omega (arith, c.loop-v.invariant.changed_long, c.requires.changed_long)) c.loop-v.invariant.marked (rw r at c.in-Ok.ensures.marked);
+      changed_long = length-set c.loop-v.changed c.loop-v.v c.in-Ok.changes ∙ c.loop-v.invariant.changed_long;
       spelled = c.in-Ok.ensures.spelled;
     }
 
 pub returns-clause-written : goal.returns-clause-written
-returns-clause-written c = loop_end (length c.args.standing.now) c.loop-v.v _ _ c.loop-v.out [] (omega arith) (omega arith) (c.loop-v.invariant.long.each_one) c.loop-v.invariant.fits c.loop-v.invariant.written
+returns-clause-written c = loop_end (length c.args.pivot.now.standing.now) c.loop-v.v _ _ c.loop-v.out [] (omega arith) (omega arith) (c.loop-v.invariant.long.each_one) c.loop-v.invariant.fits c.loop-v.invariant.written
 
 pub returns-clause-marked : goal.returns-clause-marked
 returns-clause-marked c = record {

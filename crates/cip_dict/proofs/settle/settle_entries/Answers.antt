@@ -1,9 +1,8 @@
-use Rattle.std.proofs.Common.{◌≡◌, to_z, of_z, sym, subst}
+use Rattle.std.proofs.Common.{◌≡◌, to_z, of_z, sym, subst, ◌^◌}
 use Rattle.std.specs.Int.{w64}
 use Rattle.cip_rational.specs.Rational.{zeroℚ}
-use Rattle.cip_dict.specs.WholeLines.{AreSmall}
-use Rattle.cip_dict.proofs.WholeLoops.{small_append}
-use Rattle.cip_dict.proofs.WholeParts.{read_small}
+use Rattle.cip_dict.specs.WholeLines.{AreBelow}
+use Rattle.cip_dict.proofs.WholeParts.{read_small, append_below}
 use Rattle.cip_dict.proofs.Settled.{settled_more}
 use Rattle.cip_dict.proofs.settle.settle_entries.Goals as goal
 
@@ -13,5 +12,5 @@ loop-at-preserved c =
     let is = rw w at c.in_ok-push-in-Some.ensures.items in
     record {
       written = settled_more c.args.entries.now c.loop-at.at c.args.below c.loop-at.out.items c.push.new.self.items c.entry_at-entry.result c.in-Some.number c.loop-at-test.true c.loop-at.invariant.written is (c.entry_at-entry.ensures (0, zeroℚ)) c.in-Some.ensures.0;
-      small = subst AreSmall (sym is) (small_append c.loop-at.out.items _ c.in-Some.number c.loop-at.invariant.small c.in-Some.ensures.1);
+      small = subst (AreBelow (2 ^ 42)) (sym is) (append_below (2 ^ 42) c.loop-at.out.items _ c.in-Some.number c.loop-at.invariant.small c.in-Some.ensures.1);
     }

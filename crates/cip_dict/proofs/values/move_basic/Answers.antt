@@ -1,4 +1,4 @@
-use Rattle.std.proofs.Common.{◌≡◌, ◌==◌, true, false, sym, ◌∙◌}
+use Rattle.std.proofs.Common.{◌==◌, sym, ◌∙◌}
 use Rattle.std.proofs.lemmas.Bool.{true≢false}
 use Rattle.cip_problem.specs.Activity.{value_at}
 use Rattle.cip_dictionary.specs.Operations.{is_zero}
@@ -7,11 +7,11 @@ use Rattle.cip_dict.proofs.Added.{zero_left, unreached}
 use Rattle.cip_dict.proofs.values.move_basic.Goals as goal
 use Rattle.cip_dict.proofs.values.move_basic.Goals.{then-changes, else-changes}
 
-pub returns-else-v-i : goal.returns-else-v-i
-returns-else-v-i c =
+pub returns-else-v-pivot : goal.returns-else-v-pivot
+returns-else-v-pivot c =
     elim c.if-changes.branch [
-      | then-changes w ↦ absurd (true≢false (sym w.if-changes.true ∙ sym w.value-is ∙ c.if-v-i.false))
-      | else-changes w ↦ zero_left c.args.before (value_at c.args.row.now c.args.j) c.args.t
-          (unreached (basic_in c.args.standing.now c.args.v) (c.args.v == c.args.i) (is_zero (value_at c.args.row.now c.args.j)) c.args.changes
-          c.requires.basic (sym w.value-is ∙ c.if-v-i.false) c.requires.marked w.if-changes.false)
+      | then-changes w ↦ absurd (true≢false (sym w.if-changes.true ∙ sym w.value-is ∙ c.if-v-pivot.false))
+      | else-changes w ↦ zero_left c.args.value.now (value_at c.args.row.now c.args.pivot.now.entering) c.args.t
+          (unreached (basic_in c.args.pivot.now.standing.now c.args.v) (c.args.v == c.args.pivot.now.leaving) (is_zero (value_at c.args.row.now c.args.pivot.now.entering)) c.args.changes
+          c.requires.basic (sym w.value-is ∙ c.if-v-pivot.false) c.requires.marked w.if-changes.false)
     ]

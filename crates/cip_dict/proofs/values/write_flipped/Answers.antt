@@ -9,9 +9,9 @@ returns-then-not-flip_on-clause-written c = first_at (length c.args.standing.now
 pub loop-v-preserved : goal.loop-v-preserved
 loop-v-preserved c = record {
   fits = first_more c.loop-v.v _ c.loop-v.invariant.fits c.if-not-flip_on.ensures.0;
-  written = taken_more c.args.standing.now c.args.j c.args.values.now _ c.loop-v.out c.loop-v.v c.flip_on.new.value (omega arith) c.loop-v.invariant.written c.if-not-flip_on.ensures.1;
+  written = taken_more c.args.standing.now c.args.j c.args.shift.now.values.now _ c.loop-v.out c.loop-v.v c.flip_on.new.value (omega arith) c.loop-v.invariant.written c.if-not-flip_on.ensures.1;
   long = length-set c.loop-v.out c.loop-v.v c.flip_on.new.value ∙ c.loop-v.invariant.long;
 }
 
 pub returns-clause-written : goal.returns-clause-written
-returns-clause-written c = taken_end (length c.args.standing.now) c.loop-v.v _ c.args.standing.now c.args.j c.args.values.now c.loop-v.out _ (omega arith) (omega arith) c.loop-v.invariant.fits c.loop-v.invariant.written
+returns-clause-written c = taken_end (length c.args.standing.now) c.loop-v.v _ c.args.standing.now c.args.j c.args.shift.now.values.now c.loop-v.out _ (omega arith) (omega arith) c.loop-v.invariant.fits c.loop-v.invariant.written

@@ -13,11 +13,11 @@ stands p n len first k last l e =
       | inr w ↦ (let f : first ≡ len = last w in absurd (omega (arith, f, l, e)))
     ]
 
-pub taken-n-requires-clause-there : goal.taken-n-requires-clause-there
-taken-n-requires-clause-there c = λ e. stands c.args.here (length c.args.row.now) c.args.len c.head_at-first.result.0 c.least-k.result c.head_at-first.ensures.last (omega (arith, c.if-k-len.false)) e
+pub take_number-n-requires-clause-there : goal.take_number-n-requires-clause-there
+take_number-n-requires-clause-there c = λ e. stands c.args.here (length c.args.row.now) c.args.len c.head_at-first.result.0 c.least-k.result c.head_at-first.ensures.last (omega (arith, c.if-k-len.false)) e
 
-pub taken-y-requires-clause-there : goal.taken-y-requires-clause-there
-taken-y-requires-clause-there c = λ e. stands c.args.there (length c.args.new.now) c.args.len c.head_at-second.result.0 c.least-k.result c.head_at-second.ensures.last (omega (arith, c.if-k-len.false)) e
+pub take_number-y-requires-clause-there : goal.take_number-y-requires-clause-there
+take_number-y-requires-clause-there c = λ e. stands c.args.there (length c.args.new.now) c.args.len c.head_at-second.result.0 c.least-k.result c.head_at-second.ensures.last (omega (arith, c.if-k-len.false)) e
 
 pub returns-then-k-len-clause-next : goal.returns-then-k-len-clause-next
 returns-then-k-len-clause-next c =

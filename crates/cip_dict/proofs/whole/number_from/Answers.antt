@@ -1,17 +1,17 @@
-use Rattle.std.proofs.Common.{◌≡◌, ◌<◌, ◌∙◌, pos, sym, length, get_or, arith, lit<}
-use Rattle.cip_dict.proofs.WholeParts.{number_hit, number_miss, number_small, read_small, item_small}
+use Rattle.std.proofs.Common.{◌<◌, ◌∙◌, pos, sym, length, get_or, ◌^◌}
+use Rattle.cip_dict.proofs.WholeParts.{number_hit, number_miss, read_small, item_below}
 use Rattle.cip_dict.proofs.whole.number_from.Goals as goal
 
 pub returns-then-stands_at-clause-value : goal.returns-then-stands_at-clause-value
 returns-then-stands_at-clause-value c =
     let w : c.args.place < length c.args.wholes.now = c.stands_at.ensures.within c.if-stands_at.true in
-    read_small (get_or c.args.wholes.now c.args.place (0, pos 0)).1 (item_small c.args.wholes.now c.args.place (0, pos 0) c.requires.small w)
+    read_small (get_or c.args.wholes.now c.args.place (0, pos 0)).1 (item_below (2 ^ 42) c.args.wholes.now c.args.place (0, pos 0) c.requires.small w)
     ∙ sym (number_hit c.args.k c.args.wholes.now c.args.place (0, pos 0) c.requires.at w (c.stands_at.ensures.yes c.if-stands_at.true (0, pos 0)))
 
 pub returns-then-stands_at-clause-small : goal.returns-then-stands_at-clause-small
 returns-then-stands_at-clause-small c =
     let w : c.args.place < length c.args.wholes.now = c.stands_at.ensures.within c.if-stands_at.true in
-    rw (read_small (get_or c.args.wholes.now c.args.place (0, pos 0)).1 (item_small c.args.wholes.now c.args.place (0, pos 0) c.requires.small w)) (item_small c.args.wholes.now c.args.place (0, pos 0) c.requires.small w)
+    rw (read_small (get_or c.args.wholes.now c.args.place (0, pos 0)).1 (item_below (2 ^ 42) c.args.wholes.now c.args.place (0, pos 0) c.requires.small w)) (item_below (2 ^ 42) c.args.wholes.now c.args.place (0, pos 0) c.requires.small w)
 
 pub returns-else-stands_at-clause-value : goal.returns-else-stands_at-clause-value
 returns-else-stands_at-clause-value c =

@@ -1,16 +1,15 @@
-use Rattle.std.proofs.Common.{◌≡◌, ◌++◌, ◌∷◌, [], pos, to_z, of_z, get_or, take, length, sym, ap, ap₂, ◌∙◌, arith}
+use Rattle.std.proofs.Common.{◌≡◌, ◌++◌, ◌∷◌, [], pos, get_or, take, length, sym, ap, ap₂, ◌∙◌, arith, ◌^◌}
 use Rattle.std.proofs.Math.Seq.{take-length}
 use Rattle.std.proofs.lemmas.List.{take_more}
 use Rattle.cip_rational.specs.Rational.{ℚ, ratio}
-use Rattle.cip_dict.specs.SparseLines.{Kept}
 use Rattle.cip_dict.specs.WholeLines.{over}
-use Rattle.cip_dict.proofs.WholeParts.{read_small, item_small, over_append}
+use Rattle.cip_dict.proofs.WholeParts.{read_small, over_append, item_below}
 use Rattle.cip_dict.proofs.whole.spell_wholes.Goals as goal
 
 pub loop-at-preserved : goal.loop-at-preserved
 loop-at-preserved c =
     let number : c.fraction.result ≡ ratio (get_or c.args.wholes.now c.loop-at.at (0, pos 0)).1 c.args.below =
-    c.fraction.ensures ∙ ap (λ n. ratio n c.args.below) (read_small (get_or c.args.wholes.now c.loop-at.at (0, pos 0)).1 (item_small c.args.wholes.now c.loop-at.at (0, pos 0) c.requires.numbers c.loop-at-test.true)) in
+    c.fraction.ensures ∙ ap (λ n. ratio n c.args.below) (read_small (get_or c.args.wholes.now c.loop-at.at (0, pos 0)).1 (item_below (2 ^ 42) c.args.wholes.now c.loop-at.at (0, pos 0) c.requires.numbers c.loop-at-test.true)) in
     c.in_ok-push.ensures.items
     ∙ ap₂ (λ (xs : _) (q : ℚ). xs ++ ((get_or c.args.wholes.now c.loop-at.at (0, pos 0)).0, q) ∷ []) c.loop-at.invariant number
     ∙ sym (ap (over c.args.below) (take_more c.args.wholes.now c.loop-at.at (0, pos 0) c.loop-at-test.true) ∙ over_append c.args.below (take c.loop-at.at c.args.wholes.now) (get_or c.args.wholes.now c.loop-at.at (0, pos 0) ∷ []))

@@ -3,6 +3,7 @@ use Rattle.std.specs.Int.{w64}
 use Rattle.std.proofs.lemmas.Int.{ints}
 use Rattle.cip_dict.proofs.WholeParts.{read_small}
 use Rattle.cip_dict.proofs.PutBehind.{behind_entry, behind_kept, behind_whole, nothing_entry}
+use Rattle.cip_dict.proofs.WholeParts.{rising_over}
 use Rattle.cip_dict.proofs.whole_entries.put_behind.Goals as goal
 
 pub returns-in_ok-push-clause-put : goal.returns-in_ok-push-clause-put
@@ -32,3 +33,6 @@ returns-else-number-ne0-clause-put c =
     let one : c.args.below ≡ 1 = omega (arith, c.if-below-ne1.false) in
     let place = (rw c.as_slice.ensures.value at c.is_past.ensures) c.if-not-is_past.false in
     λ _. nothing_entry c.args.k c.args.entry c.in-Some.number c.args.below one c.in-Some.ensures.0 c.args.wholes.now.items place c.requires.kept.0 c.requires.kept.1 (omega (arith, ints, c.if-number-ne0.false, c.in-Some.ensures.1))
+
+pub is_past-requires : goal.is_past-requires
+is_past-requires c = rw c.as_slice.ensures.value (rising_over c.args.below 0 c.requires.kept.0 c.args.wholes.now.items c.requires.kept.1)

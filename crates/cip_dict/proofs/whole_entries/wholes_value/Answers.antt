@@ -1,4 +1,4 @@
-use Rattle.std.proofs.Common.{◌≡◌, ◌<◌, pos, to_z, of_z, refl, sym, ap, length, get_or, arith, add-one, suc}
+use Rattle.std.proofs.Common.{◌≡◌, ◌<◌, pos, to_z, of_z, refl, sym, ap, length, get_or, arith, add-one, suc, ◌^◌}
 use Rattle.std.specs.Int.{w64}
 use Rattle.cip_rational.specs.Rational.{ratio}
 use Rattle.cip_problem.specs.Activity.{value_at}
@@ -6,7 +6,7 @@ use Rattle.cip_dict.specs.SparseLines.{Kept, entry_on}
 use Rattle.cip_dict.specs.WholeLines.{Whole, over}
 use Rattle.cip_dict.proofs.Places.{place_zero, entry_between}
 use Rattle.cip_dict.proofs.FormSums.{form_gap, next_place, next_sum, next_wide}
-use Rattle.cip_dict.proofs.WholeParts.{at_over, length_over, read_small, item_small}
+use Rattle.cip_dict.proofs.WholeParts.{at_over, length_over, read_small, item_below}
 use Rattle.cip_dict.proofs.whole_entries.wholes_value.Goals as goal
 
 pub places-init : goal.places-init
@@ -22,7 +22,7 @@ places-preserved c =
     let is : e ≡ get_or es c.places.place e = sym (at_over c.args.below c.args.wholes.now c.places.place e (0, pos 0) l) in
     let below : e.0 < c.args.n = c.is_within.ensures.below c.places-test.true (0, pos 0) in
     let le : c.places.place < length es = omega (arith, l, length_over c.args.below c.args.wholes.now) in
-    let n : to_z w64 (of_z w64 w.1) ≡ w.1 = read_small w.1 (item_small c.args.wholes.now c.places.place (0, pos 0) c.requires.whole.numbers l) in
+    let n : to_z w64 (of_z w64 w.1) ≡ w.1 = read_small w.1 (item_below (2 ^ 42) c.args.wholes.now c.places.place (0, pos 0) c.requires.whole.numbers l) in
     let here = rw n at c.in-Ok.ensures in
     let place = next_place c.args.line c.args.n es (value_at c.args.values.now) c.requires.kept.0 c.requires.kept.1 c.places.place s.0 e s.2 s.3 c.places.total s.4 le is below in
     let sum = next_sum c.args.line c.args.n es (value_at c.args.values.now) c.requires.kept.0 c.requires.kept.1 c.places.place s.0 e s.2 s.3 c.places.total s.4 le is below c.in-Ok.value here.0 here.1 in
@@ -38,7 +38,7 @@ returns-in-Err c =
     let is : e ≡ get_or es c.places.place e = sym (at_over c.args.below c.args.wholes.now c.places.place e (0, pos 0) l) in
     let below : e.0 < c.args.n = c.is_within.ensures.below c.places-test.true (0, pos 0) in
     let le : c.places.place < length es = omega (arith, l, length_over c.args.below c.args.wholes.now) in
-    let n : to_z w64 (of_z w64 w.1) ≡ w.1 = read_small w.1 (item_small c.args.wholes.now c.places.place (0, pos 0) c.requires.whole.numbers l) in
+    let n : to_z w64 (of_z w64 w.1) ≡ w.1 = read_small w.1 (item_below (2 ^ 42) c.args.wholes.now c.places.place (0, pos 0) c.requires.whole.numbers l) in
     next_wide c.args.line c.args.n es (value_at c.args.values.now) c.requires.kept.0 c.requires.kept.1 c.places.place s.0 e s.2 s.3 c.places.total s.4 le is below c.in-Err.fault.place (rw n at c.in-Err.ensures)
 
 pub returns : goal.returns

@@ -1,27 +1,27 @@
-use Rattle.std.proofs.Common.{◌≡◌, pos, to_z, of_z, length, get_or, take, ap, subst, sym, arith, ◌∙◌, ◌*◌}
+use Rattle.std.proofs.Common.{◌≡◌, pos, to_z, of_z, length, get_or, take, ap, subst, sym, arith, ◌∙◌, ◌*◌, ◌^◌}
 use Rattle.std.specs.Int.{w64, w128}
 use Rattle.std.proofs.lemmas.Int.{ints}
 use Rattle.std.proofs.Math.Seq.{take-length}
-use Rattle.cip_dict.specs.WholeLines.{AreSmall, over}
-use Rattle.cip_dict.proofs.WholeParts.{read_small}
-use Rattle.cip_dict.proofs.WholeLoops.{item_wide, divided_more, small_append}
+use Rattle.cip_dict.specs.WholeLines.{AreBelow, over}
+use Rattle.cip_dict.proofs.WholeParts.{read_small, append_below, item_below}
+use Rattle.cip_dict.proofs.WholeLoops.{divided_more}
 use Rattle.cip_dict.proofs.whole_sums.divide_all.Goals as goal
 
 pub loop-at-init : goal.loop-at-init
 loop-at-init c = record {
   divided = λ d h. ap (over d) c.clear.ensures.items;
-  small = subst AreSmall (sym c.clear.ensures.items) tt;
+  small = subst (AreBelow (2 ^ 42)) (sym c.clear.ensures.items) tt;
 }
 
 pub loop-at-preserved : goal.loop-at-preserved
 loop-at-preserved c =
     let z : to_z w128 (of_z w128 (get_or c.args.sums.now c.loop-at.at (0, pos 0)).1) ≡ (get_or c.args.sums.now c.loop-at.at (0, pos 0)).1 =
-    omega (arith, ints, item_wide c.args.sums.now c.loop-at.at (0, pos 0) c.requires.wide c.loop-at-test.true) in
+    omega (arith, ints, item_below (2 ^ 86) c.args.sums.now c.loop-at.at (0, pos 0) c.requires.wide c.loop-at-test.true) in
     let w : to_z w64 (of_z w64 c.in-Some.number) ≡ c.in-Some.number = read_small c.in-Some.number c.in-Some.ensures.1 in
     let is = rw w at c.in_ok-push-in-Some.ensures.items in
     record {
       divided = divided_more c.args.sums.now c.loop-at.at c.args.g c.loop-at.out.items c.push.new.self.items c.in-Some.number c.requires.positive c.loop-at-test.true c.loop-at.invariant.divided is (sym z ∙ c.in-Some.ensures.0);
-      small = subst AreSmall (sym is) (small_append c.loop-at.out.items _ c.in-Some.number c.loop-at.invariant.small c.in-Some.ensures.1);
+      small = subst (AreBelow (2 ^ 42)) (sym is) (append_below (2 ^ 42) c.loop-at.out.items _ c.in-Some.number c.loop-at.invariant.small c.in-Some.ensures.1);
     }
 
 pub returns : goal.returns

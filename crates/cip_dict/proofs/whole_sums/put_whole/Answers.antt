@@ -5,19 +5,18 @@ use Rattle.cip_dict.proofs.whole_sums.put_whole.Goals as goal
 
 pub returns-in-Written : goal.returns-in-Written
 returns-in-Written c =
-    let parts = c.split-x.ensures.parts in
+    let parts = c.split-factors.ensures.parts in
     let told = c.in_ok-below.ensures c.in-Written.below c.in-Written.is in
-    let x : to_z w64 (of_z w64 c.split-x.result.0) ≡ c.split-x.result.0 = read_small c.split-x.result.0 c.split-x.ensures.own_small in
-    let own : to_z w64 (of_z w64 c.number_of-own.result) ≡ c.number_of-own.result = read_small c.number_of-own.result c.number_of-own.ensures.small in (
+    let own : to_z w64 (of_z w64 c.number_of.result) ≡ c.number_of.result = read_small c.number_of.result c.number_of.ensures.small in (
       record { positive = told.0; small = told.1; numbers = told.2 },
       (
-        c.split-x.result.1,
+        c.split-factors.result.own,
         parts.0,
-        c.split-x.result.0,
-        c.split-x.ensures.positive,
+        c.split-factors.result.new,
+        c.split-factors.ensures.positive,
         parts.1,
         parts.3,
-        sym (own ∙ c.number_of-own.ensures.value) ∙ parts.2,
-        rw (x, c.from.ensures, c.from-2.ensures) at told.3,
+        sym (own ∙ c.number_of.ensures.value) ∙ parts.2,
+        rw (c.from.ensures, c.from-2.ensures) at told.3,
       ),
     )

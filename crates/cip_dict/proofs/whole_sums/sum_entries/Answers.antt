@@ -1,9 +1,9 @@
-use Rattle.std.proofs.Common.{◌≡◌, ◌<◌, ◌∙◌, to_z, of_z, length, arith, suc, sym, subst, lit<}
-use Rattle.std.specs.Int.{w64, w128}
+use Rattle.std.proofs.Common.{◌≡◌, ◌<◌, ◌∙◌, to_z, of_z, length, arith, suc, sym, subst, lit<, ◌^◌}
+use Rattle.std.specs.Int.{w128}
 use Rattle.std.proofs.lemmas.Int.{ints}
 use Rattle.cip_dict.specs.Lists.{basic_in}
 use Rattle.cip_dict.specs.SparseLines.{IsNext}
-use Rattle.cip_dict.specs.WholeLines.{over, put_number, AreWide}
+use Rattle.cip_dict.specs.WholeLines.{over, put_number, AreBelow}
 use Rattle.cip_dict.proofs.Places.{place_zero}
 use Rattle.cip_dict.proofs.WholeParts.{none_over, read_small}
 use Rattle.cip_dict.proofs.WholeLoops.{whole_gap, whole_more, put_none}
@@ -20,19 +20,19 @@ loop-step-init c =
       new_small = c.next_step-step.ensures.new_small;
       row_past = λ l. c.next_step-step.ensures.row_past l next.row_place;
       new_past = λ l. c.next_step-step.ensures.new_past l next.new_place;
-      written = whole_gap 0 c.next_step-step.result.k (put_number (basic_in c.args.standing.now) c.args.i c.args.j c.args.f (to_z w64 (of_z w64 c.args.x)) c.args.row.now c.args.new.now) c.clear.new.self.items next.order c.clear.ensures.items
-          (λ m a b. put_none (basic_in c.args.standing.now) c.args.i c.args.j c.args.f (to_z w64 (of_z w64 c.args.x)) c.args.row.now c.args.new.now m (none_over 1 c.args.row.now m (lit< tt) (next.row_none m a b)) (none_over 1 c.args.new.now m (lit< tt) (next.new_none m a b)));
-      wide = subst AreWide (sym c.clear.ensures.items) tt;
+      written = whole_gap 0 c.next_step-step.result.k (put_number (basic_in c.args.pivot.now.standing.now) c.args.pivot.now.leaving c.args.pivot.now.entering c.args.factors.own c.args.factors.new c.args.row.now c.args.new.now) c.clear.new.self.items next.order c.clear.ensures.items
+          (λ m a b. put_none (basic_in c.args.pivot.now.standing.now) c.args.pivot.now.leaving c.args.pivot.now.entering c.args.factors.own c.args.factors.new c.args.row.now c.args.new.now m (none_over 1 c.args.row.now m (lit< tt) (next.row_none m a b)) (none_over 1 c.args.new.now m (lit< tt) (next.new_none m a b)));
+      wide = subst (AreBelow (2 ^ 86)) (sym c.clear.ensures.items) tt;
     }
 
 pub loop-step-preserved : goal.loop-step-preserved
 loop-step-preserved c =
-    let l : c.loop-step.step.k < length c.args.standing.now = omega arith in
+    let l : c.loop-step.step.k < length c.args.pivot.now.standing.now = omega arith in
     let next : IsNext (over 1 c.args.row.now) (over 1 c.args.new.now) c.loop-step.step.here c.loop-step.step.there (suc c.loop-step.step.k) c.next_step-step-in-loop-step.result.k =
     c.next_step-step-in-loop-step.ensures.next (suc c.loop-step.step.k) (omega arith) (c.loop-step.invariant.row_past l) (c.loop-step.invariant.new_past l) in
-    let z : c.number_put-z.result ≡ put_number (basic_in c.args.standing.now) c.args.i c.args.j c.args.f (to_z w64 (of_z w64 c.args.x)) c.args.row.now c.args.new.now c.loop-step.step.k =
-    rw (read_small c.loop-step.step.n c.loop-step.invariant.row_small, read_small c.loop-step.step.y c.loop-step.invariant.new_small, c.loop-step.invariant.row_value l, c.loop-step.invariant.new_value l) at c.number_put-z.ensures.value in
-    let kept : to_z w128 (of_z w128 c.number_put-z.result) ≡ c.number_put-z.result = omega (arith, ints, c.number_put-z.ensures.small) in
+    let z : c.substituted_number-z.result ≡ put_number (basic_in c.args.pivot.now.standing.now) c.args.pivot.now.leaving c.args.pivot.now.entering c.args.factors.own c.args.factors.new c.args.row.now c.args.new.now c.loop-step.step.k =
+    rw (read_small c.loop-step.step.n c.loop-step.invariant.row_small, read_small c.loop-step.step.y c.loop-step.invariant.new_small, c.loop-step.invariant.row_value l, c.loop-step.invariant.new_value l) at c.substituted_number-z.ensures.value in
+    let kept : to_z w128 (of_z w128 c.substituted_number-z.result) ≡ c.substituted_number-z.result = omega (arith, ints, c.substituted_number-z.ensures.small) in
     record {
       within = c.next_step-step-in-loop-step.ensures.within;
       row_value = λ l. c.next_step-step-in-loop-step.ensures.row_value l next.row_place;
@@ -41,7 +41,12 @@ loop-step-preserved c =
       new_small = c.next_step-step-in-loop-step.ensures.new_small;
       row_past = λ l. c.next_step-step-in-loop-step.ensures.row_past l next.row_place;
       new_past = λ l. c.next_step-step-in-loop-step.ensures.new_past l next.new_place;
-      written = whole_more c.loop-step.step.k c.next_step-step-in-loop-step.result.k (put_number (basic_in c.args.standing.now) c.args.i c.args.j c.args.f (to_z w64 (of_z w64 c.args.x)) c.args.row.now c.args.new.now) (to_z w128 (of_z w128 c.number_put-z.result)) c.loop-step.sums.items c.keep_sum.new.sums.items next.order c.loop-step.invariant.written c.in_ok-keep_sum.ensures.kept (kept ∙ z)
-          (λ m a b. put_none (basic_in c.args.standing.now) c.args.i c.args.j c.args.f (to_z w64 (of_z w64 c.args.x)) c.args.row.now c.args.new.now m (none_over 1 c.args.row.now m (lit< tt) (next.row_none m a b)) (none_over 1 c.args.new.now m (lit< tt) (next.new_none m a b)));
-      wide = c.in_ok-keep_sum.ensures.wide c.loop-step.invariant.wide;
+      written = whole_more c.loop-step.step.k c.next_step-step-in-loop-step.result.k (put_number (basic_in c.args.pivot.now.standing.now) c.args.pivot.now.leaving c.args.pivot.now.entering c.args.factors.own c.args.factors.new c.args.row.now c.args.new.now) (to_z w128 (of_z w128 c.substituted_number-z.result)) c.loop-step.sums.items c.keep_sum.new.sums.items next.order c.loop-step.invariant.written c.in_ok-keep_sum.ensures.kept (kept ∙ z)
+          (λ m a b. put_none (basic_in c.args.pivot.now.standing.now) c.args.pivot.now.leaving c.args.pivot.now.entering c.args.factors.own c.args.factors.new c.args.row.now c.args.new.now m (none_over 1 c.args.row.now m (lit< tt) (next.row_none m a b)) (none_over 1 c.args.new.now m (lit< tt) (next.new_none m a b)));
+      wide = c.in_ok-keep_sum.ensures.below (2 ^ 86) (rw kept c.substituted_number-z.ensures.small) c.loop-step.invariant.wide;
     }
+
+pub returns-in_err-keep_sum-clause-wide : goal.returns-in_err-keep_sum-clause-wide
+returns-in_err-keep_sum-clause-wide c =
+    let kept : to_z w128 (of_z w128 c.substituted_number-z.result) ≡ c.substituted_number-z.result = omega (arith, ints, c.substituted_number-z.ensures.small) in
+    c.in_err-keep_sum.ensures.below (2 ^ 86) (rw kept c.substituted_number-z.ensures.small) c.loop-step.invariant.wide

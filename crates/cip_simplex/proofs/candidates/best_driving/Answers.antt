@@ -11,14 +11,14 @@ loop-at-init c = driving_begun c.args.dict.now (entry c.args.dict.now c.args.i) 
 pub may_go-requires : goal.may_go-requires
 may_go-requires c = sign_below c.args.dict.now (entry c.args.dict.now c.args.i) c.args.heading c.loop-at.at c.row_sign-k.result.0 c.row_sign-k.result.1 (omega arith) c.row_sign-k.ensures.variable c.row_sign-k.ensures.above
 
-pub entering-requires-clause-within : goal.entering-requires-clause-within
-entering-requires-clause-within c = sign_below c.args.dict.now (entry c.args.dict.now c.args.i) c.args.heading c.loop-at.at c.row_sign-k.result.0 c.row_sign-k.result.1 (omega arith) c.row_sign-k.ensures.variable c.row_sign-k.ensures.above
+pub entering_candidate-requires-clause-within : goal.entering_candidate-requires-clause-within
+entering_candidate-requires-clause-within c = sign_below c.args.dict.now (entry c.args.dict.now c.args.i) c.args.heading c.loop-at.at c.row_sign-k.result.0 c.row_sign-k.result.1 (omega arith) c.row_sign-k.ensures.variable c.row_sign-k.ensures.above
 
 pub loop-at-preserved-then-not-may_go : goal.loop-at-preserved-then-not-may_go
 loop-at-preserved-then-not-may_go c = sign_less c.args.dict.now (entry c.args.dict.now c.args.i) c.args.heading c.loop-at.at c.row_sign-k.result.0 c.row_sign-k.result.1 (omega arith) c.row_sign-k.ensures.variable c.row_sign-k.ensures.above c.loop-at.best c.loop-at.invariant (sym (c.may_go.ensures ∙ ap (may_go c.args.dict.now c.row_sign-k.result.0) c.heading_if.ensures) ∙ c.if-not-may_go.true)
 
 pub loop-at-preserved : goal.loop-at-preserved
-loop-at-preserved c = sign_more c.args.dict.now (entry c.args.dict.now c.args.i) c.args.heading c.loop-at.at c.row_sign-k.result.0 c.row_sign-k.result.1 (omega arith) c.row_sign-k.ensures.variable c.row_sign-k.ensures.above c.loop-at.best c.entering.result c.better.result c.loop-at.invariant (sym (c.may_go.ensures ∙ ap (may_go c.args.dict.now c.row_sign-k.result.0) c.heading_if.ensures) ∙ c.if-not-may_go.false) c.entering.ensures c.better.ensures
+loop-at-preserved c = sign_more c.args.dict.now (entry c.args.dict.now c.args.i) c.args.heading c.loop-at.at c.row_sign-k.result.0 c.row_sign-k.result.1 (omega arith) c.row_sign-k.ensures.variable c.row_sign-k.ensures.above c.loop-at.best c.entering_candidate.result c.better_of.result c.loop-at.invariant (sym (c.may_go.ensures ∙ ap (may_go c.args.dict.now c.row_sign-k.result.0) c.heading_if.ensures) ∙ c.if-not-may_go.false) c.entering_candidate.ensures c.better_of.ensures
 
 pub returns : goal.returns
 returns c = picked c.args.dict.now (drives c.args.dict.now (entry c.args.dict.now c.args.i) c.args.heading) (size c.args.dict.now) c.loop-at.best c.variable_of.result refl (driving_ended c.args.dict.now (entry c.args.dict.now c.args.i) c.args.heading c.loop-at.at c.loop-at.best (omega arith) c.loop-at.invariant) c.variable_of.ensures

@@ -16,7 +16,7 @@ pub loop-at-preserved-then-not-may_go : goal.loop-at-preserved-then-not-may_go
 loop-at-preserved-then-not-may_go c = sign_less c.args.dict.now (cost_entry c.args.dict.now) Down c.loop-at.at c.cost_sign-k.result.0 c.cost_sign-k.result.1 (omega arith) c.cost_sign-k.ensures.variable c.cost_sign-k.ensures.above c.loop-at.best c.loop-at.invariant (sym (c.may_go.ensures ∙ ap (may_go c.args.dict.now c.cost_sign-k.result.0) c.heading_if.ensures) ∙ c.if-not-may_go.true)
 
 pub loop-at-preserved : goal.loop-at-preserved
-loop-at-preserved c = sign_more c.args.dict.now (cost_entry c.args.dict.now) Down c.loop-at.at c.cost_sign-k.result.0 c.cost_sign-k.result.1 (omega arith) c.cost_sign-k.ensures.variable c.cost_sign-k.ensures.above c.loop-at.best c.lowering.result c.better.result c.loop-at.invariant (sym (c.may_go.ensures ∙ ap (may_go c.args.dict.now c.cost_sign-k.result.0) c.heading_if.ensures) ∙ c.if-not-may_go.false) c.lowering.ensures c.better.ensures
+loop-at-preserved c = sign_more c.args.dict.now (cost_entry c.args.dict.now) Down c.loop-at.at c.cost_sign-k.result.0 c.cost_sign-k.result.1 (omega arith) c.cost_sign-k.ensures.variable c.cost_sign-k.ensures.above c.loop-at.best c.lowering_candidate.result c.better_of.result c.loop-at.invariant (sym (c.may_go.ensures ∙ ap (may_go c.args.dict.now c.cost_sign-k.result.0) c.heading_if.ensures) ∙ c.if-not-may_go.false) c.lowering_candidate.ensures c.better_of.ensures
 
 pub returns : goal.returns
 returns c = picked c.args.dict.now (drives c.args.dict.now (cost_entry c.args.dict.now) Down) (size c.args.dict.now) c.loop-at.best c.variable_of.result refl (driving_ended c.args.dict.now (cost_entry c.args.dict.now) Down c.loop-at.at c.loop-at.best (omega arith) c.loop-at.invariant) c.variable_of.ensures

@@ -7,7 +7,7 @@ pub loop-v-preserved-then-not-is_outside : goal.loop-v-preserved-then-not-is_out
 loop-v-preserved-then-not-is_outside c = found_less (is_outside c.args.dict.now) c.loop-v.v c.loop-v.worst c.loop-v.invariant (sym c.is_outside.ensures ∙ c.if-not-is_outside.true)
 
 pub loop-v-preserved : goal.loop-v-preserved
-loop-v-preserved c = found_more (is_outside c.args.dict.now) c.loop-v.v c.loop-v.worst (Some c.leaving.result) (Some c.better.result) c.loop-v.invariant (c.leaving.ensures, sym c.is_outside.ensures ∙ c.if-not-is_outside.false) c.better.ensures
+loop-v-preserved c = found_more (is_outside c.args.dict.now) c.loop-v.v c.loop-v.worst (Some c.leaving_candidate.result) (Some c.better_of.result) c.loop-v.invariant (c.leaving_candidate.ensures, sym c.is_outside.ensures ∙ c.if-not-is_outside.false) c.better_of.ensures
 
 pub returns : goal.returns
 returns c = picked c.args.dict.now (is_outside c.args.dict.now) c.loop-v.v c.loop-v.worst c.variable_of.result (omega arith) c.loop-v.invariant c.variable_of.ensures

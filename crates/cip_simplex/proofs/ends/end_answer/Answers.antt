@@ -11,7 +11,7 @@ row_combo-requires-clause-basic c =
     let h = rw c.in-Infeasible.is at c.requires.is_end in
     outside_basic c.args.dict.now c.in-Infeasible.i h.outside.passes
 
-pub unbounded-requires-clause-entering : goal.unbounded-requires-clause-entering
-unbounded-requires-clause-entering c =
+pub ray_answer-requires-clause-entering : goal.ray_answer-requires-clause-entering
+ray_answer-requires-clause-entering c =
     let h = rw c.in-Ray.is at c.requires.is_end in
     h.improving.within

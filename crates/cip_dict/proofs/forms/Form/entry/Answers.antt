@@ -1,5 +1,4 @@
-use Rattle.std.proofs.Common.{◌≡◌, to_z, of_z, sym, ap, ◌∙◌}
-use Rattle.std.specs.Int.{w64}
+use Rattle.std.proofs.Common.{◌≡◌, sym, ap, ◌∙◌}
 use Rattle.cip_rational.specs.Rational.{ratio}
 use Rattle.cip_dict.specs.WholeLines.{number_on}
 use Rattle.cip_dict.proofs.Dense.{dense_read}

@@ -1,4 +1,4 @@
-use Rattle.std.proofs.Common.{◌≡◌, ◌<◌, ◌∙◌, List, ap, subst, sym, length, get_or, arith}
+use Rattle.std.proofs.Common.{◌∙◌, List, ap, length, get_or, arith}
 use Rattle.cip_dict.specs.SparseLines.{Kept}
 use Rattle.cip_dict.specs.WholeLines.{over}
 use Rattle.cip_dict.proofs.FormParts.{whole_all, parted_all}

@@ -1,6 +1,4 @@
-use Rattle.std.proofs.Common.{◌≡◌, ap, length, sym, arith}
-use Rattle.cip_problem.specs.Activity.{value_at}
-use Rattle.cip_dict.specs.SparseLines.{kept_of}
+use Rattle.std.proofs.Common.{ap, length, arith}
 use Rattle.cip_dict.proofs.FormParts.{whole_all, parted_all}
 use Rattle.cip_dict.proofs.WholeParts.{length_over}
 use Rattle.cip_dict.proofs.forms.Form.kept_len.Goals as goal

@@ -1,7 +1,6 @@
-use Rattle.std.proofs.Common.{◌≡◌, ℕ, List, length, refl, sym, ap, ◌∙◌, subst}
-use Rattle.cip_dict.specs.SparseLines.{Kept, AreKept, dense}
-use Rattle.cip_dict.specs.WholeLines.{over, IsSpelled}
-use Rattle.cip_dict.proofs.Dense.{dense_len, on_ok}
+use Rattle.std.proofs.Common.{ap, ◌∙◌}
+use Rattle.cip_dict.specs.WholeLines.{over}
+use Rattle.cip_dict.proofs.Dense.{on_ok}
 use Rattle.cip_dict.proofs.FormParts.{whole_kept, whole_view, parted_kept, parted_view, spelled_as}
 use Rattle.cip_dict.proofs.forms.Form.spell.Goals as goal
 

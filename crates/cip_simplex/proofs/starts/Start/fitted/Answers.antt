@@ -8,7 +8,7 @@ pub loop-v-init : goal.loop-v-init
 loop-v-init c = c.in_ok-standing.ensures.items ∙ table_none _
 
 pub loop-v-preserved : goal.loop-v-preserved
-loop-v-preserved c = c.in_ok-push.ensures.items ∙ ap₂ (λ xs x. xs ++ x ∷ []) c.loop-v.invariant c.wish.ensures ∙ sym (table_more c.loop-v.v _)
+loop-v-preserved c = c.in_ok-push.ensures.items ∙ ap₂ (λ xs x. xs ++ x ∷ []) c.loop-v.invariant c.wished_stand.ensures ∙ sym (table_more c.loop-v.v _)
 
 pub returns-clause-long : goal.returns-clause-long
 returns-clause-long c =

@@ -3,7 +3,7 @@ use Rattle.std.specs.Int.{w64, w128}
 use Rattle.std.proofs.lemmas.Int.{ints}
 use Rattle.cip_frac.specs.FractionFault.{quotient_of}
 use Rattle.cip_dict.proofs.WholeParts.{quotient_ratio}
-use Rattle.cip_dict.proofs.moved.lowest.Goals as goal
+use Rattle.cip_dict.proofs.moved.quotient.Goals as goal
 
 pub returns-in-Ok : goal.returns-in-Ok
 returns-in-Ok c =

@@ -1,6 +1,6 @@
 use Rattle.std.proofs.Common.{◌∙◌, ◌++◌, ◌∷◌, [], sym, ap₂}
 use Rattle.cip_dict.proofs.Grown.{table_none, table_more}
-use Rattle.cip_dict.proofs.first.stands.Goals as goal
+use Rattle.cip_dict.proofs.first.first_stands.Goals as goal
 
 pub loop-v-init : goal.loop-v-init
 loop-v-init c = c.stands-standing.ensures ∙ table_none _

@@ -4,7 +4,7 @@ use Rattle.cip_dictionary.specs.Tables.{table}
 use Rattle.cip_dict.specs.Row.{row_length}
 use Rattle.cip_dict.proofs.Begun.{begun_count, begun_long, filled}
 use Rattle.cip_dict.proofs.RowLists.{written_back}
-use Rattle.cip_dict.proofs.first.filled_rows.Goals as goal
+use Rattle.cip_dict.proofs.first.first_rows.Goals as goal
 
 pub put_entries-requires-clause-count : goal.put_entries-requires-clause-count
 put_entries-requires-clause-count c =

@@ -3,7 +3,7 @@ use Rattle.cip_rational.specs.Rational.{zeroℚ}
 use Rattle.cip_dict.specs.WholeLines.{Whole, over}
 use Rattle.cip_dict.proofs.Places.{place_hit, place_miss}
 use Rattle.cip_dict.proofs.WholeParts.{number_hit, number_miss, read_small, yes_over, no_over, length_over}
-use Rattle.cip_dict.proofs.whole.taken.Goals as goal
+use Rattle.cip_dict.proofs.whole.take_number.Goals as goal
 
 pub returns-then-head-k-clause-value : goal.returns-then-head-k-clause-value
 returns-then-head-k-clause-value c =

@@ -6,7 +6,7 @@ use Rattle.cip_dictionary.proofs.Zeros.{is_zero_false}
 use Rattle.cip_dict.specs.Lists.{entry_in}
 use Rattle.cip_dict.specs.Row.{row_in}
 use Rattle.cip_dict.proofs.RowLists.{row_read}
-use Rattle.cip_dict.proofs.exchange.pivot_of.Goals as goal
+use Rattle.cip_dict.proofs.exchange.inverse_of.Goals as goal
 
 pub returns-clause-nonzero : goal.returns-clause-nonzero
 returns-clause-nonzero c =
