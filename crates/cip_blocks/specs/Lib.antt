@@ -1,3 +1,4 @@
+pub mod BlockKindTexts
 pub mod BlockKinds
 pub mod BlockReaders
 pub mod BlockTexts

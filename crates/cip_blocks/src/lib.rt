@@ -5,6 +5,7 @@ mod block_text;
 mod block_words;
 mod ending;
 mod faults;
+mod kinds;
 mod laws;
 mod owners;
 mod reader;
@@ -12,7 +13,8 @@ mod whole_text;
 mod word_places;
 mod words;
 
-pub use faults::{BlockFault, BlockKind, ReadFault};
+pub use faults::{BlockFault, ReadFault};
+pub use kinds::BlockKind;
 pub use laws::known_block_faults_stay;
 pub use reader::BlockReader;
 pub use whole_text::read_blocks;

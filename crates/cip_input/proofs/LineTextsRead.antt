@@ -1,4 +1,4 @@
--- What a text of points or of blocks comes to of which as much was read as is looked at.
+-- What a text comes to of which as much was read as is looked at.
 use Rattle.std.specs.Prelude.{◌≡◌, ℕ, ◌≤◌, ◌<◌, nat_le, Bool, true, false, List, Option, None, Some, IfSome, option_map, take, drop, length, refl, if◌then◌else◌}
 use Rattle.std.proofs.Common.{sym, ap, ◌∙◌, subst, arith}
 use Rattle.std.proofs.lemmas.Bool.{leb-true, leb-false}
@@ -39,14 +39,14 @@ same_outcome r text bytes e = short_or_long r text bytes e (nat_le (length text)
 
 -- ---- what the start says of the text, where that is told
 
-text_told : {K I X : Type 0} (r : Reading K I X) (text : Option (List ℕ)) (bytes : List ℕ) (value : X) → IfSome text (λ all. take most_pulled all ≡ bytes) → HasResult r bytes value → IfSome text (λ all. all ≡ bytes)
+pub text_told : {K I X : Type 0} (r : Reading K I X) (text : Option (List ℕ)) (bytes : List ℕ) (value : X) → IfSome text (λ all. take most_pulled all ≡ bytes) → HasResult r bytes value → IfSome text (λ all. all ≡ bytes)
 text_told r None bytes value h p = tt
 text_told r (Some all) bytes value h p =
     let all_has : HasResult r all value = record { means = same_outcome r all bytes h ∙ p.means } in
     let short : length all ≤ longest_text = (described r all value all_has).short in
     sym (take_all most_pulled all (omega (arith, short))) ∙ h
 
-fault_told : {K I X : Type 0} (r : Reading K I X) (text : Option (List ℕ)) (bytes : List ℕ) (line kind : ℕ) → IfSome text (λ all. take most_pulled all ≡ bytes) → HasFault r bytes line kind → IfSome text (λ all. HasFault r all line kind)
+pub fault_told : {K I X : Type 0} (r : Reading K I X) (text : Option (List ℕ)) (bytes : List ℕ) (line kind : ℕ) → IfSome text (λ all. take most_pulled all ≡ bytes) → HasFault r bytes line kind → IfSome text (λ all. HasFault r all line kind)
 fault_told r None bytes line kind h p = tt
 fault_told r (Some all) bytes line kind h p = record { faulty = same_outcome r all bytes h ∙ p.faulty }
 

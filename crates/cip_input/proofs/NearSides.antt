@@ -7,14 +7,17 @@ use Rattle.std.proofs.lemmas.Bool.{cond_both}
 use Rattle.std.proofs.lemmas.List.Elements.{All-map}
 use Rattle.cip_rational.specs.Rational.{ℚ, integer, absolute, ratio, whole, negate, zeroℚ, oneℚ, ◌<ℚ◌, le_test, lt_test}
 use Rattle.cip_rational.proofs.Rational.Order.{lt_of_le_test}
-use Rattle.cip_syntax.specs.Lines.{Record, Section, Entry, lines}
+use Rattle.cip_problem.specs.Program.{Program}
+use Rattle.cip_syntax.specs.Lines.{Record, Section, Entry}
 use Rattle.cip_number_text.specs.Numeral.{Numeral, Exact, NotANumber, Huge, TooFine, value_of, numeral_of, is_minus}
 use Rattle.cip_mps_rules.specs.MpsWords.{Part, NoPart, Title, Sense, Rows, Columns, RightSides, Ranges, Bounds, End, BoundKind, Low, High, Fixed, WholeLow, WholeHigh, Unbounded, NoLow, NoHigh, Binary, SemiContinuous, section_of, bound_kind_of, has_value, marker_of, is_infinity, is_negative, near_or_huge, bound_number}
-use Rattle.cip_mps_rules.specs.MpsSayings.{Saying, Skipped, Misplaced, ColumnLine, RightSideLine, RangeLine, BoundLine, Place, opening, section_said, sense_said, row_said, one_value, two_values, is_marker, marker_said, column_said, of_set, right_side_said, range_said, no_value, valued_bound, plain_bound, typed_bound, bound_said, fields_said, said, place_after, Numbered, records_from, Said, sayings_from, no_place}
-use Rattle.cip_mps_rules.specs.MpsFacts.{GivenColumn, GivenBound, Facts, no_facts, facts_with, bounds_in}
+use Rattle.cip_mps_rules.specs.MpsSayings.{Saying, Skipped, Misplaced, ColumnLine, RightSideLine, RangeLine, BoundLine, Place, opening, section_said, sense_said, row_said, one_value, two_values, is_marker, marker_said, column_said, of_set, right_side_said, range_said, no_value, valued_bound, plain_bound, typed_bound, bound_said, fields_said, said}
+use Rattle.cip_mps_rules.specs.MpsFacts.{GivenColumn, GivenBound, Facts, facts_with, bounds_in}
 use Rattle.cip_mps_rules.specs.MpsBounds.{Bounded, unbounded, with_bound, bounded_by, settled, bounds_of, all_bounds, column_sides}
 use Rattle.cip_mps_rules.specs.MpsProgram.{program_of}
-use Rattle.cip_mps_rules.specs.MpsStatements.{facts_after}
+use Rattle.cip_mps_rules.specs.MpsOutcome.{Context, said_in, HasProgram}
+use Rattle.cip_mps_rules.proofs.Quiet.{Keeps}
+use Rattle.cip_mps_rules.proofs.Outcomes.{of_program}
 use Rattle.cip_mps_steps.specs.MpsStepStatements.{is_far_value, ValuesAreTested}
 use Rattle.cip_problem.specs.NearSides.{IsNear, HasNearSides}
 
@@ -142,25 +145,15 @@ said_near : (v : ValuesAreTested) (place : Place) (content : Record) → Near (s
 said_near v place (Section words) = section_near words
 said_near v place (Entry words) = fields_near v place.part place words
 
-sayings_near : (v : ValuesAreTested) (place : Place) (records : List Numbered) → AllByRecursion (λ (now : Said). Near now.saying) (sayings_from place records)
-sayings_near v place [] = tt
-sayings_near v place (r ∷ rs) = (said_near v place r.content, sayings_near v (place_after place (said place r.content)) rs)
-
 -- ---- the facts
-
-all_front : {X : Type 0} (P : X → Type 0) (xs ys : List X) → AllByRecursion P (xs ++ ys) → AllByRecursion P xs
-all_front P [] ys h = tt
-all_front P (x ∷ xs) ys h = (h.0, all_front P xs ys h.1)
 
 all_both : {X : Type 0} (P : X → Type 0) (xs ys : List X) → AllByRecursion P xs → AllByRecursion P ys → AllByRecursion P (xs ++ ys)
 all_both P [] ys h k = k
 all_both P (x ∷ xs) ys h k = (h.0, all_both P xs ys h.1 k)
 
-near_after : (said : List Said) (facts : Facts) → AreNear facts.bounds → AllByRecursion (λ (now : Said). Near now.saying) said → AreNear (facts_after facts said).bounds
-near_after [] facts h s = h
-near_after (now ∷ others) facts h s =
-    near_after others (facts_with facts now.saying)
-    (all_both (λ (bound : GivenBound). IsNear (value_of bound.value)) facts.bounds (bounds_in now.saying) h s.0) s.1
+near_with : (v : ValuesAreTested) (context : Context) (content : Record) → Keeps context.facts (said_in context content) → AreNear context.facts.bounds → AreNear (facts_with context.facts (said_in context content)).bounds
+near_with v context content k h =
+    all_both (λ (bound : GivenBound). IsNear (value_of bound.value)) context.facts.bounds (bounds_in (said_in context content)) h (said_near v context.place content)
 
 -- ---- the sides of a column
 
@@ -205,11 +198,10 @@ column_near_of facts column h =
 
 -- ---- the program
 
-pub sides_near : (v : ValuesAreTested) (text : List ℕ) (before : List Said) (now : Said) (after : List Said) → sayings_from no_place (records_from 1 (lines text)) ≡ before ++ now ∷ after → All HasNearSides (program_of (facts_after no_facts before)).bounds
-sides_near v text before now after e =
-    let all = sayings_near v no_place (records_from 1 (lines text)) in
-    let front = all_front (λ (now : Said). Near now.saying) before (now ∷ after) (subst (AllByRecursion (λ (now : Said). Near now.saying)) e all) in
-    let near : AreNear (facts_after no_facts before).bounds = near_after before no_facts tt front in
-    let facts = facts_after no_facts before in
+facts_near : (facts : Facts) → AreNear facts.bounds → All HasNearSides (program_of facts).bounds
+facts_near facts near =
     All-map HasNearSides column_sides (all_bounds facts)
     (All-map (λ (b : Bounded). HasNearSides (column_sides b)) (bounds_of facts) facts.columns (λ k d l. column_near_of facts _ near))
+
+pub sides_near : (v : ValuesAreTested) (text : List ℕ) (program : Program) → HasProgram text program → All HasNearSides program.bounds
+sides_near v = of_program (λ facts. AreNear facts.bounds) (near_with v) tt (λ (program : Program). All HasNearSides program.bounds) facts_near

@@ -2,14 +2,13 @@
 // The function does nothing. Its contract is a law of the definitions, so that the check proves it.
 ghost use Rattle.cip_input.specs.LimitedModels.{ProgramsAreLimited};
 
-use cip_mps_rules::texts::{programs_are_described, programs_are_well_formed};
+use cip_mps_rules::texts::programs_are_well_formed;
 use cip_mps_steps::values_are_tested;
 
 /// The program of a text is well-formed, and each side of a column that is there has a size below 10^20.
 pub fn programs_are_limited()
     ensures { ProgramsAreLimited }
 {
-    programs_are_described();
     programs_are_well_formed();
     values_are_tested();
 }

@@ -1,5 +1,5 @@
 -- What is kept of a text stands for its stream, behind bytes, line feeds and the end.
-use Rattle.std.proofs.Common.{◌≡◌, ℕ, zero, suc, ◌+◌, ◌-◌, ◌<◌, ◌≤◌, ◌==◌, Bool, true, false, cond, ◌&&◌, ◌||◌, List, [], ◌∷◌, ◌++◌, length, take, Option, None, Some, refl, sym, ap, subst, ◌∙◌, arith}
+use Rattle.std.proofs.Common.{◌≡◌, ◌≢◌, ℕ, zero, suc, ◌+◌, ◌-◌, ◌<◌, ◌≤◌, ◌==◌, Bool, true, false, cond, ◌&&◌, ◌||◌, List, [], ◌∷◌, ◌++◌, length, take, Option, None, Some, refl, sym, ap, subst, ◌∙◌, arith}
 use Rattle.std.specs.Prelude.{fold, nat_le, nat_lt, is_none, option_map, IfSome}
 use Rattle.std.specs.List.{count_by, list_any}
 use Rattle.std.proofs.lemmas.List.{append-nil, append_assoc}
@@ -13,10 +13,10 @@ use Rattle.cip_line_texts.specs.LineStream as plain
 use Rattle.cip_line_texts.proofs.LineBytes.{failed_items}
 use Rattle.cip_line_stream.specs.declared.faults.KnownFault.{KnownFault}
 use Rattle.cip_line_stream.specs.PieceFaults.{line_fault, first_fault, stays, fault_when_long, has_kind_to}
-use Rattle.cip_line_stream.specs.PieceCuts.{Cut, no_bytes, with_bytes, with_feed, known_fault, last_line, end_fault}
+use Rattle.cip_line_stream.specs.PieceCuts.{Cut, no_bytes, with_bytes, with_tail, with_feed, known_fault, last_line, end_fault}
 use Rattle.cip_line_stream.specs.PieceStands.{progress_of, progress_after, StandsAt, IsRead, IsLastRead, outcome_with}
 use Rattle.cip_line_stream.specs.EndedFaults.{lines_ended, IsKnownFault, KnownFaultsStay}
-use Rattle.cip_line_stream.proofs.OneLine.{left_none, right_none}
+use Rattle.cip_text.proofs.OneLine.{left_none, right_none}
 
 -- ---- bytes without line feed
 
@@ -322,32 +322,32 @@ first_to most line None None h k = refl
 first_to most line None (Some kind) h k = kind_to most kind k.0 k.1
 first_to most line (Some f) kind h k = h
 
-long_to : (long last : ℕ) (f : Option KnownFault) → 0 < long → has_kind_to long f ≡ true → has_kind_to long (Some (fault_when_long long last f)) ≡ true
-long_to long last None some h = kind_to long long some (omega arith)
-long_to long last (Some f) some h = go (stays long last f)
+long_to : (most long last : ℕ) (f : Option KnownFault) → 0 < long → long ≤ most → has_kind_to most f ≡ true → has_kind_to most (Some (fault_when_long long last f)) ≡ true
+long_to most long last None some few h = kind_to most long some few
+long_to most long last (Some f) some few h = go (stays long last f)
   where
-    go : (b : Bool) → has_kind_to long (Some (cond b f (record { line = last; kind = long }))) ≡ true
+    go : (b : Bool) → has_kind_to most (Some (cond b f (record { line = last; kind = long }))) ≡ true
     go true = h
-    go false = kind_to long long some (omega arith)
+    go false = kind_to most long some few
 
 -- the fault that is known
-pub known_to : (long : ℕ) (cut : Cut) → 0 < long → has_kind_to long cut.fault ≡ true → has_kind_to long (known_fault long cut) ≡ true
-known_to long cut some h = go (nat_le cut.size longest_text || cut.filled)
+pub known_to : (most long : ℕ) (cut : Cut) → 0 < long → long ≤ most → has_kind_to most cut.fault ≡ true → has_kind_to most (known_fault long cut) ≡ true
+known_to most long cut some few h = go (nat_le cut.size longest_text || cut.filled)
   where
-    go : (b : Bool) → has_kind_to long (cond b cut.fault (Some (fault_when_long long cut.ended cut.fault))) ≡ true
+    go : (b : Bool) → has_kind_to most (cond b cut.fault (Some (fault_when_long long cut.ended cut.fault))) ≡ true
     go true = h
-    go false = long_to long cut.ended cut.fault some h
+    go false = long_to most long cut.ended cut.fault some few h
 
 -- the fault at the end
-pub end_to : (long : ℕ) (cut : Cut) (last_kind end_kind : Option ℕ) → 0 < long → has_kind_to long cut.fault ≡ true → IfSome last_kind (λ k. (0 < k) × (k ≤ long)) → IfSome end_kind (λ k. (0 < k) × (k ≤ long)) → has_kind_to long (end_fault long cut last_kind end_kind) ≡ true
-end_to long cut last_kind end_kind some h a b = go (nat_le cut.size longest_text)
+pub end_to : (most long : ℕ) (cut : Cut) (last_kind end_kind : Option ℕ) → 0 < long → long ≤ most → has_kind_to most cut.fault ≡ true → IfSome last_kind (λ k. (0 < k) × (k ≤ most)) → IfSome end_kind (λ k. (0 < k) × (k ≤ most)) → has_kind_to most (end_fault long cut last_kind end_kind) ≡ true
+end_to most long cut last_kind end_kind some few h a b = go (nat_le cut.size longest_text)
   where
     f : Option KnownFault
     f = first_fault cut.fault (cut.ended + 1) last_kind
 
-    go : (t : Bool) → has_kind_to long (cond t (first_fault f (last_line cut + 1) end_kind) (Some (fault_when_long long (last_line cut) f))) ≡ true
-    go true = first_to long (last_line cut + 1) f end_kind (first_to long (cut.ended + 1) cut.fault last_kind h a) b
-    go false = long_to long (last_line cut) f some (first_to long (cut.ended + 1) cut.fault last_kind h a)
+    go : (t : Bool) → has_kind_to most (cond t (first_fault f (last_line cut + 1) end_kind) (Some (fault_when_long long (last_line cut) f))) ≡ true
+    go true = first_to most (last_line cut + 1) f end_kind (first_to most (cut.ended + 1) cut.fault last_kind h a) b
+    go false = long_to most long (last_line cut) f some few (first_to most (cut.ended + 1) cut.fault last_kind h a)
 
 -- the kind of a fault in range
 pub some_kind : (most : ℕ) (f : KnownFault) → has_kind_to most (Some f) ≡ true → 0 < f.kind
@@ -401,3 +401,30 @@ ends_with reading steps law text cut read_cut known after kind end_kind fault h 
 -- before the first byte
 pub first_stands : {K I X : Type 0} (r : Reading K I X) (cut : Cut) (known : K) → cut ≡ no_bytes → known ≡ r.start → StandsAt cut known (no_stream r)
 first_stands r cut known e f = subst (λ (c : Cut). StandsAt c known (no_stream r)) (sym e) (record { progress = ap Going (sym f); ended = refl; filled = refl; line = λ none. refl; size = refl })
+
+-- ---- lines whose last bytes aren't kept
+
+-- a line that was joined to what was kept of it
+pub joined_read : {K I X : Type 0} (r : Reading K I X) (cut joined : Cut) (known after : K) (kind : Option ℕ) (tail : List ℕ) → joined ≡ with_tail cut tail → IsRead r joined known after kind → IsRead r (with_bytes cut tail) known after kind
+joined_read r cut joined known after kind tail e told = λ none.
+    ap (line_read r (Going known) (cut.ended + 1)) (ap (λ f. cond (is_none f) (cut.line ++ tail) cut.line) none)
+    ∙ subst (λ (c : Cut). IsRead r c known after kind) e told none
+
+-- a line of which nothing was kept
+pub alone_read : {K I X : Type 0} (r : Reading K I X) (cut : Cut) (known after : K) (kind : Option ℕ) (tail : List ℕ) → is_filled cut.line ≡ false → ((number : ℕ) → line_read r (Going known) number tail ≡ progress_after number kind after) → IsRead r (with_bytes cut tail) known after kind
+alone_read r cut known after kind tail e told = λ none.
+    ap (line_read r (Going known) (cut.ended + 1)) (ap (λ f. cond (is_none f) (cut.line ++ tail) cut.line) none ∙ ap (λ line. line ++ tail) (nothing cut.line e))
+    ∙ told (cut.ended + 1)
+  where
+    nothing : (line : List ℕ) → is_filled line ≡ false → line ≡ []
+    nothing [] e = refl
+    nothing (byte ∷ bytes) e = absurd (cc)
+
+-- a line that isn't read, behind a fault
+pub fault_read : {K I X : Type 0} (r : Reading K I X) (cut : Cut) (known after : K) (kind : Option ℕ) (tail : List ℕ) → cut.fault ≢ None → IsRead r (with_bytes cut tail) known after kind
+fault_read r cut known after kind tail some = λ none. absurd (some none)
+
+-- a line that these bytes and a line feed end, by the cut behind it
+pub line_ended_with : {K I X : Type 0} (r : Reading K I X) (cut ended_cut : Cut) (known after : K) (kind : Option ℕ) (s : Stream K) (tail : List ℕ) → list_any is_line_feed tail ≡ false → StandsAt cut known s → IsRead r (with_bytes cut tail) known after kind → ended_cut ≡ with_feed (with_bytes cut tail) kind → StandsAt ended_cut after (fold (byte_read r) s (tail ++ 10 ∷ []))
+line_ended_with r cut ended_cut known after kind s tail none h told e =
+    line_ended r cut (with_bytes cut tail) (with_bytes cut tail) ended_cut known after kind s tail none h refl told refl e

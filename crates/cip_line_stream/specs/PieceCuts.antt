@@ -40,6 +40,16 @@ with_bytes cut bytes = record {
   size = cut.size + length bytes;
 }
 
+-- with the last bytes of the line that hasn't ended kept, before they count
+abbrev pub with_tail : Cut → List ℕ → Cut
+with_tail cut bytes = record {
+  fault = cut.fault;
+  ended = cut.ended;
+  filled = cut.filled;
+  line = cut.line ++ bytes;
+  size = cut.size;
+}
+
 -- with the line feed of a line that has a fault of this kind, or none
 abbrev pub with_feed : Cut → Option ℕ → Cut
 with_feed cut kind = record {

@@ -2,19 +2,10 @@
 ghost use Rattle.std.specs.Prelude.{◌≡◌, false, option_map};
 ghost use Rattle.std.specs.List.{list_any};
 ghost use Rattle.cip_syntax.specs.Lines as text;
-ghost use Rattle.cip_text.specs.TextLines.{content_of, fields_left};
+ghost use Rattle.cip_text.specs.TextLines.{fields_left};
 ghost use Rattle.cip_line_texts.specs.LineTexts.{words_in};
 
-use cip_text::{Fields, TextLine, lines};
-
-/// The record of a line without line feed.
-fn record_of(line: &[u8], comment: u8) -> Option<TextLine<'_>>
-    requires { list_any text.is_line_feed line.now ≡ false }
-    ensures { option_map content_of result ≡ text.record_of comment line.now }
-{
-    let mut records = lines(line, comment);
-    records.next_line()
-}
+use cip_text::{Fields, record_of};
 
 /// The fields of a line without line feed; none where the line is empty, of blanks alone, or where its first byte is
 /// `comment`.

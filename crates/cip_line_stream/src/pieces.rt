@@ -2,7 +2,7 @@
 ghost use Rattle.std.specs.Prelude.{◌≡◌, ◌≢◌, ◌+◌, ◌-◌, ◌≤◌, length, take, false, MatchOption, IfSome, OnOk};
 ghost use Rattle.std.specs.List.{list_any};
 ghost use Rattle.cip_problem.specs.Limits.{longest_text};
-ghost use Rattle.cip_syntax.specs.Lines.{is_line_feed};
+ghost use Rattle.cip_syntax.specs.Lines.{is_line_feed, is_filled};
 
 use crate::faults::{KnownFault, fault_when_long, first_fault};
 use std::alloc::{AllocError, Global};
@@ -25,7 +25,7 @@ pub struct Pieces {
 }
 
 impl Pieces {
-    ghost use Rattle.cip_line_stream.specs.PieceCuts.{no_bytes, cut_of, with_bytes, with_feed, known_fault, end_fault};
+    ghost use Rattle.cip_line_stream.specs.PieceCuts.{no_bytes, cut_of, with_bytes, with_tail, with_feed, known_fault, end_fault};
 
     /// Before the first byte.
     pub fn new(alloc: Global) -> Pieces
@@ -79,6 +79,22 @@ impl Pieces {
         }
     }
 
+    /// Whether bytes of the line that has not ended are kept.
+    pub fn has_bytes(&self) -> bool
+        ensures { result ≡ is_filled (cut_of self.now).line }
+    {
+        !self.line.is_empty()
+    }
+
+    /// Keeps the last bytes of the line that has not ended. They count once the line ends (`end_line_with`).
+    pub fn join(&mut self, tail: &[u8]) -> Result<(), AllocError>
+        requires { list_any is_line_feed tail.now ≡ false }
+        ensures joined { OnOk result (cut_of self.new ≡ with_tail (cut_of self.old) tail.now) }
+        ensures fault { (cut_of self.new).fault ≡ (cut_of self.old).fault }
+    {
+        self.line.extend_from_slice(tail)
+    }
+
     /// Whether the line that has not ended has bytes.
     pub fn is_filled(&self) -> bool
         ensures { result ≡ (cut_of self.now).filled }
@@ -96,6 +112,15 @@ impl Pieces {
         self.fault = first_fault(self.fault, self.ended, kind);
         self.filled = false;
         self.line.clear();
+    }
+
+    /// Takes the last bytes of a line, and the line feed behind them. The line has a fault of this kind, or none.
+    pub fn end_line_with(&mut self, tail: &[u8], kind: Option<u32>)
+        requires { (cut_of self.old).size + length tail.now ≤ longest_text }
+        ensures { cut_of self.new ≡ with_feed (with_bytes (cut_of self.old) tail.now) kind }
+    {
+        self.size += tail.len();
+        self.end_line(kind);
     }
 
     /// The fault at a line that has ended; `long` is the kind of a text that is too long.

@@ -2,3 +2,4 @@ pub mod LineOutcomes
 pub mod LineBytes
 pub mod LineFaults
 pub mod LineSame
+pub mod LineEnded

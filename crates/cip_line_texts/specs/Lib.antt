@@ -1,4 +1,5 @@
 pub mod LineTexts
+pub mod LineEnds
 pub mod LineStatements
 pub mod LineStream
 pub mod LineExamples

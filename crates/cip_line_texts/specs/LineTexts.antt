@@ -3,7 +3,7 @@
 --     HasResult reading text value, HasFault reading text line kind
 use Rattle.std.specs.Prelude.{◌≡◌, ℕ, ◌+◌, ◌==◌, nat_lt, nat_le, ◌&&◌, ◌||◌, if◌then◌else◌, List, [], ◌∷◌, ◌++◌, length, map, take, Option, None, Some}
 use Rattle.cip_problem.specs.Limits.{longest_text}
-use Rattle.cip_syntax.specs.Lines.{Record, Section, Entry, lines}
+use Rattle.cip_syntax.specs.Lines.{Record, Section, Entry, lines, record_of}
 
 -- a way to read texts: what a line holds; what is known before the first item; the kind of the fault of an item, if it
 -- has one, by what is known; what is known behind an item without fault; the kind of the fault behind the last line, if
@@ -23,6 +23,15 @@ pub data Outcome (X : Type 0) : Type 0 where
   Faulty : (line kind : ℕ) → Outcome X
 
 -- ---- items
+
+-- the record of a line as its items, where there is one
+abbrev pub records_in : Option Record → List Record
+records_in None = []
+records_in (Some content) = content ∷ []
+
+-- the records of a line, for a text of which lines that begin with this byte are comments
+abbrev pub records_of : (comment : ℕ) → List ℕ → List Record
+records_of comment line = records_in (record_of comment line)
 
 -- the words of a line of a text that has no sections
 abbrev pub words_in : Record → List (List ℕ)

@@ -1,5 +1,6 @@
 //! Texts that are read line by line: what they come to, their first fault, long texts, and the same read byte by byte.
-//! The crates of points and blocks stand on these definitions; `specs/` holds them, and the laws for every such text.
+//! The crates of free MPS, points and blocks stand on these definitions; `specs/` holds them, and the laws for every
+//! such text.
 // The function here does nothing. Its contract is a record of examples, so that the check computes them.
 #![tactic(auto)]
 

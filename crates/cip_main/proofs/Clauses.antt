@@ -5,7 +5,7 @@ use Rattle.cip_io.specs.Faults.{Rose}
 use Rattle.cip_io.specs.Store.{StoreTells}
 use Rattle.cip_problem.specs.Program.{Program}
 use Rattle.cip_problem.specs.Wholes.{assignments}
-use Rattle.cip_mps_rules.specs.MpsOutcome.{Means, Faulty, HasProgram, HasFault}
+use Rattle.cip_mps_rules.specs.MpsOutcome.{mps_reading, HasProgram, HasFault}
 use Rattle.cip_rational.specs.Rational.{ℚ}
 use Rattle.cip_line_texts.specs.LineTexts.{Reading, Outcome, outcome_of, HasResult, HasFault as HasLineFault}
 use Rattle.cip_line_texts.specs.LineTexts as texts
@@ -125,24 +125,6 @@ same_point h e = cc
 of_text : (P : List ℕ → Type 0) (text : Option (List ℕ)) (bytes : List ℕ) → IfSome text P → text ≡ Some bytes → P bytes
 of_text P text bytes h e = subst (λ o. IfSome o P) e h
 
-one_program : (text : List ℕ) (program other : Program) → HasProgram text program → HasProgram text other → program ≡ other
-one_program text program other h e = same (sym h.means ∙ e.means)
-  where
-    same : {p q : Program} → Means p ≡ Means q → p ≡ q
-    same e = cc
-
-no_fault : (text : List ℕ) (program : Program) (line kind : ℕ) → HasProgram text program → HasFault text line kind → ⊥
-no_fault text program line kind h e = apart (sym h.means ∙ e.faulty)
-  where
-    apart : {p : Program} {l k : ℕ} → Means p ≡ Faulty l k → ⊥
-    apart e = cc
-
-same_line : {l m k n : ℕ} → Faulty l k ≡ Faulty m n → l ≡ m
-same_line e = cc
-
-same_kind : {l m k n : ℕ} → Faulty l k ≡ Faulty m n → k ≡ n
-same_kind e = cc
-
 same_value : {X : Type 0} {x y : X} → ◌≡◌ {A = Outcome X} (texts.Means x) (texts.Means y) → x ≡ y
 same_value e = cc
 
@@ -160,6 +142,12 @@ one_value r text x y h e = same_value (sym h.means ∙ e.means)
 
 no_line_fault : {K I X : Type 0} (r : Reading K I X) (text : List ℕ) (x : X) (line kind : ℕ) → HasResult r text x → HasLineFault r text line kind → ⊥
 no_line_fault r text x line kind h e = apart (sym h.means ∙ e.faulty)
+
+one_program : (text : List ℕ) (program other : Program) → HasProgram text program → HasProgram text other → program ≡ other
+one_program = one_value mps_reading
+
+no_fault : (text : List ℕ) (program : Program) (line kind : ℕ) → HasProgram text program → HasFault text line kind → ⊥
+no_fault = no_line_fault mps_reading
 
 -- the program that was read is the one of the text
 asked_program : (call : Call) (asked : Job) (text : List ℕ) (program : Program) → IfSome (call.store.holds (model_of asked)) (λ bytes. HasProgram bytes program) → call.job ≡ Some asked → (asks : AsksOf call text) → HasProgram text program
@@ -414,8 +402,8 @@ model_plain : (call : Call) (answer : Plain) → GivesPlain call answer → (tex
 model_plain call Usage g text line kind asks h = absurd (some_job asks.job g.cause.0)
 model_plain call ReadFault g text line kind asks h = inr (inl g)
 model_plain call (Refused (Model fault)) g text line kind asks h =
-    let same : Faulty fault.line (kind_number fault.kind) ≡ Faulty line kind = sym (fault_asked call text fault.line (kind_number fault.kind) asks g.cause).faulty ∙ h.faulty in
-    inl (record { fault = fault; is_line = same_line same; is_kind = same_kind same; given = g })
+    let same : ◌≡◌ {A = Outcome Program} (texts.Faulty fault.line (kind_number fault.kind)) (texts.Faulty line kind) = sym (fault_asked call text fault.line (kind_number fault.kind) asks g.cause).faulty ∙ h.faulty in
+    inl (record { fault = fault; is_line = same_line_of same; is_kind = same_kind_of same; given = g })
 model_plain call (Refused (Blocks fault)) g text line kind asks h =
     absurd (no_fault text g.cause.program line kind (asked_program call _ text g.cause.program (told _ g.cause.program g.cause.reads.is_read) g.cause.is_asked asks) h)
 model_plain call (Refused (Point fault)) g text line kind asks h =

@@ -1,27 +1,22 @@
 -- The texts of refusals: how they are written, and what they tell.
 use lib.Chars.{codes}
-use Rattle.std.specs.Prelude.{◌≡◌, ◌≢◌, ◌==◌, ℕ, ◌+◌, ◌-◌, ◌*◌, ◌^◌, ◌<◌, List, [], ◌∷◌, ◌++◌, pos, decimal, refl, if◌then◌else◌}
+use Rattle.std.specs.Prelude.{◌≡◌, ◌≢◌, ◌==◌, ℕ, zero, suc, ◌+◌, ◌-◌, ◌*◌, ◌^◌, ◌<◌, ◌≤◌, Bool, true, false, ◌&&◌, length, slice_index_or, List, [], ◌∷◌, ◌++◌, pos, decimal, refl, if◌then◌else◌}
 use Rattle.std.specs.List.{AllByRecursion}
 use Rattle.std.proofs.Common.{sym, ap, ◌∙◌, subst, arith, append_assoc, append-nil}
 use Rattle.std.proofs.lemmas.List.{append_cancel_right}
+use Rattle.std.proofs.lemmas.Bool.{eqb-true}
 use Rattle.std.proofs.lemmas.List.Elements.{recursion_from_All}
 use Rattle.cip_rational.specs.Rational.{integer, denominator}
 use Rattle.cip_rational.proofs.Rational.Lowest.{numerator-integer, denominator-integer}
 use Rattle.cip_numerals.specs.NumberText.{natural_text, integer_text, denominator_text, fraction_text}
 use Rattle.cip_numerals.proofs.NumberText.{IsFractionByte, fraction_text_plain, natural_text_decimal, natural_text_injective}
 use Rattle.cip_answers.specs.Figures.{end_line, line, refusal_text}
-use Rattle.cip_mps.specs.MpsFaultKinds.{kind_number as mps_kind_number}
-use Rattle.cip_mps.specs.declared.faults.FaultKind.{FaultKind}
-use Rattle.cip_mps.specs.declared.faults.FaultKind.TheVariants as mps
-use Rattle.cip_blocks.specs.BlockKinds.{kind_number as block_kind_number}
-use Rattle.cip_blocks.specs.declared.faults.BlockKind.{BlockKind}
-use Rattle.cip_blocks.specs.declared.faults.BlockKind.TheVariants as blocks
-use Rattle.cip_point.specs.PointKinds.{kind_number as point_kind_number}
-use Rattle.cip_point.specs.declared.faults.PointKind.{PointKind}
-use Rattle.cip_point.specs.declared.faults.PointKind.TheVariants as point
+use Rattle.cip_mps.specs.MpsKindTexts.{kind_texts as mps_texts}
+use Rattle.cip_blocks.specs.BlockKindTexts.{kind_texts as block_texts}
+use Rattle.cip_point.specs.PointKindTexts.{kind_texts as point_texts}
 use Rattle.cip_main.specs.declared.refusals.TextFault.{TextFault}
 use Rattle.cip_main.specs.declared.refusals.TextFault.TheVariants.{Model, Blocks, Point}
-use Rattle.cip_main.specs.Refusals.{mps_kind_text, block_kind_text, point_kind_text, text_name, line_of, number_of, kind_text, RefusalsTell}
+use Rattle.cip_main.specs.Refusals.{text_name, line_of, number_of, kind_text, RefusalsTell}
 
 -- ---- how it is written
 
@@ -95,55 +90,51 @@ kind_read [] = 0
 kind_read (a ∷ []) = 0
 kind_read (a ∷ b ∷ bytes) = if b == 32 then a - 48 else (a - 48) * 10 + (b - 48)
 
-read_mps_kind : (kind : FaultKind) → kind_read (mps_kind_text kind) ≡ mps_kind_number kind
-unfolding kind_read
-read_mps_kind mps.UnknownSection = refl
-read_mps_kind mps.SectionOrder = refl
-read_mps_kind mps.MissingSection = refl
-read_mps_kind mps.FieldCount = refl
-read_mps_kind mps.BadNumber = refl
-read_mps_kind mps.NumberHuge = refl
-read_mps_kind mps.NumberTooFine = refl
-read_mps_kind mps.UnknownRow = refl
-read_mps_kind mps.UnknownColumn = refl
-read_mps_kind mps.DuplicateRow = refl
-read_mps_kind mps.DuplicateEntry = refl
-read_mps_kind mps.ColumnSplit = refl
-read_mps_kind mps.BadRowType = refl
-read_mps_kind mps.BadBoundType = refl
-read_mps_kind mps.BadMarker = refl
-read_mps_kind mps.NoObjective = refl
-read_mps_kind mps.NoEnd = refl
-read_mps_kind mps.TooMany = refl
-read_mps_kind mps.NameTooLong = refl
-read_mps_kind mps.RangeOnObjective = refl
-read_mps_kind mps.OutOfProfile = refl
+-- the texts are those of the numbers from this one on
+are_read : ℕ → List (List ℕ) → Bool
+are_read from [] = true
+are_read from (text ∷ texts) = (kind_read text == from) && are_read (from + 1) texts
 
-read_block_kind : (kind : BlockKind) → kind_read (block_kind_text kind) ≡ block_kind_number kind
-unfolding kind_read
-read_block_kind blocks.BadWord = refl
-read_block_kind blocks.BadCount = refl
-read_block_kind blocks.BadBlock = refl
-read_block_kind blocks.UnknownRow = refl
-read_block_kind blocks.RowTwice = refl
-read_block_kind blocks.LinkingColumn = refl
-read_block_kind blocks.OpenColumn = refl
-read_block_kind blocks.Missing = refl
-read_block_kind blocks.TooLong = refl
+both_true : (a b : Bool) → (a && b) ≡ true → (a ≡ true) × (b ≡ true)
+both_true true true e = (refl, refl)
+both_true true false e = absurd (cc)
+both_true false b e = absurd (cc)
 
-read_point_kind : (kind : PointKind) → kind_read (point_kind_text kind) ≡ point_kind_number kind
-unfolding kind_read
-read_point_kind point.BadLine = refl
-read_point_kind point.UnknownColumn = refl
-read_point_kind point.ColumnTwice = refl
-read_point_kind point.BadFraction = refl
-read_point_kind point.ColumnMissing = refl
-read_point_kind point.TooLong = refl
+read_at : (from : ℕ) (texts : List (List ℕ)) (k : ℕ) → are_read from texts ≡ true → k < length texts → kind_read (slice_index_or texts k []) ≡ from + k
+unfolding are_read
+read_at from [] k e h = absurd (omega (arith, h))
+read_at from (text ∷ texts) zero e h = eqb-true (kind_read text) from (both_true (kind_read text == from) (are_read (from + 1) texts) e).0 ∙ no_more from
+  where
+    no_more : (n : ℕ) → n ≡ n + 0
+    no_more n = omega arith
+read_at from (text ∷ texts) (suc k) e h = read_at (from + 1) texts k (both_true (kind_read text == from) (are_read (from + 1) texts) e).1 (omega (arith, h)) ∙ one_more from k
+  where
+    one_more : (m n : ℕ) → (m + 1) + n ≡ m + suc n
+    one_more m n = omega arith
+
+-- the number of a kind is that of its text
+read_of : (texts : List (List ℕ)) (number : ℕ) → are_read 1 texts ≡ true → 0 < number → number ≤ length texts → kind_read (slice_index_or texts (number - 1) []) ≡ number
+read_of texts number e some few = read_at 1 texts (number - 1) e (omega (arith, some, few)) ∙ back number some
+  where
+    back : (n : ℕ) → 0 < n → 1 + (n - 1) ≡ n
+    back n h = omega (arith, h)
+
+mps_read : are_read 1 mps_texts ≡ true
+unfolding kind_read are_read
+mps_read = refl
+
+blocks_read : are_read 1 block_texts ≡ true
+unfolding kind_read are_read
+blocks_read = refl
+
+point_read : are_read 1 point_texts ≡ true
+unfolding kind_read are_read
+point_read = refl
 
 read_kind : (fault : TextFault) → kind_read (kind_text fault) ≡ number_of fault
-read_kind (Model fault) = read_mps_kind fault.kind
-read_kind (Blocks fault) = read_block_kind fault.kind
-read_kind (Point fault) = read_point_kind fault.kind
+read_kind (Model fault) = read_of mps_texts fault.kind.number mps_read fault.kind.some fault.kind.few
+read_kind (Blocks fault) = read_of block_texts fault.kind.number blocks_read fault.kind.some fault.kind.few
+read_kind (Point fault) = read_of point_texts fault.kind.number point_read fault.kind.some fault.kind.few
 
 text_name-no_feed : (fault : TextFault) → HasNoFeed (text_name fault)
 text_name-no_feed (Model fault) = (λ e. omega (arith, e), (λ e. omega (arith, e), (λ e. omega (arith, e), (λ e. omega (arith, e), (λ e. omega (arith, e), tt)))))

@@ -1,4 +1,2 @@
-pub mod FeedCuts
 pub mod LineLaws
-pub mod PieceLaws
-pub mod StreamLaws
+pub mod MpsAnswers

@@ -1,7 +1,5 @@
-pub mod MpsFaultKinds
 pub mod LinesRead
-pub mod Standings
-pub mod StreamsRead
-pub mod KnownFaults
-pub mod EndOutcomes
+pub mod MpsFaultKinds
+pub mod MpsKindTexts
 pub mod MpsReaders
+pub mod MpsTexts

@@ -1,38 +1,27 @@
 //! Reading the lines of a text, one after another.
-ghost use Rattle.std.specs.Prelude.{◌≡◌, ℕ, false, IfOk};
+ghost use Rattle.std.specs.Prelude.{◌≡◌, ◌<◌, ◌≤◌, ℕ, false, IfOk, IfSome};
 ghost use Rattle.std.specs.List.{list_any};
 ghost use Rattle.cip_syntax.specs.Lines.{is_line_feed};
+ghost use Rattle.cip_line_texts.specs.LineStream.{Going, line_read};
+ghost use Rattle.cip_line_stream.specs.PieceStands.{progress_after};
 ghost use Rattle.cip_mps_lines.specs.MpsLines.{saying_of};
-ghost use Rattle.cip_mps_rules.specs.MpsSayings.{no_place};
-ghost use Rattle.cip_mps_rules.specs.MpsFacts.{no_facts};
 ghost use Rattle.cip_mps_rules.specs.MpsRules as rules;
-ghost use Rattle.cip_mps_steps.specs.MpsState.{state_of, program_from};
-ghost use Rattle.cip_mps_steps.specs.MpsSteps.{Going, line_read, saying_read};
-ghost use Rattle.cip_mps.specs.LinesRead.{state_of_lines, progress_after};
+ghost use Rattle.cip_mps_steps.specs.MpsSteps.{mps_steps};
+ghost use Rattle.cip_mps.specs.LinesRead.{state_of_lines, stage_of, IsTaken};
 
-use crate::faults::FaultKind;
 use crate::laws::places_join;
 use cip_model::Program;
 use cip_mps_draft::Draft;
-use cip_mps_lines::{Line, Part, Place, record_of, said};
+use cip_mps_lines::{Line, Part, Place, said};
+use cip_text::record_of;
 use std::alloc::{AllocError, Global};
 
-/// What was read of the lines that have ended.
+/// What was read of the lines that have ended. Behind ENDATA no line is looked at.
 #[derive(Debug, Drop)]
 pub(crate) struct LineReader {
     pub(crate) place: Place,
     pub(crate) draft: Draft,
-}
-
-/// What a line comes to.
-#[derive(Clone, Copy, PartialEq, Eq)]
-pub(crate) enum Step {
-    /// The next line is read.
-    GoesOn,
-    /// The text has said its program.
-    Ends,
-    /// The line breaks a rule of this kind.
-    Breaks(FaultKind),
+    pub(crate) ended: bool,
 }
 
 /// Whether a line is ENDATA.
@@ -48,22 +37,28 @@ fn is_end(line: &Line<'_>) -> bool
 impl LineReader {
     /// Before the first line.
     pub(crate) fn new(alloc: Global) -> LineReader
-        ensures { state_of_lines result ≡ state_of no_place no_facts }
+        ensures { stage_of result ≡ mps_steps.start }
     {
         LineReader {
             place: Place::new(alloc),
             draft: Draft::new(alloc),
+            ended: false,
         }
     }
 
-    /// Reads one line more.
-    pub(crate) fn take_line(&mut self, line: &[u8]) -> Result<Step, AllocError>
+    /// Reads one line more, and says the kind of its fault, if it has one.
+    pub(crate) fn take_line(&mut self, line: &[u8]) -> Result<Option<u32>, AllocError>
         requires { list_any is_line_feed line.now ≡ false }
-        ensures { IfOk result (λ step. (number : ℕ) → line_read (Going (state_of_lines self.old)) number line.now
-            ≡ progress_after step number (state_of_lines self.new)) }
+        ensures read { IfOk result (λ kind. (number : ℕ)
+            → line_read mps_steps (Going (stage_of self.old)) number line.now
+            ≡ progress_after number kind (stage_of self.new)) }
+        ensures kinds { IfOk result (λ kind. IfSome kind (λ k. (0 < k) × (k ≤ 21))) }
     {
-        match record_of(line) {
-            None => Ok(Step::GoesOn),
+        if self.ended {
+            return Ok(None);
+        }
+        match record_of(line, b'*') {
+            None => Ok(None),
             Some(record) => {
                 let line = said(&self.place, &record);
                 self.take(&line)
@@ -72,25 +67,22 @@ impl LineReader {
     }
 
     /// Takes what a line says.
-    fn take(&mut self, line: &Line<'_>) -> Result<Step, AllocError>
-        ensures { IfOk result (λ step. (number : ℕ)
-            → saying_read (state_of_lines self.old) number (saying_of line.now)
-            ≡ progress_after step number (state_of_lines self.new)) }
+    fn take(&mut self, line: &Line<'_>) -> Result<Option<u32>, AllocError>
+        ensures taken { IfOk result (IsTaken (state_of_lines self.old) (stage_of self.new) (saying_of line.now)) }
+        ensures kinds { IfOk result (λ kind. IfSome kind (λ k. (0 < k) × (k ≤ 21))) }
     {
         places_join();
-        match self.draft.read(line)? {
-            Some(kind) => Ok(Step::Breaks(FaultKind::of(kind))),
-            None if is_end(line) => Ok(Step::Ends),
-            None => {
-                self.place.move_behind(line)?;
-                Ok(Step::GoesOn)
-            }
+        let kind = self.draft.read(line)?;
+        if kind.is_none() {
+            self.place.move_behind(line)?;
+            self.ended = is_end(line);
         }
+        Ok(kind)
     }
 
     /// The program of the lines.
     pub(crate) fn into_program(self) -> Result<Program, AllocError>
-        ensures { IfOk result (λ program. program ≡ program_from (state_of_lines self)) }
+        ensures { IfOk result (λ program. program ≡ mps_steps.result (stage_of self)) }
     {
         let LineReader { draft, .. } = self;
         draft.into_program()

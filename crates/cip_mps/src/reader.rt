@@ -1,59 +1,45 @@
 //! Reading a text of free MPS, in whatever pieces it comes.
-ghost use Rattle.std.specs.Prelude.{◌≡◌, ◌+◌, ◌-◌, ◌<◌, ◌≤◌, ◌^◌, ◌++◌, [], ℕ, List, Err, None, MatchResult, option_map, take};
-ghost use Rattle.cip_problem.specs.Limits.{longest_text};
-ghost use Rattle.cip_mps_rules.specs.MpsOutcome.{Means, HasProgram};
-ghost use Rattle.cip_mps_steps.specs.MpsStream as plain;
-ghost use Rattle.cip_mps.specs.EndOutcomes.{line_fault, end_outcome, IsFaultAt};
-ghost use Rattle.cip_mps.specs.LinesRead.{state_of_lines};
-ghost use Rattle.cip_mps.specs.Standings.{progress_of};
+ghost use Rattle.std.specs.Prelude.{◌≡◌, ◌++◌, [], ℕ, List, Some, Err, MatchResult};
+ghost use Rattle.cip_line_stream.specs.PieceCuts.{known_fault};
+ghost use Rattle.cip_mps_rules.specs.MpsOutcome.{HasProgram};
+ghost use Rattle.cip_mps_steps.specs.MpsSteps.{mps_steps};
+ghost use Rattle.cip_mps.specs.MpsTexts.{stage_of};
 
 use crate::faults::{MpsFault, ReadFault};
-use crate::line_stream::LineStream;
-use cip_model::{LONGEST_TEXT, Program};
-use cip_mps_steps::{faults_of_ended_lines, texts_are_read};
+use crate::mps_text::MpsText;
+use cip_model::Program;
+use cip_mps_steps::faults_of_ended_lines;
 use std::alloc::Global;
 
 /// A text of free MPS as far as it came. The reader keeps the line that has not ended and what the program needs, and
 /// nothing else of the text.
 #[derive(Debug, Drop)]
 pub struct MpsReader {
-    pub(crate) stream: LineStream,
-    /// How many bytes of the text were looked at.
-    pub(crate) size: usize,
-    /// A growth was refused.
-    pub(crate) spent: bool,
-    ghost counted: { stream.ended ≤ size },
-    ghost few: { size ≤ longest_text + 1 },
+    /// None once a growth was refused.
+    pub(crate) text: Option<MpsText>,
 }
 
-/// The outcome of a text of which no line is left.
-fn outcome(stream: LineStream, is_too_long: bool) -> Result<Program, ReadFault>
-    requires { stream.ended + 1 < 2 ^ 64 }
-    ensures { MatchResult result
-        (λ program. end_outcome is_too_long stream.ended (progress_of stream.standing (state_of_lines stream.lines))
-        ≡ Means program)
-        (IsFaultAt (end_outcome is_too_long stream.ended (progress_of stream.standing (state_of_lines stream.lines)))) }
+/// The program of a text that has no fault.
+fn program_of(text: MpsText) -> Result<Program, ReadFault>
+    ensures { MatchResult result (λ program. program ≡ mps_steps.result (stage_of text))
+        (λ fault. fault ≡ ReadFault.NoMemory) }
 {
-    match stream.fault_at_end(is_too_long) {
-        Some(fault) => Err(ReadFault::Faulty(fault)),
-        None => stream.into_program(),
+    match text.into_program() {
+        Ok(program) => Ok(program),
+        Err(_) => Err(ReadFault::NoMemory),
     }
 }
 
 impl MpsReader {
-    ghost use Rattle.cip_mps.specs.StreamsRead.{StandsAt};
-    ghost use Rattle.cip_mps.specs.MpsReaders.{HasRead, IsSpent, IsFed, IsFaultOf};
-    ghost use Rattle.cip_mps.specs.EndOutcomes.{IsKnown};
+    ghost use Rattle.cip_mps.specs.MpsTexts.{kept_of};
+    ghost use Rattle.cip_mps.specs.MpsReaders.{HasRead, IsSpent, IsSaid, IsFed, IsFaultOf};
 
     /// Before the first piece.
     pub fn new(alloc: Global) -> MpsReader
         ensures { HasRead result [] }
     {
-        MpsReader {
-            stream: LineStream::new(alloc),
-            size: 0,
-            spent: false,
-        }
+        let text = MpsText::new(alloc);
+        MpsReader { text: Some(text) }
     }
 
     /// Takes one more piece of the text. `Faulty` comes exactly where a line that has ended is faulty, and then every
@@ -64,52 +50,25 @@ impl MpsReader {
         ensures spent { IsSpent self.old → (result ≡ Err ReadFault.NoMemory) × IsSpent self.new }
     {
         faults_of_ended_lines();
-        if self.spent {
+        let Some(mut text) = self.text.take() else {
             return Err(ReadFault::NoMemory);
-        }
-        let looked = self.looked_at(piece);
-        self.size += looked.len();
-        match self.stream.take(looked) {
-            Ok(()) => self.answer(),
-            Err(_) => {
-                self.spent = true;
-                Err(ReadFault::NoMemory)
-            }
+        };
+        match text.take(piece) {
+            Ok(()) => self.go_on(text),
+            Err(_) => Err(ReadFault::NoMemory),
         }
     }
 
-    /// What `feed` answers, where no growth was refused.
-    fn answer(&self) -> Result<(), ReadFault>
-        ensures { (s : plain.Stream) → StandsAt self.now.stream s → s.size ≡ self.now.size
-            → MatchResult result (λ _. None ≡ plain.ended_fault s) (IsKnown s) }
+    /// Keeps the text, and says the fault at a line that has ended.
+    fn go_on(&mut self, text: MpsText) -> Result<(), ReadFault>
+        ensures kept { self.new.text ≡ Some text }
+        ensures said { IsSaid (known_fault 18 (kept_of text)) result }
     {
-        match self.known_fault() {
+        let fault = text.known_fault();
+        self.text = Some(text);
+        match fault {
             None => Ok(()),
-            Some(fault) => Err(ReadFault::Faulty(fault)),
-        }
-    }
-
-    /// The bytes of a piece that are looked at.
-    fn looked_at<'a>(&self, piece: &'a [u8]) -> &'a [u8]
-        ensures { result.now ≡ take (longest_text + 1 - self.now.size) piece.now }
-    {
-        let room = LONGEST_TEXT + 1 - self.size;
-        if piece.len() > room {
-            &piece[..room]
-        } else {
-            piece
-        }
-    }
-
-    /// The fault at a line that has ended.
-    fn known_fault(&self) -> Option<MpsFault>
-        ensures { (s : plain.Stream) → StandsAt self.now.stream s → s.size ≡ self.now.size
-            → option_map line_fault result ≡ plain.ended_fault s }
-    {
-        if self.size <= LONGEST_TEXT || self.stream.filled {
-            self.stream.known_fault()
-        } else {
-            self.stream.fault_at_end(true)
+            Some(fault) => Err(ReadFault::Faulty(MpsFault::of(fault))),
         }
     }
 
@@ -119,17 +78,13 @@ impl MpsReader {
             → MatchResult result (λ program. HasProgram text program) (IsFaultOf text) }
         ensures spent { IsSpent self → result ≡ Err ReadFault.NoMemory }
     {
-        texts_are_read();
-        let MpsReader {
-            mut stream,
-            size,
-            spent,
-        } = self;
-        if spent {
+        let MpsReader { text } = self;
+        let Some(mut text) = text else {
             return Err(ReadFault::NoMemory);
-        }
-        match stream.close() {
-            Ok(()) => outcome(stream, size > LONGEST_TEXT),
+        };
+        match text.close() {
+            Ok(None) => program_of(text),
+            Ok(Some(fault)) => Err(ReadFault::Faulty(MpsFault::of(fault))),
             Err(_) => Err(ReadFault::NoMemory),
         }
     }

@@ -1,3 +1,2 @@
 pub mod FieldCuts
-pub mod OneLine
 pub mod ValuesRead

@@ -10,15 +10,19 @@ use Rattle.std.proofs.lemmas.Int.{ints}
 use Rattle.std.proofs.lemmas.Bool.{eq-eqb, eqb-true, cond-true, cond-false, leb-true, false_from_ne_true}
 use Rattle.cip_rational.specs.Rational.{zeroℚ, ratio}
 use Rattle.cip_problem.specs.Program.{Term}
+use Rattle.cip_syntax.specs.Lines.{Record}
+use Rattle.cip_line_texts.specs.LineTexts.{Numbered}
+use Rattle.cip_line_texts.specs.LineStatements.{known_after, AreOpen}
 use Rattle.cip_number_text.specs.Numeral.{Numeral, Exact, NotANumber, Huge, TooFine, signed}
 use Rattle.cip_mps_rules.specs.MpsWords.{number_in, is_zero}
-use Rattle.cip_mps_rules.specs.MpsSayings.{Value, Saying, Said, ColumnLine}
-use Rattle.cip_mps_rules.specs.MpsFacts.{Coefficient, Facts, no_facts, facts_with, column_names}
+use Rattle.cip_mps_rules.specs.MpsSayings.{Value, Saying, ColumnLine}
+use Rattle.cip_mps_rules.specs.MpsFacts.{Coefficient, Facts, facts_with, column_names}
 use Rattle.cip_mps_rules.specs.MpsProgram.{number, number_or_zero, number_at, term_on, terms_of}
 use Rattle.cip_mps_rules.specs.MpsRules.{has_twins, has_coefficient}
-use Rattle.cip_mps_rules.specs.MpsStatements.{AreQuiet, facts_after, coefficient_in, NameOnce, AreCoefficients}
+use Rattle.cip_mps_rules.specs.MpsOutcome.{no_context, said_in, is_last, mps_records}
+use Rattle.cip_mps_rules.specs.MpsStatements.{coefficient_in, NameOnce, AreCoefficients}
 use Rattle.cip_mps_rules.proofs.Quiet.{Keeps, left_false, right_false, or_false}
-use Rattle.cip_mps_rules.proofs.Few.{invariant}
+use Rattle.cip_mps_rules.proofs.Outcomes.{invariant}
 use Rattle.cip_mps_rules.proofs.MpsNames.{bytes_flip, bytes_same, bytes_other, number_same}
 
 -- ---- no two numbers name one row and column
@@ -62,14 +66,14 @@ line_new : (entries : List Coefficient) (column : List ℕ) (values : List Value
 line_new entries column [] e = tt
 line_new entries column (v ∷ vs) e = (left_false _ _ e, line_new entries column vs (right_false _ _ e))
 
-once_with : (facts : Facts) (now : Saying) → Keeps facts now → NameOnce facts.coefficients → NameOnce (facts_with facts now).coefficients
+pub once_with : (facts : Facts) (now : Saying) → Keeps facts now → NameOnce facts.coefficients → NameOnce (facts_with facts now).coefficients
 once_with facts (ColumnLine column whole values) k h =
     once_append facts.coefficients (numbers_of column values) h
     (line_once column values (right_false _ _ k.new_value)) (line_new facts.coefficients column values (left_false _ _ k.new_value))
 once_with facts other k h = subst NameOnce (sym (append-nil facts.coefficients)) h
 
-pub names_once : (said : List Said) → AreQuiet no_facts said → NameOnce (facts_after no_facts said).coefficients
-names_once said q = invariant (λ facts. NameOnce facts.coefficients) once_with said no_facts tt q
+pub names_once : (records : List (Numbered Record)) → AreOpen is_last mps_records no_context records → NameOnce (known_after mps_records no_context records).facts.coefficients
+names_once = invariant (λ facts. NameOnce facts.coefficients) (λ context content. once_with context.facts (said_in context content)) tt
 
 -- ---- terms
 
@@ -135,10 +139,10 @@ in_row names (x ∷ xs) row column k once e = go (bytes_eq row x.row) refl (byte
         at_other k (number_in names x.column) x.number (terms_of names xs row)
         (λ f. bytes_other column x.column q (number_same names column x.column k e f)) ∙ h
 
-pub coefficients_are : (said : List Said) → AreQuiet no_facts said → AreCoefficients (facts_after no_facts said)
-coefficients_are said q =
-    let once = names_once said q in
+pub coefficients_are : (records : List (Numbered Record)) → AreOpen is_last mps_records no_context records → AreCoefficients (known_after mps_records no_context records).facts
+coefficients_are records o =
+    let once = names_once records o in
     record {
       once = once;
-      in_row = λ row column k e. in_row (column_names (facts_after no_facts said)) (facts_after no_facts said).coefficients row column k once e;
+      in_row = λ row column k e. in_row (column_names (known_after mps_records no_context records).facts) (known_after mps_records no_context records).facts.coefficients row column k once e;
     }

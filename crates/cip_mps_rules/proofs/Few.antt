@@ -9,25 +9,20 @@ use Rattle.std.proofs.lemmas.List.Elements.{All-nil, All-cons, All-append, All-m
 use Rattle.std.proofs.lemmas.Bool.{leb-false}
 use Rattle.cip_problem.specs.Limits.{most_rows, most_columns}
 use Rattle.cip_problem.specs.Activity.{StandsBelow}
+use Rattle.cip_problem.specs.Program.{Program}
 use Rattle.cip_problem.specs.WellFormed.{columns, IsWellFormed}
+use Rattle.cip_syntax.specs.Lines.{Record}
 use Rattle.cip_number_text.specs.Numeral.{Numeral}
 use Rattle.cip_mps_rules.specs.MpsWords.{is_in, number_in, is_zero}
-use Rattle.cip_mps_rules.specs.MpsSayings.{Saying, Said, RowLine, ColumnLine}
-use Rattle.cip_mps_rules.specs.MpsFacts.{GivenRow, Coefficient, Facts, no_facts, facts_with, column_names, names_of}
+use Rattle.cip_mps_rules.specs.MpsSayings.{Saying, RowLine, ColumnLine}
+use Rattle.cip_mps_rules.specs.MpsFacts.{GivenRow, Coefficient, Facts, facts_with, column_names, names_of}
 use Rattle.cip_mps_rules.specs.MpsBounds.{bounds_of, all_bounds, column_sides}
 use Rattle.cip_mps_rules.specs.MpsProgram.{number, is_free, has_sides, constraints, term_on, terms_of, row_of, cost_of_column, program_of}
 use Rattle.cip_mps_rules.specs.MpsRules.{is_row_too_many, is_entry_too_many, entry_count}
-use Rattle.cip_mps_rules.specs.MpsStatements.{AreQuiet, facts_after}
-use Rattle.cip_mps_rules.proofs.Quiet.{Keeps, keeps, left_false, right_false}
+use Rattle.cip_mps_rules.specs.MpsOutcome.{Context, said_in, HasProgram}
+use Rattle.cip_mps_rules.proofs.Quiet.{Keeps, left_false, right_false}
+use Rattle.cip_mps_rules.proofs.Outcomes.{of_program}
 use Rattle.cip_mps_rules.proofs.MpsNames.{number_below}
-
--- ---- what every line keeps
-
--- what holds of the facts goes on to hold behind lines that break no rule
-pub invariant : (P : Facts → Type 0) → ((facts : Facts) (now : Saying) → Keeps facts now → P facts → P (facts_with facts now)) → (said : List Said) (facts : Facts) → P facts → AreQuiet facts said → P (facts_after facts said)
-invariant P step [] facts h q = h
-invariant P step (now ∷ others) facts h q =
-    invariant P step others (facts_with facts now.saying) (step facts now.saying (keeps facts now.saying q.0.no_fault) h) q.1
 
 -- ---- the limits
 
@@ -96,11 +91,16 @@ terms_below names n e (entry ∷ entries) row =
 
 -- ---- the program
 
-few_of : (said : List Said) → AreQuiet no_facts said → (length (constraints (facts_after no_facts said)) ≤ most_rows) × (length (column_names (facts_after no_facts said)) ≤ most_columns)
-few_of said q = (
-  invariant (λ facts. length (constraints facts) ≤ most_rows) few_rows said no_facts (lit≤ tt) q,
-  invariant (λ facts. length (column_names facts) ≤ most_columns) few_columns said no_facts (lit≤ tt) q,
-)
+-- there are few rows and columns
+record IsFew (facts : Facts) : Type 0 where
+  rows : length (constraints facts) ≤ most_rows
+  columns : length (column_names facts) ≤ most_columns
+
+few_with : (context : Context) (content : Record) → Keeps context.facts (said_in context content) → IsFew context.facts → IsFew (facts_with context.facts (said_in context content))
+few_with context content k h = record {
+  rows = few_rows context.facts (said_in context content) k h.rows;
+  columns = few_columns context.facts (said_in context content) k h.columns;
+}
 
 pub well_formed : (facts : Facts) → length (constraints facts) ≤ most_rows → length (column_names facts) ≤ most_columns → IsWellFormed (program_of facts)
 well_formed facts rows cols =
@@ -122,5 +122,5 @@ well_formed facts rows cols =
           (λ i d l. terms_below (column_names facts) (columns (program_of facts)) (names ∙ sym costs) facts.coefficients (get_or (constraints facts) i d).name);
     }
 
-pub programs_fit : (said : List Said) → AreQuiet no_facts said → IsWellFormed (program_of (facts_after no_facts said))
-programs_fit said q = let few = few_of said q in well_formed (facts_after no_facts said) few.0 few.1
+pub texts_fit : (text : List ℕ) (program : Program) → HasProgram text program → IsWellFormed program
+texts_fit = of_program IsFew few_with (record { rows = lit≤ tt; columns = lit≤ tt }) IsWellFormed (λ facts few. well_formed facts few.rows few.columns)

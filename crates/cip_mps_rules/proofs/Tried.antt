@@ -11,8 +11,8 @@ use Rattle.cip_rational.proofs.Rational.Ratio.{ratio-negate, ratio-add, integer_
 use Rattle.cip_rational.proofs.Rational.Ring.{negate_zero, sub_is}
 use Rattle.cip_problem.specs.Program.{Program}
 use Rattle.cip_number_text.specs.Numeral.{numeral_of}
-use Rattle.cip_mps_rules.specs.MpsOutcome.{outcome_of, Means}
-use Rattle.cip_mps_rules.specs.MpsExamples.{three_columns, three_columns_program, loose_text, loose_program, open_text, open_program, four_rows, row_sides_in, sides_of_four, integral, large_value, facts_in}
+use Rattle.cip_line_texts.specs.LineTexts.{outcome_of, Means}
+use Rattle.cip_mps_rules.specs.MpsExamples.{three_columns, three_columns_program, loose_text, loose_program, open_text, open_program, four_rows, row_sides_in, mps_outcome, sides_of_four, integral, large_value, facts_in}
 use Rattle.cip_mps_rules.specs.MpsSayings.{RangeLine, RightSideLine}
 use Rattle.cip_mps_rules.specs.MpsRules.{fault_of}
 
@@ -39,28 +39,28 @@ four_less =
 abbrev with_costs : Program → List ℚ → ℚ → Program
 with_costs program costs constant = record program { costs = costs; constant = constant }
 
-three_columns_read : outcome_of three_columns ≡ Means (with_costs three_columns_program (negate (ratio (pos 5) 1) ∷ negate (ratio (pos 4) 1) ∷ negate (ratio (pos 3) 1) ∷ []) (negate (negate zeroℚ)))
+three_columns_read : mps_outcome three_columns ≡ Means (with_costs three_columns_program (negate (ratio (pos 5) 1) ∷ negate (ratio (pos 4) 1) ∷ negate (ratio (pos 3) 1) ∷ []) (negate (negate zeroℚ)))
 unfolding numeral_of outcome_of
 three_columns_read = refl
 
 negated : (program : Program) → with_costs program (negate (ratio (pos 5) 1) ∷ negate (ratio (pos 4) 1) ∷ negate (ratio (pos 3) 1) ∷ []) (negate (negate zeroℚ)) ≡ with_costs program (ratio (negsuc 4) 1 ∷ ratio (negsuc 3) 1 ∷ ratio (negsuc 2) 1 ∷ []) zeroℚ
 negated program = rw (negate_five, negate_four, negate_three, negate_zero, negate_zero)
 
-pub three_columns_is : outcome_of three_columns ≡ Means three_columns_program
+pub three_columns_is : mps_outcome three_columns ≡ Means three_columns_program
 three_columns_is = three_columns_read ∙ ap Means (negated three_columns_program)
 
-loose_read : outcome_of loose_text ≡ Means (with_costs loose_program loose_program.costs (negate (ratio (negsuc 2) 1)))
+loose_read : mps_outcome loose_text ≡ Means (with_costs loose_program loose_program.costs (negate (ratio (negsuc 2) 1)))
 unfolding numeral_of outcome_of
 loose_read = refl
 
-pub loose_is : outcome_of loose_text ≡ Means loose_program
+pub loose_is : mps_outcome loose_text ≡ Means loose_program
 loose_is = loose_read ∙ ap (λ x. Means (with_costs loose_program loose_program.costs x)) negate_minus_three
 
-open_read : outcome_of open_text ≡ Means (with_costs open_program open_program.costs (negate zeroℚ))
+open_read : mps_outcome open_text ≡ Means (with_costs open_program open_program.costs (negate zeroℚ))
 unfolding numeral_of outcome_of
 open_read = refl
 
-pub open_is : outcome_of open_text ≡ Means open_program
+pub open_is : mps_outcome open_text ≡ Means open_program
 open_is = open_read ∙ ap (λ x. Means (with_costs open_program open_program.costs x)) negate_zero
 
 pub ranged : row_sides_in (four_rows (codes "RHS\n R1 10 R2 10\n R3 10\nRANGES\n R1 -4 R2 -4\n R3 4\n")) ≡ sides_of_four (Some (integral 6)) (Some (integral 10)) (Some (integral 10)) (Some (integral 14)) (Some (integral 10)) (Some (integral 14))

@@ -1,16 +1,18 @@
 -- Texts of free MPS with what they come to, for the laws of examples.
 use lib.Chars.{codes}
-use Rattle.std.specs.Prelude.{◌≡◌, ℕ, Bool, true, false, pos, negsuc, List, [], ◌∷◌, ◌++◌, map, Option, None, Some, fold, replicate}
+use Rattle.std.specs.Prelude.{◌≡◌, ℕ, Bool, true, false, pos, negsuc, List, [], ◌∷◌, ◌++◌, map, Option, None, Some, replicate}
 use Rattle.cip_rational.specs.Rational.{ℚ, ratio, zeroℚ, oneℚ}
 use Rattle.cip_problem.specs.Program.{Term, Sides, Row, Program}
 use Rattle.cip_number_text.specs.Numeral.{Exact}
+use Rattle.cip_line_texts.specs.LineTexts.{Outcome, Means, Faulty, items_in, too_long, outcome_of}
+use Rattle.cip_line_texts.specs.LineStatements.{known_after}
 use Rattle.cip_mps_rules.specs.MpsWords.{AtMost}
-use Rattle.cip_mps_rules.specs.MpsSayings.{Value, RowLine, RightSideLine, RangeLine, sayings_of}
-use Rattle.cip_mps_rules.specs.MpsFacts.{GivenRow, Facts, no_facts, facts_with}
+use Rattle.cip_mps_rules.specs.MpsSayings.{Value, RowLine, RightSideLine, RangeLine}
+use Rattle.cip_mps_rules.specs.MpsFacts.{GivenRow, Facts, no_facts}
 use Rattle.cip_mps_rules.specs.MpsBounds.{all_bounds, column_sides}
 use Rattle.cip_mps_rules.specs.MpsProgram.{row_sides}
 use Rattle.cip_mps_rules.specs.MpsRules.{fault_of}
-use Rattle.cip_mps_rules.specs.MpsOutcome.{Means, Faulty, outcome_of, too_long}
+use Rattle.cip_mps_rules.specs.MpsOutcome.{no_context, mps_records, mps_reading}
 
 -- ---- a text and its program
 
@@ -109,17 +111,21 @@ open_program = record {
       ∷ record { low = Some zeroℚ; high = None } ∷ [];
 }
 
+-- what a text comes to
+abbrev pub mps_outcome : List ℕ → Outcome Program
+mps_outcome text = outcome_of mps_reading text
+
 -- texts with their programs
 pub record TextsHavePrograms : Type 0 where
-  pub three_columns : outcome_of three_columns ≡ Means three_columns_program
-  pub loose : outcome_of loose_text ≡ Means loose_program
-  pub open_columns : outcome_of open_text ≡ Means open_program
+  pub three_columns : mps_outcome three_columns ≡ Means three_columns_program
+  pub loose : mps_outcome loose_text ≡ Means loose_program
+  pub open_columns : mps_outcome open_text ≡ Means open_program
 
 -- ---- faults
 
 -- a text has its first fault on a line, of a kind
 abbrev pub IsFaulty : List ℕ → (line kind : ℕ) → Type 0
-IsFaulty text line kind = outcome_of text ≡ Faulty line kind
+IsFaulty text line kind = mps_outcome text ≡ Faulty line kind
 
 -- lines 1 to 4
 abbrev pub with_rows : List ℕ → List ℕ
@@ -140,6 +146,10 @@ row_at_most name = record { kind = AtMost; name = name }
 -- so many rows of one name
 abbrev pub rows_given : ℕ → Facts
 rows_given count = record no_facts { rows = replicate count (row_at_most (codes "R1")) }
+
+-- what a text comes to whose first byte too many is on line 7
+abbrev pub long_outcome : Outcome Program → Outcome Program
+long_outcome outcome = too_long mps_reading.long 7 outcome
 
 -- each kind on a text of its own
 pub record EachKindIsFound : Type 0 where
@@ -162,11 +172,11 @@ pub record EachKindIsFound : Type 0 where
   pub kind17_end : IsFaulty (with_bounds []) 10 17
   pub kind18_row_too_many : fault_of (rows_given 65536) (RowLine (Some AtMost) (codes "R2")) ≡ Some 18
   pub kind18_last_row : fault_of (rows_given 65535) (RowLine (Some AtMost) (codes "R2")) ≡ None
-  pub kind18_text : too_long 7 (Means loose_program) ≡ Faulty 7 18
-  pub kind18_before : too_long 7 (Faulty 6 19) ≡ Faulty 6 19
-  pub kind18_least : too_long 7 (Faulty 7 4) ≡ Faulty 7 4
-  pub kind18_less : too_long 7 (Faulty 7 19) ≡ Faulty 7 18
-  pub kind18_no_end : too_long 7 (Faulty 8 17) ≡ Faulty 7 18
+  pub kind18_text : long_outcome (Means loose_program) ≡ Faulty 7 18
+  pub kind18_before : long_outcome (Faulty 6 19) ≡ Faulty 6 19
+  pub kind18_least : long_outcome (Faulty 7 4) ≡ Faulty 7 4
+  pub kind18_less : long_outcome (Faulty 7 19) ≡ Faulty 7 18
+  pub kind18_no_end : long_outcome (Faulty 8 17) ≡ Faulty 7 18
   pub kind19_name : IsFaulty (with_rows (codes " L " ++ replicate 256 65 ++ codes "\n")) 5 19
   pub kind19_short : IsFaulty (with_rows (codes " L " ++ replicate 255 65 ++ codes "\n")) 6 17
   pub kind20_range : IsFaulty (with_columns (codes "RANGES\n A COST 1\n")) 9 20
@@ -220,7 +230,7 @@ pub record ColumnsAreRead : Type 0 where
 
 -- the facts that the lines of a text say
 abbrev pub facts_in : List ℕ → Facts
-facts_in text = fold facts_with no_facts (map (λ now. now.saying) (sayings_of text))
+facts_in text = (known_after mps_records no_context (items_in mps_records text)).facts
 
 -- the sides of the columns of a text, and whether they are whole
 abbrev pub sides_in : List ℕ → List Sides

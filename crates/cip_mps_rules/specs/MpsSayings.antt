@@ -1,12 +1,11 @@
 -- What a line of free MPS says, by the section that it stands in: nothing else of the lines before it counts here.
 --     said place record      what a record says at a place of the text
 --     place_after place saying      where the next record stands
---     sayings_of text      what each record of a text says, with its line
 use lib.Chars.{codes}
-use Rattle.std.specs.Prelude.{ℕ, ◌+◌, Bool, true, false, ◌&&◌, ◌||◌, if◌then◌else◌, List, [], ◌∷◌, Option, None, Some, is_some}
+use Rattle.std.specs.Prelude.{ℕ, Bool, true, false, ◌&&◌, ◌||◌, if◌then◌else◌, List, [], ◌∷◌, Option, None, Some, is_some}
 use Rattle.std.specs.Str.{bytes_eq}
 use Rattle.cip_number_text.specs.Numeral.{Numeral, Exact, numeral_of}
-use Rattle.cip_syntax.specs.Lines.{Record, Section, Entry, lines, record_of}
+use Rattle.cip_syntax.specs.Lines.{Record, Section, Entry}
 use Rattle.cip_mps_rules.specs.MpsWords.{Part, NoPart, Title, Sense, Rows, Columns, RightSides, Ranges, Bounds, End, RowKind, BoundKind, section_of, row_kind_of, bound_kind_of, marker_of, has_value, bound_number}
 
 -- a row's name and a number for it
@@ -198,36 +197,3 @@ place_after place (RightSideLine set_name values) = record place { set_name = So
 place_after place (RangeLine set_name values) = record place { set_name = Some set_name }
 place_after place (BoundLine kind set_name column value) = record place { set_name = Some set_name }
 place_after place other = place
-
--- ---- a text
-
--- a record, and the number of its line, counted from 1
-pub record Numbered : Type 0 where
-  pub line : ℕ
-  pub content : Record
-
--- a record, where there is one, before others
-abbrev pub with_record : ℕ → Option Record → List Numbered → List Numbered
-with_record line None others = others
-with_record line (Some content) others = record { line = line; content = content } ∷ others
-
--- the records of lines, the first of which has this number; empty lines, comments and lines of blanks have none
-abbrev pub records_from : ℕ → List (List ℕ) → List Numbered
-records_from number [] = []
-records_from number (line ∷ others) = with_record number (record_of 42 line) (records_from (number + 1) others)
-
--- a line's number, and what it says
-pub record Said : Type 0 where
-  pub line : ℕ
-  pub saying : Saying
-
--- what records say, the first of which stands at this place
-abbrev pub sayings_from : Place → List Numbered → List Said
-sayings_from place [] = []
-sayings_from place (now ∷ others) =
-    record { line = now.line; saying = said place now.content }
-    ∷ sayings_from (place_after place (said place now.content)) others
-
--- what the records of a text say
-abbrev pub sayings_of : List ℕ → List Said
-sayings_of text = sayings_from no_place (records_from 1 (lines text))

@@ -1,88 +1,33 @@
 -- The laws of texts of free MPS, each as one statement: functions of `src/lib.rt` have them as contracts.
-use Rattle.std.specs.Prelude.{◌≡◌, ◌⊎◌, ◌↔◌, ⊤, ℕ, ◌+◌, ◌==◌, ◌≤◌, true, false, ◌&&◌, List, [], ◌∷◌, ◌++◌, length, None, Some, if◌then◌else◌}
+use Rattle.std.specs.Prelude.{◌≡◌, ⊤, ℕ, ◌==◌, ◌≤◌, true, false, ◌&&◌, List, [], ◌∷◌, None, Some, if◌then◌else◌}
 use Rattle.std.specs.List.{AllByRecursion, list_any}
 use Rattle.cip_rational.specs.Rational.{ℚ, zeroℚ}
-use Rattle.cip_problem.specs.Limits.{longest_text}
 use Rattle.cip_problem.specs.Program.{Term, Program}
 use Rattle.cip_problem.specs.WellFormed.{IsWellFormed}
-use Rattle.cip_syntax.specs.Lines.{lines}
+use Rattle.cip_syntax.specs.Lines.{Record}
+use Rattle.cip_line_texts.specs.LineTexts.{Numbered}
+use Rattle.cip_line_texts.specs.LineStatements.{OneOutcome, known_after, AreOpen, FaultsBeforeEnds, ResultsAtEnds}
 use Rattle.cip_mps_rules.specs.MpsWords.{number_in}
-use Rattle.cip_mps_rules.specs.MpsSayings.{Saying, Said, sayings_of}
-use Rattle.cip_mps_rules.specs.MpsFacts.{Coefficient, Facts, no_facts, facts_with, column_names}
-use Rattle.cip_mps_rules.specs.MpsProgram.{coefficient, terms_of, program_of}
-use Rattle.cip_mps_rules.specs.MpsRules.{rules, fault_of, is_end, has_coefficient}
-use Rattle.cip_mps_rules.specs.MpsOutcome.{HasProgram, HasFault}
+use Rattle.cip_mps_rules.specs.MpsSayings.{Saying}
+use Rattle.cip_mps_rules.specs.MpsFacts.{Coefficient, Facts, column_names}
+use Rattle.cip_mps_rules.specs.MpsProgram.{coefficient, terms_of}
+use Rattle.cip_mps_rules.specs.MpsRules.{rules, fault_of, has_coefficient}
+use Rattle.cip_mps_rules.specs.MpsOutcome.{no_context, is_last, mps_records, mps_reading, HasProgram}
 
--- ---- one outcome
+-- ---- texts
 
 -- a text has a program or a first fault, never both, and one of each at the most
-pub record OneOutcome : Type 0 where
-  pub some : (text : List ℕ)
-      → ((program : Program) × HasProgram text program) ⊎ ((line : ℕ) × ((kind : ℕ) × HasFault text line kind))
-  pub never_both : (text : List ℕ) (program : Program) (line kind : ℕ)
-      → HasProgram text program → ¬ HasFault text line kind
-  pub one_program : (text : List ℕ) (p q : Program) → HasProgram text p → HasProgram text q → p ≡ q
-  pub one_fault : (text : List ℕ) (line kind other_line other_kind : ℕ)
-      → HasFault text line kind → HasFault text other_line other_kind → (line ≡ other_line) × (kind ≡ other_kind)
+abbrev pub TextsHaveOneOutcome : Type 0
+TextsHaveOneOutcome = OneOutcome mps_reading
 
--- ---- the first fault
+-- the fault of a text is that of its first line that breaks a rule, unless ENDATA stands before; else, without ENDATA,
+-- 17 at the line behind the last
+abbrev pub MpsFaultsAreFirst : Type 0
+MpsFaultsAreFirst = FaultsBeforeEnds is_last mps_records
 
--- a line breaks no rule, and isn't ENDATA
-pub record IsQuiet (facts : Facts) (now : Saying) : Type 0 where
-  pub no_fault : fault_of facts now ≡ None
-  pub goes_on : is_end now ≡ false
-
--- the facts, and what lines say behind them
-abbrev pub facts_after : Facts → List Said → Facts
-facts_after facts [] = facts
-facts_after facts (now ∷ others) = facts_after (facts_with facts now.saying) others
-
--- no line breaks a rule, and none is ENDATA
-abbrev pub AreQuiet : Facts → List Said → Type 0
-AreQuiet facts [] = ⊤
-AreQuiet facts (now ∷ others) = IsQuiet facts now.saying × AreQuiet (facts_with facts now.saying) others
-
--- a line of a text with those before it, which break no rule
-pub record IsReached (text : List ℕ) (before : List Said) (now : Said) (after : List Said) : Type 0 where
-  pub are_lines : sayings_of text ≡ before ++ now ∷ after
-  pub quiet : AreQuiet no_facts before
-
--- the first line that breaks a rule
-pub record IsFirstFault (text : List ℕ) (line kind : ℕ) : Type 0 where
-  pub before : List Said
-  pub now : Said
-  pub after : List Said
-  pub reached : IsReached text before now after
-  pub is_line : now.line ≡ line
-  pub fault : fault_of (facts_after no_facts before) now.saying ≡ Some kind
-
--- no line breaks a rule, and none is ENDATA
-pub record HasNoEnd (text : List ℕ) (line kind : ℕ) : Type 0 where
-  pub quiet : AreQuiet no_facts (sayings_of text)
-  pub is_line : length (lines text) + 1 ≡ line
-  pub is_kind : 17 ≡ kind
-
--- the fault of a text is that of its first line that breaks a rule; else, without ENDATA, 17 at the line behind the
--- last
-abbrev pub FaultsAreFirst : Type 0
-FaultsAreFirst =
-    (text : List ℕ) (line kind : ℕ) → length text ≤ longest_text
-    → (HasFault text line kind) ↔ (IsFirstFault text line kind ⊎ HasNoEnd text line kind)
-
--- ENDATA is reached and breaks no rule, and this is the program of the lines before
-pub record IsDescribed (text : List ℕ) (program : Program) : Type 0 where
-  pub before : List Said
-  pub now : Said
-  pub after : List Said
-  pub short : length text ≤ longest_text
-  pub reached : IsReached text before now after
-  pub end : is_end now.saying ≡ true
-  pub no_fault : fault_of (facts_after no_facts before) now.saying ≡ None
-  pub is_program : program_of (facts_after no_facts before) ≡ program
-
--- a program is that of the lines before ENDATA, where no line as far as that breaks a rule
+-- a program is that of the lines as far as ENDATA, where none of them breaks a rule
 abbrev pub ProgramsAreDescribed : Type 0
-ProgramsAreDescribed = (text : List ℕ) (program : Program) → (HasProgram text program) ↔ (IsDescribed text program)
+ProgramsAreDescribed = ResultsAtEnds is_last mps_records
 
 -- the fault of a line is a kind whose rule is broken, and no lesser one is; a line without fault breaks none
 pub record FaultsAreLeast : Type 0 where
@@ -119,4 +64,5 @@ pub record AreCoefficients (facts : Facts) : Type 0 where
 -- else 0
 abbrev pub CoefficientsAreNumbers : Type 0
 CoefficientsAreNumbers =
-    (said : List Said) → AreQuiet no_facts said → AreCoefficients (facts_after no_facts said)
+    (records : List (Numbered Record)) → AreOpen is_last mps_records no_context records
+    → AreCoefficients (known_after mps_records no_context records).facts

@@ -1,21 +1,21 @@
 //! The laws of texts of free MPS.
 // Each function here does nothing. Its contract is one of the laws of the definitions, so that the check proves it.
 
-ghost use Rattle.cip_mps_rules.specs.MpsStatements.{OneOutcome, FaultsAreFirst, ProgramsAreDescribed, FaultsAreLeast, ProgramsAreWellFormed, CoefficientsAreNumbers};
+ghost use Rattle.cip_mps_rules.specs.MpsStatements.{TextsHaveOneOutcome, MpsFaultsAreFirst, ProgramsAreDescribed, FaultsAreLeast, ProgramsAreWellFormed, CoefficientsAreNumbers};
 
 /// A text has a program or a first fault, never both, and one of each at the most.
 pub fn one_outcome()
-    ensures { OneOutcome }
+    ensures { TextsHaveOneOutcome }
 {}
 
-/// The fault of a text of at most 67,108,864 bytes is that of its first line that breaks a rule; where none does and
-/// there is no ENDATA, it is kind 17 at the line behind the last.
+/// The fault of a text of at most 67,108,864 bytes is that of its first line that breaks a rule, where no ENDATA stands
+/// before; where none does and there is no ENDATA, it is kind 17 at the line behind the last.
 pub fn faults_are_first()
-    ensures { FaultsAreFirst }
+    ensures { MpsFaultsAreFirst }
 {}
 
 /// A text has a program exactly where it has at most 67,108,864 bytes, and an ENDATA such that no line as far as that
-/// breaks a rule; it is the program of the lines before.
+/// breaks a rule; it is the program of the lines as far as that.
 pub fn programs_are_described()
     ensures { ProgramsAreDescribed }
 {}

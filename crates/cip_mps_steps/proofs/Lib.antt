@@ -5,8 +5,6 @@ mod TestsSame
 mod Taken
 mod ProgramSame
 mod ReadLines
-mod ReadBytes
 pub mod ByLine
-mod EndedFaults
 mod Rising
 mod SoundState

@@ -9,21 +9,21 @@ use Rattle.std.proofs.lemmas.Bool.{ltb-false}
 use Rattle.cip_rational.specs.Rational.{zeroℚ}
 use Rattle.cip_problem.specs.Program.{Term, Program}
 use Rattle.cip_problem.specs.RowTerms.{AreTerms, no_term, column_at}
-use Rattle.cip_syntax.specs.Lines.{lines}
+use Rattle.cip_syntax.specs.Lines.{Record}
 use Rattle.cip_number_text.specs.Numeral.{Numeral}
 use Rattle.cip_mps_rules.specs.MpsWords.{is_in, number_in, is_zero}
-use Rattle.cip_mps_rules.specs.MpsSayings.{Place, Value, Saying, Said, ColumnLine, Numbered, said, place_after, sayings_from, no_place, records_from}
-use Rattle.cip_mps_rules.specs.MpsFacts.{GivenColumn, Coefficient, Facts, no_facts, facts_with, names_of, column_names, with_columns}
-use Rattle.cip_mps_rules.specs.MpsProgram.{number, term_on, terms_of, row_of, constraints}
-use Rattle.cip_mps_rules.specs.MpsRules.{values_in, has_coefficient, is_before_last}
-use Rattle.cip_mps_rules.specs.MpsOutcome.{HasProgram}
-use Rattle.cip_mps_rules.specs.MpsStatements.{AreQuiet, facts_after, NameOnce}
-use Rattle.cip_mps_rules.proofs.Quiet.{Keeps, keeps, left_false, right_false}
-use Rattle.cip_mps_rules.proofs.Outcomes.{described}
-use Rattle.cip_mps_rules.proofs.Coefficients.{names_once}
+use Rattle.cip_mps_rules.specs.MpsSayings.{Value, Saying, ColumnLine}
+use Rattle.cip_mps_rules.specs.MpsFacts.{GivenColumn, Coefficient, Facts, facts_with, names_of, column_names, with_columns}
+use Rattle.cip_mps_rules.specs.MpsProgram.{number, term_on, terms_of, row_of, constraints, program_of}
+use Rattle.cip_mps_rules.specs.MpsRules.{has_coefficient, is_before_last}
+use Rattle.cip_mps_rules.specs.MpsOutcome.{Context, said_in, HasProgram}
+use Rattle.cip_mps_rules.specs.MpsStatements.{NameOnce}
+use Rattle.cip_mps_rules.proofs.Quiet.{Keeps, left_false, right_false}
+use Rattle.cip_mps_rules.proofs.Outcomes.{of_program}
+use Rattle.cip_mps_rules.proofs.Coefficients.{once_with}
 use Rattle.cip_mps_rules.proofs.MpsNames.{bytes_same, same_bytes, number_below, number_same}
 use Rattle.cip_mps_steps.specs.MpsState.{is_zero_value}
-use Rattle.cip_mps_steps.proofs.Told.{IsTold, is_zero_is, zero_is_zero, AreSound, said_sound}
+use Rattle.cip_mps_steps.proofs.Told.{IsTold, is_zero_is, zero_is_zero, said_sound}
 use Rattle.cip_mps_steps.proofs.LookUps.{all_append, number_in-left, number_in-push}
 use Rattle.cip_mps_steps.proofs.Good.{Good, IsKnown, good_first, good_with, column_names_push}
 
@@ -203,35 +203,25 @@ are_terms terms r n = record {
 
 -- ---- a text
 
+-- numbers stand by rising column, and each row and column has one
 record Ordered (facts : Facts) : Type 0 where
   good : Good facts
   rise : Rise (column_names facts) facts.coefficients
+  once : NameOnce facts.coefficients
 
-ordered_after : (lines : List Said) (facts : Facts) → Ordered facts → AllByRecursion (λ now. AreSound (values_in now.saying)) lines → AreQuiet facts lines → Ordered (facts_after facts lines)
-ordered_after [] facts o s q = o
-ordered_after (now ∷ others) facts o s q =
-    let k : Keeps facts now.saying = keeps facts now.saying q.0.no_fault in
-    ordered_after others (facts_with facts now.saying)
-    (record { good = good_with facts now.saying k s.0 o.good; rise = rise_with facts now.saying k o.good o.rise }) s.1 q.1
+ordered_with : (context : Context) (content : Record) → Keeps context.facts (said_in context content) → Ordered context.facts → Ordered (facts_with context.facts (said_in context content))
+ordered_with context content k o = record {
+  good = good_with context.facts (said_in context content) k (said_sound context.place content) o.good;
+  rise = rise_with context.facts (said_in context content) k o.good o.rise;
+  once = once_with context.facts (said_in context content) k o.once;
+}
 
-sayings_sound : (place : Place) (records : List Numbered) → AllByRecursion (λ now. AreSound (values_in now.saying)) (sayings_from place records)
-sayings_sound place [] = tt
-sayings_sound place (r ∷ rs) = (said_sound place r.content, sayings_sound (place_after place (said place r.content)) rs)
-
-all_front : {X : Type 0} (P : X → Type 0) (xs ys : List X) → AllByRecursion P (xs ++ ys) → AllByRecursion P xs
-all_front P [] ys h = tt
-all_front P (x ∷ xs) ys h = (h.0, all_front P xs ys h.1)
+rows_terms : (facts : Facts) → Ordered facts → All (λ row. AreTerms row.terms) (program_of facts).rows
+rows_terms facts o =
+    All-map (λ row. AreTerms row.terms) (row_of facts) (constraints facts)
+    (λ i r l. are_terms _ (terms_rise (column_names facts) _ facts.coefficients o.rise o.once) (terms_nonzero (column_names facts) _ facts.coefficients o.good.entries_told))
 
 pub rows_are_terms : (text : List ℕ) (program : Program) → HasProgram text program → All (λ row. AreTerms row.terms) program.rows
-rows_are_terms text program h =
-    let d = described text program h in
-    let sound : AllByRecursion (λ now. AreSound (values_in now.saying)) d.before =
-    all_front (λ now. AreSound (values_in now.saying)) d.before (d.now ∷ d.after)
-    (subst (AllByRecursion (λ now. AreSound (values_in now.saying))) d.reached.are_lines (sayings_sound no_place (records_from 1 (lines text)))) in
-    let o = ordered_after d.before no_facts (record { good = good_first; rise = tt }) sound d.reached.quiet in
-    let once = names_once d.before d.reached.quiet in
-    subst (λ (p : Program). All (λ row. AreTerms row.terms) p.rows) d.is_program
-    (All-map (λ row. AreTerms row.terms) (row_of (facts_after no_facts d.before)) (constraints (facts_after no_facts d.before))
-    (λ i r l. are_terms _
-    (terms_rise (column_names (facts_after no_facts d.before)) _ (facts_after no_facts d.before).coefficients o.rise once)
-    (terms_nonzero (column_names (facts_after no_facts d.before)) _ (facts_after no_facts d.before).coefficients o.good.entries_told)))
+rows_are_terms =
+    of_program Ordered ordered_with (record { good = good_first; rise = tt; once = tt })
+    (λ (program : Program). All (λ row. AreTerms row.terms) program.rows) rows_terms

@@ -3,4 +3,3 @@ pub mod MpsSoundState
 pub mod MpsState
 pub mod MpsStepStatements
 pub mod MpsSteps
-pub mod MpsStream

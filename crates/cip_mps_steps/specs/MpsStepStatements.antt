@@ -1,25 +1,25 @@
 -- The laws of the steps, each as one statement: functions of `src/lib.rt` have them as contracts.
-use Rattle.std.specs.Prelude.{◌≡◌, ◌↔◌, ℕ, ◌≤◌, Bool, true, false, List, [], ◌∷◌, ◌++◌, None, Some, All, ◌^◌, pos, if◌then◌else◌}
+use Rattle.std.specs.Prelude.{◌≡◌, ℕ, Bool, true, false, List, [], ◌∷◌, None, Some, All, ◌^◌, pos, if◌then◌else◌}
 use Rattle.cip_rational.specs.Rational.{ℚ, integer, le_test, absolute}
 use Rattle.cip_problem.specs.Names.{number_of}
 use Rattle.cip_problem.specs.Program.{Program}
 use Rattle.cip_problem.specs.RowTerms.{AreTerms}
 use Rattle.cip_number_text.specs.Numeral.{Numeral, value_of, numeral_of}
+use Rattle.cip_line_texts.specs.LineStream.{TextsAreRead, FaultsOfEndedLines, FaultsStay}
 use Rattle.cip_mps_rules.specs.MpsWords.{Part, End, RowKind, BoundKind, number_in, is_in, is_zero, is_negative, is_huge, near_or_huge}
 use Rattle.cip_mps_rules.specs.MpsSayings.{Value, Saying, no_place, UnknownSection, Opens, Misplaced, Miscounted, Skipped, SenseLine, RowLine, ColumnLine, Marker, BadMarker, RightSideLine, RangeLine, BoundLine, BadBound}
 use Rattle.cip_mps_rules.specs.MpsFacts.{no_facts}
 use Rattle.cip_mps_rules.specs.MpsProgram.{number, unsigned}
 use Rattle.cip_mps_rules.specs.MpsRules.{rule, least, is_end}
-use Rattle.cip_mps_rules.specs.MpsOutcome.{outcome_of, HasProgram, HasFault}
+use Rattle.cip_mps_rules.specs.MpsOutcome.{mps_reading, HasProgram}
 use Rattle.cip_mps_steps.specs.MpsState.{State, state_of, is_negative_value, is_zero_value}
-use Rattle.cip_mps_steps.specs.MpsSteps.{tests, taken}
+use Rattle.cip_mps_steps.specs.MpsSteps.{tests, taken, mps_steps}
 use Rattle.cip_mps_steps.specs.MpsSoundState.{IsSoundState}
 use Rattle.cip_mps_steps.specs.MpsLineTests.{opening_tests, end_tests, sense_tests, row_tests, column_tests, right_side_tests, range_tests, bound_tests}
-use Rattle.cip_mps_steps.specs.MpsStream.{read_outcome, LineFault, ended_fault, stream_of}
 
 -- a text that is read byte by byte comes to its outcome
-abbrev pub TextsAreRead : Type 0
-TextsAreRead = (text : List ℕ) → read_outcome text ≡ outcome_of text
+abbrev pub MpsTextsAreRead : Type 0
+MpsTextsAreRead = TextsAreRead mps_reading mps_steps
 
 -- a line's tests have the least kind of those of its kind of line
 pub record LinesHaveTests : Type 0 where
@@ -55,18 +55,12 @@ NumbersAreOfNames = (names : List (List ℕ)) (name : List ℕ) → number_in na
 -- ---- texts in pieces
 
 -- a fault is known exactly where the text, as far as it was read, is faulty at a line that has ended
-abbrev pub FaultsOfEndedLines : Type 0
-FaultsOfEndedLines =
-    (text : List ℕ) (line kind : ℕ)
-    → (ended_fault (stream_of text) ≡ Some (record { line = line; kind = kind }))
-    ↔ (HasFault text line kind × (line ≤ (stream_of text).ended))
+abbrev pub MpsFaultsOfEndedLines : Type 0
+MpsFaultsOfEndedLines = FaultsOfEndedLines mps_reading mps_steps
 
 -- a fault that is known is the text's, whatever follows, and stays known
-pub record FaultsStay : Type 0 where
-  pub of_text : (text rest : List ℕ) (fault : LineFault) → ended_fault (stream_of text) ≡ Some fault
-      → HasFault (text ++ rest) fault.line fault.kind
-  pub known : (text rest : List ℕ) (fault : LineFault) → ended_fault (stream_of text) ≡ Some fault
-      → ended_fault (stream_of (text ++ rest)) ≡ Some fault
+abbrev pub MpsFaultsStay : Type 0
+MpsFaultsStay = FaultsStay mps_reading mps_steps
 
 -- ---- rows
 

@@ -1,20 +1,22 @@
 -- One line more, on the state of a reader.
 --     tests state saying      the rules of a line, by look-ups of numbers
 --     taken state saying      the state, and what a line without fault says
---     line_read progress number line      the progress, and one line more
+--     mps_steps      how a text is read by these steps
 use Rattle.std.specs.Prelude.{ℕ, ◌+◌, ◌==◌, Bool, false, not, ◌&&◌, ◌||◌, if◌then◌else◌, List, [], ◌∷◌, ◌++◌, length, map, Option, None, Some, is_some, unwrap_or, slice_index_or, slice_set}
 use Rattle.std.specs.List.{list_any}
 use Rattle.cip_rational.specs.Rational.{ℚ, zeroℚ, absolute}
 use Rattle.cip_rational.specs.Range.{sum_overflows, difference_overflows}
-use Rattle.cip_syntax.specs.Lines.{Record, record_of}
+use Rattle.cip_problem.specs.Program.{Program}
+use Rattle.cip_syntax.specs.Lines.{Record}
+use Rattle.cip_line_texts.specs.LineTexts.{Reading, records_of}
+use Rattle.cip_line_texts.specs.LineEnds.{Stage, ending}
 use Rattle.cip_mps_rules.specs.MpsWords.{RowKind, number_in, is_in, is_no_number, is_too_fine}
-use Rattle.cip_mps_rules.specs.MpsSayings.{Value, Saying, RowLine, ColumnLine, RightSideLine, RangeLine, BoundLine, said, place_after}
-use Rattle.cip_mps_rules.specs.MpsFacts.{parts_in, senses_in, coefficients_in}
+use Rattle.cip_mps_rules.specs.MpsSayings.{Value, Saying, RowLine, ColumnLine, RightSideLine, RangeLine, BoundLine, no_place, said, place_after}
+use Rattle.cip_mps_rules.specs.MpsFacts.{no_facts, parts_in, senses_in, coefficients_in}
 use Rattle.cip_mps_rules.specs.MpsBounds.{Bounded, unbounded, with_bound}
 use Rattle.cip_mps_rules.specs.MpsProgram.{number, is_free}
 use Rattle.cip_mps_rules.specs.MpsRules.{Rule, rule, least, is_unknown_section, is_out_of_order, lacks_section, is_miscounted, numbers_in, has_huge_value, names_unknown_row, names_unknown_column, repeats_row, has_twins, splits_column, has_bad_row_type, has_bad_bound_type, is_bad_marker, lacks_objective, is_too_many, has_long_name, has_bad_sense, has_bad_bound, is_end, entry_count}
-use Rattle.cip_mps_rules.specs.MpsOutcome.{Outcome, Means, Faulty}
-use Rattle.cip_mps_steps.specs.MpsState.{RowRead, State, no_row, row_at, first_of, value_for, moves_low_side, program_from}
+use Rattle.cip_mps_steps.specs.MpsState.{RowRead, State, state_of, no_row, row_at, first_of, value_for, moves_low_side, program_from}
 
 -- ---- tests
 
@@ -198,28 +200,28 @@ put state other = state
 abbrev pub taken : State → Saying → State
 taken state now = put (moved_on state now) now
 
--- ---- lines
+-- ---- texts
 
--- how far a text has been read: there is a state, or the outcome is known
-pub data Progress : Type 0 where
-  Going : State → Progress
-  Over : Outcome → Progress
+-- what a record says
+abbrev pub said_at : State → Record → Saying
+said_at state content = said state.place content
 
--- behind the tests of a line: its fault, the program at ENDATA, or the next state
-abbrev pub progress_at : Option ℕ → (line : ℕ) → State → Saying → Progress
-progress_at (Some kind) line state now = Over (Faulty line kind)
-progress_at None line state now = if is_end now then Over (Means (program_from state)) else Going (taken state now)
+-- a record is the line ENDATA
+abbrev pub is_last_at : State → Record → Bool
+is_last_at state content = is_end (said_at state content)
 
--- the progress behind what a line says
-abbrev pub saying_read : State → (line : ℕ) → Saying → Progress
-saying_read state line now = progress_at (least (tests state now)) line state now
+-- how records are read, one step for each
+abbrev pub record_steps : Reading State Record Program
+record_steps = record {
+  items = records_of 42;
+  start = state_of no_place no_facts;
+  fault = λ state content. least (tests state (said_at state content));
+  next = λ state content. taken state (said_at state content);
+  end_fault = λ state. Some 17;
+  result = program_from;
+  long = 18;
+}
 
--- the progress behind a record, if the line has one
-abbrev pub record_read : State → (line : ℕ) → Option Record → Progress
-record_read state line None = Going state
-record_read state line (Some content) = saying_read state line (said state.place content)
-
--- one line more; once the outcome is known it stays
-abbrev pub line_read : Progress → (number : ℕ) → List ℕ → Progress
-line_read (Over outcome) number line = Over outcome
-line_read (Going state) number line = record_read state number (record_of 42 line)
+-- how a text is read: ENDATA ends it
+abbrev pub mps_steps : Reading (Stage State) Record Program
+mps_steps = ending is_last_at record_steps

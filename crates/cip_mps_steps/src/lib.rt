@@ -3,11 +3,11 @@
 // Each function here does nothing. Its contract is a law of the steps, so that the check proves it.
 #![tactic(auto)]
 
-ghost use Rattle.cip_mps_steps.specs.MpsStepStatements.{TextsAreRead, LinesHaveTests, NumbersAreOfNames, FaultsOfEndedLines, FaultsStay, RowsAreTerms, ValuesAreTested, StatesAreSound};
+ghost use Rattle.cip_mps_steps.specs.MpsStepStatements.{MpsTextsAreRead, LinesHaveTests, NumbersAreOfNames, MpsFaultsOfEndedLines, MpsFaultsStay, RowsAreTerms, ValuesAreTested, StatesAreSound};
 
 /// A text that is read byte by byte comes to exactly the program or the first fault of the text.
 pub fn texts_are_read()
-    ensures { TextsAreRead }
+    ensures { MpsTextsAreRead }
 {}
 
 /// Of all tests of a line the least kind is that of the tests that its kind of line can fail.
@@ -23,12 +23,12 @@ pub fn numbers_are_of_names()
 /// Before a text ends a fault is known exactly where the text, as far as it was read, is faulty at a line that has
 /// ended.
 pub fn faults_of_ended_lines()
-    ensures { FaultsOfEndedLines }
+    ensures { MpsFaultsOfEndedLines }
 {}
 
 /// A fault that is known before a text ends is the text's, whatever follows, and stays known.
 pub fn faults_stay()
-    ensures { FaultsStay }
+    ensures { MpsFaultsStay }
 {}
 
 /// The rows of a text's program have their terms by rising column, and none with the coefficient 0.

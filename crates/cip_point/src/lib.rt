@@ -2,13 +2,15 @@
 #![tactic(auto)]
 
 mod faults;
+mod kinds;
 mod laws;
 mod point_lines;
 mod point_text;
 mod reader;
 mod whole_text;
 
-pub use faults::{PointFault, PointKind, ReadFault};
+pub use faults::{PointFault, ReadFault};
+pub use kinds::PointKind;
 pub use laws::known_point_faults_stay;
 pub use reader::PointReader;
 pub use whole_text::read_point;

@@ -1,12 +1,13 @@
 -- A text and its first line, a line and its first field.
-use Rattle.std.proofs.Common.{◌≡◌, ℕ, suc, ◌+◌, ◌-◌, ◌<◌, ◌≤◌, Bool, true, false, not, ltb, eqb, cond, List, [], ◌∷◌, length, take, None, Some, refl, sym, ap, ◌∙◌, arith}
+use Rattle.std.proofs.Common.{◌≡◌, ℕ, suc, ◌+◌, ◌-◌, ◌<◌, ◌≤◌, Bool, true, false, not, ltb, eqb, cond, List, [], ◌∷◌, ◌++◌, length, map, take, Option, None, Some, refl, sym, ap, ◌∙◌, arith}
 use Rattle.std.specs.List.{slice_split, filter, before_first, after_first, position_or_len}
 use Rattle.std.proofs.lemmas.Bool.{ltb-true, ltb-false}
 use Rattle.std.proofs.lemmas.List.{take_all, drop_all, length-drop}
 use Rattle.std.proofs.lemmas.List.Sums.{fails_before_first}
 use Rattle.std.proofs.lemmas.List.Splits.{slice_split_first, slice_split_none, slice_split-cons_yes}
 use Rattle.cip_syntax.specs.Lines.{Record, is_line_feed, is_blank, is_filled, without_empty_end, lines, fields, record_of}
-use Rattle.cip_mps_rules.specs.MpsSayings.{Numbered, with_record}
+use Rattle.cip_line_texts.specs.LineTexts as texts
+use Rattle.cip_line_texts.specs.LineTexts.{Numbered, records_in}
 use Rattle.cip_text.specs.LineStarts.{begins_blank}
 use Rattle.cip_text.specs.TextLines.{records_with}
 
@@ -83,6 +84,10 @@ first_field xs some starts = go (ltb (position_or_len is_blank xs) (length xs)) 
 
 -- ---- numbered lines
 
+-- a record, where there is one, before others
+abbrev with_record : ℕ → Option Record → List (Numbered Record) → List (Numbered Record)
+with_record number found others = map (texts.numbered number) (records_in found) ++ others
+
 pub silent_line : (comment number : ℕ) (xs line behind : List ℕ) → 0 < length xs → line ≡ before_first is_line_feed xs → behind ≡ after_first is_line_feed xs → record_of comment line ≡ None
     → records_with comment number (lines xs) ≡ records_with comment (number + 1) (lines behind)
 silent_line comment number xs line behind some l_is b_is none =
@@ -92,7 +97,7 @@ silent_line comment number xs line behind some l_is b_is none =
     ∙ ap (λ l. records_with comment (number + 1) (lines l)) (sym b_is)
 
 pub said_line_is : (comment number : ℕ) (xs line behind : List ℕ) (content : Record) → 0 < length xs → line ≡ before_first is_line_feed xs → behind ≡ after_first is_line_feed xs → record_of comment line ≡ Some content
-    → records_with comment number (lines xs) ≡ record { line = number; content = content } ∷ records_with comment (number + 1) (lines behind)
+    → records_with comment number (lines xs) ≡ record { line = number; item = content } ∷ records_with comment (number + 1) (lines behind)
 said_line_is comment number xs line behind content some l_is b_is found =
     ap (records_with comment number) (first_line xs some)
     ∙ ap (λ l. with_record number (record_of comment l) (records_with comment (number + 1) (lines (after_first is_line_feed xs)))) (sym l_is)
@@ -111,11 +116,11 @@ behind_shorter xs behind some e =
     let m : length behind ≡ length (after_first is_line_feed xs) = ap length e in
     omega (arith, n, m, some)
 
-abbrev numbered_at : ℕ → Record → Numbered
-numbered_at number content = record { line = number; content = content }
+abbrev numbered_at : ℕ → Record → Numbered Record
+numbered_at number content = record { line = number; item = content }
 
 pub said_line_at : (comment number told : ℕ) (xs line behind : List ℕ) (content : Record) → 0 < length xs → line ≡ before_first is_line_feed xs → behind ≡ after_first is_line_feed xs → Some content ≡ record_of comment line → told ≡ number
-    → records_with comment number (lines xs) ≡ record { line = told; content = content } ∷ records_with comment (told + 1) (lines behind)
+    → records_with comment number (lines xs) ≡ record { line = told; item = content } ∷ records_with comment (told + 1) (lines behind)
 said_line_at comment number told xs line behind content some l_is b_is found e =
     said_line_is comment number xs line behind content some l_is b_is (sym found) ∙ ap (λ n. numbered_at n content ∷ records_with comment (n + 1) (lines behind)) (sym e)
 

@@ -3,6 +3,7 @@ pub mod Cuts
 pub mod Decided
 pub mod DigitLists
 pub mod Grown
+pub mod OneLine
 pub mod Places
 pub mod Reduced
 pub mod TextParts

@@ -1,5 +1,9 @@
-use Rattle.cip_mps_steps.proofs.EndedFaults.{fault_stays, known_stays}
+use Rattle.cip_line_texts.proofs.LineFaults.{faults_stay}
+use Rattle.cip_line_texts.proofs.LineEnded.{GoodStage}
+use Rattle.cip_mps_rules.specs.MpsOutcome.{mps_records, mps_reading}
+use Rattle.cip_mps_steps.specs.MpsSteps.{record_steps, mps_steps}
+use Rattle.cip_mps_steps.proofs.ReadLines.{GoodState, steps_stand}
 use Rattle.cip_mps_steps.proofs.faults_stay.Goals as goal
 
 pub returns : goal.returns
-returns c = record { of_text = fault_stays; known = known_stays }
+returns c = faults_stay mps_reading mps_steps (GoodStage mps_records record_steps GoodState) steps_stand

@@ -1,5 +1,7 @@
-use Rattle.cip_mps.proofs.PieceLaws.{stay}
+use Rattle.cip_line_stream.proofs.Streams.{stay}
+use Rattle.cip_mps_rules.specs.MpsOutcome.{mps_reading}
+use Rattle.cip_mps_steps.specs.MpsSteps.{mps_steps}
 use Rattle.cip_mps.proofs.laws.known_faults_stay.Goals as goal
 
 pub returns : goal.returns
-returns c = stay c.faults_of_ended_lines.ensures c.faults_stay.ensures
+returns c = stay mps_reading mps_steps c.faults_of_ended_lines.ensures c.faults_stay.ensures

@@ -1,5 +1,5 @@
 use Rattle.std.proofs.Common.{[]}
-use Rattle.cip_mps.proofs.PieceLaws.{whole_fault}
+use Rattle.cip_mps.proofs.MpsAnswers.{whole_fault}
 use Rattle.cip_mps.proofs.whole_text.read_mps.Goals as goal
 
 pub returns-in-Ok : goal.returns-in-Ok

@@ -1,5 +1,6 @@
-use Rattle.cip_mps_rules.proofs.Outcomes.{some_outcome, never_both, one_program, one_fault}
+use Rattle.cip_line_texts.proofs.LineOutcomes.{one_outcome}
+use Rattle.cip_mps_rules.specs.MpsOutcome.{mps_reading}
 use Rattle.cip_mps_rules.proofs.texts.one_outcome.Goals as goal
 
 pub returns : goal.returns
-returns c = record { some = some_outcome; never_both = never_both; one_program = one_program; one_fault = one_fault }
+returns c = one_outcome mps_reading

@@ -1,5 +1,6 @@
-use Rattle.cip_mps_rules.proofs.Outcomes.{described, describes}
+use Rattle.cip_line_texts.proofs.LineEnded.{results_at_ends}
+use Rattle.cip_mps_rules.specs.MpsOutcome.{is_last, mps_records}
 use Rattle.cip_mps_rules.proofs.texts.programs_are_described.Goals as goal
 
 pub returns : goal.returns
-returns c = λ text program. (described text program, describes text program)
+returns c = results_at_ends is_last mps_records

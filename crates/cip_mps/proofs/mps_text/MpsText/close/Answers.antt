@@ -1,0 +1,11 @@
+use Rattle.cip_line_stream.proofs.Streams.{ends_with}
+use Rattle.cip_mps_rules.specs.MpsOutcome.{mps_reading}
+use Rattle.cip_mps_steps.specs.MpsSteps.{mps_steps}
+use Rattle.cip_mps.specs.MpsTexts.{kept_of, stage_of}
+use Rattle.cip_mps.proofs.mps_text.MpsText.close.Goals as goal
+
+pub returns-clause-outcome : goal.returns-clause-outcome
+returns-clause-outcome c = λ text h.
+    let now = c.args.self.now in
+    let after = c.read_last.new.self in
+    ends_with mps_reading mps_steps c.texts_are_read.ensures text (kept_of now) (kept_of after) (stage_of now) (stage_of after) c.in_ok-last_kind.last_kind c.end_kind-end_kind.result c.fault_at_end.result h c.in_ok-last_kind.ensures.read c.read_last.ensures.kept c.end_kind-end_kind.ensures.fault c.fault_at_end.ensures
