@@ -12,6 +12,7 @@ use Rattle.cip_search_ends.specs.SearchAnswers.{IsSearchAnswer}
 use Rattle.cip_answers.specs.Figures.{Infeasible, Unbounded}
 use Rattle.cip_headline.specs.Headline.{cost_held}
 use Rattle.cip_headline.specs.Printed.{status_of, printed_held, figures_of}
+use Rattle.cip_solve.specs.Solved.{IsShownBeside, RayIsShown}
 use Rattle.cip_answering.specs.Work.{HasNoRay, HasNoBound, TellsWhatIsLeft}
 
 is_unbounded : (rows : List (List ℕ)) (ended : Ended) (ray : List ℚ) → status_of rows ended ≡ Unbounded ray → ended ≡ ends.Unbounded ray
@@ -30,6 +31,11 @@ is_unbounded rows ends.NoMemory ray e = absurd (cc)
 costs_held : (program : Program) (held : Option Held) → IfSome held (IsHeldPoint program) → ends.cost_held held ≡ cost_held program (option_map (printed_held program) held)
 costs_held program None h = refl
 costs_held program (Some held) h = ap Some h.cost
+
+-- the points held, as they are and as they are printed
+points_held : (program : Program) (held : Option Held) → option_map (λ h. h.point) held ≡ option_map (λ h. h.point) (option_map (printed_held program) held)
+points_held program None = refl
+points_held program (Some held) = refl
 
 none_before : (program : Program) (bound : Option ℚ) → option_map (printed program) bound ≡ None → bound ≡ None
 none_before program None e = refl
@@ -53,8 +59,8 @@ module _ (program : Program) (start : Option ℚ) (nodes : ℕ) (asked : Option 
   settled (ends.Wide leaf shown) n h = h
   settled ends.NoMemory n h = h
 
-pub left_of : (program : Program) (start : Option ℚ) (nodes : ℕ) (asked : Option ℚ) (log : List Entry) (marked : List ℕ) (answer : Answer) → IsSearchAnswer program start nodes asked log marked answer → TellsWhatIsLeft program start log (figures_of program answer)
-left_of program start nodes asked log marked answer r =
+pub left_of : (program : Program) (start : Option ℚ) (nodes : ℕ) (asked : Option ℚ) (log : List Entry) (marked : List ℕ) (answer : Answer) → IsSearchAnswer program start nodes asked log marked answer → RayIsShown program answer → TellsWhatIsLeft program start log (figures_of program answer)
+left_of program start nodes asked log marked answer r s =
     let rows = program.row_names in
     let costs : ends.cost_held answer.held ≡ cost_held program (option_map (printed_held program) answer.held) = costs_held program answer.held r.right.point in
     let at_end : HasNoRay (status_of rows answer.ended) → IsSettled program start nodes asked log answer = λ m. settled program start nodes asked log answer answer.ended (λ ray e. m ray (ap (status_of rows) e)) r.right.end_ in
@@ -69,4 +75,5 @@ left_of program start nodes asked log marked answer r =
       no_bound = λ n m e. none_least program start log (ends.cost_held answer.held) (subst (IsOneOf program start log (ends.cost_held answer.held)) (none_before program answer.bound e) (is_least n m).one);
       empty = λ e. ap (status_of rows) (r.searched e);
       ray = λ ray e. r.ray ray (is_unbounded rows answer.ended ray e);
+      shown = λ ray e. subst (λ point. IsShownBeside program point ray) (points_held program answer.held) (s ray (is_unbounded rows answer.ended ray e));
     }

@@ -64,5 +64,5 @@ works_of program limits old new answer sink sink_after result l s told = record 
   is_printed = sym (figures_same program answer);
   solved = s.right;
   same_start = refl;
-  left = subst (TellsWhatIsLeft program s.right.start s.entries) (figures_same program answer) (left_of program s.right.start limits.nodes limits.gap s.entries (numbers_of s.marks) (answer_of answer) s.right.right);
+  left = subst (TellsWhatIsLeft program s.right.start s.entries) (figures_same program answer) (left_of program s.right.start limits.nodes limits.gap s.entries (numbers_of s.marks) (answer_of answer) s.right.right s.right.shown);
 }

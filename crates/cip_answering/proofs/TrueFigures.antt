@@ -17,16 +17,17 @@ use Rattle.cip_headline.proofs.TrueFigures.{figures_are_true}
 use Rattle.cip_model.specs.declared.verdicts.Place.TheVariants.{Row, Cost}
 use Rattle.cip_report.specs.declared.figures.Ended.{Ended}
 use Rattle.cip_report.specs.declared.figures.Ended.TheVariants.{Optimal, Infeasible, Unbounded, Wide, NodeLimit, Gap, NoMemory}
-use Rattle.cip_report.specs.declared.figures.Shown.{Shown}
-use Rattle.cip_report.specs.declared.figures.Shown.TheVariants.{Place, Moves}
+use Rattle.cip_leaf.specs.declared.answers.Shown.{Shown}
+use Rattle.cip_leaf.specs.declared.answers.Shown.TheVariants.{Place, Moves}
 use Rattle.cip_report.specs.declared.figures.Held.{Held}
 use Rattle.cip_report.specs.declared.figures.Answer.{Answer}
 use Rattle.cip_report.specs.Answers.{status_of, overflow_of, printed_held, figures_of}
-use Rattle.cip_endings.specs.AnswerOf.{shown_of, ended_of, held_of, answer_of}
+use Rattle.cip_leaf.specs.LeafAnswers.{shown_as}
+use Rattle.cip_endings.specs.AnswerOf.{ended_of, held_of, answer_of}
 use Rattle.cip_node.specs.Beginning.{root_value}
 use Rattle.cip_solve.specs.Solved.{IsSolved}
 
-overflow_same : (rows : List (List ℕ)) (shown : Shown) → overflow_at rows (shown_of shown) ≡ overflow_of rows shown
+overflow_same : (rows : List (List ℕ)) (shown : Shown) → overflow_at rows (shown_as shown) ≡ overflow_of rows shown
 overflow_same rows (Place (Row number)) = refl
 overflow_same rows (Place Cost) = refl
 overflow_same rows (Moves number) = refl

@@ -17,7 +17,7 @@ use Rattle.cip_report.specs.declared.figures.Ended.TheVariants.{NoMemory as Lack
 use Rattle.cip_report.specs.declared.figures.Answer.{Answer}
 use Rattle.cip_endings.specs.AnswerOf.{answer_of}
 use Rattle.cip_node.specs.Beginning.{root_value}
-use Rattle.cip_solve.specs.Solved.{IsSolved}
+use Rattle.cip_solve.specs.Solved.{IsShownBeside, IsSolved}
 use Rattle.cip_solve.specs.declared.logs.Log.{Log}
 use Rattle.cip_words.specs.Jobs.{Limits}
 use Rattle.cip_answering.specs.Answering.{AddsLog, AddsNone, Answers}
@@ -79,6 +79,9 @@ pub record TellsWhatIsLeft (program : Program) (start : Option ℚ) (log : List 
   pub empty : log ≡ [] → figures.status ≡ NoMemory
   -- a ray comes with the node that showed it, which was put aside, as the last one taken
   pub ray : (ray : List ℚ) → figures.status ≡ Unbounded ray → IsParkedLast log
+  -- and the check of rays accepts it beside the printed point
+  pub shown : (ray : List ℚ) → figures.status ≡ Unbounded ray
+      → IsShownBeside program (option_map (λ held. held.point) figures.held) ray
 
 -- ---- the figures of a search
 

@@ -111,7 +111,6 @@ fn fill_coefficients(draws: &mut Draws, numbers: Numbers, columns: u32, scratch:
 
 /// Adds a row to the pool, where it fits; `false` where there is no memory.
 fn is_added(
-    alloc: Global,
     draws: &mut Draws,
     numbers: Numbers,
     row: &Scratch,
@@ -122,10 +121,7 @@ fn is_added(
     if row.row.entries().len() != columns || scope.len() != columns {
         return true;
     }
-    asked
-        .pool
-        .add(alloc, row, draws.number(numbers), scope)
-        .is_ok()
+    asked.pool.add(row, draws.number(numbers), scope).is_ok()
 }
 
 /// Draws a scope for a row, and adds that to the pool.
@@ -138,7 +134,7 @@ fn add_scoped(
 ) -> bool {
     match Bounds::new(alloc, 0) {
         Ok(mut scope) => fill_scope(draws, &asked.bounds, &mut scope).is_ok()
-            && is_added(alloc, draws, numbers, row, &scope, asked),
+            && is_added(draws, numbers, row, &scope, asked),
         Err(_) => false,
     }
 }

@@ -29,18 +29,12 @@ fn empty_pool(alloc: Global) -> Option<Pooled> {
 }
 
 /// What adding a row comes to, where its columns are the pool's and there is memory.
-fn added(
-    alloc: Global,
-    pool: &mut RowPool,
-    scratch: &Scratch,
-    least: i64,
-    scope: &Bounds,
-) -> Option<Added> {
+fn added(pool: &mut RowPool, scratch: &Scratch, least: i64, scope: &Bounds) -> Option<Added> {
     let columns = pool.columns();
     if scratch.row.entries().len() != columns || scope.len() != columns {
         return None;
     }
-    pool.add(alloc, scratch, Frac::from(least), scope).ok()
+    pool.add(scratch, Frac::from(least), scope).ok()
 }
 
 /// How many rows may be used in a box, where its columns are the pool's.
@@ -62,13 +56,13 @@ impl Pooled {
     }
 
     /// What adding the row comes to, with the narrow box as its scope.
-    fn is_added(&mut self, alloc: Global, least: i64, want: Added) -> bool {
-        added(alloc, &mut self.pool, &self.row, least, &self.narrow) == Some(want)
+    fn is_added(&mut self, least: i64, want: Added) -> bool {
+        added(&mut self.pool, &self.row, least, &self.narrow) == Some(want)
     }
 
     /// The same with the wide one.
-    fn is_added_widely(&mut self, alloc: Global, least: i64, want: Added) -> bool {
-        added(alloc, &mut self.pool, &self.row, least, &self.wide) == Some(want)
+    fn is_added_widely(&mut self, least: i64, want: Added) -> bool {
+        added(&mut self.pool, &self.row, least, &self.wide) == Some(want)
     }
 
     /// How many rows may be used in the wide and in the narrow box.
@@ -81,18 +75,18 @@ impl Pooled {
     fn knows_rows(&mut self, alloc: Global) -> bool {
         self.is_filled()
             && is_half_a_row(alloc, &mut self.row)
-            && self.is_added(alloc, -1, Added::New(0))
-            && self.is_added(alloc, -1, Added::Known(0))
+            && self.is_added(-1, Added::New(0))
+            && self.is_added(-1, Added::Known(0))
             && self.are_usable(0, 1)
-            && self.is_added_widely(alloc, -1, Added::New(1))
+            && self.is_added_widely(-1, Added::New(1))
             && self.are_usable(1, 2)
     }
 
     /// 8,192 rows are new.
-    fn fills(&mut self, alloc: Global) -> bool {
+    fn fills(&mut self) -> bool {
         for number in 0..8192_u32 {
             let new = Added::New(u64::from(number));
-            if !self.is_added(alloc, i64::from(number), new) {
+            if !self.is_added(i64::from(number), new) {
                 return false;
             }
         }
@@ -106,15 +100,15 @@ impl Pooled {
     }
 
     /// A full pool takes a row once another one is gone, and has lost the older half when it has aged.
-    fn loses_rows(&mut self, alloc: Global) -> bool {
+    fn loses_rows(&mut self) -> bool {
         let is_full = self.is_filled()
-            && self.fills(alloc)
-            && self.is_added(alloc, 8192, Added::Full)
-            && self.is_added(alloc, 5, Added::Known(5));
+            && self.fills()
+            && self.is_added(8192, Added::Full)
+            && self.is_added(5, Added::Known(5));
         self.pool.retire(5);
-        let is_taken = self.is_added(alloc, 5, Added::New(8192));
+        let is_taken = self.is_added(5, Added::New(8192));
         self.pool.age();
-        is_full && is_taken && self.is_half_left() && self.is_added(alloc, 7, Added::New(8193))
+        is_full && is_taken && self.is_half_left() && self.is_added(7, Added::New(8193))
     }
 }
 
@@ -127,5 +121,5 @@ fn a_row_is_known_inside_its_scope(rt: HostRuntime) {
 #[test]
 fn a_full_pool_is_full_until_rows_go(rt: HostRuntime) {
     let mut pooled = empty_pool(rt.alloc()).expect(&rt, "memory");
-    assert!(rt; pooled.loses_rows(rt.alloc()));
+    assert!(rt; pooled.loses_rows());
 }

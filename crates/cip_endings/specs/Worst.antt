@@ -6,7 +6,7 @@ use Rattle.cip_problem.specs.Log.{Node}
 use Rattle.cip_leaf_programs.specs.WideLeaf.{Shown}
 use Rattle.cip_leaf_programs.specs.WideNodes.{IsWideAs}
 use Rattle.cip_search_ends.specs.EndLaws.{IsShownNode}
-use Rattle.cip_endings.specs.AnswerOf.{shown_of}
+use Rattle.cip_leaf.specs.LeafAnswers.{shown_as}
 use Rattle.cip_endings.specs.declared.worst.Worst.{Worst}
 
 -- of the parked nodes the one of least bound, the first of these, has this leaf and this bound
@@ -19,7 +19,7 @@ pub record IsFirstWorst
 abbrev pub IsWorst : Program → List Node → Option Worst → Type 0
 IsWorst program parked None = parked ≡ []
 IsWorst program parked (Some worst) =
-    IsFirstWorst program parked worst.leaf.items worst.bound (shown_of worst.shown)
+    IsFirstWorst program parked worst.leaf.items worst.bound (shown_as worst.shown)
 
 -- the bound of the worst
 abbrev pub worst_bound : Option Worst → Option (Option ℚ)
@@ -31,5 +31,5 @@ abbrev pub IsWorse : Option Worst → Worst → Option Worst → Type 0
 IsWorse old parked new =
     (program : Program) (nodes : List Node) (node : Node)
     → IsWorst program nodes old
-    → node.bound ≡ parked.bound → IsWideAs program node parked.leaf.items (shown_of parked.shown)
+    → node.bound ≡ parked.bound → IsWideAs program node parked.leaf.items (shown_as parked.shown)
     → IsWorst program (nodes ++ node ∷ []) new

@@ -7,7 +7,7 @@ ghost use Rattle.cip_endings.specs.Ends.{one_matters, EndsBy};
 use crate::gaps::reaches_gap;
 use crate::worst::{Worst, worst_bound};
 use cip_frac::Frac;
-use cip_node_rules::does_matter;
+use cip_node_rules::matters;
 use cip_report::Ended;
 
 /// Whether there is a bound, and it matters beside the cost held.
@@ -16,7 +16,7 @@ fn one_matters(held: &Option<Frac>, bound: &Option<Option<Frac>>) -> bool
 {
     match bound {
         None => false,
-        Some(bound) => does_matter(*held, *bound),
+        Some(bound) => matters(*held, *bound),
     }
 }
 

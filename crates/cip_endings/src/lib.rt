@@ -10,4 +10,4 @@ mod worst;
 pub use bounds::{bound_held, capped, flat, is_no_more, least_of, lesser};
 pub use ends::ended_at;
 pub use gaps::reaches_gap;
-pub use worst::{Worst, least_left, printed_shown, worse, worst_bound};
+pub use worst::{Worst, least_left, worse, worst_bound};

@@ -1,13 +1,11 @@
 //! The parked leaf that is to be shown.
 ghost use Rattle.std.specs.Prelude.{◌≡◌};
-ghost use Rattle.cip_leaf.specs.LeafAnswers.{shown_as};
-ghost use Rattle.cip_endings.specs.AnswerOf.{shown_of};
 ghost use Rattle.cip_endings.specs.LeastBounds.{least_of, bound_held};
 ghost use Rattle.cip_endings.specs.Worst.{IsWorse, worst_bound};
 
 use crate::bounds::{bound_held, is_no_more, least_of};
 use cip_frac::Frac;
-use cip_report::Shown;
+use cip_leaf::Shown;
 
 /// The parked leaf of least bound, the first of these: its values, its bound, and by what it is shown.
 #[derive(Debug, Drop)]
@@ -18,16 +16,6 @@ pub struct Worst {
     pub bound: Option<Frac>,
     /// What overflows there.
     pub shown: Shown,
-}
-
-/// What is shown of a leaf, as it is printed.
-pub fn printed_shown(shown: cip_leaf::Shown) -> Shown
-    ensures { shown_of result ≡ shown_as shown }
-{
-    match shown {
-        cip_leaf::Shown::Place(place) => Shown::Place(place),
-        cip_leaf::Shown::Moves(number) => Shown::Moves(number),
-    }
 }
 
 /// The bound of the worst leaf, if one was parked.

@@ -24,7 +24,7 @@ pool_aged program held pool n h = λ kept c.
     h kept (subst (λ l. Contains l kept) (take-append-drop n pool) (Contains-append_right (take n pool) (drop n pool) kept c))
 
 -- after steps that leave the pool and the box in work alone
-pub ready_from : (old new : Core) → new ≡ record old { rows = new.rows; scratch = new.scratch; starts = new.starts; tree = new.tree; incumbent = new.incumbent } → IsWorkplace new.program.now new.rows.rows.items (length new.scratch.row.entries) new.pool.columns → IsHolding new.program.now new.incumbent → IsNoDearer (cost_held new.incumbent) (cost_held old.incumbent) → IsReady old → IsReady new
+pub ready_from : (old new : Core) → new ≡ record old { solver = new.solver; scratch = new.scratch; starts = new.starts; tree = new.tree; incumbent = new.incumbent } → IsWorkplace new.program.now (length new.scratch.row.entries) new.pool.columns → IsHolding new.program.now new.incumbent → IsNoDearer (cost_held new.incumbent) (cost_held old.incumbent) → IsReady old → IsReady new
 ready_from old new e place holding d r = record {
   start = subst (λ (s : Core). s.start ≡ 0) (sym e) r.start;
   first = subst (λ (s : Core). first_box s.domain ≡ s.program.now.bounds) (sym e) r.first;
@@ -39,10 +39,10 @@ ready_from old new e place holding d r = record {
 pub ready_held : (old new : Core) → new ≡ record old { tree = new.tree; incumbent = new.incumbent } → IsHolding new.program.now new.incumbent → IsNoDearer (cost_held new.incumbent) (cost_held old.incumbent) → IsReady old → IsReady new
 ready_held old new e holding d r =
     ready_from old new (more e)
-    (subst (λ (s : Core). IsWorkplace s.program.now s.rows.rows.items (length s.scratch.row.entries) s.pool.columns) (sym e) r.place) holding d r
+    (subst (λ (s : Core). IsWorkplace s.program.now (length s.scratch.row.entries) s.pool.columns) (sym e) r.place) holding d r
   where
-    more : new ≡ record old { tree = new.tree; incumbent = new.incumbent } → new ≡ record old { rows = new.rows; scratch = new.scratch; starts = new.starts; tree = new.tree; incumbent = new.incumbent }
-    more f = subst (λ (s : Core). s ≡ record old { rows = s.rows; scratch = s.scratch; starts = s.starts; tree = s.tree; incumbent = s.incumbent }) (sym f) refl
+    more : new ≡ record old { tree = new.tree; incumbent = new.incumbent } → new ≡ record old { solver = new.solver; scratch = new.scratch; starts = new.starts; tree = new.tree; incumbent = new.incumbent }
+    more f = subst (λ (s : Core). s ≡ record old { solver = s.solver; scratch = s.scratch; starts = s.starts; tree = s.tree; incumbent = s.incumbent }) (sym f) refl
 
 -- after steps on the tree
 pub ready_tree : (old new : Core) → new ≡ record old { tree = new.tree } → IsReady old → IsReady new

@@ -9,13 +9,13 @@ use Rattle.cip_node.specs.Entering.{first_box}
 use Rattle.cip_node.specs.KeptNodes.{cost_held, IsHolding, IsPoolOf, IsWorkplace}
 use Rattle.cip_node.specs.declared.cores.Core.{Core}
 
--- all but the tree: the box in work can be made the program's, the rows begin with the program's, there is room for its
--- columns, each row of the pool is valid in its scope, no cutoff row is used, bounds are rounded only where costs are
--- whole, and the point held is one of the program
+-- all but the tree: the box in work can be made the program's, there is room for its columns, each row of the pool is
+-- valid in its scope, no cutoff row is used, bounds are rounded only where costs are whole, and the point held is one of
+-- the program
 pub record IsReady (core : Core) : Type 0 where
   pub start : core.start ≡ 0
   pub first : first_box core.domain ≡ core.program.now.bounds
-  pub place : IsWorkplace core.program.now core.rows.rows.items (length core.scratch.row.entries) core.pool.columns
+  pub place : IsWorkplace core.program.now (length core.scratch.row.entries) core.pool.columns
   pub pool : IsPoolOf core.program.now (cost_held core.incumbent) core.pool.rows
   pub cutoff : core.cutoff ≡ None
   pub whole_costs : core.whole_costs ≡ true → HasWholeCosts core.program.now

@@ -3,13 +3,12 @@
 use Rattle.std.specs.Prelude.{◌≡◌, ℕ, ◌+◌, ◌^◌, ◌≤◌, true, List, Option, option_map}
 use Rattle.std.specs.List.{Contains}
 use Rattle.cip_rational.specs.Rational.{ℚ}
-use Rattle.cip_problem.specs.Program.{Sides, Row, Program}
+use Rattle.cip_problem.specs.Program.{Sides, Program}
 use Rattle.cip_problem.specs.Box.{sides_at}
 use Rattle.cip_problem.specs.WellFormed.{columns}
 use Rattle.cip_problem.specs.Log.{Node}
 use Rattle.cip_cuts.specs.Improving.{IsValidRow}
 use Rattle.cip_cert.specs.declared.rows.PoolRow.{PoolRow}
-use Rattle.cip_node_bounds.specs.NodeRows.{BeginWith}
 use Rattle.cip_tree.specs.Nodes.{Nodes}
 use Rattle.cip_incumbent.specs.HeldPoint.{Holding, HoldsPointOf}
 use Rattle.cip_leaf_programs.specs.WideLeaf.{IsWideLeaf}
@@ -61,8 +60,7 @@ pub record IsHolding (program : Program) (holding : Holding) : Type 0 where
 abbrev pub IsPoolOf : Program → Option ℚ → List PoolRow → Type 0
 IsPoolOf program held pool = (kept : PoolRow) → Contains pool kept → IsValidRow program held kept.scope kept.row
 
--- what is reused from node to node fits a program: the rows begin with its own, and there is room for its columns
-pub record IsWorkplace (program : Program) (rows : List Row) (room : ℕ) (pool : ℕ) : Type 0 where
-  pub own : BeginWith program rows
+-- what is reused from node to node fits a program: there is room for its columns, and the pool has as many
+pub record IsWorkplace (program : Program) (room : ℕ) (pool : ℕ) : Type 0 where
   pub wide : columns program ≤ room
   pub same : pool ≡ columns program

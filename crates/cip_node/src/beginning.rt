@@ -5,7 +5,6 @@ ghost use Rattle.cip_cuts.specs.Cuts.{HasWholeCosts};
 ghost use Rattle.cip_cuts.specs.Improving.{IsBoundIn};
 ghost use Rattle.cip_incumbent.specs.HeldPoint.{nothing_held};
 ghost use Rattle.cip_tree.specs.Moves.{IsNew};
-ghost use Rattle.cip_node_bounds.specs.NodeRows.{BeginWith};
 ghost use Rattle.cip_node.specs.Beginning.{IsRootBound, AreNearColumns};
 ghost use Rattle.cip_node.specs.Cores.{IsReady};
 ghost use Rattle.cip_node.specs.KeptNodes.{cost_held, IsKept};
@@ -17,9 +16,9 @@ use cip_domain::DomainStore;
 use cip_frac::Frac;
 use cip_incumbent::Incumbent;
 use cip_model::Program;
-use cip_node_bounds::NodeRows;
 use cip_node_rules::{has_whole_costs, rounded_least};
 use cip_rows::RowPool;
+use cip_simplex::Solver;
 use cip_tree::Tree;
 use std::alloc::{AllocError, Global};
 
@@ -63,30 +62,25 @@ fn rooted_tree(alloc: Global, program: &Program) -> Result<Tree, AllocError>
     Tree::new(alloc, root, program.whole(), bound)
 }
 
-/// What nodes are worked on in: the box in work, the rows of a linear program, and what checks work in.
+/// What nodes are worked on in: the box in work, and what checks work in.
 #[derive(Drop)]
 struct Workplace {
     domain: DomainStore,
-    rows: NodeRows,
     scratch: Scratch,
 }
 
 impl Workplace {
-    /// The workplace of a program: the box in work is the program's, and the rows are its rows. `Err` comes where
-    /// memory was refused.
+    /// The workplace of a program: the box in work is the program's. `Err` comes where memory was refused.
     fn new(alloc: Global, program: &Program) -> Result<Workplace, AllocError>
         ensures domain { IfOk result
             (λ place. place.domain ≡ record { box = program.now.bounds; before = []; spare = 0 }) }
-        ensures rows { IfOk result (λ place. BeginWith program.now place.rows.rows.items) }
         ensures scratch { IfOk result (λ place. length place.scratch.row.entries ≡ columns program.now) }
     {
         let columns = program.columns();
         let bounds = program.bounds().copied(alloc)?;
         let scratch = Scratch::new(alloc, columns)?;
-        let rows = NodeRows::new(alloc, program)?;
         Ok(Workplace {
             domain: DomainStore::new(alloc, bounds),
-            rows,
             scratch,
         })
     }
@@ -113,11 +107,7 @@ impl<'a> Core<'a> {
         let whole_costs = are_costs_whole(program);
         let columns = program.columns();
         let incumbent = Incumbent::new(alloc, program)?;
-        let Workplace {
-            domain,
-            rows,
-            scratch,
-        } = Workplace::new(alloc, program)?;
+        let Workplace { domain, scratch } = Workplace::new(alloc, program)?;
         let tree = rooted_tree(alloc, program)?;
         Ok(Core {
             program,
@@ -126,7 +116,7 @@ impl<'a> Core<'a> {
             cutoff: None,
             start: domain.mark(),
             domain,
-            rows,
+            solver: Solver::new(alloc),
             scratch,
             starts: Starts::new(alloc),
             tree,

@@ -20,17 +20,15 @@ impl<'a> Core<'a> {
     /// Solves the linear program of the box in work, from the start of the node in work. `Err` comes where memory was
     /// refused.
     pub(crate) fn relaxed(&mut self, alloc: Global) -> Result<Relaxed, AllocError>
-        requires place { IsWorkplace self.old.program.now self.old.rows.rows.items
-            (length self.old.scratch.row.entries) self.old.pool.columns }
+        requires place { IsWorkplace self.old.program.now (length self.old.scratch.row.entries) self.old.pool.columns }
         requires columns { length self.old.domain.box ≡ columns self.old.program.now }
         requires cutoff { self.old.cutoff ≡ None }
         ensures relaxed { IfOk result (IsRelaxed self.new.program.now
             (record { own = self.new.program.now.rows; pool = self.new.pool.rows; cutoff = None }) self.new.domain.box
             (length self.new.scratch.row.entries)) }
-        ensures place { IsWorkplace self.new.program.now self.new.rows.rows.items
-            (length self.new.scratch.row.entries) self.new.pool.columns }
+        ensures place { IsWorkplace self.new.program.now (length self.new.scratch.row.entries) self.new.pool.columns }
         ensures frame { self.new ≡ record self.old {
-          rows = self.new.rows;
+          solver = self.new.solver;
           scratch = self.new.scratch;
           starts = self.new.starts;
         } }
@@ -42,7 +40,7 @@ impl<'a> Core<'a> {
             &self.cutoff,
             self.domain.bounds(),
             self.starts.given(),
-            &mut self.rows,
+            &mut self.solver,
             &mut self.scratch,
         )?;
         self.starts.hold(last);
@@ -143,8 +141,7 @@ impl<'a> Core<'a> {
         requires holding { IsHolding self.old.program.now self.old.incumbent }
         requires box_in_work { self.old.domain.box ≡ box_of self.old.tree node.old }
         requires columns { length self.old.domain.box ≡ columns self.old.program.now }
-        requires place { IsWorkplace self.old.program.now self.old.rows.rows.items
-            (length self.old.scratch.row.entries) self.old.pool.columns }
+        requires place { IsWorkplace self.old.program.now (length self.old.scratch.row.entries) self.old.pool.columns }
         requires pool { IsPoolOf self.old.program.now (cost_held self.old.incumbent) self.old.pool.rows }
         requires cutoff { self.old.cutoff ≡ None }
         requires whole_costs { self.old.whole_costs ≡ true → HasWholeCosts self.old.program.now }
@@ -160,15 +157,14 @@ impl<'a> Core<'a> {
             (length self.new.scratch.row.entries) node.new.bound) }
         ensures tried { IfOk result (GoesOnTried self.new.program.now (cost_held self.new.incumbent)
             (record { own = self.new.program.now.rows; pool = self.new.pool.rows; cutoff = None }) self.new.domain.box) }
-        ensures place { IsWorkplace self.new.program.now self.new.rows.rows.items
-            (length self.new.scratch.row.entries) self.new.pool.columns }
+        ensures place { IsWorkplace self.new.program.now (length self.new.scratch.row.entries) self.new.pool.columns }
         ensures no_dearer { IsNoDearer (cost_held self.new.incumbent) (cost_held self.old.incumbent) }
         ensures tree { self.new.tree ≡ record self.old.tree {
           open_ = self.new.tree.open_;
           taken = self.new.tree.taken;
         } }
         ensures frame { self.new ≡ record self.old {
-          rows = self.new.rows;
+          solver = self.new.solver;
           scratch = self.new.scratch;
           starts = self.new.starts;
           tree = self.new.tree;

@@ -14,7 +14,7 @@ use crate::cores::Core;
 use crate::ends::NodeEnd;
 use crate::steps::held_cost;
 use cip_frac::Frac;
-use cip_node_rules::{Place, chosen_place, does_matter};
+use cip_node_rules::{Place, chosen_place, matters};
 use cip_tree::Node;
 use std::alloc::AllocError;
 
@@ -72,7 +72,7 @@ impl<'a> Core<'a> {
         ensures tree { StaysRooted self.old.tree self.new.tree }
         ensures frame { self.new ≡ record self.old { tree = self.new.tree; starts = self.new.starts } }
     {
-        if !does_matter(held_cost(&self.incumbent), node.bound()) {
+        if !matters(held_cost(&self.incumbent), node.bound()) {
             self.close_pruned(node);
             return Ok(NodeEnd::Pruned);
         }

@@ -5,8 +5,8 @@ use cip_domain::{DomainStore, Mark};
 use cip_incumbent::Incumbent;
 use cip_lin::Row;
 use cip_model::Program;
-use cip_node_bounds::NodeRows;
 use cip_rows::RowPool;
+use cip_simplex::Solver;
 use cip_tree::Tree;
 
 /// What a search over a program works with: the nodes, the point held, and what is reused from node to node.
@@ -24,8 +24,8 @@ pub struct Core<'a> {
     pub domain: DomainStore,
     /// The moment at which the box in work is the program's.
     pub start: Mark,
-    /// The rows of a node's linear program.
-    pub rows: NodeRows,
+    /// What solves the linear programs of nodes.
+    pub solver: Solver,
     /// What checks work in.
     pub scratch: Scratch,
     /// Where the linear programs of nodes start.

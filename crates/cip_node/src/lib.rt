@@ -16,7 +16,6 @@ mod starts;
 mod steps;
 
 pub use beginning::root_bound;
-pub use cip_node_rules::does_matter;
 pub use cores::Core;
 pub use ends::{NodeEnd, NodeRecord};
 pub use starts::Starts;

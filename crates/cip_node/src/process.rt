@@ -67,7 +67,7 @@ impl<'a> Core<'a> {
         ensures no_dearer { IsNoDearer (cost_held self.new.incumbent) (cost_held self.old.incumbent) }
         ensures tree { StaysRooted self.old.tree self.new.tree }
         ensures frame { self.new ≡ record self.old {
-          rows = self.new.rows;
+          solver = self.new.solver;
           scratch = self.new.scratch;
           starts = self.new.starts;
           tree = self.new.tree;
@@ -115,7 +115,7 @@ impl<'a> Core<'a> {
         ensures frame { self.new ≡ record self.old {
           pool = aged self.old.pool;
           domain = self.new.domain;
-          rows = self.new.rows;
+          solver = self.new.solver;
           scratch = self.new.scratch;
           starts = self.new.starts;
           tree = self.new.tree;

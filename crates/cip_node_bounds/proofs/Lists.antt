@@ -1,5 +1,5 @@
--- Lists that are changed from their front on, and lists cut at their front.
-use Rattle.std.proofs.Common.{◌≡◌, ℕ, zero, suc, ◌+◌, ◌<◌, ◌≤◌, List, [], ◌∷◌, ◌++◌, map, length, take, get_or, set, refl, ap, ◌∙◌, arith}
+-- Lists that are changed from their front on.
+use Rattle.std.proofs.Common.{◌≡◌, ℕ, zero, suc, ◌+◌, ◌<◌, ◌≤◌, List, [], ◌∷◌, map, length, get_or, set, refl, ap, ◌∙◌, arith}
 
 -- a list with its first n elements mapped
 abbrev pub first_mapped : {X : Type 0} → (X → X) → ℕ → List X → List X
@@ -29,11 +29,7 @@ mapped_all f zero (x ∷ xs) l = absurd (omega (arith, l))
 mapped_all f (suc n) [] l = refl
 mapped_all f (suc n) (x ∷ xs) l = ap (λ t. f x ∷ t) (mapped_all f n xs (omega (arith, l)))
 
--- a list is the front of itself with more behind it
-pub front_of : {X : Type 0} (xs ys : List X) → take (length xs) (xs ++ ys) ≡ xs
-front_of [] ys = refl
-front_of (x ∷ xs) ys = ap (λ t. x ∷ t) (front_of xs ys)
-
+-- one function after another
 pub map_map : {X Y Z : Type 0} (f : Y → Z) (g : X → Y) (xs : List X) → map f (map g xs) ≡ map (λ x. f (g x)) xs
 map_map f g [] = refl
 map_map f g (x ∷ xs) = ap (λ t. f (g x) ∷ t) (map_map f g xs)

@@ -1,7 +1,7 @@
 -- The rows of a node's linear program: those of the program, and behind them the rows of the pool that may be used in
 -- the node's box; and how a combination names them.
-use Rattle.std.specs.Prelude.{◌≡◌, ℕ, ◌-◌, nat_lt, List, map, length, take, Option, None, Some, slice_get, if◌then◌else◌}
-use Rattle.cip_problem.specs.Program.{Sides, Row, Program}
+use Rattle.std.specs.Prelude.{◌≡◌, ℕ, ◌-◌, nat_lt, List, map, Option, None, Some, slice_get, if◌then◌else◌}
+use Rattle.cip_problem.specs.Program.{Sides, Row}
 use Rattle.cip_lin.specs.declared.combos.RowId.{RowId}
 use Rattle.cip_lin.specs.declared.combos.RowId.TheVariants.{Own, Pool, Cutoff}
 use Rattle.cip_lin.specs.declared.combos.RowMultiple.{RowMultiple}
@@ -17,10 +17,6 @@ usable_rows box pool = map (λ kept. kept.row) (usable_in box pool)
 
 abbrev pub usable_ids : List Sides → List PoolRow → List ℕ
 usable_ids box pool = map (λ kept. kept.id) (usable_in box pool)
-
--- rows that begin with those of a program
-abbrev pub BeginWith : Program → List Row → Type 0
-BeginWith program rows = take (length program.rows) rows ≡ program.rows
 
 -- the name of a row behind the program's own, by its place; another name stays
 abbrev pub pool_name : ℕ → Option ℕ → RowId

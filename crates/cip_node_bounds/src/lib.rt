@@ -8,5 +8,4 @@ mod relaxed;
 mod rows;
 
 pub use laws::node_programs_tell;
-pub use relaxed::{Mark, Relaxed, relax, relax_from};
-pub use rows::NodeRows;
+pub use relaxed::{Mark, Relaxed, relax_from};

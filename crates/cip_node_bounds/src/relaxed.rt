@@ -1,16 +1,17 @@
 //! The linear program of a node, solved and checked.
-ghost use Rattle.std.specs.Prelude.{◌≡◌, ◌++◌, ◌≤◌, length, IfOk, IfSome, MatchResult};
+ghost use Rattle.std.specs.Prelude.{◌≡◌, ◌≤◌, map, length, IfOk, IfSome, MatchResult};
 ghost use Rattle.cip_rational.specs.Rational.{◌+ℚ◌};
 ghost use Rattle.cip_problem.specs.WellFormed.{columns};
 ghost use Rattle.cip_problem.specs.Activity.{StandsBelow};
 ghost use Rattle.cip_cert.specs.Lent.{lent_of, multiples_of, Fits};
-ghost use Rattle.cip_node_bounds.specs.NodeRows.{usable_rows, usable_ids, BeginWith};
+ghost use Rattle.cip_search.specs.Relaxation.{relaxation};
+ghost use Rattle.cip_node_bounds.specs.NodeRows.{usable_rows, usable_ids};
 ghost use Rattle.cip_node_bounds.specs.Solving.{IsSolved};
 ghost use Rattle.cip_node_bounds.specs.Relaxing.{node_program, IsCostFault, IsOptimumFound, IsEmptinessFound, IsRelaxed};
 
 use crate::asking::asked;
 use crate::names::name_combo;
-use crate::rows::NodeRows;
+use crate::rows::UsableRows;
 use cip_cert::{CutFault, Place, Rows, Scratch, empties, lower_bound};
 use cip_dictionary::Move;
 use cip_frac::Frac;
@@ -53,28 +54,26 @@ pub enum Relaxed {
     },
 }
 
-/// Solves a linear program of as few rows, at most so many as the limits of programs and pools allow.
+/// Solves the linear program of a box over the rows of a program and others, which are those of a pool that may be used
+/// there.
 fn solved(
     alloc: Global,
     solver: &mut Solver,
     program: &Program,
     pool: &RowPool,
-    rows: &[Row],
+    others: &[&Row],
     bounds: &Bounds,
     start: Option<&Start>,
 ) -> Result<(LpAnswer, Start), AllocError>
-    requires rows { rows.now ≡ program.now.rows ++ usable_rows bounds.now pool.now.rows }
+    requires others { map (λ row. row.now) others.now ≡ usable_rows bounds.now pool.now.rows }
     requires columns { length bounds.now ≡ columns program.now }
     requires pool { length bounds.now ≡ pool.now.columns }
-    ensures { IfOk result (λ solved. IsSolved (record {
-      rows = rows.now;
-      bounds = bounds.now;
-      costs = program.now.costs;
-    }) solved.0) }
+    ensures { IfOk result
+        (λ solved. IsSolved (relaxation program.now (usable_rows bounds.now pool.now.rows) bounds.now) solved.0) }
 {
     let _columns = program.columns();
     let _rows = pool.rows();
-    let lp = Lp::new(rows, bounds, program.costs());
+    let lp = Lp::with_others(program.rows(), others, bounds, program.costs());
     asked(alloc, solver, &lp, start)
 }
 
@@ -199,10 +198,15 @@ fn judged(
     }
 }
 
-/// Solves the linear program of a node as `relax` does, but from a start: that of a node above, as its last one. Rows
-/// behind those that it knows are basic, and of one that knows more the others are passed over. Where few moves from
-/// there have no answer, the linear program is solved from the first state. Beside what it came to stands where the
-/// variables are then, to be the start of the nodes below. `Err` comes where memory was refused.
+/// Solves the linear program of a node over the rows of the program and those of the pool that may be used in its box,
+/// from a start: that of a node above, as its last one, or the first state. It makes at most 2,000 moves and two for each
+/// of its columns and rows by a rule that makes few; where that has no answer, as many from the first state; and where
+/// that has none, at most 10,000 by Bland's rule. What that shows is checked. `Bound` comes with a point of least cost
+/// and that cost with the constant, where the check accepts its combination; `Empty` where there is no point, and the
+/// check accepts that; `Falls` where the cost falls without end from a point; and `Unsolved` with its mark in all other
+/// cases. Rows behind those that a start knows are basic, and of one that knows more the others are passed over. Beside
+/// what it came to stands where the variables are then, to be the start of the nodes below. `Err` comes where memory was
+/// refused.
 pub fn relax_from(
     alloc: Global,
     program: &Program,
@@ -210,10 +214,9 @@ pub fn relax_from(
     cutoff: &Option<Row>,
     bounds: &Bounds,
     start: Option<&Start>,
-    rows: &mut NodeRows,
+    solver: &mut Solver,
     scratch: &mut Scratch,
 ) -> Result<(Relaxed, Start), AllocError>
-    requires own { BeginWith program.now rows.old.rows.items }
     requires columns { length bounds.now ≡ columns program.now }
     requires pool { length bounds.now ≡ pool.now.columns }
     requires cutoff { IfSome cutoff.now (λ row. StandsBelow (length bounds.now) row.terms) }
@@ -221,50 +224,19 @@ pub fn relax_from(
     ensures relaxed { IfOk result (λ solved. IsRelaxed program.now
         (record { own = program.now.rows; pool = pool.now.rows; cutoff = cutoff.now }) bounds.now
         (length scratch.old.row.entries) solved.0) }
-    ensures own { BeginWith program.now rows.new.rows.items }
     ensures room { length scratch.new.row.entries ≡ length scratch.old.row.entries }
 {
     let _columns = program.columns();
-    rows.gather(alloc, program, pool, bounds)?;
-    let own = rows.rows.as_slice();
-    let solver = &mut rows.solver;
-    let (found, last) = solved(alloc, solver, program, pool, own, bounds, start)?;
+    let usable = UsableRows::gather(alloc, pool, bounds)?;
+    let others = usable.rows.as_slice();
+    let (found, last) = solved(alloc, solver, program, pool, others, bounds, start)?;
     let lent = Rows {
         own: program.rows(),
         pool: pool.rows(),
         cutoff,
         whole: program.whole(),
     };
-    let relaxed = judged(&lent, program, rows.ids.as_slice(), bounds, found, scratch);
+    let ids = usable.ids.as_slice();
+    let relaxed = judged(&lent, program, ids, bounds, found, scratch);
     Ok((relaxed, last))
-}
-
-/// Solves the linear program of a node over the rows of the program and those of the pool that may be used in its box,
-/// with at most 2,000 moves and two for each of its columns and rows by a rule that makes few and, where that has no
-/// answer, with at most 10,000 by Bland's, and checks what that shows. `Bound` comes with a point of least cost and that
-/// cost with the constant, where the check accepts its combination; `Empty` where there is no point, and the check
-/// accepts that; `Falls` where the cost falls without end from a point; and `Unsolved` with its mark in all other cases.
-/// `Err` comes where memory was refused. The rows keep those of the program in front.
-pub fn relax(
-    alloc: Global,
-    program: &Program,
-    pool: &RowPool,
-    cutoff: &Option<Row>,
-    bounds: &Bounds,
-    rows: &mut NodeRows,
-    scratch: &mut Scratch,
-) -> Result<Relaxed, AllocError>
-    requires own { BeginWith program.now rows.old.rows.items }
-    requires columns { length bounds.now ≡ columns program.now }
-    requires pool { length bounds.now ≡ pool.now.columns }
-    requires cutoff { IfSome cutoff.now (λ row. StandsBelow (length bounds.now) row.terms) }
-    requires room { length bounds.now ≤ length scratch.old.row.entries }
-    ensures relaxed { IfOk result (IsRelaxed program.now
-        (record { own = program.now.rows; pool = pool.now.rows; cutoff = cutoff.now }) bounds.now
-        (length scratch.old.row.entries)) }
-    ensures own { BeginWith program.now rows.new.rows.items }
-    ensures room { length scratch.new.row.entries ≡ length scratch.old.row.entries }
-{
-    let (relaxed, _last) = relax_from(alloc, program, pool, cutoff, bounds, None, rows, scratch)?;
-    Ok(relaxed)
 }

@@ -5,7 +5,7 @@ ghost use Rattle.cip_problem.specs.Log.{matters};
 use cip_frac::Frac;
 
 /// Whether a bound matters beside the cost held, as it does where it is below that, or where one of them isn't there.
-pub fn does_matter(held: Option<Frac>, bound: Option<Frac>) -> bool
+pub fn matters(held: Option<Frac>, bound: Option<Frac>) -> bool
     ensures { result ≡ matters held bound }
 {
     match (held, bound) {

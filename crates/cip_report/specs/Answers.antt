@@ -5,8 +5,8 @@ use Rattle.cip_problem.specs.WellFormed.{columns}
 use Rattle.cip_problem.specs.Points.{printed}
 use Rattle.cip_answers.specs.Figures.{Overflow, AtRow, AtCost, AtMoves, Status, Optimal, Infeasible, Unbounded, NodeLimit, Gap, Wide, NoMemory, Figures, Held, names_of}
 use Rattle.cip_model.specs.declared.verdicts.Place.TheVariants.{Row, Cost}
-use Rattle.cip_report.specs.declared.figures.Shown.{Shown}
-use Rattle.cip_report.specs.declared.figures.Shown.TheVariants.{Place, Moves}
+use Rattle.cip_leaf.specs.declared.answers.Shown.{Shown}
+use Rattle.cip_leaf.specs.declared.answers.Shown.TheVariants.{Place, Moves}
 use Rattle.cip_report.specs.declared.figures.Ended.{Ended}
 use Rattle.cip_report.specs.declared.figures.Ended.TheVariants.{Optimal as EndedOptimal, Infeasible as EndedInfeasible, Unbounded as EndedUnbounded, NodeLimit as EndedNodeLimit, Gap as EndedGap, Wide as EndedWide, NoMemory as EndedNoMemory}
 use Rattle.cip_report.specs.declared.figures.Held.{Held as HeldPoint}

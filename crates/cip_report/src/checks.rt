@@ -12,7 +12,7 @@ ghost use Rattle.cip_model.specs.Meaning.{IsOutside, VerdictHolds};
 ghost use Rattle.cip_model.specs.declared.verdicts.Verdict.TheVariants.{BreaksBound, BreaksWhole, BreaksRow, Wide};
 ghost use Rattle.cip_answers.specs.Figures.{line};
 ghost use Rattle.cip_answers.specs.Checks as texts;
-ghost use Rattle.cip_report.specs.declared.figures.Shown.TheVariants.{Place as AtPlace};
+ghost use Rattle.cip_leaf.specs.declared.answers.Shown.TheVariants.{Place as AtPlace};
 ghost use Rattle.cip_report.specs.Answers.{StandsAmong};
 ghost use Rattle.cip_report.specs.Checks.{broken_side, sides_of_row, checked_of};
 ghost use Rattle.cip_report.specs.Writing.{Writes};

@@ -4,16 +4,7 @@ ghost use Rattle.cip_answers.specs.Figures.{status_word, exit_status};
 ghost use Rattle.cip_report.specs.Answers.{status_of};
 
 use cip_frac::Frac;
-use cip_model::Place;
-
-/// What overflows of a leaf that is shown.
-#[derive(Clone, Copy, Debug, PartialEq, Eq)]
-pub enum Shown {
-    /// A sum of a row, or that of the cost.
-    Place(Place),
-    /// So many moves, at least 1, lead to one out of range, which is counted.
-    Moves(u64),
-}
+use cip_leaf::Shown;
 
 /// How a search ended.
 #[derive(Debug, Drop)]
@@ -84,7 +75,7 @@ pub struct Held {
     pub point: Vec<Frac>,
 }
 
-/// What is printed of a search. Cost and bound are those of the minimised form.
+/// What a search found, of which all but the number of nodes is printed. Cost and bound are those of the minimised form.
 #[derive(Debug, Drop)]
 pub struct Answer {
     /// How the search ended.
@@ -93,4 +84,6 @@ pub struct Answer {
     pub best: Option<Held>,
     /// What no feasible point costs less than, if there is such a bound.
     pub bound: Option<Frac>,
+    /// How many nodes were taken and have ended.
+    pub nodes: u64,
 }

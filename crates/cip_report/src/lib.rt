@@ -7,5 +7,5 @@ mod figures;
 mod writing;
 
 pub use checks::{check_status, report_check};
-pub use figures::{Answer, Ended, Held, Shown};
+pub use figures::{Answer, Ended, Held};
 pub use writing::report;

@@ -12,9 +12,10 @@ ghost use Rattle.cip_report.specs.Answers.{figures_of, printed_held, status_of, 
 ghost use Rattle.cip_report.specs.Writing.{Writes};
 
 use crate::buffer::Buffer;
-use crate::figures::{Answer, Ended, Held, Shown};
+use crate::figures::{Answer, Ended, Held};
 use cip_frac::Frac;
 use cip_io::{Failed, Sink};
+use cip_leaf::Shown;
 use cip_model::{Names, Place, Program, Sense};
 
 /// Writes a line of a word and a figure.

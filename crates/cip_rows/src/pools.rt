@@ -33,6 +33,7 @@ pub enum Added {
 /// the id that the next new row gets.
 #[derive(Debug, Drop)]
 pub struct RowPool {
+    alloc: Global,
     columns: usize,
     rows: Vec<PoolRow>,
     next: u64,
@@ -60,6 +61,7 @@ impl RowPool {
         ensures { result ≡ record { columns = columns; rows = []; next = 0 } }
     {
         RowPool {
+            alloc,
             columns,
             rows: Vec::new(alloc),
             next: 0,
@@ -114,7 +116,6 @@ impl RowPool {
     /// refused. All but `New` leave the pool as it was.
     pub fn add(
         &mut self,
-        alloc: Global,
         scratch: &Scratch,
         least: Frac,
         scope: &Bounds,
@@ -126,7 +127,7 @@ impl RowPool {
             (λ _. self.new ≡ self.old) }
         ensures columns { self.new.columns ≡ self.old.columns }
     {
-        let Ok(row) = row_from(alloc, scratch.row.entries(), least) else {
+        let Ok(row) = row_from(self.alloc, scratch.row.entries(), least) else {
             return Err(AllocError);
         };
         let print = fingerprint(&row);
@@ -138,7 +139,7 @@ impl RowPool {
             return Ok(Added::Full);
         }
         let id = self.next;
-        self.push(print, row, scope.copied(alloc)?)?;
+        self.push(print, row, scope.copied(self.alloc)?)?;
         Ok(Added::New(id))
     }
 

@@ -1,6 +1,12 @@
 -- Linear programs that are solved.
-use Rattle.std.specs.Prelude.{ℕ, ◌+◌, ◌<◌, ◌^◌, length}
+use Rattle.std.specs.Prelude.{ℕ, ◌+◌, ◌<◌, ◌^◌, List, ◌++◌, map, length}
+use Rattle.std.specs.Borrow.{Bor}
+use Rattle.cip_problem.specs.Program.{Row}
 use Rattle.cip_linear.specs.LinearProgram.{LinearProgram, IsProper}
+
+-- rows, and behind them others, each of which is lent
+abbrev pub joined : List Row → List (Bor Row) → List Row
+joined rows others = rows ++ map (λ row. row.now) others
 
 -- the columns and the rows
 abbrev pub variables : LinearProgram → ℕ

@@ -31,14 +31,13 @@ fn put_entries(
 
 /// Makes a list that of the entries of all rows, which have their terms by rising column; `Err` where a growth was
 /// refused.
-fn gather_entries(rows: &[Row], entries: &mut Vec<(u32, u32, Frac)>) -> Result<(), AllocError>
-    requires { length rows.now < 2 ^ 32 }
-    ensures { IfOk result (λ _. (entries.new.items ≡ entries_in rows.now)
-        × ((r : ℕ) → r < length rows.now → AreTerms (terms_at rows.now r))) }
+fn gather_entries(lp: &Lp, entries: &mut Vec<(u32, u32, Frac)>) -> Result<(), AllocError>
+    ensures { IfOk result (λ _. (entries.new.items ≡ entries_in lp.now.rows)
+        × ((r : ℕ) → r < length lp.now.rows → AreTerms (terms_at lp.now.rows r))) }
 {
     entries.clear();
-    for r in 0..rows.len() {
-        put_entries(entries, r as u32, rows[r].terms())?;
+    for r in 0..lp.row_count() {
+        put_entries(entries, r as u32, lp.row(r).terms())?;
     }
     Ok(())
 }
@@ -54,12 +53,12 @@ fn sides_of(row: &Row) -> Sides
 }
 
 /// Makes a list that of the sides of all rows; `Err` where a growth was refused.
-fn gather_sides(rows: &[Row], sides: &mut Vec<Sides>) -> Result<(), AllocError>
-    ensures { IfOk result (λ _. sides.new.items ≡ map row_sides rows.now) }
+fn gather_sides(lp: &Lp, sides: &mut Vec<Sides>) -> Result<(), AllocError>
+    ensures { IfOk result (λ _. sides.new.items ≡ map row_sides lp.now.rows) }
 {
     sides.clear();
-    for row in rows {
-        sides.push(sides_of(row))?;
+    for r in 0..lp.row_count() {
+        sides.push(sides_of(lp.row(r)))?;
     }
     Ok(())
 }
@@ -72,8 +71,9 @@ pub(crate) fn first_state(alloc: Global, solver: &mut Solver, lp: &Lp) -> Result
         (λ dict. (first_overflow (first_operations (system_of lp.now)) ≡ None) × (dict ≡ first_of_program lp.now))
         (IsFirstFault (system_of lp.now)) }
 {
-    gather_entries(lp.rows(), &mut solver.entries)?;
-    gather_sides(lp.rows(), &mut solver.sides)?;
+    let _columns = lp.columns();
+    gather_entries(lp, &mut solver.entries)?;
+    gather_sides(lp, &mut solver.sides)?;
     Dict::first(
         alloc,
         &mut solver.spare,

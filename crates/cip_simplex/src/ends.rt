@@ -269,7 +269,7 @@ pub(crate) fn end_answer(
     ensures { IfOk result (IsAnswer (answer_at lp.now dict.now step)) }
 {
     let columns = lp.columns();
-    let rows = lp.rows().len();
+    let rows = lp.row_count();
     match step {
         Step::Crossed(v) => {
             let combo = crossed_combo(alloc, v, columns)?;

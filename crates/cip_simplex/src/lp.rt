@@ -1,18 +1,20 @@
 //! Linear programs, lent to be solved.
-ghost use Rattle.std.specs.Prelude.{◌≡◌, ◌↔◌, IsTrue, All, length};
+ghost use Rattle.std.specs.Prelude.{◌≡◌, ◌<◌, ◌↔◌, IsTrue, All, length, slice_index_or};
 ghost use Rattle.cip_problem.specs.Activity.{StandsBelow};
 ghost use Rattle.cip_linear.specs.LinearProgram.{LinearProgram};
+ghost use Rattle.cip_dictionary.specs.ProgramState.{no_row};
 ghost use Rattle.cip_simplex.specs.LpShape as shape;
 
 use cip_frac::Frac;
 use cip_lin::{Bounds, Row, Sides, Term};
 use std::marker::Model;
 
-/// A linear program: rows, the sides of each column, and what each column costs. Nothing is copied. Each column has a
-/// cost, the rows stand on its columns, and there are fewer than 2^32 columns and rows.
+/// A linear program: rows, others behind them, the sides of each column, and what each column costs. Nothing is copied.
+/// Each column has a cost, the rows stand on its columns, and there are fewer than 2^32 columns and rows.
 #[derive(Debug, Drop)]
 pub struct Lp<'a> {
     rows: &'a [Row],
+    others: &'a [&'a Row],
     bounds: &'a Bounds,
     costs: &'a [Frac],
 }
@@ -25,12 +27,19 @@ impl<'a> Model for Lp<'a> {
 
     ghost coded = { program_code };
 
-    ghost use Rattle.cip_simplex.specs.LpShape.{IsSolvable};
+    ghost use Rattle.cip_simplex.specs.LpShape.{IsSolvable, joined};
 
-    ghost view = { λ lp. record { rows = lp.rows.now; bounds = lp.bounds.now; costs = lp.costs.now } };
+    ghost view = { λ lp. record {
+      rows = joined lp.rows.now lp.others.now;
+      bounds = lp.bounds.now;
+      costs = lp.costs.now;
+    } };
 
-    ghost invariant = { λ lp.
-        IsSolvable (record { rows = lp.rows.now; bounds = lp.bounds.now; costs = lp.costs.now }) };
+    ghost invariant = { λ lp. IsSolvable (record {
+      rows = joined lp.rows.now lp.others.now;
+      bounds = lp.bounds.now;
+      costs = lp.costs.now;
+    }) };
 }
 
 /// Whether terms stand on the first columns, so many.
@@ -75,6 +84,33 @@ impl<'a> Lp<'a> {
     {
         Lp {
             rows,
+            others: &[],
+            bounds,
+            costs,
+        }
+    }
+
+    /// The linear program of rows, others behind them, sides and costs.
+    pub fn with_others(
+        rows: &'a [Row],
+        others: &'a [&'a Row],
+        bounds: &'a Bounds,
+        costs: &'a [Frac],
+    ) -> Lp<'a>
+        requires { shape.IsSolvable (record {
+          rows = shape.joined rows.now others.now;
+          bounds = bounds.now;
+          costs = costs.now;
+        }) }
+        ensures { result ≡ record {
+          rows = shape.joined rows.now others.now;
+          bounds = bounds.now;
+          costs = costs.now;
+        } }
+    {
+        Lp {
+            rows,
+            others,
             bounds,
             costs,
         }
@@ -92,15 +128,27 @@ impl<'a> Lp<'a> {
     pub fn len(&self) -> usize
         ensures { result ≡ shape.variables self.now }
     {
-        self.bounds.len() + self.rows.len()
+        self.bounds.len() + self.rows.len() + self.others.len()
     }
 
-    /// The rows.
-    pub(crate) fn rows(&self) -> &[Row]
-        ensures rows { result.now ≡ self.now.rows }
+    /// The number of rows.
+    pub(crate) fn row_count(&self) -> usize
+        ensures rows { result ≡ length self.now.rows }
         ensures solvable { shape.IsSolvable self.now }
     {
-        self.rows
+        self.rows.len() + self.others.len()
+    }
+
+    /// A row, by its number.
+    pub(crate) fn row(&self, number: usize) -> &Row
+        requires { number < length self.now.rows }
+        ensures { result.now ≡ slice_index_or self.now.rows number no_row }
+    {
+        if number < self.rows.len() {
+            &self.rows[number]
+        } else {
+            self.others[number - self.rows.len()]
+        }
     }
 
     /// The sides of the columns.

@@ -13,10 +13,11 @@ use Rattle.cip_search.specs.SearchState.{State}
 use Rattle.cip_search.specs.Endings.{OneMatters, NoneMatters, IsBoundOfOne, IsLeastBound}
 use Rattle.cip_search.proofs.Members.{none_in, here}
 use Rattle.cip_search_ends.specs.EndLaws.{IsShownNode, ComesTo}
-use Rattle.cip_report.specs.declared.figures.Shown.{Shown}
+use Rattle.cip_leaf.specs.declared.answers.Shown.{Shown}
 use Rattle.cip_report.specs.declared.figures.Ended.{Ended}
 use Rattle.cip_report.specs.declared.figures.Ended.TheVariants.{Optimal, Infeasible, Unbounded, NodeLimit, Gap, Wide, NoMemory}
-use Rattle.cip_endings.specs.AnswerOf.{shown_of, ended_of}
+use Rattle.cip_leaf.specs.LeafAnswers.{shown_as}
+use Rattle.cip_endings.specs.AnswerOf.{ended_of}
 use Rattle.cip_endings.specs.LeastBounds.{least_of, bound_held}
 use Rattle.cip_endings.specs.Ends.{one_matters, IsShownWorst, EndsBy}
 use Rattle.cip_endings.specs.Worst.{IsFirstWorst, IsWorst, worst_bound}
@@ -45,7 +46,7 @@ open_least nodes (Some bound) h = (
     all_at bound nodes h node c = All-contains (λ other. IsBoundAtMost bound other.bound) nodes node h c
 
 -- the worst parked leaf has the least
-among_parked : (program : Program) (parked : List Node) (worst : Worst) → IsFirstWorst program parked worst.leaf.items worst.bound (shown_of worst.shown) → IsLeastAmong (IsBoundOfOne parked) (Some worst.bound)
+among_parked : (program : Program) (parked : List Node) (worst : Worst) → IsFirstWorst program parked worst.leaf.items worst.bound (shown_as worst.shown) → IsLeastAmong (IsBoundOfOne parked) (Some worst.bound)
 among_parked program parked worst w = (
   record {
     node = w.at.node;
@@ -114,11 +115,11 @@ module _ (program : Program) (nodes : ℕ) (state : State) (idle : state.work �
   some_open : OneMatters state.held state.open_ → state.open_ ≢ []
   some_open m e = none_in m.node (subst (λ l. Contains l m.node) e m.among)
 
-  shown_there : (leaf : List ℚ) (shown : Shown) → IsShownWorst state.held worst leaf shown → IsShownNode program state.parked leaf (shown_of shown)
+  shown_there : (leaf : List ℚ) (shown : Shown) → IsShownWorst state.held worst leaf shown → IsShownNode program state.parked leaf (shown_as shown)
   shown_there leaf shown s =
-      let k : IsFirstWorst program state.parked s.found.leaf.items s.found.bound (shown_of s.found.shown) = subst (IsWorst program state.parked) s.is_worst w in
-      subst (λ l. IsShownNode program state.parked l (shown_of shown)) (sym s.leaf_is)
-      (subst (λ t. IsShownNode program state.parked s.found.leaf.items (shown_of t)) (sym s.shown_is) k.at)
+      let k : IsFirstWorst program state.parked s.found.leaf.items s.found.bound (shown_as s.found.shown) = subst (IsWorst program state.parked) s.is_worst w in
+      subst (λ l. IsShownNode program state.parked l (shown_as shown)) (sym s.leaf_is)
+      (subst (λ t. IsShownNode program state.parked s.found.leaf.items (shown_as t)) (sym s.shown_is) k.at)
 
   worst_loud : (leaf : List ℚ) (shown : Shown) → IsShownWorst state.held worst leaf shown → one_matters state.held (worst_bound worst) ≡ true
   worst_loud leaf shown s = ap (λ t. one_matters state.held (worst_bound t)) s.is_worst ∙ s.matter

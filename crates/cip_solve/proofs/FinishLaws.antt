@@ -9,6 +9,7 @@ use Rattle.cip_problem.specs.Points.{cost_of}
 use Rattle.cip_problem.specs.Log.{Entry}
 use Rattle.cip_linear.specs.LinearProgram.{StaysBetween}
 use Rattle.cip_problem.proofs.Points.AtPlaces.{IsInBox-long}
+use Rattle.cip_model.specs.Rays.{IsShownRay}
 use Rattle.cip_model.proofs.Meaning.Ray.{falls_along}
 use Rattle.cip_incumbent.specs.HeldPoint.{HeldPoint, Holding, IsHeldOf}
 use Rattle.cip_search.specs.Endings.{IsLeastBound}
@@ -27,6 +28,7 @@ use Rattle.cip_endings.specs.AnswerOf.{held_of, ended_of}
 use Rattle.cip_endings.specs.LeastBounds.{least_of, bound_held, flat, capped}
 use Rattle.cip_endings.specs.Gaps.{reaches_gap}
 use Rattle.cip_solve.specs.Logs.{numbers_of}
+use Rattle.cip_solve.specs.Solved.{RayIsShown}
 use Rattle.cip_endings.specs.Ends.{one_matters, EndsBy}
 use Rattle.cip_solve.specs.Stopping.{WasLeast, BestIs}
 use Rattle.cip_endings.specs.Worst.{worst_bound}
@@ -200,13 +202,15 @@ some_taken program start nodes asked tree_ holding worst l k e = elim (k.spent (
   | inr near ↦ near.0 e
 ]
 
-pub still_right : (program : Program) (nodes : ℕ) (asked : Option ℚ) (marks : List (ℕ × Mark)) (tree_ : Nodes) (holding : Holding) (worst : Option Worst) (waiting : Option (Option ℚ)) (best : Option Held) (bound : Option ℚ) (ended : Ended) → StopsStill program tree_.root.bound nodes asked tree_ holding worst → IsWithin program tree_.root.bound nodes tree_.log marks → MatchOption waiting (tree_.open_ ≡ []) (λ b. tree.IsLeastBound b tree_.open_) → bound ≡ flat (least_of (bound_held (cost_held holding)) (least_of waiting (worst_bound worst))) → (reaches_gap asked (cost_held holding) bound ≡ true → ended ≡ Gap) → (reaches_gap asked (cost_held holding) bound ≡ false → EndsBy (cost_held holding) waiting worst ended) → BestIs holding.best best → IsSearchAnswer program tree_.root.bound nodes asked tree_.log (numbers_of marks) (record { ended = ended_of ended; held = option_map held_of best; bound = bound })
+pub still_right : (program : Program) (nodes : ℕ) (asked : Option ℚ) (marks : List (ℕ × Mark)) (tree_ : Nodes) (holding : Holding) (worst : Option Worst) (waiting : Option (Option ℚ)) (best : Option Held) (bound : Option ℚ) (ended : Ended) → StopsStill program tree_.root.bound nodes asked tree_ holding worst → IsWithin program tree_.root.bound nodes tree_.log marks → MatchOption waiting (tree_.open_ ≡ []) (λ b. tree.IsLeastBound b tree_.open_) → bound ≡ flat (least_of (bound_held (cost_held holding)) (least_of waiting (worst_bound worst))) → (reaches_gap asked (cost_held holding) bound ≡ true → ended ≡ Gap) → (reaches_gap asked (cost_held holding) bound ≡ false → EndsBy (cost_held holding) waiting worst ended) → BestIs holding.best best → IsSearchAnswer program tree_.root.bound nodes asked tree_.log (numbers_of marks) (record { ended = ended_of ended; held = option_map held_of best; bound = bound }) × RayIsShown program (record { ended = ended_of ended; held = option_map held_of best; bound = bound })
 still_right program nodes asked marks tree_ holding worst waiting best bound ended k w m b n f is =
-    let test = reaches_gap asked (cost_held holding) bound in
-    within_right program tree_.root.bound nodes asked tree_.log marks (record { ended = ended_of ended; held = option_map held_of best; bound = bound }) w
-    (by_test program nodes asked tree_ holding worst waiting best bound k m b is ended test refl n f)
-    (λ g. absurd (some_taken program tree_.root.bound nodes asked tree_ holding worst w.some k g))
-    (λ ray g. absurd (no_ray program nodes asked tree_ holding worst waiting best bound k m b is ended test refl n f ray g))
+    let test = reaches_gap asked (cost_held holding) bound in (
+      within_right program tree_.root.bound nodes asked tree_.log marks (record { ended = ended_of ended; held = option_map held_of best; bound = bound }) w
+          (by_test program nodes asked tree_ holding worst waiting best bound k m b is ended test refl n f)
+          (λ g. absurd (some_taken program tree_.root.bound nodes asked tree_ holding worst w.some k g))
+          (λ ray g. absurd (no_ray program nodes asked tree_ holding worst waiting best bound k m b is ended test refl n f ray g)),
+      λ ray g. absurd (no_ray program nodes asked tree_ holding worst waiting best bound k m b is ended test refl n f ray g),
+    )
 
 -- ---- the other stops
 
@@ -229,12 +233,14 @@ ray_long program point ray formed e =
 same_ray : (ray other : List ℚ) → ends.Unbounded ray ≡ ends.Unbounded other → ray ≡ other
 same_ray ray other e = cc
 
-pub endless_right : (program : Program) (start : Option ℚ) (nodes : ℕ) (asked : Option ℚ) (log : List Entry) (marks : List (ℕ × Mark)) (cost : ℚ) (point ray : List ℚ) → IsWellFormed program → StopsEndless program log point ray → IsWithin program start nodes log marks → cost ≡ cost_of program point → IsSearchAnswer program start nodes asked log (numbers_of marks) (record { ended = ends.Unbounded ray; held = Some (record { cost = cost; point = point }); bound = None })
-endless_right program start nodes asked log marks cost point ray formed k w e =
-    within_right program start nodes asked log marks (record { ended = ends.Unbounded ray; held = Some (record { cost = cost; point = point }); bound = None }) w
-    (endless_there program start nodes asked log cost point ray k e)
-    (λ f. absurd (parked_some log k.last f))
-    (λ other f. (subst (λ r. length r ≡ columns program) (same_ray ray other f) (ray_long program point ray formed k.falls), k.last))
+pub endless_right : (program : Program) (start : Option ℚ) (nodes : ℕ) (asked : Option ℚ) (log : List Entry) (marks : List (ℕ × Mark)) (cost : ℚ) (point ray : List ℚ) → IsWellFormed program → StopsEndless program log point ray → IsWithin program start nodes log marks → cost ≡ cost_of program point → IsSearchAnswer program start nodes asked log (numbers_of marks) (record { ended = ends.Unbounded ray; held = Some (record { cost = cost; point = point }); bound = None }) × RayIsShown program (record { ended = ends.Unbounded ray; held = Some (record { cost = cost; point = point }); bound = None })
+endless_right program start nodes asked log marks cost point ray formed k w e = (
+  within_right program start nodes asked log marks (record { ended = ends.Unbounded ray; held = Some (record { cost = cost; point = point }); bound = None }) w
+      (endless_there program start nodes asked log cost point ray k e)
+      (λ f. absurd (parked_some log k.last f))
+      (λ other f. (subst (λ r. length r ≡ columns program) (same_ray ray other f) (ray_long program point ray formed k.falls), k.last)),
+  λ other f. record { point = point; is_held = refl; shown = subst (IsShownRay program point) (same_ray ray other f) k.falls.shown },
+)
 
 refused_there : (program : Program) (start : Option ℚ) (nodes : ℕ) (asked : Option ℚ) (tree_ : Nodes) (holding : Holding) (best : Option Held) (bound last : Option ℚ) → StopsRefused program start tree_ holding bound → IsHolding program holding → BestIs holding.best best → last ≡ capped (cost_held holding) bound → IsAnswer program start nodes asked tree_.log (record { ended = ends.NoMemory; held = option_map held_of best; bound = last })
 refused_there program start nodes asked tree_ holding best bound last k h is e =
@@ -244,8 +250,10 @@ refused_there program start nodes asked tree_ holding best bound last k h is e =
     subst (λ s. IsAnswer program s nodes asked tree_.log (record { ended = ends.NoMemory; held = held; bound = last })) k.start_is
     (subst (λ t. IsAnswer program tree_.root.bound nodes asked tree_.log (record { ended = ends.NoMemory; held = held; bound = t })) (sym (e ∙ ap (λ t. capped t bound) same)) right)
 
-pub refused_right : (program : Program) (start : Option ℚ) (nodes : ℕ) (asked : Option ℚ) (marks : List (ℕ × Mark)) (tree_ : Nodes) (holding : Holding) (best : Option Held) (bound last : Option ℚ) → StopsRefused program start tree_ holding bound → IsHolding program holding → IsWithin program start nodes tree_.log marks → BestIs holding.best best → last ≡ capped (cost_held holding) bound → IsSearchAnswer program start nodes asked tree_.log (numbers_of marks) (record { ended = ends.NoMemory; held = option_map held_of best; bound = last })
-refused_right program start nodes asked marks tree_ holding best bound last k h w is e =
-    within_right program start nodes asked tree_.log marks (record { ended = ends.NoMemory; held = option_map held_of best; bound = last }) w
-    (refused_there program start nodes asked tree_ holding best bound last k h is e)
-    (λ f. refl) (λ ray f. absurd (cc))
+pub refused_right : (program : Program) (start : Option ℚ) (nodes : ℕ) (asked : Option ℚ) (marks : List (ℕ × Mark)) (tree_ : Nodes) (holding : Holding) (best : Option Held) (bound last : Option ℚ) → StopsRefused program start tree_ holding bound → IsHolding program holding → IsWithin program start nodes tree_.log marks → BestIs holding.best best → last ≡ capped (cost_held holding) bound → IsSearchAnswer program start nodes asked tree_.log (numbers_of marks) (record { ended = ends.NoMemory; held = option_map held_of best; bound = last }) × RayIsShown program (record { ended = ends.NoMemory; held = option_map held_of best; bound = last })
+refused_right program start nodes asked marks tree_ holding best bound last k h w is e = (
+  within_right program start nodes asked tree_.log marks (record { ended = ends.NoMemory; held = option_map held_of best; bound = last }) w
+      (refused_there program start nodes asked tree_ holding best bound last k h is e)
+      (λ f. refl) (λ ray f. absurd (cc)),
+  λ ray f. absurd (cc),
+)

@@ -21,11 +21,12 @@ use Rattle.cip_search_ends.specs.SearchAnswers.{IsSearchAnswer}
 use Rattle.cip_report.specs.Answers.{StandsAmong, EndedFits, AnswerFits}
 use Rattle.cip_report.specs.declared.figures.Ended.{Ended}
 use Rattle.cip_report.specs.declared.figures.Ended.TheVariants.{Optimal, Infeasible, Unbounded, NodeLimit, Gap, Wide, NoMemory}
-use Rattle.cip_report.specs.declared.figures.Shown.{Shown}
-use Rattle.cip_report.specs.declared.figures.Shown.TheVariants.{Place, Moves}
+use Rattle.cip_leaf.specs.declared.answers.Shown.{Shown}
+use Rattle.cip_leaf.specs.declared.answers.Shown.TheVariants.{Place, Moves}
 use Rattle.cip_report.specs.declared.figures.Held.{Held}
 use Rattle.cip_report.specs.declared.figures.Answer.{Answer}
-use Rattle.cip_endings.specs.AnswerOf.{shown_of, ended_of, held_of, answer_of}
+use Rattle.cip_leaf.specs.LeafAnswers.{shown_as}
+use Rattle.cip_endings.specs.AnswerOf.{ended_of, held_of, answer_of}
 use Rattle.cip_solve.proofs.FirstRows.{first_row_there}
 
 point_fits : (program : Program) (best : Option Held) → IsWellFormed program → IfSome (option_map held_of best) (IsHeldPoint program) → IfSome best (λ held. length held.point.items ≡ columns program)
@@ -52,7 +53,7 @@ row_there program leaf number (inl h) = row_below program.rows number h.row h.is
 row_there program leaf number (inr (inl h)) = first_row_there program leaf number h
 row_there program leaf number (inr (inr h)) = end_row program leaf number (whole_answer (program_of_leaf program leaf)) h
 
-stands_there : (program : Program) (leaf : List ℚ) (shown : Shown) → IsWellFormed program → IsWideBy program leaf (shown_of shown) → StandsAmong (length program.row_names) shown
+stands_there : (program : Program) (leaf : List ℚ) (shown : Shown) → IsWellFormed program → IsWideBy program leaf (shown_as shown) → StandsAmong (length program.row_names) shown
 stands_there program leaf (Place (AtRow number)) formed h = let l = row_there program leaf number h in omega (arith, l, formed.row_names)
 stands_there program leaf (Place Cost) formed h = tt
 stands_there program leaf (Moves number) formed h = tt

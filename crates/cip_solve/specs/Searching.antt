@@ -16,7 +16,6 @@ use Rattle.cip_node_bounds.specs.declared.relaxed.Mark.{Mark}
 use Rattle.cip_node.specs.KeptNodes.{cost_held, IsSearchOf, IsKept, IsHolding}
 use Rattle.cip_node.specs.declared.ends.NodeEnd.{NodeEnd}
 use Rattle.cip_node.specs.declared.ends.NodeEnd.TheVariants as by
-use Rattle.cip_endings.specs.AnswerOf.{shown_of}
 use Rattle.cip_endings.specs.Gaps.{reaches_gap}
 use Rattle.cip_solve.specs.Logs.{numbers_of}
 use Rattle.cip_solve.specs.Solved.{AreMet}
@@ -103,7 +102,7 @@ pub record IsWorseOf
   pub parked : Worst
   pub leaf_is : parked.leaf.items ≡ leaf
   pub bound_is : parked.bound ≡ bound
-  pub shown_is : shown_of parked.shown ≡ shown
+  pub shown_is : shown_as parked.shown ≡ shown
   pub worse : IsWorse old parked new
 
 -- by how a node ended the worst leaf changes, or the search stops

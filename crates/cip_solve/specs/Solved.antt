@@ -1,5 +1,5 @@
 -- What solving a program comes to.
-use Rattle.std.specs.Prelude.{◌≡◌, ℕ, ◌≤◌, List, [], Option, None, Some}
+use Rattle.std.specs.Prelude.{◌≡◌, ℕ, ◌≤◌, List, [], Option, None, Some, option_map}
 use Rattle.std.specs.List.{Contains}
 use Rattle.cip_rational.specs.Rational.{ℚ}
 use Rattle.cip_problem.specs.Program.{Program}
@@ -7,7 +7,8 @@ use Rattle.cip_problem.specs.WellFormed.{columns}
 use Rattle.cip_problem.specs.Log.{Entry, Node, node_of}
 use Rattle.cip_cert.specs.Lent.{Lent}
 use Rattle.cip_leaves.specs.Searched.{nodes_given}
-use Rattle.cip_search_ends.specs.SearchEnds.{Answer}
+use Rattle.cip_model.specs.Rays.{IsShownRay}
+use Rattle.cip_search_ends.specs.SearchEnds.{Unbounded, Answer}
 use Rattle.cip_search_ends.specs.SearchAnswers.{IsSearchAnswer}
 use Rattle.cip_node_bounds.specs.Relaxing.{IsMark}
 use Rattle.cip_node_bounds.specs.declared.relaxed.Mark.{Mark}
@@ -31,6 +32,18 @@ abbrev pub AreMet : Program → Option ℚ → List Entry → List (ℕ × Mark)
 AreMet program start log marks =
     (marked : ℕ × Mark) → Contains marks marked → IsMet program start log marked.0 marked.1
 
+-- the check of rays accepts a ray beside a point that is held
+pub record IsShownBeside (program : Program) (held : Option (List ℚ)) (ray : List ℚ) : Type 0 where
+  pub point : List ℚ
+  pub is_held : held ≡ Some point
+  pub shown : IsShownRay program point ray
+
+-- the ray of an answer, if it has one, is one that the check of rays accepts beside the point held
+abbrev pub RayIsShown : Program → Answer → Type 0
+RayIsShown program answer =
+    (ray : List ℚ) → answer.ended ≡ Unbounded ray
+    → IsShownBeside program (option_map (λ held. held.point) answer.held) ray
+
 -- the answer of a search from the root's bound on, with its log and the marks of nodes by their numbers; `nodes` is the
 -- budget, and `asked` the gap that was asked for, if one was
 pub record IsSolved
@@ -39,5 +52,7 @@ pub record IsSolved
   pub start : Option ℚ
   pub root : IsRootBound program start
   pub right : IsSearchAnswer program start nodes asked log (numbers_of marks) answer
+  -- a ray is one that the check of rays accepts beside the point held
+  pub shown : RayIsShown program answer
   -- marks say what the linear programs of their nodes met
   pub met : AreMet program start log marks

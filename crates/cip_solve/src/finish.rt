@@ -12,7 +12,7 @@ ghost use Rattle.cip_node.specs.KeptNodes.{IsHolding};
 ghost use Rattle.cip_endings.specs.AnswerOf.{answer_of};
 ghost use Rattle.cip_solve.specs.Logs.{entries_of, marked_in, numbers_of};
 ghost use Rattle.cip_solve.specs.Searching.{IsStill, IsTold, IsEndless, StopsStill, StopsEndless, StopsRefused, StopsAs, IsWithin};
-ghost use Rattle.cip_solve.specs.Solved.{AreMet};
+ghost use Rattle.cip_solve.specs.Solved.{AreMet, RayIsShown};
 ghost use Rattle.cip_solve.specs.Stopping.{BestIs};
 
 use crate::logs::Log;
@@ -41,6 +41,13 @@ fn held_of(incumbent: &Incumbent, mut point: Vec<Frac>) -> Option<Held>
     }
 }
 
+/// How many nodes were taken and have ended.
+fn taken_of(tree: &Tree) -> u64
+    ensures { result ≡ length tree.now.log }
+{
+    tree.log().len() as u64
+}
+
 /// The answer of a search that stands still, its point written to a list of as many values.
 fn still_answer(
     tree: &Tree,
@@ -50,26 +57,34 @@ fn still_answer(
     point: Vec<Frac>,
 ) -> Answer
     requires { IfSome incumbent.now.best (λ held. length held.point ≡ length point.items) }
-    ensures { (program : Program) (nodes : ℕ) (marks : List (ℕ × Mark))
+    ensures right { (program : Program) (nodes : ℕ) (marks : List (ℕ × Mark))
         → StopsStill program tree.now.root.bound nodes asked.now tree.now incumbent.now worst
         → IsWithin program tree.now.root.bound nodes tree.now.log marks
         → IsSearchAnswer program tree.now.root.bound nodes asked.now tree.now.log (numbers_of marks)
-        (answer_of result) }
+        (answer_of result) × RayIsShown program (answer_of result) }
+    ensures nodes { result.nodes ≡ length tree.now.log }
 {
     let held = held_cost(incumbent);
     let waiting = tree.bound();
     let bound = flat(least_left(held, waiting, &worst));
     let ended = ended_at(asked, &bound, &held, &waiting, worst);
     let best = held_of(incumbent, point);
-    Answer { ended, best, bound }
+    Answer {
+        ended,
+        best,
+        bound,
+        nodes: taken_of(tree),
+    }
 }
 
-/// The answer where the cost falls without end from a point along a ray.
-fn endless_answer(program: &Program, point: Vec<Frac>, ray: Vec<Frac>) -> Answer
+/// The answer where the cost falls without end from a point along a ray, after so many nodes.
+fn endless_answer(program: &Program, point: Vec<Frac>, ray: Vec<Frac>, nodes: u64) -> Answer
     requires { IsEndless program.now point.items ray.items }
-    ensures { (start : Option ℚ) (nodes : ℕ) (asked : Option ℚ) (log : List Entry) (marks : List (ℕ × Mark))
-        → StopsEndless program.now log point.items ray.items → IsWithin program.now start nodes log marks
-        → IsSearchAnswer program.now start nodes asked log (numbers_of marks) (answer_of result) }
+    ensures right { (start : Option ℚ) (budget : ℕ) (asked : Option ℚ) (log : List Entry) (marks : List (ℕ × Mark))
+        → StopsEndless program.now log point.items ray.items → IsWithin program.now start budget log marks
+        → IsSearchAnswer program.now start budget asked log (numbers_of marks) (answer_of result)
+        × RayIsShown program.now (answer_of result) }
+    ensures nodes { result.nodes ≡ nodes }
 {
     let _columns = program.columns();
     match program.check(point.as_slice()) {
@@ -77,19 +92,28 @@ fn endless_answer(program: &Program, point: Vec<Frac>, ray: Vec<Frac>) -> Answer
             ended: Ended::Unbounded { ray },
             best: Some(Held { cost, point }),
             bound: None,
+            nodes,
         },
         _ => unreachable!(),
     }
 }
 
-/// The answer after memory was refused, with the least bound before, its point written to a list of as many values.
-fn refused_answer(incumbent: &Incumbent, bound: Option<Frac>, point: Vec<Frac>) -> Answer
+/// The answer after memory was refused, with the least bound before, after so many nodes; its point is written to a
+/// list of as many values.
+fn refused_answer(
+    incumbent: &Incumbent,
+    bound: Option<Frac>,
+    point: Vec<Frac>,
+    nodes: u64,
+) -> Answer
     requires { IfSome incumbent.now.best (λ held. length held.point ≡ length point.items) }
-    ensures { (program : Program) (start : Option ℚ) (nodes : ℕ) (asked : Option ℚ) (tree : Nodes)
+    ensures right { (program : Program) (start : Option ℚ) (budget : ℕ) (asked : Option ℚ) (tree : Nodes)
         (marks : List (ℕ × Mark))
         → StopsRefused program start tree incumbent.now bound → IsHolding program incumbent.now
-        → IsWithin program start nodes tree.log marks
-        → IsSearchAnswer program start nodes asked tree.log (numbers_of marks) (answer_of result) }
+        → IsWithin program start budget tree.log marks
+        → IsSearchAnswer program start budget asked tree.log (numbers_of marks) (answer_of result)
+        × RayIsShown program (answer_of result) }
+    ensures nodes { result.nodes ≡ nodes }
 {
     let bound = capped(held_cost(incumbent), bound);
     let best = held_of(incumbent, point);
@@ -97,6 +121,7 @@ fn refused_answer(incumbent: &Incumbent, bound: Option<Frac>, point: Vec<Frac>) 
         ended: Ended::NoMemory,
         best,
         bound,
+        nodes,
     }
 }
 
@@ -112,16 +137,18 @@ fn answer_at(
         core.now.tree core.now.incumbent worst stop }
     requires holding { IsHolding core.now.program.now core.now.incumbent }
     requires point { length point.items ≡ columns core.now.program.now }
-    ensures { (marks : List (ℕ × Mark))
+    ensures right { (marks : List (ℕ × Mark))
         → IsWithin core.now.program.now core.now.tree.root.bound options.now.nodes core.now.tree.log marks
         → IsSearchAnswer core.now.program.now core.now.tree.root.bound options.now.nodes options.now.gap
-        core.now.tree.log (numbers_of marks) (answer_of result) }
+        core.now.tree.log (numbers_of marks) (answer_of result) × RayIsShown core.now.program.now (answer_of result) }
+    ensures nodes { result.nodes ≡ length core.now.tree.log }
 {
     let _columns = core.program.columns();
+    let nodes = taken_of(&core.tree);
     match stop {
         Stop::Still => still_answer(&core.tree, &core.incumbent, worst, &options.gap, point),
-        Stop::Endless { point, ray } => endless_answer(core.program, point, ray),
-        Stop::NoMemory { bound } => refused_answer(&core.incumbent, bound, point),
+        Stop::Endless { point, ray } => endless_answer(core.program, point, ray, nodes),
+        Stop::NoMemory { bound } => refused_answer(&core.incumbent, bound, point, nodes),
     }
 }
 
@@ -137,6 +164,8 @@ impl<'a> Search<'a> {
         requires point { length point.items ≡ columns self.core.program.now }
         ensures right { IsSearchAnswer self.entry.core.program.now self.entry.core.tree.root.bound options.now.nodes
             options.now.gap (entries_of log.new) (marked_in log.new) (answer_of result) }
+        ensures shown { RayIsShown self.entry.core.program.now (answer_of result) }
+        ensures nodes { result.nodes ≡ length (entries_of log.new) }
         ensures met { AreMet self.entry.core.program.now self.entry.core.tree.root.bound (entries_of log.new)
             log.new.marks.items }
     {
@@ -167,6 +196,8 @@ pub(crate) fn search_from(
     requires point { length point.items ≡ columns core.program.now }
     ensures right { IsSearchAnswer core.entry.program.now core.entry.tree.root.bound options.now.nodes
         options.now.gap (entries_of log.new) (marked_in log.new) (answer_of result) }
+    ensures shown { RayIsShown core.entry.program.now (answer_of result) }
+    ensures nodes { result.nodes ≡ length (entries_of log.new) }
     ensures met { AreMet core.entry.program.now core.entry.tree.root.bound (entries_of log.new) log.new.marks.items }
 {
     let mut search = Search {

@@ -1,5 +1,5 @@
 //! Solving a program.
-ghost use Rattle.std.specs.Prelude.{◌≡◌, ℕ, Option, [], ◌<◌};
+ghost use Rattle.std.specs.Prelude.{◌≡◌, ℕ, Option, [], ◌<◌, length};
 ghost use Rattle.cip_rational.specs.Rational.{ℚ};
 ghost use Rattle.cip_node.specs.Beginning.{AreNearColumns};
 ghost use Rattle.cip_endings.specs.AnswerOf.{answer_of};
@@ -26,12 +26,14 @@ pub struct Options {
 
 /// The answer where memory is refused before a node is taken: want of memory, with the bound of the root.
 pub fn unsearched(program: &Program) -> Answer
-    ensures { (nodes : ℕ) (asked : Option ℚ) → IsSolved program.now nodes asked [] [] (answer_of result) }
+    ensures solved { (nodes : ℕ) (asked : Option ℚ) → IsSolved program.now nodes asked [] [] (answer_of result) }
+    ensures nodes { result.nodes ≡ 0 }
 {
     Answer {
         ended: Ended::NoMemory,
         best: None,
         bound: root_bound(program),
+        nodes: 0,
     }
 }
 
@@ -42,8 +44,9 @@ pub fn unsearched(program: &Program) -> Answer
 pub fn solve(alloc: Global, program: &Program, options: &Options, log: &mut Log) -> Answer
     requires near { AreNearColumns program.now }
     requires some { 0 < options.now.nodes }
-    ensures { IsSolved program.now options.now.nodes options.now.gap (entries_of log.new) log.new.marks.items
+    ensures solved { IsSolved program.now options.now.nodes options.now.gap (entries_of log.new) log.new.marks.items
         (answer_of result) }
+    ensures nodes { result.nodes ≡ length (entries_of log.new) }
 {
     log.taken.clear();
     log.marks.clear();

@@ -6,7 +6,7 @@ ghost use Rattle.cip_node.specs.Cores.{IsReady};
 ghost use Rattle.cip_solve.specs.Logs.{marks_by};
 ghost use Rattle.cip_solve.specs.Searching.{IsStill, IsTold, IsKeptAs, HasReachedGap, StopsAs};
 
-use cip_endings::{Worst, flat, least_left, printed_shown, reaches_gap, worse};
+use cip_endings::{Worst, flat, least_left, reaches_gap, worse};
 use cip_frac::Frac;
 use cip_node::{Core, NodeEnd, NodeRecord, held_cost};
 use cip_node_bounds::Mark;
@@ -52,7 +52,6 @@ impl<'a> Search<'a> {
     {
         match end {
             NodeEnd::Parked { leaf, bound, shown } => {
-                let shown = printed_shown(shown);
                 let before = self.worst.take();
                 self.worst = worse(before, Worst { leaf, bound, shown });
                 None

@@ -1,8 +1,10 @@
-//! Tests of the points held, of the work on single nodes, and of searches over it, on programs worked out by hand.
+//! Tests of the points held, of leaves, of the work on single nodes, and of searches over it, on programs worked out by hand.
 #![tactic(auto)]
 
 #[cfg(test)]
 mod incumbents;
+#[cfg(test)]
+mod leaves;
 #[cfg(test)]
 mod programs;
 #[cfg(test)]

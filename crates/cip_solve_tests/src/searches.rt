@@ -1,9 +1,10 @@
 //! What searches over the work on nodes answer.
 use crate::programs::{FREE_COLUMN, THREE_COLUMNS, has_near_columns, program_of};
 use cip_frac::Frac;
+use cip_leaf::Shown;
 use cip_model::{Place, Program};
 use cip_node_bounds::Mark;
-use cip_report::{Answer, Ended, Held, Shown};
+use cip_report::{Answer, Ended, Held};
 use cip_solve::{Log, Options, solve, unsearched};
 use cip_tree::{End, Logged};
 use std::alloc::Global;

@@ -9,7 +9,7 @@ pub returns-then-is_err : goal.returns-then-is_err
 returns-then-is_err c =
     let same : c.reserve.new.self.items ≡ c.args.logs.now.items = search rules in
     subst (λ items. Searched c.args.program.now (limits_of c.args.options.now) c.args.logs.now.items items c.unsearched.result) (sym same)
-    (not_searched c.args.program.now (limits_of c.args.options.now) c.args.logs.now.items c.unsearched.result (c.unsearched.ensures c.args.options.now.nodes c.args.options.now.gap))
+    (not_searched c.args.program.now (limits_of c.args.options.now) c.args.logs.now.items c.unsearched.result (c.unsearched.ensures.solved c.args.options.now.nodes c.args.options.now.gap))
 
 pub returns : goal.returns
 returns c =
@@ -17,7 +17,7 @@ returns c =
     record {
       entries = entries_of c.solve-answer.new.log;
       marks = c.solve-answer.new.log.marks.items;
-      right = c.solve-answer.ensures;
+      right = c.solve-answer.ensures.solved;
       logged = inl (record { log = c.solve-answer.new.log; added = pushed; entries_are = refl });
       marked = inl (record { log = c.solve-answer.new.log; added = pushed; marks_are = refl });
     }

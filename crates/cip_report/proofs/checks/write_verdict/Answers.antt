@@ -5,7 +5,7 @@ use Rattle.cip_problem.specs.Program.{Program}
 use Rattle.cip_model.specs.declared.verdicts.Place.{Place}
 use Rattle.cip_model.specs.declared.verdicts.Place.TheVariants.{Row, Cost}
 use Rattle.cip_model.specs.Meaning.{IsFractional, IsBroken, Overflows}
-use Rattle.cip_report.specs.declared.figures.Shown.TheVariants.{Place as AtPlace}
+use Rattle.cip_leaf.specs.declared.answers.Shown.TheVariants.{Place as AtPlace}
 use Rattle.cip_report.specs.Answers.{StandsAmong}
 use Rattle.cip_report.proofs.checks.write_verdict.Goals as goal
 

@@ -7,6 +7,6 @@ use Rattle.cip_simplex.proofs.begin.gather_entries.Given as goal
 
 abbrev pub invariant-loop-r : goal.invariant-loop-r
 invariant-loop-r l = record {
-  entries : l.entries.items ≡ each l.r (row_entries l.rows);
-  valid : (k : ℕ) → k < l.r → AreTerms (terms_at l.rows k);
+  entries : l.entries.items ≡ each l.r (row_entries l.lp.rows);
+  valid : (k : ℕ) → k < l.r → AreTerms (terms_at l.lp.rows k);
 }

@@ -2,5 +2,5 @@ use Rattle.std.proofs.Common.{◌≡◌, map, take}
 use Rattle.cip_linear.specs.Multipliers.{row_sides}
 use Rattle.cip_simplex.proofs.begin.gather_sides.Given as goal
 
-abbrev pub invariant-loop-row : goal.invariant-loop-row
-invariant-loop-row l = l.sides.items ≡ map row_sides (take l.row-index l.rows)
+abbrev pub invariant-loop-r : goal.invariant-loop-r
+invariant-loop-r l = l.sides.items ≡ map row_sides (take l.r l.lp.rows)

@@ -3,22 +3,22 @@ use Rattle.cip_solve.specs.Searching.{StopsAs}
 use Rattle.cip_solve.proofs.FinishLaws.{held_room}
 use Rattle.cip_solve.proofs.finish.answer_at.Goals as goal
 
-pub returns-in-Still : goal.returns-in-Still
-returns-in-Still c = λ marks within.
+pub returns-in-Still-clause-right : goal.returns-in-Still-clause-right
+returns-in-Still-clause-right c = λ marks within.
     let core = c.args.core.now in
-    c.still_answer.ensures core.program.now c.args.options.now.nodes marks
+    c.still_answer.ensures.right core.program.now c.args.options.now.nodes marks
     (subst (StopsAs core.program.now core.tree.root.bound c.args.options.now.nodes c.args.options.now.gap core.tree core.incumbent c.args.worst) c.in-Still.is c.requires.stop) within
 
-pub returns-in-Endless : goal.returns-in-Endless
-returns-in-Endless c = λ marks within.
+pub returns-in-Endless-clause-right : goal.returns-in-Endless-clause-right
+returns-in-Endless-clause-right c = λ marks within.
     let core = c.args.core.now in
-    c.endless_answer.ensures core.tree.root.bound c.args.options.now.nodes c.args.options.now.gap core.tree.log marks
+    c.endless_answer.ensures.right core.tree.root.bound c.args.options.now.nodes c.args.options.now.gap core.tree.log marks
     (subst (StopsAs core.program.now core.tree.root.bound c.args.options.now.nodes c.args.options.now.gap core.tree core.incumbent c.args.worst) c.in-Endless.is c.requires.stop) within
 
-pub returns-in-NoMemory : goal.returns-in-NoMemory
-returns-in-NoMemory c = λ marks within.
+pub returns-in-NoMemory-clause-right : goal.returns-in-NoMemory-clause-right
+returns-in-NoMemory-clause-right c = λ marks within.
     let core = c.args.core.now in
-    c.refused_answer.ensures core.program.now core.tree.root.bound c.args.options.now.nodes c.args.options.now.gap core.tree marks
+    c.refused_answer.ensures.right core.program.now core.tree.root.bound c.args.options.now.nodes c.args.options.now.gap core.tree marks
     (subst (StopsAs core.program.now core.tree.root.bound c.args.options.now.nodes c.args.options.now.gap core.tree core.incumbent c.args.worst) c.in-NoMemory.is c.requires.stop) c.requires.holding within
 
 pub still_answer-requires : goal.still_answer-requires

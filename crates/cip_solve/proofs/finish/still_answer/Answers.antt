@@ -7,8 +7,8 @@ use Rattle.cip_endings.specs.Worst.{worst_bound}
 use Rattle.cip_solve.proofs.FinishLaws.{still_right}
 use Rattle.cip_solve.proofs.finish.still_answer.Goals as goal
 
-pub returns : goal.returns
-returns c = λ program nodes marks k w.
+pub returns-clause-right : goal.returns-clause-right
+returns-clause-right c = λ program nodes marks k w.
     let same = c.held_cost-held.ensures in
     still_right program nodes c.args.asked.now marks c.args.tree.now c.args.incumbent.now c.args.worst c.bound-waiting.result c.held_of-best.result c.flat-bound.result c.ended_at-ended.result k w c.bound-waiting.ensures
     (c.flat-bound.ensures ∙ ap flat (c.least_left.ensures ∙ ap (λ h. least_of (bound_held h) (least_of c.bound-waiting.result (worst_bound c.args.worst))) c.held_cost-held.ensures))

@@ -22,10 +22,10 @@ split-requires-clause-both c =
     (rule_leaves c.args.self.now.program.now c.args.self.now.tree.ids c.args.self.now.program.now.integral c.args.self.now.domain.box (box_of c.args.self.now.tree c.args.node) (option_map (λ values. values.items) c.args.point.now) c.in-Some.field-0.col c.in-Some.field-0.at refl c.requires.box_in_work
     (c.requires.kept.near (shown c.args.self.now.tree c.args.node) (here (shown c.args.self.now.tree c.args.node) c.args.self.now.tree.open_)) c.in-Some.ensures)
 
-pub returns-then-not-does_matter-clause-end : goal.returns-then-not-does_matter-clause-end
-returns-then-not-does_matter-clause-end c =
+pub returns-then-not-matters-clause-end : goal.returns-then-not-matters-clause-end
+returns-then-not-matters-clause-end c =
     let passed : matters (cost_held c.args.self.now.incumbent) c.args.node.bound ≡ false =
-    sym (c.does_matter.ensures ∙ ap (λ h. matters h c.bound.result) c.held_cost.ensures ∙ ap (matters (cost_held c.args.self.now.incumbent)) c.bound.ensures) ∙ c.if-not-does_matter.true in
+    sym (c.matters.ensures ∙ ap (λ h. matters h c.bound.result) c.held_cost.ensures ∙ ap (matters (cost_held c.args.self.now.incumbent)) c.bound.ensures) ∙ c.if-not-matters.true in
     λ mark good tried. subst (λ s. IsPruned s.program.now (cost_held s.incumbent) c.args.self.now.tree c.close_pruned.new.self.tree c.args.node) (sym c.close_pruned.ensures.frame)
     (pruned_end c.args.self.now.program.now (cost_held c.args.self.now.incumbent) c.args.self.now.tree c.close_pruned.new.self.tree c.args.node c.close_pruned.new.self.tree.taken c.close_pruned.ensures.tree
     (subst (λ s. IsKept s.program.now c.close_pruned.new.self.tree (cost_held s.incumbent) []) c.close_pruned.ensures.frame c.close_pruned.ensures.kept) passed)

@@ -6,13 +6,13 @@ use Rattle.cip_solve.proofs.turns.Search.keep.Goals as goal
 
 pub returns-in-Parked-clause-kept : goal.returns-in-Parked-clause-kept
 returns-in-Parked-clause-kept c =
-    let parked : Worst = record { leaf = c.in-Parked.leaf; bound = c.in-Parked.bound; shown = c.printed_shown-shown.result } in
+    let parked : Worst = record { leaf = c.in-Parked.leaf; bound = c.in-Parked.bound; shown = c.in-Parked.shown } in
     subst (λ e. IsKeptAs c.args.self.now.worst c.worse.result e None) (sym c.in-Parked.is) (
       record {
         parked = parked;
         leaf_is = refl;
         bound_is = refl;
-        shown_is = c.printed_shown-shown.ensures;
+        shown_is = refl;
         worse = subst (λ b. IsWorse b parked c.worse.result) c.take-before.ensures.value c.worse.ensures;
       },
       refl,

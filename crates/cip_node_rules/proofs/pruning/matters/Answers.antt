@@ -1,6 +1,6 @@
 use Rattle.std.proofs.Common.{◌∙◌}
 use Rattle.cip_rational.proofs.Comparisons.{is_lt-compare}
-use Rattle.cip_node_rules.proofs.pruning.does_matter.Goals as goal
+use Rattle.cip_node_rules.proofs.pruning.matters.Goals as goal
 
 pub returns-in-Some-Some : goal.returns-in-Some-Some
 returns-in-Some-Some c = rw (c.in-Some-Some.is-0, c.in-Some-Some.is-1) (c.lt.ensures ∙ is_lt-compare _ _)
