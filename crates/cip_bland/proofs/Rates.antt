@@ -3,7 +3,7 @@
 use Rattle.std.proofs.Common.{◌≡◌, ◌≢◌, ℕ, ◌<◌, Bool, true, false, cond, [], ◌∷◌, None, Some, unwrap_or, refl, sym, ap, ap₂, ◌∙◌, subst, inl, inr, arith}
 use Rattle.std.proofs.lemmas.Bool.{true≢false, eq-eqb, ne_eqb, cases_eq}
 use Rattle.std.proofs.lemmas.Option.{none-some}
-use Rattle.cip_rational.specs.Rational.{ℚ, ◌+ℚ◌, ◌-ℚ◌, ◌*ℚ◌, negate, inverse, zeroℚ, oneℚ, ◌≤ℚ◌, ◌<ℚ◌}
+use Rattle.cip_rational.specs.Rational.{ℚ, ◌+ℚ◌, ◌-ℚ◌, ◌*ℚ◌, negate, inverse, zeroℚ, oneℚ, ◌≤ℚ◌, ◌<ℚ◌, is_zero}
 use Rattle.cip_rational.proofs.Rational.Ring.{+ℚ-zero, zero-*ℚ, *ℚ_assoc, *ℚ_comm, one-*ℚ, negate-*ℚ, *ℚ-negate}
 use Rattle.cip_rational.proofs.Rational.Inverse.{*ℚ-inverse}
 use Rattle.cip_rational.proofs.Rational.Order.{eq-or-lt}
@@ -12,7 +12,6 @@ use Rattle.cip_problem.specs.Program.{Sides}
 use Rattle.cip_problem.specs.Box.{sides_at}
 use Rattle.cip_dictionary.specs.Dictionary.{Dictionary, size, stand, is_basic, entry, cost_entry, value, standing_value, CanStand, IsConsistent}
 use Rattle.cip_dictionary.specs.Exchange.{moved, moved_cost, step, other_stand, way, after}
-use Rattle.cip_dictionary.specs.Operations.{is_zero}
 use Rattle.cip_dictionary.specs.declared.moves.Stand.{Stand}
 use Rattle.cip_dictionary.specs.declared.moves.Stand.TheVariants.{Low, High, Zero}
 use Rattle.cip_dictionary.specs.declared.moves.Move.TheVariants.{Exchange, Flip}

@@ -2,7 +2,7 @@
 use Rattle.std.proofs.Common.{◌≡◌, ◌≢◌, ◌⊎◌, ℕ, ◌<◌, Bool, true, false, not, cond, [], ◌∷◌, Option, None, Some, IfSome, refl, sym, ap, ◌∙◌, subst, inl, inr, arith}
 use Rattle.std.proofs.lemmas.Bool.{true≢false, and_parts, eq-eqb, ne_eqb, cases_eq}
 use Rattle.std.proofs.lemmas.Option.{none-some}
-use Rattle.cip_rational.specs.Rational.{ℚ, ◌*ℚ◌, zeroℚ, oneℚ, ◌≤ℚ◌, ◌<ℚ◌, lt_test}
+use Rattle.cip_rational.specs.Rational.{ℚ, ◌*ℚ◌, zeroℚ, oneℚ, ◌≤ℚ◌, ◌<ℚ◌, lt_test, is_zero}
 use Rattle.cip_rational.proofs.Rational.Ring.{zero-*ℚ, *ℚ-zero, *ℚ_comm}
 use Rattle.cip_rational.proofs.Rational.Order.{≤ℚ_of_eq, ≤ℚ_of_lt, lt_of_test, le_of_lt_test, eq-or-lt}
 use Rattle.cip_rational.proofs.Linear.{linear_le, linear_lt}
@@ -11,7 +11,6 @@ use Rattle.cip_problem.specs.Box.{sides_at}
 use Rattle.cip_linear.specs.LinearProgram.{LinearProgram, IsProper, StaysBetween, IsRay}
 use Rattle.cip_dictionary.specs.Tables.{form}
 use Rattle.cip_dictionary.specs.Dictionary.{Dictionary, size, is_basic, entry, cost_entry, Solves, IsConsistent}
-use Rattle.cip_dictionary.specs.Operations.{is_zero}
 use Rattle.cip_dictionary.specs.ProgramState.{first_of_program}
 use Rattle.cip_dictionary.specs.declared.moves.Stand.{Stand}
 use Rattle.cip_dictionary.proofs.Tables.{total_same, total-only, only, only_here, only_there}

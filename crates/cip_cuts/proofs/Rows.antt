@@ -3,7 +3,7 @@ use Rattle.std.proofs.Common.{◌≡◌, ℕ, suc, ◌+◌, ◌<◌, ◌≤◌, 
 use Rattle.std.specs.List.{AllByRecursion}
 use Rattle.std.proofs.lemmas.Bool.{and_parts}
 use Rattle.std.proofs.lemmas.List.Elements.{All-from_recursion}
-use Rattle.cip_rational.specs.Rational.{ℚ, ◌+ℚ◌, ◌-ℚ◌, ◌*ℚ◌, zeroℚ, ◌≤ℚ◌, le_test}
+use Rattle.cip_rational.specs.Rational.{ℚ, ◌+ℚ◌, ◌-ℚ◌, ◌*ℚ◌, zeroℚ, ◌≤ℚ◌, le_test, is_zero}
 use Rattle.cip_rational.specs.Sums.{dot}
 use Rattle.cip_rational.proofs.Rational.Ring.{*ℚ-zero, +ℚ-zero, zero-*ℚ, zero-+ℚ}
 use Rattle.cip_rational.proofs.Rational.Order.{≤ℚ_antisymm, le_of_test}
@@ -12,9 +12,10 @@ use Rattle.cip_problem.specs.Program.{Term, Program}
 use Rattle.cip_problem.specs.Activity.{activity, value_at, StandsBelow}
 use Rattle.cip_problem.specs.Points.{IsSatisfied, cost_of}
 use Rattle.cip_linear.specs.Aggregate.{Inequality, Holds}
-use Rattle.cip_cuts.specs.Cuts.{is_zero, terms_from, row_of, cutoff_row}
+use Rattle.cip_cuts.specs.Cuts.{terms_from, row_of, cutoff_row}
 
 pub zero_of_test : (q : ℚ) → is_zero q ≡ true → q ≡ zeroℚ
+unfolding is_zero
 zero_of_test q h =
     let parts = and_parts (le_test q zeroℚ) (le_test zeroℚ q) h in
     ≤ℚ_antisymm (le_of_test parts.0) (le_of_test parts.1)

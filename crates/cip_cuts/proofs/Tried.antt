@@ -1,7 +1,7 @@
 -- The definitions tried on rows that were worked out by hand.
 use Rattle.std.proofs.Common.{◌≡◌, ◌≢◌, pos, negsuc, true, false, [], ◌∷◌, Some, refl, sym, ap, ◌∙◌, subst, arith, true≢false, lit<}
 use Rattle.cip_rational.specs.Gcd.{gcd}
-use Rattle.cip_rational.specs.Rational.{ℚ, whole, integer, ratio, zeroℚ, IsWhole, ceil, denominator}
+use Rattle.cip_rational.specs.Rational.{ℚ, whole, integer, ratio, zeroℚ, IsWhole, ceil, denominator, is_zero}
 use Rattle.cip_rational.proofs.Rational.Ring.{zero_is, same_whole}
 use Rattle.cip_rational.proofs.Rational.Whole.{IsWhole-whole, IsWhole-zero, is_whole-denominator, floor-ratio, ceil-ratio}
 use Rattle.cip_rational.proofs.Rational.Lowest.{denominator-ratio}
@@ -10,7 +10,7 @@ use Rattle.cip_rational.proofs.Linear.{linear_le, linear_lt}
 use Rattle.cip_linear.specs.Aggregate.{Inequality, aggregate}
 use Rattle.cip_linear.specs.Examples.{half, half_row}
 use Rattle.cip_linear.proofs.Tried.{half_row_is}
-use Rattle.cip_cuts.specs.Cuts.{CanRoundAt, CanRound, rounded, rounded_sides, is_zero, terms_from}
+use Rattle.cip_cuts.specs.Cuts.{CanRoundAt, CanRound, rounded, rounded_sides, terms_from}
 
 at_whole_column : (d : ℚ) → IsWhole d → CanRoundAt true d
 at_whole_column d w = record { coefficient_whole = w; column_whole = λ _. refl }
@@ -51,12 +51,15 @@ pub inward : rounded_sides (record { low = Some half; high = Some half }) ≡ re
 inward = rw (ceil-ratio (pos 1) 2 (lit< tt), floor-ratio (pos 1) 2 (lit< tt)) refl
 
 zero_test : is_zero zeroℚ ≡ true
+unfolding is_zero
 zero_test = rw (test_of_le (≤ℚ_refl zeroℚ)) refl
 
 minus_one_test : is_zero (whole 0 1) ≡ false
+unfolding is_zero
 minus_one_test = rw (test_of_le {a = whole 0 1} {b = zeroℚ} (linear_le [] (λ s w. omega arith)), le_test_of_lt {a = zeroℚ} {b = whole 0 1} (linear_lt [] (λ s w. omega arith))) refl
 
 two_test : is_zero (whole 2 0) ≡ false
+unfolding is_zero
 two_test = rw (le_test_of_lt {a = whole 2 0} {b = zeroℚ} (linear_lt [] (λ s w. omega arith))) refl
 
 pub terms : terms_from 0 (whole 0 1 ∷ zeroℚ ∷ whole 2 0 ∷ []) ≡ record { column = 0; coefficient = whole 0 1 } ∷ record { column = 2; coefficient = whole 2 0 } ∷ []

@@ -2,7 +2,7 @@
 -- inequality implies for the cost and for the columns of a program.
 use Rattle.std.specs.Prelude.{◌≡◌, ◌≢◌, ℕ, suc, Bool, true, ◌&&◌, List, [], ◌∷◌, Option, None, Some, if◌then◌else◌}
 use Rattle.std.specs.List.{AllZip}
-use Rattle.cip_rational.specs.Rational.{ℚ, ◌-ℚ◌, integer, zeroℚ, ◌<ℚ◌, le_test, IsWhole, floor, ceil}
+use Rattle.cip_rational.specs.Rational.{ℚ, ◌-ℚ◌, integer, zeroℚ, ◌<ℚ◌, IsWhole, floor, ceil, is_zero}
 use Rattle.cip_problem.specs.Program.{Term, Sides, Row, Program}
 use Rattle.cip_problem.specs.Box.{IsInBox}
 use Rattle.cip_problem.specs.BoxBound.{sum_if_both}
@@ -46,10 +46,6 @@ pub record IsCrossed (sides : Sides) : Type 0 where
   pub above : high_side <ℚ low_side
 
 -- ---- rows
-
--- whether a number is 0
-abbrev pub is_zero : ℚ → Bool
-is_zero q = le_test q zeroℚ && le_test zeroℚ q
 
 -- coefficients that aren't 0 as terms, where the first coefficient stands on this column
 abbrev pub terms_from : ℕ → List ℚ → List Term

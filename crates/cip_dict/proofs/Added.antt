@@ -5,11 +5,11 @@ use Rattle.std.specs.Int.{w64}
 use Rattle.std.proofs.lemmas.Int.{ints, unsigned_abs-mul}
 use Rattle.std.proofs.lemmas.Nat.{mul-le}
 use Rattle.std.proofs.Math.Nat.{mul-pos}
-use Rattle.cip_rational.specs.Rational.{ℚ, ◌+ℚ◌, ◌*ℚ◌, ratio, numerator, denominator, is_ratio}
+use Rattle.cip_rational.specs.Rational.{ℚ, ◌+ℚ◌, ◌*ℚ◌, ratio, numerator, denominator, is_ratio, is_zero}
 use Rattle.cip_rational.specs.Range.{magnitude, sum_overflows, product_overflows}
 use Rattle.cip_rational.proofs.Rational.Ratio.{ratio-add, ratio-mul}
 use Rattle.cip_rational.proofs.Rational.Lowest.{denominator-pos}
-use Rattle.cip_dictionary.specs.Operations.{Product, Sum, placed, first_overflow, is_zero, sum_at}
+use Rattle.cip_dictionary.specs.Operations.{Product, Sum, placed, first_overflow, sum_at}
 use Rattle.cip_dictionary.specs.declared.places.Line.TheVariants.{Cost}
 use Rattle.cip_dictionary.specs.declared.places.Place.{Place}
 use Rattle.cip_dict.specs.Values.{IsAdded}

@@ -2,7 +2,7 @@
 use Rattle.std.proofs.Common.{◌≡◌, ℕ, ◌<◌, ◌==◌, Bool, true, false, cond, not, ◌&&◌, List, [], ◌∷◌, ◌++◌, length, get_or, set, Option, None, Some, refl, sym, ap, ◌∙◌, inl, inr, arith, append_assoc, length-set}
 use Rattle.std.proofs.lemmas.Bool.{eq-eqb, ne_eqb, eqb-true, cases_eq, cases_Bool, and_parts, or_cases, true≢false}
 use Rattle.std.proofs.lemmas.List.{get_or-set_same, get_or-set_other}
-use Rattle.cip_rational.specs.Rational.{ℚ, ◌+ℚ◌, ◌*ℚ◌, zeroℚ}
+use Rattle.cip_rational.specs.Rational.{ℚ, ◌+ℚ◌, ◌*ℚ◌, zeroℚ, is_zero}
 use Rattle.cip_rational.proofs.Rational.Ring.{+ℚ-zero, zero-*ℚ}
 use Rattle.cip_problem.specs.Program.{Sides}
 use Rattle.cip_problem.specs.Activity.{value_at}
@@ -10,7 +10,7 @@ use Rattle.cip_problem.specs.Box.{sides_at}
 use Rattle.cip_dictionary.specs.Tables.{table, each}
 use Rattle.cip_dictionary.specs.Dictionary.{Dictionary, size, stand, is_basic, entry, cost_entry, standing_value, IsConsistent}
 use Rattle.cip_dictionary.specs.Exchange.{is_absent, substituted, pivot, entering, exchanged_row, exchanged_rows, exchanged_stand, CanExchange, moved, step}
-use Rattle.cip_dictionary.specs.Operations.{Placed, is_zero}
+use Rattle.cip_dictionary.specs.Operations.{Placed}
 use Rattle.cip_dictionary.specs.MoveOperations.{exchange_operations, solved_operations, substituted_operations, step_operations, moved_operations, cost_operations}
 use Rattle.cip_dictionary.specs.declared.places.Line.TheVariants.{Row, Cost}
 use Rattle.cip_dictionary.specs.declared.moves.Stand.{Stand}

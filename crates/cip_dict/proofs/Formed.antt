@@ -1,10 +1,10 @@
 -- What a product and a sum come to, by which of their operations overflows.
 use Rattle.std.proofs.Common.{◌≡◌, true, false, None, Some, refl, sym, ap, ◌∙◌, Bool, ◌↔◌, IsTrue}
 use Rattle.std.proofs.lemmas.Bool.{or_right, true≢false}
-use Rattle.cip_rational.specs.Rational.{ℚ, ◌+ℚ◌, ◌*ℚ◌, zeroℚ}
+use Rattle.cip_rational.specs.Rational.{ℚ, ◌+ℚ◌, ◌*ℚ◌, zeroℚ, is_zero}
 use Rattle.cip_rational.specs.Range.{sum_overflows, product_overflows}
 use Rattle.cip_rational.proofs.Rational.Ring.{+ℚ-zero, *ℚ-zero, zero-*ℚ}
-use Rattle.cip_dictionary.specs.Operations.{first_overflow, is_zero, product_at, sum_at}
+use Rattle.cip_dictionary.specs.Operations.{first_overflow, product_at, sum_at}
 use Rattle.cip_dictionary.specs.declared.places.Place.{Place}
 use Rattle.cip_dictionary.proofs.Zeros.{is_zero_of, is_zero_false, zero_of}
 

@@ -1,10 +1,10 @@
 -- Rows without an entry on the variable that enters stay as they are, and nothing is formed for them.
 use Rattle.std.proofs.Common.{◌≡◌, ℕ, zero, suc, ◌==◌, Bool, true, false, cond, not, ◌&&◌, ◌||◌, List, [], length, Option, None, refl, ap, ◌∙◌}
-use Rattle.cip_rational.specs.Rational.{ℚ, zeroℚ, negate}
+use Rattle.cip_rational.specs.Rational.{ℚ, zeroℚ, negate, is_zero}
 use Rattle.cip_problem.specs.Activity.{value_at}
 use Rattle.cip_dictionary.specs.Tables.{each}
 use Rattle.cip_dictionary.specs.Exchange.{is_absent, solved_at, solved, substituted_at, substituted}
-use Rattle.cip_dictionary.specs.Operations.{Placed, first_overflow, is_zero}
+use Rattle.cip_dictionary.specs.Operations.{Placed, first_overflow}
 use Rattle.cip_dictionary.specs.MoveOperations.{solved_operations_at, solved_operations, substituted_operations_at, substituted_operations}
 use Rattle.cip_rational.proofs.Rational.Ring.{negate_zero}
 use Rattle.cip_dictionary.proofs.Zeros.{is_zero_of, zero_of}

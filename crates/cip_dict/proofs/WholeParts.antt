@@ -5,14 +5,13 @@ use Rattle.std.specs.Int.{w64}
 use Rattle.std.proofs.lemmas.Bool.{eq-eqb, ne_eqb, true≢false}
 use Rattle.std.proofs.lemmas.Int.{ints}
 use Rattle.cip_rational.specs.Rational as rational
-use Rattle.cip_rational.specs.Rational.{ℚ, ◌*ℚ◌, zeroℚ, lt_test, inverse, integer, ratio}
+use Rattle.cip_rational.specs.Rational.{ℚ, ◌*ℚ◌, zeroℚ, lt_test, inverse, integer, ratio, is_zero}
 use Rattle.cip_rational.specs.Range.{magnitude, fits_range}
 use Rattle.cip_rational.proofs.Range.InRange.{fits_in, fits-ratio}
 use Rattle.cip_frac.specs.FractionFault.{quotient_of, IsFaultOf}
 use Rattle.cip_frac.specs.declared.fraction.FracFault.{FracFault}
 use Rattle.cip_frac.specs.declared.fraction.FracFault.TheVariants.{ZeroBelow, Wide}
 use Rattle.cip_rational.proofs.Rational.Ratio.{same_truth, ratio_same, same_ratio, ratio-mul, ratio-lt_test, integer_ratio}
-use Rattle.cip_dictionary.specs.Operations.{is_zero}
 use Rattle.cip_dictionary.proofs.Zeros.{is_zero_of, is_zero_false}
 use Rattle.cip_dict.specs.SparseLines.{Kept, entry_on, AreKept, AreRising, IsPlace}
 use Rattle.cip_dict.proofs.WholeLines.{whole_lines_tell}

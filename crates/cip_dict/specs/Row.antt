@@ -1,10 +1,10 @@
 -- One row of a dictionary in an exchange.
 use Rattle.std.specs.Prelude.{◌≡◌, ℕ, ◌==◌, ◌<◌, Bool, ◌&&◌, not, true, false, List, [], length, Option, slice_index_or, if◌then◌else◌}
-use Rattle.cip_rational.specs.Rational.{ℚ}
+use Rattle.cip_rational.specs.Rational.{ℚ, is_zero}
 use Rattle.cip_problem.specs.Activity.{value_at}
 use Rattle.cip_dictionary.specs.Tables.{table, each}
 use Rattle.cip_dictionary.specs.Exchange.{substituted}
-use Rattle.cip_dictionary.specs.Operations.{Placed, is_zero}
+use Rattle.cip_dictionary.specs.Operations.{Placed}
 use Rattle.cip_dictionary.specs.MoveOperations.{substituted_operations}
 use Rattle.cip_dictionary.specs.declared.places.Line.TheVariants.{Row}
 use Rattle.cip_dictionary.specs.declared.moves.Stand.{Stand}

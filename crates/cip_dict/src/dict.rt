@@ -1,6 +1,6 @@
 //! Dictionaries: the states of the simplex method, and the moves from one to the next.
 ghost use Rattle.std.specs.Prelude.{◌≡◌, ◌+◌, ◌<◌, ◌^◌, length, not, true, Some, None, MatchResult, slice_index_or};
-ghost use Rattle.cip_rational.specs.Rational.{zeroℚ, lt_test};
+ghost use Rattle.cip_rational.specs.Rational.{zeroℚ, lt_test, is_zero};
 ghost use Rattle.cip_problem.specs.Box.{sides_at};
 ghost use Rattle.cip_dictionary.specs.Dictionary as def;
 ghost use Rattle.cip_dictionary.specs.Exchange.{CanExchange, exchanged, CanFlip, flipped};
@@ -8,7 +8,7 @@ ghost use Rattle.cip_dictionary.specs.FirstState.{first, first_operations};
 ghost use Rattle.cip_dict.specs.Entries.{AreWithin, system_in, IsFirstFault};
 ghost use Rattle.cip_dict.specs.MoveFaults.{IsMoveFault};
 ghost use Rattle.cip_dict.specs.SparseLines.{Kept, kept_of};
-ghost use Rattle.cip_dictionary.specs.Operations.{first_overflow, is_zero};
+ghost use Rattle.cip_dictionary.specs.Operations.{first_overflow};
 ghost use Rattle.cip_dictionary.specs.MoveOperations.{exchange_operations, flip_operations};
 
 use crate::exchange::{plan, take_over};

@@ -1,10 +1,10 @@
 //! What an exchange writes, and how it is taken over.
 ghost use Rattle.std.specs.Prelude.{◌≡◌, ◌≢◌, ℕ, ◌<◌, ◌^◌, ◌++◌, true, false, length, Some, None, OnOk, MatchResult};
-ghost use Rattle.cip_rational.specs.Rational.{zeroℚ, inverse};
+ghost use Rattle.cip_rational.specs.Rational.{zeroℚ, inverse, is_zero};
 ghost use Rattle.cip_problem.specs.Box.{sides_at};
 ghost use Rattle.cip_problem.specs.Activity.{value_at};
 ghost use Rattle.cip_dictionary.specs.Tables.{table, each};
-ghost use Rattle.cip_dictionary.specs.Operations.{first_overflow, is_zero};
+ghost use Rattle.cip_dictionary.specs.Operations.{first_overflow};
 ghost use Rattle.cip_dict.specs.Lists.{basic_in, entry_in};
 ghost use Rattle.cip_dict.specs.Pivots.{solved_by, solved_operations_by, substituted_by, substituted_operations_by};
 ghost use Rattle.cip_dict.specs.Row.{row_in, taken_form, AreMarked, HasRows, HasRowsAfter, HasSpelled};

@@ -1,10 +1,10 @@
 //! A line of a dictionary: its entries on all variables.
 ghost use Rattle.std.specs.Prelude.{◌≡◌, ℕ, not, ◌^◌, ◌<◌, ◌≤◌, [], length, Some, None, OnOk, MatchResult, replicate, slice_set, slice_index_or};
-ghost use Rattle.cip_rational.specs.Rational.{zeroℚ, lt_test, ratio};
+ghost use Rattle.cip_rational.specs.Rational.{zeroℚ, lt_test, ratio, is_zero};
 ghost use Rattle.cip_problem.specs.Activity.{value_at};
 ghost use Rattle.cip_dictionary.specs.Tables.{form};
 ghost use Rattle.cip_dictionary.specs.FirstState.{form_operations};
-ghost use Rattle.cip_dictionary.specs.Operations.{first_overflow, is_zero};
+ghost use Rattle.cip_dictionary.specs.Operations.{first_overflow};
 ghost use Rattle.cip_dict.specs.SparseLines.{Kept, kept_of};
 ghost use Rattle.cip_dict.specs.WholeLines.{IsSpelled};
 

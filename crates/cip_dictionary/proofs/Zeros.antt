@@ -1,10 +1,10 @@
 -- The test of 0, and operations with it.
 use Rattle.std.proofs.Common.{◌≡◌, ◌≢◌, true, false, List, ◌++◌, Some, refl, sym, ◌∙◌}
 use Rattle.std.proofs.lemmas.Bool.{and_parts, and_from, false_from_ne_true, true≢false}
-use Rattle.cip_rational.specs.Rational.{ℚ, zeroℚ, le_test}
+use Rattle.cip_rational.specs.Rational.{ℚ, zeroℚ, le_test, is_zero}
 use Rattle.cip_rational.specs.Range.{product_overflows}
 use Rattle.cip_rational.proofs.Rational.Order.{le_of_test, test_of_le, ≤ℚ_antisymm, ≤ℚ_of_eq}
-use Rattle.cip_dictionary.specs.Operations.{Placed, first_overflow, is_zero, sum_at}
+use Rattle.cip_dictionary.specs.Operations.{Placed, first_overflow, sum_at}
 use Rattle.cip_dictionary.specs.declared.places.Place.{Place}
 
 pub zero_of : (q : ℚ) → is_zero q ≡ true → q ≡ zeroℚ

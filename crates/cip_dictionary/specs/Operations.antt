@@ -1,6 +1,6 @@
 -- Operations with the places at which they are formed, in their order, and the first of them that overflows.
 use Rattle.std.specs.Prelude.{ℕ, Bool, ◌&&◌, ◌||◌, List, [], ◌∷◌, Option, None, Some, if◌then◌else◌}
-use Rattle.cip_rational.specs.Rational.{ℚ, ◌*ℚ◌, zeroℚ, le_test}
+use Rattle.cip_rational.specs.Rational.{ℚ, ◌*ℚ◌, is_zero}
 use Rattle.cip_rational.specs.Range.{sum_overflows, difference_overflows, product_overflows}
 use Rattle.cip_dictionary.specs.declared.places.Line.{Line}
 use Rattle.cip_dictionary.specs.declared.places.Place.{Place}
@@ -37,10 +37,6 @@ value_place line = record { line = line; variable = None }
 
 abbrev pub placed : Place → Operation → Placed
 placed place operation = record { place = place; operation = operation }
-
--- whether a number is 0
-unfoldable pub is_zero : ℚ → Bool
-is_zero q = le_test q zeroℚ && le_test zeroℚ q
 
 -- the product a * b; where a factor is 0 nothing is formed
 abbrev pub product_at : Place → ℚ → ℚ → List Placed

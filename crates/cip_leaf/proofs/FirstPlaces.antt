@@ -2,10 +2,10 @@
 use Rattle.std.proofs.Common.{◌≡◌, ◌⊎◌, inl, inr, ℕ, zero, suc, ◌+◌, Bool, true, false, cond, ◌||◌, List, [], ◌∷◌, ◌++◌, length, Option, None, Some, refl, sym, ap, ◌∙◌, subst, arith}
 use Rattle.std.specs.Prelude.{is_some}
 use Rattle.std.proofs.lemmas.Option.{none-some, same_Some}
-use Rattle.cip_rational.specs.Rational.{ℚ, ◌*ℚ◌}
+use Rattle.cip_rational.specs.Rational.{ℚ, ◌*ℚ◌, is_zero}
 use Rattle.cip_linear.specs.LinearProgram.{LinearProgram}
 use Rattle.cip_dictionary.specs.Tables.{each}
-use Rattle.cip_dictionary.specs.Operations.{Placed, Sum, Product, placed, overflows, first_overflow, value_place, is_zero}
+use Rattle.cip_dictionary.specs.Operations.{Placed, Sum, Product, placed, overflows, first_overflow, value_place}
 use Rattle.cip_dictionary.specs.FirstState.{System, columns_of, first_value, form_operations, first_operations}
 use Rattle.cip_dictionary.specs.ProgramState.{system_of}
 use Rattle.cip_dictionary.proofs.Overflow.{overflow-append, overflow-found}

@@ -2,13 +2,12 @@
 use Rattle.std.proofs.Common.{◌≡◌, true, pos, negsuc, List, [], ◌∷◌, length, refl, ap, ◌∙◌, sym, arith}
 use Rattle.cip_rational.specs.Gcd.{gcd}
 use Rattle.cip_rational.specs.Range.{fits_range, sum_overflows, difference_overflows, product_overflows}
-use Rattle.cip_rational.specs.Rational.{ℚ, ◌+ℚ◌, ◌-ℚ◌, ◌*ℚ◌, zeroℚ, oneℚ, negate, integer, ratio, whole, inverse, numerator, denominator, le_test, lt_test}
+use Rattle.cip_rational.specs.Rational.{ℚ, ◌+ℚ◌, ◌-ℚ◌, ◌*ℚ◌, zeroℚ, oneℚ, negate, integer, ratio, whole, inverse, numerator, denominator, le_test, lt_test, is_zero}
 use Rattle.cip_rational.proofs.Rational.Order.{≤ℚ_antisymm, le_of_test}
 use Rattle.cip_linear.specs.LinearProgram.{LinearProgram}
 use Rattle.cip_dictionary.specs.Tables.{table}
 use Rattle.cip_dictionary.specs.Dictionary.{Dictionary, value, cost_entry}
 use Rattle.cip_dictionary.specs.Exchange.{exchanged, flipped}
-use Rattle.cip_dictionary.specs.Operations.{is_zero}
 use Rattle.cip_dictionary.specs.FirstState.{first}
 use Rattle.cip_dictionary.specs.ProgramState.{first_of_program}
 use Rattle.cip_dictionary.specs.declared.moves.Stand.TheVariants.{Low}

@@ -9,7 +9,7 @@ use lib.IntN.{ℤ_set}
 use mathlib.Core.Bool.{Bool-set}
 use native.Mathlib.Nat.{ℕ_set}
 use borrow.Author.Differences.{up, down}
-use Rattle.std.proofs.Common.{◌≡◌, ℕ, zero, suc, ◌<◌, Bool, not, cond, T, ◌==◌, ℤ, pos, negsuc, neg_ℤ, Ordering, Less, Equal, Greater, refl, ◌∙◌, arith, zero-lt-suc}
+use Rattle.std.proofs.Common.{◌≡◌, ℕ, zero, suc, ◌<◌, Bool, not, cond, T, ◌==◌, ◌&&◌, ℤ, pos, negsuc, neg_ℤ, Ordering, Less, Equal, Greater, refl, ◌∙◌, arith, zero-lt-suc}
 use Rattle.std.specs.Int.{int_div_euclid}
 use Rattle.std.specs.Coded.{Coded, code_by, coded×, coded_ℤ, coded_ℕ}
 use Rattle.cip_rational.specs.Fraction.{of, same_equal, ℚ_set, rational_rec, rational_rec₂, rational_ind}
@@ -87,6 +87,10 @@ le_test = rational_rec₂ Bool-set fraction_at_most at_most_left at_most_right
 -- whether a is less than b: b is not at most a
 unfoldable pub lt_test : ℚ → ℚ → Bool
 lt_test a b = not (le_test b a)
+
+-- whether a number is 0
+unfoldable pub is_zero : ℚ → Bool
+is_zero q = le_test q zeroℚ && le_test zeroℚ q
 
 infix 4 ◌≤ℚ◌ ◌<ℚ◌
 -- a is at most b

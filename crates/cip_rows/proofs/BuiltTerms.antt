@@ -1,15 +1,16 @@
 -- Terms made of coefficients, one after another.
 use Rattle.std.proofs.Common.{◌≡◌, ℕ, zero, suc, ◌+◌, ◌<◌, ◌≤◌, Bool, true, false, cond, List, [], ◌∷◌, ◌++◌, length, get_or, drop, refl, sym, ap, ◌∙◌, subst, arith, append_assoc, append-nil, add-one, Some, None}
 use Rattle.std.proofs.lemmas.List.{drop_all, drop_more}
-use Rattle.cip_rational.specs.Rational.{ℚ, zeroℚ}
+use Rattle.cip_rational.specs.Rational.{ℚ, zeroℚ, is_zero}
 use Rattle.cip_problem.specs.Program.{Term, Row}
 use Rattle.cip_problem.specs.RowTerms.{column_at, IsAboveLast}
-use Rattle.cip_cuts.specs.Cuts.{is_zero, terms_from}
+use Rattle.cip_cuts.specs.Cuts.{terms_from}
 use Rattle.cip_rational.proofs.Rational.Order.{test_of_le, ≤ℚ_refl}
 use Rattle.cip_cuts.proofs.Rows.{zero_of_test}
 
 -- a coefficient that isn't 0 gives a term, and 0 gives none
 test_of_zero : is_zero zeroℚ ≡ true
+unfolding is_zero
 test_of_zero = rw (test_of_le (≤ℚ_refl zeroℚ)) refl
 
 pub none_for_zero : (column : ℕ) (d : ℚ) (ds : List ℚ) → d ≡ zeroℚ → terms_from column (d ∷ ds) ≡ terms_from (suc column) ds

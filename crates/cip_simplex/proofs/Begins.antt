@@ -1,13 +1,12 @@
 -- The moves of a start can be made, one after another.
 use Rattle.std.proofs.Common.{◌≡◌, ℕ, zero, suc, ◌+◌, ◌<◌, ◌≤◌, Bool, true, false, cond, not, is_some, List, Option, None, Some, Result, Ok, Err, IfOk, refl, sym, ap, ◌∙◌, subst, inl, inr, arith, add-one}
 use Rattle.std.proofs.lemmas.Bool.{and_parts, cases_eq}
-use Rattle.cip_rational.specs.Rational.{ℚ}
+use Rattle.cip_rational.specs.Rational.{ℚ, is_zero}
 use Rattle.cip_problem.specs.Program.{Sides}
 use Rattle.cip_problem.specs.Box.{sides_at}
 use Rattle.cip_dictionary.specs.Tables.{least}
 use Rattle.cip_dictionary.specs.Dictionary.{Dictionary, size, stand, is_basic, entry, CanStand, IsConsistent}
 use Rattle.cip_dictionary.specs.Exchange.{CanExchange, CanFlip}
-use Rattle.cip_dictionary.specs.Operations.{is_zero}
 use Rattle.cip_dictionary.specs.FirstState.{first_stand}
 use Rattle.cip_dictionary.specs.declared.moves.Stand.{Stand}
 use Rattle.cip_dictionary.specs.declared.moves.Stand.TheVariants.{Low, High, Zero}

@@ -4,8 +4,7 @@ use Rattle.std.proofs.lemmas.Bool.{ne_eqb, cases_eq, or_right}
 use Rattle.cip_dictionary.specs.Tables.{first_of}
 use Rattle.cip_dictionary.specs.Dictionary.{Dictionary}
 use Rattle.cip_dictionary.specs.declared.moves.Move.{Move}
-use Rattle.cip_rational.specs.Rational.{ℚ, zeroℚ, lt_test}
-use Rattle.cip_dictionary.specs.Operations.{is_zero}
+use Rattle.cip_rational.specs.Rational.{ℚ, zeroℚ, lt_test, is_zero}
 use Rattle.cip_problem.specs.Box.{sides_at}
 use Rattle.cip_dictionary.specs.Dictionary.{is_basic, entry}
 use Rattle.cip_dictionary.specs.Exchange.{step}

@@ -13,7 +13,7 @@ use Rattle.cip_linear.specs.LinearProgram.{LinearProgram}
 use Rattle.cip_dictionary.specs.Tables.{table, least}
 use Rattle.cip_dictionary.specs.Dictionary.{Dictionary, size, stand, is_basic, entry}
 use Rattle.cip_dictionary.specs.Exchange.{after, CanMove}
-use Rattle.cip_dictionary.specs.Operations.{is_zero}
+use Rattle.cip_rational.specs.Rational.{is_zero}
 use Rattle.cip_dictionary.specs.MoveOperations.{move_operations}
 use Rattle.cip_dictionary.specs.FirstState.{first_stand, first_operations}
 use Rattle.cip_dictionary.specs.ProgramState.{system_of, first_of_program}

@@ -3,10 +3,10 @@ use Rattle.std.proofs.Common.{◌≡◌, ◌⊎◌, inl, inr, ℕ, zero, suc, �
 use Rattle.std.specs.Prelude.{⊤}
 use Rattle.std.proofs.lemmas.List.{length-map}
 use Rattle.std.proofs.lemmas.Option.{none-some, same_Some}
-use Rattle.cip_rational.specs.Rational.{ℚ, ◌*ℚ◌}
+use Rattle.cip_rational.specs.Rational.{ℚ, ◌*ℚ◌, is_zero}
 use Rattle.cip_problem.specs.Program.{Program}
 use Rattle.cip_dictionary.specs.Tables.{each}
-use Rattle.cip_dictionary.specs.Operations.{Placed, Sum, Product, placed, overflows, first_overflow, value_place, is_zero}
+use Rattle.cip_dictionary.specs.Operations.{Placed, Sum, Product, placed, overflows, first_overflow, value_place}
 use Rattle.cip_dictionary.specs.FirstState.{System, columns_of, first_value, form_operations, first_operations}
 use Rattle.cip_linear.specs.Multipliers.{row_sides}
 use Rattle.cip_dictionary.specs.ProgramState.{system_of}

@@ -1,7 +1,7 @@
 use Rattle.std.proofs.Common.{◌==◌, sym, ◌∙◌}
 use Rattle.std.proofs.lemmas.Bool.{true≢false}
 use Rattle.cip_problem.specs.Activity.{value_at}
-use Rattle.cip_dictionary.specs.Operations.{is_zero}
+use Rattle.cip_rational.specs.Rational.{is_zero}
 use Rattle.cip_dict.specs.Lists.{basic_in}
 use Rattle.cip_dict.proofs.Added.{zero_left, unreached}
 use Rattle.cip_dict.proofs.values.move_basic.Goals as goal

@@ -1,5 +1,5 @@
 use Rattle.std.proofs.Common.{◌≡◌, not, sym, ap, ◌∙◌}
-use Rattle.cip_dictionary.specs.Operations.{is_zero}
+use Rattle.cip_rational.specs.Rational.{is_zero}
 use Rattle.cip_dict.specs.WholeLines.{number_on}
 use Rattle.cip_dict.proofs.Dense.{dense_read}
 use Rattle.cip_dict.proofs.FormParts.{one_kept, whole_test, parted_view}
