@@ -5,7 +5,7 @@ use Rattle.cip_linear.specs.LinearProgram.{LinearProgram, IsProper}
 use Rattle.cip_dictionary.specs.Tables.{least}
 use Rattle.cip_dictionary.specs.Dictionary.{Dictionary, size, IsConsistent}
 use Rattle.cip_dictionary.specs.Exchange.{CanMove}
-use Rattle.cip_dictionary.specs.Statements.{IsKept}
+use Rattle.cip_dictionary.specs.Statements.{KeepsSolutions}
 use Rattle.cip_dictionary.specs.ProgramState.{system_of, first_of_program}
 use Rattle.cip_dictionary.specs.declared.moves.Move.{Move}
 use Rattle.cip_dictionary.specs.declared.moves.Move.TheVariants.{Exchange, Flip}
@@ -101,7 +101,7 @@ first_is_state program = record {
   same = record { same_sides = refl; onto = λ x s. s; back = λ x s. s; same_cost = λ x s. refl };
 }
 
-kept_on : (first d e : Dictionary) → IsKept first d → IsKept d e → IsKept first e
+kept_on : (first d e : Dictionary) → KeepsSolutions first d → KeepsSolutions d e → KeepsSolutions first e
 kept_on first d e h k = record {
   consistent = k.consistent;
   same = record {

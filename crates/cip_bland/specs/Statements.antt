@@ -6,7 +6,7 @@ use Rattle.cip_linear.specs.Aggregate.{Inequality, aggregate, bound_of, Empties}
 use Rattle.cip_linear.specs.Multipliers.{ArePartsOf}
 use Rattle.cip_dictionary.specs.Dictionary.{Dictionary, IsConsistent}
 use Rattle.cip_dictionary.specs.Exchange.{after, CanMove}
-use Rattle.cip_dictionary.specs.Statements.{IsKept}
+use Rattle.cip_dictionary.specs.Statements.{KeepsSolutions}
 use Rattle.cip_dictionary.specs.ProgramState.{first_of_program}
 use Rattle.cip_dictionary.specs.declared.moves.Move.{Move}
 use Rattle.cip_bland.specs.Rule.{next}
@@ -17,7 +17,7 @@ use Rattle.cip_bland.specs.declared.steps.Step.TheVariants.{Crossed, Infeasible,
 
 -- a state of a program is consistent, and has the solutions and the cost of the first one
 abbrev pub IsStateOf : LinearProgram → Dictionary → Type 0
-IsStateOf program d = IsKept (first_of_program program) d
+IsStateOf program d = KeepsSolutions (first_of_program program) d
 
 -- ---- right answers
 

@@ -19,15 +19,15 @@ use Rattle.cip_problem.specs.Box.{IsInBox, sides_at, box_inside}
 use Rattle.cip_problem.specs.Points.{IsSatisfied}
 use Rattle.cip_problem.proofs.Box.SideTests.{inner_box_holds}
 use Rattle.cip_problem.proofs.Points.AtPlaces.{satisfied_at}
-use Rattle.cip_linear.specs.Aggregate.{Part, IsPartOf, bound_row, IsKept, Inequality, total_activity, total_side}
+use Rattle.cip_linear.specs.Aggregate.{Part, IsPartOf, bound_row, HoldsAt, Inequality, total_activity, total_side}
 use Rattle.cip_linear.proofs.Parts.{part_holds, bound_part_holds, used_low, used_high}
 use Rattle.cip_lin.specs.declared.combos.RowId.{RowId}
 use Rattle.cip_lin.specs.declared.combos.RowId.TheVariants.{Own, Pool, Cutoff}
 use Rattle.cip_lin.specs.declared.combos.RowMultiple.{RowMultiple}
 use Rattle.cip_lin.specs.declared.combos.ColumnMultiple.{ColumnMultiple}
 use Rattle.cip_cert.specs.declared.rows.PoolRow.{PoolRow}
-use Rattle.cip_cert.specs.declared.faults.Place.{Place}
-use Rattle.cip_cert.specs.declared.faults.Place.TheVariants.{Entry}
+use Rattle.cip_cert.specs.declared.faults.FaultPlace.{FaultPlace}
+use Rattle.cip_cert.specs.declared.faults.FaultPlace.TheVariants.{Entry}
 use Rattle.cip_cert.specs.declared.faults.CutFault.{CutFault}
 use Rattle.cip_cert.specs.Pool.{pool_row}
 use Rattle.cip_cert.specs.Lent.{Lent, KeptFits, Fits, Multiples, count_of}
@@ -49,11 +49,11 @@ pub ok_cond : {A : Type 0} (P : A → Type 0) (t : Bool) (a b : Result A CutFaul
 ok_cond P true a b f g = f refl
 ok_cond P false a b f g = g refl
 
-pub placed_value : (place : Place) (q : ℚ) (r : Result ℚ Overflow) → IfOk r (λ v. v ≡ q) → IfOk (placed place r) (λ v. v ≡ q)
+pub placed_value : (place : FaultPlace) (q : ℚ) (r : Result ℚ Overflow) → IfOk r (λ v. v ≡ q) → IfOk (placed place r) (λ v. v ≡ q)
 placed_value place q (Ok v) h = h
 placed_value place q (Err overflow) h = tt
 
-pub product_value : (place : Place) (sum a b : ℚ) → IfOk (placed place (product_added sum a b)) (λ v. v ≡ sum +ℚ a *ℚ b)
+pub product_value : (place : FaultPlace) (sum a b : ℚ) → IfOk (placed place (product_added sum a b)) (λ v. v ≡ sum +ℚ a *ℚ b)
 product_value place sum a b = placed_value place (sum +ℚ a *ℚ b) (product_added sum a b) (product_added-value sum a b)
 
 -- ---- one coefficient changed
@@ -103,7 +103,7 @@ add_terms_sum entry factor (t ∷ ts) ds h =
 module _ (lent : Lent) (box : List Sides) (columns : ℕ) where
   -- a part holds where the rows hold, and stands on columns of the row
   record IsGood (part : Part) : Type 0 where
-    pub kept : FollowsAt lent box (IsKept part)
+    pub kept : FollowsAt lent box (HoldsAt part)
     pub stands : StandsBelow columns part.terms
 
   with_part : (row : Inequality) (part : Part) (es : List ℚ) (least : ℚ) → IsSum lent box columns row → IsGood part → Added row.coefficients part.factor part.terms es → least ≡ row.least +ℚ part.factor *ℚ part.side → IsSum lent box columns (record { coefficients = es; least = least })

@@ -18,8 +18,8 @@ use Rattle.cip_lin.specs.declared.combos.ColumnMultiple.{ColumnMultiple}
 use Rattle.cip_cert.specs.declared.rows.PoolRow.{PoolRow}
 use Rattle.cip_cert.specs.Pool.{pool_row}
 use Rattle.cip_cert.specs.Lent.{Lent, Multiples, count_of}
-use Rattle.cip_cert.specs.declared.faults.Place.{Place}
-use Rattle.cip_cert.specs.declared.faults.Place.TheVariants.{Entry, Column}
+use Rattle.cip_cert.specs.declared.faults.FaultPlace.{FaultPlace}
+use Rattle.cip_cert.specs.declared.faults.FaultPlace.TheVariants.{Entry, Column}
 use Rattle.cip_cert.specs.declared.faults.CutFault.{CutFault}
 use Rattle.cip_cert.specs.declared.faults.CutFault.TheVariants.{TooLong, UnknownRow, UnknownColumn, NotInScope, WrongSign, NoSide, Wide, NotWhole, NotPositive, NotImplied}
 
@@ -29,7 +29,7 @@ chain (Ok a) next = next a
 chain (Err fault) next = Err fault
 
 -- an operation at a place, which says where it overflows
-abbrev pub placed : Place → Result ℚ Overflow → Result ℚ CutFault
+abbrev pub placed : FaultPlace → Result ℚ Overflow → Result ℚ CutFault
 placed place (Ok q) = Ok q
 placed place (Err overflow) = Err (Wide place)
 

@@ -3,7 +3,7 @@ use cip_frac::Frac;
 
 /// Where in a combination or in a box a fault lies.
 #[derive(Clone, Copy, Debug, PartialEq, Eq)]
-pub enum Place {
+pub enum FaultPlace {
     /// An entry of the combination, counted from 0 through its rows, its low sides and its high sides.
     Entry(usize),
     /// A column of the box.
@@ -29,9 +29,9 @@ pub enum CutFault {
     /// A factor is 0, that of a low side is below 0, or that of a high side is above 0.
     WrongSign { entry: usize },
     /// The side that an entry uses, or that the rest of a column needs, is open.
-    NoSide { place: Place },
+    NoSide { place: FaultPlace },
     /// A product, sum, difference or quotient overflows.
-    Wide { place: Place },
+    Wide { place: FaultPlace },
     /// With rounding, a coefficient isn't 0, and isn't whole or stands on a column that isn't whole.
     NotWhole { column: usize },
     /// With costs 0 the bound isn't above 0.

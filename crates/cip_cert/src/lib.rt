@@ -21,7 +21,7 @@ mod sparse;
 mod walks;
 
 pub use calls::{derive, empties, lower_bound, reduction};
-pub use faults::{CutFault, Place};
+pub use faults::{CutFault, FaultPlace};
 pub use laws::{
     aggregates_are_sums, bounds_are_those, rows_are_rounded_where_they_can, sides_are_those,
 };

@@ -4,13 +4,13 @@ ghost use Rattle.cip_problem.specs.Activity.{StandsBelow};
 ghost use Rattle.cip_frac.specs.Outcomes.{product_added};
 ghost use Rattle.cip_cert.specs.Checks.{placed, chain, side_part, add_terms, add_part};
 
-use crate::faults::{CutFault, Place};
+use crate::faults::{CutFault, FaultPlace};
 use crate::sparse::SparseRow;
 use cip_frac::Frac;
 use cip_lin::Term;
 
 /// A sum with a product added, or where it overflows.
-pub(crate) fn sum_of(place: Place, sum: Frac, a: Frac, b: Frac) -> Result<Frac, CutFault>
+pub(crate) fn sum_of(place: FaultPlace, sum: Frac, a: Frac, b: Frac) -> Result<Frac, CutFault>
     ensures { result ≡ placed place (product_added sum a b) }
 {
     let mut value = sum;
@@ -36,7 +36,7 @@ fn add_terms(
 {
     for term in terms {
         let before = row.entries()[term.col as usize];
-        match sum_of(Place::Entry(entry), before, factor, term.coef) {
+        match sum_of(FaultPlace::Entry(entry), before, factor, term.coef) {
             Ok(value) => row.set(term.col, value),
             Err(fault) => return Err(fault),
         }
@@ -64,11 +64,11 @@ pub(crate) fn add_part(
 {
     let Some(side) = side else {
         return Err(CutFault::NoSide {
-            place: Place::Entry(entry),
+            place: FaultPlace::Entry(entry),
         });
     };
     if let Err(fault) = add_terms(entry, factor, terms, row) {
         return Err(fault);
     }
-    sum_of(Place::Entry(entry), least, factor, side)
+    sum_of(FaultPlace::Entry(entry), least, factor, side)
 }

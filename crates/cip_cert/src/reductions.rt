@@ -5,7 +5,7 @@ ghost use Rattle.cip_cert.specs.Lent.{lent_of, Fits, multiples_of};
 ghost use Rattle.cip_cert.specs.Checks.{quotient_at, round_up_if, round_down_if, implied_low, implied_high, low_allowed, high_allowed, low_reduced, high_reduced};
 
 use crate::aggregate::aggregate;
-use crate::faults::{CutFault, Place};
+use crate::faults::{CutFault, FaultPlace};
 use crate::rows::Rows;
 use crate::sparse::SparseRow;
 use crate::walks::rests;
@@ -20,7 +20,7 @@ fn quotient(column: u32, bound: Frac, coefficient: Frac) -> Result<Frac, CutFaul
     match bound.div(coefficient) {
         Ok(quotient) => Ok(quotient),
         Err(_) => Err(CutFault::Wide {
-            place: Place::Column(column as usize),
+            place: FaultPlace::Column(column as usize),
         }),
     }
 }

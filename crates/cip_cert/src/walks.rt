@@ -6,7 +6,7 @@ ghost use Rattle.std.specs.List.Sorted.{IsSorted};
 ghost use Rattle.cip_cert.specs.Touched.{Tells};
 ghost use Rattle.cip_cert.specs.Checks.{chain, stops_rounding, first_stop, rest_of, rest_added, own_rest_added, bound_from, rests_from};
 
-use crate::faults::{CutFault, Place};
+use crate::faults::{CutFault, FaultPlace};
 use crate::parts::sum_of;
 use cip_frac::Frac;
 use cip_lin::Sides;
@@ -48,7 +48,7 @@ fn add_rest(column: usize, sum: Frac, rest: Frac, sides: Sides) -> Result<Frac, 
     } else {
         return Ok(sum);
     };
-    let place = Place::Column(column);
+    let place = FaultPlace::Column(column);
     match side {
         None => Err(CutFault::NoSide { place }),
         Some(side) => sum_of(place, sum, rest, side),
@@ -68,7 +68,7 @@ fn add_column(
     match cost.sub(coefficient) {
         Ok(rest) => add_rest(column, sum, rest, sides),
         Err(_) => Err(CutFault::Wide {
-            place: Place::Column(column),
+            place: FaultPlace::Column(column),
         }),
     }
 }

@@ -4,7 +4,7 @@ use crate::drawn::{is_drawn, shape};
 use crate::draws::Draws;
 use crate::slow_answers::{slow_cost, slow_emptiness, slow_row, slow_side};
 use crate::slow_sums::{Sum, is_summed};
-use cip_cert::{CutFault, Place, Scratch};
+use cip_cert::{CutFault, FaultPlace, Scratch};
 use cip_frac::Frac;
 use std::alloc::Global;
 
@@ -25,22 +25,22 @@ fn kind_of(fault: Option<CutFault>) -> usize {
         Some(CutFault::WrongSign { .. }) => 5,
         Some(
             CutFault::NoSide {
-                place: Place::Entry(_),
+                place: FaultPlace::Entry(_),
             },
         ) => 6,
         Some(
             CutFault::NoSide {
-                place: Place::Column(_),
+                place: FaultPlace::Column(_),
             },
         ) => 7,
         Some(
             CutFault::Wide {
-                place: Place::Entry(_),
+                place: FaultPlace::Entry(_),
             },
         ) => 8,
         Some(
             CutFault::Wide {
-                place: Place::Column(_),
+                place: FaultPlace::Column(_),
             },
         ) => 9,
         Some(CutFault::NotWhole { .. }) => 10,

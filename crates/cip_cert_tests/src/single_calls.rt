@@ -1,7 +1,7 @@
 //! The checks on rows worked out by hand.
 use crate::asked::Asked;
 use crate::draws::fraction;
-use cip_cert::{CutFault, Place, Scratch};
+use cip_cert::{CutFault, FaultPlace, Scratch};
 use cip_frac::Frac;
 use cip_lin::{Bounds, ColumnMultiple, Row, RowId, RowMultiple, Side, Sides, Term};
 use std::alloc::{AllocError, Global};
@@ -260,7 +260,7 @@ fn is_fault(fault: CutFault, want: Want) -> bool {
         Want::Empty => false,
         Want::NotWhole(column) => fault == CutFault::NotWhole { column },
         Want::NoSideOf(entry) => {
-            let place = Place::Entry(entry);
+            let place = FaultPlace::Entry(entry);
             fault == CutFault::NoSide { place }
         }
         Want::WrongSignOf(entry) => fault == CutFault::WrongSign { entry },

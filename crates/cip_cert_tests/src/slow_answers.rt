@@ -2,7 +2,7 @@
 use crate::asked::Asked;
 use crate::draws::fraction;
 use crate::slow_sums::{Sum, plus};
-use cip_cert::{CutFault, Place};
+use cip_cert::{CutFault, FaultPlace};
 use cip_frac::Frac;
 use cip_lin::{Side, Sides};
 
@@ -63,7 +63,7 @@ fn with_rest(column: usize, sum: Frac, rest: Frac, sides: Sides) -> Result<Frac,
     if rest == Frac::zero() {
         return Ok(sum);
     }
-    let place = Place::Column(column);
+    let place = FaultPlace::Column(column);
     match least_side(sides, rest) {
         None => Err(CutFault::NoSide { place }),
         Some(side) => match plus(sum, rest, side) {
@@ -84,7 +84,7 @@ fn with_column(
     match cost.add(coefficient.neg()) {
         Ok(rest) => with_rest(column, sum, rest, sides),
         Err(_) => Err(CutFault::Wide {
-            place: Place::Column(column),
+            place: FaultPlace::Column(column),
         }),
     }
 }
@@ -143,7 +143,7 @@ fn implied(asked: &Asked, coefficient: Frac, bound: Frac) -> Result<Option<Frac>
     let inverse = fraction(coefficient.denominator(), coefficient.numerator());
     let Ok(side) = bound.mul(inverse) else {
         return Err(CutFault::Wide {
-            place: Place::Column(asked.column as usize),
+            place: FaultPlace::Column(asked.column as usize),
         });
     };
     let is_whole = match asked.whole.as_slice().get(asked.column as usize) {

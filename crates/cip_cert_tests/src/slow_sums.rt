@@ -1,6 +1,6 @@
 //! The sum of a combination, formed from whole rows, one column after another.
 use crate::asked::Asked;
-use cip_cert::{CutFault, Place};
+use cip_cert::{CutFault, FaultPlace};
 use cip_frac::Frac;
 use cip_lin::{ColumnMultiple, Row, RowId, RowMultiple, Sides};
 use std::alloc::{AllocError, Global};
@@ -99,7 +99,7 @@ fn side_of(row: &Row, entry: usize, factor: Frac) -> Result<Frac, CutFault> {
     match side {
         Some(side) => Ok(side),
         None => Err(CutFault::NoSide {
-            place: Place::Entry(entry),
+            place: FaultPlace::Entry(entry),
         }),
     }
 }
@@ -131,7 +131,7 @@ fn column_side(
     match if is_low { sides.low } else { sides.high } {
         Some(side) => Ok(side),
         None => Err(CutFault::NoSide {
-            place: Place::Entry(entry),
+            place: FaultPlace::Entry(entry),
         }),
     }
 }
@@ -343,7 +343,7 @@ fn put_sum(
     sum.fault = match first_overflow(asked, parts, columns) {
         _ if is_too_long(asked) => Some(CutFault::TooLong),
         Some(at) => Some(CutFault::Wide {
-            place: Place::Entry(at),
+            place: FaultPlace::Entry(at),
         }),
         None => fault,
     };

@@ -13,7 +13,7 @@ use Rattle.cip_problem.specs.Box.{Between, IsInBox, sides_at}
 use Rattle.cip_problem.specs.BoxBound.{sum_if_both}
 use Rattle.cip_problem.specs.Points.{cost_of}
 use Rattle.cip_problem.proofs.Points.AtPlaces.{satisfied_at, whole_at}
-use Rattle.cip_linear.specs.Aggregate.{Part, IsPartOf, bound_row, IsKept, AllKept, Inequality, IsAggregate, bound_of, Empties, implied_sides}
+use Rattle.cip_linear.specs.Aggregate.{Part, IsPartOf, bound_row, HoldsAt, AllHoldAt, Inequality, IsAggregate, bound_of, Empties, implied_sides}
 use Rattle.cip_linear.proofs.Parts.{part_holds, bound_part_holds}
 use Rattle.cip_linear.proofs.Aggregates.{aggregate_holds}
 use Rattle.cip_linear.proofs.Bounds.{bound_holds, empty_holds, implied_hold}
@@ -27,13 +27,13 @@ use Rattle.cip_cuts.proofs.Rounding.{rounded_holds, sides_rounded, whole_cost}
 pub own_valid : (program : Program) (held : Option ℚ) (box : List Sides) (number : ℕ) (row : Row) → slice_get program.rows number ≡ Some row → IsValidRow program held box row
 own_valid program held box number row e point i w = satisfied_at program.rows point number row i.feasible.rows e
 
-pub row_part : (program : Program) (held : Option ℚ) (box : List Sides) (row : Row) (part : Part) → IsValidRow program held box row → IsPartOf row part → HoldsInBox program held box (IsKept part)
+pub row_part : (program : Program) (held : Option ℚ) (box : List Sides) (row : Row) (part : Part) → IsValidRow program held box row → IsPartOf row part → HoldsInBox program held box (HoldsAt part)
 row_part program held box row part h k point i w = part_holds row part point k (h point i w)
 
-pub column_part : (program : Program) (held : Option ℚ) (box : List Sides) (column : ℕ) (part : Part) → IsPartOf (bound_row column (sides_at box column)) part → HoldsInBox program held box (IsKept part)
+pub column_part : (program : Program) (held : Option ℚ) (box : List Sides) (column : ℕ) (part : Part) → IsPartOf (bound_row column (sides_at box column)) part → HoldsInBox program held box (HoldsAt part)
 column_part program held box column part h point i w = bound_part_holds box column part point h w
 
-pub sum_valid : (program : Program) (held : Option ℚ) (box : List Sides) (n : ℕ) (parts : List Part) (row : Inequality) → IsAggregate n parts row → HoldsInBox program held box (AllKept parts) → IsValid program held box row
+pub sum_valid : (program : Program) (held : Option ℚ) (box : List Sides) (n : ℕ) (parts : List Part) (row : Inequality) → IsAggregate n parts row → HoldsInBox program held box (AllHoldAt parts) → IsValid program held box row
 sum_valid program held box n parts row h k point i w = aggregate_holds n parts row point h (k point i w)
 
 pub rounded_valid : (program : Program) (held : Option ℚ) (box : List Sides) (row : Inequality) → CanRound program.integral row.coefficients → IsValid program held box row → IsValid program held box (rounded row)

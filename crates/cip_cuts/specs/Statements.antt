@@ -10,7 +10,7 @@ use Rattle.cip_problem.specs.Box.{Between, IsInBox, sides_at, box_inside}
 use Rattle.cip_problem.specs.Points.{IsSatisfied, AreWhole, IsFeasible, cost_of, IsLowerBound}
 use Rattle.cip_problem.specs.Wholes.{wholes_between}
 use Rattle.cip_problem.specs.Log.{Node, root, low_half, high_half, matters}
-use Rattle.cip_linear.specs.Aggregate.{Part, IsPartOf, bound_row, IsKept, AllKept, Inequality, Holds, IsAggregate, Empties, implied_sides}
+use Rattle.cip_linear.specs.Aggregate.{Part, IsPartOf, bound_row, HoldsAt, AllHoldAt, Inequality, Holds, IsAggregate, Empties, implied_sides}
 use Rattle.cip_cuts.specs.Improving.{IsImproving, HoldsInBox, IsValidRow, IsValid, IsBoundIn, HasNoImproving, IsNoDearer}
 use Rattle.cip_cuts.specs.Cuts.{CanRound, rounded, rounded_sides, IsCrossed, row_of, cutoff_row, ScopedRow, HoldsInScope, cost_bound, HasWholeCosts}
 use Rattle.cip_cuts.specs.Cover.{IsBounded, IsCover, IsReplacedBy, HasBoundFrom}
@@ -56,11 +56,11 @@ pub record RowsAreValid : Type 0 where
 -- rounded sum; an inequality and its row are satisfied at the same points
 pub record SumsAreValid : Type 0 where
   pub row_part : (program : Program) (held : Option ℚ) (box : List Sides) (row : Row) (part : Part)
-      → IsValidRow program held box row → IsPartOf row part → HoldsInBox program held box (IsKept part)
+      → IsValidRow program held box row → IsPartOf row part → HoldsInBox program held box (HoldsAt part)
   pub column_part : (program : Program) (held : Option ℚ) (box : List Sides) (column : ℕ) (part : Part)
-      → IsPartOf (bound_row column (sides_at box column)) part → HoldsInBox program held box (IsKept part)
+      → IsPartOf (bound_row column (sides_at box column)) part → HoldsInBox program held box (HoldsAt part)
   pub sum : (program : Program) (held : Option ℚ) (box : List Sides) (n : ℕ) (parts : List Part) (row : Inequality)
-      → IsAggregate n parts row → HoldsInBox program held box (AllKept parts) → IsValid program held box row
+      → IsAggregate n parts row → HoldsInBox program held box (AllHoldAt parts) → IsValid program held box row
   pub rounded_at : (integral : List Bool) (row : Inequality) (point : List ℚ)
       → CanRound integral row.coefficients → AreWhole integral point → Holds row point → Holds (rounded row) point
   pub rounded : (program : Program) (held : Option ℚ) (box : List Sides) (row : Inequality)

@@ -11,7 +11,7 @@ use Rattle.cip_rational.proofs.Rational.Ratio.{ratio-add, ratio-mul}
 use Rattle.cip_rational.proofs.Rational.Lowest.{denominator-pos}
 use Rattle.cip_dictionary.specs.Operations.{Product, Sum, placed, first_overflow, sum_at}
 use Rattle.cip_dictionary.specs.declared.places.Line.TheVariants.{Cost}
-use Rattle.cip_dictionary.specs.declared.places.Place.{Place}
+use Rattle.cip_dictionary.specs.declared.places.EntryPlace.{EntryPlace}
 use Rattle.cip_dict.specs.Values.{IsAdded}
 use Rattle.cip_dict.specs.WholeLines.{HasTermsBelow}
 use Rattle.cip_dict.proofs.Formed.{sum_zero_left, sum_zero_right}
@@ -19,7 +19,7 @@ use Rattle.cip_dict.proofs.WholeLines.{whole_lines_tell}
 
 -- where a factor is 0 the value stays
 
-some_place : Place
+some_place : EntryPlace
 some_place = record { line = Cost; variable = None }
 
 pub zero_left : (c a b : ℚ) → is_zero a ≡ true → IsAdded true c a b c
@@ -30,11 +30,11 @@ zero_right c a b e = ((λ place. (sum_zero_right place c a b e).0), (sum_zero_ri
 
 -- where no operation overflows, none does
 
-formed : (none product sum : Bool) (place : Place) (a b c : ℚ) → product_overflows a b ≡ false → sum_overflows c (a *ℚ b) ≡ false → first_overflow (cond none [] (placed place (Product a b) ∷ placed place (Sum c (a *ℚ b)) ∷ [])) ≡ None
+formed : (none product sum : Bool) (place : EntryPlace) (a b c : ℚ) → product_overflows a b ≡ false → sum_overflows c (a *ℚ b) ≡ false → first_overflow (cond none [] (placed place (Product a b) ∷ placed place (Sum c (a *ℚ b)) ∷ [])) ≡ None
 formed true product sum place a b c p s = refl
 formed false product sum place a b c p s = rw (p, s) refl
 
-fits : (place : Place) (c a b : ℚ) → product_overflows a b ≡ false → sum_overflows c (a *ℚ b) ≡ false → first_overflow (sum_at place c a b) ≡ None
+fits : (place : EntryPlace) (c a b : ℚ) → product_overflows a b ≡ false → sum_overflows c (a *ℚ b) ≡ false → first_overflow (sum_at place c a b) ≡ None
 fits place c a b p s = formed (is_zero a || is_zero b) false false place a b c p s
 
 -- short numbers are small

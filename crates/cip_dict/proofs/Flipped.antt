@@ -14,7 +14,7 @@ use Rattle.cip_dictionary.specs.Exchange.{other_stand, way, flipped_stand, flipp
 use Rattle.cip_dictionary.specs.Operations.{Placed, Difference, placed, value_place, first_overflow}
 use Rattle.cip_dictionary.specs.MoveOperations.{first_line, flipped_operations, cost_operations, flip_operations}
 use Rattle.cip_dictionary.specs.declared.moves.Stand.{Stand}
-use Rattle.cip_dictionary.specs.declared.places.Place.{Place}
+use Rattle.cip_dictionary.specs.declared.places.EntryPlace.{EntryPlace}
 use Rattle.cip_dictionary.proofs.Tables.{same_table, length-table}
 use Rattle.cip_dictionary.proofs.Kept.{flips_keep}
 use Rattle.cip_dict.specs.declared.lists.Lists.{Lists}
@@ -100,5 +100,5 @@ flip_taken sides standing lists old room j cost later new rest s r h p t =
 pub arrive : (side v t : ℚ) → t ≡ side -ℚ v → side ≡ v +ℚ t
 arrive side v t e = rw e (linear_same (side ∷ v ∷ []) (λ s w. omega arith))
 
-pub difference_fits : (place : Place) (a b : ℚ) → difference_overflows a b ≡ false → first_overflow (placed place (Difference a b) ∷ []) ≡ None
+pub difference_fits : (place : EntryPlace) (a b : ℚ) → difference_overflows a b ≡ false → first_overflow (placed place (Difference a b) ∷ []) ≡ None
 difference_fits place a b e = rw e refl

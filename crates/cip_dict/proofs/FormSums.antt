@@ -6,7 +6,7 @@ use Rattle.cip_dictionary.specs.Tables.{form}
 use Rattle.cip_dictionary.specs.FirstState.{form_operations}
 use Rattle.cip_dictionary.specs.Operations.{first_overflow, value_place, sum_at}
 use Rattle.cip_dictionary.specs.declared.places.Line.{Line}
-use Rattle.cip_dictionary.specs.declared.places.Place.{Place}
+use Rattle.cip_dictionary.specs.declared.places.EntryPlace.{EntryPlace}
 use Rattle.cip_dictionary.proofs.Overflow.{overflow-append, first_at}
 use Rattle.cip_dictionary.proofs.Tables.{form_same}
 use Rattle.cip_dictionary.proofs.Zeros.{is_zero_of}
@@ -60,7 +60,7 @@ module _ (line : Line) (n : ℕ) (es : List Kept) (x : ℕ → ℚ) (len : ℕ) 
     v ∙ ap (λ a. total +ℚ a *ℚ x e.0) (sym own) ∙ ap (λ t. t +ℚ entry_on es e.0 *ℚ x e.0) until.1,
   )
 
-  pub next_wide : (place : Place) → first_overflow (sum_at (value_place line) total e.1 (x e.0)) ≡ Some place → first_overflow (form_operations line n (entry_on es) x) ≡ Some place
+  pub next_wide : (place : EntryPlace) → first_overflow (sum_at (value_place line) total e.1 (x e.0)) ≡ Some place → first_overflow (form_operations line n (entry_on es) x) ≡ Some place
   next_wide place o =
       first_at n e.0 (λ k. sum_at (value_place line) (form k (entry_on es) x) (entry_on es k) (x k)) place below until.0
       (ap (λ t. first_overflow (sum_at (value_place line) t (entry_on es e.0) (x e.0))) (sym until.1) ∙ ap (λ a. first_overflow (sum_at (value_place line) total a (x e.0))) own ∙ o)

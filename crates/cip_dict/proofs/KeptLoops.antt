@@ -8,7 +8,7 @@ use Rattle.cip_dictionary.specs.Exchange.{is_absent, solved, substituted_at, sub
 use Rattle.cip_dictionary.specs.Operations.{Placed, first_overflow, entry_place}
 use Rattle.cip_dictionary.specs.MoveOperations.{solved_operations, substituted_operations_at, substituted_operations}
 use Rattle.cip_dictionary.specs.declared.places.Line.{Line}
-use Rattle.cip_dictionary.specs.declared.places.Place.{Place}
+use Rattle.cip_dictionary.specs.declared.places.EntryPlace.{EntryPlace}
 use Rattle.cip_dictionary.proofs.Overflow.{overflow-append}
 use Rattle.cip_dictionary.proofs.Zeros.{is_zero_of, nonzero_of}
 use Rattle.cip_dict.specs.SparseLines.{Kept, entry_on, kept_at, kept_of, AreKept}
@@ -67,7 +67,7 @@ solved_gap line basic i j q row k z ne =
     let b : (k == i) ≡ false = ne_eqb k i ne in
     let s = solved_none line basic i j q row k (rw (a, b) refl) in (s.0, sym s.1)
 
-none_at : (place : Place) (leaving absent : Bool) (q a b c : ℚ) → a ≡ zeroℚ → c ≡ zeroℚ → (leaving ≡ true → q ≡ zeroℚ) → (first_overflow (substituted_operations_at place leaving absent q a b c) ≡ None) × (substituted_at leaving absent q a b c ≡ zeroℚ)
+none_at : (place : EntryPlace) (leaving absent : Bool) (q a b c : ℚ) → a ≡ zeroℚ → c ≡ zeroℚ → (leaving ≡ true → q ≡ zeroℚ) → (first_overflow (substituted_operations_at place leaving absent q a b c) ≡ None) × (substituted_at leaving absent q a b c ≡ zeroℚ)
 none_at place true absent q a b c za zc zq = let s = product_zero_right place b q (is_zero_of q (zq refl)) in (s.0, sym s.1)
 none_at place false true q a b c za zc zq = (refl, refl)
 none_at place false false q a b c za zc zq = let s = sum_zero_right place a b c (is_zero_of c zc) in (s.0, sym s.1 ∙ za)

@@ -9,14 +9,14 @@ use Rattle.cip_dictionary.specs.MoveOperations.{solved_operations_at, solved_ope
 use Rattle.cip_rational.proofs.Rational.Ring.{negate_zero}
 use Rattle.cip_dictionary.proofs.Zeros.{is_zero_of, zero_of}
 use Rattle.cip_dictionary.specs.declared.places.Line.{Line}
-use Rattle.cip_dictionary.specs.declared.places.Place.{Place}
+use Rattle.cip_dictionary.specs.declared.places.EntryPlace.{EntryPlace}
 use Rattle.cip_dictionary.specs.declared.moves.Stand.{Stand}
 use Rattle.cip_dictionary.proofs.Overflow.{overflow-append}
 use Rattle.cip_dict.proofs.Formed.{product_zero_left, sum_zero_right}
 use Rattle.cip_dict.specs.Lists.{basic_in}
 use Rattle.cip_dict.specs.Row.{form_changes, form_operations_in, written_form}
 
-entry_none : (place : Place) (leaving absent : Bool) (q a b c : ℚ) → is_zero b ≡ true → first_overflow (substituted_operations_at place leaving absent q a b c) ≡ None
+entry_none : (place : EntryPlace) (leaving absent : Bool) (q a b c : ℚ) → is_zero b ≡ true → first_overflow (substituted_operations_at place leaving absent q a b c) ≡ None
 entry_none place true absent q a b c e = rw e refl
 entry_none place false true q a b c e = refl
 entry_none place false false q a b c e = rw e refl
@@ -42,7 +42,7 @@ pub unchanged_stays : (standing : List (Option Stand)) (i j : ℕ) (q : ℚ) (ne
 unchanged_stays standing i j q new v row out e = rw e refl
 
 -- an entry on a variable that stays nonbasic stays as it is where that of the row which enters is 0
-kept_at : (place : Place) (none basic leaving entering : Bool) (q a b c : ℚ) → is_zero c ≡ none → (none && (not basic && (not leaving && not entering))) ≡ true → (first_overflow (substituted_operations_at place leaving (basic || entering) q a b c) ≡ None) × (a ≡ substituted_at leaving (basic || entering) q a b c)
+kept_at : (place : EntryPlace) (none basic leaving entering : Bool) (q a b c : ℚ) → is_zero c ≡ none → (none && (not basic && (not leaving && not entering))) ≡ true → (first_overflow (substituted_operations_at place leaving (basic || entering) q a b c) ≡ None) × (a ≡ substituted_at leaving (basic || entering) q a b c)
 kept_at place true false false false q a b c z e = sum_zero_right place a b c z
 kept_at place true false false true q a b c z e = absurd (cc)
 kept_at place true false true entering q a b c z e = absurd (cc)
@@ -53,7 +53,7 @@ pub kept : (line : Line) (standing : List (Option Stand)) (i j : ℕ) (q : ℚ) 
 kept line standing i j q new row k e = kept_at _ _ (basic_in standing k) (k == i) (k == j) q (row k) (row j) (new k) refl e
 
 -- nothing is written where the row that is solved has no entry
-none_at : (place : Place) (none leaving absent : Bool) (q a : ℚ) → is_zero a ≡ none → (none && not leaving) ≡ true → (first_overflow (solved_operations_at place leaving absent q a) ≡ None) × (zeroℚ ≡ solved_at leaving absent q a)
+none_at : (place : EntryPlace) (none leaving absent : Bool) (q a : ℚ) → is_zero a ≡ none → (none && not leaving) ≡ true → (first_overflow (solved_operations_at place leaving absent q a) ≡ None) × (zeroℚ ≡ solved_at leaving absent q a)
 none_at place true false true q a z e = (refl, refl)
 none_at place true false false q a z e = product_zero_left place (negate a) q (is_zero_of (negate a) (ap negate (zero_of a z) ∙ negate_zero))
 none_at place true true absent q a z e = absurd (cc)

@@ -12,7 +12,7 @@ use Rattle.cip_dictionary.specs.Exchange.{is_absent, solved_at, solved, substitu
 use Rattle.cip_dictionary.specs.Operations.{Placed, first_overflow, entry_place, product_at, sum_at}
 use Rattle.cip_dictionary.specs.MoveOperations.{solved_operations_at, solved_operations, substituted_operations_at, substituted_operations}
 use Rattle.cip_dictionary.specs.declared.places.Line.{Line}
-use Rattle.cip_dictionary.specs.declared.places.Place.{Place}
+use Rattle.cip_dictionary.specs.declared.places.EntryPlace.{EntryPlace}
 use Rattle.cip_dictionary.proofs.Overflow.{overflow-append}
 use Rattle.cip_dictionary.proofs.Zeros.{is_zero_of, is_zero_false}
 use Rattle.cip_dict.specs.SparseLines.{entry_on, kept_at, kept_of}
@@ -47,20 +47,20 @@ pub each_fits : (n : ℕ) (ops : ℕ → List Placed) → ((k : ℕ) → k < n �
 each_fits zero ops h = refl
 each_fits (suc n) ops h = overflow-append (each n ops) (ops n) (each_fits n ops (λ k l. h k (omega (arith, l)))) ∙ h n (omega arith)
 
-product_by : (place : Place) (a b : ℚ) (s t : Bool) → is_zero a ≡ s → is_zero b ≡ t → product_overflows a b ≡ false → first_overflow (product_at place a b) ≡ None
+product_by : (place : EntryPlace) (a b : ℚ) (s t : Bool) → is_zero a ≡ s → is_zero b ≡ t → product_overflows a b ≡ false → first_overflow (product_at place a b) ≡ None
 product_by place a b true t e f o = (product_zero_left place a b e).0
 product_by place a b false true e f o = (product_zero_right place a b f).0
 product_by place a b false false e f o = product_fits place a b e f o
 
-pub product_none : (place : Place) (a b : ℚ) → product_overflows a b ≡ false → first_overflow (product_at place a b) ≡ None
+pub product_none : (place : EntryPlace) (a b : ℚ) → product_overflows a b ≡ false → first_overflow (product_at place a b) ≡ None
 product_none place a b o = product_by place a b (is_zero a) (is_zero b) refl refl o
 
-sum_by : (place : Place) (c a b : ℚ) (s t : Bool) → is_zero a ≡ s → is_zero b ≡ t → product_overflows a b ≡ false → sum_overflows c (a *ℚ b) ≡ false → first_overflow (sum_at place c a b) ≡ None
+sum_by : (place : EntryPlace) (c a b : ℚ) (s t : Bool) → is_zero a ≡ s → is_zero b ≡ t → product_overflows a b ≡ false → sum_overflows c (a *ℚ b) ≡ false → first_overflow (sum_at place c a b) ≡ None
 sum_by place c a b true t e f o p = (sum_zero_left place c a b e).0
 sum_by place c a b false true e f o p = (sum_zero_right place c a b f).0
 sum_by place c a b false false e f o p = sum_fits place c a b e f o p
 
-pub sum_none : (place : Place) (c a b : ℚ) → product_overflows a b ≡ false → sum_overflows c (a *ℚ b) ≡ false → first_overflow (sum_at place c a b) ≡ None
+pub sum_none : (place : EntryPlace) (c a b : ℚ) → product_overflows a b ≡ false → sum_overflows c (a *ℚ b) ≡ false → first_overflow (sum_at place c a b) ≡ None
 sum_none place c a b o p = sum_by place c a b (is_zero a) (is_zero b) refl refl o p
 
 -- ---- a row that is put into another
@@ -70,7 +70,7 @@ put_by true absent d y z q a b c h f g = f refl
 put_by false true d y z q a b c h f g = ratio_none d h
 put_by false false d y z q a b c h f g = g
 
-put_fits : (place : Place) (leaving absent : Bool) (q a b c : ℚ) → HasTermsBelow (2 ^ 42) q → HasTermsBelow (2 ^ 42) a → HasTermsBelow (2 ^ 42) b → HasTermsBelow (2 ^ 42) c → first_overflow (substituted_operations_at place leaving absent q a b c) ≡ None
+put_fits : (place : EntryPlace) (leaving absent : Bool) (q a b c : ℚ) → HasTermsBelow (2 ^ 42) q → HasTermsBelow (2 ^ 42) a → HasTermsBelow (2 ^ 42) b → HasTermsBelow (2 ^ 42) c → first_overflow (substituted_operations_at place leaving absent q a b c) ≡ None
 put_fits place true absent q a b c sq sa sb sc = product_none place b q (whole_lines_tell.products b q sb sq)
 put_fits place false true q a b c sq sa sb sc = refl
 put_fits place false false q a b c sq sa sb sc = sum_none place a b c (whole_lines_tell.products b c sb sc) (whole_lines_tell.sums a b c sa sb sc)
@@ -108,7 +108,7 @@ turned_by false true positive p y n q a h e f g = ratio_none p h
 turned_by false false true p y n q a h e f g = f refl
 turned_by false false false p y n q a h e f g = g refl
 
-turned_fits : (place : Place) (leaving absent : Bool) (q a : ℚ) → HasTermsBelow (2 ^ 42) q → HasTermsBelow (2 ^ 42) (negate a) → first_overflow (solved_operations_at place leaving absent q a) ≡ None
+turned_fits : (place : EntryPlace) (leaving absent : Bool) (q a : ℚ) → HasTermsBelow (2 ^ 42) q → HasTermsBelow (2 ^ 42) (negate a) → first_overflow (solved_operations_at place leaving absent q a) ≡ None
 turned_fits place true absent q a sq sa = refl
 turned_fits place false true q a sq sa = refl
 turned_fits place false false q a sq sa = product_none place (negate a) q (whole_lines_tell.products (negate a) q sa sq)

@@ -6,14 +6,14 @@ use Rattle.cip_dictionary.specs.Exchange.{moved_at}
 use Rattle.cip_dictionary.specs.Operations.{Placed, first_overflow, value_place, sum_at}
 use Rattle.cip_dictionary.specs.MoveOperations.{moved_operations_at}
 use Rattle.cip_dictionary.specs.declared.places.Line.TheVariants.{Row}
-use Rattle.cip_dictionary.specs.declared.places.Place.{Place}
+use Rattle.cip_dictionary.specs.declared.places.EntryPlace.{EntryPlace}
 use Rattle.cip_dictionary.specs.declared.moves.Stand.{Stand}
 use Rattle.cip_dict.specs.Lists.{basic_in, entry_in}
 
 -- the product a * b was added to c, which came to `new`; or one of the two operations overflows
 abbrev pub IsAdded : Bool → ℚ → ℚ → ℚ → ℚ → Type 0
-IsAdded true c a b new = ((place : Place) → first_overflow (sum_at place c a b) ≡ None) × (new ≡ c +ℚ a *ℚ b)
-IsAdded false c a b new = (place : Place) → first_overflow (sum_at place c a b) ≡ Some place
+IsAdded true c a b new = ((place : EntryPlace) → first_overflow (sum_at place c a b) ≡ None) × (new ≡ c +ℚ a *ℚ b)
+IsAdded false c a b new = (place : EntryPlace) → first_overflow (sum_at place c a b) ≡ Some place
 
 -- the value of v after j has moved by t
 abbrev pub moved_in : List (Option Stand) → List (List ℚ) → ℕ → ℚ → List ℚ → ℕ → ℚ

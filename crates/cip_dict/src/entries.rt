@@ -6,7 +6,7 @@ ghost use Rattle.cip_dictionary.specs.Operations.{first_overflow, product_at, su
 ghost use Rattle.cip_dict.specs.Values.{IsAdded};
 
 use crate::fault::OutOfRange;
-use cip_dictionary::Place;
+use cip_dictionary::EntryPlace;
 use cip_frac::Frac;
 
 /// Whether a number is 0.
@@ -28,7 +28,7 @@ pub(crate) fn is_below(a: Frac, b: Frac) -> bool
 /// The product a * b, for which nothing is formed where a factor is 0.
 #[inline(always)]
 #[tactic(auto, using(crate::proofs::Formed::entry_laws))]
-pub(crate) fn product(place: Place, a: Frac, b: Frac) -> Result<Frac, OutOfRange>
+pub(crate) fn product(place: EntryPlace, a: Frac, b: Frac) -> Result<Frac, OutOfRange>
     ensures { MatchResult result
         (λ v. (first_overflow (product_at place a b) ≡ None) × (v ≡ a *ℚ b))
         (λ fault. first_overflow (product_at place a b) ≡ Some fault.place) }
@@ -58,7 +58,7 @@ pub(crate) fn add_product(c: &mut Frac, a: Frac, b: Frac) -> bool
 /// The sum c + a * b, the product formed first; where a factor is 0 nothing is formed.
 #[inline(always)]
 #[tactic(auto, using(crate::proofs::Formed::entry_laws))]
-pub(crate) fn sum(place: Place, c: Frac, a: Frac, b: Frac) -> Result<Frac, OutOfRange>
+pub(crate) fn sum(place: EntryPlace, c: Frac, a: Frac, b: Frac) -> Result<Frac, OutOfRange>
     ensures { MatchResult result
         (λ v. (first_overflow (sum_at place c a b) ≡ None) × (v ≡ c +ℚ a *ℚ b))
         (λ fault. first_overflow (sum_at place c a b) ≡ Some fault.place) }
@@ -75,7 +75,7 @@ pub(crate) fn sum(place: Place, c: Frac, a: Frac, b: Frac) -> Result<Frac, OutOf
 }
 
 /// How far a value is from a side, and the product of that with q: by how much the variable that enters moves.
-pub(crate) fn step_to(place: Place, side: Frac, v: Frac, q: Frac) -> Result<Frac, OutOfRange>
+pub(crate) fn step_to(place: EntryPlace, side: Frac, v: Frac, q: Frac) -> Result<Frac, OutOfRange>
     ensures { let operations =
         placed place (Difference side v) ∷ placed place (Product (side -ℚ v) q) ∷ [] in
         MatchResult result

@@ -1,19 +1,19 @@
 //! Why a state can't be formed.
-use cip_dictionary::Place;
+use cip_dictionary::EntryPlace;
 use std::alloc::AllocError;
 
 /// The first operation of a move that leaves the range of fractions.
 #[derive(Clone, Copy, Debug, PartialEq, Eq)]
 pub struct OutOfRange {
     /// Where it is formed.
-    pub place: Place,
+    pub place: EntryPlace,
 }
 
 /// Why an exchange isn't made.
 #[derive(Clone, Copy, Debug, PartialEq, Eq)]
 pub enum MoveFault {
     /// The first operation that leaves the range of fractions is formed there.
-    OutOfRange { place: Place },
+    OutOfRange { place: EntryPlace },
     /// A growth was refused.
     NoMemory,
 }
@@ -33,7 +33,7 @@ impl From<AllocError> for MoveFault {
 #[derive(Clone, Copy, Debug, PartialEq, Eq)]
 pub enum FirstFault {
     /// The first operation that leaves the range of fractions is formed there.
-    OutOfRange { place: Place },
+    OutOfRange { place: EntryPlace },
     /// A growth was refused.
     NoMemory,
 }

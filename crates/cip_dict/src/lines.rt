@@ -21,7 +21,7 @@ use crate::pivots::Pivot;
 use crate::whole::{Wholes, number_of};
 use crate::whole_sums::put_whole;
 use crate::whole_turns::turn_entries;
-use cip_dictionary::{Line, Place, Stand};
+use cip_dictionary::{Line, EntryPlace, Stand};
 use cip_frac::Frac;
 use std::alloc::AllocError;
 
@@ -36,10 +36,10 @@ pub(crate) fn is_basic(standing: &[Option<Stand>], v: usize) -> bool
 
 /// The place of the entry of a line on a variable.
 #[inline(always)]
-pub(crate) fn place_on(line: Line, k: u32) -> Place
+pub(crate) fn place_on(line: Line, k: u32) -> EntryPlace
     ensures { result ≡ entry_place line k }
 {
-    Place {
+    EntryPlace {
         line,
         variable: Some(k),
     }

@@ -16,7 +16,7 @@ use crate::forms::Form;
 use crate::lines::{is_basic, number_at};
 use crate::pivots::Pivot;
 use crate::rows::is_marked;
-use cip_dictionary::{Line, Place, Stand};
+use cip_dictionary::{Line, EntryPlace, Stand};
 use cip_frac::Frac;
 
 /// By how much a variable moves, and what moves with it.
@@ -32,10 +32,10 @@ pub(crate) struct Shift<'a> {
 
 /// The place of the value of a line.
 #[inline(always)]
-pub(crate) fn value_of(line: Line) -> Place
+pub(crate) fn value_of(line: Line) -> EntryPlace
     ensures { result ≡ record { line = line; variable = None } }
 {
-    Place {
+    EntryPlace {
         line,
         variable: None,
     }

@@ -4,7 +4,7 @@ use crate::moves::{cost_on, entry_at, exchange, flip, has_row, is_row_whole, val
 use crate::numbers::numbers_compare;
 use crate::program::Program;
 use crate::random::{COLUMNS, ROWS, Random};
-use cip_dict::{Dict, Line, MoveFault, Place, Spare, Stand};
+use cip_dict::{Dict, Line, MoveFault, EntryPlace, Spare, Stand};
 use cip_frac::Frac;
 use cip_lin::Sides;
 use std::alloc::{AllocError, Global};
@@ -67,7 +67,7 @@ fn beyond(v: u32) -> u32 {
 }
 
 // a place, where there is one more column
-fn place_beyond(place: Place) -> Place {
+fn place_beyond(place: EntryPlace) -> EntryPlace {
     let line = match place.line {
         Line::Row(v) => Line::Row(beyond(v)),
         Line::Cost => Line::Cost,
@@ -76,11 +76,11 @@ fn place_beyond(place: Place) -> Place {
         Some(v) => Some(beyond(v)),
         None => None,
     };
-    Place { line, variable }
+    EntryPlace { line, variable }
 }
 
 // what came of an operation that leaves the range of fractions in the dictionary of fractions, and in the other one
-fn refused(whole: Option<Place>, plain: Place) -> Outcome {
+fn refused(whole: Option<EntryPlace>, plain: EntryPlace) -> Outcome {
     match whole {
         Some(place) if place_beyond(place) == plain => Outcome::Refused,
         _ if plain.variable == Some(COLUMNS) => Outcome::Apart,

@@ -10,7 +10,7 @@ use Rattle.cip_problem.specs.Box.{sides_at}
 use Rattle.cip_dictionary.specs.Tables.{form}
 use Rattle.cip_dictionary.specs.Dictionary.{Dictionary, size, stand, is_basic, entry, cost_entry, value, standing_value, CanStand, Solves, Stands, IsConsistent}
 use Rattle.cip_dictionary.specs.Exchange.{is_absent, moved, moved_cost, pivot, entering, exchanged_row, step, exchanged, CanExchange, other_stand, way, flipped, CanFlip}
-use Rattle.cip_dictionary.specs.Statements.{IsKept, ExchangesKeep, FlipsKeep}
+use Rattle.cip_dictionary.specs.Statements.{KeepsSolutions, ExchangesKeep, FlipsKeep}
 use Rattle.cip_dictionary.specs.declared.moves.Stand.{Stand}
 use Rattle.cip_dictionary.specs.declared.moves.Stand.TheVariants.{Low, High, Zero}
 use Rattle.cip_dictionary.proofs.Tables.{form_same, form_at_same}
@@ -202,7 +202,7 @@ module _ (d : Dictionary) (i j : ℕ) (to : Stand) (c : IsConsistent d) (h : Can
     stands = stands_after;
   }
 
-  exchange_kept : IsKept d (exchanged d i j to)
+  exchange_kept : KeepsSolutions d (exchanged d i j to)
   unfolding exchanged
   exchange_kept = record {
     consistent = consistent_after;
@@ -294,7 +294,7 @@ module _ (d : Dictionary) (j : ℕ) (c : IsConsistent d) (h : CanFlip d j) where
     stands = flip_stands;
   }
 
-  flip_kept : IsKept d (flipped d j)
+  flip_kept : KeepsSolutions d (flipped d j)
   unfolding flipped
   flip_kept = record {
     consistent = flip_consistent;

@@ -5,7 +5,7 @@ use Rattle.cip_rational.specs.Rational.{ℚ, zeroℚ, le_test, is_zero}
 use Rattle.cip_rational.specs.Range.{product_overflows}
 use Rattle.cip_rational.proofs.Rational.Order.{le_of_test, test_of_le, ≤ℚ_antisymm, ≤ℚ_of_eq}
 use Rattle.cip_dictionary.specs.Operations.{Placed, first_overflow, sum_at}
-use Rattle.cip_dictionary.specs.declared.places.Place.{Place}
+use Rattle.cip_dictionary.specs.declared.places.EntryPlace.{EntryPlace}
 
 pub zero_of : (q : ℚ) → is_zero q ≡ true → q ≡ zeroℚ
 unfolding is_zero
@@ -24,5 +24,5 @@ pub is_zero_false : (q : ℚ) → q ≢ zeroℚ → is_zero q ≡ false
 is_zero_false q h = false_from_ne_true (is_zero q) (λ e. h (zero_of q e))
 
 -- a product of two numbers other than 0 is the first that overflows
-pub product_first : (place : Place) (c a b : ℚ) (rest : List Placed) → is_zero a ≡ false → is_zero b ≡ false → product_overflows a b ≡ true → first_overflow (sum_at place c a b ++ rest) ≡ Some place
+pub product_first : (place : EntryPlace) (c a b : ℚ) (rest : List Placed) → is_zero a ≡ false → is_zero b ≡ false → product_overflows a b ≡ true → first_overflow (sum_at place c a b ++ rest) ≡ Some place
 product_first place c a b rest p q o = rw (p, q, o) refl

@@ -14,10 +14,10 @@ use Rattle.cip_dictionary.specs.declared.moves.Move.{Move}
 use Rattle.cip_dictionary.specs.declared.moves.Move.TheVariants.{Exchange, Flip}
 use Rattle.cip_dictionary.specs.declared.places.Line.{Line}
 use Rattle.cip_dictionary.specs.declared.places.Line.TheVariants.{Row, Cost}
-use Rattle.cip_dictionary.specs.declared.places.Place.{Place}
+use Rattle.cip_dictionary.specs.declared.places.EntryPlace.{EntryPlace}
 
 -- of an entry of the row of the variable that enters
-abbrev pub solved_operations_at : Place → Bool → Bool → ℚ → ℚ → List Placed
+abbrev pub solved_operations_at : EntryPlace → Bool → Bool → ℚ → ℚ → List Placed
 solved_operations_at place true absent q a = []
 solved_operations_at place false true q a = []
 solved_operations_at place false false q a = product_at place (negate a) q
@@ -28,7 +28,7 @@ solved_operations line basic i j q row k =
     solved_operations_at (entry_place line k) (k == i) (is_absent basic j k) q (row k)
 
 -- of an entry of another row
-abbrev pub substituted_operations_at : Place → Bool → Bool → ℚ → ℚ → ℚ → ℚ → List Placed
+abbrev pub substituted_operations_at : EntryPlace → Bool → Bool → ℚ → ℚ → ℚ → ℚ → List Placed
 substituted_operations_at place true absent q a b c = product_at place b q
 substituted_operations_at place false true q a b c = []
 substituted_operations_at place false false q a b c = sum_at place a b c
@@ -48,7 +48,7 @@ abbrev pub row_operations : Dictionary → ℕ → ℕ → ℕ → List Placed
 row_operations d i j h = if is_basic d h && not (h == i) then line_operations d i j (Row h) (entry d h) else []
 
 -- of the value of a variable, where j moves by t
-abbrev pub moved_operations_at : Place → Bool → Bool → ℚ → ℚ → ℚ → List Placed
+abbrev pub moved_operations_at : EntryPlace → Bool → Bool → ℚ → ℚ → ℚ → List Placed
 moved_operations_at place true basic t v a = placed place (Sum v t) ∷ []
 moved_operations_at place false true t v a = sum_at place v a t
 moved_operations_at place false false t v a = []

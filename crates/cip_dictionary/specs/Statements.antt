@@ -10,18 +10,18 @@ use Rattle.cip_linear.specs.LinearProgram.{LinearProgram, IsProper}
 use Rattle.cip_dictionary.specs.declared.moves.Stand.{Stand}
 
 -- a state is consistent, and has the solutions and the cost of the state before
-pub record IsKept (before later : Dictionary) : Type 0 where
+pub record KeepsSolutions (before later : Dictionary) : Type 0 where
   pub consistent : IsConsistent later
   pub same : HasSameSolutions before later
 
 -- so is the state after an exchange
 abbrev pub ExchangesKeep : Type 0
 ExchangesKeep =
-    (d : Dictionary) (i j : ℕ) (to : Stand) → IsConsistent d → CanExchange d i j to → IsKept d (exchanged d i j to)
+    (d : Dictionary) (i j : ℕ) (to : Stand) → IsConsistent d → CanExchange d i j to → KeepsSolutions d (exchanged d i j to)
 
 -- and the state after a flip
 abbrev pub FlipsKeep : Type 0
-FlipsKeep = (d : Dictionary) (j : ℕ) → IsConsistent d → CanFlip d j → IsKept d (flipped d j)
+FlipsKeep = (d : Dictionary) (j : ℕ) → IsConsistent d → CanFlip d j → KeepsSolutions d (flipped d j)
 
 -- what the first state of a linear program says: its solutions are the points with the sums of the rows after them,
 -- and its cost is theirs

@@ -11,7 +11,7 @@ pub enum Line {
 
 /// A place: an entry of a line, or its value.
 #[derive(Clone, Copy, Debug, PartialEq, Eq)]
-pub struct Place {
+pub struct EntryPlace {
     /// The line.
     pub line: Line,
     /// The variable on which the entry stands; none where it is the value of the line.

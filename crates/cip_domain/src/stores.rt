@@ -24,11 +24,11 @@ pub enum Tightened {
 
 /// How many changes had been made, at some moment.
 #[derive(Clone, Copy, Debug, PartialEq, Eq)]
-pub struct Mark {
+pub struct Checkpoint {
     changes: usize,
 }
 
-impl Model for Mark {
+impl Model for Checkpoint {
     ghost use Rattle.std.specs.Prelude.{ℕ};
 
     ghost Value = { ℕ };
@@ -122,17 +122,17 @@ impl DomainStore {
     }
 
     /// The mark of this moment.
-    pub fn mark(&self) -> Mark
+    pub fn mark(&self) -> Checkpoint
         ensures { result ≡ length self.now.before }
     {
-        Mark {
+        Checkpoint {
             changes: self.trail.len(),
         }
     }
 
     /// Brings back the box that stood at a mark, which no earlier mark was brought back since; the later marks are
     /// gone, and the room of what is undone is free again.
-    pub fn undo_to(&mut self, mark: Mark)
+    pub fn undo_to(&mut self, mark: Checkpoint)
         requires held { mark ≤ length self.old.before }
         ensures restored { self.new.box ≡ slice_index_or (boxes self.old) mark self.old.box }
         ensures before { self.new.before ≡ take mark self.old.before }

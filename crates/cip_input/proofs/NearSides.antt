@@ -11,7 +11,7 @@ use Rattle.cip_problem.specs.Program.{Program}
 use Rattle.cip_syntax.specs.Lines.{Record, Section, Entry}
 use Rattle.cip_number_text.specs.Numeral.{Numeral, Exact, NotANumber, Huge, TooFine, value_of, numeral_of, is_minus}
 use Rattle.cip_mps_rules.specs.MpsWords.{Part, NoPart, Title, Sense, Rows, Columns, RightSides, Ranges, Bounds, End, BoundKind, Low, High, Fixed, WholeLow, WholeHigh, Unbounded, NoLow, NoHigh, Binary, SemiContinuous, section_of, bound_kind_of, has_value, marker_of, is_infinity, is_negative, near_or_huge, bound_number}
-use Rattle.cip_mps_rules.specs.MpsSayings.{Saying, Skipped, Misplaced, ColumnLine, RightSideLine, RangeLine, BoundLine, Place, opening, section_said, sense_said, row_said, one_value, two_values, is_marker, marker_said, column_said, of_set, right_side_said, range_said, no_value, valued_bound, plain_bound, typed_bound, bound_said, fields_said, said}
+use Rattle.cip_mps_rules.specs.MpsSayings.{Saying, Skipped, Misplaced, ColumnLine, RightSideLine, RangeLine, BoundLine, LinePlace, opening, section_said, sense_said, row_said, one_value, two_values, is_marker, marker_said, column_said, of_set, right_side_said, range_said, no_value, valued_bound, plain_bound, typed_bound, bound_said, fields_said, said}
 use Rattle.cip_mps_rules.specs.MpsFacts.{GivenColumn, GivenBound, Facts, facts_with, bounds_in}
 use Rattle.cip_mps_rules.specs.MpsBounds.{Bounded, unbounded, with_bound, bounded_by, settled, bounds_of, all_bounds, column_sides}
 use Rattle.cip_mps_rules.specs.MpsProgram.{program_of}
@@ -130,7 +130,7 @@ bounds_near : (v : ValuesAreTested) (first : Option (List ℕ)) (words : List (L
 bounds_near v first [] = tt
 bounds_near v first (kind ∷ words) = typed_near v first (bound_kind_of kind) words
 
-fields_near : (v : ValuesAreTested) (part : Part) (place : Place) (words : List (List ℕ)) → Near (fields_said part place words)
+fields_near : (v : ValuesAreTested) (part : Part) (place : LinePlace) (words : List (List ℕ)) → Near (fields_said part place words)
 fields_near v NoPart place words = tt
 fields_near v Title place words = tt
 fields_near v Sense place words = cond_both place.sensed Misplaced (sense_said words) Near (λ _. tt) (λ _. sense_near words)
@@ -141,7 +141,7 @@ fields_near v Ranges place words = range_near place.set_name words
 fields_near v Bounds place words = bounds_near v place.set_name words
 fields_near v End place words = tt
 
-said_near : (v : ValuesAreTested) (place : Place) (content : Record) → Near (said place content)
+said_near : (v : ValuesAreTested) (place : LinePlace) (content : Record) → Near (said place content)
 said_near v place (Section words) = section_near words
 said_near v place (Entry words) = fields_near v place.part place words
 

@@ -14,7 +14,7 @@ use Rattle.cip_dictionary.specs.FirstState.{first_operations}
 use Rattle.cip_dictionary.specs.ProgramState.{system_of}
 use Rattle.cip_dictionary.specs.declared.moves.Move.{Move}
 use Rattle.cip_dictionary.specs.declared.places.Line.TheVariants as line
-use Rattle.cip_dictionary.specs.declared.places.Place as dictionary
+use Rattle.cip_dictionary.specs.declared.places.EntryPlace as dictionary
 use Rattle.cip_bland.specs.EndAnswers.{Answer, Optimal, NoPoint, Unbounded, OutOfRange, LimitReached}
 use Rattle.cip_bland.specs.NoRepeat.{whole_answer}
 use Rattle.cip_leaves.specs.Wide.{Place, InRow, InCost, row_part, cost_part, IsWideAt}
@@ -41,7 +41,7 @@ SumOverflows program start point InCost = cost_part start program.costs (map Som
 -- ---- cases 2 to 4
 
 -- where the value of a row or of the cost stands in a state
-abbrev pub state_place : LinearProgram → Place → dictionary.Place
+abbrev pub state_place : LinearProgram → Place → dictionary.EntryPlace
 state_place linear (InRow number) = value_place (line.Row (length linear.bounds + number))
 state_place linear InCost = value_place line.Cost
 

@@ -12,15 +12,15 @@ use Rattle.cip_rational.proofs.Rational.Monotone.{+ℚ_mono}
 use Rattle.cip_rational.proofs.Linear.{linear_same}
 use Rattle.cip_problem.specs.Program.{Term}
 use Rattle.cip_problem.specs.Activity.{activity, value_at, StandsBelow}
-use Rattle.cip_linear.specs.Aggregate.{Part, AllKept, Inequality, Holds, total_activity, total_side, IsAggregate, table, coefficient_on, combined, aggregate}
+use Rattle.cip_linear.specs.Aggregate.{Part, AllHoldAt, Inequality, Holds, total_activity, total_side, IsAggregate, table, coefficient_on, combined, aggregate}
 
 -- ---- the sum of parts that hold
 
-pub total_holds : (parts : List Part) (point : List ℚ) → AllKept parts point → total_side parts ≤ℚ total_activity parts point
+pub total_holds : (parts : List Part) (point : List ℚ) → AllHoldAt parts point → total_side parts ≤ℚ total_activity parts point
 total_holds [] point h = ≤ℚ_refl zeroℚ
 total_holds (p ∷ ps) point h = +ℚ_mono h.0 (total_holds ps point h.1)
 
-pub aggregate_holds : (columns : ℕ) (parts : List Part) (row : Inequality) (point : List ℚ) → IsAggregate columns parts row → AllKept parts point → Holds row point
+pub aggregate_holds : (columns : ℕ) (parts : List Part) (row : Inequality) (point : List ℚ) → IsAggregate columns parts row → AllHoldAt parts point → Holds row point
 aggregate_holds columns parts row point h k = rw (h.least, h.form point) (total_holds parts point k)
 
 -- ---- tables

@@ -12,7 +12,7 @@ use Rattle.cip_problem.specs.Box.{Between, IsInBox, sides_at}
 use Rattle.cip_problem.specs.Points.{IsSatisfied}
 use Rattle.cip_problem.proofs.Points.AtPlaces.{in_box_at, satisfied_at}
 use Rattle.cip_linear.specs.LinearProgram.{LinearProgram, IsPoint}
-use Rattle.cip_linear.specs.Aggregate.{Part, used_side, IsPartOf, bound_row, IsKept, AllKept}
+use Rattle.cip_linear.specs.Aggregate.{Part, used_side, IsPartOf, bound_row, HoldsAt, AllHoldAt}
 use Rattle.cip_linear.specs.Multipliers.{IsPartOfProgram, Of_row, Of_column, ArePartsOf}
 
 -- ---- the side that is used
@@ -44,7 +44,7 @@ used_high factor low high h = rw (lt_test_of_le (≤ℚ_of_lt h), test_of_lt h) 
 
 -- ---- parts
 
-pub part_holds : (row : Row) (part : Part) (point : List ℚ) → IsPartOf row part → IsSatisfied row point → IsKept part point
+pub part_holds : (row : Row) (part : Part) (point : List ℚ) → IsPartOf row part → IsSatisfied row point → HoldsAt part point
 part_holds row part point h k =
     subst (λ ts. part.factor *ℚ part.side ≤ℚ part.factor *ℚ activity ts point) (sym h.terms)
     (used_kept part.factor part.side (activity row.terms point) row.low row.high h.side k)
@@ -56,15 +56,15 @@ bound_row_activity column point = +ℚ-zero (oneℚ *ℚ value_at point column) 
 pub bound_row_satisfied : (column : ℕ) (sides : Sides) (point : List ℚ) → Between sides.low sides.high (value_at point column) → IsSatisfied (bound_row column sides) point
 bound_row_satisfied column sides point h = subst (Between sides.low sides.high) (sym (bound_row_activity column point)) h
 
-pub bound_part_holds : (box : List Sides) (column : ℕ) (part : Part) (point : List ℚ) → IsPartOf (bound_row column (sides_at box column)) part → IsInBox box point → IsKept part point
+pub bound_part_holds : (box : List Sides) (column : ℕ) (part : Part) (point : List ℚ) → IsPartOf (bound_row column (sides_at box column)) part → IsInBox box point → HoldsAt part point
 bound_part_holds box column part point h k =
     part_holds (bound_row column (sides_at box column)) part point h (bound_row_satisfied column (sides_at box column) point (in_box_at box point column k))
 
-program_part_holds : (program : LinearProgram) (part : Part) (point : List ℚ) → IsPoint program point → IsPartOfProgram program part → IsKept part point
+program_part_holds : (program : LinearProgram) (part : Part) (point : List ℚ) → IsPoint program point → IsPartOfProgram program part → HoldsAt part point
 program_part_holds program part point h (Of_row number row e k) = part_holds row part point k (satisfied_at program.rows point number row h.rows e)
 program_part_holds program part point h (Of_column column l k) = bound_part_holds program.bounds column part point k h.within
 
 -- the parts of a program hold at each point of it
-pub program_parts_hold : (program : LinearProgram) (parts : List Part) (point : List ℚ) → ArePartsOf program parts → IsPoint program point → AllKept parts point
+pub program_parts_hold : (program : LinearProgram) (parts : List Part) (point : List ℚ) → ArePartsOf program parts → IsPoint program point → AllHoldAt parts point
 program_parts_hold program [] point h k = tt
 program_parts_hold program (p ∷ ps) point h k = (program_part_holds program p point k h.0, program_parts_hold program ps point h.1 k)

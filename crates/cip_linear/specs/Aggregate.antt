@@ -34,12 +34,12 @@ bound_row column sides = record {
 }
 
 -- a part holds at a point: times the factor, the activity is at least the side
-abbrev pub IsKept : Part → List ℚ → Type 0
-IsKept part point = part.factor *ℚ part.side ≤ℚ part.factor *ℚ activity part.terms point
+abbrev pub HoldsAt : Part → List ℚ → Type 0
+HoldsAt part point = part.factor *ℚ part.side ≤ℚ part.factor *ℚ activity part.terms point
 
 -- each part holds at a point
-abbrev pub AllKept : List Part → List ℚ → Type 0
-AllKept parts point = AllByRecursion (λ part. IsKept part point) parts
+abbrev pub AllHoldAt : List Part → List ℚ → Type 0
+AllHoldAt parts point = AllByRecursion (λ part. HoldsAt part point) parts
 
 -- ---- the aggregated row
 

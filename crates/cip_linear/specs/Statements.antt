@@ -8,21 +8,21 @@ use Rattle.cip_problem.specs.Activity.{StandsBelow, value_at}
 use Rattle.cip_problem.specs.Box.{Between, IsInBox, sides_at, box_inside}
 use Rattle.cip_problem.specs.Points.{IsSatisfied}
 use Rattle.cip_linear.specs.LinearProgram.{LinearProgram, IsProper, IsPoint, HasNoPoint, IsOptimal, IsRay, moved, HasPointBelow}
-use Rattle.cip_linear.specs.Aggregate.{Part, IsPartOf, bound_row, IsKept, AllKept, Inequality, Holds, IsAggregate, aggregate, bound_of, BoundsBy, Empties, implied_sides}
+use Rattle.cip_linear.specs.Aggregate.{Part, IsPartOf, bound_row, HoldsAt, AllHoldAt, Inequality, Holds, IsAggregate, aggregate, bound_of, BoundsBy, Empties, implied_sides}
 use Rattle.cip_linear.specs.Multipliers.{ArePartsOf, OnVariables, paired, UsesSides, SumsTo, combination}
 
 -- a part of a row holds where the row is satisfied, and a part of a column's bounds at each point of the box
 pub record PartsHold : Type 0 where
-  pub row : (row : Row) (part : Part) (point : List ℚ) → IsPartOf row part → IsSatisfied row point → IsKept part point
+  pub row : (row : Row) (part : Part) (point : List ℚ) → IsPartOf row part → IsSatisfied row point → HoldsAt part point
   pub column : (box : List Sides) (column : ℕ) (part : Part) (point : List ℚ)
-      → IsPartOf (bound_row column (sides_at box column)) part → IsInBox box point → IsKept part point
+      → IsPartOf (bound_row column (sides_at box column)) part → IsInBox box point → HoldsAt part point
   pub program : (program : LinearProgram) (parts : List Part) (point : List ℚ)
-      → ArePartsOf program parts → IsPoint program point → AllKept parts point
+      → ArePartsOf program parts → IsPoint program point → AllHoldAt parts point
 
 -- an aggregated row holds at each point at which its parts hold; the row that is computed is one, and there is no other
 pub record AggregatesHold : Type 0 where
   pub holds : (columns : ℕ) (parts : List Part) (row : Inequality) (point : List ℚ)
-      → IsAggregate columns parts row → AllKept parts point → Holds row point
+      → IsAggregate columns parts row → AllHoldAt parts point → Holds row point
   pub computed : (columns : ℕ) (parts : List Part)
       → AllByRecursion (λ part. StandsBelow columns part.terms) parts
       → IsAggregate columns parts (aggregate columns parts)

@@ -12,14 +12,14 @@ ghost use Rattle.cip_mps.specs.LinesRead.{state_of_lines, stage_of, IsTaken};
 use crate::laws::places_join;
 use cip_model::Program;
 use cip_mps_draft::Draft;
-use cip_mps_lines::{Line, Part, Place, said};
+use cip_mps_lines::{Line, Part, LinePlace, said};
 use cip_text::record_of;
 use std::alloc::{AllocError, Global};
 
 /// What was read of the lines that have ended. Behind ENDATA no line is looked at.
 #[derive(Debug, Drop)]
 pub(crate) struct LineReader {
-    pub(crate) place: Place,
+    pub(crate) place: LinePlace,
     pub(crate) draft: Draft,
     pub(crate) ended: bool,
 }
@@ -40,7 +40,7 @@ impl LineReader {
         ensures { stage_of result ≡ mps_steps.start }
     {
         LineReader {
-            place: Place::new(alloc),
+            place: LinePlace::new(alloc),
             draft: Draft::new(alloc),
             ended: false,
         }

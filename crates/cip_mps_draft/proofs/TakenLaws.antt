@@ -6,7 +6,7 @@ use Rattle.std.proofs.lemmas.List.{append-nil}
 use Rattle.cip_problem.specs.Limits.{most_columns, most_entries, longest_name}
 use Rattle.cip_number_text.specs.Numeral.{Numeral}
 use Rattle.cip_mps_rules.specs.MpsWords.{Part, NoPart, Title, Sense, Rows, Columns, RightSides, Ranges, Bounds, End, RowKind, BoundKind, sense_of, is_zero, is_no_number, is_too_fine, number_in, is_in}
-use Rattle.cip_mps_rules.specs.MpsSayings.{Place, Value, Saying, UnknownSection, Opens, Misplaced, Miscounted, Skipped, SenseLine, RowLine, ColumnLine, Marker, BadMarker, RightSideLine, RangeLine, BoundLine, BadBound, no_place, place_after}
+use Rattle.cip_mps_rules.specs.MpsSayings.{LinePlace, Value, Saying, UnknownSection, Opens, Misplaced, Miscounted, Skipped, SenseLine, RowLine, ColumnLine, Marker, BadMarker, RightSideLine, RangeLine, BoundLine, BadBound, no_place, place_after}
 use Rattle.cip_mps_rules.specs.MpsFacts.{coefficients_in, senses_in, sense_if}
 use Rattle.cip_mps_rules.specs.MpsRules.{Rule, rule, least, entry_count, is_end, has_twins, is_before_last}
 use Rattle.cip_mps_steps.specs.MpsState.{State, row_at, first_of, program_from}
@@ -100,7 +100,7 @@ taken_section s part words = λ i. record s { place = no_place; opened = s.opene
 
 -- ---- places
 
-tests_at : (place : Place) (state : State) (now : Saying) → least (tests (at_place place state) now) ≡ least (tests state now)
+tests_at : (place : LinePlace) (state : State) (now : Saying) → least (tests (at_place place state) now) ≡ least (tests state now)
 tests_at place state UnknownSection = refl
 tests_at place state (Opens part words) = refl
 tests_at place state Misplaced = refl
@@ -116,7 +116,7 @@ tests_at place state (RangeLine set_name values) = refl
 tests_at place state (BoundLine kind set_name column value) = refl
 tests_at place state BadBound = refl
 
-taken_at : (place : Place) (state : State) (now : Saying) → at_place (place_after place now) (taken state now) ≡ taken (at_place place state) now
+taken_at : (place : LinePlace) (state : State) (now : Saying) → at_place (place_after place now) (taken state now) ≡ taken (at_place place state) now
 taken_at place state UnknownSection = refl
 taken_at place state (Opens part words) = refl
 taken_at place state Misplaced = refl
@@ -133,7 +133,7 @@ taken_at place state (RangeLine set_name values) = refl
 taken_at place state (BoundLine kind set_name column value) = refl
 taken_at place state BadBound = refl
 
-ended_at : (place : Place) (state : State) (now : Saying) → is_end now ≡ true → program_from (at_place place (taken state now)) ≡ program_from state
+ended_at : (place : LinePlace) (state : State) (now : Saying) → is_end now ≡ true → program_from (at_place place (taken state now)) ≡ program_from state
 ended_at place s (Opens End words) e = λ i. program_from (record s { sense = or_none s.sense i })
 ended_at place s (Opens NoPart words) e = absurd (cc)
 ended_at place s (Opens Title words) e = absurd (cc)

@@ -3,7 +3,7 @@
 --     at_place place state      the same state at another place
 use Rattle.std.specs.Prelude.{map}
 use Rattle.cip_mps_lines.specs.MpsKinds.{part_of}
-use Rattle.cip_mps_rules.specs.MpsSayings.{Place, no_place}
+use Rattle.cip_mps_rules.specs.MpsSayings.{LinePlace, no_place}
 use Rattle.cip_mps_steps.specs.MpsState.{State}
 use Rattle.cip_mps_draft.specs.declared.draft.Draft.{Draft}
 
@@ -22,5 +22,5 @@ kept draft = record {
 }
 
 -- a state at a place
-abbrev pub at_place : Place → State → State
+abbrev pub at_place : LinePlace → State → State
 at_place place state = record state { place = place }

@@ -2,7 +2,7 @@
 --     IsStep old new saying fault      the fault of a line, and the state behind it
 --     PlacesJoin      how a draft and the place of the next line make up the state of a reader
 use Rattle.std.specs.Prelude.{◌≡◌, ℕ, true, Option, None, Some}
-use Rattle.cip_mps_rules.specs.MpsSayings.{Place, Saying, no_place, place_after}
+use Rattle.cip_mps_rules.specs.MpsSayings.{LinePlace, Saying, no_place, place_after}
 use Rattle.cip_mps_rules.specs.MpsRules.{least, is_end}
 use Rattle.cip_mps_steps.specs.MpsState.{State, program_from}
 use Rattle.cip_mps_steps.specs.MpsSteps.{tests, taken}
@@ -21,9 +21,9 @@ pub record IsStep (old new : State) (now : Saying) (fault : Option ℕ) : Type 0
 -- no test looks at the place; the state behind a line is what is kept behind it, at the place behind it; and ENDATA
 -- leaves the program as it is
 pub record PlacesJoin : Type 0 where
-  pub same_tests : (place : Place) (state : State) (now : Saying)
+  pub same_tests : (place : LinePlace) (state : State) (now : Saying)
       → least (tests (at_place place state) now) ≡ least (tests state now)
-  pub same_state : (place : Place) (state : State) (now : Saying)
+  pub same_state : (place : LinePlace) (state : State) (now : Saying)
       → at_place (place_after place now) (taken state now) ≡ taken (at_place place state) now
-  pub same_program : (place : Place) (state : State) (now : Saying) → is_end now ≡ true
+  pub same_program : (place : LinePlace) (state : State) (now : Saying) → is_end now ≡ true
       → program_from (at_place place (taken state now)) ≡ program_from state

@@ -2,7 +2,7 @@
 use Rattle.std.proofs.Common.{◌≡◌, ℕ, ◌<◌, ◌≤◌, Bool, true, false, if◌then◌else◌, List, [], ◌∷◌, ◌++◌, length, take, Option, None, Some, refl, sym, ap, arith}
 use Rattle.std.proofs.lemmas.List.{take_all, take_at, append-nil}
 use Rattle.cip_mps_rules.specs.MpsWords.{Part, NoPart, Title, Sense, Rows, Columns, RightSides, Ranges, Bounds, End, BoundKind, bound_kind_of, has_value}
-use Rattle.cip_mps_rules.specs.MpsSayings.{Place, Misplaced, Miscounted, sense_said, row_said, column_said, right_side_said, range_said, bound_said, typed_bound, valued_bound, plain_bound, fields_said}
+use Rattle.cip_mps_rules.specs.MpsSayings.{LinePlace, Misplaced, Miscounted, sense_said, row_said, column_said, right_side_said, range_said, bound_said, typed_bound, valued_bound, plain_bound, fields_said}
 
 -- all words, where they are six at most
 pub all_words : (kept rest fields : List (List ℕ)) → kept ++ rest ≡ fields → rest ≡ [] → length kept ≤ 6 → kept ≡ take 6 fields
@@ -95,7 +95,7 @@ bound_first first (kind ∷ b ∷ c ∷ d ∷ e ∷ f ∷ words) = typed (bound_
     typed (Some k) = plain k (has_value k)
 
 -- in any section
-pub fields_first : (part : Part) (place : Place) (words : List (List ℕ)) → fields_said part place (take 6 words) ≡ fields_said part place words
+pub fields_first : (part : Part) (place : LinePlace) (words : List (List ℕ)) → fields_said part place (take 6 words) ≡ fields_said part place words
 fields_first NoPart place words = refl
 fields_first Title place words = refl
 fields_first Sense place words = ap (λ saying. if place.sensed then Misplaced else saying) (sense_first words)

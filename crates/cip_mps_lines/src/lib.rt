@@ -14,6 +14,6 @@ mod words;
 pub use bound_numbers::BoundNumber;
 pub use line::{Line, Pair, Pairs};
 pub use numbers::Number;
-pub use place::Place;
+pub use place::LinePlace;
 pub use sayings::said;
 pub use words::{BoundKind, Part, RowKind, sense_of};

@@ -9,7 +9,7 @@ use std::marker::Model;
 /// Where the next line stands: the section, whether that has said a sense, whether markers make columns whole, and the
 /// set that was met first in the section.
 #[derive(Debug, Drop)]
-pub struct Place {
+pub struct LinePlace {
     part: Part,
     sensed: bool,
     whole: bool,
@@ -17,12 +17,12 @@ pub struct Place {
     set_name: Vec<u8>,
 }
 
-impl Model for Place {
+impl Model for LinePlace {
     ghost use Rattle.std.specs.Prelude.{None, Some, if◌then◌else◌};
     ghost use Rattle.cip_mps_rules.specs.MpsSayings as text;
     ghost use Rattle.cip_mps_lines.specs.MpsKinds.{part_of};
 
-    ghost Value = { text.Place };
+    ghost Value = { text.LinePlace };
 
     ghost view = { λ p. record {
       part = part_of p.part;
@@ -32,7 +32,7 @@ impl Model for Place {
     } };
 }
 
-impl Place {
+impl LinePlace {
     ghost use Rattle.std.specs.Prelude.{◌≡◌, Some, OnOk, OnErr};
     ghost use Rattle.cip_mps_rules.specs.MpsSayings.{no_place, place_after, has_words};
     ghost use Rattle.cip_text.specs.TextLines.{fields_left};
@@ -41,10 +41,10 @@ impl Place {
     ghost use Rattle.cip_mps_lines.specs.SkippedSets.{skips};
 
     /// Before the first line: in no section.
-    pub fn new(alloc: Global) -> Place
+    pub fn new(alloc: Global) -> LinePlace
         ensures { result ≡ no_place }
     {
-        Place {
+        LinePlace {
             part: Part::NoPart,
             sensed: false,
             whole: false,

@@ -8,14 +8,14 @@ ghost use Rattle.cip_mps_lines.specs.MpsLines.{saying_of};
 
 use crate::fields::Words;
 use crate::line::Line;
-use crate::place::Place;
+use crate::place::LinePlace;
 use crate::set_lines::{bound_said, range_said, right_side_said};
 use crate::values::{one_value, two_values};
 use crate::words::{Part, marker_of, row_kind_of, section_of};
 use cip_text::{Fields, TextLine};
 
 /// What a record says at this place.
-pub fn said<'a>(place: &Place, line: &TextLine<'a>) -> Line<'a>
+pub fn said<'a>(place: &LinePlace, line: &TextLine<'a>) -> Line<'a>
     ensures { saying_of result ≡ text.said place.now (content_of line.now) }
 {
     if line.is_section {
@@ -40,7 +40,7 @@ fn section_said<'a>(fields: &Fields<'a>) -> Line<'a>
 }
 
 /// What the fields of a line say in the section of this place.
-fn fields_said<'a>(place: &Place, words: &[&'a [u8]]) -> Line<'a>
+fn fields_said<'a>(place: &LinePlace, words: &[&'a [u8]]) -> Line<'a>
     ensures { saying_of result ≡ text.fields_said place.now.part place.now (texts words.now) }
 {
     match place.part() {

@@ -7,12 +7,12 @@ ghost use Rattle.cip_mps_lines.specs.MpsLines.{saying_of, values_of};
 
 use crate::bound_numbers::BoundNumber;
 use crate::line::{Line, Pairs};
-use crate::place::Place;
+use crate::place::LinePlace;
 use crate::values::{one_value, two_values};
 use crate::words::{BoundKind, bound_kind_of};
 
 /// A line of RHS with this set.
-fn right_side_of_set<'a>(place: &Place, set_name: &'a [u8], values: Pairs<'a>) -> Line<'a>
+fn right_side_of_set<'a>(place: &LinePlace, set_name: &'a [u8], values: Pairs<'a>) -> Line<'a>
     ensures { saying_of result ≡ text.of_set place.now.set_name set_name.now
         (text.RightSideLine set_name.now (values_of values.entry)) }
 {
@@ -24,7 +24,7 @@ fn right_side_of_set<'a>(place: &Place, set_name: &'a [u8], values: Pairs<'a>) -
 }
 
 /// A line of RHS: `[set] row value [row value]`.
-pub(crate) fn right_side_said<'a>(place: &Place, words: &[&'a [u8]]) -> Line<'a>
+pub(crate) fn right_side_said<'a>(place: &LinePlace, words: &[&'a [u8]]) -> Line<'a>
     ensures { saying_of result ≡ text.right_side_said place.now.set_name (texts words.now) }
 {
     match words {
@@ -45,7 +45,7 @@ pub(crate) fn right_side_said<'a>(place: &Place, words: &[&'a [u8]]) -> Line<'a>
 }
 
 /// A line of RANGES with this set.
-fn range_of_set<'a>(place: &Place, set_name: &'a [u8], values: Pairs<'a>) -> Line<'a>
+fn range_of_set<'a>(place: &LinePlace, set_name: &'a [u8], values: Pairs<'a>) -> Line<'a>
     ensures { saying_of result ≡ text.of_set place.now.set_name set_name.now
         (text.RangeLine set_name.now (values_of values.entry)) }
 {
@@ -57,7 +57,7 @@ fn range_of_set<'a>(place: &Place, set_name: &'a [u8], values: Pairs<'a>) -> Lin
 }
 
 /// A line of RANGES: `[set] row value [row value]`.
-pub(crate) fn range_said<'a>(place: &Place, words: &[&'a [u8]]) -> Line<'a>
+pub(crate) fn range_said<'a>(place: &LinePlace, words: &[&'a [u8]]) -> Line<'a>
     ensures { saying_of result ≡ text.range_said place.now.set_name (texts words.now) }
 {
     match words {
@@ -79,7 +79,7 @@ pub(crate) fn range_said<'a>(place: &Place, words: &[&'a [u8]]) -> Line<'a>
 
 /// A bound of this set.
 fn bound_of_set<'a>(
-    place: &Place,
+    place: &LinePlace,
     kind: BoundKind,
     set_name: &'a [u8],
     column: &'a [u8],
@@ -100,7 +100,7 @@ fn bound_of_set<'a>(
 }
 
 /// A bound with a value, behind its type: `[set] column value`.
-fn valued_bound<'a>(place: &Place, kind: BoundKind, words: &[&'a [u8]]) -> Line<'a>
+fn valued_bound<'a>(place: &LinePlace, kind: BoundKind, words: &[&'a [u8]]) -> Line<'a>
     ensures { saying_of result ≡ text.valued_bound place.now.set_name (bound_kind_in kind) (texts words.now) }
 {
     match words {
@@ -113,7 +113,7 @@ fn valued_bound<'a>(place: &Place, kind: BoundKind, words: &[&'a [u8]]) -> Line<
 }
 
 /// A bound without a value, behind its type: `[set] column`, or `set column value`.
-fn plain_bound<'a>(place: &Place, kind: BoundKind, words: &[&'a [u8]]) -> Line<'a>
+fn plain_bound<'a>(place: &LinePlace, kind: BoundKind, words: &[&'a [u8]]) -> Line<'a>
     ensures { saying_of result ≡ text.plain_bound place.now.set_name (bound_kind_in kind) (texts words.now) }
 {
     match words {
@@ -125,7 +125,7 @@ fn plain_bound<'a>(place: &Place, kind: BoundKind, words: &[&'a [u8]]) -> Line<'
 }
 
 /// A line of BOUNDS: a type, and what stands behind it.
-pub(crate) fn bound_said<'a>(place: &Place, words: &[&'a [u8]]) -> Line<'a>
+pub(crate) fn bound_said<'a>(place: &LinePlace, words: &[&'a [u8]]) -> Line<'a>
     ensures { saying_of result ≡ text.bound_said place.now.set_name (texts words.now) }
 {
     let [kind, others @ ..] = words else {

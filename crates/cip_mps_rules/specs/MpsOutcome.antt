@@ -7,14 +7,14 @@ use Rattle.cip_syntax.specs.Lines.{Record}
 use Rattle.cip_line_texts.specs.LineTexts as texts
 use Rattle.cip_line_texts.specs.LineTexts.{Reading, records_of}
 use Rattle.cip_line_texts.specs.LineEnds.{Stage, ending}
-use Rattle.cip_mps_rules.specs.MpsSayings.{Place, no_place, Saying, said, place_after}
+use Rattle.cip_mps_rules.specs.MpsSayings.{LinePlace, no_place, Saying, said, place_after}
 use Rattle.cip_mps_rules.specs.MpsFacts.{Facts, no_facts, facts_with}
 use Rattle.cip_mps_rules.specs.MpsProgram.{program_of}
 use Rattle.cip_mps_rules.specs.MpsRules.{is_end, fault_of}
 
 -- where a line stands, and what the lines before it have said
 pub record Context : Type 0 where
-  pub place : Place
+  pub place : LinePlace
   pub facts : Facts
 
 -- before the first line

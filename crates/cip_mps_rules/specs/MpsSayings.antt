@@ -35,7 +35,7 @@ pub data Saying : Type 0 where
 
 -- where a line stands: the section, whether that has said a sense, whether markers make columns whole, and the set
 -- that was met first in the section
-pub record Place : Type 0 where
+pub record LinePlace : Type 0 where
   pub part : Part
   pub sensed : Bool
   pub whole : Bool
@@ -160,7 +160,7 @@ bound_said first (kind ∷ words) = typed_bound first (bound_kind_of kind) words
 -- ---- any line
 
 -- what fields say in a section: none may stand before the first section, under NAME, and after a sense
-abbrev pub fields_said : Part → Place → List (List ℕ) → Saying
+abbrev pub fields_said : Part → LinePlace → List (List ℕ) → Saying
 fields_said NoPart place words = Misplaced
 fields_said Title place words = Misplaced
 fields_said Sense place words = if place.sensed then Misplaced else sense_said words
@@ -172,14 +172,14 @@ fields_said Bounds place words = bound_said place.set_name words
 fields_said End place words = Misplaced
 
 -- what a record says
-abbrev pub said : Place → Record → Saying
+abbrev pub said : LinePlace → Record → Saying
 said place (Section words) = section_said words
 said place (Entry words) = fields_said place.part place words
 
 -- ---- places
 
 -- a text begins in no section
-abbrev pub no_place : Place
+abbrev pub no_place : LinePlace
 no_place = record { part = NoPart; sensed = false; whole = false; set_name = None }
 
 -- there is a word
@@ -188,7 +188,7 @@ has_words [] = false
 has_words (word ∷ words) = true
 
 -- where the next record stands. A section line of OBJSENSE may have the sense itself
-abbrev pub place_after : Place → Saying → Place
+abbrev pub place_after : LinePlace → Saying → LinePlace
 place_after place (Opens part words) =
     record { part = part; sensed = has_words words; whole = place.whole; set_name = None }
 place_after place (SenseLine word) = record place { sensed = true }

@@ -10,7 +10,7 @@ use Rattle.cip_rational.specs.Rational.{ℚ, negate}
 use Rattle.cip_problem.specs.Program.{Term, Program}
 use Rattle.cip_number_text.specs.Numeral.{Numeral}
 use Rattle.cip_mps_rules.specs.MpsWords.{RowKind, next, is_in, number_in}
-use Rattle.cip_mps_rules.specs.MpsSayings.{Place}
+use Rattle.cip_mps_rules.specs.MpsSayings.{LinePlace}
 use Rattle.cip_mps_rules.specs.MpsFacts.{GivenRow, GivenColumn, Coefficient, Facts, row_names, names_of, column_names}
 use Rattle.cip_mps_rules.specs.MpsBounds.{settled, all_bounds, column_sides}
 use Rattle.cip_mps_rules.specs.MpsProgram.{number, number_or_zero, first_value, number_at, coefficient, is_free, has_sides, term_on, terms_of, ranged, sides_of, right_side, row_sides, row_with, row_of, first_or, objective, minimized, cost_of_column, program_of}
@@ -183,7 +183,7 @@ same_program p q a b c d e f g h = λ i. record {
   bounds = h i;
 }
 
-pub program_is : (place : Place) (facts : Facts) → Good facts → list_any is_free (kinds_of facts) ≡ true → program_from (state_of place facts) ≡ program_of facts
+pub program_is : (place : LinePlace) (facts : Facts) → Good facts → list_any is_free (kinds_of facts) ≡ true → program_from (state_of place facts) ≡ program_of facts
 program_is place facts g free =
     let o = has_objective facts facts.rows free in
     let held = ap (λ r. r.held) o.is_row in

@@ -9,7 +9,7 @@ use Rattle.std.proofs.lemmas.List.Elements.{filter-append}
 use Rattle.cip_rational.specs.Rational.{ℚ}
 use Rattle.cip_number_text.specs.Numeral.{Numeral}
 use Rattle.cip_mps_rules.specs.MpsWords.{RowKind, BoundKind, is_in, number_in}
-use Rattle.cip_mps_rules.specs.MpsSayings.{Place, Value, Saying, RowLine, ColumnLine, RightSideLine, RangeLine, BoundLine, place_after}
+use Rattle.cip_mps_rules.specs.MpsSayings.{LinePlace, Value, Saying, RowLine, ColumnLine, RightSideLine, RangeLine, BoundLine, place_after}
 use Rattle.cip_mps_rules.specs.MpsFacts.{GivenRow, GivenColumn, Coefficient, GivenBound, Facts, facts_with, row_names, names_of, column_names, senses_in, coefficients_in, with_columns}
 use Rattle.cip_mps_rules.specs.MpsBounds.{Bounded, unbounded, with_bound, bounded_by}
 use Rattle.cip_mps_rules.specs.MpsProgram.{number, first_value, is_free, has_sides, constraints}
@@ -278,7 +278,7 @@ column_rows facts column whole values g =
     names : List (List ℕ)
     names = names_of (with_columns facts.columns (record { name = column; whole = whole } ∷ []))
 
-pub taken_is : (place : Place) (facts : Facts) (now : Saying) → Keeps facts now → Good facts → taken (state_of place facts) now ≡ state_of (place_after place now) (facts_with facts now)
+pub taken_is : (place : LinePlace) (facts : Facts) (now : Saying) → Keeps facts now → Good facts → taken (state_of place facts) now ≡ state_of (place_after place now) (facts_with facts now)
 taken_is place facts (RowLine (Some kind) name) k g =
     same_state _ _ refl refl (sense_more facts.senses (senses_in (RowLine (Some kind) name)))
     (sym (map-append (λ row. row.name) facts.rows (record { kind = kind; name = name } ∷ [])))

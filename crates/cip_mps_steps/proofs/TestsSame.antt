@@ -12,7 +12,7 @@ use Rattle.cip_rational.specs.Range.{sum_overflows, difference_overflows}
 use Rattle.cip_number_text.specs.Numeral.{Numeral}
 use Rattle.cip_number_text.proofs.InRange.{IsSound}
 use Rattle.cip_mps_rules.specs.MpsWords.{RowKind, Free, AtMost, AtLeast, EqualTo, is_in, number_in, is_huge}
-use Rattle.cip_mps_rules.specs.MpsSayings.{Place, Value, Saying, ColumnLine, RightSideLine, RangeLine}
+use Rattle.cip_mps_rules.specs.MpsSayings.{LinePlace, Value, Saying, ColumnLine, RightSideLine, RangeLine}
 use Rattle.cip_mps_rules.specs.MpsFacts.{GivenRow, Coefficient, Facts, row_names, column_names}
 use Rattle.cip_mps_rules.specs.MpsProgram.{number, number_or_zero, first_value, right_side, moves_low, unsigned, is_free}
 use Rattle.cip_mps_rules.specs.MpsRules.{Rule, rule, least, rules, fault_of, row_in, side_overflows, row_overflows, has_wide_row, has_wide_side, has_huge_value, has_twins, has_coefficient, has_value_for, repeats_value, ranges_free_row, is_free_row, lacks_objective, values_in}
@@ -100,10 +100,10 @@ near_values [] h e = tt
 near_values (v ∷ vs) h e = ((h.0, left_false _ _ e), near_values vs h.1 (right_false _ _ e))
 
 -- the row of a name in the state of the facts
-pub row_at_is : (place : Place) (facts : Facts) (name : List ℕ) → row_at (state_of place facts) name ≡ option_map (row_read facts) (row_in facts.rows name)
+pub row_at_is : (place : LinePlace) (facts : Facts) (name : List ℕ) → row_at (state_of place facts) name ≡ option_map (row_read facts) (row_in facts.rows name)
 row_at_is place facts name = row_by_number (row_read facts) facts.rows name
 
-wide_at : (place : Place) (facts : Facts) (rs rg : List Value) (name : List ℕ) → AllByRecursion (λ value. IsNear value.number) (facts.ranges ++ rg)
+wide_at : (place : LinePlace) (facts : Facts) (rs rg : List Value) (name : List ℕ) → AllByRecursion (λ value. IsNear value.number) (facts.ranges ++ rg)
     → overflows_with (value_for rs name) (value_for rg name) (row_at (state_of place facts) name) ≡ row_overflows (facts.right_sides ++ rs) (facts.ranges ++ rg) (row_in facts.rows name)
 wide_at place facts rs rg name near =
     ap (overflows_with (value_for rs name) (value_for rg name)) (row_at_is place facts name) ∙ go (row_in facts.rows name) refl
@@ -127,7 +127,7 @@ wide_at place facts rs rg name near =
 near_ranges : (facts : Facts) → Good facts → AllByRecursion (λ value. IsNear value.number) facts.ranges
 near_ranges facts g = all_weaker (λ value. IsTold value.number) _ (λ value t. told_is_near value.number t) facts.ranges g.ranges_told
 
-wide_is : (place : Place) (facts : Facts) (now : Saying) → Good facts → AreSound (values_in now) → has_huge_value now ≡ false → has_wide_side_now (state_of place facts) now ≡ has_wide_side facts now
+wide_is : (place : LinePlace) (facts : Facts) (now : Saying) → Good facts → AreSound (values_in now) → has_huge_value now ≡ false → has_wide_side_now (state_of place facts) now ≡ has_wide_side facts now
 wide_is place facts (RightSideLine set_name values) g s e =
     list_any_same _ _
     (λ value. wide_at place facts values [] value.row (all_append (λ v. IsNear v.number) facts.ranges [] (near_ranges facts g) tt)) values
@@ -137,7 +137,7 @@ wide_is place facts (RangeLine set_name values) g s e =
     (λ value. wide_at place facts [] values value.row (all_append (λ v. IsNear v.number) facts.ranges values (near_ranges facts g) (near_values values s e))) values
 wide_is place facts other g s e = refl
 
-six_is : (place : Place) (facts : Facts) (now : Saying) → Good facts → AreSound (values_in now) → (has_huge_value now || has_wide_side_now (state_of place facts) now) ≡ (has_huge_value now || has_wide_side facts now)
+six_is : (place : LinePlace) (facts : Facts) (now : Saying) → Good facts → AreSound (values_in now) → (has_huge_value now || has_wide_side_now (state_of place facts) now) ≡ (has_huge_value now || has_wide_side facts now)
 six_is place facts now g s = go (has_huge_value now) refl
   where
     go : (b : Bool) → has_huge_value now ≡ b → (b || has_wide_side_now (state_of place facts) now) ≡ (b || has_wide_side facts now)
@@ -198,7 +198,7 @@ held_is rows columns (x ∷ xs) column row k h e =
     head true = one (number_in columns x.column) refl h.0.column
     head false = refl
 
-holds_is : (place : Place) (facts : Facts) (column row : List ℕ) → Good facts → holds (number_in (column_names facts) column) (row_at (state_of place facts) row) ≡ has_coefficient facts.coefficients column row
+holds_is : (place : LinePlace) (facts : Facts) (column row : List ℕ) → Good facts → holds (number_in (column_names facts) column) (row_at (state_of place facts) row) ≡ has_coefficient facts.coefficients column row
 holds_is place facts column row g = ap (holds (number_in (column_names facts) column)) (row_at_is place facts row) ∙ go (row_in facts.rows row) refl
   where
     at : (r : GivenRow) → r.name ≡ row → (o : Option ℕ) → number_in (column_names facts) column ≡ o → holds o (Some (row_read facts r)) ≡ has_coefficient facts.coefficients column row
@@ -225,21 +225,21 @@ value_is (v ∷ vs) row = go (bytes_eq row v.row) (value_is vs row)
     go true h = refl
     go false h = h
 
-right_side_is : (place : Place) (facts : Facts) (row : List ℕ) → Good facts → has_right_side (row_at (state_of place facts) row) ≡ has_value_for facts.right_sides row
+right_side_is : (place : LinePlace) (facts : Facts) (row : List ℕ) → Good facts → has_right_side (row_at (state_of place facts) row) ≡ has_value_for facts.right_sides row
 right_side_is place facts row g = ap has_right_side (row_at_is place facts row) ∙ go (row_in facts.rows row) refl
   where
     go : (o : Option GivenRow) → row_in facts.rows row ≡ o → has_right_side (option_map (row_read facts) o) ≡ has_value_for facts.right_sides row
     go None e = sym (unknown_value (row_names facts) facts.right_sides row g.right_sides_known (row_in_none facts.rows row e))
     go (Some r) e = value_is facts.right_sides r.name ∙ ap (has_value_for facts.right_sides) (row_in_name facts.rows row r e)
 
-range_is : (place : Place) (facts : Facts) (row : List ℕ) → Good facts → has_range (row_at (state_of place facts) row) ≡ has_value_for facts.ranges row
+range_is : (place : LinePlace) (facts : Facts) (row : List ℕ) → Good facts → has_range (row_at (state_of place facts) row) ≡ has_value_for facts.ranges row
 range_is place facts row g = ap has_range (row_at_is place facts row) ∙ go (row_in facts.rows row) refl
   where
     go : (o : Option GivenRow) → row_in facts.rows row ≡ o → has_range (option_map (row_read facts) o) ≡ has_value_for facts.ranges row
     go None e = sym (unknown_value (row_names facts) facts.ranges row g.ranges_known (row_in_none facts.rows row e))
     go (Some r) e = value_is facts.ranges r.name ∙ ap (has_value_for facts.ranges) (row_in_name facts.rows row r e)
 
-eleven_is : (place : Place) (facts : Facts) (now : Saying) → Good facts → repeats_value_now (state_of place facts) now ≡ repeats_value facts now
+eleven_is : (place : LinePlace) (facts : Facts) (now : Saying) → Good facts → repeats_value_now (state_of place facts) now ≡ repeats_value facts now
 eleven_is place facts (ColumnLine column whole values) g =
     ap (λ b. b || has_twins values) (list_any_same _ _ (λ value. holds_is place facts column value.row g) values)
 eleven_is place facts (RightSideLine set_name values) g =
@@ -250,14 +250,14 @@ eleven_is place facts other g = refl
 
 -- ---- other tests
 
-free_is : (place : Place) (facts : Facts) (row : List ℕ) → is_free_at (row_at (state_of place facts) row) ≡ is_free_row (row_in facts.rows row)
+free_is : (place : LinePlace) (facts : Facts) (row : List ℕ) → is_free_at (row_at (state_of place facts) row) ≡ is_free_row (row_in facts.rows row)
 free_is place facts row = ap is_free_at (row_at_is place facts row) ∙ go (row_in facts.rows row)
   where
     go : (o : Option GivenRow) → is_free_at (option_map (row_read facts) o) ≡ is_free_row o
     go None = refl
     go (Some r) = refl
 
-twenty_is : (place : Place) (facts : Facts) (now : Saying) → ranges_free_row_now (state_of place facts) now ≡ ranges_free_row facts.rows now
+twenty_is : (place : LinePlace) (facts : Facts) (now : Saying) → ranges_free_row_now (state_of place facts) now ≡ ranges_free_row facts.rows now
 twenty_is place facts (RangeLine set_name values) = list_any_same _ _ (λ value. free_is place facts value.row) values
 twenty_is place facts other = refl
 
@@ -265,7 +265,7 @@ pub map_twice : {X Y Z : Type 0} (f : Y → Z) (g : X → Y) (xs : List X) → m
 map_twice f g [] = refl
 map_twice f g (x ∷ xs) = ap (λ ys. f (g x) ∷ ys) (map_twice f g xs)
 
-pub tests_same : (place : Place) (facts : Facts) (now : Saying) → Good facts → AreSound (values_in now) → least (tests (state_of place facts) now) ≡ fault_of facts now
+pub tests_same : (place : LinePlace) (facts : Facts) (now : Saying) → Good facts → AreSound (values_in now) → least (tests (state_of place facts) now) ≡ fault_of facts now
 tests_same place facts now g s = all.same
   where
     all : SameLeast (tests (state_of place facts) now) (rules facts now)

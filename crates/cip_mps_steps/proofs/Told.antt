@@ -20,7 +20,7 @@ use Rattle.cip_number_text.specs.NumeralStatements.{IsInRange}
 use Rattle.cip_number_text.proofs.InRange.{IsSound, sound_numeral}
 use Rattle.cip_syntax.specs.Lines.{Record, Section, Entry}
 use Rattle.cip_mps_rules.specs.MpsWords.{Part, NoPart, Title, Sense, Rows, Columns, RightSides, Ranges, Bounds, End, BoundKind, section_of, marker_of, bound_kind_of, has_value, bound_number, is_zero, is_negative, is_no_number, is_huge, is_too_fine, near_or_huge}
-use Rattle.cip_mps_rules.specs.MpsSayings.{Value, Saying, Skipped, Misplaced, ColumnLine, RightSideLine, RangeLine, BoundLine, no_value, Place, opening, section_said, sense_said, row_said, one_value, two_values, is_marker, marker_said, column_said, of_set, right_side_said, range_said, valued_bound, plain_bound, typed_bound, bound_said, fields_said, said}
+use Rattle.cip_mps_rules.specs.MpsSayings.{Value, Saying, Skipped, Misplaced, ColumnLine, RightSideLine, RangeLine, BoundLine, no_value, LinePlace, opening, section_said, sense_said, row_said, one_value, two_values, is_marker, marker_said, column_said, of_set, right_side_said, range_said, valued_bound, plain_bound, typed_bound, bound_said, fields_said, said}
 use Rattle.cip_mps_rules.specs.MpsProgram.{number, unsigned}
 use Rattle.cip_mps_rules.specs.MpsRules.{values_in}
 use Rattle.cip_mps_rules.proofs.Quiet.{left_false, right_false}
@@ -208,7 +208,7 @@ bound_sound : (first : Option (List ℕ)) (words : List (List ℕ)) → Sound (b
 bound_sound first [] = tt
 bound_sound first (kind ∷ words) = typed_sound first (bound_kind_of kind) words
 
-fields_sound : (part : Part) (place : Place) (words : List (List ℕ)) → Sound (fields_said part place words)
+fields_sound : (part : Part) (place : LinePlace) (words : List (List ℕ)) → Sound (fields_said part place words)
 fields_sound NoPart place words = tt
 fields_sound Title place words = tt
 fields_sound Sense place words = cond_both place.sensed Misplaced (sense_said words) Sound (λ _. tt) (λ _. sense_sound words)
@@ -219,7 +219,7 @@ fields_sound Ranges place words = range_sound place.set_name words
 fields_sound Bounds place words = bound_sound place.set_name words
 fields_sound End place words = tt
 
-pub said_sound : (place : Place) (content : Record) → AreSound (values_in (said place content))
+pub said_sound : (place : LinePlace) (content : Record) → AreSound (values_in (said place content))
 said_sound place (Section words) = section_sound words
 said_sound place (Entry words) = fields_sound place.part place words
 

@@ -10,7 +10,7 @@ use Rattle.std.specs.Str.{bytes_eq}
 use Rattle.cip_rational.specs.Rational.{ℚ, zeroℚ, lt_test, absolute, negate}
 use Rattle.cip_problem.specs.Program.{Term, Sides, Row, Program}
 use Rattle.cip_mps_rules.specs.MpsWords.{Part, RowKind, Free, AtMost, AtLeast, EqualTo, number_in}
-use Rattle.cip_mps_rules.specs.MpsSayings.{Place, Value}
+use Rattle.cip_mps_rules.specs.MpsSayings.{LinePlace, Value}
 use Rattle.cip_mps_rules.specs.MpsFacts.{GivenRow, GivenColumn, Coefficient, Facts, row_names, column_names}
 use Rattle.cip_mps_rules.specs.MpsBounds.{Bounded, unbounded, bounded_by, settled, column_sides}
 use Rattle.cip_mps_rules.specs.MpsProgram.{number, first_value, is_free, constraints, plain_sides, ranged, row_with}
@@ -33,7 +33,7 @@ pub record RowRead : Type 0 where
 -- where the next line stands, the sections opened, the sense, the rows and the columns with their names, how many rows
 -- are not of type N, and how many numbers of COLUMNS are not 0
 pub record State : Type 0 where
-  pub place : Place
+  pub place : LinePlace
   pub opened : List Part
   pub sense : Option Bool
   pub row_names : List (List ℕ)
@@ -80,7 +80,7 @@ first_of [] = None
 first_of (x ∷ xs) = Some x
 
 -- what is kept of all facts
-abbrev pub state_of : Place → Facts → State
+abbrev pub state_of : LinePlace → Facts → State
 state_of place facts = record {
   place = place;
   opened = facts.parts;

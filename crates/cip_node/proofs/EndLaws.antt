@@ -22,7 +22,7 @@ use Rattle.cip_tree.specs.Searched.{IsSearched}
 use Rattle.cip_node.specs.Bounding.{IsAsGood, HasTried, IsSplitBy}
 use Rattle.cip_node.specs.Cores.{StaysRooted}
 use Rattle.cip_node.specs.KeptNodes.{IsSearchOf, IsKept}
-use Rattle.cip_node.specs.NodeEnds.{with_bound, parked_after, LeavesEntry, IsPruned, IsEmptied, IsSolved, IsHalved, IsAside, IsEndless, IsEnd, IsOpenAgain}
+use Rattle.cip_node.specs.NodeEnds.{with_bound, parked_after, LeavesEntry, IsPruned, IsEmptied, IsSolvedLeaf, IsHalved, IsAside, IsEndless, IsEnd, IsOpenAgain}
 use Rattle.cip_node.specs.declared.ends.NodeEnd.{NodeEnd}
 use Rattle.cip_node.specs.declared.ends.NodeEnd.TheVariants as by
 
@@ -181,7 +181,7 @@ pruned_end program held old new node taken e k m = record { bound = node.bound; 
 pub emptied_end : (program : Program) (held : Option ℚ) (old new : Nodes) (node : TakenNode) (taken : List (Option Base)) → new ≡ record old { taken = taken; log = old.log ++ record { node = node.number; bound = node.bound; end = Closed } ∷ [] } → IsKept program new held [] → HasNoImproving program held (box_of old node) → IsEmptied program held old new node
 emptied_end program held old new node taken e k h = record { bound = node.bound; entry = closed_entry old new node taken e; kept = k; empty = h }
 
-pub solved_end : (program : Program) (held : Option ℚ) (old mid new : Nodes) (node : TakenNode) (taken : List (Option Base)) (leaf point : List ℚ) → IsSameWork old mid node node → new ≡ record mid { taken = taken; log = mid.log ++ record { node = node.number; bound = node.bound; end = Closed } ∷ [] } → IsKept program new held [] → IsOnlyLeaf program.integral (box_of old node) leaf → IsPointOf program leaf point → HasNoImproving program held (box_of old node) → IsSolved program held old new node
+pub solved_end : (program : Program) (held : Option ℚ) (old mid new : Nodes) (node : TakenNode) (taken : List (Option Base)) (leaf point : List ℚ) → IsSameWork old mid node node → new ≡ record mid { taken = taken; log = mid.log ++ record { node = node.number; bound = node.bound; end = Closed } ∷ [] } → IsKept program new held [] → IsOnlyLeaf program.integral (box_of old node) leaf → IsPointOf program leaf point → HasNoImproving program held (box_of old node) → IsSolvedLeaf program held old new node
 solved_end program held old mid new node taken leaf point w e k only is h = record {
   bound = node.bound;
   entry = entry_from old mid node node w new node.bound Closed (closed_entry mid new node taken e);

@@ -10,7 +10,7 @@ use Rattle.cip_search.specs.Relaxation.{IsRelaxedBound}
 use Rattle.cip_search.proofs.Relaxed.{greater}
 use Rattle.cip_cert.specs.declared.rows.PoolRow.{PoolRow}
 use Rattle.cip_cert.specs.Lent.{Lent}
-use Rattle.cip_rows.specs.RowPools.{Pool, IsKept}
+use Rattle.cip_rows.specs.RowPools.{Pool, IsSoundPool}
 use Rattle.cip_node_bounds.specs.NodeRows.{usable_rows}
 use Rattle.cip_node_bounds.specs.Relaxing.{node_program, ShowsLeast}
 use Rattle.cip_node_bounds.specs.Telling.{IsValidPool, NodeProgramsTell}
@@ -19,7 +19,7 @@ use Rattle.cip_node_bounds.specs.declared.relaxed.Mark.{Mark}
 use Rattle.cip_node.specs.Bounding.{IsTried, HasTried}
 use Rattle.cip_node.specs.KeptNodes.{IsPoolOf}
 
-valid_pool : (program : Program) (held : Option ℚ) (box : List Sides) (pool : Pool) → IsKept pool → pool.columns ≡ columns program → length box ≡ columns program → IsPoolOf program held pool.rows → IsValidPool program held box pool.rows
+valid_pool : (program : Program) (held : Option ℚ) (box : List Sides) (pool : Pool) → IsSoundPool pool → pool.columns ≡ columns program → length box ≡ columns program → IsPoolOf program held pool.rows → IsValidPool program held box pool.rows
 valid_pool program held box pool kept wide long valid = record {
   valid = valid;
   long = λ row c. subst (λ (r : PoolRow). length box ≡ length r.scope) c.2 (long ∙ sym wide ∙ sym (kept.fits c.0 row c.1).scope);
@@ -28,7 +28,7 @@ valid_pool program held box pool kept wide long valid = record {
 abbrev pub lent_of : Program → Pool → Lent
 lent_of program pool = record { own = program.rows; pool = pool.rows; cutoff = None }
 
-pub tells : (program : Program) (held : Option ℚ) (box : List Sides) (pool : Pool) → IsKept pool → pool.columns ≡ columns program → length box ≡ columns program → IsPoolOf program held pool.rows → NodeProgramsTell program held (lent_of program pool) box
+pub tells : (program : Program) (held : Option ℚ) (box : List Sides) (pool : Pool) → IsSoundPool pool → pool.columns ≡ columns program → length box ≡ columns program → IsPoolOf program held pool.rows → NodeProgramsTell program held (lent_of program pool) box
 tells program held box pool kept wide long valid = told program held (lent_of program pool) box refl (valid_pool program held box pool kept wide long valid)
 
 pub long_point : (program : Program) (lent : Lent) (box : List Sides) (point : List ℚ) → IsPoint (node_program program lent box) point → length point ≡ length box

@@ -57,7 +57,7 @@ pub record IsEmptied (program : Program) (held : Option ℚ) (old new : Nodes) (
   pub empty : HasNoImproving program held (box_of old node)
 
 -- it was closed; its box has one whole assignment, that leaf has a point, and none that is cheaper than what is held
-pub record IsSolved (program : Program) (held : Option ℚ) (old new : Nodes) (node : TakenNode) : Type 0 where
+pub record IsSolvedLeaf (program : Program) (held : Option ℚ) (old new : Nodes) (node : TakenNode) : Type 0 where
   pub bound : Option ℚ
   pub entry : LeavesEntry old new node bound Closed
   pub kept : IsKept program new held []
@@ -111,7 +111,7 @@ abbrev pub IsEnd
     : Program → Option ℚ → Lent → ℕ → Nodes → Nodes → TakenNode → Option Mark → NodeEnd → Type 0
 IsEnd program held lent room old new node mark by.Pruned = IsPruned program held old new node
 IsEnd program held lent room old new node mark by.Empty = IsEmptied program held old new node
-IsEnd program held lent room old new node mark by.Solved = IsSolved program held old new node
+IsEnd program held lent room old new node mark by.Solved = IsSolvedLeaf program held old new node
 IsEnd program held lent room old new node mark (by.Split low high) =
     IsHalved program held lent room old new node mark low high
 IsEnd program held lent room old new node mark (by.Parked leaf bound shown) =

@@ -14,14 +14,14 @@ use crate::cores::Core;
 use crate::ends::NodeEnd;
 use crate::steps::held_cost;
 use cip_frac::Frac;
-use cip_node_rules::{Place, chosen_place, matters};
+use cip_node_rules::{SplitPlace, chosen_place, matters};
 use cip_tree::Node;
 use std::alloc::AllocError;
 
 impl<'a> Core<'a> {
     /// Where the box in work is split: by a point of its linear program, if there is one, else by the last linear values,
     /// if a linear program had a point. `None` exactly where no whole column has two whole values.
-    fn place_by(&self, point: &Option<Vec<Frac>>) -> Option<Place>
+    fn place_by(&self, point: &Option<Vec<Frac>>) -> Option<SplitPlace>
         requires columns { length self.now.domain.box ≡ columns self.now.program.now }
         requires values { IfSome point.now (λ values. length values.items ≡ length self.now.domain.box) }
         ensures { MatchOption result
@@ -79,7 +79,7 @@ impl<'a> Core<'a> {
         let _columns = self.program.columns();
         match self.place_by(point) {
             None => unreachable!(),
-            Some(Place { col, at }) => {
+            Some(SplitPlace { col, at }) => {
                 let (low, high) = self.split(node, col, at)?;
                 self.let_go();
                 let waiting = self.tree.open_count();

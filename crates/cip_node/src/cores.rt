@@ -1,7 +1,7 @@
 //! What a search works with.
 use crate::starts::Starts;
 use cip_cert::Scratch;
-use cip_domain::{DomainStore, Mark};
+use cip_domain::{DomainStore, Checkpoint};
 use cip_incumbent::Incumbent;
 use cip_lin::Row;
 use cip_model::Program;
@@ -23,7 +23,7 @@ pub struct Core<'a> {
     /// The box in work.
     pub domain: DomainStore,
     /// The moment at which the box in work is the program's.
-    pub start: Mark,
+    pub start: Checkpoint,
     /// What solves the linear programs of nodes.
     pub solver: Solver,
     /// What checks work in.

@@ -3,7 +3,7 @@ ghost use Rattle.std.specs.Prelude.{◌≡◌, IfOk};
 ghost use Rattle.cip_tree.specs.Nodes.{IsTaken, box_of};
 ghost use Rattle.cip_node.specs.Entering.{first_box, IsEntered, IsNarrowed};
 
-use cip_domain::{Change, DomainStore, Mark, Tightened};
+use cip_domain::{Change, DomainStore, Checkpoint, Tightened};
 use cip_tree::{Node, Tree};
 use std::alloc::AllocError;
 
@@ -27,7 +27,7 @@ fn narrow(domain: &mut DomainStore, change: Change) -> Result<bool, AllocError>
 /// above it. `false` is answered where the node's box has no point at all. `Err` comes where memory was refused.
 pub(crate) fn enter(
     domain: &mut DomainStore,
-    start: Mark,
+    start: Checkpoint,
     tree: &Tree,
     node: &Node,
 ) -> Result<bool, AllocError>

@@ -6,7 +6,7 @@ ghost use Rattle.cip_node.specs.Entering.{first_box};
 ghost use Rattle.cip_node.specs.Looking.{IsLook};
 
 use crate::entering::enter;
-use cip_domain::{DomainStore, Mark};
+use cip_domain::{DomainStore, Checkpoint};
 use cip_model::Program;
 use cip_node_rules::{Looked, look_at};
 use cip_tree::{Node, Tree};
@@ -15,7 +15,7 @@ use std::alloc::AllocError;
 /// Makes the box of a node the box in work, and looks at its whole columns. `Err` comes where memory was refused.
 pub(crate) fn look(
     domain: &mut DomainStore,
-    start: Mark,
+    start: Checkpoint,
     program: &Program,
     tree: &Tree,
     node: &Node,

@@ -9,7 +9,7 @@ use Rattle.cip_problem.specs.Activity.{StandsBelow}
 use Rattle.cip_problem.specs.Box.{box_inside}
 use Rattle.cip_cert.specs.declared.rows.PoolRow.{PoolRow}
 use Rattle.cip_cert.specs.Lent.{KeptFits}
-use Rattle.cip_rows.specs.RowPools.{Pool, IsKept, usable_in}
+use Rattle.cip_rows.specs.RowPools.{Pool, IsSoundPool, usable_in}
 use Rattle.cip_simplex.specs.LpShape.{IsSolvable}
 use Rattle.cip_node_bounds.specs.NodeRows.{usable_rows}
 
@@ -26,7 +26,7 @@ few_usable box rows = omega (
   count_by-le-length (λ (kept : PoolRow). box_inside box kept.scope) rows,
 )
 
-pub solvable : (program : Program) (box : List Sides) (pool : Pool) (rows : List Row) → IsWellFormed program → length box ≡ columns program → length box ≡ pool.columns → IsKept pool → rows ≡ program.rows ++ usable_rows box pool.rows → IsSolvable (record { rows = rows; bounds = box; costs = program.costs })
+pub solvable : (program : Program) (box : List Sides) (pool : Pool) (rows : List Row) → IsWellFormed program → length box ≡ columns program → length box ≡ pool.columns → IsSoundPool pool → rows ≡ program.rows ++ usable_rows box pool.rows → IsSolvable (record { rows = rows; bounds = box; costs = program.costs })
 solvable program box pool rows formed long wide kept e = record {
   proper = record {
     costs = sym long;

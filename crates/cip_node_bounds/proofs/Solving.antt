@@ -10,16 +10,16 @@ use Rattle.cip_simplex.specs.declared.answers.LpAnswer.{LpAnswer}
 use Rattle.cip_simplex.specs.declared.answers.LpAnswer.TheVariants.{Optimal, Infeasible, Unbounded, Wide, Limit}
 use Rattle.cip_simplex.proofs.Held.{HoldsOr, held}
 use Rattle.cip_simplex.proofs.SlackStart.{slack_is_first}
-use Rattle.cip_node_bounds.specs.Solving.{most_moves, IsSolved}
+use Rattle.cip_node_bounds.specs.Solving.{most_moves, SaysRight}
 
-listed : (program : LinearProgram) (found : LpAnswer) → HoldsOr program (answer most_moves program) found → IsSolved program found
+listed : (program : LinearProgram) (found : LpAnswer) → HoldsOr program (answer most_moves program) found → SaysRight program found
 listed program (Optimal values combo number) h = h
 listed program (Infeasible combo) h = h
 listed program (Unbounded values changes) h = h
 listed program (Wide made) h = h
 listed program Limit h = h
 
-pub from_slack : (program : LinearProgram) (start : Stands) (found : LpAnswer) → start ≡ stands_of (first_of_program program) → IsAnswer (answer_from most_moves program start) found → IsRight program (answer_from most_moves program start) → IsSolved program found
+pub from_slack : (program : LinearProgram) (start : Stands) (found : LpAnswer) → start ≡ stands_of (first_of_program program) → IsAnswer (answer_from most_moves program start) found → IsRight program (answer_from most_moves program start) → SaysRight program found
 from_slack program start found e h r =
     let same : answer_from most_moves program start ≡ answer most_moves program = ap (answer_from most_moves program) e ∙ slack_is_first program most_moves in
     listed program found

@@ -11,7 +11,7 @@ use Rattle.cip_cert.specs.Lent.{Lent, Multiples, multiples_of, count_of}
 use Rattle.cip_cert.specs.Checks.{lower_bound_of, emptied}
 use Rattle.cip_cert.specs.declared.faults.CutFault.{CutFault}
 use Rattle.cip_cert.specs.declared.faults.CutFault.TheVariants.{Wide as TooWide}
-use Rattle.cip_cert.specs.declared.faults.Place.TheVariants.{Entry}
+use Rattle.cip_cert.specs.declared.faults.FaultPlace.TheVariants.{Entry}
 use Rattle.cip_search.specs.Relaxation.{relaxation}
 use Rattle.cip_node_bounds.specs.NodeRows.{usable_rows, usable_ids, IsNamed}
 use Rattle.cip_node_bounds.specs.Solving.{most_moves}

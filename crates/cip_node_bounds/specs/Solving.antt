@@ -14,9 +14,9 @@ abbrev pub most_moves : ℕ
 most_moves = 10000
 
 -- what an answer says holds; that a move is out of range, or that too many are needed, is said of Bland's list
-abbrev pub IsSolved : LinearProgram → LpAnswer → Type 0
-IsSolved program (Optimal point combo cost) = IsOptimumBy program point.items combo cost
-IsSolved program (Infeasible combo) = IsEmptyBy program combo
-IsSolved program (Unbounded point ray) = IsRight program (list.Unbounded point.items ray.items)
-IsSolved program (Wide moves) = answer most_moves program ≡ list.OutOfRange moves.items
-IsSolved program Limit = answer most_moves program ≡ list.LimitReached
+abbrev pub SaysRight : LinearProgram → LpAnswer → Type 0
+SaysRight program (Optimal point combo cost) = IsOptimumBy program point.items combo cost
+SaysRight program (Infeasible combo) = IsEmptyBy program combo
+SaysRight program (Unbounded point ray) = IsRight program (list.Unbounded point.items ray.items)
+SaysRight program (Wide moves) = answer most_moves program ≡ list.OutOfRange moves.items
+SaysRight program Limit = answer most_moves program ≡ list.LimitReached

@@ -1,7 +1,7 @@
 //! Linear programs, asked by a rule that makes few moves before Bland's.
 ghost use Rattle.std.specs.Prelude.{◌≡◌, ◌+◌, ◌*◌, ◌-◌, ◌^◌, min, length, IfOk};
 ghost use Rattle.cip_simplex.specs.LpShape.{variables};
-ghost use Rattle.cip_node_bounds.specs.Solving.{IsSolved};
+ghost use Rattle.cip_node_bounds.specs.Solving.{SaysRight};
 
 use cip_simplex::{Lp, LpAnswer, Solver, Start, solve_from, solve_greedily};
 use std::alloc::{AllocError, Global};
@@ -31,7 +31,7 @@ fn asked_afresh(
     solver: &mut Solver,
     lp: &Lp,
 ) -> Result<(LpAnswer, Start), AllocError>
-    ensures { IfOk result (λ asked. IsSolved lp.now asked.0) }
+    ensures { IfOk result (λ asked. SaysRight lp.now asked.0) }
 {
     let slack = Start::slack(alloc, lp)?;
     let (first, last) = solve_greedily(alloc, solver, lp, &slack, few_moves(lp))?;
@@ -53,7 +53,7 @@ fn asked_at(
     start: &Start,
 ) -> Result<(LpAnswer, Start), AllocError>
     requires { length start.now ≡ variables lp.now }
-    ensures { IfOk result (λ asked. IsSolved lp.now asked.0) }
+    ensures { IfOk result (λ asked. SaysRight lp.now asked.0) }
 {
     let (first, last) = solve_greedily(alloc, solver, lp, start, few_moves(lp))?;
     match first {
@@ -70,7 +70,7 @@ pub(crate) fn asked(
     lp: &Lp,
     start: Option<&Start>,
 ) -> Result<(LpAnswer, Start), AllocError>
-    ensures { IfOk result (λ asked. IsSolved lp.now asked.0) }
+    ensures { IfOk result (λ asked. SaysRight lp.now asked.0) }
 {
     let Some(before) = start else {
         return asked_afresh(alloc, solver, lp);

@@ -6,13 +6,13 @@ ghost use Rattle.cip_problem.specs.Activity.{StandsBelow};
 ghost use Rattle.cip_cert.specs.Lent.{lent_of, multiples_of, Fits};
 ghost use Rattle.cip_search.specs.Relaxation.{relaxation};
 ghost use Rattle.cip_node_bounds.specs.NodeRows.{usable_rows, usable_ids};
-ghost use Rattle.cip_node_bounds.specs.Solving.{IsSolved};
+ghost use Rattle.cip_node_bounds.specs.Solving.{SaysRight};
 ghost use Rattle.cip_node_bounds.specs.Relaxing.{node_program, IsCostFault, IsOptimumFound, IsEmptinessFound, IsRelaxed};
 
 use crate::asking::asked;
 use crate::names::name_combo;
 use crate::rows::UsableRows;
-use cip_cert::{CutFault, Place, Rows, Scratch, empties, lower_bound};
+use cip_cert::{CutFault, FaultPlace, Rows, Scratch, empties, lower_bound};
 use cip_dictionary::Move;
 use cip_frac::Frac;
 use cip_lin::{Bounds, Combo, Row};
@@ -69,7 +69,7 @@ fn solved(
     requires columns { length bounds.now ≡ columns program.now }
     requires pool { length bounds.now ≡ pool.now.columns }
     ensures { IfOk result
-        (λ solved. IsSolved (relaxation program.now (usable_rows bounds.now pool.now.rows) bounds.now) solved.0) }
+        (λ solved. SaysRight (relaxation program.now (usable_rows bounds.now pool.now.rows) bounds.now) solved.0) }
 {
     let _columns = program.columns();
     let _rows = pool.rows();
@@ -100,7 +100,7 @@ fn checked_cost(
     match program.constant().add(cost) {
         Ok(bound) => Ok(bound),
         Err(_) => Err(CutFault::Wide {
-            place: Place::Entry(combo.rows.len() + combo.lows.len() + combo.highs.len()),
+            place: FaultPlace::Entry(combo.rows.len() + combo.lows.len() + combo.highs.len()),
         }),
     }
 }
@@ -168,7 +168,7 @@ fn judged(
     requires room { length bounds.now ≤ length scratch.old.row.entries }
     requires columns { length bounds.now ≡ columns program.now }
     requires ids { ids.now ≡ usable_ids bounds.now rows.now.pool.now }
-    requires solved { IsSolved (node_program program.now (lent_of rows.now) bounds.now) found }
+    requires solved { SaysRight (node_program program.now (lent_of rows.now) bounds.now) found }
     ensures relaxed { IsRelaxed program.now (lent_of rows.entry.now) bounds.now (length scratch.old.row.entries) result }
     ensures room { length scratch.new.row.entries ≡ length scratch.old.row.entries }
 {

@@ -13,5 +13,5 @@ pub use columns::{fractional_column, has_whole, lacking_column, open_column};
 pub use looks::{Looked, look_at};
 pub use pruning::matters;
 pub use roots::rounded_least;
-pub use splits::{Place, chosen_place, middle, moved, splits_leave_both};
+pub use splits::{SplitPlace, chosen_place, middle, moved, splits_leave_both};
 pub use values::{are_whole, has_whole_costs, rounded_bound};

@@ -13,7 +13,7 @@ use cip_lin::{Bounds, Sides};
 
 /// Where a box is split: the column is at most `at`, or at least `at + 1`.
 #[derive(Clone, Copy, Debug, PartialEq, Eq)]
-pub struct Place {
+pub struct SplitPlace {
     /// The number of the column.
     pub col: u32,
     /// The whole number.
@@ -93,7 +93,7 @@ pub fn middle(sides: Sides) -> i128
 /// Where a box is split that has a whole column with two whole values: by the point of its linear program, if there is
 /// one, at the first of these columns whose value isn't whole and not farther than 2^100 from 0, at its floor; else at
 /// the first, at the middle of its whole values. `None` exactly where no whole column has two whole values.
-pub fn chosen_place(whole: &[bool], bounds: &Bounds, point: Option<&[Frac]>) -> Option<Place>
+pub fn chosen_place(whole: &[bool], bounds: &Bounds, point: Option<&[Frac]>) -> Option<SplitPlace>
     requires columns { length whole.now ≤ most_columns }
     requires long { length whole.now ≡ length bounds.now }
     requires values { IfSome point (λ values. length values.now ≡ length bounds.now) }
@@ -103,12 +103,12 @@ pub fn chosen_place(whole: &[bool], bounds: &Bounds, point: Option<&[Frac]>) -> 
     if let Some(point) = point {
         if let Some(col) = fractional_column(whole, bounds, point) {
             let at = moved(bounds.sides(col), point[col as usize].floor());
-            return Some(Place { col, at });
+            return Some(SplitPlace { col, at });
         }
     }
     let col = open_column(whole, bounds)?;
     let at = middle(bounds.sides(col));
-    Some(Place { col, at })
+    Some(SplitPlace { col, at })
 }
 
 /// A split by these rules leaves a whole value on both sides, and no whole number that it names is farther from 0 than

@@ -9,13 +9,13 @@ use Rattle.cip_problem.specs.Box.{box_inside}
 use Rattle.cip_problem.specs.Activity.{StandsBelow}
 use Rattle.cip_cert.specs.declared.rows.PoolRow.{PoolRow}
 use Rattle.cip_cert.specs.Lent.{KeptFits}
-use Rattle.cip_rows.specs.RowPools.{Pool, IsKept, is_full, with_row, most_pool_rows, most_ids, HaveScopesLike, usable_in}
+use Rattle.cip_rows.specs.RowPools.{Pool, IsSoundPool, is_full, with_row, most_pool_rows, most_ids, HaveScopesLike, usable_in}
 
 -- the first row's id is below the second's
 abbrev pub Before : PoolRow → PoolRow → Type 0
 Before a b = a.id < b.id
 
-pub one_more : (pool : Pool) (row : Row) (scope : List Sides) → IsKept pool → StandsBelow pool.columns row.terms → length scope ≡ pool.columns → is_full pool ≡ false → IsKept (with_row pool row scope)
+pub one_more : (pool : Pool) (row : Row) (scope : List Sides) → IsSoundPool pool → StandsBelow pool.columns row.terms → length scope ≡ pool.columns → is_full pool ≡ false → IsSoundPool (with_row pool row scope)
 one_more pool row scope k stands fits room =
     let parts = or_parts (length pool.rows == most_pool_rows) (pool.next == most_ids) room in
     let rows : length pool.rows ≢ most_pool_rows = eqb-false (length pool.rows) most_pool_rows parts.0 in
@@ -36,7 +36,7 @@ length-filtered p (x ∷ xs) = chosen (p x) (length-filtered p xs)
     chosen true h = omega (arith, h)
     chosen false h = omega (arith, h)
 
-pub some_kept : (pool : Pool) (p : PoolRow → Bool) → IsKept pool → IsKept (record pool { rows = filter p pool.rows })
+pub some_kept : (pool : Pool) (p : PoolRow → Bool) → IsSoundPool pool → IsSoundPool (record pool { rows = filter p pool.rows })
 some_kept pool p k = record {
   rising = AllPairs-filter Before p pool.rows k.rising;
   given = All-filter p (λ (kept : PoolRow). kept.id < pool.next) pool.rows k.given;
@@ -45,7 +45,7 @@ some_kept pool p k = record {
   ids = k.ids;
 }
 
-pub last_kept : (pool : Pool) (n : ℕ) → IsKept pool → IsKept (record pool { rows = drop n pool.rows })
+pub last_kept : (pool : Pool) (n : ℕ) → IsSoundPool pool → IsSoundPool (record pool { rows = drop n pool.rows })
 last_kept pool n k = record {
   rising = λ i j d h l. rw (get_or-drop n pool.rows i d, get_or-drop n pool.rows j d) (k.rising (n + i) (n + j) d (omega (arith, h)) (omega (arith, l, length-drop n pool.rows)));
   given = All-drop (λ (kept : PoolRow). kept.id < pool.next) n pool.rows k.given;

@@ -31,7 +31,7 @@ pub record Pool : Type 0 where
 
 -- the rows stand by rising id below the next one, each on columns of the pool and with a scope of as many, and there
 -- are no more rows and ids than the limits
-pub record IsKept (pool : Pool) : Type 0 where
+pub record IsSoundPool (pool : Pool) : Type 0 where
   pub rising : AreRising pool.rows
   pub given : All (λ kept. kept.id < pool.next) pool.rows
   pub fits : All (KeptFits pool.columns) pool.rows

@@ -4,7 +4,7 @@ ghost use Rattle.std.specs.List.{filter};
 ghost use Rattle.cip_problem.specs.Activity.{StandsBelow};
 ghost use Rattle.cip_cuts.specs.Cuts.{row_of};
 ghost use Rattle.cip_rows.specs.Mixed.{fingerprint};
-ghost use Rattle.cip_rows.specs.RowPools.{IsKept, usable_in, is_full, with_row, kept_pool_rows};
+ghost use Rattle.cip_rows.specs.RowPools.{IsSoundPool, usable_in, is_full, with_row, kept_pool_rows};
 ghost use Rattle.cip_rows.specs.Adding.{IsAdded};
 
 use crate::built::row_from;
@@ -43,7 +43,7 @@ pub struct RowPool {
 impl Model for RowPool {
     ghost use Rattle.cip_rows.specs.PoolCodes.{pool_code};
     ghost use Rattle.cip_rows.specs.RowIndex.{IsIndex};
-    ghost use Rattle.cip_rows.specs.RowPools.{Pool, IsKept};
+    ghost use Rattle.cip_rows.specs.RowPools.{Pool, IsSoundPool};
 
     ghost Value = { Pool };
 
@@ -51,7 +51,7 @@ impl Model for RowPool {
 
     ghost view = { λ p. record { columns = p.columns; rows = p.rows.items; next = p.next } };
 
-    ghost invariant = { λ p. IsKept (record { columns = p.columns; rows = p.rows.items; next = p.next })
+    ghost invariant = { λ p. IsSoundPool (record { columns = p.columns; rows = p.rows.items; next = p.next })
         × IsIndex p.rows.items p.entries.items };
 }
 
@@ -79,7 +79,7 @@ impl RowPool {
     /// The rows that are held, by rising id.
     pub fn rows(&self) -> &[PoolRow]
         ensures rows { result.now ≡ self.now.rows }
-        ensures kept { IsKept self.now }
+        ensures kept { IsSoundPool self.now }
     {
         self.rows.as_slice()
     }

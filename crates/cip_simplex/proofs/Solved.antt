@@ -7,7 +7,7 @@ use Rattle.cip_dictionary.specs.Dictionary.{Dictionary, size, stand}
 use Rattle.cip_dictionary.specs.Operations.{first_overflow}
 use Rattle.cip_dictionary.specs.FirstState.{is_column, variables_of, first_stand, first, first_operations}
 use Rattle.cip_dictionary.specs.ProgramState.{system_of, first_of_program}
-use Rattle.cip_dictionary.specs.declared.places.Place.{Place}
+use Rattle.cip_dictionary.specs.declared.places.EntryPlace.{EntryPlace}
 use Rattle.cip_dictionary.specs.declared.moves.Move.{Move}
 use Rattle.cip_bland.specs.MoveList.{run}
 use Rattle.cip_bland.specs.NoRepeat.{whole_run, whole_answer}
@@ -35,7 +35,7 @@ unfolding answer
 answer_in_range program limit e =
     ap (λ o. cond (is_some o) (OutOfRange []) (answer_of program (run limit (first_of_program program)))) e
 
-pub answer_out_of_range : (program : LinearProgram) (limit : ℕ) (place : Place) → first_overflow (first_operations (system_of program)) ≡ Some place → answer limit program ≡ OutOfRange []
+pub answer_out_of_range : (program : LinearProgram) (limit : ℕ) (place : EntryPlace) → first_overflow (first_operations (system_of program)) ≡ Some place → answer limit program ≡ OutOfRange []
 unfolding answer
 answer_out_of_range program limit place e =
     ap (λ o. cond (is_some o) (OutOfRange []) (answer_of program (run limit (first_of_program program)))) e
@@ -70,7 +70,7 @@ from_in_range program start limit e = (
   ap (λ o. cond (is_some o) (first_of_program program) (last_on limit (begun program start).wide (begun program start))) e,
 )
 
-pub from_out_of_range : (program : LinearProgram) (start : Stands) (limit : ℕ) (place : Place) → first_overflow (first_operations (system_of program)) ≡ Some place → (answer_from limit program start ≡ OutOfRange []) × (last_from limit program start ≡ first_of_program program)
+pub from_out_of_range : (program : LinearProgram) (start : Stands) (limit : ℕ) (place : EntryPlace) → first_overflow (first_operations (system_of program)) ≡ Some place → (answer_from limit program start ≡ OutOfRange []) × (last_from limit program start ≡ first_of_program program)
 unfolding answer_from last_from
 from_out_of_range program start limit place e = (
   ap (λ o. cond (is_some o) (OutOfRange []) (answer_on program limit (begun program start).wide (begun program start))) e,
@@ -84,7 +84,7 @@ unfolding whole_answer whole_run
 whole_in_range program e =
     answer_in_range program (4 ^ variables program) e ∙ ap (λ n. answer_of program (run (4 ^ n) (first_of_program program))) (sym (first_size program))
 
-pub whole_out_of_range : (program : LinearProgram) (place : Place) → first_overflow (first_operations (system_of program)) ≡ Some place → whole_answer program ≡ OutOfRange []
+pub whole_out_of_range : (program : LinearProgram) (place : EntryPlace) → first_overflow (first_operations (system_of program)) ≡ Some place → whole_answer program ≡ OutOfRange []
 unfolding whole_answer
 whole_out_of_range program place e = answer_out_of_range program (4 ^ variables program) place e
 

@@ -16,7 +16,7 @@ use Rattle.cip_number_text.specs.Numeral.{signed}
 use Rattle.cip_number_text.proofs.InRange.{IsSound}
 use Rattle.cip_text.specs.declared.reading.Reading.{Reading}
 use Rattle.cip_text.specs.declared.reading.Reading.TheVariants.{Fits, NoNumber, Large, Fine}
-use Rattle.cip_text.specs.Readings.{said, IsKept}
+use Rattle.cip_text.specs.Readings.{said, FitsRange}
 
 abbrev read : ℤ → ℤ
 read z = to_z w128 (of_z w128 z)
@@ -62,7 +62,7 @@ module _ (negative : Bool) (size below : ℕ) (p q : ℤ) (p_is : p ≡ signed n
       let e : true ≡ false = sym fits ∙ ap fits_range (sym quotient_read) ∙ f.1 in
       absurd (cc)
 
-pub kept_reading : (reading : Reading) → IsSound (said reading) → IsKept reading
+pub kept_reading : (reading : Reading) → IsSound (said reading) → FitsRange reading
 kept_reading (Fits negative size below) s = let t = s.told negative size below refl in (t.small_size, t.positive, t.small_below)
 kept_reading NoNumber s = tt
 kept_reading (Large negative) s = tt

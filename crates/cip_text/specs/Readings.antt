@@ -13,8 +13,8 @@ said (Large negative) = Huge negative
 said Fine = TooFine
 
 -- both numbers of a fraction are at most 2^127-1, and the lower one is not 0
-abbrev pub IsKept : Reading → Type 0
-IsKept (Fits negative size below) = (size ≤ largest) × (0 < below) × (below ≤ largest)
-IsKept NoNumber = Unit {0}
-IsKept (Large negative) = Unit {0}
-IsKept Fine = Unit {0}
+abbrev pub FitsRange : Reading → Type 0
+FitsRange (Fits negative size below) = (size ≤ largest) × (0 < below) × (below ≤ largest)
+FitsRange NoNumber = Unit {0}
+FitsRange (Large negative) = Unit {0}
+FitsRange Fine = Unit {0}

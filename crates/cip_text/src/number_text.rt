@@ -4,7 +4,7 @@ ghost use Rattle.cip_rational.specs.Rational.{ratio};
 ghost use Rattle.cip_rational.specs.Range.{largest};
 ghost use Rattle.cip_number_text.specs.Numeral as text;
 ghost use Rattle.cip_text.specs.NumberFaults.{faulty};
-ghost use Rattle.cip_text.specs.Readings.{said, IsKept};
+ghost use Rattle.cip_text.specs.Readings.{said, FitsRange};
 
 use crate::decide::with_exponent;
 use crate::parts::{cut, cut_at_mark, is_minus, make_number, without_sign};
@@ -75,7 +75,7 @@ fn reduced(negative: bool, size: u128, below: u128) -> Frac
 
 /// The value of what was read.
 pub(crate) fn value_of(reading: Reading) -> Result<Frac, NumberFault>
-    requires { IsKept reading }
+    requires { FitsRange reading }
     ensures { MatchResult result (λ value. text.value_of (said reading) ≡ Some value)
         (λ fault. said reading ≡ faulty fault) }
 {

@@ -1,5 +1,5 @@
 //! Lines of free MPS, read by hand.
-use cip_mps_lines::{Line, Place, said};
+use cip_mps_lines::{Line, LinePlace, said};
 use cip_text::lines;
 use std::alloc::Global;
 
@@ -53,7 +53,7 @@ const KINDS: [&str; 20] = [
 
 /// So many lines of the text are of the kinds of the list.
 fn count_of_right_kinds(alloc: Global) -> usize {
-    let mut place = Place::new(alloc);
+    let mut place = LinePlace::new(alloc);
     let mut records = lines(TEXT.as_bytes(), b'*');
     for at in 0..KINDS.len() {
         let Some(record) = records.next_line() else {

@@ -12,7 +12,7 @@ use Rattle.cip_tree.specs.declared.kept.Stage.{Stage}
 use Rattle.cip_tree.specs.declared.kept.Stage.TheVariants.{Open, Taken, Parked, Ended}
 use Rattle.cip_tree.specs.declared.queue.OpenNode.{OpenNode}
 use Rattle.cip_tree.specs.Queue.{is_below}
-use Rattle.cip_tree.specs.Slots.{Slot, Slots, slot_at, above, HasParent, IsIdle, IsKept, IsReleased}
+use Rattle.cip_tree.specs.Slots.{Slot, Slots, slot_at, above, HasParent, IsIdle, AreSoundSlots, IsReleased}
 use Rattle.cip_tree.specs.Moves.{is_cheaper}
 use Rattle.cip_tree.specs.Inside.{nodes_at, base_if, base_of, bases, is_waiting, is_taken, is_aside, has_stage, StandsAs, is_at, IsInOrder}
 use Rattle.cip_tree.specs.Freed.{dearer, AreElsewhere, AreReleased}
@@ -43,7 +43,7 @@ none_released slots = record {
   others = λ test a b. refl;
 }
 
-pub one_released : (old new : Slots) (node : OpenNode) → IsReleased old new node.place → IsKept new → StandsAs Open old node → AreReleased old new (node ∷ [])
+pub one_released : (old new : Slots) (node : OpenNode) → IsReleased old new node.place → AreSoundSlots new → StandsAs Open old node → AreReleased old new (node ∷ [])
 one_released old new node r kept stands = record {
   live = λ place slot d e f. r.live place slot (λ same. d 0 node (omega arith) (sym same)) e f;
   left = λ place slot e. (
@@ -94,7 +94,7 @@ next_released old now new cost nodes at node l e h k =
 pub dearer_one : (cost : ℚ) (node : OpenNode) (old new : Slots) → is_below cost node ≡ false → AreReleased old new (node ∷ []) → AreReleased old new (dearer cost (node ∷ []))
 dearer_one cost node old new e h = subst (λ b. AreReleased old new (cond (not b) (node ∷ []) [])) (sym e) h
 
-pub open_is_idle : (slots : Slots) (node : OpenNode) → IsKept slots → StandsAs Open slots node → IsIdle slots node.place
+pub open_is_idle : (slots : Slots) (node : OpenNode) → AreSoundSlots slots → StandsAs Open slots node → IsIdle slots node.place
 open_is_idle slots node kept s = live_is_idle slots node.place s.slot kept s.found (open_not_ended s.slot.stage s.stage_is)
 
 -- ---- what stands then
@@ -103,13 +103,13 @@ open_is_idle slots node kept s = live_is_idle slots node.place s.slot kept s.fou
 abbrev pub Anywhere : ℕ → Type 0
 Anywhere k = Unit {0}
 
-pub freed_keeps : (old new : Slots) (gone : List OpenNode) → AreReleased old new gone → IsKept new → KeepsPaths old new Anywhere
+pub freed_keeps : (old new : Slots) (gone : List OpenNode) → AreReleased old new gone → AreSoundSlots new → KeepsPaths old new Anywhere
 freed_keeps old new gone r kept = record {
   same = λ k s d e. (r.left k s e).1;
   up = λ k s o d e f. let p : HasParent new s o = subst (λ x. IfSome x (HasParent new s)) f (kept.parents k s e) in (tt, (p.parent, p.found));
 }
 
-module _ (old new : Slots) (gone : List OpenNode) (r : AreReleased old new gone) (kept : IsKept new) (open_ : All (StandsAs Open old) gone) where
+module _ (old new : Slots) (gone : List OpenNode) (r : AreReleased old new gone) (kept : AreSoundSlots new) (open_ : All (StandsAs Open old) gone) where
   -- a node at another stage stands still
   stands_still : (k : ℕ) (t : Slot) → slot_at old k ≡ Some t → t.stage ≢ Open → t.stage ≢ Ended → slot_at new k ≡ Some t
   stands_still k t e d f = r.live k t (stage_apart Open old k t gone e d open_) e f
@@ -130,7 +130,7 @@ module _ (old new : Slots) (gone : List OpenNode) (r : AreReleased old new gone)
     | inr (s, e) ↦ same_base old new Anywhere (freed_keeps old new gone r kept) k s tt e
   ] ∙ sym (bases_at old k)
 
-module _ (box : List Sides) (old new : Slots) (cost : ℚ) (q more p : List OpenNode) (ids work : ℕ) (o : IsInOrder old q p ids work) (r : AreReleased old new (dearer cost q)) (kept : IsKept new) (perm : IsPermutation (filter (is_below cost) q) more) where
+module _ (box : List Sides) (old new : Slots) (cost : ℚ) (q more p : List OpenNode) (ids work : ℕ) (o : IsInOrder old q p ids work) (r : AreReleased old new (dearer cost q)) (kept : AreSoundSlots new) (perm : IsPermutation (filter (is_below cost) q) more) where
   gone_open : All (StandsAs Open old) (dearer cost q)
   gone_open = All-filter (λ n. not (is_below cost n)) (StandsAs Open old) q o.waiting
 

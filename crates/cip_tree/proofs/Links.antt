@@ -3,7 +3,7 @@ use Rattle.std.proofs.Common.{◌≡◌, ◌↔◌, ℕ, zero, suc, length, IsSo
 use Rattle.std.proofs.lemmas.Option.{same_Some}
 use Rattle.cip_domain.specs.Changes.{Change}
 use Rattle.cip_tree.specs.declared.kept.Origin.{Origin}
-use Rattle.cip_tree.specs.Slots.{Slot, Slots, slot_at, changes_of, above, HasParent, IsKept, IsBelow, IsLinked}
+use Rattle.cip_tree.specs.Slots.{Slot, Slots, slot_at, changes_of, above, HasParent, AreSoundSlots, IsBelow, IsLinked}
 use Rattle.cip_tree.specs.Nodes.{Base}
 use Rattle.cip_tree.specs.Inside.{bases}
 use Rattle.cip_tree.proofs.Paths.{in_work}
@@ -35,10 +35,10 @@ below_of : (slots : Slots) (slot : Slot) (o : Option Origin) → IfSome o (HasPa
 below_of slots slot None h = tt
 below_of slots slot (Some o) h = record { parent = h.parent; found = h.found; lower = h.lower }
 
-pub up_of_kept : (slots : Slots) → IsKept slots → (place : ℕ) (slot : Slot) → slot_at slots place ≡ Some slot → IfSome slot.origin (IsBelow slots slot.number)
+pub up_of_kept : (slots : Slots) → AreSoundSlots slots → (place : ℕ) (slot : Slot) → slot_at slots place ≡ Some slot → IfSome slot.origin (IsBelow slots slot.number)
 up_of_kept slots h place slot e = below_of slots slot slot.origin (h.parents place slot e)
 
-pub linked : (slots : Slots) (place number : ℕ) (base : Base) (o : Option Origin) → IsKept slots → get_or (bases slots) place None ≡ Some base → base.number ≡ number → ((slot : Slot) → slot_at slots place ≡ Some slot → o ≡ slot.origin) → IsLinked slots number o
+pub linked : (slots : Slots) (place number : ℕ) (base : Base) (o : Option Origin) → AreSoundSlots slots → get_or (bases slots) place None ≡ Some base → base.number ≡ number → ((slot : Slot) → slot_at slots place ≡ Some slot → o ≡ slot.origin) → IsLinked slots number o
 linked slots place number base o kept w e f =
     let s = in_work slots place base w in
     record {

@@ -19,7 +19,7 @@ use Rattle.cip_tree.specs.declared.kept.Stage.{Stage}
 use Rattle.cip_tree.specs.declared.kept.Stage.TheVariants.{Open, Taken, Parked, Ended}
 use Rattle.cip_tree.specs.declared.queue.OpenNode.{OpenNode}
 use Rattle.cip_tree.specs.Nodes.{Base, Nodes}
-use Rattle.cip_tree.specs.Slots.{Slot, Slots, slot_at, above, changes_at, slot_changes, origin_is, comes_from, HasParent, IsIdle, IsKept, IsRestaged, IsReleased}
+use Rattle.cip_tree.specs.Slots.{Slot, Slots, slot_at, above, changes_at, slot_changes, origin_is, comes_from, HasParent, IsIdle, AreSoundSlots, IsRestaged, IsReleased}
 use Rattle.cip_tree.specs.Inside.{node_at, nodes_at, base_if, base_of, bases, is_waiting, is_taken, is_aside, has_stage, StandsAs, IsInOrder}
 use Rattle.cip_tree.proofs.Keeping.{one_if, sum_changed, sum_same, slot_within, none_or_slot, same_slot}
 use Rattle.cip_tree.proofs.Paths.{KeepsPaths, same_base, bases_at, IsInWork, in_work, nodes_same, stage_apart, stand_still, changes_still, first_apart, added_apart}
@@ -191,7 +191,7 @@ module _ (box : List Sides) (old new : Slots) (n : ℕ) (had notes : List Change
 
 -- ---- a node in work is let go
 
-origin_apart : (old : Slots) (n : ℕ) (slot : Slot) → IsKept old → slot_at old n ≡ Some slot → slot.stage ≢ Ended → (s : Slot) (o : Option Origin) → IfSome o (HasParent old s) → origin_is n o ≡ false
+origin_apart : (old : Slots) (n : ℕ) (slot : Slot) → AreSoundSlots old → slot_at old n ≡ Some slot → slot.stage ≢ Ended → (s : Slot) (o : Option Origin) → IfSome o (HasParent old s) → origin_is n o ≡ false
 origin_apart old n slot kept e live s None p = refl
 origin_apart old n slot kept e live s (Some o) p = unlike o.parent n (λ same. live (ap (λ (t : Slot). t.stage) (same_slot old n slot p.parent e (ap (slot_at old) (sym same) ∙ p.found)) ∙ p.ended))
   where
@@ -199,7 +199,7 @@ origin_apart old n slot kept e live s (Some o) p = unlike o.parent n (λ same. l
     unlike a b d = grind arith
 
 -- a node that has not ended has none below it
-pub live_is_idle : (old : Slots) (n : ℕ) (slot : Slot) → IsKept old → slot_at old n ≡ Some slot → slot.stage ≢ Ended → IsIdle old n
+pub live_is_idle : (old : Slots) (n : ℕ) (slot : Slot) → AreSoundSlots old → slot_at old n ≡ Some slot → slot.stage ≢ Ended → IsIdle old n
 live_is_idle old n slot kept e live =
     let none : (k : ℕ) → one_if (comes_from n (slot_at old k)) ≡ 0 = λ k. elim (none_or_slot (slot_at old k)) [
       | inl f ↦ ap (λ o. one_if (comes_from n o)) f
@@ -211,7 +211,7 @@ live_is_idle old n slot kept e live =
       none_below = kept.counts n slot e ∙ sym (sum_same (λ o. one_if (comes_from n o)) None refl old [] (λ k. sym (none k)));
     }
 
-module _ (old new : Slots) (n : ℕ) (r : IsReleased old new n) (kept : IsKept new) where
+module _ (old new : Slots) (n : ℕ) (r : IsReleased old new n) (kept : AreSoundSlots new) where
   abbrev Anywhere : ℕ → Type 0
   Anywhere k = Unit {0}
 
@@ -277,7 +277,7 @@ module _ (box : List Sides) (old new : Slots) (n : ℕ) (q p : List OpenNode) (i
   pub taken_kept : (slot : Slot) × (slot_at old n ≡ Some slot)
   taken_kept = let s = in_work old n base w in (s.slot, s.found)
 
-  module _ (r : IsReleased old new n) (kept : IsKept new) where
+  module _ (r : IsReleased old new n) (kept : AreSoundSlots new) where
     closed_waiting : All (StandsAs Open new) q
     closed_waiting =
         let s = in_work old n base w in

@@ -16,7 +16,7 @@ use Rattle.cip_tree.specs.declared.kept.Stage.TheVariants.{Open, Taken, Parked, 
 use Rattle.cip_tree.specs.declared.kept.Origin.{Origin}
 use Rattle.cip_tree.specs.declared.queue.OpenNode.{OpenNode}
 use Rattle.cip_tree.specs.Nodes.{Base}
-use Rattle.cip_tree.specs.Slots.{Slot, Slots, slot_at, open_slot, origin_is, comes_from, above, slot_changes, changes_at, HasParent, IsKept, IsParted}
+use Rattle.cip_tree.specs.Slots.{Slot, Slots, slot_at, open_slot, origin_is, comes_from, above, slot_changes, changes_at, HasParent, AreSoundSlots, IsParted}
 use Rattle.cip_tree.specs.Inside.{node_at, nodes_at, base_of, bases, is_waiting, is_taken, is_aside, has_stage, StandsAs, IsInOrder}
 use Rattle.cip_tree.proofs.Keeping.{one_if, count_changed, sum_same, none_or_slot, same_slot, slot_within}
 use Rattle.cip_tree.proofs.Paths.{KeepsPaths, same_above, same_base, bases_at, IsInWork, in_work, nodes_same, stage_apart, stand_still, changes_still, added_apart}
@@ -157,7 +157,7 @@ module _ (box : List Sides) (old new : Slots) (n : ℕ) (notes : List Change) (l
       lower = subst (λ m. up.parent.number < m) e up.lower;
     }
 
-    pub part_kept : IsKept new
+    pub part_kept : AreSoundSlots new
     part_kept = record {
       parents = λ k s e. elim (split_now k s e) [
         | inl b ↦ old_parent s b.0 b.2 s.origin (subst (λ x. IfSome x (HasParent old b.0)) b.3 (o.kept.parents k b.0 b.1))

@@ -6,12 +6,12 @@ use Rattle.cip_domain.specs.Changes.{Change}
 use Rattle.cip_tree.specs.declared.kept.Stage.{Stage}
 use Rattle.cip_tree.specs.declared.kept.Stage.TheVariants.{Ended}
 use Rattle.cip_tree.specs.declared.kept.Origin.{Origin}
-use Rattle.cip_tree.specs.Slots.{Slot, Slots, slot_at, comes_from, above, slot_changes, changes_at, HasParent, IsKept, IsRestaged}
+use Rattle.cip_tree.specs.Slots.{Slot, Slots, slot_at, comes_from, above, slot_changes, changes_at, HasParent, AreSoundSlots, IsRestaged}
 use Rattle.cip_tree.specs.Inside.{base_of, has_stage}
 use Rattle.cip_tree.proofs.Keeping.{one_if, count_changed, none_or_slot, same_slot}
 use Rattle.cip_tree.proofs.Paths.{KeepsPaths, same_above, same_base}
 
-module _ (old new : Slots) (n : ℕ) (had notes : List Change) (stage : Stage) (h : IsRestaged old new n had notes stage) (kept : IsKept old) (live : h.slot.stage ≢ Ended) (still : stage ≢ Ended) where
+module _ (old new : Slots) (n : ℕ) (had notes : List Change) (stage : Stage) (h : IsRestaged old new n had notes stage) (kept : AreSoundSlots old) (live : h.slot.stage ≢ Ended) (still : stage ≢ Ended) where
   -- no parent stands there
   parent_apart : (s : Slot) (o : Origin) → HasParent old s o → o.parent ≢ n
   parent_apart s o p e = live (ap (λ (t : Slot). t.stage) (same_slot old n h.slot p.parent h.was (ap (slot_at old) (sym e) ∙ p.found)) ∙ p.ended)
@@ -37,7 +37,7 @@ module _ (old new : Slots) (n : ℕ) (had notes : List Change) (stage : Stage) (
   same_counts : (k : ℕ) → count_by (comes_from k) new ≡ count_by (comes_from k) old
   same_counts k = omega (arith, count_changed (comes_from k) refl old new n h.others, ap (λ o. one_if (comes_from k o)) h.was, ap (λ o. one_if (comes_from k o)) h.now)
 
-  pub kept_new : IsKept new
+  pub kept_new : AreSoundSlots new
   kept_new = record {
     parents = λ k s e. let w = was_there k s e in has_parent s w.0 w.3 s.origin (subst (λ o. IfSome o (HasParent old w.0)) w.2 (kept.parents k w.0 w.1));
     counts = λ k s e. let w = was_there k s e in sym w.4 ∙ kept.counts k w.0 w.1 ∙ sym (same_counts k);

@@ -6,7 +6,7 @@ use Rattle.std.proofs.lemmas.List.Elements.{All-cons, All-nil}
 use Rattle.std.proofs.lemmas.List.Sums.{sum_by-cons}
 use Rattle.cip_tree.specs.declared.kept.Stage.TheVariants.{Open, Parked, Ended}
 use Rattle.cip_tree.specs.declared.queue.OpenNode.{OpenNode}
-use Rattle.cip_tree.specs.Slots.{Slot, Slots, slot_at, open_slot, comes_from, changes_at, slot_changes, HasParent, IsKept}
+use Rattle.cip_tree.specs.Slots.{Slot, Slots, slot_at, open_slot, comes_from, changes_at, slot_changes, HasParent, AreSoundSlots}
 use Rattle.cip_problem.specs.Program.{Sides}
 use Rattle.cip_problem.specs.Log.{Node}
 use Rattle.cip_domain.specs.Changes.{narrowed}
@@ -31,7 +31,7 @@ module _ (slots : Slots) (place : ℕ) (here : slot_at slots place ≡ Some (ope
       ] in
       sym (sum_same (λ o. one_if (test o)) None (ap one_if e) slots [] (λ k. ap one_if e ∙ sym (none k)))
 
-  root_is_kept : IsKept slots
+  root_is_kept : AreSoundSlots slots
   root_is_kept = record {
     parents = λ k s e. subst (λ (t : Slot). IfSome t.origin (HasParent slots t)) (only_root k s e).1 tt;
     counts = λ k s e. sym (ap (λ (t : Slot). t.below) (only_root k s e).1) ∙ sym (none_counted (comes_from k) refl refl);

@@ -12,7 +12,7 @@ use Rattle.cip_tree.specs.declared.kept.Stage.{Stage}
 use Rattle.cip_tree.specs.declared.kept.Stage.TheVariants.{Open, Taken, Parked, Ended}
 use Rattle.cip_tree.specs.declared.kept.Origin.{Origin}
 use Rattle.cip_tree.specs.declared.queue.OpenNode.{OpenNode}
-use Rattle.cip_tree.specs.Slots.{Slot, Slots, slot_at, open_slot, above, IsKept, IsRestaged, IsReleased, IsParted, slot_changes, changes_at}
+use Rattle.cip_tree.specs.Slots.{Slot, Slots, slot_at, open_slot, above, AreSoundSlots, IsRestaged, IsReleased, IsParted, slot_changes, changes_at}
 use Rattle.cip_tree.specs.Nodes.{Base}
 use Rattle.cip_tree.specs.Inside.{bases, StandsAs, IsInOrder, node_at, nodes_at}
 use Rattle.cip_tree.specs.Freed.{AreReleased}
@@ -82,7 +82,7 @@ module _ (root : Node) (integral : List Bool) (old new : Slots) (ids : ℕ) (log
   }
 
   -- a live node has one entry more
-  module _ (entry : Entry) (n : ℕ) (here : Slot) (kept : IsKept old) (found : slot_at old n ≡ Some here) (live : is_live here.stage ≡ true) (number : here.number ≡ entry.node) where
+  module _ (entry : Entry) (n : ℕ) (here : Slot) (kept : AreSoundSlots old) (found : slot_at old n ≡ Some here) (live : is_live here.stage ≡ true) (number : here.number ≡ entry.node) where
     abbrev pub node_given : IsGiven root.box old (given_by root log) here
     node_given = t.given n here found
 
@@ -156,7 +156,7 @@ module _ (root : Node) (integral : List Bool) (slots : Slots) (ids : ℕ) (log :
 
 -- ---- a node has another stage
 
-module _ (old new : Slots) (n : ℕ) (had notes : List Change) (stage : Stage) (h : IsRestaged old new n had notes stage) (kept : IsKept old) (live : is_live h.slot.stage ≡ true) (still : stage ≢ Ended) where
+module _ (old new : Slots) (n : ℕ) (had notes : List Change) (stage : Stage) (h : IsRestaged old new n had notes stage) (kept : AreSoundSlots old) (live : is_live h.slot.stage ≡ true) (still : stage ≢ Ended) where
   restaged_kept : AllWereKept old new
   restaged_kept k s e = elim (cases_eq k n) [
     | inl same ↦
@@ -178,7 +178,7 @@ module _ (old new : Slots) (n : ℕ) (had notes : List Change) (stage : Stage) (
     }
   ]
 
-released_kept : (old new : Slots) (n : ℕ) (r : IsReleased old new n) (kept : IsKept new) → AllWereKept old new
+released_kept : (old new : Slots) (n : ℕ) (r : IsReleased old new n) (kept : AreSoundSlots new) → AllWereKept old new
 released_kept old new n r kept k s e = record {
   before = record s { below = (r.left k s e).0 };
   found = (r.left k s e).1;
@@ -187,7 +187,7 @@ released_kept old new n r kept k s e = record {
   live = λ l. l;
 }
 
-freed_kept : (old new : Slots) (gone : List OpenNode) (r : AreReleased old new gone) (kept : IsKept new) → AllWereKept old new
+freed_kept : (old new : Slots) (gone : List OpenNode) (r : AreReleased old new gone) (kept : AreSoundSlots new) → AllWereKept old new
 freed_kept old new gone r kept k s e = record {
   before = record s { below = (r.left k s e).1.0 };
   found = (r.left k s e).1.1;
@@ -198,7 +198,7 @@ freed_kept old new gone r kept k s e = record {
 
 -- ---- the calls
 
-module _ (root : Node) (integral : List Bool) (old new : Slots) (ids : ℕ) (log : List Entry) (t : IsTracked root integral old ids log) (kept : IsKept old) where
+module _ (root : Node) (integral : List Bool) (old new : Slots) (ids : ℕ) (log : List Entry) (t : IsTracked root integral old ids log) (kept : AreSoundSlots old) where
   -- the first node is taken
   pub tracked_first : (e : OpenNode) (had none : List Change) → StandsAs Open old e → IsRestaged old new e.place had none Taken → IsTracked root integral new ids log
   tracked_first e had none s h =
@@ -231,14 +231,14 @@ module _ (root : Node) (integral : List Bool) (old new : Slots) (ids : ℕ) (log
         (λ k s f l same. let p : record h.slot { notes = notes; stage = Parked } ≡ s = same_Some _ _ (sym h.now ∙ ap (slot_at new) (sym same) ∙ f) in let g : false ≡ true = ap (λ (x : Slot). is_live x.stage) p ∙ l in cc)
 
     -- it is closed
-    pub tracked_closed : (number : ℕ) (bound : Option ℚ) → base.number ≡ number → IsReleased old new n → IsKept new → IsTracked root integral new ids (log ++ record { node = number; bound = bound; end = Closed } ∷ [])
+    pub tracked_closed : (number : ℕ) (bound : Option ℚ) → base.number ≡ number → IsReleased old new n → AreSoundSlots new → IsTracked root integral new ids (log ++ record { node = number; bound = bound; end = Closed } ∷ [])
     tracked_closed number bound e r now =
         ended_log root integral old new ids log t (record { node = number; bound = bound; end = Closed }) n work_slot.slot kept work_slot.found work_live (work_slot.number ∙ e) tt (none_closed (node_of (given_by root log) number) bound)
         (released_kept old new n r now)
         (λ k s f l same. none-some s (sym r.gone ∙ ap (slot_at new) (sym same) ∙ f))
 
   -- open nodes are let go
-  pub tracked_freed : (gone : List OpenNode) → AreReleased old new gone → IsKept new → IsTracked root integral new ids log
+  pub tracked_freed : (gone : List OpenNode) → AreReleased old new gone → AreSoundSlots new → IsTracked root integral new ids log
   tracked_freed gone r now = same_log root integral old new ids log t (freed_kept old new gone r now)
 
 -- ---- a node is split

@@ -6,7 +6,7 @@ use Rattle.cip_domain.specs.Changes.{narrowed}
 use Rattle.cip_tree.specs.declared.kept.Stage.{Stage}
 use Rattle.cip_tree.specs.declared.kept.Stage.TheVariants.{Open, Taken, Parked, Ended}
 use Rattle.cip_tree.specs.declared.queue.OpenNode.{OpenNode}
-use Rattle.cip_tree.specs.Slots.{Slot, Slots, slot_at, above, changes_at, IsKept}
+use Rattle.cip_tree.specs.Slots.{Slot, Slots, slot_at, above, changes_at, AreSoundSlots}
 use Rattle.cip_tree.specs.Nodes.{Base}
 
 -- a node that is kept at a place
@@ -73,7 +73,7 @@ is_at place node = node.place == place
 -- the open and the parked nodes stand in slots of their own, and there are so many nodes in work; no other node is kept
 -- but those that ended and have one below
 pub record IsInOrder (slots : Slots) (open_ parked : List OpenNode) (ids in_work : ℕ) : Type 0 where
-  pub kept : IsKept slots
+  pub kept : AreSoundSlots slots
   pub given : (place : ℕ) (slot : Slot) → slot_at slots place ≡ Some slot → slot.number < ids
   pub waiting : All (StandsAs Open slots) open_
   pub once : (place : ℕ) → count_by (is_at place) open_ ≤ 1

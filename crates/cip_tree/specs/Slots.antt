@@ -79,8 +79,8 @@ pub record IsKeptBut (idle : Option ℕ) (slots : Slots) : Type 0 where
       → slot_at slots place ≡ Some slot → slot.stage ≡ Ended → idle ≢ Some place → 0 < slot.below
 
 -- the same with nothing to let go
-abbrev pub IsKept : Slots → Type 0
-IsKept slots = IsKeptBut None slots
+abbrev pub AreSoundSlots : Slots → Type 0
+AreSoundSlots slots = IsKeptBut None slots
 
 -- a node has the one at a place as parent
 pub record IsUsed (slots : Slots) (place : ℕ) : Type 0 where

@@ -1,7 +1,7 @@
 //! Open nodes are let go by their bounds.
 ghost use Rattle.std.specs.Prelude.{◌≡◌, ◌≤◌, ◌∷◌, [], ℕ, All, count_by};
 ghost use Rattle.cip_tree.specs.declared.kept.Stage.TheVariants.{Open};
-ghost use Rattle.cip_tree.specs.Slots.{IsKept};
+ghost use Rattle.cip_tree.specs.Slots.{AreSoundSlots};
 ghost use Rattle.cip_tree.specs.Inside.{StandsAs, is_at};
 ghost use Rattle.cip_tree.specs.Freed.{AreReleased, dearer};
 
@@ -12,10 +12,10 @@ use slab::Slab;
 
 /// Lets go of an open node if its bound is at least a cost, and of nodes that ended and that only it needed.
 fn release_dear(kept: &mut Slab<Kept>, node: &OpenNode, cost: Frac)
-    requires kept { IsKept kept.old.slots }
+    requires kept { AreSoundSlots kept.old.slots }
     requires waiting { StandsAs Open kept.old.slots node.now }
     ensures slots { AreReleased kept.old.slots kept.new.slots (dearer cost (node.now ∷ [])) }
-    ensures kept { IsKept kept.new.slots }
+    ensures kept { AreSoundSlots kept.new.slots }
     ensures capacity { kept.new.capacity ≡ kept.old.capacity }
 {
     if !stays(node.bound, cost) {
@@ -25,11 +25,11 @@ fn release_dear(kept: &mut Slab<Kept>, node: &OpenNode, cost: Frac)
 
 /// Lets go of the nodes whose bound is at least a cost, and of those that ended and that only they needed.
 pub(crate) fn release_from(kept: &mut Slab<Kept>, nodes: &[OpenNode], cost: Frac)
-    requires kept { IsKept kept.old.slots }
+    requires kept { AreSoundSlots kept.old.slots }
     requires waiting { All (StandsAs Open kept.old.slots) nodes.now }
     requires once { (place : ℕ) → count_by (is_at place) nodes.now ≤ 1 }
     ensures slots { AreReleased kept.old.slots kept.new.slots (dearer cost nodes.now) }
-    ensures kept { IsKept kept.new.slots }
+    ensures kept { AreSoundSlots kept.new.slots }
     ensures capacity { kept.new.capacity ≡ kept.old.capacity }
 {
     for node in nodes {

@@ -1,7 +1,7 @@
 //! What is kept of nodes: each has the change that made it and what its own work noted; the rest is its parent's.
 ghost use Rattle.std.specs.Prelude.{◌≡◌, ◌+◌, IfSome, Some};
 ghost use Rattle.slab.specs.Slab.{ContainsKey, HasRoomFor, slab_len};
-ghost use Rattle.cip_tree.specs.Slots.{Slot, slot_at, IsRestaged, IsParted, IsLowered, IsReleased, IsUsed, IsIdle, IsUnused, IsKeptBut, IsKept, open_slot};
+ghost use Rattle.cip_tree.specs.Slots.{Slot, slot_at, IsRestaged, IsParted, IsLowered, IsReleased, IsUsed, IsIdle, IsUnused, IsKeptBut, AreSoundSlots, open_slot};
 
 use cip_domain::Change;
 use slab::Slab;
@@ -140,9 +140,9 @@ fn let_go(kept: &mut Slab<Kept>, place: usize) -> Option<usize>
 /// Lets go of a node that none has as parent, and of those that ended and that only it needed.
 pub(crate) fn release(kept: &mut Slab<Kept>, place: usize)
     requires idle { IsIdle kept.old.slots place }
-    requires kept { IsKept kept.old.slots }
+    requires kept { AreSoundSlots kept.old.slots }
     ensures slots { IsReleased kept.old.slots kept.new.slots place }
-    ensures kept { IsKept kept.new.slots }
+    ensures kept { AreSoundSlots kept.new.slots }
     ensures capacity { kept.new.capacity ≡ kept.old.capacity }
 {
     let mut next = let_go(kept, place);

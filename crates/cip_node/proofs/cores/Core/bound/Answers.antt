@@ -4,7 +4,7 @@ use Rattle.cip_problem.specs.WellFormed.{columns}
 use Rattle.cip_cuts.specs.Improving.{IsBoundIn, IsNoDearer}
 use Rattle.cip_search.specs.Relaxation.{IsRelaxedBound}
 use Rattle.cip_search.proofs.Bounds.{no_more_itself}
-use Rattle.cip_rows.specs.RowPools.{IsKept as IsKeptPool}
+use Rattle.cip_rows.specs.RowPools.{IsSoundPool as IsKeptPool}
 use Rattle.cip_tree.specs.Nodes.{box_of}
 use Rattle.cip_node_bounds.specs.NodeRows.{usable_rows}
 use Rattle.cip_node_bounds.specs.Relaxing.{node_program, IsRelaxed, IsMark}

@@ -7,7 +7,7 @@ use Rattle.cip_leaf.specs.LeafAnswers.{IsBest, IsLeafAnswer, shown_as}
 use Rattle.cip_model.specs.Verdicts.{verdict_of}
 use Rattle.cip_tree.specs.Nodes.{box_of}
 use Rattle.cip_node.specs.KeptNodes.{cost_held, IsKept}
-use Rattle.cip_node.specs.NodeEnds.{IsEmptied, IsSolved, IsAside, IsEndless}
+use Rattle.cip_node.specs.NodeEnds.{IsEmptied, IsSolvedLeaf, IsAside, IsEndless}
 use Rattle.cip_node.proofs.EndLaws.{same_work, solved_end, emptied_end, endless_end, aside_end}
 use Rattle.cip_node.proofs.Offering.{itself}
 use Rattle.cip_node.proofs.LeafSettled.{none_there, best_settles}
@@ -54,8 +54,8 @@ returns-in-Best-clause-end c =
     let none = best_settles c.args.self.now.program.now (box_of c.args.self.now.tree c.args.node) c.args.solved.values.items c.as_slice.result.now c.in-Best.cost c.args.self.now.incumbent c.offer_at-answer.new.self.incumbent c.offer_at-answer.result c.requires.only b c.offer_at-answer.ensures.answer c.offer_at-answer.ensures.after in
     let kept = subst (λ s. IsKept s.program.now c.close_empty.new.self.tree (cost_held c.offer_at-answer.new.self.incumbent) []) c.offer_at-answer.ensures.frame
     (subst (λ s. IsKept s.program.now c.close_empty.new.self.tree (cost_held s.incumbent) []) c.close_empty.ensures.frame c.close_empty.ensures.kept) in
-    subst (λ s. IsSolved s.program.now (cost_held s.incumbent) c.args.self.now.tree c.close_empty.new.self.tree c.args.node) (sym c.close_empty.ensures.frame)
-    (subst (λ s. IsSolved s.program.now (cost_held c.offer_at-answer.new.self.incumbent) c.args.self.now.tree c.close_empty.new.self.tree c.args.node) (sym c.offer_at-answer.ensures.frame)
+    subst (λ s. IsSolvedLeaf s.program.now (cost_held s.incumbent) c.args.self.now.tree c.close_empty.new.self.tree c.args.node) (sym c.close_empty.ensures.frame)
+    (subst (λ s. IsSolvedLeaf s.program.now (cost_held c.offer_at-answer.new.self.incumbent) c.args.self.now.tree c.close_empty.new.self.tree c.args.node) (sym c.offer_at-answer.ensures.frame)
     (solved_end c.args.self.now.program.now (cost_held c.offer_at-answer.new.self.incumbent) c.args.self.now.tree c.offer_at-answer.new.self.tree c.close_empty.new.self.tree c.args.node c.close_empty.new.self.tree.taken c.args.solved.values.items c.in-Best.point.items
     (same_work c.args.self.now.tree c.offer_at-answer.new.self.tree c.args.node c.offer_at-answer.new.self.tree.open_ c.offer_at-answer.new.self.tree.taken c.offer_at-answer.ensures.tree c.offer_at-answer.ensures.same)
     c.close_empty.ensures.tree kept c.requires.only r.is_point none))

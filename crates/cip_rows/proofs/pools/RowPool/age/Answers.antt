@@ -3,7 +3,7 @@ use Rattle.std.specs.Prelude.{All}
 use Rattle.std.proofs.lemmas.List.Elements.{All-drop}
 use Rattle.cip_cert.specs.declared.rows.PoolRow.{PoolRow}
 use Rattle.cip_rows.specs.RowIndex.{IsIndex, entry_of}
-use Rattle.cip_rows.specs.RowPools.{Pool, IsKept}
+use Rattle.cip_rows.specs.RowPools.{Pool, IsSoundPool}
 use Rattle.cip_rows.proofs.IndexedRows.{index_last}
 use Rattle.cip_rows.proofs.KeptRows.{turned, last_kept}
 use Rattle.cip_rows.proofs.pools.RowPool.age.Goals as goal
@@ -13,7 +13,7 @@ invariant_of-self c =
     let pool : Pool = record { columns = c.self.inside.columns; rows = c.self.inside.rows.items; next = c.self.inside.next } in
     let same : c.len-count.result ≡ length c.self.inside.rows.items = omega (arith, c.len-count.ensures, c.self.inside.rows.ok.0) in
     let rows : c.truncate.new.self.items ≡ drop (length c.self.inside.rows.items - 4096) c.self.inside.rows.items = c.truncate.ensures.items ∙ ap (take 4096) c.rotate_left.ensures.items ∙ turned 4096 c.len-count.result c.self.inside.rows.items same c.if-count-le-KEPT_POOL_ROWS.false in
-    let kept : IsKept (record { columns = pool.columns; rows = c.truncate.new.self.items; next = pool.next }) = subst (λ (xs : List PoolRow). IsKept (record { columns = pool.columns; rows = xs; next = pool.next })) (sym rows) (last_kept pool (length c.self.inside.rows.items - 4096) c.self.invariant.0) in
+    let kept : IsSoundPool (record { columns = pool.columns; rows = c.truncate.new.self.items; next = pool.next }) = subst (λ (xs : List PoolRow). IsSoundPool (record { columns = pool.columns; rows = xs; next = pool.next })) (sym rows) (last_kept pool (length c.self.inside.rows.items - 4096) c.self.invariant.0) in
     let covers : All (λ r. Contains c.self.inside.entries.items (entry_of r)) c.truncate.new.self.items = subst (λ (xs : List PoolRow). All (λ r. Contains c.self.inside.entries.items (entry_of r)) xs) (sym rows) (All-drop (λ r. Contains c.self.inside.entries.items (entry_of r)) (length c.self.inside.rows.items - 4096) c.self.inside.rows.items c.self.invariant.1.covers) in
     (kept, subst (IsIndex c.truncate.new.self.items) (sym c.forget_below.ensures) (index_last _ _ _ c.index.result.now c.self.invariant.1 kept.rising covers c.index.ensures))
 

@@ -4,7 +4,7 @@ use Rattle.cip_cert.specs.declared.rows.PoolRow.{PoolRow}
 use Rattle.std.specs.List.{AllWithin}
 use Rattle.cip_rows.specs.declared.index.Entry.{Entry}
 use Rattle.cip_rows.specs.RowIndex.{IsIndex}
-use Rattle.cip_rows.specs.RowPools.{Pool, IsKept, is_full}
+use Rattle.cip_rows.specs.RowPools.{Pool, IsSoundPool, is_full}
 use Rattle.cip_rows.proofs.IndexedRows.{index_pushed}
 use Rattle.cip_rows.proofs.KeptRows.{one_more}
 use Rattle.cip_rows.proofs.pools.RowPool.push.Goals as goal
@@ -23,6 +23,6 @@ invariant_of-self-2 c =
     let within : c.first_from-place.result ≤ length c.self.inside.entries.items = subst (λ (xs : List Entry). c.first_from-place.result ≤ length xs) read c.first_from-place.ensures.within in
     let before : AllWithin (λ (entry : Entry). entry.print < c.args.print) c.self.inside.entries.items 0 c.first_from-place.result = subst (λ (xs : List Entry). AllWithin (λ (entry : Entry). entry.print < c.args.print) xs 0 c.first_from-place.result) read c.first_from-place.ensures.before in
     let after : AllWithin (λ (entry : Entry). c.args.print ≤ entry.print) c.self.inside.entries.items c.first_from-place.result (length c.self.inside.entries.items) = subst (λ (xs : List Entry). AllWithin (λ (entry : Entry). c.args.print ≤ entry.print) xs c.first_from-place.result (length xs)) read c.first_from-place.ensures.after in (
-      subst (λ (xs : List PoolRow). IsKept (record { columns = pool.columns; rows = xs; next = pool.next + 1 })) (sym rows) (one_more pool c.args.row c.args.scope c.self.invariant.0 stands columns room),
+      subst (λ (xs : List PoolRow). IsSoundPool (record { columns = pool.columns; rows = xs; next = pool.next + 1 })) (sym rows) (one_more pool c.args.row c.args.scope c.self.invariant.0 stands columns room),
       subst₂ IsIndex (sym rows) (sym entries) (index_pushed _ _ kept c.args.print c.first_from-place.result c.requires.print c.self.invariant.1 within before after),
     )
