@@ -10,7 +10,7 @@ use Rattle.cip_problem.specs.Log.{Closed, Parked, Entry, Node, node_of}
 use Rattle.cip_leaves.specs.Searched.{NoMore, first_node, nodes_given, IsLeast, IsCovered, IsInOpen, IsInParked}
 use Rattle.cip_search.proofs.Members.{none_in}
 use Rattle.cip_search.proofs.OneMore.{contains_here, contains_cons, node_of_among}
-use Rattle.cip_headline.specs.Headline.{cost_held}
+use Rattle.cip_search.specs.Headline.{cost_held}
 use Rattle.cip_answering.specs.Statements.{BoundsAreTold, root_closed, PointsAreTold}
 
 both_ways : (b c : Option ℚ) → NoMore b c → NoMore c b → b ≡ c

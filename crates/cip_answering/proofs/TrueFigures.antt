@@ -7,13 +7,13 @@ use Rattle.cip_problem.specs.WellFormed.{IsWellFormed}
 use Rattle.cip_problem.specs.Log.{Entry}
 use Rattle.cip_leaves.specs.Searched.{NoMore}
 use Rattle.cip_node_bounds.specs.declared.relaxed.Mark.{Mark}
-use Rattle.cip_search_ends.specs.SearchEnds as ends
-use Rattle.cip_search_ends.specs.SearchAnswers.{TellsBound}
+use Rattle.cip_search.specs.SearchEnds as ends
+use Rattle.cip_search.specs.SearchAnswers.{TellsBound}
 use Rattle.cip_answers.specs.Figures.{Status, Figures, Held as PrintedHeld, Wide as PrintedWide}
-use Rattle.cip_headline.specs.Headline.{AreTrue, overflow_at}
-use Rattle.cip_headline.specs.Printed.{IsPrintable, status_of as status_printed, printed_held as held_printed, figures_of as figures_printed}
-use Rattle.cip_headline.proofs.Roots.{root_no_less, no_more}
-use Rattle.cip_headline.proofs.TrueFigures.{figures_are_true}
+use Rattle.cip_search.specs.Headline.{AreTrue, overflow_at}
+use Rattle.cip_search.specs.Printed.{IsPrintable, status_of as status_printed, printed_held as held_printed, figures_of as figures_printed}
+use Rattle.cip_search.proofs.Roots.{root_no_less, no_more}
+use Rattle.cip_search.proofs.TrueFigures.{figures_are_true}
 use Rattle.cip_model.specs.declared.verdicts.Place.TheVariants.{Row, Cost}
 use Rattle.cip_report.specs.declared.figures.Ended.{Ended}
 use Rattle.cip_report.specs.declared.figures.Ended.TheVariants.{Optimal, Infeasible, Unbounded, Wide, NodeLimit, Gap, NoMemory}

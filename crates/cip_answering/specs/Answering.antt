@@ -6,7 +6,7 @@ use Rattle.cip_rational.specs.Rational.{ℚ}
 use Rattle.cip_problem.specs.Program.{Program}
 use Rattle.cip_problem.specs.Log.{Entry}
 use Rattle.cip_answers.specs.Figures.{Status, NoMemory, Figures, exit_status, names_of, answer_text}
-use Rattle.cip_headline.specs.Headline.{AreTrue}
+use Rattle.cip_search.specs.Headline.{AreTrue}
 use Rattle.cip_solve.specs.Logs.{entries_of}
 use Rattle.cip_solve.specs.declared.logs.Log.{Log}
 use Rattle.cip_solve.specs.declared.solving.Options.{Options}

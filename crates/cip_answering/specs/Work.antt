@@ -7,12 +7,12 @@ use Rattle.cip_problem.specs.Program.{Program}
 use Rattle.cip_problem.specs.Points.{printed}
 use Rattle.cip_problem.specs.Log.{Entry}
 use Rattle.cip_leaves.specs.Searched.{IsLeast, IsCovered, IsOfOpen, IsOfParked}
-use Rattle.cip_search_ends.specs.SearchEnds as ends
-use Rattle.cip_search_ends.specs.SearchAnswers.{IsParkedLast}
+use Rattle.cip_search.specs.SearchEnds as ends
+use Rattle.cip_search.specs.SearchAnswers.{IsParkedLast}
 use Rattle.cip_node_bounds.specs.declared.relaxed.Mark.{Mark}
 use Rattle.cip_answers.specs.Figures.{Status, Infeasible, Unbounded, NoMemory, Figures}
-use Rattle.cip_headline.specs.Headline.{cost_held}
-use Rattle.cip_headline.specs.Printed.{figures_of}
+use Rattle.cip_search.specs.Headline.{cost_held}
+use Rattle.cip_search.specs.Printed.{figures_of}
 use Rattle.cip_report.specs.declared.figures.Ended.TheVariants.{NoMemory as LacksMemory}
 use Rattle.cip_report.specs.declared.figures.Answer.{Answer}
 use Rattle.cip_endings.specs.AnswerOf.{answer_of}

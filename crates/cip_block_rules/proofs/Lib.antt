@@ -1,2 +1,5 @@
-pub mod BlockNumbers
 pub mod BlockLaws
+pub mod BlockNumbers
+mod BlockSame
+mod Owned
+mod Sound

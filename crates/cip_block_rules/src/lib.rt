@@ -3,4 +3,5 @@
 #![tactic(auto)]
 
 pub mod block_examples;
+pub mod block_steps;
 pub mod blocks;

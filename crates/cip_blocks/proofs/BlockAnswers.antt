@@ -10,8 +10,8 @@ use Rattle.cip_parts.specs.NamesOnce.{StandOnce}
 use Rattle.cip_parts.specs.BlockMeaning.{AreBlocks}
 use Rattle.cip_block_rules.specs.BlockStatements.{BlocksAreApart}
 use Rattle.cip_block_rules.specs.BlockRules.{block_reading}
-use Rattle.cip_block_steps.specs.BlockSteps.{no_state, block_steps}
-use Rattle.cip_block_steps.specs.BlockStepStatements.{BlockFaultsOfEndedLines}
+use Rattle.cip_block_rules.specs.BlockSteps.{no_state, block_steps}
+use Rattle.cip_block_rules.specs.BlockStepStatements.{BlockFaultsOfEndedLines}
 use Rattle.cip_blocks.specs.declared.faults.ReadFault.{ReadFault}
 use Rattle.cip_blocks.specs.declared.faults.ReadFault.TheVariants.{Faulty, NoMemory}
 use Rattle.cip_blocks.specs.declared.block_text.BlockText.{BlockText}

@@ -11,8 +11,8 @@ use Rattle.cip_mps_rules.proofs.Quiet.{kept}
 use Rattle.cip_parts.specs.BlockParts.{numbers_from, is_block, rows_where, stands_on, has_entry, is_column_of, blocks_with, is_linking, is_bounded, is_open, block_part, blocks_of, grouped, parts_of, blocks_by}
 use Rattle.cip_block_rules.specs.BlockRules.{lacks_zero, lacks_count, lacks_number}
 use Rattle.cip_block_rules.specs.BlockWords as text
-use Rattle.cip_block_steps.specs.BlockSteps as steps
-use Rattle.cip_block_steps.specs.BlockOwners.{Owners, owners_of, OwnersTell, OwnersAreRight}
+use Rattle.cip_block_rules.specs.BlockSteps as steps
+use Rattle.cip_block_rules.specs.BlockOwners.{Owners, owners_of, OwnersTell, OwnersAreRight}
 use Rattle.cip_blocks.specs.declared.word_places.RowPlace.{RowPlace}
 use Rattle.cip_blocks.specs.declared.word_places.RowPlace.TheVariants.{Unnamed, Named}
 use Rattle.cip_blocks.specs.WordPlaces.{row_shown, block_of, is_below}

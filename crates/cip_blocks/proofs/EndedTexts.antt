@@ -9,7 +9,7 @@ use Rattle.cip_line_stream.specs.PieceStands.{StandsAt, IsLastRead, outcome_with
 use Rattle.cip_line_stream.proofs.Streams.{ends_with}
 use Rattle.cip_parts.specs.BlockParts.{Blocks}
 use Rattle.cip_block_rules.specs.BlockRules.{block_reading}
-use Rattle.cip_block_steps.specs.BlockSteps.{BlockState, block_steps}
+use Rattle.cip_block_rules.specs.BlockSteps.{BlockState, block_steps}
 use Rattle.cip_blocks.specs.declared.faults.ReadFault.{ReadFault}
 use Rattle.cip_blocks.specs.declared.faults.ReadFault.TheVariants.{Faulty, NoMemory}
 use Rattle.cip_blocks.specs.EndedBlocks.{IsFaultOf, IsEnded}

@@ -12,8 +12,8 @@ use Rattle.cip_line_texts.specs.LineStream.{Going, Failed, progress_at, item_rea
 use Rattle.cip_line_texts.proofs.LineBytes.{failed_items}
 use Rattle.cip_line_stream.specs.PieceStands.{progress_after}
 use Rattle.cip_block_rules.specs.BlockWords.{RowName, word_said}
-use Rattle.cip_block_steps.specs.BlockSteps as steps
-use Rattle.cip_block_steps.specs.BlockSteps.{BlockState, block_tests, state_with, block_steps}
+use Rattle.cip_block_rules.specs.BlockSteps as steps
+use Rattle.cip_block_rules.specs.BlockSteps.{BlockState, block_tests, state_with, block_steps}
 use Rattle.cip_blocks.specs.declared.word_places.RowPlace.{RowPlace}
 use Rattle.cip_blocks.specs.declared.word_places.RowPlace.TheVariants.{Unnamed}
 use Rattle.cip_blocks.specs.WordPlaces.{row_shown, block_of, is_below}

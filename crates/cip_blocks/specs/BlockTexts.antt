@@ -7,7 +7,7 @@ use Rattle.cip_line_texts.specs.LineStream.{Stream}
 use Rattle.cip_line_stream.specs.PieceCuts.{Cut, cut_of}
 use Rattle.cip_line_stream.specs.PieceStands.{StandsAt}
 use Rattle.cip_parts.specs.BlockParts.{Blocks}
-use Rattle.cip_block_steps.specs.BlockSteps.{BlockState}
+use Rattle.cip_block_rules.specs.BlockSteps.{BlockState}
 use Rattle.cip_blocks.specs.declared.block_text.BlockText.{BlockText}
 use Rattle.cip_blocks.specs.BlockWordsRead as words
 

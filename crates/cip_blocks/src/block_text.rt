@@ -10,13 +10,13 @@ ghost use Rattle.cip_line_stream.specs.PieceCuts.{no_bytes, cut_of, known_fault,
 ghost use Rattle.cip_line_stream.specs.PieceStands.{IsRead, IsLastRead};
 ghost use Rattle.cip_parts.specs.NamesOnce.{StandOnce};
 ghost use Rattle.cip_block_rules.specs.BlockRules.{block_reading};
-ghost use Rattle.cip_block_steps.specs.BlockSteps.{BlockState, no_state};
+ghost use Rattle.cip_block_rules.specs.BlockSteps.{BlockState, no_state};
 ghost use Rattle.cip_blocks.specs.Endings.{IsEnding};
 
 use crate::block_words::BlockWords;
 use crate::ending::Ending;
 use crate::faults::{BlockFault, ReadFault};
-use cip_block_steps::blocks_are_read;
+use cip_block_rules::block_steps::blocks_are_read;
 use cip_line_stream::{KnownFault, Pieces, cut_line};
 use cip_model::{Blocks, Program};
 use std::alloc::{AllocError, Global};

@@ -6,13 +6,13 @@ ghost use Rattle.cip_text.specs.TextLines.{fields_left};
 ghost use Rattle.cip_line_texts.specs.LineStream.{Going, line_read, item_read};
 ghost use Rattle.cip_line_stream.specs.PieceStands.{progress_after};
 ghost use Rattle.cip_block_rules.specs.BlockWords as text;
-ghost use Rattle.cip_block_steps.specs.BlockSteps.{no_state};
+ghost use Rattle.cip_block_rules.specs.BlockSteps.{no_state};
 ghost use Rattle.cip_blocks.specs.WordPlaces.{place_shown, block_of, is_below, is_sound_place};
 ghost use Rattle.cip_blocks.specs.Keywords.{keyword_shown};
 
 use crate::word_places::{RowPlace, WordPlace};
 use crate::words::{Keyword, block_number, keyword_of};
-use cip_block_steps::block_words_have_tests;
+use cip_block_rules::block_steps::block_words_have_tests;
 use cip_line_stream::fields_of;
 use cip_model::Program;
 use cip_mps_steps::numbers_are_of_names;

@@ -9,7 +9,7 @@ ghost use Rattle.cip_blocks.specs.EndedBlocks.{IsFaultOf};
 
 use crate::block_text::BlockText;
 use crate::faults::{BlockFault, ReadFault};
-use cip_block_steps::block_faults_of_ended_lines;
+use cip_block_rules::block_steps::block_faults_of_ended_lines;
 use cip_model::{Blocks, Program};
 use std::alloc::Global;
 

@@ -21,7 +21,7 @@ use crate::pivots::Pivot;
 use crate::whole::{Wholes, number_of};
 use crate::whole_sums::put_whole;
 use crate::whole_turns::turn_entries;
-use cip_dictionary::{Line, EntryPlace, Stand};
+use cip_dictionary::{EntryPlace, Line, Stand};
 use cip_frac::Frac;
 use std::alloc::AllocError;
 

@@ -16,7 +16,7 @@ use crate::forms::Form;
 use crate::lines::{is_basic, number_at};
 use crate::pivots::Pivot;
 use crate::rows::is_marked;
-use cip_dictionary::{Line, EntryPlace, Stand};
+use cip_dictionary::{EntryPlace, Line, Stand};
 use cip_frac::Frac;
 
 /// By how much a variable moves, and what moves with it.

@@ -4,7 +4,7 @@ use crate::moves::{cost_on, entry_at, exchange, flip, has_row, is_row_whole, val
 use crate::numbers::numbers_compare;
 use crate::program::Program;
 use crate::random::{COLUMNS, ROWS, Random};
-use cip_dict::{Dict, Line, MoveFault, EntryPlace, Spare, Stand};
+use cip_dict::{Dict, EntryPlace, Line, MoveFault, Spare, Stand};
 use cip_frac::Frac;
 use cip_lin::Sides;
 use std::alloc::{AllocError, Global};

@@ -9,7 +9,7 @@ ghost use Rattle.cip_dictionary.specs.Examples.{Examples};
 ghost use Rattle.cip_dictionary.specs.Statements.{ExchangesKeep, FlipsKeep, FirstStatesTell, ProgramsAreTold};
 
 pub use moves::{Move, Stand};
-pub use places::{Line, EntryPlace};
+pub use places::{EntryPlace, Line};
 
 /// After an exchange a state is consistent, the same numbers for the variables solve it, and at them the cost is the
 /// same as before.

@@ -10,7 +10,7 @@ mod stores;
 pub use changes::Change;
 pub use cip_lin::Side;
 pub use halves::{can_halve, high_change, low_change};
-pub use stores::{DomainStore, Checkpoint, Tightened};
+pub use stores::{Checkpoint, DomainStore, Tightened};
 
 /// A point lies in a box after changes exactly where it lies in the box and each change allows it.
 pub fn changes_are_met()

@@ -3,8 +3,8 @@ use Rattle.std.proofs.Common.{◌≡◌, Bool, true, false, not, ◌&&◌, Optio
 use Rattle.cip_rational.specs.Rational.{ℚ, ◌-ℚ◌, lt_test, le_test}
 use Rattle.cip_rational.specs.Range.{difference_overflows}
 use Rattle.cip_rational.proofs.Rational.Order.{test_of_lt, lt_of_test, test_of_le, le_of_test}
-use Rattle.cip_search_ends.specs.SearchEnds as ends
-use Rattle.cip_search_ends.specs.SearchEnds.{ReachesGap}
+use Rattle.cip_search.specs.SearchEnds as ends
+use Rattle.cip_search.specs.SearchEnds.{ReachesGap}
 use Rattle.cip_endings.specs.Gaps.{is_near_enough, reaches_gap}
 
 both_true : (a b : Bool) → (a && b) ≡ true → (a ≡ true) × (b ≡ true)

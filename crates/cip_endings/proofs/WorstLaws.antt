@@ -5,12 +5,12 @@ use Rattle.cip_rational.specs.Rational.{ℚ}
 use Rattle.cip_problem.specs.Program.{Program}
 use Rattle.cip_problem.specs.Log.{Node}
 use Rattle.cip_leaves.specs.Searched.{NoMore}
-use Rattle.cip_leaf_programs.specs.WideLeaf.{Shown}
+use Rattle.cip_leaves.specs.WideLeaf.{Shown}
 use Rattle.cip_search.proofs.Members.{only_one, none_in}
 use Rattle.cip_search.proofs.Bounds.{no_more_itself}
 use Rattle.cip_search.proofs.Relaxed.{no_more_trans}
 use Rattle.cip_endings.specs.LeastBounds.{is_no_more}
-use Rattle.cip_leaf_programs.specs.WideNodes.{IsWideAs}
+use Rattle.cip_leaves.specs.WideNodes.{IsWideAs}
 use Rattle.cip_endings.specs.Worst.{IsFirstWorst}
 use Rattle.cip_endings.proofs.BoundLaws.{no_more_tells, more_tells, more_below}
 

@@ -6,7 +6,7 @@ use Rattle.cip_report.specs.declared.figures.Ended.TheVariants.{Optimal, Infeasi
 use Rattle.cip_report.specs.declared.figures.Ended.TheVariants.{Gap, Wide, NoMemory}
 use Rattle.cip_report.specs.declared.figures.Held.{Held}
 use Rattle.cip_report.specs.declared.figures.Answer.{Answer}
-use Rattle.cip_search_ends.specs.SearchEnds as ends
+use Rattle.cip_search.specs.SearchEnds as ends
 
 abbrev pub ended_of : Ended → ends.Ended
 ended_of Optimal = ends.Optimal

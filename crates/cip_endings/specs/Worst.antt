@@ -3,9 +3,9 @@ use Rattle.std.specs.Prelude.{◌≡◌, List, [], ◌∷◌, ◌++◌, Option, 
 use Rattle.cip_rational.specs.Rational.{ℚ}
 use Rattle.cip_problem.specs.Program.{Program}
 use Rattle.cip_problem.specs.Log.{Node}
-use Rattle.cip_leaf_programs.specs.WideLeaf.{Shown}
-use Rattle.cip_leaf_programs.specs.WideNodes.{IsWideAs}
-use Rattle.cip_search_ends.specs.EndLaws.{IsShownNode}
+use Rattle.cip_leaves.specs.WideLeaf.{Shown}
+use Rattle.cip_leaves.specs.WideNodes.{IsWideAs}
+use Rattle.cip_search.specs.EndLaws.{IsShownNode}
 use Rattle.cip_leaf.specs.LeafAnswers.{shown_as}
 use Rattle.cip_endings.specs.declared.worst.Worst.{Worst}
 

@@ -19,9 +19,9 @@ use Rattle.cip_simplex.specs.LpAnswers.{IsAnswer}
 use Rattle.cip_simplex.specs.LpShape.{IsSolvable}
 use Rattle.cip_simplex.specs.declared.answers.LpAnswer.TheVariants.{Optimal, Infeasible, Unbounded, Wide, Limit}
 use Rattle.cip_leaves.specs.Leaf.{IsPointOf}
-use Rattle.cip_leaf_programs.specs.LeafProgram.{at_continuous, row_of_leaf, program_of_leaf}
-use Rattle.cip_leaf_programs.specs.WideLeaf.{MovesOverflow}
-use Rattle.cip_leaf_programs.proofs.Merged.{leaf_proper, point_on}
+use Rattle.cip_leaves.specs.LeafProgram.{at_continuous, row_of_leaf, program_of_leaf}
+use Rattle.cip_leaves.specs.WideLeaf.{MovesOverflow}
+use Rattle.cip_leaves.proofs.Merged.{leaf_proper, point_on}
 use Rattle.cip_leaf.specs.LeafAnswers.{EndsInOptimum, EndsInRay, EndsOutOfRange}
 
 -- ---- the program can be solved

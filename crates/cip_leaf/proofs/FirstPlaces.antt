@@ -13,7 +13,7 @@ use Rattle.cip_dictionary.specs.declared.places.Line.{Line}
 use Rattle.cip_dictionary.specs.declared.places.Line.TheVariants as line
 use Rattle.cip_dictionary.specs.declared.places.EntryPlace as dictionary
 use Rattle.cip_bland.specs.MoveList.{is_out_of_range}
-use Rattle.cip_leaf_programs.specs.WideLeaf.{state_place, FirstValueOverflows}
+use Rattle.cip_leaves.specs.WideLeaf.{state_place, FirstValueOverflows}
 use Rattle.cip_model.specs.declared.verdicts.Place.{Place}
 use Rattle.cip_model.specs.declared.verdicts.Place.TheVariants.{Row, Cost}
 use Rattle.cip_leaf.specs.FirstPlaces.{line_of, IsValueLine}

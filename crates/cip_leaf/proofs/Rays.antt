@@ -17,9 +17,9 @@ use Rattle.cip_bland.specs.EndAnswers as def
 use Rattle.cip_bland.specs.NoRepeat.{whole_answer}
 use Rattle.cip_bland.specs.Statements.{IsRight, ShowsUnbounded}
 use Rattle.cip_leaves.specs.Leaf.{IsLeaf, IsPointOf}
-use Rattle.cip_leaf_programs.specs.LeafProgram.{at_continuous, merged, continuous_terms, shifted, row_of_leaf, program_of_leaf}
-use Rattle.cip_leaf_programs.specs.WideLeaf.{AtPlace, SumOverflows, EndOverflows, IsWideBy}
-use Rattle.cip_leaf_programs.proofs.Merged.{activity_split, dot_split, point_back, merged-long}
+use Rattle.cip_leaves.specs.LeafProgram.{at_continuous, merged, continuous_terms, shifted, row_of_leaf, program_of_leaf}
+use Rattle.cip_leaves.specs.WideLeaf.{AtPlace, SumOverflows, EndOverflows, IsWideBy}
+use Rattle.cip_leaves.proofs.Merged.{activity_split, dot_split, point_back, merged-long}
 use Rattle.cip_model.specs.declared.verdicts.Place.{Place}
 use Rattle.cip_model.specs.declared.verdicts.Place.TheVariants.{Row as AtRow, Cost}
 use Rattle.cip_model.specs.declared.verdicts.Verdict.TheVariants.{Feasible, Wide}

@@ -17,9 +17,9 @@ use Rattle.cip_frac.specs.Outcomes.{and_then, product_added, dot_from}
 use Rattle.cip_lin.specs.RowSums.{activity_from}
 use Rattle.cip_leaves.specs.Leaf.{IsLeaf, IsLeafIn}
 use Rattle.cip_leaves.specs.Wide.{InRow, fixed_values, added, then_sum, row_part, cost_part, is_wide_row, IsWideAt}
-use Rattle.cip_leaf_programs.specs.LeafProgram.{is_continuous, merged}
-use Rattle.cip_leaf_programs.specs.WideLeaf.{SumOverflows}
-use Rattle.cip_leaf_programs.proofs.Merged.{continuous_value}
+use Rattle.cip_leaves.specs.LeafProgram.{is_continuous, merged}
+use Rattle.cip_leaves.specs.WideLeaf.{SumOverflows}
+use Rattle.cip_leaves.proofs.Merged.{continuous_value}
 use Rattle.cip_model.specs.Meaning.{Overflows, RowOverflows}
 use Rattle.cip_model.specs.Rays.{RayOverflows}
 use Rattle.cip_model.specs.declared.verdicts.Place.{Place}

@@ -9,8 +9,8 @@ use Rattle.cip_bland.specs.EndAnswers.{Certificate, Optimal, Unbounded, OutOfRan
 use Rattle.cip_bland.specs.NoRepeat.{whole_answer}
 use Rattle.cip_leaves.specs.Leaf.{IsPointOf}
 use Rattle.cip_leaves.specs.Wide as wide
-use Rattle.cip_leaf_programs.specs.LeafProgram.{program_of_leaf}
-use Rattle.cip_leaf_programs.specs.WideLeaf as wide_leaf
+use Rattle.cip_leaves.specs.LeafProgram.{program_of_leaf}
+use Rattle.cip_leaves.specs.WideLeaf as wide_leaf
 use Rattle.cip_model.specs.declared.verdicts.Place.{Place}
 use Rattle.cip_model.specs.declared.verdicts.Place.TheVariants.{Row as AtRow, Cost}
 use Rattle.cip_model.specs.declared.verdicts.Verdict.TheVariants.{Feasible}

@@ -3,7 +3,7 @@ ghost use Rattle.std.specs.Prelude.{◌≡◌, IfOk, IfSome};
 ghost use Rattle.cip_linear.specs.LinearProgram.{IsPoint};
 ghost use Rattle.cip_problem.specs.WellFormed.{IsWellFormed};
 ghost use Rattle.cip_leaves.specs.Leaf.{IsLeaf};
-ghost use Rattle.cip_leaf_programs.specs.LeafProgram.{program_of_leaf};
+ghost use Rattle.cip_leaves.specs.LeafProgram.{program_of_leaf};
 ghost use Rattle.cip_leaf.specs.LeafAnswers.{IsLeafAnswer, IsOptimalThere};
 
 use crate::answers::LeafAnswer;

@@ -7,7 +7,7 @@ ghost use Rattle.cip_dictionary.specs.ProgramState.{terms_at, system_of};
 ghost use Rattle.cip_bland.specs.MoveList.{is_out_of_range};
 ghost use Rattle.cip_simplex.specs.LpEntries.{entry_of, entries_in};
 ghost use Rattle.cip_simplex.specs.LpShape.{IsSolvable};
-ghost use Rattle.cip_leaf_programs.specs.WideLeaf.{FirstValueOverflows};
+ghost use Rattle.cip_leaves.specs.WideLeaf.{FirstValueOverflows};
 ghost use Rattle.cip_leaf.specs.FirstPlaces.{line_of, IsValueLine};
 ghost use Rattle.cip_leaf.specs.LeafAnswers.{place_of};
 

@@ -5,7 +5,7 @@ ghost use Rattle.cip_problem.specs.Limits.{most_rows};
 ghost use Rattle.cip_problem.specs.WellFormed.{IsWellFormed};
 ghost use Rattle.cip_simplex.specs.LpShape.{IsSolvable};
 ghost use Rattle.cip_leaves.specs.Leaf.{IsLeaf};
-ghost use Rattle.cip_leaf_programs.specs.LeafProgram as program_spec;
+ghost use Rattle.cip_leaves.specs.LeafProgram as program_spec;
 ghost use Rattle.cip_leaf.specs.Building.{IsRowsFault};
 ghost use Rattle.cip_leaf.specs.LeafAnswers.{IsLeafAnswer, EndsInOptimum, EndsInRay, EndsOutOfRange, IsWideAnswer};
 ghost use Rattle.cip_leaf.specs.LeafAnswers.{IsFirstAlong};

@@ -2,7 +2,7 @@
 ghost use Rattle.std.specs.Prelude.{◌≡◌, ◌≤◌, [], length, IfOk};
 ghost use Rattle.cip_problem.specs.Activity.{value_at};
 ghost use Rattle.cip_problem.specs.Limits.{most_columns};
-ghost use Rattle.cip_leaf_programs.specs.LeafProgram as program;
+ghost use Rattle.cip_leaves.specs.LeafProgram as program;
 ghost use Rattle.cip_leaf.specs.Building.{numbers_from};
 
 use cip_frac::Frac;

@@ -1,3 +1,6 @@
 pub mod Covers
+pub mod LeafProgramsTried
+pub mod Merged
 pub mod Points
 mod Tried
+pub mod WholeLeaves

@@ -1,5 +1,10 @@
 pub mod Examples
 pub mod Leaf
+pub mod LeafProgram
+pub mod LeafProgramExamples
+pub mod LeafProgramStatements
 pub mod Searched
 pub mod Statements
 pub mod Wide
+pub mod WideLeaf
+pub mod WideNodes

@@ -3,6 +3,8 @@
 // Each function here does nothing. Its contract is one of the laws of the definitions, so that the check proves it.
 #![tactic(auto)]
 
+pub mod leaf_programs;
+
 ghost use Rattle.cip_leaves.specs.Examples.{Examples};
 ghost use Rattle.cip_leaves.specs.Statements.{PointsHaveLeaves, CoversTell};
 

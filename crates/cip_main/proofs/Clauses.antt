@@ -22,8 +22,8 @@ use Rattle.cip_model.specs.Verdicts.{verdict_of}
 use Rattle.cip_main.specs.declared.refusals.TextFault.{TextFault}
 use Rattle.cip_main.specs.declared.refusals.TextFault.TheVariants.{Model, Blocks, Point}
 use Rattle.cip_answers.specs.Figures.{NodeLimit, Gap, Wide, NoMemory as LacksMemory, exit_status}
-use Rattle.cip_headline.specs.Headline.{IsSpent, EndsWith, EndsItself}
-use Rattle.cip_headline.proofs.Ends.{budgets_suffice}
+use Rattle.cip_search.specs.Headline.{IsSpent, EndsWith, EndsItself}
+use Rattle.cip_search.proofs.Ends.{budgets_suffice}
 use Rattle.cip_main.specs.declared.plain.Plain.{Plain}
 use Rattle.cip_main.specs.declared.plain.Plain.TheVariants.{Usage, ReadFault, Refused, NoMemory}
 use Rattle.cip_answering.specs.Answering.{IsLogged}

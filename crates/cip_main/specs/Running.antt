@@ -15,7 +15,7 @@ use Rattle.cip_point_rules.specs.PointRules.{point_reading}
 use Rattle.cip_words.specs.Jobs.{Limits, Job, Solve, Check}
 use Rattle.cip_input.specs.TextPulls.{IsAllPulled}
 use Rattle.cip_answers.specs.Figures.{NodeLimit, Gap, Wide, Overflow}
-use Rattle.cip_headline.specs.Headline.{ReachesGap, IsSpent, ShowsOverflow, EndsItself}
+use Rattle.cip_search.specs.Headline.{ReachesGap, IsSpent, ShowsOverflow, EndsItself}
 use Rattle.cip_answers.specs.Checks.{check_text, check_status}
 use Rattle.cip_model.specs.Verdicts.{verdict_of}
 use Rattle.cip_model.specs.Meaning.{VerdictHolds}

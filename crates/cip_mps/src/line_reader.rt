@@ -12,7 +12,7 @@ ghost use Rattle.cip_mps.specs.LinesRead.{state_of_lines, stage_of, IsTaken};
 use crate::laws::places_join;
 use cip_model::Program;
 use cip_mps_draft::Draft;
-use cip_mps_lines::{Line, Part, LinePlace, said};
+use cip_mps_lines::{Line, LinePlace, Part, said};
 use cip_text::record_of;
 use std::alloc::{AllocError, Global};
 

@@ -19,7 +19,7 @@ use Rattle.cip_problem.proofs.BoxBound.BelowCosts.{root_bound_holds}
 use Rattle.cip_cuts.specs.Cuts.{HasWholeCosts}
 use Rattle.cip_cuts.specs.Improving.{IsBoundIn}
 use Rattle.cip_cuts.proofs.Reductions.{reduction_itself}
-use Rattle.cip_leaf_programs.specs.WideLeaf.{IsWideLeaf}
+use Rattle.cip_leaves.specs.WideLeaf.{IsWideLeaf}
 use Rattle.cip_lin.specs.declared.outcomes.Least.{Least}
 use Rattle.cip_lin.specs.declared.outcomes.Least.TheVariants.{Value, NoBound, Wide}
 use Rattle.cip_model.specs.Least.{least_cost_from}

@@ -9,7 +9,7 @@ use Rattle.cip_cuts.specs.Improving.{HasNoImproving}
 use Rattle.cip_cert.specs.Lent.{Lent}
 use Rattle.cip_leaves.specs.Leaf.{IsLeaf, IsPointOf, IsOnlyLeaf}
 use Rattle.cip_leaves.specs.Searched.{first_node, NoMore}
-use Rattle.cip_leaf_programs.specs.WideLeaf.{Shown, IsWideBy}
+use Rattle.cip_leaves.specs.WideLeaf.{Shown, IsWideBy}
 use Rattle.cip_model.specs.Rays.{IsShownRay}
 use Rattle.cip_problem.specs.Points.{IsFeasible}
 use Rattle.cip_node_bounds.specs.declared.relaxed.Mark.{Mark}

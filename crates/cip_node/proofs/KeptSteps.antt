@@ -12,7 +12,7 @@ use Rattle.std.proofs.lemmas.List.Elements.{Contains-append_left, Contains-appen
 use Rattle.cip_domain.specs.Changes.{narrowed}
 use Rattle.cip_cuts.specs.Improving.{IsBoundIn, HasNoImproving, IsNoDearer}
 use Rattle.cip_leaves.specs.Searched.{first_node, NoMore}
-use Rattle.cip_leaf_programs.specs.WideLeaf.{IsWideLeaf}
+use Rattle.cip_leaves.specs.WideLeaf.{IsWideLeaf}
 use Rattle.cip_search.specs.SearchState.{stay, IsAttained, IsStuck}
 use Rattle.cip_search.proofs.Members.{here, later, here_or_later, kept_was_there}
 use Rattle.cip_search.proofs.Kept as searching

@@ -9,7 +9,7 @@ use Rattle.cip_problem.specs.Log.{Node}
 use Rattle.cip_cuts.specs.Improving.{IsImproving, HasNoImproving}
 use Rattle.cip_leaves.specs.Leaf.{IsLeaf, IsPointOf, IsOnlyLeaf}
 use Rattle.cip_leaves.proofs.Points.{only_leaf}
-use Rattle.cip_leaf_programs.specs.WideLeaf.{Shown, IsWideBy, IsWideLeaf}
+use Rattle.cip_leaves.specs.WideLeaf.{Shown, IsWideBy, IsWideLeaf}
 use Rattle.cip_leaf.specs.LeafAnswers.{IsBest}
 use Rattle.cip_model.specs.Verdicts.{verdict_of}
 use Rattle.cip_model.specs.declared.verdicts.Verdict.TheVariants.{Feasible}

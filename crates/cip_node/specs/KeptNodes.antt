@@ -11,7 +11,7 @@ use Rattle.cip_cuts.specs.Improving.{IsValidRow}
 use Rattle.cip_cert.specs.declared.rows.PoolRow.{PoolRow}
 use Rattle.cip_tree.specs.Nodes.{Nodes}
 use Rattle.cip_incumbent.specs.HeldPoint.{Holding, HoldsPointOf}
-use Rattle.cip_leaf_programs.specs.WideLeaf.{IsWideLeaf}
+use Rattle.cip_leaves.specs.WideLeaf.{IsWideLeaf}
 use Rattle.cip_node_rules.specs.OpenColumns.{is_whole_at}
 use Rattle.cip_node_rules.specs.SplitRules.{AreNear}
 use Rattle.cip_search.specs.SearchState.{State, stay, unended, IsSearch, IsAsGiven}

@@ -10,8 +10,8 @@ use Rattle.cip_cuts.specs.Improving.{HasNoImproving}
 use Rattle.cip_cert.specs.Lent.{Lent}
 use Rattle.cip_leaves.specs.Leaf.{IsPointOf, IsOnlyLeaf}
 use Rattle.cip_leaves.specs.Searched.{first_node, NoMore}
-use Rattle.cip_leaf_programs.specs.WideLeaf.{Shown}
-use Rattle.cip_leaf_programs.specs.WideNodes.{IsWideAs}
+use Rattle.cip_leaves.specs.WideLeaf.{Shown}
+use Rattle.cip_leaves.specs.WideNodes.{IsWideAs}
 use Rattle.cip_leaf.specs.LeafAnswers.{shown_as}
 use Rattle.cip_model.specs.Rays.{IsShownRay}
 use Rattle.cip_node_bounds.specs.declared.relaxed.Mark.{Mark}

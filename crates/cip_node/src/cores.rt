@@ -1,7 +1,7 @@
 //! What a search works with.
 use crate::starts::Starts;
 use cip_cert::Scratch;
-use cip_domain::{DomainStore, Checkpoint};
+use cip_domain::{Checkpoint, DomainStore};
 use cip_incumbent::Incumbent;
 use cip_lin::Row;
 use cip_model::Program;

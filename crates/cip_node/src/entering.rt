@@ -3,7 +3,7 @@ ghost use Rattle.std.specs.Prelude.{◌≡◌, IfOk};
 ghost use Rattle.cip_tree.specs.Nodes.{IsTaken, box_of};
 ghost use Rattle.cip_node.specs.Entering.{first_box, IsEntered, IsNarrowed};
 
-use cip_domain::{Change, DomainStore, Checkpoint, Tightened};
+use cip_domain::{Change, Checkpoint, DomainStore, Tightened};
 use cip_tree::{Node, Tree};
 use std::alloc::AllocError;
 

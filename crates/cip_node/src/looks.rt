@@ -6,7 +6,7 @@ ghost use Rattle.cip_node.specs.Entering.{first_box};
 ghost use Rattle.cip_node.specs.Looking.{IsLook};
 
 use crate::entering::enter;
-use cip_domain::{DomainStore, Checkpoint};
+use cip_domain::{Checkpoint, DomainStore};
 use cip_model::Program;
 use cip_node_rules::{Looked, look_at};
 use cip_tree::{Node, Tree};

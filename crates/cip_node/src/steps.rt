@@ -11,7 +11,7 @@ ghost use Rattle.cip_node_rules.specs.OpenColumns.{is_whole_at};
 ghost use Rattle.cip_node_rules.specs.SplitRules.{LeavesBoth};
 ghost use Rattle.cip_cuts.specs.Improving.{IsBoundIn, HasNoImproving, IsNoDearer};
 ghost use Rattle.cip_leaves.specs.Searched.{first_node, NoMore};
-ghost use Rattle.cip_leaf_programs.specs.WideLeaf.{IsWideLeaf};
+ghost use Rattle.cip_leaves.specs.WideLeaf.{IsWideLeaf};
 ghost use Rattle.cip_search.specs.SearchState.{stay, IsStuck};
 ghost use Rattle.cip_tree.specs.Moves.{TakesFirst};
 ghost use Rattle.cip_tree.specs.Nodes.{IsTaken, box_of, shown};

@@ -6,8 +6,8 @@ use Rattle.cip_line_stream.specs.PieceCuts.{no_bytes, known_fault}
 use Rattle.cip_line_stream.proofs.Streams.{first_stands, quiet, faulty}
 use Rattle.cip_parts.specs.NamesOnce.{StandOnce}
 use Rattle.cip_point_rules.specs.PointRules.{point_reading}
-use Rattle.cip_point_steps.specs.PointSteps.{no_values, point_steps}
-use Rattle.cip_point_steps.specs.PointStepStatements.{PointFaultsOfEndedLines}
+use Rattle.cip_point_rules.specs.PointSteps.{no_values, point_steps}
+use Rattle.cip_point_rules.specs.PointStepStatements.{PointFaultsOfEndedLines}
 use Rattle.cip_point.specs.declared.faults.ReadFault.{ReadFault}
 use Rattle.cip_point.specs.declared.faults.ReadFault.TheVariants.{Faulty, NoMemory}
 use Rattle.cip_point.specs.declared.point_text.PointText.{PointText}

@@ -5,7 +5,7 @@ use Rattle.cip_problem.specs.Program.{Program}
 use Rattle.cip_mps_rules.specs.MpsRules.{least}
 use Rattle.cip_line_texts.specs.LineTexts.{Reading}
 use Rattle.cip_point_rules.specs.PointRules.{PointLine}
-use Rattle.cip_point_steps.specs.PointSteps.{point_tests, values_with, point_steps}
+use Rattle.cip_point_rules.specs.PointSteps.{point_tests, values_with, point_steps}
 use Rattle.cip_point.specs.declared.point_lines.PointLines.{PointLines}
 
 -- the program of which columns are given

@@ -8,13 +8,13 @@ ghost use Rattle.cip_text.specs.TextLines.{fields_left};
 ghost use Rattle.cip_line_texts.specs.LineStream.{Going, line_read};
 ghost use Rattle.cip_line_stream.specs.PieceStands.{progress_after};
 ghost use Rattle.cip_point_rules.specs.PointRules.{BadLine, ValueLine, line_said};
-ghost use Rattle.cip_point_steps.specs.PointSteps.{no_values};
+ghost use Rattle.cip_point_rules.specs.PointSteps.{no_values};
 
 use cip_frac::Frac;
 use cip_line_stream::fields_of;
 use cip_model::Program;
 use cip_mps_steps::numbers_are_of_names;
-use cip_point_steps::point_lines_have_tests;
+use cip_point_rules::point_steps::point_lines_have_tests;
 use cip_text::{Fields, fraction};
 use std::alloc::{AllocError, Global};
 

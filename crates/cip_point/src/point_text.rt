@@ -11,13 +11,13 @@ ghost use Rattle.cip_line_stream.specs.PieceCuts.{no_bytes, cut_of, known_fault}
 ghost use Rattle.cip_line_stream.specs.PieceStands.{IsRead, IsLastRead, outcome_with};
 ghost use Rattle.cip_parts.specs.NamesOnce.{StandOnce};
 ghost use Rattle.cip_point_rules.specs.PointRules.{point_reading};
-ghost use Rattle.cip_point_steps.specs.PointSteps.{no_values};
+ghost use Rattle.cip_point_rules.specs.PointSteps.{no_values};
 
 use crate::point_lines::PointLines;
 use cip_frac::Frac;
 use cip_line_stream::{KnownFault, Pieces, cut_line};
 use cip_model::Program;
-use cip_point_steps::points_are_read;
+use cip_point_rules::point_steps::points_are_read;
 use std::alloc::{AllocError, Global};
 
 /// The number of the kind of a text that is too long.

@@ -10,7 +10,7 @@ use crate::faults::{PointFault, ReadFault};
 use crate::point_text::PointText;
 use cip_frac::Frac;
 use cip_model::Program;
-use cip_point_steps::point_faults_of_ended_lines;
+use cip_point_rules::point_steps::point_faults_of_ended_lines;
 use std::alloc::Global;
 
 /// A text of a point as far as it came. The reader keeps the line that has not ended and a value for each column of the

@@ -1,1 +1,2 @@
 mod PointLaws
+mod PointSame

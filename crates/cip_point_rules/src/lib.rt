@@ -3,4 +3,5 @@
 #![tactic(auto)]
 
 pub mod point_examples;
+pub mod point_steps;
 pub mod points;

@@ -2,10 +2,20 @@ pub mod Alike
 pub mod AsGiven
 pub mod Bounds
 pub mod Ended
+pub mod Endless
+pub mod Ends
+pub mod EndsRight
+pub mod Fitting
 pub mod Halved
+mod HeadlineTried
 pub mod Kept
 pub mod Logs
 pub mod Members
 pub mod OneMore
 pub mod Relaxed
+pub mod Roots
+pub mod ShownNode
+pub mod StartBounds
 pub mod Told
+pub mod TrueFigures
+pub mod WorkLogs

@@ -1,4 +1,11 @@
+pub mod EndLaws
 pub mod Endings
+pub mod Headline
+pub mod HeadlineExamples
+pub mod HeadlineStatements
+pub mod Printed
 pub mod Relaxation
+pub mod SearchAnswers
+pub mod SearchEnds
 pub mod SearchState
 pub mod Statements

@@ -3,6 +3,9 @@
 // Each function here does nothing. Its contract is one of the laws of the definitions, so that the check proves it.
 #![tactic(auto)]
 
+pub mod headline;
+pub mod search_ends;
+
 ghost use Rattle.std.specs.Prelude.{Option};
 ghost use Rattle.cip_rational.specs.Rational.{ℚ};
 ghost use Rattle.cip_problem.specs.Program.{Program};

@@ -9,17 +9,17 @@ use Rattle.cip_problem.specs.Log.{Entry}
 use Rattle.cip_cuts.specs.Improving.{IsNoDearer}
 use Rattle.cip_leaves.specs.Searched.{NoMore, IsOneOf, IsLeast, IsCovered}
 use Rattle.cip_leaves.proofs.Covers.{bound_holds}
-use Rattle.cip_leaf_programs.specs.WideLeaf.{IsWideLeaf}
+use Rattle.cip_leaves.specs.WideLeaf.{IsWideLeaf}
 use Rattle.cip_incumbent.specs.HeldPoint.{HeldPoint, HoldsPointOf}
 use Rattle.cip_search.specs.SearchState.{State, stay, all_nodes, IsSearch, IsAsGiven}
 use Rattle.cip_search.specs.Endings.{IsLeastBound}
 use Rattle.cip_search.proofs.Bounds.{there_later, no_more_same}
 use Rattle.cip_search.proofs.Logs as logs
 use Rattle.cip_search.proofs.Relaxed.{no_more_trans}
-use Rattle.cip_search_ends.specs.SearchEnds as ends
-use Rattle.cip_search_ends.specs.SearchEnds.{AreTrueEntries, IsTrueEntry, IsAnswer}
-use Rattle.cip_search_ends.specs.EndLaws.{ComesTo}
-use Rattle.cip_search_ends.proofs.EndsRight.{ends_are_right}
+use Rattle.cip_search.specs.SearchEnds as ends
+use Rattle.cip_search.specs.SearchEnds.{AreTrueEntries, IsTrueEntry, IsAnswer}
+use Rattle.cip_search.specs.EndLaws.{ComesTo}
+use Rattle.cip_search.proofs.EndsRight.{ends_are_right}
 use Rattle.cip_report.specs.declared.figures.Held.{Held}
 use Rattle.cip_endings.specs.AnswerOf.{held_of}
 use Rattle.cip_endings.specs.LeastBounds.{is_no_more, capped}

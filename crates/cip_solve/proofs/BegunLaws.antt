@@ -7,7 +7,7 @@ use Rattle.cip_problem.specs.Log.{Entry, Node, node_of}
 use Rattle.cip_cuts.specs.Improving.{IsBoundIn}
 use Rattle.cip_cuts.proofs.Reductions.{reduction_itself}
 use Rattle.cip_leaves.specs.Searched.{NoMore, first_node, nodes_given}
-use Rattle.cip_leaf_programs.specs.WideLeaf.{IsWideLeaf}
+use Rattle.cip_leaves.specs.WideLeaf.{IsWideLeaf}
 use Rattle.cip_incumbent.specs.HeldPoint.{Holding, nothing_held}
 use Rattle.cip_search.specs.SearchState.{State, stay, IsWayBack, IsSearch, IsAsGiven}
 use Rattle.cip_search.specs.Endings.{IsLeastBound}
@@ -16,10 +16,10 @@ use Rattle.cip_search.proofs.AsGiven as giving
 use Rattle.cip_search.proofs.Bounds.{no_more_itself}
 use Rattle.cip_search.proofs.Logs as logs
 use Rattle.cip_search.proofs.Members.{none_in, here, only_one}
-use Rattle.cip_search_ends.specs.SearchEnds as ends
-use Rattle.cip_search_ends.specs.SearchAnswers.{IsSearchAnswer}
-use Rattle.cip_search_ends.proofs.ShownNode.{true_entries}
-use Rattle.cip_search_ends.proofs.WorkLogs.{none_relaxed, none_marked}
+use Rattle.cip_search.specs.SearchEnds as ends
+use Rattle.cip_search.specs.SearchAnswers.{IsSearchAnswer}
+use Rattle.cip_search.proofs.ShownNode.{true_entries}
+use Rattle.cip_search.proofs.WorkLogs.{none_relaxed, none_marked}
 use Rattle.cip_tree.specs.Moves.{IsNew}
 use Rattle.cip_tree.specs.Nodes.{Nodes}
 use Rattle.cip_node.specs.KeptNodes.{cost_held, IsKept, IsHolding}

@@ -12,7 +12,7 @@ use Rattle.cip_tree.specs.Moves as tree
 use Rattle.cip_search.specs.SearchState.{State}
 use Rattle.cip_search.specs.Endings.{OneMatters, NoneMatters, IsBoundOfOne, IsLeastBound}
 use Rattle.cip_search.proofs.Members.{none_in, here}
-use Rattle.cip_search_ends.specs.EndLaws.{IsShownNode, ComesTo}
+use Rattle.cip_search.specs.EndLaws.{IsShownNode, ComesTo}
 use Rattle.cip_leaf.specs.declared.answers.Shown.{Shown}
 use Rattle.cip_report.specs.declared.figures.Ended.{Ended}
 use Rattle.cip_report.specs.declared.figures.Ended.TheVariants.{Optimal, Infeasible, Unbounded, NodeLimit, Gap, Wide, NoMemory}

@@ -13,10 +13,10 @@ use Rattle.cip_model.specs.Rays.{IsShownRay}
 use Rattle.cip_model.proofs.Meaning.Ray.{falls_along}
 use Rattle.cip_incumbent.specs.HeldPoint.{HeldPoint, Holding, IsHeldOf}
 use Rattle.cip_search.specs.Endings.{IsLeastBound}
-use Rattle.cip_search_ends.specs.SearchEnds as ends
-use Rattle.cip_search_ends.specs.SearchEnds.{IsAnswer}
-use Rattle.cip_search_ends.specs.SearchAnswers.{IsParkedLast, IsSearchAnswer}
-use Rattle.cip_search_ends.proofs.StartBounds.{answer_above}
+use Rattle.cip_search.specs.SearchEnds as ends
+use Rattle.cip_search.specs.SearchEnds.{IsAnswer}
+use Rattle.cip_search.specs.SearchAnswers.{IsParkedLast, IsSearchAnswer}
+use Rattle.cip_search.proofs.StartBounds.{answer_above}
 use Rattle.cip_tree.specs.Moves as tree
 use Rattle.cip_tree.specs.Nodes.{Nodes}
 use Rattle.cip_node_bounds.specs.declared.relaxed.Mark.{Mark}

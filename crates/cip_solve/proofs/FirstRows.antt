@@ -15,8 +15,8 @@ use Rattle.cip_dictionary.specs.declared.places.Line.{Line}
 use Rattle.cip_dictionary.specs.declared.places.Line.TheVariants as line
 use Rattle.cip_dictionary.specs.declared.places.EntryPlace as dictionary
 use Rattle.cip_leaves.specs.Wide.{InRow}
-use Rattle.cip_leaf_programs.specs.LeafProgram.{row_of_leaf, program_of_leaf}
-use Rattle.cip_leaf_programs.specs.WideLeaf.{FirstValueOverflows}
+use Rattle.cip_leaves.specs.LeafProgram.{row_of_leaf, program_of_leaf}
+use Rattle.cip_leaves.specs.WideLeaf.{FirstValueOverflows}
 
 split_at : (xs ys : List Placed) (place : dictionary.EntryPlace) (first : Option dictionary.EntryPlace) → first_overflow xs ≡ first → first_overflow (xs ++ ys) ≡ Some place → (first_overflow xs ≡ Some place) ⊎ (first_overflow ys ≡ Some place)
 split_at xs ys place None e h = inr (sym (overflow-append xs ys e) ∙ h)

@@ -12,12 +12,12 @@ use Rattle.cip_bland.specs.EndAnswers as linear
 use Rattle.cip_bland.specs.NoRepeat.{whole_answer}
 use Rattle.cip_leaves.specs.Leaf.{at_wholes, IsWholeBetween, IsLeaf}
 use Rattle.cip_leaves.specs.Wide.{InRow}
-use Rattle.cip_leaf_programs.specs.LeafProgram.{program_of_leaf}
-use Rattle.cip_leaf_programs.specs.WideLeaf.{AtPlace, EndOverflows, IsWideBy}
+use Rattle.cip_leaves.specs.LeafProgram.{program_of_leaf}
+use Rattle.cip_leaves.specs.WideLeaf.{AtPlace, EndOverflows, IsWideBy}
 use Rattle.cip_model.specs.declared.verdicts.Place.TheVariants.{Row as AtRow, Cost}
-use Rattle.cip_search_ends.specs.SearchEnds as ends
-use Rattle.cip_search_ends.specs.SearchEnds.{IsHeldPoint, EndHolds}
-use Rattle.cip_search_ends.specs.SearchAnswers.{IsSearchAnswer}
+use Rattle.cip_search.specs.SearchEnds as ends
+use Rattle.cip_search.specs.SearchEnds.{IsHeldPoint, EndHolds}
+use Rattle.cip_search.specs.SearchAnswers.{IsSearchAnswer}
 use Rattle.cip_report.specs.Answers.{StandsAmong, EndedFits, AnswerFits}
 use Rattle.cip_report.specs.declared.figures.Ended.{Ended}
 use Rattle.cip_report.specs.declared.figures.Ended.TheVariants.{Optimal, Infeasible, Unbounded, NodeLimit, Gap, Wide, NoMemory}

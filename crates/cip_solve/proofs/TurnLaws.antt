@@ -9,13 +9,13 @@ use Rattle.cip_problem.specs.Log.{End, Split, Closed, Parked, Entry, Node}
 use Rattle.cip_cert.specs.Lent.{Lent}
 use Rattle.cip_cuts.specs.Improving.{IsNoDearer}
 use Rattle.cip_leaf.specs.LeafAnswers.{shown_as}
-use Rattle.cip_leaf_programs.specs.WideLeaf.{IsWideLeaf}
+use Rattle.cip_leaves.specs.WideLeaf.{IsWideLeaf}
 use Rattle.cip_incumbent.specs.HeldPoint.{Holding}
 use Rattle.cip_search.specs.SearchState.{stay}
 use Rattle.cip_search.specs.Endings.{IsLeastBound}
 use Rattle.cip_search.proofs.Alike as alike
 use Rattle.cip_search.proofs.Logs as logs
-use Rattle.cip_search_ends.proofs.ShownNode.{true_entries}
+use Rattle.cip_search.proofs.ShownNode.{true_entries}
 use Rattle.cip_tree.specs.Moves as tree
 use Rattle.cip_tree.specs.Nodes.{Base, Nodes, TakenNode, box_of, shown}
 use Rattle.cip_rows.specs.RowPools.{Pool, kept_pool_rows}

@@ -12,19 +12,19 @@ use Rattle.cip_search.specs.SearchState.{IsGiven}
 use Rattle.cip_search.specs.Relaxation.{IsRelaxedBound}
 use Rattle.cip_search.proofs.Members.{here}
 use Rattle.cip_search.proofs.Relaxed.{wider}
-use Rattle.cip_search_ends.specs.SearchAnswers.{IsSplitEnd, AreRelaxed, AreOfEntries}
-use Rattle.cip_search_ends.proofs.WorkLogs.{unmarked_more, marked_more, later_given, relaxed_more}
+use Rattle.cip_search.specs.SearchAnswers.{IsSplitEnd, AreRelaxed, AreOfEntries}
+use Rattle.cip_search.proofs.WorkLogs.{unmarked_more, marked_more, later_given, relaxed_more}
 use Rattle.cip_tree.specs.Nodes.{Nodes, TakenNode, box_of, shown}
 use Rattle.cip_node_bounds.specs.NodeRows.{usable_rows}
 use Rattle.cip_node_bounds.specs.Relaxing.{IsMark}
 use Rattle.cip_node_bounds.specs.declared.relaxed.Mark.{Mark}
 use Rattle.cip_node.specs.Bounding.{IsAsGood}
 use Rattle.cip_node.specs.KeptNodes.{IsKept}
-use Rattle.cip_leaf_programs.specs.WideNodes.{IsWideAs}
+use Rattle.cip_leaves.specs.WideNodes.{IsWideAs}
 use Rattle.cip_node.specs.NodeEnds.{with_bound, LeavesEntry, IsAside, IsEnd}
 use Rattle.cip_node.specs.declared.ends.NodeEnd.{NodeEnd}
 use Rattle.cip_node.specs.declared.ends.NodeEnd.TheVariants as by
-use Rattle.cip_leaf_programs.specs.WideLeaf.{Shown}
+use Rattle.cip_leaves.specs.WideLeaf.{Shown}
 use Rattle.cip_solve.specs.Logs.{numbers_of, marks_by}
 use Rattle.cip_solve.specs.Solved.{own_rows, IsMet, AreMet}
 use Rattle.cip_solve.specs.Searching.{IsTold, IsWorseOf}

@@ -7,10 +7,10 @@ use Rattle.cip_problem.specs.Points.{IsFeasible, IsLowerBound}
 use Rattle.cip_problem.specs.Log.{Entry, IsLog}
 use Rattle.cip_model.specs.Rays.{IsShownRay}
 use Rattle.cip_incumbent.specs.HeldPoint.{Holding}
-use Rattle.cip_leaf_programs.specs.WideLeaf.{Shown}
+use Rattle.cip_leaves.specs.WideLeaf.{Shown}
 use Rattle.cip_leaf.specs.LeafAnswers.{shown_as}
 use Rattle.cip_search.specs.Endings.{IsLeastBound}
-use Rattle.cip_search_ends.specs.SearchAnswers.{AreRelaxed, AreOfEntries, IsParkedLast}
+use Rattle.cip_search.specs.SearchAnswers.{AreRelaxed, AreOfEntries, IsParkedLast}
 use Rattle.cip_tree.specs.Nodes.{Nodes}
 use Rattle.cip_node_bounds.specs.declared.relaxed.Mark.{Mark}
 use Rattle.cip_node.specs.KeptNodes.{cost_held, IsSearchOf, IsKept, IsHolding}

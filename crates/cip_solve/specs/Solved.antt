@@ -8,8 +8,8 @@ use Rattle.cip_problem.specs.Log.{Entry, Node, node_of}
 use Rattle.cip_cert.specs.Lent.{Lent}
 use Rattle.cip_leaves.specs.Searched.{nodes_given}
 use Rattle.cip_model.specs.Rays.{IsShownRay}
-use Rattle.cip_search_ends.specs.SearchEnds.{Unbounded, Answer}
-use Rattle.cip_search_ends.specs.SearchAnswers.{IsSearchAnswer}
+use Rattle.cip_search.specs.SearchEnds.{Unbounded, Answer}
+use Rattle.cip_search.specs.SearchAnswers.{IsSearchAnswer}
 use Rattle.cip_node_bounds.specs.Relaxing.{IsMark}
 use Rattle.cip_node_bounds.specs.declared.relaxed.Mark.{Mark}
 use Rattle.cip_node.specs.Beginning.{IsRootBound}

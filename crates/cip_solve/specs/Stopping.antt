@@ -5,7 +5,7 @@ use Rattle.cip_problem.specs.Program.{Program}
 use Rattle.cip_problem.specs.Log.{Entry}
 use Rattle.cip_cuts.specs.Improving.{IsNoDearer}
 use Rattle.cip_leaves.specs.Searched.{IsLeast}
-use Rattle.cip_search_ends.specs.SearchEnds.{AreTrueEntries}
+use Rattle.cip_search.specs.SearchEnds.{AreTrueEntries}
 use Rattle.cip_incumbent.specs.HeldPoint.{HeldPoint}
 use Rattle.cip_report.specs.declared.figures.Held.{Held}
 

@@ -4,7 +4,7 @@ ghost use Rattle.cip_rational.specs.Rational.{ℚ};
 ghost use Rattle.cip_problem.specs.Points.{IsLowerBound};
 ghost use Rattle.cip_problem.specs.Log.{Entry};
 ghost use Rattle.cip_problem.specs.WellFormed.{columns};
-ghost use Rattle.cip_search_ends.specs.SearchAnswers.{IsSearchAnswer};
+ghost use Rattle.cip_search.specs.SearchAnswers.{IsSearchAnswer};
 ghost use Rattle.cip_tree.specs.Nodes.{Nodes};
 ghost use Rattle.cip_node_bounds.specs.declared.relaxed.Mark.{Mark};
 ghost use Rattle.cip_node.specs.Cores.{IsReady};

@@ -1,5 +1,5 @@
 use Rattle.std.proofs.Common.{◌≡◌, rules}
-use Rattle.cip_leaf_programs.specs.LeafProgram.{merged}
+use Rattle.cip_leaves.specs.LeafProgram.{merged}
 use Rattle.cip_model.specs.Rays.{IsShownRay}
 use Rattle.cip_leaf.proofs.Rays.{ray_on}
 use Rattle.cip_leaf.proofs.few_moves.ray_of.Goals as goal

@@ -2,8 +2,8 @@ use Rattle.cip_linear.specs.LinearProgram.{LinearProgram, HasNoPoint}
 use Rattle.cip_simplex.specs.Reached.{Holds, IsEndAnswer}
 use Rattle.cip_simplex.specs.declared.answers.LpAnswer.TheVariants.{Infeasible}
 use Rattle.std.proofs.Common.{subst}
-use Rattle.cip_leaf_programs.specs.LeafProgram.{at_continuous, program_of_leaf}
-use Rattle.cip_leaf_programs.proofs.Merged.{point_on}
+use Rattle.cip_leaves.specs.LeafProgram.{at_continuous, program_of_leaf}
+use Rattle.cip_leaves.proofs.Merged.{point_on}
 use Rattle.cip_leaf.proofs.few_moves.shown_by_few.Goals as goal
 
 pub returns-in-Infeasible : goal.returns-in-Infeasible

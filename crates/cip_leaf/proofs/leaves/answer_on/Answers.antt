@@ -3,7 +3,7 @@ use Rattle.cip_linear.specs.LinearProgram.{LinearProgram}
 use Rattle.cip_bland.specs.NoRepeat.{whole_answer}
 use Rattle.cip_simplex.specs.LpAnswers.{IsAnswer}
 use Rattle.cip_simplex.specs.LpShape.{IsSolvable}
-use Rattle.cip_leaf_programs.specs.LeafProgram.{program_of_leaf}
+use Rattle.cip_leaves.specs.LeafProgram.{program_of_leaf}
 use Rattle.cip_leaf.specs.LeafAnswers.{EndsInOptimum}
 use Rattle.cip_leaf.proofs.Answered.{leaf_solvable, optimum_of, no_point_of}
 use Rattle.cip_leaf.proofs.leaves.answer_on.Goals as goal

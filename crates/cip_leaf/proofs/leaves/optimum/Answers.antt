@@ -1,5 +1,5 @@
 use Rattle.std.proofs.Common.{◌≡◌, sym, subst, rules}
-use Rattle.cip_leaf_programs.specs.LeafProgram.{merged}
+use Rattle.cip_leaves.specs.LeafProgram.{merged}
 use Rattle.cip_leaves.specs.Leaf.{IsPointOf}
 use Rattle.cip_model.specs.declared.verdicts.Verdict.TheVariants.{Feasible}
 use Rattle.cip_model.specs.Meaning.{VerdictHolds, Overflows}

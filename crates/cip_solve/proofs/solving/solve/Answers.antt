@@ -1,6 +1,6 @@
 use Rattle.std.proofs.Common.{IfSome, sym, subst}
 use Rattle.cip_problem.specs.Points.{IsLowerBound}
-use Rattle.cip_search_ends.specs.SearchAnswers.{IsSearchAnswer}
+use Rattle.cip_search.specs.SearchAnswers.{IsSearchAnswer}
 use Rattle.cip_endings.specs.AnswerOf.{answer_of}
 use Rattle.cip_solve.specs.Logs.{entries_of, marked_in}
 use Rattle.cip_solve.specs.Solved.{AreMet, RayIsShown}

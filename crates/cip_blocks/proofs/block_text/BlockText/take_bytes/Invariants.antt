@@ -1,6 +1,6 @@
 use Rattle.std.proofs.Common.{◌≡◌, ◌+◌, ◌≤◌, length}
 use Rattle.std.specs.Prelude.{fold}
-use Rattle.cip_block_steps.specs.BlockSteps.{BlockState}
+use Rattle.cip_block_rules.specs.BlockSteps.{BlockState}
 use Rattle.cip_problem.specs.Limits.{longest_text}
 use Rattle.cip_line_texts.specs.LineStream.{Stream, byte_read}
 use Rattle.cip_blocks.specs.BlockTexts.{kept_of, program_of, steps_of, StandsFor}

@@ -1,5 +1,5 @@
 use Rattle.std.proofs.Common.{length, sym, ap, ◌∙◌, subst}
-use Rattle.cip_search_ends.specs.SearchAnswers.{IsSearchAnswer}
+use Rattle.cip_search.specs.SearchAnswers.{IsSearchAnswer}
 use Rattle.cip_endings.specs.AnswerOf.{answer_of}
 use Rattle.cip_solve.specs.Logs.{numbers_of}
 use Rattle.cip_solve.specs.Solved.{AreMet}

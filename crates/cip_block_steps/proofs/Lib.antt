@@ -1,3 +1,0 @@
-mod BlockSame
-mod Owned
-mod Sound

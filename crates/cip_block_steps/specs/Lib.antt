@@ -1,3 +1,0 @@
-pub mod BlockOwners
-pub mod BlockStepStatements
-pub mod BlockSteps

@@ -1,4 +1,0 @@
-pub mod Examples
-pub mod Headline
-pub mod Printed
-pub mod Statements

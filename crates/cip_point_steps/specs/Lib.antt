@@ -1,2 +1,0 @@
-pub mod PointStepStatements
-pub mod PointSteps

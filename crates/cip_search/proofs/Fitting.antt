@@ -1,0 +1,60 @@
+-- The figures that are printed of a right answer fit the names of the program.
+use Rattle.std.proofs.Common.{◌≡◌, suc, Bool, true, false, List, [], ◌∷◌, length, Option, None, Some, IfSome, refl, sym, ap, ◌∙◌, subst, arith}
+use Rattle.std.specs.Prelude.{ℕ, option_map}
+use Rattle.std.proofs.lemmas.Slice.Zip.{AllZip-long}
+use Rattle.cip_rational.specs.Rational.{ℚ}
+use Rattle.cip_problem.specs.Program.{Program}
+use Rattle.cip_problem.specs.WellFormed.{IsWellFormed, columns}
+use Rattle.cip_problem.specs.Points.{printed}
+use Rattle.cip_problem.proofs.Points.AtPlaces.{IsInBox-long}
+use Rattle.cip_problem.specs.Log.{Entry}
+use Rattle.cip_leaves.specs.Leaf.{at_wholes, IsLeaf, IsWholeBetween}
+use Rattle.cip_leaves.specs.WideLeaf.{Shown}
+use Rattle.cip_search.specs.SearchEnds.{Ended, Optimal, Infeasible, Unbounded, NodeLimit, Gap, Wide, NoMemory, Held, Answer, IsHeldPoint, EndsAs, IsSettled, EndHolds}
+use Rattle.cip_answers.specs.Figures.{EndFits, FitNames, names_of}
+use Rattle.cip_search.specs.Printed.{IsPrintable, status_of, printed_held, figures_of}
+
+none_held : {A B : Type 0} (f : A → B) (o : Option A) → o ≡ None → option_map f o ≡ None
+none_held f None e = refl
+none_held f (Some x) e = absurd (cc)
+
+point_fits : (program : Program) (held : Option Held) → IsWellFormed program → IfSome held (IsHeldPoint program) → IfSome (option_map (printed_held program) held) (λ held. length held.point ≡ length (names_of program).columns)
+point_fits program None formed h = tt
+point_fits program (Some held) formed h = IsInBox-long program.bounds held.point h.feasible.within ∙ formed.bounds ∙ sym formed.column_names
+
+-- as many names of whole columns as sides of such
+as_many : {X Y : Type 0} (integral : List Bool) (xs : List X) (ys : List Y) → length xs ≡ length ys → length (at_wholes integral xs) ≡ length (at_wholes integral ys)
+as_many [] xs ys e = refl
+as_many (w ∷ ws) [] [] e = refl
+as_many (w ∷ ws) [] (y ∷ ys) e = absurd (omega (arith, e))
+as_many (w ∷ ws) (x ∷ xs) [] e = absurd (omega (arith, e))
+as_many (true ∷ ws) (x ∷ xs) (y ∷ ys) e = ap suc (as_many ws xs ys (omega (arith, e)))
+as_many (false ∷ ws) (x ∷ xs) (y ∷ ys) e = as_many ws xs ys (omega (arith, e))
+
+-- a leaf has a value for each whole column
+pub leaf_fits : (program : Program) (leaf : List ℚ) → IsWellFormed program → IsLeaf program leaf → length leaf ≡ length (names_of program).wholes
+leaf_fits program leaf formed h =
+    let long : length leaf ≡ length (at_wholes program.integral program.bounds) = AllZip-long IsWholeBetween (at_wholes program.integral program.bounds) leaf h in
+    long ∙ as_many program.integral program.bounds program.column_names (formed.bounds ∙ sym formed.column_names)
+
+module _ (program : Program) (box start : Option ℚ) (nodes : ℕ) (asked : Option ℚ) (log : List Entry) (answer : Answer) (formed : IsWellFormed program) where
+  infeasible_held : answer.ended ≡ Infeasible → IsSettled program start nodes asked log answer → answer.held ≡ None
+  infeasible_held e s = (subst (EndsAs program start nodes log answer.held) e s.ends).2
+
+  shown_leaf : (leaf : List ℚ) (shown : Shown) → answer.ended ≡ Wide leaf shown → IsSettled program start nodes asked log answer → IsLeaf program leaf
+  shown_leaf leaf shown e s = (subst (EndsAs program start nodes log answer.held) e s.ends).2.is_leaf
+
+  end_fits : (ended : Ended) → answer.ended ≡ ended → EndHolds program start nodes asked log answer ended → ((ray : List ℚ) → ended ≡ Unbounded ray → length ray ≡ columns program) → EndFits (names_of program) (figures_of program answer) (status_of program.row_names ended)
+  end_fits Optimal e h n = tt
+  end_fits Infeasible e h n = (none_held (printed_held program) answer.held (infeasible_held e h), none_held (printed program) answer.bound (h.no_bound e))
+  end_fits (Unbounded ray) e h n = (n ray refl ∙ sym formed.column_names, none_held (printed program) answer.bound h.no_bound)
+  end_fits NodeLimit e h n = tt
+  end_fits Gap e h n = tt
+  end_fits (Wide leaf shown) e h n = leaf_fits program leaf formed (shown_leaf leaf shown e h)
+  end_fits NoMemory e h n = tt
+
+  pub fits : IsPrintable program box start nodes asked log answer → FitNames (names_of program) (figures_of program answer)
+  fits p = record {
+    point = point_fits program answer.held formed p.right.point;
+    end_ = end_fits answer.ended refl p.right.end_ p.ray;
+  }

@@ -1,4 +1,0 @@
-pub mod EndsRight
-pub mod ShownNode
-pub mod StartBounds
-pub mod WorkLogs

@@ -1,3 +1,0 @@
-pub mod EndLaws
-pub mod SearchAnswers
-pub mod SearchEnds
