@@ -12,7 +12,8 @@ use lib.Chars.{codes}
 use Rattle.cip_rational.specs.Rational.{ℚ}
 use Rattle.cip_numerals.specs.NumberText.{natural_text, fraction_text}
 use Rattle.cip_numerals.proofs.NumberText.{natural_text_injective, fraction_text_plain, fraction_text_injective, IsFractionByte}
-use Rattle.cip_answers.specs.Figures.{Overflow, AtRow, AtCost, AtMoves, Status, Optimal, Infeasible, Unbounded, NodeLimit, Gap, Wide, NoMemory, Held, Figures, Names, FitNames, status_word, line, end_line, figure_text, point_lines, held_cost, held_lines, cost_lines, leaf_name, leaf_lines, ray_name, ray_lines, overflow_text, shown_lines, unless_infeasible, figure_lines, answer_text, usage_text, read_fault_text, no_memory_text, refusal_text}
+use Rattle.cip_leaves.specs.Leaf.{Leaf}
+use Rattle.cip_answers.specs.Figures.{Overflow, AtRow, AtCost, AtMoves, Status, Optimal, Infeasible, Unbounded, NodeLimit, Gap, Wide, NoMemory, Held, Figures, Names, FitNames, status_word, line, end_line, figure_text, point_lines, held_cost, held_lines, cost_lines, leaf_name, choice_text, choice_lines, leaf_lines, ray_name, ray_lines, overflow_text, shown_lines, unless_infeasible, figure_lines, answer_text, usage_text, read_fault_text, no_memory_text, refusal_text}
 
 -- texts that the test tells apart
 pub apart : (text other : List ℕ) → bytes_eq text other ≡ false → bytes_eq other other ≡ true → text ≢ other
@@ -172,17 +173,65 @@ overflow_parted place other e =
     let same = sym (line_then (codes "overflow") (overflow_text place) end_line) ∙ e ∙ line_then (codes "overflow") (overflow_text other) end_line in
     overflow_told place other (cancelled (codes "overflow ") (overflow_text place ++ 10 ∷ end_line) (overflow_text other ++ 10 ∷ end_line) same)
 
+choice_text-no_feed : (on : Bool) → HasNoFeed (choice_text on)
+choice_text-no_feed true = HasNoFeed-from_test (codes "on") refl
+choice_text-no_feed false = HasNoFeed-from_test (codes "off") refl
+
+choice_text_injective : (on other : Bool) → choice_text on ≡ choice_text other → on ≡ other
+choice_text_injective true true e = refl
+choice_text_injective true false e = absurd (apart (codes "on") (codes "off") refl refl e)
+choice_text_injective false true e = absurd (apart (codes "off") (codes "on") refl refl e)
+choice_text_injective false false e = refl
+
+-- the lines of two lists of choices with one for each name, with more after them
+choice_lines_parted :
+    (names : List (List ℕ)) (on other : List Bool) (rest more : List ℕ)
+    → length on ≡ length names → length other ≡ length names
+    → choice_lines names on ++ rest ≡ choice_lines names other ++ more → (on ≡ other) × (rest ≡ more)
+choice_lines_parted [] [] [] rest more p q e = (refl, e)
+choice_lines_parted [] (is_on ∷ on) other rest more p q e = absurd (cc)
+choice_lines_parted [] [] (is_on ∷ other) rest more p q e = absurd (cc)
+choice_lines_parted (name ∷ names) [] other rest more p q e = absurd (cc)
+choice_lines_parted (name ∷ names) (is_on ∷ on) [] rest more p q e = absurd (cc)
+choice_lines_parted (name ∷ names) (is_on ∷ on) (one ∷ other) rest more p q e =
+    let text = choice_text is_on in
+    let text' = choice_text one in
+    let left = append_assoc (line name text) (choice_lines names on) rest in
+    let right = append_assoc (line name text') (choice_lines names other) more in
+    let same = sym left ∙ e ∙ right in
+    let parts = line_parted name text text' _ _ (choice_text-no_feed is_on) (choice_text-no_feed one) same in
+    let others = choice_lines_parted names on other rest more (omega arith) (omega arith) parts.1 in (
+      ap (λ x. x ∷ on) (choice_text_injective is_on one parts.0) ∙ ap (λ xs. one ∷ xs) others.0,
+      others.1,
+    )
+
+-- a leaf, with more after it
+leaf_parted :
+    (names : Names) (leaf other : Leaf) (rest more : List ℕ)
+    → length leaf.values ≡ length names.wholes → length leaf.on ≡ length names.semis
+    → length other.values ≡ length names.wholes → length other.on ≡ length names.semis
+    → leaf_lines names leaf ++ rest ≡ leaf_lines names other ++ more → (leaf ≡ other) × (rest ≡ more)
+leaf_parted names leaf other rest more p on q on' e =
+    let same = sym (append_assoc (point_lines (map leaf_name names.wholes) leaf.values) _ rest) ∙ e ∙ append_assoc (point_lines (map leaf_name names.wholes) other.values) _ more in
+    let long = length-map names.wholes leaf_name in
+    let long' = length-map names.semis leaf_name in
+    let values = point_lines_parted (map leaf_name names.wholes) leaf.values other.values _ _ (p ∙ sym long) (q ∙ sym long) same in
+    let choices = choice_lines_parted (map leaf_name names.semis) leaf.on other.on rest more (on ∙ sym long') (on' ∙ sym long') values.1 in (
+      ap (λ x. record { values = x; on = leaf.on }) values.0 ∙ ap (λ x. record { values = other.values; on = x }) choices.0,
+      choices.1,
+    )
+
 -- a leaf with what overflows
 shown_parted :
-    (names : List (List ℕ)) (leaf leaf' : List ℚ) (place place' : Overflow)
-    → length leaf ≡ length names → length leaf' ≡ length names
+    (names : Names) (leaf leaf' : Leaf) (place place' : Overflow)
+    → length leaf.values ≡ length names.wholes → length leaf.on ≡ length names.semis
+    → length leaf'.values ≡ length names.wholes → length leaf'.on ≡ length names.semis
     → (leaf_lines names leaf ++ line (codes "overflow") (overflow_text place)) ++ end_line
     ≡ (leaf_lines names leaf' ++ line (codes "overflow") (overflow_text place')) ++ end_line
     → Wide leaf place ≡ Wide leaf' place'
-shown_parted names leaf leaf' place place' p q e =
+shown_parted names leaf leaf' place place' p on q on' e =
     let same = sym (append_assoc (leaf_lines names leaf) _ end_line) ∙ e ∙ append_assoc (leaf_lines names leaf') _ end_line in
-    let long = length-map names leaf_name in
-    let leaves = point_lines_parted (map leaf_name names) leaf leaf' _ _ (p ∙ sym long) (q ∙ sym long) same in
+    let leaves = leaf_parted names leaf leaf' _ _ p on q on' same in
     ap (λ l. Wide l place) leaves.0 ∙ ap (λ o. Wide leaf' o) (overflow_parted place place' leaves.1)
 
 -- a ray
@@ -292,7 +341,7 @@ module _ (names : Names) (held held' : Option Held) (bound bound' : Option ℚ) 
   alike Gap Gap p q k e = lines_alike Gap [] p q e
   alike (Wide leaf place) (Wide leaf' place') p q k e =
       let parts = lines_parted names.columns (first (Wide leaf place)) (second (Wide leaf' place')) _ _ p.point q.point e in
-      same_figures (first (Wide leaf place)) (second (Wide leaf' place')) (shown_parted names.wholes leaf leaf' place place' p.end_ q.end_ parts.after) parts.held parts.bound
+      same_figures (first (Wide leaf place)) (second (Wide leaf' place')) (shown_parted names leaf leaf' place place' p.end_.0 p.end_.1 q.end_.0 q.end_.1 parts.after) parts.held parts.bound
   alike NoMemory NoMemory p q k e = lines_alike NoMemory [] p q e
   alike status other p q k e = absurd (omega (arith, k))
 

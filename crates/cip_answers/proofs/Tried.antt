@@ -1,6 +1,6 @@
 -- The definitions at values.
 use lib.Chars.{codes}
-use Rattle.std.proofs.Common.{◌≡◌, ◌≢◌, arith, ℕ, List, [], ◌∷◌, ◌++◌, All, None, Some, refl, ap, ◌∙◌, zero-lt-suc}
+use Rattle.std.proofs.Common.{◌≡◌, ◌≢◌, arith, ℕ, true, false, List, [], ◌∷◌, ◌++◌, All, None, Some, refl, ap, ◌∙◌, zero-lt-suc}
 use Rattle.std.specs.Prelude.{AllPairs, ℤ, pos, negsuc}
 use Rattle.std.proofs.lemmas.List.Elements.{All-from_recursion}
 use Rattle.std.proofs.lemmas.List.Kept.{AllPairs-cons}
@@ -8,9 +8,9 @@ use Rattle.cip_rational.specs.Gcd.{gcd}
 use Rattle.cip_rational.specs.Rational.{integer, ratio, numerator, denominator}
 use Rattle.cip_rational.proofs.Rational.Lowest.{numerator-integer, denominator-integer, numerator-ratio, denominator-ratio}
 use Rattle.cip_numerals.specs.NumberText.{integer_text, denominator_text, fraction_text}
-use Rattle.cip_answers.specs.Figures.{Optimal, Unbounded, NodeLimit, Wide, AtRow, AtMoves, answer_text, usage_text, read_fault_text, no_memory_text}
+use Rattle.cip_answers.specs.Figures.{Optimal, Unbounded, NodeLimit, Wide, AtRow, AtCost, AtMoves, answer_text, usage_text, read_fault_text, no_memory_text}
 use Rattle.cip_answers.specs.Checks.{Above, Below, BreaksBound, BreaksRow, Feasible, WideCost, WideRow, check_text}
-use Rattle.cip_answers.specs.Statements.{same_names}
+use Rattle.cip_answers.specs.Statements.{same_names, whole_leaf}
 use Rattle.cip_answers.proofs.AnswerTexts.{apart}
 
 -- the text of a whole number
@@ -53,16 +53,31 @@ pub no_point :
 no_point = simp integer_figure
 
 pub wide_by_moves :
-    answer_text (record { columns = codes "y" ∷ []; wholes = [] }) (record {
-      status = Wide [] (AtMoves 1);
+    answer_text (record { columns = codes "y" ∷ []; wholes = []; semis = [] }) (record {
+      status = Wide (whole_leaf []) (AtMoves 1);
       held = None;
       bound = Some (integer (pos 0));
     })
     ≡ codes "status wide\ncost none\nbound 0\noverflow moves 1\nend\n"
 wide_by_moves = simp integer_figure
 
+pub wide_with_choices :
+    answer_text
+    (record {
+      columns = codes "x" ∷ codes "y" ∷ codes "z" ∷ [];
+      wholes = codes "y" ∷ [];
+      semis = codes "x" ∷ codes "z" ∷ [];
+    })
+    (record {
+      status = Wide (record { values = integer (pos 3) ∷ []; on = true ∷ false ∷ [] }) AtCost;
+      held = None;
+      bound = Some (integer (pos 0));
+    })
+    ≡ codes "status wide\ncost none\nbound 0\nleaf y 3\nleaf x on\nleaf z off\noverflow cost\nend\n"
+wide_with_choices = simp integer_figure
+
 pub unbounded :
-    answer_text (record { columns = codes "x" ∷ codes "y" ∷ []; wholes = codes "x" ∷ [] }) (record {
+    answer_text (record { columns = codes "x" ∷ codes "y" ∷ []; wholes = codes "x" ∷ []; semis = [] }) (record {
       status = Unbounded (integer (pos 0) ∷ integer (pos 1) ∷ []);
       held = Some (record { cost = integer (pos 0); point = integer (pos 0) ∷ integer (pos 0) ∷ [] });
       bound = None;
@@ -81,7 +96,7 @@ negative_ratio = simp (integer_figure, half_figure)
 
 pub wide :
     answer_text (same_names (codes "x" ∷ [])) (record {
-      status = Wide (integer (pos 18) ∷ []) (AtRow (codes "R1"));
+      status = Wide (whole_leaf (integer (pos 18) ∷ [])) (AtRow (codes "R1"));
       held = Some (record { cost = integer (negsuc 16); point = integer (pos 17) ∷ [] });
       bound = Some (integer (negsuc 17));
     })

@@ -1,10 +1,11 @@
 -- The figures of an answer to `solve`, and its text.
 use lib.Chars.{codes}
-use Rattle.std.specs.Prelude.{◌≡◌, length, map, IfSome, ℕ, List, [], ◌∷◌, ◌++◌, Option, None, Some, ⊤}
+use Rattle.std.specs.Prelude.{◌≡◌, length, map, IfSome, ℕ, Bool, true, false, List, [], ◌∷◌, ◌++◌, Option, None, Some, ⊤}
 use Rattle.cip_rational.specs.Rational.{ℚ}
 use Rattle.cip_numerals.specs.NumberText.{natural_text, fraction_text}
 use Rattle.cip_problem.specs.Program.{Program}
-use Rattle.cip_leaves.specs.Leaf.{at_wholes}
+use Rattle.cip_problem.specs.Choices.{is_open}
+use Rattle.cip_leaves.specs.Leaf.{at_wholes, Leaf}
 
 -- what overflows of a leaf: a sum of the row of this name, or of the cost; or so many moves come to one out of range
 pub data Overflow : Type 0 where
@@ -20,7 +21,7 @@ pub data Status : Type 0 where
   Unbounded : (ray : List ℚ) → Status
   NodeLimit : Status
   Gap : Status
-  Wide : (leaf : List ℚ) (place : Overflow) → Status
+  Wide : (leaf : Leaf) (place : Overflow) → Status
   NoMemory : Status
 
 -- a point with its cost: one is printed exactly where the other is
@@ -88,24 +89,39 @@ abbrev pub held_lines : List (List ℕ) → Option Held → List ℕ
 held_lines names None = []
 held_lines names (Some held) = point_lines names held.point
 
--- the names that an answer is printed with: those of the columns, and those of the whole columns among them
+-- the names that an answer is printed with: those of the columns, and among them those of the whole columns and of the
+-- semi-continuous ones
 pub record Names : Type 0 where
   pub columns : List (List ℕ)
   pub wholes : List (List ℕ)
+  pub semis : List (List ℕ)
 
 abbrev pub names_of : Program → Names
 names_of program = record {
   columns = program.column_names;
   wholes = at_wholes program.integral program.column_names;
+  semis = at_wholes (map is_open program.choices) program.column_names;
 }
 
 -- `leaf` before a name
 abbrev pub leaf_name : List ℕ → List ℕ
 leaf_name name = codes "leaf " ++ name
 
--- a line for each whole column: its name and its value in a leaf
-abbrev pub leaf_lines : List (List ℕ) → List ℚ → List ℕ
-leaf_lines names leaf = point_lines (map leaf_name names) leaf
+-- whether a column is on
+abbrev pub choice_text : Bool → List ℕ
+choice_text true = codes "on"
+choice_text false = codes "off"
+
+-- a line for each semi-continuous column: its name and whether it is on
+abbrev pub choice_lines : List (List ℕ) → List Bool → List ℕ
+choice_lines [] on = []
+choice_lines (name ∷ names) [] = []
+choice_lines (name ∷ names) (is_on ∷ on) = line name (choice_text is_on) ++ choice_lines names on
+
+-- a line for each whole column, with its value in a leaf, and then one for each semi-continuous column
+abbrev pub leaf_lines : Names → Leaf → List ℕ
+leaf_lines names leaf =
+    point_lines (map leaf_name names.wholes) leaf.values ++ choice_lines (map leaf_name names.semis) leaf.on
 
 -- what overflows
 abbrev pub overflow_text : Overflow → List ℕ
@@ -128,7 +144,7 @@ shown_lines names Infeasible = []
 shown_lines names (Unbounded ray) = ray_lines names.columns ray
 shown_lines names NodeLimit = []
 shown_lines names Gap = []
-shown_lines names (Wide leaf place) = leaf_lines names.wholes leaf ++ line (codes "overflow") (overflow_text place)
+shown_lines names (Wide leaf place) = leaf_lines names leaf ++ line (codes "overflow") (overflow_text place)
 shown_lines names NoMemory = []
 
 -- after infeasible there are no more figures
@@ -148,14 +164,16 @@ figure_lines names figures =
     (cost_lines figures ++ held_lines names.columns figures.held ++ shown_lines names figures.status)
 
 -- the ray, if there is one, has a change for each column, and there is no bound; the leaf that is shown, if there is
--- one, has a value for each whole column; after infeasible there is neither a point nor a bound
+-- one, has a value for each whole column and a choice for each semi-continuous one; after infeasible there is neither a
+-- point nor a bound
 abbrev pub EndFits : Names → Figures → Status → Type 0
 EndFits names figures Optimal = ⊤
 EndFits names figures Infeasible = (figures.held ≡ None) × (figures.bound ≡ None)
 EndFits names figures (Unbounded ray) = (length ray ≡ length names.columns) × (figures.bound ≡ None)
 EndFits names figures NodeLimit = ⊤
 EndFits names figures Gap = ⊤
-EndFits names figures (Wide leaf place) = length leaf ≡ length names.wholes
+EndFits names figures (Wide leaf place) =
+    (length leaf.values ≡ length names.wholes) × (length leaf.on ≡ length names.semis)
 EndFits names figures NoMemory = ⊤
 
 -- figures fit the names: the point, if there is one, has a value for each column, and the end fits

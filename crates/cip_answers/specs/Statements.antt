@@ -1,9 +1,10 @@
 -- The laws of the texts, each as one statement, and the definitions at values: functions of `src/lib.rt` have them as
 -- contracts.
 use lib.Chars.{codes}
-use Rattle.std.specs.Prelude.{◌≡◌, ◌≢◌, ℕ, pos, negsuc, List, [], ◌∷◌, All, AllPairs, None, Some}
-use Rattle.cip_rational.specs.Rational.{integer, ratio}
-use Rattle.cip_answers.specs.Figures.{Optimal, NodeLimit, Figures, FitNames, Names, Infeasible, Unbounded, Wide, AtRow, AtMoves, answer_text, usage_text, read_fault_text, no_memory_text, refusal_text}
+use Rattle.std.specs.Prelude.{◌≡◌, ◌≢◌, ℕ, pos, negsuc, true, false, List, [], ◌∷◌, All, AllPairs, None, Some}
+use Rattle.cip_rational.specs.Rational.{ℚ, integer, ratio}
+use Rattle.cip_leaves.specs.Leaf.{Leaf}
+use Rattle.cip_answers.specs.Figures.{Optimal, NodeLimit, Figures, FitNames, Names, Infeasible, Unbounded, Wide, AtRow, AtCost, AtMoves, answer_text, usage_text, read_fault_text, no_memory_text, refusal_text}
 
 -- two figures with one text, for one list of names, are the same
 abbrev pub AnswerTellsFigures : Type 0
@@ -27,7 +28,11 @@ pub record FixedTextsStandApart : Type 0 where
 
 -- the names of columns that are all whole
 abbrev pub same_names : List (List ℕ) → Names
-same_names names = record { columns = names; wholes = names }
+same_names names = record { columns = names; wholes = names; semis = [] }
+
+-- a leaf of a program without semi-continuous columns
+abbrev pub whole_leaf : List ℚ → Leaf
+whole_leaf values = record { values = values; on = [] }
 
 -- the definitions at values
 pub record Examples : Type 0 where
@@ -60,20 +65,33 @@ pub record Examples : Type 0 where
       ≡ codes "status infeasible\nend\n"
   pub wide :
       answer_text (same_names (codes "x" ∷ [])) (record {
-        status = Wide (integer (pos 18) ∷ []) (AtRow (codes "R1"));
+        status = Wide (whole_leaf (integer (pos 18) ∷ [])) (AtRow (codes "R1"));
         held = Some (record { cost = integer (negsuc 16); point = integer (pos 17) ∷ [] });
         bound = Some (integer (negsuc 17));
       })
       ≡ codes "status wide\ncost -17\nbound -18\nx 17\nleaf x 18\noverflow row R1\nend\n"
   pub wide_by_moves :
-      answer_text (record { columns = codes "y" ∷ []; wholes = [] }) (record {
-        status = Wide [] (AtMoves 1);
+      answer_text (record { columns = codes "y" ∷ []; wholes = []; semis = [] }) (record {
+        status = Wide (whole_leaf []) (AtMoves 1);
         held = None;
         bound = Some (integer (pos 0));
       })
       ≡ codes "status wide\ncost none\nbound 0\noverflow moves 1\nend\n"
+  pub wide_with_choices :
+      answer_text
+      (record {
+        columns = codes "x" ∷ codes "y" ∷ codes "z" ∷ [];
+        wholes = codes "y" ∷ [];
+        semis = codes "x" ∷ codes "z" ∷ [];
+      })
+      (record {
+        status = Wide (record { values = integer (pos 3) ∷ []; on = true ∷ false ∷ [] }) AtCost;
+        held = None;
+        bound = Some (integer (pos 0));
+      })
+      ≡ codes "status wide\ncost none\nbound 0\nleaf y 3\nleaf x on\nleaf z off\noverflow cost\nend\n"
   pub unbounded :
-      answer_text (record { columns = codes "x" ∷ codes "y" ∷ []; wholes = codes "x" ∷ [] }) (record {
+      answer_text (record { columns = codes "x" ∷ codes "y" ∷ []; wholes = codes "x" ∷ []; semis = [] }) (record {
         status = Unbounded (integer (pos 0) ∷ integer (pos 1) ∷ []);
         held = Some (record { cost = integer (pos 0); point = integer (pos 0) ∷ integer (pos 0) ∷ [] });
         bound = None;

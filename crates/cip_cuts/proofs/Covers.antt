@@ -1,5 +1,5 @@
 -- The search cover, its steps, and what it says.
-use Rattle.std.proofs.Common.{◌≡◌, ℕ, zero, suc, ℤ, true, false, List, [], ◌∷◌, ◌++◌, Option, None, Some, IfSome, Contains, refl, sym, ◌∙◌, subst, arith, slice_get, inl, inr, ◌⊎◌}
+use Rattle.std.proofs.Common.{◌≡◌, ℕ, zero, suc, ℤ, false, List, [], ◌∷◌, ◌++◌, Option, None, Some, IfSome, Contains, refl, sym, ◌∙◌, subst, arith, slice_get, inl, inr, ◌⊎◌}
 use Rattle.std.specs.List.Sorted.{IsPermutation}
 use Rattle.std.proofs.lemmas.Option.{none-some, same_Some}
 use Rattle.std.proofs.lemmas.List.Elements.{Contains-append_left, Contains-append_right, Contains-append_cases}
@@ -11,8 +11,10 @@ use Rattle.cip_problem.specs.WellFormed.{IsWellFormed}
 use Rattle.cip_problem.specs.Box.{IsInBox}
 use Rattle.cip_problem.specs.BoxBound.{box_bound}
 use Rattle.cip_problem.specs.Points.{IsFeasible, cost_of, IsLowerBound}
-use Rattle.cip_problem.specs.Log.{Node, root, low_half, high_half, matters}
+use Rattle.cip_problem.specs.Choices.{choice_at, AreStillOpen}
+use Rattle.cip_problem.specs.Log.{Node, root, low_node, high_node, CanSplitAt, matters}
 use Rattle.cip_problem.proofs.BoxBound.BelowCosts.{root_bound_holds}
+use Rattle.cip_problem.proofs.Log.Given.{keeps_now}
 use Rattle.cip_problem.proofs.Log.Halves as halves
 use Rattle.cip_cuts.specs.Improving.{IsImproving, HoldsInBox, IsBoundIn, HasNoImproving, IsNoDearer}
 use Rattle.cip_cuts.specs.Cover.{IsInOneOf, IsBounded, IsCover, IsReplacedBy, HasBoundFrom}
@@ -119,9 +121,9 @@ either_bounded : (program : Program) (held : Option ℚ) (low high at : Node) �
 either_bounded program held low high at h (inl e) = subst (λ n. IsBounded program held n) e h.0
 either_bounded program held low high at h (inr e) = subst (λ n. IsBounded program held n) e h.1
 
-pub split : (program : Program) (held : Option ℚ) (node low high : Node) (column : ℕ) (at : ℤ) → slice_get program.integral column ≡ Some true → low.box ≡ low_half node.box column at → high.box ≡ high_half node.box column at → (IsBounded program held node → IsBounded program held low × IsBounded program held high) → IsReplacedBy program held node (low ∷ high ∷ [])
-split program held node low high column at e a b f = record {
-  reached = λ point i w. in_a_half low high _ _ point a b (halves.halves_cover program.integral node.box column at point w i.feasible.whole e);
+pub split : (program : Program) (held : Option ℚ) (node low high : Node) (column : ℕ) (at : ℤ) → CanSplitAt (choice_at node.choices column) (slice_get program.integral column) → AreStillOpen program.choices node.choices → low.box ≡ (low_node node column at).box → high.box ≡ (high_node node column at).box → (IsBounded program held node → IsBounded program held low × IsBounded program held high) → IsReplacedBy program held node (low ∷ high ∷ [])
+split program held node low high column at e s a b f = record {
+  reached = λ point i w. in_a_half low high _ _ point a b (halves.halves_cover program.integral node column at point w i.feasible.whole (keeps_now program.choices node.choices point s i.feasible.choices) e);
   bounded = λ h other c. either_bounded program held low high other (f h) (one_of_two low high other c);
 }
 

@@ -9,7 +9,8 @@ use Rattle.cip_problem.specs.Activity.{StandsBelow, value_at}
 use Rattle.cip_problem.specs.Box.{Between, IsInBox, sides_at, box_inside}
 use Rattle.cip_problem.specs.Points.{IsSatisfied, AreWhole, IsFeasible, cost_of, IsLowerBound}
 use Rattle.cip_problem.specs.Wholes.{wholes_between}
-use Rattle.cip_problem.specs.Log.{Node, root, low_half, high_half, matters}
+use Rattle.cip_problem.specs.Choices.{choice_at, AreStillOpen}
+use Rattle.cip_problem.specs.Log.{Node, root, low_node, high_node, CanSplitAt, matters}
 use Rattle.cip_linear.specs.Aggregate.{Part, IsPartOf, bound_row, HoldsAt, AllHoldAt, Inequality, Holds, IsAggregate, Empties, implied_sides}
 use Rattle.cip_cuts.specs.Improving.{IsImproving, HoldsInBox, IsValidRow, IsValid, IsBoundIn, HasNoImproving, IsNoDearer}
 use Rattle.cip_cuts.specs.Cuts.{CanRound, rounded, rounded_sides, IsCrossed, row_of, cutoff_row, ScopedRow, HoldsInScope, cost_bound, HasWholeCosts}
@@ -121,7 +122,8 @@ pub record CoversGoOn : Type 0 where
       → IsPermutation nodes others → IsCover program held nodes → IsCover program held others
 
 -- by what a node is replaced: by nothing where its box has no improving point, or its bound is not below the cost held;
--- by a node with a box that holds its improving points; by the halves of a split of a whole column
+-- by a node with a box that holds its improving points; by the halves of a split, where the open choices of the node
+-- are the program's own
 pub record NodesAreReplaced : Type 0 where
   pub closed : (program : Program) (held : Option ℚ) (node : Node)
       → HasNoImproving program held node.box → IsReplacedBy program held node []
@@ -131,8 +133,9 @@ pub record NodesAreReplaced : Type 0 where
       → HoldsInBox program held node.box (IsInBox other.box)
       → (IsBounded program held node → IsBounded program held other) → IsReplacedBy program held node (other ∷ [])
   pub split : (program : Program) (held : Option ℚ) (node low high : Node) (column : ℕ) (at : ℤ)
-      → slice_get program.integral column ≡ Some true
-      → low.box ≡ low_half node.box column at → high.box ≡ high_half node.box column at
+      → CanSplitAt (choice_at node.choices column) (slice_get program.integral column)
+      → AreStillOpen program.choices node.choices
+      → low.box ≡ (low_node node column at).box → high.box ≡ (high_node node column at).box
       → (IsBounded program held node → IsBounded program held low × IsBounded program held high)
       → IsReplacedBy program held node (low ∷ high ∷ [])
 

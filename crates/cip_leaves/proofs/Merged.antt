@@ -10,6 +10,7 @@ use Rattle.cip_problem.specs.Program.{Term, Sides, Row, Program}
 use Rattle.cip_problem.specs.WellFormed.{IsWellFormed}
 use Rattle.cip_problem.specs.Activity.{activity, value_at, StandsBelow}
 use Rattle.cip_problem.specs.Box.{Between, IsInBox}
+use Rattle.cip_problem.specs.Choices.{KeepsChoices}
 use Rattle.cip_problem.specs.Points.{IsSatisfied, AreWhole, cost_of}
 use Rattle.cip_problem.proofs.Points.AtPlaces.{IsInBox-long}
 use Rattle.cip_linear.specs.LinearProgram.{IsProper, IsPoint}
@@ -177,13 +178,14 @@ module _ (program : Program) (leaf : List ℚ) where
 
   -- ---- points
 
-  pub point_back : (others : List ℚ) → IsWellFormed program → IsLeaf program leaf → IsPoint (program_of_leaf program leaf) others → IsPointOf program leaf (merged program.integral leaf others)
-  point_back others formed h k =
+  pub point_back : (others : List ℚ) → IsWellFormed program → program.choices ≡ [] → IsLeaf program leaf → IsPoint (program_of_leaf program leaf) others → IsPointOf program leaf (merged program.integral leaf others)
+  point_back others formed none h k =
       let e = formed.integral ∙ sym formed.bounds in
       record {
         feasible = record {
           within = merged_in_box program.integral program.bounds leaf others e h k.within;
           whole = merged_whole program.integral program.bounds leaf others e h;
+          choices = subst (λ choices. KeepsChoices choices (merged program.integral leaf others)) (sym none) (λ column. tt);
           rows = rows_back program.rows others k.rows;
         };
         values = wholes_merged program.integral program.bounds leaf others e h;

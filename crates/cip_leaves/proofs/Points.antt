@@ -1,12 +1,17 @@
 -- Points and their leaves.
-use Rattle.std.proofs.Common.{◌≡◌, Bool, true, false, List, [], ◌∷◌, length, All, refl, sym, ap, ◌∙◌, arith}
+use Rattle.std.proofs.Common.{◌≡◌, Bool, true, false, List, [], ◌∷◌, length, All, refl, sym, ap, ◌∙◌, subst, arith}
 use Rattle.std.proofs.lemmas.List.Elements.{All-head, All-tail}
 use Rattle.cip_rational.specs.Rational.{ℚ}
 use Rattle.cip_problem.specs.Program.{Sides, Program}
 use Rattle.cip_problem.specs.Box.{IsInBox}
 use Rattle.cip_problem.specs.Points.{AreWhole, IsFeasible}
+use Rattle.cip_problem.specs.Choices.{decided}
+use Rattle.cip_problem.specs.Log.{Node}
+use Rattle.cip_problem.specs.Statements.{IsNodeOf}
+use Rattle.cip_problem.proofs.Choices.Decided.{made}
 use Rattle.cip_problem.proofs.Points.AtPlaces.{IsInBox-long}
-use Rattle.cip_leaves.specs.Leaf.{at_wholes, IsLeafIn, IsLeaf, IsPointOf, IsOnlyLeaf}
+use Rattle.cip_leaves.specs.Leaf.{at_wholes, IsLeafIn, IsPointOf, IsOnlyLeaf, Leaf, IsPointOfLeaf, IsOnlyLeafOf}
+use Rattle.cip_leaves.specs.Statements.{HasLeaf}
 
 -- the whole values of a point of a box are a leaf of it
 pub own_leaf : (integral : List Bool) (box : List Sides) (point : List ℚ) → IsInBox box point → AreWhole integral point → IsLeafIn integral box (at_wholes integral point)
@@ -17,12 +22,31 @@ own_leaf (w ∷ ws) (s ∷ ss) [] h k = absurd h
 own_leaf (true ∷ ws) (s ∷ ss) (v ∷ vs) h k = (record { between = h.0; whole = k.0 refl }, own_leaf ws ss vs h.1 k.1)
 own_leaf (false ∷ ws) (s ∷ ss) (v ∷ vs) h k = own_leaf ws ss vs h.1 k.1
 
-pub feasible_leaf : (program : Program) (point : List ℚ) → IsFeasible program point → IsLeaf program (at_wholes program.integral point)
-feasible_leaf program point f = own_leaf program.integral program.bounds point f.within f.whole
+-- a feasible point has a leaf
+pub feasible_leaf : (program : Program) (point : List ℚ) → IsFeasible program point → HasLeaf program point
+feasible_leaf program point f =
+    let d = made program point f in
+    record {
+      leaf = record { values = at_wholes program.integral point; on = d.on };
+      is_leaf = record { each = d.each; values = own_leaf program.integral (decided program d.on).bounds point d.feasible.within d.feasible.whole };
+      is_point = record { feasible = d.feasible; values = refl };
+    }
 
 -- in a box with one whole assignment there is one leaf
 pub only_leaf : (integral : List Bool) (box : List Sides) (leaf point : List ℚ) → IsOnlyLeaf integral box leaf → IsInBox box point → AreWhole integral point → at_wholes integral point ≡ leaf
 only_leaf integral box leaf point only h k = only.only (at_wholes integral point) (own_leaf integral box point h k)
+
+-- in the box of a node with one leaf each feasible point has that leaf
+pub only_leaf_of : (program : Program) (node : Node) (leaf : Leaf) (point : List ℚ) → IsNodeOf program node → IsOnlyLeafOf program node leaf → IsInBox node.box point → IsFeasible program point → IsPointOfLeaf program leaf point
+only_leaf_of program node leaf point n only h f = record {
+  feasible = record {
+    within = subst (λ on. IsInBox (decided program on).bounds point) (sym only.on) (n.made only.made point h);
+    whole = f.whole;
+    choices = λ column. tt;
+    rows = f.rows;
+  };
+  values = only_leaf program.integral node.box leaf.values point only.values h f.whole;
+}
 
 -- where every column is whole nothing is left out
 pub all_wholes : {X : Type 0} (integral : List Bool) (entries : List X) → All (λ whole. whole ≡ true) integral → length entries ≡ length integral → at_wholes integral entries ≡ entries

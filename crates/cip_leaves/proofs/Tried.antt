@@ -4,20 +4,23 @@ use Rattle.std.specs.Prelude.{◌≤ℤ◌}
 use Rattle.std.proofs.lemmas.Bool.{false≢true}
 use Rattle.std.proofs.lemmas.Option.{none-some, same_Some}
 use Rattle.cip_rational.specs.Gcd.{gcd}
-use Rattle.cip_rational.specs.Rational.{ℚ, ◌≤ℚ◌, zeroℚ, ◌*ℚ◌, ◌+ℚ◌, integer, numerator, denominator, negate}
+use Rattle.cip_rational.specs.Rational.{ℚ, ◌≤ℚ◌, zeroℚ, ◌*ℚ◌, ◌+ℚ◌, whole, integer, numerator, denominator, negate}
 use Rattle.cip_rational.specs.Range.{largest, magnitude, too_large, fits_range, sum_overflows, difference_overflows, product_overflows}
 use Rattle.cip_rational.proofs.Rational.Lowest.{numerator-integer, denominator-integer}
 use Rattle.cip_rational.proofs.Rational.Rounding.{integer-mul, integer-negate, integer-zero, le_integer, integer_le}
 use Rattle.cip_rational.proofs.Rational.Order.{≤ℚ_refl}
-use Rattle.cip_rational.proofs.Rational.Ring.{zero-+ℚ}
+use Rattle.cip_rational.proofs.Rational.Ring.{zero-+ℚ, zero_is}
 use Rattle.cip_problem.specs.Program as problem
 use Rattle.std.proofs.lemmas.Int.{ints}
 use Rattle.cip_rational.proofs.Rational.Whole.{IsWhole-integer}
 use Rattle.cip_rational.proofs.Range.InRange.{fits-integer, fits_product}
 use Rattle.cip_rational.proofs.WithZero.{zero-sum_overflows}
-use Rattle.cip_leaves.specs.Leaf.{IsLeaf, at_wholes}
+use Rattle.cip_rational.proofs.Linear.{linear_le}
+use Rattle.cip_rational.proofs.Rational.Monotone.{whole_le, le_whole}
+use Rattle.cip_problem.specs.Examples.{semi_example, at_x}
+use Rattle.cip_leaves.specs.Leaf.{IsLeaf, at_wholes, IsLeafOf, IsPointOfLeaf}
 use Rattle.cip_leaves.specs.Wide.{InRow, InCost, added, is_wide_row, IsWideAt, fixed_part, fixed_cost, shift_overflows, fixed_values}
-use Rattle.cip_leaves.specs.Examples.{wide_program, leaf_of}
+use Rattle.cip_leaves.specs.Examples.{wide_program, leaf_of, leaf_at}
 
 -- 10^37 times 18 is out of the range
 not_fits : (q : ℚ) (y : ℤ) (d : ℕ) → numerator q ≡ y → denominator q ≡ d → fits_range q ≡ (nat_le (magnitude y) largest && nat_le d largest)
@@ -127,3 +130,25 @@ picked = refl
 
 pub spread : fixed_values (true ∷ false ∷ true ∷ []) (integer (pos 1) ∷ integer (pos 3) ∷ []) ≡ Some (integer (pos 1)) ∷ None ∷ Some (integer (pos 3)) ∷ []
 spread = refl
+
+-- ---- a semi-continuous column
+
+pub on_leaf : IsLeafOf semi_example (leaf_at (true ∷ []))
+on_leaf = record { each = refl; values = tt }
+
+pub on_point : IsPointOfLeaf semi_example (leaf_at (true ∷ [])) (at_x (whole 2 0))
+on_point = record {
+  feasible = record {
+    within = (record { above = ≤ℚ_refl (whole 2 0); below = whole_le 2 0 5 0 (omega arith) }, tt);
+    whole = (λ e. absurd (false≢true e), tt);
+    choices = λ column. tt;
+    rows = (record { above = linear_le [] (λ s w. omega arith); below = tt }, tt);
+  };
+  values = refl;
+}
+
+pub not_off : ¬ IsPointOfLeaf semi_example (leaf_at (false ∷ [])) (at_x (whole 2 0))
+not_off h = absurd (omega (arith, le_whole 2 0 0 0 (subst (λ t. whole 2 0 ≤ℚ t) zero_is h.feasible.within.0.below)))
+
+pub no_choice : ¬ IsLeafOf semi_example (leaf_at [])
+no_choice h = absurd (omega (arith, h.each))

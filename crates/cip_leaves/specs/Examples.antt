@@ -1,9 +1,10 @@
 -- The definitions tried: minimise -x, where 10^37 x is at least 0 and x is whole from 0 to 18. 17 is the greatest value
 -- whose product is in the range.
-use Rattle.std.specs.Prelude.{◌≡◌, ◌^◌, ◌-◌, ℕ, pos, negsuc, true, false, List, [], ◌∷◌, None, Some}
-use Rattle.cip_rational.specs.Rational.{ℚ, integer, zeroℚ}
+use Rattle.std.specs.Prelude.{◌≡◌, ◌^◌, ◌-◌, ℕ, pos, negsuc, Bool, true, false, List, [], ◌∷◌, None, Some}
+use Rattle.cip_rational.specs.Rational.{ℚ, whole, integer, zeroℚ}
 use Rattle.cip_problem.specs.Program.{Program}
-use Rattle.cip_leaves.specs.Leaf.{at_wholes, IsLeaf}
+use Rattle.cip_problem.specs.Examples.{semi_example, at_x}
+use Rattle.cip_leaves.specs.Leaf.{at_wholes, IsLeaf, Leaf, IsLeafOf, IsPointOfLeaf}
 use Rattle.cip_leaves.specs.Wide.{InRow, InCost, IsWideAt, fixed_values, shift_overflows}
 
 -- 10^37 x is at least 0
@@ -22,11 +23,16 @@ wide_program = record {
   maximized = false;
   integral = true ∷ [];
   bounds = record { low = Some zeroℚ; high = Some (integer (pos 18)) } ∷ [];
+  choices = [];
 }
 
 -- the leaf of one value
 abbrev pub leaf_of : ℕ → List ℚ
 leaf_of n = integer (pos n) ∷ []
+
+-- the leaf of a program without whole columns where these columns are on
+abbrev pub leaf_at : List Bool → Leaf
+leaf_at on = record { values = []; on = on }
 
 pub record Examples : Type 0 where
   pub leaf : IsLeaf wide_program (leaf_of 18)
@@ -42,3 +48,8 @@ pub record Examples : Type 0 where
   pub spread :
       fixed_values (true ∷ false ∷ true ∷ []) (integer (pos 1) ∷ integer (pos 3) ∷ [])
       ≡ Some (integer (pos 1)) ∷ None ∷ Some (integer (pos 3)) ∷ []
+  -- of a semi-continuous column from 2 to 5 the value 2 is on, and not off; one that is neither is no leaf
+  pub on_leaf : IsLeafOf semi_example (leaf_at (true ∷ []))
+  pub on_point : IsPointOfLeaf semi_example (leaf_at (true ∷ [])) (at_x (whole 2 0))
+  pub not_off : ¬ IsPointOfLeaf semi_example (leaf_at (false ∷ [])) (at_x (whole 2 0))
+  pub no_choice : ¬ IsLeafOf semi_example (leaf_at [])

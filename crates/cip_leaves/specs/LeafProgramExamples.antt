@@ -39,6 +39,7 @@ kink = record {
   maximized = false;
   integral = true ∷ false ∷ [];
   bounds = binary ∷ free ∷ [];
+  choices = [];
 }
 
 -- minimise y, from 0, where 10^38 y is at least 1 and 10^-38 y at most 5
@@ -54,6 +55,7 @@ steep = record {
   maximized = false;
   integral = false ∷ [];
   bounds = nonnegative ∷ [];
+  choices = [];
 }
 
 -- minimise -y, without rows, where x is 0 or 1 and y from 0
@@ -67,6 +69,7 @@ endless = record {
   maximized = false;
   integral = true ∷ false ∷ [];
   bounds = binary ∷ nonnegative ∷ [];
+  choices = [];
 }
 
 -- the leaf of kink where x is 1: 3y is at least -2, and at least 2

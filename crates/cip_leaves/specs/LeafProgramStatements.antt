@@ -16,12 +16,13 @@ pub record IsTold (program : Program) (leaf point : List ℚ) : Type 0 where
   pub same : point ≡ merged program.integral leaf (at_continuous program.integral point)
   pub is_point : IsPoint (program_of_leaf program leaf) (at_continuous program.integral point)
 
--- the points of a leaf are those of its program, beside the leaf's values, and their costs are those that they have
--- there, from the cost of the leaf's values on
+-- where a program has no choices, the points of a leaf are those of its program, beside the leaf's values, and their
+-- costs are those that they have there, from the cost of the leaf's values on
 pub record LeavesHavePrograms : Type 0 where
   pub proper : (program : Program) (leaf : List ℚ) → IsWellFormed program → IsProper (program_of_leaf program leaf)
   pub points : (program : Program) (leaf others : List ℚ)
-      → IsWellFormed program → IsLeaf program leaf → IsPoint (program_of_leaf program leaf) others
+      → IsWellFormed program → program.choices ≡ [] → IsLeaf program leaf
+      → IsPoint (program_of_leaf program leaf) others
       → IsPointOf program leaf (merged program.integral leaf others)
   pub all : (program : Program) (leaf point : List ℚ)
       → IsWellFormed program → IsPointOf program leaf point → IsTold program leaf point

@@ -5,16 +5,17 @@ use Rattle.std.specs.List.{Contains}
 use Rattle.cip_rational.specs.Rational.{ℚ, ◌≤ℚ◌}
 use Rattle.cip_problem.specs.Program.{Program}
 use Rattle.cip_problem.specs.Box.{IsInBox}
+use Rattle.cip_problem.specs.Choices.{decided}
 use Rattle.cip_problem.specs.Log.{Parked, Entry, Node, node_of, given_after, matters}
 use Rattle.cip_cuts.specs.Improving.{IsImproving, IsBoundIn}
-use Rattle.cip_leaves.specs.Leaf.{IsLeaf, IsOnlyLeaf}
+use Rattle.cip_leaves.specs.Leaf.{Leaf, IsLeafOf, IsOnlyLeafOf}
 use Rattle.cip_leaves.specs.Wide.{Place, IsWideAt, IsWide}
 
 -- ---- nodes and leaves
 
 -- the node that a search begins with
 abbrev pub first_node : Program → Option ℚ → Node
-first_node program start = record { number = 0; box = program.bounds; bound = start }
+first_node program start = record { number = 0; box = program.bounds; choices = program.choices; bound = start }
 
 -- the nodes that a log gives
 abbrev pub nodes_given : Program → Option ℚ → List Entry → List Node
@@ -112,11 +113,11 @@ pub record IsCovered (program : Program) (start : Option ℚ) (log : List Entry)
 
 -- ---- entries
 
--- the box of a node has one whole assignment, and that leaf is wide
+-- the box of a node has one leaf, which is wide
 pub record HasWideLeaf (program : Program) (node : Node) : Type 0 where
-  pub leaf : List ℚ
-  pub only : IsOnlyLeaf program.integral node.box leaf
-  pub wide : IsWide program leaf
+  pub leaf : Leaf
+  pub only : IsOnlyLeafOf program node leaf
+  pub wide : IsWide (decided program leaf.on) leaf.values
 
 -- an entry is a true one of its node: its bound is at least the node's and holds in the node's box, and where it says
 -- that the node was parked, that is a wide leaf
@@ -144,11 +145,11 @@ pub record IsFirstLeast (log : List Entry) (entry : Entry) : Type 0 where
 
 -- a leaf that is shown for an overflow: the parked leaf of least bound, which is wide at this place
 pub record IsShown
-    (program : Program) (start : Option ℚ) (log : List Entry) (leaf : List ℚ) (place : Place) : Type 0 where
+    (program : Program) (start : Option ℚ) (log : List Entry) (leaf : Leaf) (place : Place) : Type 0 where
   pub entry : Entry
   pub node : Node
   pub chosen : IsFirstLeast log entry
   pub given : node_of (nodes_given program start log) entry.node ≡ Some node
-  pub only : IsOnlyLeaf program.integral node.box leaf
-  pub is_leaf : IsLeaf program leaf
-  pub wide : IsWideAt program leaf place
+  pub only : IsOnlyLeafOf program node leaf
+  pub is_leaf : IsLeafOf program leaf
+  pub wide : IsWideAt (decided program leaf.on) leaf.values place

@@ -1,13 +1,12 @@
 -- Nodes of a search whose boxes have one leaf, which is wide.
-use Rattle.std.specs.Prelude.{List}
-use Rattle.cip_rational.specs.Rational.{ℚ}
 use Rattle.cip_problem.specs.Program.{Program}
+use Rattle.cip_problem.specs.Choices.{decided}
 use Rattle.cip_problem.specs.Log.{Node}
-use Rattle.cip_leaves.specs.Leaf.{IsLeaf, IsOnlyLeaf}
+use Rattle.cip_leaves.specs.Leaf.{Leaf, IsLeafOf, IsOnlyLeafOf}
 use Rattle.cip_leaves.specs.WideLeaf.{Shown, IsWideBy}
 
--- the box of a node has one whole assignment, this leaf, which is wide by what is shown
-pub record IsWideAs (program : Program) (node : Node) (leaf : List ℚ) (shown : Shown) : Type 0 where
-  pub only : IsOnlyLeaf program.integral node.box leaf
-  pub is_leaf : IsLeaf program leaf
-  pub wide : IsWideBy program leaf shown
+-- the box of a node has one leaf, this one, which is wide by what is shown
+pub record IsWideAs (program : Program) (node : Node) (leaf : Leaf) (shown : Shown) : Type 0 where
+  pub only : IsOnlyLeafOf program node leaf
+  pub is_leaf : IsLeafOf program leaf
+  pub wide : IsWideBy (decided program leaf.on) leaf.values shown

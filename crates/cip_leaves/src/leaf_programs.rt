@@ -5,8 +5,8 @@
 ghost use Rattle.cip_leaves.specs.LeafProgramExamples.{Examples};
 ghost use Rattle.cip_leaves.specs.LeafProgramStatements.{LeavesHavePrograms, WholeLeavesAgree};
 
-/// The points of a leaf are those of its program, beside the leaf's values, and their costs are those that they have
-/// there, from the cost of the leaf's values on.
+/// Where a program has no choices, the points of a leaf are those of its program, beside the leaf's values, and their
+/// costs are those that they have there, from the cost of the leaf's values on.
 pub fn leaves_have_programs()
     ensures { LeavesHavePrograms }
 {}

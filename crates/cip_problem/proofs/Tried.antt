@@ -34,6 +34,7 @@ well_formed = record {
   few_columns = lit≤ tt;
   few_rows = lit≤ tt;
   rows = All-from_recursion (λ row. StandsBelow 3 row.terms) example.rows (three_terms 2 3 1 5, (three_terms 4 1 2 11, (three_terms 3 4 2 8, tt)));
+  choices = λ column. tt;
 }
 
 -- ---- points
@@ -48,6 +49,7 @@ pub feasible : IsFeasible example (point_of (whole 2 0) zeroℚ (whole 1 0))
 feasible = record {
   within = (small 2 (lit≤ tt), (zero_between, (small 1 (lit≤ tt), tt)));
   whole = (λ _. IsWhole-whole 2 0, (λ _. IsWhole-zero, (λ _. IsWhole-whole 1 0, tt)));
+  choices = λ column. tt;
   rows = (
     record { above = tt; below = linear_le [] (λ s w. omega arith) },
     (
@@ -101,10 +103,10 @@ count_as_tried = ap (λ w. times w (times w (times w (Some 1)))) eleven
 
 -- ---- logs
 
-not_in_nothing : (n : ℕ) → ¬ Contains [] n
+pub not_in_nothing : (n : ℕ) → ¬ Contains [] n
 not_in_nothing n h = absurd (omega (arith, h.1))
 
-not_the_only : (m n : ℕ) → m ≢ n → ¬ Contains (m ∷ []) n
+pub not_the_only : (m n : ℕ) → m ≢ n → ¬ Contains (m ∷ []) n
 not_the_only m n e (zero, h, k) = e k
 not_the_only m n e (suc j, h, k) = absurd (omega (arith, h))
 
@@ -114,9 +116,9 @@ root_closed = (record { node = root example; given_before = refl; once = not_in_
 whole_zero : HasWhole up_to_ten
 whole_zero = record { number = pos 0; between = subst (Between (Some (whole 0 0)) (Some (whole 10 0))) (sym (integer-pos 0)) (small 0 (lit≤ tt)) }
 
-can_split : CanSplit example.integral example.bounds 0 (pos 5)
+can_split : CanSplit example.integral (root example) 0 (pos 5)
 can_split = record {
-  whole = refl;
+  kind = refl;
   low = (λ _. record { number = pos 0; between = record { above = linear_le [] (λ s w. omega arith); below = linear_le [] (λ s w. omega arith) } }, (λ _. whole_zero, (λ _. whole_zero, tt)));
   high = (λ _. record { number = pos 10; between = record { above = linear_le [] (λ s w. omega arith); below = linear_le [] (λ s w. omega arith) } }, (λ _. whole_zero, (λ _. whole_zero, tt)));
 }
@@ -131,7 +133,7 @@ root_split = (
   },
   (
     record {
-      node = record { number = 2; box = high_half example.bounds 0 (pos 5); bound = None };
+      node = record { number = 2; box = high_half example.bounds 0 (pos 5); choices = []; bound = None };
       given_before = refl;
       once = not_the_only 0 2 (λ e. absurd (omega (arith, e)));
       right = tt;

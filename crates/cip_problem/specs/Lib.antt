@@ -1,6 +1,7 @@
 pub mod Activity
 pub mod Box
 pub mod BoxBound
+pub mod Choices
 pub mod Codes
 pub mod Examples
 pub mod Limits

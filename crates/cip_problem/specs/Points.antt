@@ -7,6 +7,7 @@ use Rattle.cip_rational.specs.Sums.{dot}
 use Rattle.cip_problem.specs.Program.{Row, Program}
 use Rattle.cip_problem.specs.Activity.{activity}
 use Rattle.cip_problem.specs.Box.{Between, IsInBox}
+use Rattle.cip_problem.specs.Choices.{KeepsChoices}
 
 -- a row is satisfied: its sum of products lies between its sides
 abbrev pub IsSatisfied : Row → List ℚ → Type 0
@@ -16,10 +17,12 @@ IsSatisfied row point = Between row.low row.high (activity row.terms point)
 abbrev pub AreWhole : List Bool → List ℚ → Type 0
 AreWhole integral point = AllZip (λ whole value. whole ≡ true → IsWhole value) integral point
 
--- a point is feasible: it keeps all bounds, whole columns have whole values, and all rows are satisfied
+-- a point is feasible: it keeps all bounds, whole columns have whole values, semi-continuous ones are 0 or lie between
+-- their own sides, and all rows are satisfied
 pub record IsFeasible (program : Program) (point : List ℚ) : Type 0 where
   pub within : IsInBox program.bounds point
   pub whole : AreWhole program.integral point
+  pub choices : KeepsChoices program.choices point
   pub rows : AllByRecursion (λ row. IsSatisfied row point) program.rows
 
 -- the cost of a point in the minimised form: the constant and the sum of products of costs and values

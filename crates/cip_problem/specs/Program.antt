@@ -18,8 +18,17 @@ pub record Row : Type 0 where
   pub low : Option ℚ
   pub high : Option ℚ
 
+-- What is chosen of a column. A semi-continuous column has the value 0, or one between its own sides: while that is
+-- open, the choice holds these sides; then the column is off, at 0, or on, between them. A plain column has no choice.
+pub data Choice : Type 0 where
+  Plain : Choice
+  Open : (own : Sides) → Choice
+  Off : Choice
+  On : Choice
+
 -- A program. Rows and columns are numbered from 0 in the order of the lists. The costs and the
--- constant are those of the minimised form: where the text maximises they are its negated ones.
+-- constant are those of the minimised form: where the text maximises they are its negated ones. The
+-- bounds of a semi-continuous column hold 0 too. Columns past the end of the choices are plain.
 pub record Program : Type 0 where
   pub column_names : List (List ℕ)
   pub row_names : List (List ℕ)
@@ -29,3 +38,4 @@ pub record Program : Type 0 where
   pub maximized : Bool
   pub integral : List Bool
   pub bounds : List Sides
+  pub choices : List Choice

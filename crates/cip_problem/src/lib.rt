@@ -3,23 +3,40 @@
 // Each function here does nothing. Its contract is one of the laws of the definitions, so that the check proves it.
 #![tactic(auto)]
 
-ghost use Rattle.cip_problem.specs.Examples.{ProgramExamples};
-ghost use Rattle.cip_problem.specs.Statements.{HalvesCover, HalvesWithin, HalvesCount, BoxBoundHolds, InnerBoxes, SideTests, LogsAreShort};
+ghost use Rattle.cip_problem.specs.Examples.{ProgramExamples, SemiExamples};
+ghost use Rattle.cip_problem.specs.Statements.{HalvesCover, HalvesWithin, HalvesCount, SidesMeet, ChoicesAreMade, LogsGiveNodes, BoxBoundHolds, InnerBoxes, SideTests, LogsAreShort};
 
-/// A point of a box that has whole values in the whole columns lies in one of the halves of each split of such a
-/// column.
+/// A point of a node's box that has whole values in the whole columns, and values that the choices allow, lies in one
+/// of the halves of each split.
 pub fn halves_cover()
     ensures { HalvesCover }
 {}
 
-/// A point of either half of a split lies in the box that was split.
+/// A point of either half of a split lies in the box of the node that was split.
 pub fn halves_within()
     ensures { HalvesWithin }
 {}
 
-/// The two halves of a split have no more whole assignments together than the box.
+/// The two halves of a split have no more leaves together than the node.
 pub fn halves_count()
     ensures { HalvesCount }
+{}
+
+/// What lies between sides that are met lies between both, and the other way round.
+pub fn sides_meet()
+    ensures { SidesMeet }
+{}
+
+/// A feasible point is one of the program in which some choices are made, and such a point is feasible; that program is
+/// well-formed.
+pub fn choices_are_made()
+    ensures { ChoicesAreMade }
+{}
+
+/// The box of each node of a log lies in the program's, its open choices are the program's own, and where none is open
+/// it lies in the box of the program in which the choices are made so.
+pub fn logs_give_nodes()
+    ensures { LogsGiveNodes }
 {}
 
 /// No point of a box costs less than the box bound, and so no feasible point less than that of the program's own box.
@@ -39,7 +56,7 @@ pub fn side_tests()
     ensures { SideTests }
 {}
 
-/// A log over a program whose box has n whole assignments has at most max(1, 2n-1) entries.
+/// A log over a program whose box has n leaves has at most max(1, 2n-1) entries.
 pub fn logs_are_short()
     ensures { LogsAreShort }
 {}
@@ -48,4 +65,10 @@ pub fn logs_are_short()
 /// lists of entries are logs; the box bound, the number of whole assignments and a row's activity are those figures.
 pub fn examples()
     ensures { ProgramExamples }
+{}
+
+/// Of a program with a semi-continuous column from 2 to 5 one of three points is feasible, at that cost, and it has two
+/// leaves; its halves are as worked out by hand, and a choice that is made isn't made again.
+pub fn semi_examples()
+    ensures { SemiExamples }
 {}

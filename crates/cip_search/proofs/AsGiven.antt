@@ -6,7 +6,8 @@ use Rattle.std.proofs.lemmas.List.Elements.{Contains-append_left, Contains-appen
 use Rattle.std.proofs.lemmas.List.Sorted.{Contains-permutation, IsPermutation-sym}
 use Rattle.cip_rational.specs.Rational.{ℚ}
 use Rattle.cip_problem.specs.Program.{Program}
-use Rattle.cip_problem.specs.Log.{End, Closed, Parked, Split, Entry, Node, low_half, high_half, node_of, CanSplit, AllFollow}
+use Rattle.cip_problem.specs.Log.{End, Closed, Parked, Split, Entry, Node, node_of, CanSplit, AllFollow}
+use Rattle.cip_problem.proofs.Log.SameHalves.{low_box, high_box}
 use Rattle.cip_leaves.specs.Searched.{first_node, nodes_given}
 use Rattle.cip_search.specs.SearchState.{State, WayBack, unended, all_nodes, parked_entry, IsSearch, IsAsGiven}
 use Rattle.cip_search.specs.Statements.{closed_entry, split_entry, AreHalves}
@@ -121,7 +122,7 @@ module _ (program reduced : Program) (way : WayBack) (Wide : Program → List �
   pub parked : (state : State) (node : Node) (work : List Node) → state.work ≡ node ∷ work → IsSearch program reduced way Wide start state → IsAsGiven reduced start state → IsAsGiven reduced start (record state { work = work; parked = state.parked ++ node ∷ []; log = state.log ++ record { node = node.number; bound = node.bound; end = Parked } ∷ [] })
   parked state node work e s h = parked_at state.held node work state.open_ state.parked state.log (ended.written program reduced way Wide start state node work e s) (subst (λ t. IsAsGiven reduced start (record state { work = t })) e h)
 
-  module _ (held : Option ℚ) (node low high : Node) (work open_ parked now : List Node) (log : List Entry) (column : ℕ) (at : ℤ) (can : CanSplit reduced.integral node.box column at) (halved : AreHalves node column at low high) (p : IsPermutation (low ∷ high ∷ open_) now) (followed : AllFollow reduced.integral (first_node reduced start ∷ []) [] (log ++ split_entry node column at low.number high.number ∷ [])) (s : ended.At program reduced way Wide start held (node ∷ work) open_ parked log) (h : As held (node ∷ work) open_ parked log) where
+  module _ (held : Option ℚ) (node low high : Node) (work open_ parked now : List Node) (log : List Entry) (column : ℕ) (at : ℤ) (can : CanSplit reduced.integral node column at) (halved : AreHalves node column at low high) (p : IsPermutation (low ∷ high ∷ open_) now) (followed : AllFollow reduced.integral (first_node reduced start ∷ []) [] (log ++ split_entry node column at low.number high.number ∷ [])) (s : ended.At program reduced way Wide start held (node ∷ work) open_ parked log) (h : As held (node ∷ work) open_ parked log) where
     rest : List Node
     rest = (work ++ open_) ++ parked
 
@@ -146,14 +147,20 @@ module _ (program reduced : Program) (way : WayBack) (Wide : Program → List �
         let g = ended.node_given program reduced way Wide start held node work open_ parked log (Split column at low.number high.number) s in
         h.boxes node g.given (here node ((work ++ open_) ++ parked)) g.found
 
+    abbrev was_given_node : Node
+    was_given_node = (ended.node_given program reduced way Wide start held node work open_ parked log (Split column at low.number high.number) s).given
+
+    same_choices : node.choices ≡ was_given_node.choices
+    same_choices = (ended.node_given program reduced way Wide start held node work open_ parked log (Split column at low.number high.number) s).choices
+
     old_box : (other given : Node) → Contains (node ∷ ((work ++ open_) ++ parked)) other → node_of after other.number ≡ Some given → other.box ≡ given.box
     old_box other given c e = h.boxes other given c (was_given held node work open_ parked log (Split column at low.number high.number) s other given c e)
 
     split_boxes : (other given : Node) → Contains ((work ++ now) ++ parked) other → node_of after other.number ≡ Some given → other.box ≡ given.box
     split_boxes other given c = elim (Contains-append_cases (work ++ now) parked other c) [
       | inl k ↦ elim (ended.now_cases program reduced way Wide start held node low high work open_ parked now log column at can halved p followed s other k) [
-        | inl j ↦ subst (λ (n : Node). node_of after n.number ≡ Some given → n.box ≡ given.box) j (λ e. halved.low_box ∙ ap (λ b. low_half b column at) same_box ∙ ap (λ (n : Node). n.box) (is_low given e))
-        | inr (inl j) ↦ subst (λ (n : Node). node_of after n.number ≡ Some given → n.box ≡ given.box) j (λ e. halved.high_box ∙ ap (λ b. high_half b column at) same_box ∙ ap (λ (n : Node). n.box) (is_high given e))
+        | inl j ↦ subst (λ (n : Node). node_of after n.number ≡ Some given → n.box ≡ given.box) j (λ e. halved.low_box ∙ low_box node was_given_node column at same_box same_choices ∙ ap (λ (n : Node). n.box) (is_low given e))
+        | inr (inl j) ↦ subst (λ (n : Node). node_of after n.number ≡ Some given → n.box ≡ given.box) j (λ e. halved.high_box ∙ high_box node was_given_node column at same_box same_choices ∙ ap (λ (n : Node). n.box) (is_high given e))
         | inr (inr j) ↦ old_box other given (later node other ((work ++ open_) ++ parked) (Contains-append_left (work ++ open_) parked other j))
       ]
       | inr k ↦ old_box other given (later node other ((work ++ open_) ++ parked) (Contains-append_right (work ++ open_) parked other k))
@@ -171,6 +178,6 @@ module _ (program reduced : Program) (way : WayBack) (Wide : Program → List �
     split_at : As held work now parked (log ++ split_entry node column at low.number high.number ∷ [])
     split_at = record { boxes = split_boxes; bounds = split_bounds }
 
-  pub split : (state : State) (node low high : Node) (work open_ : List Node) (column : ℕ) (at : ℤ) → state.work ≡ node ∷ work → CanSplit reduced.integral node.box column at → AreHalves node column at low high → IsPermutation (low ∷ high ∷ state.open_) open_ → AllFollow reduced.integral (first_node reduced start ∷ []) [] (state.log ++ split_entry node column at low.number high.number ∷ []) → IsSearch program reduced way Wide start state → IsAsGiven reduced start state → IsAsGiven reduced start (record state { work = work; open_ = open_; log = state.log ++ split_entry node column at low.number high.number ∷ [] })
+  pub split : (state : State) (node low high : Node) (work open_ : List Node) (column : ℕ) (at : ℤ) → state.work ≡ node ∷ work → CanSplit reduced.integral node column at → AreHalves node column at low high → IsPermutation (low ∷ high ∷ state.open_) open_ → AllFollow reduced.integral (first_node reduced start ∷ []) [] (state.log ++ split_entry node column at low.number high.number ∷ []) → IsSearch program reduced way Wide start state → IsAsGiven reduced start state → IsAsGiven reduced start (record state { work = work; open_ = open_; log = state.log ++ split_entry node column at low.number high.number ∷ [] })
   split state node low high work open_ column at e can halved p followed s h =
       split_at state.held node low high work state.open_ state.parked open_ state.log column at can halved p followed (ended.written program reduced way Wide start state node work e s) (subst (λ t. IsAsGiven reduced start (record state { work = t })) e h)

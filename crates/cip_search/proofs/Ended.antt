@@ -10,8 +10,9 @@ use Rattle.std.proofs.lemmas.List.Sorted.{Contains-permutation, IsPermutation-sy
 use Rattle.cip_rational.specs.Rational.{ℚ}
 use Rattle.cip_problem.specs.Program.{Program}
 use Rattle.cip_problem.specs.Box.{IsInBox}
-use Rattle.cip_problem.specs.Log.{End, Split, Closed, Parked, Entry, Node, low_half, high_half, node_of, halves, nodes_of, given_after, CanSplit, IsRightEnd, AllFollow, matters}
-use Rattle.cip_problem.proofs.Log.Halves.{low_half_within, high_half_within}
+use Rattle.cip_problem.specs.Log.{End, Split, Closed, Parked, Entry, Node, low_node, high_node, node_of, halves, nodes_of, given_after, CanSplit, IsRightEnd, AllFollow, matters}
+use Rattle.cip_problem.proofs.Log.Halves.{low_node_within, high_node_within}
+use Rattle.cip_problem.proofs.Log.SameHalves.{low_choices, high_choices, low_node_of_both, high_node_of_both}
 use Rattle.cip_cuts.specs.Improving.{HasNoImproving}
 use Rattle.cip_cuts.specs.Cover.{IsCover}
 use Rattle.cip_cuts.proofs.Covers as covers
@@ -21,7 +22,7 @@ use Rattle.cip_search.specs.SearchState.{State, WayBack, HasNoEntry, IsGiven, Ar
 use Rattle.cip_search.specs.Statements.{closed_entry, split_entry, AreHalves}
 use Rattle.cip_search.proofs.Members.{none_in, here, later, here_or_later, only_one, mapped, hits, hit, missed, none_hits, others_apart, rest_apart}
 use Rattle.cip_search.proofs.Bounds.{HoldsThere, no_more_same, there_inside}
-use Rattle.cip_search.proofs.Halved.{low_of_both, high_of_both}
+use Rattle.cip_search.proofs.Told.{given_node_of}
 use Rattle.cip_search.proofs.Kept.{same_cover, with_more}
 use Rattle.cip_search.proofs.OneMore.{none_or_some, node_of_kept, node_of_new, node_of_here, node_of_later, node_of_among, given_more, follow_more, taken_more, taken_before, taken_last, taken_given}
 
@@ -78,7 +79,7 @@ module _ (program reduced : Program) (way : WayBack) (Wide : Program → List �
     still number given e = ap (λ g. node_of g number) after_is ∙ node_of_kept before more number given e
 
     pub given_still : (other : Node) → IsGiven reduced start log held other → IsGiven reduced start (log ++ entry ∷ []) held other
-    given_still other g = record { given = g.given; found = still other.number g.given g.found; holds = g.holds; keeps = g.keeps; bound = g.bound }
+    given_still other g = record { given = g.given; found = still other.number g.given g.found; holds = g.holds; keeps = g.keeps; choices = g.choices; bound = g.bound }
 
     pub unlogged_node : HasNoEntry log node.number
     unlogged_node = s.unlogged node (here node rest)
@@ -225,7 +226,7 @@ module _ (program reduced : Program) (way : WayBack) (Wide : Program → List �
 
   -- ---- split
 
-  module _ (held : Option ℚ) (node low high : Node) (work open_ parked now : List Node) (log : List Entry) (column : ℕ) (at : ℤ) (can : CanSplit reduced.integral node.box column at) (halved : AreHalves node column at low high) (p : IsPermutation (low ∷ high ∷ open_) now) (followed : AllFollow reduced.integral (first_node reduced start ∷ []) [] (log ++ split_entry node column at low.number high.number ∷ [])) (s : At held (node ∷ work) open_ parked log) where
+  module _ (held : Option ℚ) (node low high : Node) (work open_ parked now : List Node) (log : List Entry) (column : ℕ) (at : ℤ) (can : CanSplit reduced.integral node column at) (halved : AreHalves node column at low high) (p : IsPermutation (low ∷ high ∷ open_) now) (followed : AllFollow reduced.integral (first_node reduced start ∷ []) [] (log ++ split_entry node column at low.number high.number ∷ [])) (s : At held (node ∷ work) open_ parked log) where
     abbrev pub end : End
     end = Split column at low.number high.number
 
@@ -236,10 +237,10 @@ module _ (program reduced : Program) (way : WayBack) (Wide : Program → List �
     was = nodes_given reduced start log
 
     abbrev pub low_given : Node
-    low_given = record { number = low.number; box = low_half given.given.box column at; bound = node.bound }
+    low_given = record (low_node given.given column at) { number = low.number; bound = node.bound }
 
     abbrev pub high_given : Node
-    high_given = record { number = high.number; box = high_half given.given.box column at; bound = node.bound }
+    high_given = record (high_node given.given column at) { number = high.number; bound = node.bound }
 
     right_end : IsRightEnd reduced.integral was given.given end
     right_end =
@@ -270,11 +271,12 @@ module _ (program reduced : Program) (way : WayBack) (Wide : Program → List �
       given = low_given;
       found = low_found;
       holds = λ point h.
-          let k : IsInBox (low_half node.box column at) point = subst (λ b. IsInBox b point) halved.low_box h in
-          low_of_both node.box given.given.box column at point (given.holds point (low_half_within reduced.integral node.box column at point can k)) k;
+          let k : IsInBox (low_node node column at).box point = subst (λ b. IsInBox b point) halved.low_box h in
+          low_node_of_both node given.given column at point given.choices (given.holds point (low_node_within reduced.integral node column at point can k)) k;
       keeps = λ point i h.
           subst (λ b. IsInBox b point) (sym halved.low_box)
-          (low_of_both given.given.box node.box column at point (given.keeps point i (low_half_within reduced.integral given.given.box column at point right_end.0 h)) h);
+          (low_node_of_both given.given node column at point (sym given.choices) (given.keeps point i (low_node_within reduced.integral given.given column at point right_end.0 h)) h);
+      choices = halved.low_choices ∙ low_choices node given.given column at given.choices;
       bound = no_more_same node.bound low.bound (sym halved.low_bound);
     }
 
@@ -283,11 +285,12 @@ module _ (program reduced : Program) (way : WayBack) (Wide : Program → List �
       given = high_given;
       found = high_found;
       holds = λ point h.
-          let k : IsInBox (high_half node.box column at) point = subst (λ b. IsInBox b point) halved.high_box h in
-          high_of_both node.box given.given.box column at point (given.holds point (high_half_within reduced.integral node.box column at point can k)) k;
+          let k : IsInBox (high_node node column at).box point = subst (λ b. IsInBox b point) halved.high_box h in
+          high_node_of_both node given.given column at point given.choices (given.holds point (high_node_within reduced.integral node column at point can k)) k;
       keeps = λ point i h.
           subst (λ b. IsInBox b point) (sym halved.high_box)
-          (high_of_both given.given.box node.box column at point (given.keeps point i (high_half_within reduced.integral given.given.box column at point right_end.0 h)) h);
+          (high_node_of_both given.given node column at point (sym given.choices) (given.keeps point i (high_node_within reduced.integral given.given column at point right_end.0 h)) h);
+      choices = halved.high_choices ∙ high_choices node given.given column at given.choices;
       bound = no_more_same node.bound high.bound (sym halved.high_bound);
     }
 
@@ -349,10 +352,10 @@ module _ (program reduced : Program) (way : WayBack) (Wide : Program → List �
           | inr k ↦ later low other (high ∷ ((work ++ open_) ++ parked)) (later high other ((work ++ open_) ++ parked) (Contains-append_right (work ++ open_) parked other k))
         ])
         (covers.cover_step reduced held node ((work ++ open_) ++ parked) (low ∷ high ∷ [])
-        (covers.split reduced held node low high column at can.whole halved.low_box halved.high_box
+        (covers.split reduced held node low high column at can.kind (given_node_of reduced start log held node s.logged given).still_open halved.low_box halved.high_box
         (λ b. (
-          subst (λ t. HoldsThere reduced held t low.box) (sym halved.low_bound) (there_inside reduced held node.bound node.box low.box (λ point i h. low_half_within reduced.integral node.box column at point can (subst (λ t. IsInBox t point) halved.low_box h)) b),
-          subst (λ t. HoldsThere reduced held t high.box) (sym halved.high_bound) (there_inside reduced held node.bound node.box high.box (λ point i h. high_half_within reduced.integral node.box column at point can (subst (λ t. IsInBox t point) halved.high_box h)) b),
+          subst (λ t. HoldsThere reduced held t low.box) (sym halved.low_bound) (there_inside reduced held node.bound node.box low.box (λ point i h. low_node_within reduced.integral node column at point can (subst (λ t. IsInBox t point) halved.low_box h)) b),
+          subst (λ t. HoldsThere reduced held t high.box) (sym halved.high_bound) (there_inside reduced held node.bound node.box high.box (λ point i h. high_node_within reduced.integral node column at point can (subst (λ t. IsInBox t point) halved.high_box h)) b),
         )))
         s.cover)
 
@@ -414,8 +417,8 @@ module _ (program reduced : Program) (way : WayBack) (Wide : Program → List �
       | inl none ↦
           let f : node_of (low_given ∷ high_given ∷ []) number ≡ Some other = sym (node_of_new was (low_given ∷ high_given ∷ []) number none) ∙ sym (ap (λ g. node_of g number) now_given) ∙ e in
           elim (gives_halves number other (ap (λ g. node_of g number) more_are ∙ f)) [
-            | inl k ↦ subst (λ (n : Node). HoldsThere reduced held n.bound n.box) k (there_inside reduced held node.bound given.given.box low_given.box (λ point i h. low_half_within reduced.integral given.given.box column at point right_end.0 h) given_bounds)
-            | inr k ↦ subst (λ (n : Node). HoldsThere reduced held n.bound n.box) k (there_inside reduced held node.bound given.given.box high_given.box (λ point i h. high_half_within reduced.integral given.given.box column at point right_end.0 h) given_bounds)
+            | inl k ↦ subst (λ (n : Node). HoldsThere reduced held n.bound n.box) k (there_inside reduced held node.bound given.given.box low_given.box (λ point i h. low_node_within reduced.integral given.given column at point right_end.0 h) given_bounds)
+            | inr k ↦ subst (λ (n : Node). HoldsThere reduced held n.bound n.box) k (there_inside reduced held node.bound given.given.box high_given.box (λ point i h. high_node_within reduced.integral given.given column at point right_end.0 h) given_bounds)
           ]
       | inr (first, is) ↦
           let same : first ≡ other = same_Some first other (sym (still held node work open_ parked log end s number first is) ∙ e) in
@@ -455,6 +458,6 @@ module _ (program reduced : Program) (way : WayBack) (Wide : Program → List �
       ];
     }
 
-  pub split : (state : State) (node low high : Node) (work open_ : List Node) (column : ℕ) (at : ℤ) → state.work ≡ node ∷ work → CanSplit reduced.integral node.box column at → AreHalves node column at low high → IsPermutation (low ∷ high ∷ state.open_) open_ → AllFollow reduced.integral (first_node reduced start ∷ []) [] (state.log ++ split_entry node column at low.number high.number ∷ []) → IsSearch program reduced way Wide start state → IsSearch program reduced way Wide start (record state { work = work; open_ = open_; log = state.log ++ split_entry node column at low.number high.number ∷ [] })
+  pub split : (state : State) (node low high : Node) (work open_ : List Node) (column : ℕ) (at : ℤ) → state.work ≡ node ∷ work → CanSplit reduced.integral node column at → AreHalves node column at low high → IsPermutation (low ∷ high ∷ state.open_) open_ → AllFollow reduced.integral (first_node reduced start ∷ []) [] (state.log ++ split_entry node column at low.number high.number ∷ []) → IsSearch program reduced way Wide start state → IsSearch program reduced way Wide start (record state { work = work; open_ = open_; log = state.log ++ split_entry node column at low.number high.number ∷ [] })
   split state node low high work open_ column at e can halved p followed s =
       split_at state.held node low high work state.open_ state.parked open_ state.log column at can halved p followed (written state node work e s)

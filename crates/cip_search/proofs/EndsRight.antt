@@ -8,6 +8,7 @@ use Rattle.cip_rational.proofs.Rational.Order.{≤ℚ_antisymm, le_of_lt_test}
 use Rattle.cip_problem.specs.Program.{Program}
 use Rattle.cip_problem.specs.Points.{IsFeasible, cost_of, IsLowerBound}
 use Rattle.cip_problem.specs.Log.{Node, matters}
+use Rattle.cip_leaves.specs.Leaf.{Leaf}
 use Rattle.cip_leaves.specs.Searched.{OpenMatters, ParkedMatters, NoMore, IsLeast, IsCovered}
 use Rattle.cip_leaves.proofs.Covers.{bound_holds}
 use Rattle.cip_leaves.specs.WideLeaf.{Shown, IsWideLeaf}
@@ -128,7 +129,7 @@ module _ (program : Program) (start : Option ℚ) (nodes : ℕ) (asked : Option 
       let cost : state.held ≡ Some h.0.cost = a.held ∙ ap cost_held h.1 in
       record { held = h.0; is_held = h.1; bound = least_is_cost state.held h.0.cost (all_nodes state) answer.bound cost (all_quiet c.0 c.1) (a.least (λ f. absurd (let t = sym e ∙ f in cc))) }
 
-  wide_points : (leaf : List ℚ) (shown : Shown) → answer.ended ≡ Wide leaf shown → (point : List ℚ) → IsFeasible program point → IsCheaper program answer.held point → HasWidePoint program IsWideLeaf (cost_of program point)
+  wide_points : (leaf : Leaf) (shown : Shown) → answer.ended ≡ Wide leaf shown → (point : List ℚ) → IsFeasible program point → IsCheaper program answer.held point → HasWidePoint program IsWideLeaf (cost_of program point)
   wide_points leaf shown e point f h =
       let c : ComesTo program nodes state (Wide leaf shown) = subst (ComesTo program nodes state) e a.comes in
       wide program program stay IsWideLeaf start state point s (subst (NoneMatters state.held) (sym idle_nodes) c.0) f

@@ -22,7 +22,7 @@ use Rattle.cip_leaves.specs.LeafProgramExamples.{steep, endless}
 use Rattle.cip_leaves.proofs.LeafProgramsTried as leaves
 use Rattle.cip_answers.specs.Figures.{AtMoves, Held}
 use Rattle.cip_search.specs.Headline.{IsEndless, ShowsOverflow, overflow_at}
-use Rattle.cip_search.specs.HeadlineExamples.{at_zeros, along, up, down, root_parked, Examples}
+use Rattle.cip_search.specs.HeadlineExamples.{at_zeros, along, up, down, root_parked, no_choices, Examples}
 
 -- ---- the ray
 
@@ -39,6 +39,7 @@ kept : (far : ℚ) → zeroℚ ≤ℚ far → IsFeasible endless (zeroℚ ∷ fa
 kept far p = record {
   within = (record { above = linear_le [] (λ s w. omega arith); below = linear_le [] (λ s w. omega arith) }, (record { above = p; below = tt }, tt));
   whole = (λ e. IsWhole-zero, (λ e. absurd (cc), tt));
+  choices = λ column. tt;
   rows = tt;
 }
 
@@ -116,7 +117,7 @@ one_leaf : (leaf : List ℚ) → IsLeafIn steep.integral steep.bounds leaf → l
 one_leaf [] h = refl
 one_leaf (value ∷ values) h = absurd h
 
-by_one_move : ShowsOverflow steep (Some zeroℚ) root_parked None [] (AtMoves 1)
+by_one_move : ShowsOverflow steep (Some zeroℚ) root_parked None no_choices (AtMoves 1)
 by_one_move = record {
   none_open = none_open;
   matter = record { entry = root_entry; among = contains_here root_entry []; parked = refl; matter = refl };
@@ -127,13 +128,13 @@ by_one_move = record {
     node = first_node steep (Some zeroℚ);
     chosen = chosen;
     given = refl;
-    only = record { is_leaf = tt; only = one_leaf };
-    is_leaf = tt;
+    only = record { made = λ column. refl; on = refl; values = record { is_leaf = tt; only = one_leaf } };
+    is_leaf = record { each = refl; values = tt };
     wide = leaves.examples.wide;
   };
 }
 
-not_by_two : ¬ ShowsOverflow steep (Some zeroℚ) root_parked None [] (AtMoves 2)
+not_by_two : ¬ ShowsOverflow steep (Some zeroℚ) root_parked None no_choices (AtMoves 2)
 not_by_two h = leaves.examples.not_two (subst (IsWideBy steep []) (by_moves h.by 2 h.is_printed) h.shown.wide)
 
 root_open : OpenMatters steep (Some zeroℚ) [] None

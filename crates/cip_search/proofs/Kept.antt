@@ -128,13 +128,13 @@ module _ (program reduced : Program) (way : WayBack) (Wide : Program → List �
   raised state node work b w h l s =
       changed state node (record node { bound = Some b }) work w refl
       (covers.changed reduced state.held node (record node { bound = Some b }) (λ point i k. k) (λ k. h))
-      (λ g. record { given = g.given; found = g.found; holds = g.holds; keeps = g.keeps; bound = no_more_trans g.given.bound node.bound (Some b) g.bound l }) s
+      (λ g. record { given = g.given; found = g.found; holds = g.holds; keeps = g.keeps; choices = g.choices; bound = no_more_trans g.given.bound node.bound (Some b) g.bound l }) s
 
   pub tightened : (state : State) (node : Node) (work : List Node) (box : List Sides) → state.work ≡ node ∷ work → ((point : List ℚ) → IsInBox box point → IsInBox node.box point) → HoldsInBox reduced state.held node.box (IsInBox box) → IsSearch program reduced way Wide start state → IsSearch program reduced way Wide start (record state { work = record node { box = box } ∷ work })
   tightened state node work box w f h s =
       changed state node (record node { box = box }) work w refl
       (covers.changed reduced state.held node (record node { box = box }) h (λ k. there_inside reduced state.held node.bound node.box box (λ point i c. f point c) k))
-      (λ g. record { given = g.given; found = g.found; holds = λ point k. g.holds point (f point k); keeps = λ point i k. h point i (g.keeps point i k); bound = g.bound }) s
+      (λ g. record { given = g.given; found = g.found; holds = λ point k. g.holds point (f point k); keeps = λ point i k. h point i (g.keeps point i k); choices = g.choices; bound = g.bound }) s
 
   -- ---- a cheaper point is held
 
@@ -144,7 +144,7 @@ module _ (program reduced : Program) (way : WayBack) (Wide : Program → List �
     attained = a;
     cover = covers.cover_later reduced (Some cost) state.held (all_nodes state) l s.cover;
     logged = s.logged;
-    given = λ node c. let g = s.given node c in record { given = g.given; found = g.found; holds = g.holds; keeps = λ point i k. g.keeps point (fewer reduced (Some cost) state.held point l i) k; bound = g.bound };
+    given = λ node c. let g = s.given node c in record { given = g.given; found = g.found; holds = g.holds; keeps = λ point i k. g.keeps point (fewer reduced (Some cost) state.held point l i) k; choices = g.choices; bound = g.bound };
     unlogged = s.unlogged;
     apart = s.apart;
     parked = s.parked;
@@ -227,7 +227,7 @@ module _ (program reduced : Program) (way : WayBack) (Wide : Program → List �
           bounded = λ node c. subst (λ n. IsBounded reduced held n) (only_one first node c) b;
         };
         logged = tt;
-        given = λ node c. subst (IsGiven reduced start [] held) (only_one first node c) (let g : IsGiven reduced start [] held first = record { given = first; found = refl; holds = λ point k. k; keeps = λ point i k. k; bound = no_more_itself start } in g);
+        given = λ node c. subst (IsGiven reduced start [] held) (only_one first node c) (let g : IsGiven reduced start [] held first = record { given = first; found = refl; holds = λ point k. k; keeps = λ point i k. k; choices = refl; bound = no_more_itself start } in g);
         unlogged = λ node c h. none_in node.number h;
         apart = λ number. omega (arith, sum_by-cons (hits number) first [], at_most_one (0 == number));
         parked = refl;

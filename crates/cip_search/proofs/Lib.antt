@@ -6,7 +6,6 @@ pub mod Endless
 pub mod Ends
 pub mod EndsRight
 pub mod Fitting
-pub mod Halved
 mod HeadlineTried
 pub mod Kept
 pub mod Logs

@@ -1,14 +1,15 @@
 -- What the log of a search says.
 use Rattle.std.proofs.Common.{◌≡◌, ◌↔◌, inl, inr, ℕ, ◌*◌, ◌-◌, ◌<◌, ◌≤◌, max, true, false, List, [], ◌∷◌, ◌++◌, length, Option, None, Some, Contains, refl, sym, ap, ◌∙◌, subst, arith, length-append}
 use Rattle.std.proofs.lemmas.Bool.{both_ways, cases_Bool}
+use Rattle.std.proofs.lemmas.Option.{same_Some}
 use Rattle.std.proofs.lemmas.List.Elements.{Contains-append_left, Contains-append_right, Contains-append_cases}
 use Rattle.cip_rational.specs.Rational.{ℚ, lt_test}
 use Rattle.cip_rational.proofs.Rational.Order.{le_or_lt, test_of_lt}
 use Rattle.cip_problem.specs.Program.{Program}
-use Rattle.cip_problem.specs.Wholes.{assignments}
-use Rattle.cip_problem.specs.Log.{Closed, Parked, Entry, Node, node_of, IsLog, matters}
+use Rattle.cip_problem.specs.Choices.{AreMade, made_on}
+use Rattle.cip_problem.specs.Log.{Closed, Parked, Entry, Node, root, leaf_count, node_of, IsLog, matters}
 use Rattle.cip_problem.proofs.Log.Length.{log_is_short}
-use Rattle.cip_leaves.specs.Leaf.{IsOnlyLeaf}
+use Rattle.cip_leaves.specs.Leaf.{IsOnlyLeaf, Leaf, IsOnlyLeafOf}
 use Rattle.cip_leaves.specs.Wide.{IsWide}
 use Rattle.cip_leaves.specs.Searched.{first_node, nodes_given, IsLeftOpen, OpenMatters, ParkedMatters, NoMore, IsOneOf, IsLeast, IsCovered}
 use Rattle.cip_search.specs.SearchState.{State, WayBack, stay, unended, all_nodes, HasNoEntry, IsGiven, parked_entry, is_parked_end, IsSearch, IsAsGiven}
@@ -81,7 +82,7 @@ module _ (program reduced : Program) (way : WayBack) (Wide : Program → List �
           record { node = f.from; among = f.among; matter = ap (λ (t : Entry). matters state.held t.bound) f.is ∙ p.matter },
     )
 
-    pub short_log : (node : Node) (n : ℕ) → Contains (unended state) node → assignments reduced.integral reduced.bounds ≡ Some n → length state.log < max 1 (2 * n - 1)
+    pub short_log : (node : Node) (n : ℕ) → Contains (unended state) node → leaf_count reduced.integral (root reduced) ≡ Some n → length state.log < max 1 (2 * n - 1)
     short_log node n c e =
         let g = unended_given node c in
         let entry : Entry = record { node = node.number; bound = None; end = Closed } in
@@ -150,10 +151,18 @@ module _ (program reduced : Program) (way : WayBack) (Wide : Program → List �
   pub least : (state : State) (bound : Option ℚ) → IsSearch program reduced way Wide start state → IsAsGiven reduced start state → state.work ≡ [] → IsLeastBound state.held (all_nodes state) bound → IsLeast reduced start state.log state.held bound
   least state bound s a e h = least_bound state s a e bound h
 
-  pub short : (state : State) (node : Node) (n : ℕ) → IsSearch program reduced way Wide start state → Contains (unended state) node → assignments reduced.integral reduced.bounds ≡ Some n → length state.log < max 1 (2 * n - 1)
+  pub short : (state : State) (node : Node) (n : ℕ) → IsSearch program reduced way Wide start state → Contains (unended state) node → leaf_count reduced.integral (root reduced) ≡ Some n → length state.log < max 1 (2 * n - 1)
   short state node n s c e = short_log state s node n c e
 
 -- ---- the program itself
+
+-- a node with the same box and choices has the same leaf
+pub only_there : (program : Program) (node other : Node) (leaf : Leaf) → node.box ≡ other.box → node.choices ≡ other.choices → IsOnlyLeafOf program node leaf → IsOnlyLeafOf program other leaf
+only_there program node other leaf e f h = record {
+  made = subst AreMade f h.made;
+  on = h.on ∙ ap (made_on program.choices) f;
+  values = subst (λ b. IsOnlyLeaf program.integral b leaf.values) e h.values;
+}
 
 pub entries_are_true : EntriesAreTrue
 entries_are_true program start state s a entry node c e =
@@ -165,9 +174,12 @@ entries_are_true program start state s a entry node c e =
           let f = parked_from program program stay IsWide start state s entry c p in
           let k = s.stuck f.from f.among in
           let box : f.from.box ≡ node.box = a.boxes f.from node (Contains-append_right (unended state) state.parked f.from f.among) (ap (λ (t : Entry). node_of (nodes_given program start state.log) t.node) f.is ∙ e) in
+          let g = parked_given program program stay IsWide start state s f.from f.among in
+          let found : node_of (nodes_given program start state.log) f.from.number ≡ Some node = ap (λ (t : Entry). node_of (nodes_given program start state.log) t.node) f.is ∙ e in
+          let choices : f.from.choices ≡ node.choices = g.choices ∙ ap (λ (n : Node). n.choices) (same_Some g.given node (sym g.found ∙ found)) in
           record {
             leaf = k.leaf;
-            only = subst (λ b. IsOnlyLeaf program.integral b k.leaf) box (subst (IsOnlyLeaf program.integral f.from.box) (sym k.at_leaf.is) k.at_leaf.only);
+            only = only_there program f.from node k.leaf box choices (subst (IsOnlyLeafOf program f.from) (sym k.at_leaf.is) k.at_leaf.only);
             wide = k.at_leaf.wide;
           };
     }

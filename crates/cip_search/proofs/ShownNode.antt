@@ -1,15 +1,17 @@
 -- The leaf that is shown, and the entries of parked nodes.
-use Rattle.std.proofs.Common.{◌≡◌, Bool, true, false, List, [], ◌∷◌, ◌++◌, map, Option, refl, sym, ap, ◌∙◌, subst, cond}
+use Rattle.std.proofs.Common.{◌≡◌, Bool, true, false, List, [], ◌∷◌, ◌++◌, map, Option, Some, refl, sym, ap, ◌∙◌, subst, cond}
 use Rattle.std.specs.List.{Contains}
+use Rattle.std.proofs.lemmas.Option.{same_Some}
 use Rattle.std.proofs.lemmas.List.Elements.{Contains-append_right}
 use Rattle.cip_rational.specs.Rational.{ℚ}
 use Rattle.cip_problem.specs.Program.{Program}
 use Rattle.cip_problem.specs.Log.{Parked, Entry, Node, node_of}
-use Rattle.cip_leaves.specs.Leaf.{IsOnlyLeaf}
+use Rattle.cip_problem.specs.Choices.{decided}
+use Rattle.cip_leaves.specs.Leaf.{Leaf}
 use Rattle.cip_leaves.specs.Searched.{NoMore, nodes_given}
 use Rattle.cip_leaves.specs.WideLeaf.{Shown, IsWideLeaf}
 use Rattle.cip_search.specs.SearchState.{State, stay, unended, all_nodes, IsSearch, IsAsGiven, parked_entry, is_parked_end, parked_entries}
-use Rattle.cip_search.proofs.Logs.{parked_from}
+use Rattle.cip_search.proofs.Logs.{parked_from, only_there}
 use Rattle.cip_search.proofs.Members.{ComesFrom, here, of_mapped, is_kept}
 use Rattle.cip_search.specs.SearchEnds.{IsShownLeaf, AreTrueEntries}
 use Rattle.cip_search.specs.EndLaws.{IsShownNode}
@@ -67,7 +69,7 @@ module _ (program : Program) (start : Option ℚ) (state : State) (s : IsSearch 
   from_parked : (entry : Entry) → Contains state.log entry → entry.end ≡ Parked → ComesFrom parked_entry state.parked entry
   from_parked = parked_from program program stay IsWideLeaf start state s
 
-  pub shown_leaf : (leaf : List ℚ) (shown : Shown) → IsShownNode program state.parked leaf shown → IsShownLeaf program start state.log leaf shown
+  pub shown_leaf : (leaf : Leaf) (shown : Shown) → IsShownNode program state.parked leaf shown → IsShownLeaf program start state.log leaf shown
   shown_leaf leaf shown h =
       let there : parked_entries state.log ≡ map parked_entry h.before ++ parked_entry h.node ∷ map parked_entry h.after = s.parked ∙ (ap (map parked_entry) h.placed ∙ map_parts h.before h.after h.node) in
       let at = stands state.log (map parked_entry h.before) (map parked_entry h.after) (parked_entry h.node) there in
@@ -90,7 +92,7 @@ module _ (program : Program) (start : Option ℚ) (state : State) (s : IsSearch 
               h.first f.from f.among (subst (λ b. NoMore b h.node.bound) (ap (λ (t : Entry). t.bound) (sym f.is)) n));
         };
         given = given.found;
-        only = subst (λ b. IsOnlyLeaf program.integral b leaf) box h.only;
+        only = only_there program h.node given.given leaf box given.choices h.only;
         is_leaf = h.is_leaf;
         wide = h.wide;
       }
@@ -105,5 +107,8 @@ module _ (program : Program) (start : Option ℚ) (state : State) (s : IsSearch 
             let f = from_parked entry c p in
             let k = (s.stuck f.from f.among).at_leaf in
             let box : f.from.box ≡ node.box = g.boxes f.from node (Contains-append_right (unended state) state.parked f.from f.among) (ap (λ (t : Entry). node_of (nodes_given program start state.log) t.node) f.is ∙ e) in
-            (k.values, subst (λ b. IsOnlyLeaf program.integral b k.values) box k.only, subst (IsWideLeaf program) k.is k.wide));
+            let given = s.given f.from (Contains-append_right (unended state) state.parked f.from f.among) in
+            let found : node_of (nodes_given program start state.log) f.from.number ≡ Some node = ap (λ (t : Entry). node_of (nodes_given program start state.log) t.node) f.is ∙ e in
+            let choices : f.from.choices ≡ node.choices = given.choices ∙ ap (λ (n : Node). n.choices) (same_Some given.given node (sym given.found ∙ found)) in
+            (k.left, only_there program f.from node k.left box choices k.only, subst (λ (l : Leaf). IsWideLeaf (decided program l.on) l.values) k.is k.wide));
       }

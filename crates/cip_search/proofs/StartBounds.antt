@@ -4,7 +4,7 @@ use Rattle.std.proofs.lemmas.List.Elements.{Contains-append_cases}
 use Rattle.cip_rational.specs.Rational.{ℚ, ◌≤ℚ◌}
 use Rattle.cip_problem.specs.Program.{Program}
 use Rattle.cip_problem.specs.Points.{IsLowerBound}
-use Rattle.cip_problem.specs.Log.{End, Split, Closed, Parked, Entry, Node, node_of, low_half, high_half, halves, nodes_of, given_after, AllFollow}
+use Rattle.cip_problem.specs.Log.{End, Split, Closed, Parked, Entry, Node, node_of, low_node, high_node, halves, nodes_of, given_after, AllFollow}
 use Rattle.cip_leaves.specs.Searched.{NoMore, IsOneOf, first_node, nodes_given}
 use Rattle.cip_search.proofs.Alike.{is_log_from}
 use Rattle.cip_search.proofs.Bounds.{no_more_same}
@@ -25,8 +25,8 @@ halves_above start None bound end node b c = absurd (none_in node c)
 halves_above start (Some n) bound Closed node b c = absurd (none_in node c)
 halves_above start (Some n) bound Parked node b c = absurd (none_in node c)
 halves_above start (Some n) bound (Split column at low high) node b c =
-    let first : Node = record { number = low; box = low_half n.box column at; bound = bound } in
-    let second : Node = record { number = high; box = high_half n.box column at; bound = bound } in
+    let first : Node = record (low_node n column at) { number = low; bound = bound } in
+    let second : Node = record (high_node n column at) { number = high; bound = bound } in
     elim (here_or_later first node (second ∷ []) c) [
       | inl e ↦ subst (λ (t : Node). NoMore start t.bound) e b
       | inr k ↦ subst (λ (t : Node). NoMore start t.bound) (only_one second node k) b

@@ -1,19 +1,25 @@
 -- What a search says of the program as read.
-use Rattle.std.proofs.Common.{◌≡◌, inl, inr, true, List, [], Option, None, Some, IfSome, Contains, sym, ap, ◌∙◌, subst}
+use Rattle.std.proofs.Common.{◌≡◌, inl, inr, true, List, [], ◌∷◌, Option, None, Some, IfSome, Contains, sym, ap, ◌∙◌, subst}
 use Rattle.std.proofs.lemmas.Bool.{both_ways}
-use Rattle.std.proofs.lemmas.List.Elements.{Contains-append_cases}
+use Rattle.std.proofs.lemmas.List.Elements.{Contains-append_cases, Contains-append_right}
 use Rattle.cip_rational.specs.Rational.{ℚ, ◌≤ℚ◌, ◌<ℚ◌}
 use Rattle.cip_rational.proofs.Rational.Order.{le_or_lt, <ℚ_of_le_of_lt}
 use Rattle.cip_problem.specs.Program.{Program}
 use Rattle.cip_problem.specs.Points.{IsFeasible, cost_of, IsLowerBound}
-use Rattle.cip_problem.specs.Log.{Node, matters}
+use Rattle.cip_problem.specs.Box.{IsInBox}
+use Rattle.cip_problem.specs.Choices.{AreMade, AreStillOpen, decided, made_on}
+use Rattle.cip_problem.specs.Log.{Entry, Node, AllFollow, matters}
+use Rattle.cip_problem.specs.Statements.{IsNodeOf}
+use Rattle.cip_problem.proofs.Log.Given.{node_of_log}
 use Rattle.cip_cuts.specs.Improving.{IsImproving}
 use Rattle.cip_cuts.specs.Cover.{IsInOneOf, IsCover, HasBoundFrom}
 use Rattle.cip_cuts.specs.Reduced.{HasNoDearer}
 use Rattle.cip_cuts.proofs.Covers as covers
 use Rattle.cip_cuts.proofs.Reductions.{reduction_bound, reduction_no_point}
-use Rattle.cip_leaves.proofs.Points.{only_leaf}
-use Rattle.cip_search.specs.SearchState.{State, WayBack, unended, all_nodes, IsSearch}
+use Rattle.cip_leaves.specs.Leaf.{Leaf}
+use Rattle.cip_leaves.specs.Searched.{first_node}
+use Rattle.cip_leaves.proofs.Points.{only_leaf_of}
+use Rattle.cip_search.specs.SearchState.{State, WayBack, unended, all_nodes, IsGiven, IsSearch}
 use Rattle.cip_search.specs.Endings.{NoneMatters, HasWidePoint}
 use Rattle.cip_search.proofs.Bounds.{at_point, matters_at}
 
@@ -34,6 +40,18 @@ still_cheaper : (held : Option ℚ) (a b : ℚ) → a ≤ℚ b → IfSome held (
 still_cheaper None a b l h = tt
 still_cheaper (Some cost) a b l h = <ℚ_of_le_of_lt l h
 
+-- a node that the log gave is one of the program
+pub given_node_of : (reduced : Program) (start : Option ℚ) (log : List Entry) (held : Option ℚ) (node : Node) → AllFollow reduced.integral (first_node reduced start ∷ []) [] log → IsGiven reduced start log held node → IsNodeOf reduced node
+given_node_of reduced start log held node f g =
+    let was = node_of_log reduced start log node.number g.given f g.found in
+    record {
+      within = λ point h. was.within point (g.holds point h);
+      still_open = subst (AreStillOpen reduced.choices) (sym g.choices) was.still_open;
+      made = λ m point h.
+          subst (λ c. IsInBox (decided reduced (made_on reduced.choices c)).bounds point) (sym g.choices)
+          (was.made (subst AreMade g.choices m) point (g.holds point h));
+    }
+
 module _ (program reduced : Program) (way : WayBack) (Wide : Program → List ℚ → Type 0) (start : Option ℚ) where
   pub no_reduced_point : (state : State) → IsSearch program reduced way Wide start state → state.held ≡ None → all_nodes state ≡ [] → (point : List ℚ) → ¬ IsFeasible reduced point
   no_reduced_point state s e f point = covers.no_point reduced point (subst (λ h. IsCover reduced h []) e (subst (IsCover reduced state.held) f s.cover))
@@ -51,15 +69,17 @@ module _ (program reduced : Program) (way : WayBack) (Wide : Program → List �
   parked_point : (state : State) (point : List ℚ) (cost : ℚ) → IsSearch program reduced way Wide start state → (none : HasNoDearer reduced cost) → (r : IsInOneOf (all_nodes state) none.point) → Contains state.parked r.node → HasWidePoint program Wide cost
   parked_point state point cost s none r c =
       let k = s.stuck r.node c in
-      let same = only_leaf reduced.integral r.node.box k.at_leaf.values none.point k.at_leaf.only r.within none.feasible.whole in
+      let there = s.given r.node (Contains-append_right (unended state) state.parked r.node c) in
+      let left = k.at_leaf.left in
+      let is_left = only_leaf_of reduced r.node left none.point (given_node_of reduced start state.log state.held r.node s.logged there) k.at_leaf.only r.within none.feasible in
       record {
         leaf = k.leaf;
         is_leaf = k.at_leaf.is_leaf;
         wide = k.at_leaf.wide;
         point = way.point none.point;
         is_point = record {
-          feasible = s.back.reduction.feasible none.point none.feasible;
-          values = s.back.leaves none.point none.feasible ∙ ap way.leaf same ∙ sym k.at_leaf.is;
+          feasible = subst (λ on. IsFeasible (decided program on) (way.point none.point)) (sym (ap (λ (l : Leaf). l.on) k.at_leaf.is)) (s.back.choices left.on none.point is_left.feasible);
+          values = s.back.leaves none.point none.feasible ∙ ap way.leaf is_left.values ∙ sym (ap (λ (l : Leaf). l.values) k.at_leaf.is);
         };
         no_dearer = subst (λ t. t ≤ℚ cost) (sym (s.back.reduction.cost none.point (record { within = none.feasible.within; rows = none.feasible.rows }))) none.no_dearer;
       }

@@ -11,6 +11,7 @@ use Rattle.cip_problem.specs.Program.{Program}
 use Rattle.cip_problem.specs.WellFormed.{IsWellFormed}
 use Rattle.cip_problem.specs.Points.{IsFeasible, cost_of, printed, IsLowerBound}
 use Rattle.cip_problem.specs.Log.{Entry, matters}
+use Rattle.cip_leaves.specs.Leaf.{Leaf}
 use Rattle.cip_leaves.specs.Searched.{NoMore, OpenMatters, ParkedMatters, IsOneOf, IsLeast}
 use Rattle.cip_leaves.specs.WideLeaf.{Shown, IsWideLeaf}
 use Rattle.cip_search.specs.Endings.{HasWidePoint}
@@ -89,7 +90,7 @@ is_infeasible rows Gap e = absurd (cc)
 is_infeasible rows (Wide leaf shown) e = absurd (cc)
 is_infeasible rows NoMemory e = absurd (cc)
 
-is_wide : (rows : List (List ℕ)) (ended : Ended) (leaf : List ℚ) (place : Overflow) → status_of rows ended ≡ PrintedWide leaf place → (values : List ℚ) × (shown : Shown) × (ended ≡ Wide values shown)
+is_wide : (rows : List (List ℕ)) (ended : Ended) (leaf : Leaf) (place : Overflow) → status_of rows ended ≡ PrintedWide leaf place → (values : Leaf) × (shown : Shown) × (ended ≡ Wide values shown)
 is_wide rows Optimal leaf place e = absurd (cc)
 is_wide rows Infeasible leaf place e = absurd (cc)
 is_wide rows (Unbounded ray) leaf place e = absurd (cc)
@@ -215,7 +216,7 @@ module _ (program : Program) (start : Option ℚ) (nodes : ℕ) (asked : Option 
   parked_back : ParkedMatters log (cost_held program (figures_of program answer).held) → ParkedMatters log (cost_of_held answer.held)
   parked_back = subst (ParkedMatters log) (sym (costs_held program answer.held point))
 
-  shown_there : (leaf : List ℚ) (shown : Shown) → EndsAs program start nodes log answer.held (Wide leaf shown) → ShowsOverflow program start log (figures_of program answer).held leaf (overflow_at program.row_names shown)
+  shown_there : (leaf : Leaf) (shown : Shown) → EndsAs program start nodes log answer.held (Wide leaf shown) → ShowsOverflow program start log (figures_of program answer).held leaf (overflow_at program.row_names shown)
   shown_there leaf shown h = record {
     none_open = λ o. h.0 (open_back o);
     matter = parked_there h.1;
@@ -324,7 +325,7 @@ module _ (program : Program) (box start : Option ℚ) (nodes : ℕ) (asked : Opt
   agree_of : answer.ended ≡ Optimal → Agree (figures_of program answer)
   agree_of e = agree program answer ((settled_at Optimal (sym e)).agree e)
 
-  wide_of : (values : List ℚ) (shown : Shown) → answer.ended ≡ Wide values shown → (point : List ℚ) → IsFeasible program point → IsBetterThan program (figures_of program answer).held point → HasWidePoint program IsWideLeaf (cost_of program point)
+  wide_of : (values : Leaf) (shown : Shown) → answer.ended ≡ Wide values shown → (point : List ℚ) → IsFeasible program point → IsBetterThan program (figures_of program answer).held point → HasWidePoint program IsWideLeaf (cost_of program point)
   wide_of values shown e point f better =
       (settled_at (Wide values shown) (sym e)).wide values shown e point f (cheaper_there program answer.held point better)
 

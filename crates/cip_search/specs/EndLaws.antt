@@ -3,26 +3,27 @@ use Rattle.std.specs.Prelude.{◌≡◌, ◌≢◌, ◌↔◌, ℕ, List, [], �
 use Rattle.std.specs.List.{Contains}
 use Rattle.cip_rational.specs.Rational.{ℚ}
 use Rattle.cip_problem.specs.Program.{Program}
+use Rattle.cip_problem.specs.Choices.{decided}
 use Rattle.cip_problem.specs.Log.{Node}
-use Rattle.cip_leaves.specs.Leaf.{IsLeaf, IsOnlyLeaf}
+use Rattle.cip_leaves.specs.Leaf.{Leaf, IsLeafOf, IsOnlyLeafOf}
 use Rattle.cip_leaves.specs.Searched.{NoMore}
 use Rattle.cip_leaves.specs.WideLeaf.{Shown, IsWideBy, IsWideLeaf}
 use Rattle.cip_search.specs.SearchState.{State, stay, all_nodes, IsSearch, IsAsGiven}
 use Rattle.cip_search.specs.Endings.{OneMatters, NoneMatters, IsLeastBound}
 use Rattle.cip_search.specs.SearchEnds.{Ended, Optimal, Infeasible, Unbounded, NodeLimit, Gap, Wide, NoMemory, Answer, cost_held, IsHeldPoint, ReachesGap, IsAnswer}
 
--- the parked node of least bound, the first of these: its box has one whole assignment, and that is this leaf, which is
--- wide by what is shown
-pub record IsShownNode (program : Program) (parked : List Node) (leaf : List ℚ) (shown : Shown) : Type 0 where
+-- the parked node of least bound, the first of these: its box has one leaf, and that is this one, which is wide by what
+-- is shown
+pub record IsShownNode (program : Program) (parked : List Node) (leaf : Leaf) (shown : Shown) : Type 0 where
   pub before : List Node
   pub node : Node
   pub after : List Node
   pub placed : parked ≡ before ++ node ∷ after
   pub least : (other : Node) → Contains parked other → NoMore node.bound other.bound
   pub first : (other : Node) → Contains before other → ¬ NoMore other.bound node.bound
-  pub only : IsOnlyLeaf program.integral node.box leaf
-  pub is_leaf : IsLeaf program leaf
-  pub wide : IsWideBy program leaf shown
+  pub only : IsOnlyLeafOf program node leaf
+  pub is_leaf : IsLeafOf program leaf
+  pub wide : IsWideBy (decided program leaf.on) leaf.values shown
 
 -- how a search with no node in work comes to an end that isn't unbounded
 abbrev pub ComesTo : Program → (nodes : ℕ) → State → Ended → Type 0

@@ -4,8 +4,9 @@ use Rattle.std.specs.List.{Contains}
 use Rattle.cip_rational.specs.Rational.{ℚ, ◌≤ℚ◌}
 use Rattle.cip_problem.specs.Program.{Program}
 use Rattle.cip_problem.specs.Points.{cost_of}
+use Rattle.cip_problem.specs.Choices.{decided}
 use Rattle.cip_problem.specs.Log.{Node, matters}
-use Rattle.cip_leaves.specs.Leaf.{IsLeaf, IsPointOf}
+use Rattle.cip_leaves.specs.Leaf.{Leaf, IsLeafOf, IsPointOfLeaf}
 use Rattle.cip_leaves.specs.Searched.{NoMore, IsCostHeld}
 
 -- one of the nodes matters beside the cost held
@@ -20,11 +21,11 @@ NoneMatters held nodes = (node : Node) → Contains nodes node → matters held 
 
 -- a point of a wide leaf costs no more than this
 pub record HasWidePoint (program : Program) (Wide : Program → List ℚ → Type 0) (cost : ℚ) : Type 0 where
-  pub leaf : List ℚ
-  pub is_leaf : IsLeaf program leaf
-  pub wide : Wide program leaf
+  pub leaf : Leaf
+  pub is_leaf : IsLeafOf program leaf
+  pub wide : Wide (decided program leaf.on) leaf.values
   pub point : List ℚ
-  pub is_point : IsPointOf program leaf point
+  pub is_point : IsPointOfLeaf program leaf point
   pub no_dearer : cost_of program point ≤ℚ cost
 
 -- a bound is that of one of the nodes

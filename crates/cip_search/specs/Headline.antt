@@ -8,6 +8,7 @@ use Rattle.cip_rational.specs.Range.{difference_overflows}
 use Rattle.cip_problem.specs.Program.{Program}
 use Rattle.cip_problem.specs.Points.{IsFeasible, cost_of, printed}
 use Rattle.cip_problem.specs.Log.{Entry, IsLog}
+use Rattle.cip_leaves.specs.Leaf.{Leaf}
 use Rattle.cip_leaves.specs.Wide.{InRow, InCost}
 use Rattle.cip_leaves.specs.Searched.{OpenMatters, ParkedMatters}
 use Rattle.cip_leaves.specs.WideLeaf.{Shown, AtPlace, AfterMoves, IsWideLeaf}
@@ -81,7 +82,7 @@ pub record IsSpent
 -- an overflow is shown: no open node matters, a parked leaf does, and the leaf that is printed is the parked one of
 -- least bound, the first of these; it is wide by what is printed: the row, the cost, or the number of moves
 pub record ShowsOverflow
-    (program : Program) (start : Option ℚ) (log : List Entry) (held : Option Held) (leaf : List ℚ) (overflow : Overflow)
+    (program : Program) (start : Option ℚ) (log : List Entry) (held : Option Held) (leaf : Leaf) (overflow : Overflow)
     : Type 0 where
   pub none_open : ¬ HasOpen program start log held
   pub matter : HasParked program log held
@@ -145,7 +146,7 @@ pub record AreTrue
   -- where an overflow is shown, each feasible point that is better than the printed one has a feasible point that is no
   -- dearer in a wide leaf
   pub overflow :
-      (leaf : List ℚ) (place : Overflow) → figures.status ≡ Wide leaf place
+      (leaf : Leaf) (place : Overflow) → figures.status ≡ Wide leaf place
       → (point : List ℚ) → IsFeasible program point → IsBetterThan program figures.held point
       → HasWidePoint program IsWideLeaf (cost_of program point)
   -- what the end says holds; and where neither a ray nor want of memory has cut the search short, no other end that

@@ -3,9 +3,8 @@ use Rattle.std.specs.Prelude.{◌≡◌, ℕ, ◌*◌, ◌-◌, ◌<◌, max, Li
 use Rattle.cip_rational.specs.Rational.{ℚ}
 use Rattle.cip_problem.specs.Program.{Program}
 use Rattle.cip_problem.specs.WellFormed.{IsWellFormed}
-use Rattle.cip_problem.specs.Wholes.{assignments}
 use Rattle.cip_problem.specs.Points.{IsLowerBound}
-use Rattle.cip_problem.specs.Log.{Entry, IsLog}
+use Rattle.cip_problem.specs.Log.{Entry, root, leaf_count, IsLog}
 use Rattle.cip_answers.specs.Headline.{IsTrueRay}
 use Rattle.cip_answers.specs.Figures.{Figures, Held, Status, status_word}
 use Rattle.cip_search.specs.SearchEnds.{Answer}
@@ -31,7 +30,7 @@ EndsExclude =
 abbrev pub BudgetsSuffice : Type 0
 BudgetsSuffice =
     (program : Program) (start : Option ℚ) (log : List Entry) (held : Option Held) (n : ℕ)
-    → IsLog program log → HasOpen program start log held → assignments program.integral program.bounds ≡ Some n
+    → IsLog program log → HasOpen program start log held → leaf_count program.integral (root program) ≡ Some n
     → length log < max 1 (2 * n - 1)
 
 -- where there is a true ray, there is no lower bound: so no run says unbounded of a program of which another prints a

@@ -8,10 +8,11 @@ use Rattle.cip_rational.specs.Range.{difference_overflows}
 use Rattle.cip_rational.specs.Sums.{dot}
 use Rattle.cip_problem.specs.Program.{Program}
 use Rattle.cip_problem.specs.Points.{IsFeasible, cost_of, IsLowerBound}
+use Rattle.cip_problem.specs.Choices.{decided}
 use Rattle.cip_problem.specs.Log.{Parked, Entry, Node, node_of, IsLog}
 use Rattle.cip_cuts.specs.Improving.{IsBoundIn}
 use Rattle.cip_linear.specs.LinearProgram.{moved}
-use Rattle.cip_leaves.specs.Leaf.{IsLeaf, IsOnlyLeaf}
+use Rattle.cip_leaves.specs.Leaf.{Leaf, IsLeafOf, IsOnlyLeafOf}
 use Rattle.cip_leaves.specs.Searched.{NoMore, nodes_given, OpenMatters, ParkedMatters, IsLeast, IsCovered, IsFirstLeast}
 use Rattle.cip_leaves.specs.WideLeaf.{Shown, IsWideBy, IsWideLeaf}
 use Rattle.cip_search.specs.Endings.{HasWidePoint}
@@ -23,7 +24,7 @@ pub data Ended : Type 0 where
   Unbounded : (ray : List ℚ) → Ended
   NodeLimit : Ended
   Gap : Ended
-  Wide : (leaf : List ℚ) (shown : Shown) → Ended
+  Wide : (leaf : Leaf) (shown : Shown) → Ended
   NoMemory : Ended
 
 -- a point with its cost
@@ -47,14 +48,14 @@ pub record IsHeldPoint (program : Program) (held : Held) : Type 0 where
 
 -- the parked leaf of least bound, the first of these, is shown: it is wide by what is shown
 pub record IsShownLeaf
-    (program : Program) (start : Option ℚ) (log : List Entry) (leaf : List ℚ) (shown : Shown) : Type 0 where
+    (program : Program) (start : Option ℚ) (log : List Entry) (leaf : Leaf) (shown : Shown) : Type 0 where
   pub entry : Entry
   pub node : Node
   pub chosen : IsFirstLeast log entry
   pub given : node_of (nodes_given program start log) entry.node ≡ Some node
-  pub only : IsOnlyLeaf program.integral node.box leaf
-  pub is_leaf : IsLeaf program leaf
-  pub wide : IsWideBy program leaf shown
+  pub only : IsOnlyLeafOf program node leaf
+  pub is_leaf : IsLeafOf program leaf
+  pub wide : IsWideBy (decided program leaf.on) leaf.values shown
 
 -- from the point one may go any way along the ray, for feasible points, and the cost falls as one goes
 pub record FallsWithoutEnd (program : Program) (point ray : List ℚ) : Type 0 where
@@ -104,12 +105,12 @@ abbrev pub IsCheaper : Program → Option Held → List ℚ → Type 0
 IsCheaper program held point = IfSome held (λ h. cost_of program point <ℚ h.cost)
 
 -- an entry is a true one of its node: its bound is at least the node's and holds in the node's box, and where it says
--- that the node was parked, its box has one whole assignment, and that leaf is wide
+-- that the node was parked, its box has one leaf, which is wide
 pub record IsTrueEntry (program : Program) (held : Option ℚ) (node : Node) (entry : Entry) : Type 0 where
   pub kept : NoMore node.bound entry.bound
   pub holds : IfSome entry.bound (IsBoundIn program held node.box)
   pub parked : entry.end ≡ Parked
-      → (leaf : List ℚ) × IsOnlyLeaf program.integral node.box leaf × IsWideLeaf program leaf
+      → (leaf : Leaf) × IsOnlyLeafOf program node leaf × IsWideLeaf (decided program leaf.on) leaf.values
 
 -- so are all entries of a log
 abbrev pub AreTrueEntries : Program → Option ℚ → List Entry → Option ℚ → Type 0
@@ -131,7 +132,7 @@ pub record IsSettled
   -- cost and bound agree where it is optimal
   pub agree : answer.ended ≡ Optimal → Agrees answer
   -- where a wide leaf is shown, each feasible point cheaper than the one held has one that is no dearer in a wide leaf
-  pub wide : (leaf : List ℚ) (shown : Shown) → answer.ended ≡ Wide leaf shown
+  pub wide : (leaf : Leaf) (shown : Shown) → answer.ended ≡ Wide leaf shown
       → (point : List ℚ) → IsFeasible program point → IsCheaper program answer.held point
       → HasWidePoint program IsWideLeaf (cost_of program point)
   -- each end comes where what it says holds

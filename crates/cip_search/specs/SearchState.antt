@@ -1,18 +1,19 @@
 -- What holds of a search between two steps. A tree of boxes is searched for points of a program `reduced`, which may be
 -- another one than the program as read: `way` leads back. The log, the boxes, the bounds and the cover are those of the
 -- reduced program; the program as read is what points are held of, and what parked nodes are leaves of. `start` is the
--- bound that the root has, if it has one; `Wide` says which leaves of a program can't be solved in range.
+-- bound that the root has, if it has one; `Wide` says which whole values of a program can't be solved in range.
 use Rattle.std.specs.Prelude.{◌≡◌, ℕ, ◌==◌, ◌≤◌, Bool, true, false, List, [], ◌∷◌, ◌++◌, map, count_by, Option, Some, IfSome}
 use Rattle.std.specs.List.{Contains, filter}
 use Rattle.cip_rational.specs.Rational.{ℚ}
 use Rattle.cip_problem.specs.Program.{Program}
 use Rattle.cip_problem.specs.Box.{IsInBox}
+use Rattle.cip_problem.specs.Choices.{decided}
 use Rattle.cip_problem.specs.Points.{IsFeasible, cost_of}
 use Rattle.cip_problem.specs.Log.{End, Split, Closed, Parked, Entry, Node, node_of, AllFollow, matters}
 use Rattle.cip_cuts.specs.Improving.{HoldsInBox, IsBoundIn}
 use Rattle.cip_cuts.specs.Cover.{IsCover}
 use Rattle.cip_cuts.specs.Reduced.{IsReduction}
-use Rattle.cip_leaves.specs.Leaf.{at_wholes, IsLeaf, IsOnlyLeaf}
+use Rattle.cip_leaves.specs.Leaf.{at_wholes, Leaf, IsLeafOf, IsOnlyLeafOf}
 use Rattle.cip_leaves.specs.Searched.{first_node, nodes_given, IsLeftOpen, NoMore}
 
 -- where a search stands: the cost held, if a point is; the nodes in work, the open and the parked ones, each with the
@@ -38,14 +39,15 @@ all_nodes state = unended state ++ state.parked
 abbrev pub HasNoEntry : List Entry → ℕ → Type 0
 HasNoEntry log number = ¬ Contains (map (λ entry. entry.node) log) number
 
--- the log gave a node of this number; its box holds the node's own, which has all improving points of it; and its
--- bound, if it has one, is no more than the node's own
+-- the log gave a node of this number; its box holds the node's own, which has all improving points of it; its choices
+-- are the node's own; and its bound, if it has one, is no more than the node's
 pub record IsGiven
     (reduced : Program) (start : Option ℚ) (log : List Entry) (held : Option ℚ) (node : Node) : Type 0 where
   pub given : Node
   pub found : node_of (nodes_given reduced start log) node.number ≡ Some given
   pub holds : (point : List ℚ) → IsInBox node.box point → IsInBox given.box point
   pub keeps : HoldsInBox reduced held given.box (IsInBox node.box)
+  pub choices : node.choices ≡ given.choices
   pub bound : NoMore given.bound node.bound
 
 -- a node has this number
@@ -93,12 +95,15 @@ pub record WayBack : Type 0 where
 abbrev pub stay : WayBack
 stay = record { point = λ point. point; leaf = λ leaf. leaf }
 
--- the reduced program may be solved in place of the program as read, and the whole values of a feasible point come back
--- as the leaf of the point that it comes back as
+-- the reduced program may be solved in place of the program as read; the whole values of a feasible point come back as
+-- those of the point that it comes back as; and where the choices are made in one way, it comes back as a point where
+-- they are made so
 pub record IsWayBack (program reduced : Program) (way : WayBack) : Type 0 where
   pub reduction : IsReduction program reduced way.point
   pub leaves : (point : List ℚ) → IsFeasible reduced point
       → at_wholes program.integral (way.point point) ≡ way.leaf (at_wholes reduced.integral point)
+  pub choices : (on : List Bool) (point : List ℚ)
+      → IsFeasible (decided reduced on) point → IsFeasible (decided program on) (way.point point)
 
 -- a feasible point of the program has this cost
 pub record IsAttained (program : Program) (cost : ℚ) : Type 0 where
@@ -106,20 +111,20 @@ pub record IsAttained (program : Program) (cost : ℚ) : Type 0 where
   pub feasible : IsFeasible program point
   pub is_cost : cost ≡ cost_of program point
 
--- the box of a node has one whole assignment, which comes back as this leaf of the program, and that is wide
+-- the box of a node has one leaf, which comes back as this leaf of the program, and that is wide
 pub record IsStuckAt
-    (program reduced : Program) (way : WayBack) (Wide : Program → List ℚ → Type 0) (leaf : List ℚ)
+    (program reduced : Program) (way : WayBack) (Wide : Program → List ℚ → Type 0) (leaf : Leaf)
     (node : Node) : Type 0 where
-  pub values : List ℚ
-  pub only : IsOnlyLeaf reduced.integral node.box values
-  pub is : leaf ≡ way.leaf values
-  pub is_leaf : IsLeaf program leaf
-  pub wide : Wide program leaf
+  pub left : Leaf
+  pub only : IsOnlyLeafOf reduced node left
+  pub is : leaf ≡ record { values = way.leaf left.values; on = left.on }
+  pub is_leaf : IsLeafOf program leaf
+  pub wide : Wide (decided program leaf.on) leaf.values
 
 -- so it is with some leaf
 pub record IsStuck
     (program reduced : Program) (way : WayBack) (Wide : Program → List ℚ → Type 0) (node : Node) : Type 0 where
-  pub leaf : List ℚ
+  pub leaf : Leaf
   pub at_leaf : IsStuckAt program reduced way Wide leaf node
 
 -- ---- the search

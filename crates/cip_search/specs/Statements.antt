@@ -6,8 +6,7 @@ use Rattle.cip_rational.specs.Rational.{ℚ, ◌+ℚ◌, ◌≤ℚ◌, ◌<ℚ�
 use Rattle.cip_problem.specs.Program.{Sides, Row, Program}
 use Rattle.cip_problem.specs.Box.{IsInBox}
 use Rattle.cip_problem.specs.Points.{IsFeasible, cost_of, IsLowerBound}
-use Rattle.cip_problem.specs.Wholes.{assignments}
-use Rattle.cip_problem.specs.Log.{Split, Closed, Parked, Entry, Node, low_half, high_half, node_of, CanSplit, AllFollow, IsLog, matters}
+use Rattle.cip_problem.specs.Log.{Split, Closed, Parked, Entry, Node, root, low_node, high_node, leaf_count, node_of, CanSplit, AllFollow, IsLog, matters}
 use Rattle.cip_linear.specs.LinearProgram.{IsOptimal}
 use Rattle.cip_cuts.specs.Improving.{HoldsInBox, IsBoundIn, HasNoImproving, IsNoDearer}
 use Rattle.cip_cuts.specs.Cover.{HasBoundFrom}
@@ -28,8 +27,10 @@ split_entry node column at low high = record { node = node.number; bound = node.
 
 -- the halves of a node, with its bound
 pub record AreHalves (node : Node) (column : ℕ) (at : ℤ) (low high : Node) : Type 0 where
-  pub low_box : low.box ≡ low_half node.box column at
-  pub high_box : high.box ≡ high_half node.box column at
+  pub low_box : low.box ≡ (low_node node column at).box
+  pub high_box : high.box ≡ (high_node node column at).box
+  pub low_choices : low.choices ≡ (low_node node column at).choices
+  pub high_choices : high.choices ≡ (high_node node column at).choices
   pub low_bound : low.bound ≡ node.bound
   pub high_bound : high.bound ≡ node.bound
 
@@ -85,7 +86,7 @@ pub record StepsKeepSearches
       })
   -- as a node in work is split, where the log goes on being one
   pub split : (state : State) (node low high : Node) (work open_ : List Node) (column : ℕ) (at : ℤ)
-      → state.work ≡ node ∷ work → CanSplit reduced.integral node.box column at → AreHalves node column at low high
+      → state.work ≡ node ∷ work → CanSplit reduced.integral node column at → AreHalves node column at low high
       → IsPermutation (low ∷ high ∷ state.open_) open_
       → AllFollow reduced.integral (first_node reduced start ∷ []) []
       (state.log ++ split_entry node column at low.number high.number ∷ [])
@@ -147,7 +148,7 @@ pub record StepsKeepGiven
         log = state.log ++ record { node = node.number; bound = node.bound; end = Parked } ∷ [];
       })
   pub split : (state : State) (node low high : Node) (work open_ : List Node) (column : ℕ) (at : ℤ)
-      → state.work ≡ node ∷ work → CanSplit reduced.integral node.box column at → AreHalves node column at low high
+      → state.work ≡ node ∷ work → CanSplit reduced.integral node column at → AreHalves node column at low high
       → IsPermutation (low ∷ high ∷ state.open_) open_
       → AllFollow reduced.integral (first_node reduced start ∷ []) []
       (state.log ++ split_entry node column at low.number high.number ∷ [])
@@ -217,7 +218,7 @@ pub record SearchLogsTell
   -- while a node is left that has not ended, there are fewer entries than a search takes nodes at most
   pub short : (state : State) (node : Node) (n : ℕ)
       → IsSearch program reduced way Wide start state → Contains (unended state) node
-      → assignments reduced.integral reduced.bounds ≡ Some n → length state.log < max 1 (2 * n - 1)
+      → leaf_count reduced.integral (root reduced) ≡ Some n → length state.log < max 1 (2 * n - 1)
 
 -- where the program is searched itself, the entries of the log are true ones
 abbrev pub EntriesAreTrue : Type 0

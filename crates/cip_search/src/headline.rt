@@ -15,7 +15,7 @@ pub fn ends_exclude()
     ensures { EndsExclude }
 {}
 
-/// A node budget of max(1, 2n-1) is never spent over n whole assignments.
+/// A node budget of max(1, 2n-1) is never spent over a box with n leaves.
 pub fn budgets_suffice()
     ensures { BudgetsSuffice }
 {}

@@ -10,6 +10,7 @@ returns c = record {
   infeasible = refl;
   wide = tried.wide;
   wide_by_moves = tried.wide_by_moves;
+  wide_with_choices = tried.wide_with_choices;
   unbounded = tried.unbounded;
   usage = refl;
 }

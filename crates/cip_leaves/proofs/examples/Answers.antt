@@ -1,4 +1,4 @@
-use Rattle.cip_leaves.proofs.Tried.{leaf, outside, wide, narrow, no_row, cost, shifted, picked, spread}
+use Rattle.cip_leaves.proofs.Tried.{leaf, outside, wide, narrow, no_row, cost, shifted, picked, spread, on_leaf, on_point, not_off, no_choice}
 use Rattle.cip_leaves.proofs.examples.Goals as goal
 
 pub returns : goal.returns
@@ -12,4 +12,8 @@ returns c = record {
   shifted = shifted;
   picked = picked;
   spread = spread;
+  on_leaf = on_leaf;
+  on_point = on_point;
+  not_off = not_off;
+  no_choice = no_choice;
 }

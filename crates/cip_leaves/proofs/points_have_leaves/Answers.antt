@@ -1,5 +1,11 @@
-use Rattle.cip_leaves.proofs.Points.{own_leaf, feasible_leaf, only_leaf, whole_leaf}
+use Rattle.cip_leaves.proofs.Points.{own_leaf, feasible_leaf, only_leaf, only_leaf_of, whole_leaf}
 use Rattle.cip_leaves.proofs.points_have_leaves.Goals as goal
 
 pub returns : goal.returns
-returns c = record { own = own_leaf; feasible = feasible_leaf; only = only_leaf; whole = whole_leaf }
+returns c = record {
+  own = own_leaf;
+  only_values = only_leaf;
+  feasible = feasible_leaf;
+  only = only_leaf_of;
+  whole = whole_leaf;
+}

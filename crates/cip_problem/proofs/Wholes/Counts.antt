@@ -155,7 +155,7 @@ abbrev pub IsPositive : Option ℕ → Type 0
 IsPositive None = ⊤
 IsPositive (Some n) = 1 ≤ n
 
-times_positive : (m n : Option ℕ) → IsPositive m → IsPositive n → IsPositive (times m n)
+pub times_positive : (m n : Option ℕ) → IsPositive m → IsPositive n → IsPositive (times m n)
 times_positive (Some m) (Some n) h k = omega (arith, mul-le-mul h k)
 times_positive (Some zero) None h k = absurd (omega (arith, h))
 times_positive (Some (suc m)) None h k = tt
