@@ -1,3 +1,4 @@
 pub mod Boxes
+pub mod OneSide
 pub mod Trails
 pub mod WholeHalves

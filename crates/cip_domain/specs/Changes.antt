@@ -1,27 +1,63 @@
--- Changes of one side of one column, and boxes after them.
-use Rattle.std.specs.Prelude.{◌≡◌, ℕ, Bool, true, false, not, List, [], ◌∷◌, Option, None, Some, if◌then◌else◌, slice_set, refl}
-use Rattle.std.specs.Coded.{Coded, code_by, coded×, coded_ℕ, coded_bool}
-use Rattle.cip_rational.specs.Rational.{ℚ, coded_ℚ}
-use Rattle.cip_problem.specs.Program.{Sides}
-use Rattle.cip_problem.specs.Box.{sides_at, low_inside, high_inside, is_between}
+-- Regions, which are boxes with choices; changes of one column; and regions after them.
+use Rattle.std.specs.Prelude.{ℕ, Bool, not, List, [], ◌∷◌, Option, None, Some, slice_set, refl}
+use Rattle.std.specs.Coded.{Coded, code_by, coded×, coded_ℕ, coded_bool, coded_option}
+use Rattle.cip_rational.specs.Rational.{ℚ}
+use Rattle.cip_problem.specs.Program.{Sides, Choice, Plain, Open, Off, On}
+use Rattle.cip_problem.specs.Codes.{sides_code, box_code, choices_code}
+use Rattle.cip_problem.specs.Box.{no_sides, sides_at, low_inside, high_inside, is_between}
+use Rattle.cip_problem.specs.Choices.{choice_at, met}
+use Rattle.cip_lin.specs.ChoiceParts.{made_choice}
 use Rattle.cip_lin.specs.declared.sides.Side.{Side}
 use Rattle.cip_lin.specs.declared.sides.Side.TheVariants.{Low, High}
 
--- a value for one side of a column
+-- a box, and the choices of its columns; those past their end are plain
+pub record Region : Type 0 where
+  pub box : List Sides
+  pub choices : List Choice
+
+-- a region with other sides and another choice at a column
+abbrev pub with_column : Region → ℕ → Sides → Choice → Region
+with_column region column sides choice = record {
+  box = slice_set region.box column sides;
+  choices = slice_set region.choices column choice;
+}
+
+-- sides that a column's are met with, and what is chosen of it, if that is: on or off
 pub record Change : Type 0 where
   pub column : ℕ
-  pub side : Side
-  pub value : ℚ
+  pub sides : Sides
+  pub made : Option Bool
 
--- one of the two sides
-abbrev pub side_of : Sides → Side → Option ℚ
-side_of sides Low = sides.low
-side_of sides High = sides.high
+-- a choice after one was made. A plain column has none; once a column is off it stays so, as its sides are met with 0
+abbrev pub choice_after : Choice → Option Bool → Choice
+choice_after choice None = choice
+choice_after Plain (Some on) = Plain
+choice_after (Open own) (Some on) = made_choice on
+choice_after Off (Some on) = Off
+choice_after On (Some on) = made_choice on
+
+-- a region after a change
+abbrev pub tightened : Region → Change → Region
+tightened region change =
+    with_column region change.column (met (sides_at region.box change.column) change.sides)
+    (choice_after (choice_at region.choices change.column) change.made)
+
+-- a region after changes, of which the last is made first
+abbrev pub narrowed : Region → List Change → Region
+narrowed region [] = region
+narrowed region (change ∷ earlier) = tightened (narrowed region earlier) change
+
+-- ---- changes of one side
 
 -- the sides with another value for one of them
 abbrev pub with_side : Sides → Side → Option ℚ → Sides
 with_side sides Low value = record { low = value; high = sides.high }
 with_side sides High value = record { low = sides.low; high = value }
+
+-- the change that meets one side with a value
+abbrev pub side_change : ℕ → Side → ℚ → Change
+side_change column side value =
+    record { column = column; sides = with_side no_sides side (Some value); made = None }
 
 -- a side is at least as strong as a value already
 abbrev pub is_as_strong : Sides → Side → ℚ → Bool
@@ -33,40 +69,16 @@ abbrev pub would_cross : Sides → Side → ℚ → Bool
 would_cross sides side value =
     let others = with_side sides side None in not (is_between others.low others.high value)
 
--- the sides with a value for one of them, where that is stronger
-abbrev pub tightened_sides : Sides → Side → ℚ → Sides
-tightened_sides sides side value = if is_as_strong sides side value then sides else with_side sides side (Some value)
-
--- a box after a change, which counts where it is stronger
-abbrev pub tightened : List Sides → Change → List Sides
-tightened box change =
-    slice_set box change.column (tightened_sides (sides_at box change.column) change.side change.value)
-
--- a box after changes, of which the last is made first
-abbrev pub narrowed : List Sides → List Change → List Sides
-narrowed box [] = box
-narrowed box (change ∷ earlier) = tightened (narrowed box earlier) change
-
 -- ---- codes
 
-abbrev pub is_low : Side → Bool
-is_low Low = true
-is_low High = false
+-- box and choices
+abbrev pub region_code : Coded Region
+region_code =
+    code_by (List Sides × List Choice) (coded× box_code choices_code)
+    (λ r. (r.box, r.choices)) (λ p. record { box = p.0; choices = p.1 }) (λ _. refl)
 
-abbrev pub side_from : Bool → Side
-side_from true = Low
-side_from false = High
-
-pub side_back : (side : Side) → side_from (is_low side) ≡ side
-side_back Low = refl
-side_back High = refl
-
--- a side is stored as a flag
-abbrev pub side_code : Coded Side
-side_code = code_by Bool coded_bool is_low side_from side_back
-
--- column, side and value
+-- column, sides and what is made
 abbrev pub change_code : Coded Change
 change_code =
-    code_by (ℕ × (Side × ℚ)) (coded× coded_ℕ (coded× side_code coded_ℚ))
-    (λ c. (c.column, (c.side, c.value))) (λ p. record { column = p.0; side = p.1.0; value = p.1.1 }) (λ _. refl)
+    code_by (ℕ × (Sides × Option Bool)) (coded× coded_ℕ (coded× sides_code (coded_option coded_bool)))
+    (λ c. (c.column, (c.sides, c.made))) (λ p. record { column = p.0; sides = p.1.0; made = p.1.1 }) (λ _. refl)

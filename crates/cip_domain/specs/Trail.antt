@@ -1,24 +1,23 @@
--- How the earlier states of a box are kept: for each change the side as it was.
-use Rattle.std.specs.Prelude.{◌<◌, List, [], ◌∷◌, length, slice_set, All}
+-- How the earlier states of a region are kept: for each change the column as it was.
+use Rattle.std.specs.Prelude.{◌<◌, List, [], ◌∷◌, length, All}
 use Rattle.cip_problem.specs.Program.{Sides}
-use Rattle.cip_problem.specs.Box.{sides_at}
 use Rattle.cip_domain.specs.declared.stores.Saved.{Saved}
-use Rattle.cip_domain.specs.Changes.{with_side}
+use Rattle.cip_domain.specs.Changes.{Region, with_column}
 
--- a box with a side put back
-abbrev pub undone : List Sides → Saved → List Sides
-undone box saved = slice_set box saved.col (with_side (sides_at box saved.col) saved.side saved.value)
+-- a region with a column put back
+abbrev pub undone : Region → Saved → Region
+undone region saved = with_column region saved.col saved.sides saved.choice
 
--- a box with all of these put back, the last one first
-abbrev pub undone_all : List Sides → List Saved → List Sides
-undone_all box [] = box
-undone_all box (saved ∷ later) = undone (undone_all box later) saved
+-- a region with all of these put back, the last one first
+abbrev pub undone_all : Region → List Saved → Region
+undone_all region [] = region
+undone_all region (saved ∷ later) = undone (undone_all region later) saved
 
--- the boxes before each of the changes, the oldest first
-abbrev pub boxes_before : List Sides → List Saved → List (List Sides)
-boxes_before box [] = []
-boxes_before box (saved ∷ later) = undone_all box (saved ∷ later) ∷ boxes_before box later
+-- the regions before each of the changes, the oldest first
+abbrev pub regions_before : Region → List Saved → List Region
+regions_before region [] = []
+regions_before region (saved ∷ later) = undone_all region (saved ∷ later) ∷ regions_before region later
 
--- each side kept is of a column of the box
+-- each column kept is one of the box
 abbrev pub StandsIn : List Sides → List Saved → Type 0
 StandsIn box trail = All (λ saved. saved.col < length box) trail

@@ -1,21 +1,24 @@
-//! Changes of one side of one column.
-ghost use Rattle.std.specs.Prelude.{◌≡◌};
+//! Changes of one column.
+ghost use Rattle.std.specs.Prelude.{◌≡◌, None, Some};
+ghost use Rattle.cip_problem.specs.Program.{Open};
 ghost use Rattle.cip_problem.specs.Box.{low_inside, high_inside};
-ghost use Rattle.cip_domain.specs.Changes.{side_of, with_side, is_as_strong, would_cross, tightened_sides};
+ghost use Rattle.cip_problem.specs.Choices.{met};
+ghost use Rattle.cip_domain.specs.Domain.{is_settled as is_settled_lem};
+ghost use Rattle.cip_domain.specs.Changes.{with_side, side_change, is_as_strong, would_cross, choice_after};
 
 use cip_frac::Frac;
-use cip_lin::{Side, Sides};
+use cip_lin::{Choice, Side, Sides};
 use std::marker::Model;
 
-/// A value for one side of a column; it counts where the side is weaker or open.
+/// A change of one column: its sides are met with others, and its choice may be made.
 #[derive(Clone, Copy, Debug, PartialEq, Eq)]
 pub struct Change {
     /// The number of the column, from 0.
     pub col: u32,
-    /// Which of its sides.
-    pub side: Side,
-    /// The value of the side.
-    pub value: Frac,
+    /// Whether the column is on, where the change makes its choice.
+    pub made: Option<bool>,
+    /// The sides that its sides are met with.
+    pub sides: Sides,
 }
 
 impl Model for Change {
@@ -25,31 +28,55 @@ impl Model for Change {
 
     ghost coded = { change_code };
 
-    ghost view = { λ c. record { column = c.col; side = c.side; value = c.value } };
+    ghost view = { λ c. record { column = c.col; sides = c.sides; made = c.made } };
 
-    ghost inverse = { λ c. record { col = c.column; side = c.side; value = c.value } };
+    ghost inverse = { λ c. record { col = c.column; sides = c.sides; made = c.made } };
 }
 
 impl Change {
-    /// The sides of its column after the change: it counts where it is stronger.
-    pub fn narrow(self, sides: Sides) -> Sides
-        ensures { result ≡ tightened_sides sides self.side self.value }
+    /// The change that meets one side of a column, by its number from 0, with a value.
+    pub fn of_side(col: u32, side: Side, value: Frac) -> Change
+        ensures { result ≡ side_change col side value }
     {
-        if is_strong(sides, self.side, self.value) {
-            sides
-        } else {
-            with_value(sides, self.side, Some(self.value))
+        Change {
+            col,
+            sides: with_value(Sides::open(), side, Some(value)),
+            made: None,
         }
+    }
+
+    /// The sides of its column after the change.
+    pub fn narrow(self, sides: Sides) -> Sides
+        ensures { result ≡ met sides self.sides }
+    {
+        sides.met(self.sides)
+    }
+
+    /// The choice of its column after the change. A plain column has none, and one that is off stays off.
+    pub fn choose(self, choice: Choice) -> Choice
+        ensures { result ≡ choice_after choice self.made }
+    {
+        choice_past(choice, self.made)
     }
 }
 
-/// A side of a column, `None` where it is open.
-pub(crate) fn side_at(sides: Sides, side: Side) -> Option<Frac>
-    ensures { result ≡ side_of sides side }
+/// A choice after one was made, if it was.
+pub(crate) fn choice_past(choice: Choice, made: Option<bool>) -> Choice
+    ensures { result ≡ choice_after choice made }
 {
-    match side {
-        Side::Low => sides.low,
-        Side::High => sides.high,
+    match made {
+        Some(on) if choice.is_open() || choice.is_on() => Choice::made(on),
+        _ => choice,
+    }
+}
+
+/// Whether a choice is as a change would make it.
+pub(crate) fn is_settled(choice: &Choice, made: Option<bool>) -> bool
+    ensures { result ≡ is_settled_lem choice.now made }
+{
+    match made {
+        None => true,
+        Some(on) => !choice.is_open() && (on || !choice.is_on()),
     }
 }
 

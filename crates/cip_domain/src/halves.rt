@@ -1,7 +1,12 @@
-//! The halves of the values of a column: those up to a whole number, and those from the next one on.
-ghost use Rattle.std.specs.Prelude.{◌≡◌, ◌↔◌, ◌^◌, ◌≤◌, ◌+ℤ◌, pos, unsigned_abs, IsTrue, None};
+//! The halves of the values of a column: those up to a whole number, and those from the next one on; of a
+//! semi-continuous one, 0 and those between its own sides.
+ghost use Rattle.std.specs.Prelude.{◌≡◌, ◌↔◌, ◌^◌, ◌≤◌, ◌+ℤ◌, pos, unsigned_abs, IsTrue, None, Some};
 ghost use Rattle.cip_rational.specs.Rational.{integer};
 ghost use Rattle.cip_problem.specs.Wholes.{HasWhole};
+ghost use Rattle.cip_problem.specs.Program.{Open};
+ghost use Rattle.cip_lin.specs.declared.sides.Side.TheVariants.{Low, High};
+ghost use Rattle.cip_domain.specs.Changes.{side_change};
+ghost use Rattle.cip_domain.specs.Domain.{left_sides};
 ghost use Rattle.cip_domain.specs.Halves.{CanHalve, low_sides, high_sides};
 
 use crate::changes::Change;
@@ -57,23 +62,28 @@ fn whole(at: i128) -> Frac
 /// The change that gives the low half of a column: it is at most a whole number.
 pub fn low_change(col: u32, at: i128) -> Change
     requires { unsigned_abs at ≤ 2 ^ 101 }
-    ensures { result ≡ record { column = col; side = Side.High; value = integer at } }
+    ensures { result ≡ side_change col High (integer at) }
 {
-    Change {
-        col,
-        side: Side::High,
-        value: whole(at),
-    }
+    Change::of_side(col, Side::High, whole(at))
 }
 
 /// The change that gives the high half of a column: it is at least the whole number after one.
 pub fn high_change(col: u32, at: i128) -> Change
     requires { unsigned_abs at ≤ 2 ^ 101 }
-    ensures { result ≡ record { column = col; side = Side.Low; value = integer (at +ℤ pos 1) } }
+    ensures { result ≡ side_change col Low (integer (at +ℤ pos 1)) }
 {
+    Change::of_side(col, Side::Low, whole(at + 1))
+}
+
+/// The change that makes the choice of a semi-continuous column with these own sides: where it is off its value is 0,
+/// and where it is on one between them. Off is the low half of the column, and on the high one.
+pub fn choice_change(col: u32, own: Sides, on: bool) -> Change
+    ensures { result ≡ record { column = col; sides = left_sides (Open own) on; made = Some on } }
+{
+    let sides = if on { own } else { Sides::zero() };
     Change {
         col,
-        side: Side::Low,
-        value: whole(at + 1),
+        sides,
+        made: Some(on),
     }
 }

@@ -1,13 +1,17 @@
-//! The box in work: sides are tightened one by one, and a mark brings back what stood then.
+//! The region in work: sides are tightened and choices made one by one, and a mark brings back what stood then.
 ghost use Rattle.std.specs.Prelude.{◌≡◌, ◌≢◌, ◌+◌, ◌-◌, ◌<◌, ◌≤◌, [], ◌++◌, ◌∷◌, length, take, slice_index_or, OnOk, OnErr, vec_len, vec_capacity};
 ghost use Rattle.cip_problem.specs.Box.{sides_at};
-ghost use Rattle.cip_domain.specs.Changes.{tightened};
-ghost use Rattle.cip_domain.specs.Domain.{tightening, after_tightening, boxes};
+ghost use Rattle.cip_problem.specs.Choices.{choice_at};
+ghost use Rattle.cip_domain.specs.Changes.{tightened, side_change};
+ghost use Rattle.cip_domain.specs.Domain.{region_of, regions, stepped, tightening, after_tightening, CanChoose, choosing, after_choosing};
+ghost use Rattle.cip_domain.specs.Domain.{making, after_making};
 ghost use Rattle.cip_domain.specs.declared.stores.Tightened.TheVariants.{Empty};
 
-use crate::changes::{crosses, is_strong, side_at, with_value};
+use crate::changes::{Change, choice_past, crosses, is_settled, is_strong, with_value};
+use crate::halves::choice_change;
+use crate::regions::Region;
 use cip_frac::Frac;
-use cip_lin::{Bounds, Side};
+use cip_lin::{Bounds, Choice, Choices, Side, Sides};
 use std::alloc::{AllocError, Global};
 use std::marker::Model;
 
@@ -38,52 +42,53 @@ impl Model for Checkpoint {
     ghost inverse = { λ n. record { changes = n } };
 }
 
-// A side as it was before a change.
-#[derive(Clone, Copy, Debug, PartialEq, Eq)]
+// A column as it was before a change.
+#[derive(Clone, Copy, Debug)]
 struct Saved {
     col: u32,
-    side: Side,
-    value: Option<Frac>,
+    sides: Sides,
+    choice: Choice,
 }
 
-/// A box with its earlier states. Contracts see the box, the boxes before each change that can be undone, the oldest
-/// first, and for how many more changes there is room.
+/// A region with its earlier states. Contracts see its box and its choices, the regions before each change that can be
+/// undone, the oldest first, and for how many more changes there is room.
 #[derive(Debug, Drop)]
 pub struct DomainStore {
-    bounds: Bounds,
+    region: Region,
     trail: Vec<Saved>,
 }
 
 impl Model for DomainStore {
     ghost use Rattle.std.specs.Prelude.{◌-◌, vec_len, vec_capacity};
     ghost use Rattle.cip_domain.specs.Domain.{Domain, domain_code};
-    ghost use Rattle.cip_domain.specs.Trail.{boxes_before, StandsIn};
+    ghost use Rattle.cip_domain.specs.Trail.{regions_before, StandsIn};
 
     ghost Value = { Domain };
 
     ghost coded = { domain_code };
 
     ghost view = { λ d. record {
-      box = d.bounds;
-      before = boxes_before d.bounds d.trail.items;
+      box = d.region.box;
+      choices = d.region.choices;
+      before = regions_before d.region d.trail.items;
       spare = vec_capacity d.trail - vec_len d.trail;
     } };
 
-    ghost invariant = { λ d. StandsIn d.bounds d.trail.items };
+    ghost invariant = { λ d. StandsIn d.region.box d.trail.items };
 }
 
 impl DomainStore {
-    /// A store with this box, without earlier states and without room.
-    pub fn new(alloc: Global, bounds: Bounds) -> DomainStore
-        ensures { result ≡ record { box = bounds; before = []; spare = 0 } }
+    /// A store with this region, without earlier states and without room.
+    pub fn new(alloc: Global, region: Region) -> DomainStore
+        ensures { result ≡ record { box = region.box; choices = region.choices; before = []; spare = 0 } }
     {
         DomainStore {
-            bounds,
+            region,
             trail: Vec::new(alloc),
         }
     }
 
-    /// Makes room for so many changes. `Err` comes where a growth was refused. Neither changes the box or its
+    /// Makes room for so many changes. `Err` comes where a growth was refused. Neither changes the region or its
     /// earlier states, and the room never shrinks.
     pub fn reserve(&mut self, changes: usize) -> Result<(), AllocError>
         ensures room { OnOk result (changes ≤ self.new.spare) }
@@ -91,6 +96,20 @@ impl DomainStore {
         ensures same { self.new ≡ record self.old { spare = self.new.spare } }
     {
         self.trail.reserve(changes)
+    }
+
+    /// Gives a column other sides and another choice.
+    fn step(&mut self, col: u32, sides: Sides, choice: Choice)
+        requires column { col < length self.old.box }
+        requires room { 0 < self.old.spare }
+        ensures { self.new ≡ stepped self.old col sides choice }
+    {
+        self.trail.push_reserved(Saved {
+            col,
+            sides: self.region.sides(col),
+            choice: self.region.choice(col),
+        });
+        self.region.set(col, sides, choice);
     }
 
     /// Makes a value a side of a column, by its number from 0, where that is stronger and leaves the box a value
@@ -102,22 +121,65 @@ impl DomainStore {
         ensures outcome { result ≡ tightening (sides_at self.old.box col) side value }
         ensures after { self.new ≡ after_tightening result self.old col side value }
         ensures narrows { result ≢ Empty
-            → self.new.box ≡ tightened self.old.box (record { column = col; side = side; value = value }) }
+            → region_of self.new ≡ tightened (region_of self.old) (side_change col side value) }
     {
-        let sides = self.bounds.sides(col);
+        let sides = self.region.sides(col);
         if is_strong(sides, side, value) {
             return Tightened::Same;
         }
         if crosses(sides, side, value) {
             return Tightened::Empty;
         }
-        self.trail.push_reserved(Saved {
-            col,
-            side,
-            value: side_at(sides, side),
-        });
-        self.bounds
-            .set_sides(col, with_value(sides, side, Some(value)));
+        let choice = self.region.choice(col);
+        self.step(col, with_value(sides, side, Some(value)), choice);
+        Tightened::Yes
+    }
+
+    /// Makes the choice of a semi-continuous column, by its number from 0, which is open, or the same already: its
+    /// sides are met with those that the choice leaves. There is room for a change. `Same` comes exactly where the
+    /// choice is made already, `Empty` exactly where it isn't and the low side would pass the high one; both leave all
+    /// as it was.
+    pub fn choose(&mut self, col: u32, on: bool) -> Tightened
+        requires column { col < length self.old.box }
+        requires room { 0 < self.old.spare }
+        requires choice { CanChoose (choice_at self.old.choices col) on }
+        ensures outcome { result ≡ choosing (choice_at self.old.choices col) (sides_at self.old.box col) on }
+        ensures after { self.new ≡ after_choosing result self.old col on }
+    {
+        let Some(own) = self.region.choice(col).own() else {
+            return Tightened::Same;
+        };
+        let change = choice_change(col, own, on);
+        let sides = change.narrow(self.region.sides(col));
+        if sides.cross() {
+            return Tightened::Empty;
+        }
+        self.step(col, sides, Choice::made(on));
+        Tightened::Yes
+    }
+
+    /// Makes a change of a column of the box. There is room for one. `Same` comes exactly where the sides of the column
+    /// are at least as strong and its choice is as the change makes it, `Empty` exactly where that isn't so and the low
+    /// side would pass the high one; both leave all as it was.
+    pub fn make(&mut self, change: Change) -> Tightened
+        requires column { change.column < length self.old.box }
+        requires room { 0 < self.old.spare }
+        ensures outcome { result ≡ making (sides_at self.old.box change.column)
+            (choice_at self.old.choices change.column) change }
+        ensures after { self.new ≡ after_making result self.old change }
+        ensures narrows { result ≢ Empty → region_of self.new ≡ tightened (region_of self.old) change }
+    {
+        let Change { col, sides, made } = change;
+        let own = self.region.sides(col);
+        let choice = self.region.choice(col);
+        if own.is_inside(sides) && is_settled(&choice, made) {
+            return Tightened::Same;
+        }
+        let left = own.met(sides);
+        if left.cross() {
+            return Tightened::Empty;
+        }
+        self.step(col, left, choice_past(choice, made));
         Tightened::Yes
     }
 
@@ -130,11 +192,11 @@ impl DomainStore {
         }
     }
 
-    /// Brings back the box that stood at a mark, which no earlier mark was brought back since; the later marks are
+    /// Brings back the region that stood at a mark, which no earlier mark was brought back since; the later marks are
     /// gone, and the room of what is undone is free again.
     pub fn undo_to(&mut self, mark: Checkpoint)
         requires held { mark ≤ length self.old.before }
-        ensures restored { self.new.box ≡ slice_index_or (boxes self.old) mark self.old.box }
+        ensures restored { region_of self.new ≡ slice_index_or (regions self.old) mark (region_of self.old) }
         ensures before { self.new.before ≡ take mark self.old.before }
         ensures room { self.new.spare ≡ self.old.spare + (length self.old.before - mark) }
     {
@@ -143,16 +205,14 @@ impl DomainStore {
         }
     }
 
-    /// Brings back the box before the last change.
+    /// Brings back the region before the last change.
     fn undo_last(&mut self)
         requires { 0 < length self.old.before }
-        ensures boxes { self.old.before ≡ self.new.before ++ self.new.box ∷ [] }
+        ensures regions { self.old.before ≡ self.new.before ++ region_of self.new ∷ [] }
         ensures room { self.new.spare ≡ self.old.spare + 1 }
     {
         if let Some(saved) = self.trail.pop() {
-            let sides = self.bounds.sides(saved.col);
-            let back = with_value(sides, saved.side, saved.value);
-            self.bounds.set_sides(saved.col, back);
+            self.region.set(saved.col, saved.sides, saved.choice);
         }
     }
 
@@ -160,6 +220,13 @@ impl DomainStore {
     pub fn bounds(&self) -> &Bounds
         ensures { result.now ≡ self.now.box }
     {
-        &self.bounds
+        self.region.bounds()
+    }
+
+    /// The choices.
+    pub fn choices(&self) -> &Choices
+        ensures { result.now ≡ self.now.choices }
+    {
+        self.region.choices()
     }
 }

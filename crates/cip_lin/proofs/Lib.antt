@@ -1,2 +1,3 @@
 pub mod ActivitySizes
+pub mod AllowedValues
 pub mod RowSums

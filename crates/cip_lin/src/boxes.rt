@@ -1,6 +1,8 @@
 //! Boxes: a low and a high side for each column.
 ghost use Rattle.std.specs.Prelude.{◌≡◌, ◌<◌, ◌++◌, ◌∷◌, [], ◌↔◌, IsTrue, length, slice_set, IfOk, OnOk, OnErr, replicate};
 ghost use Rattle.cip_problem.specs.Box.{no_sides, sides_at, box_inside, sides_inside, low_inside, high_inside, two_wholes_between, sides_equal, at_least, at_most, is_between};
+ghost use Rattle.cip_problem.specs.Choices.{greater, lesser, met, zero_sides};
+ghost use Rattle.cip_lin.specs.MetSides.{is_past};
 
 use cip_frac::Frac;
 use std::alloc::{AllocError, Global};
@@ -70,6 +72,28 @@ fn is_at_most(high: Option<Frac>, value: Frac) -> bool
     }
 }
 
+/// The greater of two low sides, as far as they are there.
+fn greater_of(low: Option<Frac>, other: Option<Frac>) -> Option<Frac>
+    ensures { result ≡ greater low other }
+{
+    match (low, other) {
+        (None, other) => other,
+        (Some(side), None) => Some(side),
+        (Some(side), Some(other)) => Some(if side <= other { other } else { side }),
+    }
+}
+
+/// The lesser of two high sides, as far as they are there.
+fn lesser_of(high: Option<Frac>, other: Option<Frac>) -> Option<Frac>
+    ensures { result ≡ lesser high other }
+{
+    match (high, other) {
+        (None, other) => other,
+        (Some(side), None) => Some(side),
+        (Some(side), Some(other)) => Some(if side <= other { side } else { other }),
+    }
+}
+
 impl Sides {
     /// No side at all.
     pub fn open() -> Sides
@@ -78,6 +102,36 @@ impl Sides {
         Sides {
             low: None,
             high: None,
+        }
+    }
+
+    /// Both sides at 0.
+    pub fn zero() -> Sides
+        ensures { result ≡ zero_sides }
+    {
+        Sides {
+            low: Some(Frac::zero()),
+            high: Some(Frac::zero()),
+        }
+    }
+
+    /// These sides met with others: what lies between both.
+    pub fn met(self, others: Sides) -> Sides
+        ensures { result ≡ met self others }
+    {
+        Sides {
+            low: greater_of(self.low, others.low),
+            high: lesser_of(self.high, others.high),
+        }
+    }
+
+    /// Whether the low side passes the high one, so that no value lies between them.
+    pub fn cross(self) -> bool
+        ensures { result ≡ is_past self.low self.high }
+    {
+        match (self.low, self.high) {
+            (Some(low), Some(high)) => high < low,
+            _ => false,
         }
     }
 

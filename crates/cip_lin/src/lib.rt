@@ -2,6 +2,7 @@
 #![tactic(auto)]
 
 mod boxes;
+mod choices;
 mod combos;
 mod extremes;
 mod outcomes;
@@ -9,6 +10,7 @@ mod rows;
 mod sides;
 
 pub use boxes::{Bounds, Sides};
+pub use choices::{Choice, Choices};
 pub use combos::{ColumnMultiple, Combo, RowId, RowMultiple};
 pub use extremes::{add_least, least};
 pub use outcomes::Least;

@@ -145,7 +145,7 @@ small_can_check program s point place b w =
     let values : AllByRecursion (IsWithin few) point = values_within program.bounds program.integral point s.bounds s.whole b w in
     let columns : length program.costs ≤ most_columns = s.columns in
     is_wide (verdict_of program point) place
-    (not_wide_bounds (first_outside 0 program.bounds point) _
+    (not_wide_bounds (first_outside 0 program.bounds program.choices point) _
     (not_wide_wholes (first_not_whole 0 program.integral point) _
     (not_wide_rows (first_broken 0 program.rows point) _ (rows_not_wide 0 program.rows point s.rows values)
     (cost_not_wide _ _ (within_dot 0 few few program.constant program.costs point (subst (IsWithin 0) (sym s.constant) (zero_within 0)) s.costs values (omega (arith, columns)))))))

@@ -1,9 +1,10 @@
 -- What a verdict says of a program and a point, and what a bound says of a box. The modules below have the laws.
 use Rattle.std.specs.Prelude.{◌≡◌, ℕ, ◌<◌, true, List, Option, None, Some, IsErr, slice_get, ⊤}
 use Rattle.cip_rational.specs.Rational.{ℚ, zeroℚ, IsWhole}
-use Rattle.cip_problem.specs.Program.{Row, Program}
+use Rattle.cip_problem.specs.Program.{Sides, Row, Choice, Program}
 use Rattle.cip_problem.specs.Activity.{activity, value_at}
 use Rattle.cip_problem.specs.Box.{Between, sides_at}
+use Rattle.cip_problem.specs.Choices.{choice_at, Allows}
 use Rattle.cip_problem.specs.Points.{IsSatisfied, IsFeasible, cost_of}
 use Rattle.cip_problem.specs.WellFormed.{columns}
 use Rattle.cip_frac.specs.Outcomes.{dot_from}
@@ -15,11 +16,15 @@ use Rattle.cip_model.specs.declared.verdicts.Place.TheVariants.{Row as AtRow, Co
 use Rattle.cip_model.specs.declared.verdicts.Verdict.{Verdict}
 use Rattle.cip_model.specs.declared.verdicts.Verdict.TheVariants.{Feasible, BreaksBound, BreaksWhole, BreaksRow, Wide}
 
--- the value of a column is not between its sides
+-- a value lies between the sides, and the choice allows it
+pub record IsKept (sides : Sides) (choice : Choice) (value : ℚ) : Type 0 where
+  pub between : Between sides.low sides.high value
+  pub allowed : Allows choice value
+
+-- the value of a column is not between its sides, or it isn't allowed by the column's choice
 pub record IsOutside (program : Program) (point : List ℚ) (column : ℕ) : Type 0 where
   pub is_column : column < columns program
-  pub outside : ¬ Between (sides_at program.bounds column).low (sides_at program.bounds column).high
-      (value_at point column)
+  pub outside : ¬ IsKept (sides_at program.bounds column) (choice_at program.choices column) (value_at point column)
 
 -- a column is to be whole, and its value is fractional
 pub record IsFractional (program : Program) (point : List ℚ) (column : ℕ) : Type 0 where

@@ -19,4 +19,5 @@ program_from parts = record {
   maximized = is_maximize parts.sense;
   integral = parts.whole.items;
   bounds = parts.bounds;
+  choices = parts.choices;
 }

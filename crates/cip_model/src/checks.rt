@@ -1,7 +1,8 @@
 //! The tests that a verdict is made of, each over lists by column or by row.
 ghost use Rattle.std.specs.Prelude.{◌≡◌, ◌≤◌, ◌&&◌, not, length, All};
 ghost use Rattle.cip_problem.specs.Activity.{StandsBelow};
-ghost use Rattle.cip_model.specs.Verdicts.{first_outside, first_not_whole, first_broken, row_verdict};
+ghost use Rattle.cip_problem.specs.Choices.{choice_at};
+ghost use Rattle.cip_model.specs.Verdicts.{is_kept, first_outside, first_not_whole, first_broken, row_verdict};
 ghost use Rattle.cip_model.specs.Least.{column_added, least_cost_from};
 ghost use Rattle.cip_frac.specs.Outcomes.{dot_from};
 ghost use Rattle.cip_problem.specs.Limits.{most_rows, most_columns};
@@ -10,16 +11,23 @@ ghost use Rattle.cip_rational.specs.Rational.{zeroℚ, is_whole};
 
 use crate::verdicts::{Place, Verdict};
 use cip_frac::{Frac, Wide};
-use cip_lin::{Least, Row, Sides, add_least};
+use cip_lin::{Choices, Least, Row, Sides, add_least};
 
-/// The first column whose value is outside its sides.
-pub(crate) fn outside(bounds: &[Sides], point: &[Frac]) -> Option<u32>
+/// Whether a value of a column lies between its sides, and its choice allows it.
+fn is_kept(sides: Sides, choices: &Choices, column: u32, value: Frac) -> bool
+    ensures { result ≡ is_kept sides (choice_at choices.now column) value }
+{
+    sides.contains(value) && choices.allows(column, value)
+}
+
+/// The first column whose value is outside its sides, or isn't allowed by its choice.
+pub(crate) fn outside(bounds: &[Sides], choices: &Choices, point: &[Frac]) -> Option<u32>
     requires same { length bounds.now ≡ length point.now }
     requires few { length point.now ≤ most_columns }
-    ensures { result ≡ first_outside 0 bounds.now point.now }
+    ensures { result ≡ first_outside 0 bounds.now choices.now point.now }
 {
     for at in 0..point.len() {
-        if !bounds[at].contains(point[at]) {
+        if !is_kept(bounds[at], choices, at as u32, point[at]) {
             return Some(at as u32);
         }
     }

@@ -1,7 +1,7 @@
 //! The parts that a program is made of.
 use crate::names::Names;
 use cip_frac::Frac;
-use cip_lin::{Bounds, Row};
+use cip_lin::{Bounds, Choices, Row};
 
 /// Which way the cost is to go.
 #[derive(Clone, Copy, Debug, PartialEq, Eq)]
@@ -30,6 +30,9 @@ pub struct Parts {
     pub sense: Sense,
     /// Whether each column takes whole values only.
     pub whole: Vec<bool>,
-    /// The sides of each column.
+    /// The sides of each column; those of a semi-continuous one from 0 to the greater of 0 and its own high side.
     pub bounds: Bounds,
+    /// What is chosen of each column: of a semi-continuous one it is open, with the column's own sides. Columns past
+    /// the end are plain, so a program without semi-continuous columns has no choices, and they take no memory.
+    pub choices: Choices,
 }

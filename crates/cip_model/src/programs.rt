@@ -12,7 +12,7 @@ use crate::names::Names;
 use crate::parts::{Parts, Sense};
 use crate::verdicts::{Place, Verdict};
 use cip_frac::Frac;
-use cip_lin::{Bounds, Least, Row};
+use cip_lin::{Bounds, Choices, Least, Row};
 use std::marker::Model;
 
 /// A program: rows and columns by number from 0, at most `MOST_ROWS` and `MOST_COLUMNS`. Costs and
@@ -116,14 +116,22 @@ impl Program {
         &self.parts.bounds
     }
 
-    /// The verdict on a point with a value for each column: the first that is met of bounds by
+    /// The choices of the columns: open ones, with their own sides, of the semi-continuous columns, and else plain.
+    pub fn choices(&self) -> &Choices
+        ensures choices { result.now ≡ self.now.choices }
+        ensures formed { IsWellFormed self.now }
+    {
+        &self.parts.choices
+    }
+
+    /// The verdict on a point with a value for each column: the first that is met of bounds and choices by
     /// column, whole columns, rows in order, the cost.
     pub fn check(&self, point: &[Frac]) -> Verdict
         requires { length point.now ≡ columns self.now }
         ensures verdict { result ≡ verdict_of self.now point.now }
         ensures meaning { VerdictHolds self.now point.now result }
     {
-        if let Some(col) = outside(self.parts.bounds.as_slice(), point) {
+        if let Some(col) = outside(self.parts.bounds.as_slice(), &self.parts.choices, point) {
             return Verdict::BreaksBound { col };
         }
         if let Some(col) = not_whole(self.parts.whole.as_slice(), point) {

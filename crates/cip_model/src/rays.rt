@@ -129,9 +129,9 @@ fn lowers_cost(costs: &[Frac], ray: &[Frac]) -> bool
 impl Program {
     /// Whether a ray is shown beside a point, each with a value for each column: `check` says `Feasible` of the point,
     /// and the ray is 0 on whole columns, at least 0 on columns and rows with a low side and at most 0 on those with a
-    /// high side, and has a cost below 0; the sums of rows and of the cost go from 0 by rising column. `false` too where
-    /// one of these sums overflows. Where it is, the point may be left for feasible points along the ray without end,
-    /// and the cost falls.
+    /// high side, and has a cost below 0; the sums of rows and of the cost go from 0 by rising column. So it is 0 on
+    /// semi-continuous columns, which have both sides. `false` too where one of these sums overflows. Where a ray is
+    /// shown, the point may be left for feasible points along it without end, and the cost falls.
     pub fn check_ray(&self, point: &[Frac], ray: &[Frac]) -> bool
         requires point { length point.now ≡ columns self.now }
         requires ray { length ray.now ≡ columns self.now }

@@ -10,13 +10,14 @@ pub enum Place {
     Cost,
 }
 
-/// What a test of a point answers: the first of these, bounds by column, then whole columns, then
+/// What a test of a point answers: the first of these, bounds and choices by column, then whole columns, then
 /// rows in order, then the cost.
 #[derive(Clone, Copy, Debug, PartialEq, Eq)]
 pub enum Verdict {
     /// The point is feasible, at this cost of the minimised form.
     Feasible(Frac),
-    /// The value of this column, by its number from 0, is the first outside its sides.
+    /// The value of this column, by its number from 0, is the first that is outside its sides, or that is neither 0 nor
+    /// between the own sides of a semi-continuous column.
     BreaksBound { col: u32 },
     /// This whole column, by its number from 0, is the first with a fractional value.
     BreaksWhole { col: u32 },

@@ -1,11 +1,11 @@
 -- Open nodes are closed by their bounds.
+use Rattle.cip_domain.specs.Changes.{Region}
 use Rattle.std.proofs.Common.{sum_by, ◌≡◌, ℕ, ◌+◌, ◌≤◌, Bool, true, false, cond, List, [], ◌∷◌, map, length, count_by, filter, All, refl, sym, ap, subst, arith}
 use Rattle.std.specs.List.Sorted.{IsPermutation}
 use Rattle.std.proofs.lemmas.List.Elements.{All-head, All-tail}
 use Rattle.std.proofs.lemmas.List.Sums.{sum_by-cons, length-filter, count_by-le-length}
 use Rattle.std.proofs.lemmas.List.Sorted.{IsPermutation-map, IsPermutation-refl, length_permutation}
 use Rattle.cip_rational.specs.Rational.{ℚ}
-use Rattle.cip_problem.specs.Program.{Sides}
 use Rattle.cip_problem.specs.Log.{Node}
 use Rattle.cip_tree.specs.declared.queue.OpenNode.{OpenNode}
 use Rattle.cip_tree.specs.Slots.{Slots}
@@ -19,12 +19,12 @@ shown_step f x a b true e = ap (λ l. f x ∷ l) e
 shown_step f x a b false e = e
 
 -- the cheaper ones of the nodes shown are those of the cheaper ones
-shown_filter : (box : List Sides) (slots : Slots) (cost : ℚ) (nodes : List OpenNode) → filter (is_cheaper cost) (nodes_at box slots nodes) ≡ nodes_at box slots (filter (is_below cost) nodes)
-shown_filter box slots cost [] = refl
-shown_filter box slots cost (x ∷ xs) = shown_step (node_at box slots) x _ _ (is_below cost x) (shown_filter box slots cost xs)
+shown_filter : (region : Region) (slots : Slots) (cost : ℚ) (nodes : List OpenNode) → filter (is_cheaper cost) (nodes_at region slots nodes) ≡ nodes_at region slots (filter (is_below cost) nodes)
+shown_filter region slots cost [] = refl
+shown_filter region slots cost (x ∷ xs) = shown_step (node_at region slots) x _ _ (is_below cost x) (shown_filter region slots cost xs)
 
-pub closed_nodes : (box : List Sides) (slots : Slots) (cost : ℚ) (old new : List OpenNode) → IsPermutation (filter (is_below cost) old) new → IsPermutation (filter (is_cheaper cost) (nodes_at box slots old)) (nodes_at box slots new)
-closed_nodes box slots cost old new p = subst (λ l. IsPermutation l (nodes_at box slots new)) (sym (shown_filter box slots cost old)) (IsPermutation-map (node_at box slots) (filter (is_below cost) old) new p)
+pub closed_nodes : (region : Region) (slots : Slots) (cost : ℚ) (old new : List OpenNode) → IsPermutation (filter (is_below cost) old) new → IsPermutation (filter (is_cheaper cost) (nodes_at region slots old)) (nodes_at region slots new)
+closed_nodes region slots cost old new p = subst (λ l. IsPermutation l (nodes_at region slots new)) (sym (shown_filter region slots cost old)) (IsPermutation-map (node_at region slots) (filter (is_below cost) old) new p)
 
 keep_step : (x : OpenNode) (a b : List OpenNode) (t : Bool) → t ≡ true → a ≡ b → cond t (x ∷ a) a ≡ x ∷ b
 keep_step x a b true e f = ap (λ l. x ∷ l) f

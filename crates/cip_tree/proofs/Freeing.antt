@@ -1,4 +1,5 @@
 -- Open nodes are let go, and the others stand as they did.
+use Rattle.cip_domain.specs.Changes.{Region}
 use Rattle.std.proofs.Common.{◌≡◌, ◌≢◌, inl, inr, ℕ, suc, ◌+◌, ◌<◌, ◌≤◌, ◌==◌, Bool, true, false, not, cond, List, [], ◌∷◌, ◌++◌, take, get_or, length, count_by, filter, Option, None, Some, IfSome, All, refl, sym, ap, ◌∙◌, subst, arith, length-append}
 use Rattle.std.specs.List.Sorted.{IsPermutation}
 use Rattle.std.proofs.lemmas.Option.{none-some}
@@ -7,7 +8,6 @@ use Rattle.std.proofs.lemmas.List.Filters.{sum_by-filter_both, length-filter_bot
 use Rattle.std.proofs.lemmas.List.Sums.{sum_by_more_le, get_or-le-sum_by}
 use Rattle.std.proofs.lemmas.List.Sorted.{All-permutation, length_permutation, sum_by-IsPermutation}
 use Rattle.cip_rational.specs.Rational.{ℚ}
-use Rattle.cip_problem.specs.Program.{Sides}
 use Rattle.cip_tree.specs.declared.kept.Stage.{Stage}
 use Rattle.cip_tree.specs.declared.kept.Stage.TheVariants.{Open, Taken, Parked, Ended}
 use Rattle.cip_tree.specs.declared.queue.OpenNode.{OpenNode}
@@ -130,7 +130,7 @@ module _ (old new : Slots) (gone : List OpenNode) (r : AreReleased old new gone)
     | inr (s, e) ↦ same_base old new Anywhere (freed_keeps old new gone r kept) k s tt e
   ] ∙ sym (bases_at old k)
 
-module _ (box : List Sides) (old new : Slots) (cost : ℚ) (q more p : List OpenNode) (ids work : ℕ) (o : IsInOrder old q p ids work) (r : AreReleased old new (dearer cost q)) (kept : AreSoundSlots new) (perm : IsPermutation (filter (is_below cost) q) more) where
+module _ (region : Region) (old new : Slots) (cost : ℚ) (q more p : List OpenNode) (ids work : ℕ) (o : IsInOrder old q p ids work) (r : AreReleased old new (dearer cost q)) (kept : AreSoundSlots new) (perm : IsPermutation (filter (is_below cost) q) more) where
   gone_open : All (StandsAs Open old) (dearer cost q)
   gone_open = All-filter (λ n. not (is_below cost n)) (StandsAs Open old) q o.waiting
 
@@ -174,13 +174,13 @@ module _ (box : List Sides) (old new : Slots) (cost : ℚ) (q more p : List Open
     rests = o.rests ∙ sym (r.others is_aside refl refl);
   }
 
-  pub freed_nodes : IsPermutation (filter (is_cheaper cost) (nodes_at box old q)) (nodes_at box new more)
-  freed_nodes = subst (IsPermutation (filter (is_cheaper cost) (nodes_at box old q)))
-      (sym (nodes_same box old new more (changes_still Open old new Anywhere more (freed_keeps old new (dearer cost q) r kept) (λ k d l. tt) more_stands)))
-      (closed_nodes box old cost q more perm)
+  pub freed_nodes : IsPermutation (filter (is_cheaper cost) (nodes_at region old q)) (nodes_at region new more)
+  freed_nodes = subst (IsPermutation (filter (is_cheaper cost) (nodes_at region old q)))
+      (sym (nodes_same region old new more (changes_still Open old new Anywhere more (freed_keeps old new (dearer cost q) r kept) (λ k d l. tt) more_stands)))
+      (closed_nodes region old cost q more perm)
 
-  pub freed_parked : nodes_at box new p ≡ nodes_at box old p
-  freed_parked = nodes_same box old new p (changes_still Parked old new Anywhere p (freed_keeps old new (dearer cost q) r kept) (λ k d l. tt) aside_stands)
+  pub freed_parked : nodes_at region new p ≡ nodes_at region old p
+  freed_parked = nodes_same region old new p (changes_still Parked old new Anywhere p (freed_keeps old new (dearer cost q) r kept) (λ k d l. tt) aside_stands)
 
   pub freed_places : (k : ℕ) → get_or (bases new) k None ≡ get_or (bases old) k None
   freed_places k = freed_bases old new (dearer cost q) r kept gone_open k

@@ -9,6 +9,7 @@ pub mod Parted
 pub mod Paths
 pub mod Queues
 pub mod Restaged
+pub mod SplitColumns
 pub mod Starts
 pub mod Tracking
 pub mod Within

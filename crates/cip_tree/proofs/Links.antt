@@ -1,5 +1,6 @@
 -- The changes above a node, followed up to the root.
-use Rattle.std.proofs.Common.{◌≡◌, ◌↔◌, ℕ, zero, suc, length, IsSome, is_some, true≢false, ◌<◌, ◌≤◌, List, [], ◌∷◌, ◌++◌, reverse, Option, None, Some, IfSome, refl, sym, ap, ◌∙◌, subst, arith, get_or}
+use Rattle.cip_tree.specs.Notes.{noted}
+use Rattle.std.proofs.Common.{◌≡◌, ◌↔◌, ℕ, zero, suc, length, IsSome, is_some, true≢false, ◌<◌, ◌≤◌, List, [], ◌∷◌, ◌++◌, Option, None, Some, IfSome, refl, sym, ap, ◌∙◌, subst, arith, get_or}
 use Rattle.std.proofs.lemmas.Option.{same_Some}
 use Rattle.cip_domain.specs.Changes.{Change}
 use Rattle.cip_tree.specs.declared.kept.Origin.{Origin}
@@ -20,16 +21,16 @@ module _ (slots : Slots) (up : (place : ℕ) (slot : Slot) → slot_at slots pla
   enough (suc f) (suc g) n (Some o) h k l =
       ap (λ r. o.change ∷ r)
       (ap (λ x. changes_of x (above f slots)) h.found
-      ∙ ap (λ r. reverse h.parent.notes ++ r) (enough f g h.parent.number h.parent.origin (up o.parent h.parent h.found) (omega (arith, h.lower, k)) (omega (arith, h.lower, l)))
+      ∙ ap (λ r. noted h.parent.notes ++ r) (enough f g h.parent.number h.parent.origin (up o.parent h.parent h.found) (omega (arith, h.lower, k)) (omega (arith, h.lower, l)))
       ∙ sym (ap (λ x. changes_of x (above g slots)) h.found))
 
   -- the change that gave a node, and the changes of its parent
-  pub first_above : (f : ℕ) (o : Origin) (h : IsBelow slots f o) → above f slots (Some o) ≡ o.change ∷ (reverse h.parent.notes ++ above h.parent.number slots h.parent.origin)
+  pub first_above : (f : ℕ) (o : Origin) (h : IsBelow slots f o) → above f slots (Some o) ≡ o.change ∷ (noted h.parent.notes ++ above h.parent.number slots h.parent.origin)
   first_above zero o h = absurd (omega (arith, h.lower))
   first_above (suc f) o h =
       ap (λ r. o.change ∷ r)
       (ap (λ x. changes_of x (above f slots)) h.found
-      ∙ ap (λ r. reverse h.parent.notes ++ r) (enough f h.parent.number h.parent.number h.parent.origin (up o.parent h.parent h.found) (omega (arith, h.lower)) (omega arith)))
+      ∙ ap (λ r. noted h.parent.notes ++ r) (enough f h.parent.number h.parent.number h.parent.origin (up o.parent h.parent h.found) (omega (arith, h.lower)) (omega arith)))
 
 below_of : (slots : Slots) (slot : Slot) (o : Option Origin) → IfSome o (HasParent slots slot) → IfSome o (IsBelow slots slot.number)
 below_of slots slot None h = tt
@@ -52,10 +53,10 @@ linked_changes slots place number base o w e f =
     ap (λ n. above n slots o) (sym (s.number ∙ e)) ∙ ap (above s.slot.number slots) (f s.slot s.found) ∙ s.changes
 
 -- one step of the iterator: the notes are all told, and the change that gave the node is next
-pub step_up : (slots : Slots) (number : ℕ) (origin : Option Origin) (o : Origin) (t : Slot) → IsLinked slots number origin → origin ≡ Some o → slot_at slots o.parent ≡ Some t → above number slots origin ≡ o.change ∷ (reverse t.notes ++ above t.number slots t.origin)
+pub step_up : (slots : Slots) (number : ℕ) (origin : Option Origin) (o : Origin) (t : Slot) → IsLinked slots number origin → origin ≡ Some o → slot_at slots o.parent ≡ Some t → above number slots origin ≡ o.change ∷ (noted t.notes ++ above t.number slots t.origin)
 step_up slots number origin o t h e f =
     let b : IsBelow slots number o = subst (λ x. IfSome x (IsBelow slots number)) e h.here in
-    ap (above number slots) e ∙ first_above slots h.up number o b ∙ ap (λ (s : Slot). o.change ∷ (reverse s.notes ++ above s.number slots s.origin)) (same_Some b.parent t (sym b.found ∙ f))
+    ap (above number slots) e ∙ first_above slots h.up number o b ∙ ap (λ (s : Slot). o.change ∷ (noted s.notes ++ above s.number slots s.origin)) (same_Some b.parent t (sym b.found ∙ f))
 
 -- nothing is last in an empty list
 pub none_last : {X Y : Type 0} (r : Option X) (xs : List Y) → IsSome r ↔ (0 < length xs) → r ≡ None → xs ≡ []

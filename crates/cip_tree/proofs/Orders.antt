@@ -1,5 +1,9 @@
 -- Trees stay in order from call to call.
-use Rattle.std.proofs.Common.{◌≡◌, ◌≢◌, inl, inr, ℕ, ◌+◌, ◌-◌, ◌<◌, ◌≤◌, Bool, false, List, [], ◌∷◌, ◌++◌, map, reverse, length-append, count_by, Option, None, Some, IfSome, All, refl, sym, ap, ◌∙◌, subst, arith, get_or}
+use Rattle.cip_tree.specs.declared.notes.Note.{Note}
+use Rattle.cip_tree.specs.Notes.{noted}
+use Rattle.cip_domain.specs.Changes.{Region}
+use Rattle.cip_tree.specs.Nodes.{node_in}
+use Rattle.std.proofs.Common.{◌≡◌, ◌≢◌, inl, inr, ℕ, ◌+◌, ◌-◌, ◌<◌, ◌≤◌, Bool, false, List, [], ◌∷◌, ◌++◌, map, length-append, count_by, Option, None, Some, IfSome, All, refl, sym, ap, ◌∙◌, subst, arith, get_or}
 use Rattle.std.specs.List.Sorted.{IsPermutation}
 use Rattle.std.proofs.lemmas.Option.{none-some}
 use Rattle.std.proofs.lemmas.List.Elements.{All-cons, All-tail, All-head, All-push, All-map}
@@ -8,13 +12,12 @@ use Rattle.std.proofs.lemmas.List.Sums.{get_or-le-sum_by}
 use Rattle.std.specs.Prelude.{MatchOption, Contains, ◌==◌}
 use Rattle.std.proofs.lemmas.List.Sorted.{All-permutation, IsPermutation-map, length_permutation}
 use Rattle.cip_rational.specs.Rational.{ℚ}
-use Rattle.cip_problem.specs.Program.{Sides}
 use Rattle.cip_problem.specs.Log.{Node, Entry}
 use Rattle.cip_tree.specs.declared.kept.Origin.{Origin}
 use Rattle.cip_tree.specs.Bounds.{IsBoundAtMost}
 use Rattle.cip_tree.specs.Queue.{IsFirst, IsLeast}
 use Rattle.cip_tree.specs.Moves.{IsBefore, IsLeastBound}
-use Rattle.cip_domain.specs.Changes.{Change, narrowed}
+use Rattle.cip_domain.specs.Changes.{narrowed}
 use Rattle.cip_tree.specs.declared.kept.Stage.{Stage}
 use Rattle.cip_tree.specs.declared.kept.Stage.TheVariants.{Open, Taken, Parked, Ended}
 use Rattle.cip_tree.specs.declared.queue.OpenNode.{OpenNode}
@@ -51,7 +54,7 @@ parked_is_not e = cc
 
 -- ---- a node in work is open again
 
-module _ (box : List Sides) (old new : Slots) (n : ℕ) (had notes : List Change) (q more p : List OpenNode) (ids work id : ℕ) (bound : Option ℚ) (base : Base) (o : IsInOrder old q p ids work) (w : get_or (bases old) n None ≡ Some base) (number : base.number ≡ id) where
+module _ (region : Region) (old new : Slots) (n : ℕ) (had notes : List Note) (q more p : List OpenNode) (ids work id : ℕ) (bound : Option ℚ) (base : Base) (o : IsInOrder old q p ids work) (w : get_or (bases old) n None ≡ Some base) (number : base.number ≡ id) where
   slot_here : IsInWork old n base
   slot_here = in_work old n base w
 
@@ -98,21 +101,21 @@ module _ (box : List Sides) (old new : Slots) (n : ℕ) (had notes : List Change
     pub back_some : 1 ≤ work
     back_some = omega (arith, o.work, back_count is_taken, ap (λ s. one_if (is_taken s)) back_taken)
 
-    pub back_parked : nodes_at box new p ≡ nodes_at box old p
-    back_parked = nodes_same box old new p (changes_still Parked old new (λ k. k ≢ n) p keeps_here p_apart p_stands)
+    pub back_parked : nodes_at region new p ≡ nodes_at region old p
+    back_parked = nodes_same region old new p (changes_still Parked old new (λ k. k ≢ n) p keeps_here p_apart p_stands)
 
-    back_changes : changes_at new n ≡ reverse notes ++ base.changes
+    back_changes : changes_at new n ≡ noted notes ++ base.changes
     back_changes =
         changes_here old new n had notes Open h o.kept live open_is_not
-        ∙ ap (λ (s : Slot). reverse notes ++ above s.number old s.origin) (same_slot old n h.slot slot_here.slot h.was slot_here.found)
-        ∙ ap (λ r. reverse notes ++ r) slot_here.changes
+        ∙ ap (λ (s : Slot). noted notes ++ above s.number old s.origin) (same_slot old n h.slot slot_here.slot h.was slot_here.found)
+        ∙ ap (λ r. noted notes ++ r) slot_here.changes
 
-    pub back_nodes : let node : Node = record { number = id; box = narrowed box (reverse notes ++ base.changes); bound = bound } in IsPermutation (node ∷ nodes_at box old q) (nodes_at box new more)
+    pub back_nodes : let node : Node = node_in (narrowed region (noted notes ++ base.changes)) id bound in IsPermutation (node ∷ nodes_at region old q) (nodes_at region new more)
     back_nodes =
         let e : OpenNode = record { bound = bound; id = id; place = n } in
-        let mapped : IsPermutation (node_at box new e ∷ nodes_at box new q) (nodes_at box new more) = IsPermutation-map (node_at box new) (e ∷ q) more perm in
-        subst (λ t. IsPermutation ((let node : Node = record { number = id; box = narrowed box t; bound = bound } in node) ∷ nodes_at box old q) (nodes_at box new more)) back_changes
-        (subst (λ t. IsPermutation (node_at box new e ∷ t) (nodes_at box new more)) (nodes_same box old new q (changes_still Open old new (λ k. k ≢ n) q keeps_here q_apart q_stands)) mapped)
+        let mapped : IsPermutation (node_at region new e ∷ nodes_at region new q) (nodes_at region new more) = IsPermutation-map (node_at region new) (e ∷ q) more perm in
+        subst (λ t. IsPermutation ((node_in (narrowed region t) id bound) ∷ nodes_at region old q) (nodes_at region new more)) back_changes
+        (subst (λ t. IsPermutation (node_at region new e ∷ t) (nodes_at region new more)) (nodes_same region old new q (changes_still Open old new (λ k. k ≢ n) q keeps_here q_apart q_stands)) mapped)
 
     pub back_gone : get_or (bases new) n None ≡ None
     back_gone = bases_at new n ∙ ap (base_of new) h.now
@@ -168,20 +171,20 @@ module _ (box : List Sides) (old new : Slots) (n : ℕ) (had notes : List Change
     pub aside_some : 1 ≤ work
     aside_some = omega (arith, o.work, aside_count is_taken, ap (λ s. one_if (is_taken s)) aside_taken)
 
-    pub aside_open : nodes_at box new q ≡ nodes_at box old q
-    aside_open = nodes_same box old new q (changes_still Open old new (λ k. k ≢ n) q aside_keeps aq_apart aq_stands)
+    pub aside_open : nodes_at region new q ≡ nodes_at region old q
+    aside_open = nodes_same region old new q (changes_still Open old new (λ k. k ≢ n) q aside_keeps aq_apart aq_stands)
 
-    aside_changes : changes_at new n ≡ reverse notes ++ base.changes
+    aside_changes : changes_at new n ≡ noted notes ++ base.changes
     aside_changes =
         changes_here old new n had notes Parked h o.kept aside_live parked_is_not
-        ∙ ap (λ (s : Slot). reverse notes ++ above s.number old s.origin) (same_slot old n h.slot slot_here.slot h.was slot_here.found)
-        ∙ ap (λ r. reverse notes ++ r) slot_here.changes
+        ∙ ap (λ (s : Slot). noted notes ++ above s.number old s.origin) (same_slot old n h.slot slot_here.slot h.was slot_here.found)
+        ∙ ap (λ r. noted notes ++ r) slot_here.changes
 
-    pub aside_parked : let node : Node = record { number = id; box = narrowed box (reverse notes ++ base.changes); bound = bound } in nodes_at box new (p ++ node_here ∷ []) ≡ nodes_at box old p ++ node ∷ []
+    pub aside_parked : let node : Node = node_in (narrowed region (noted notes ++ base.changes)) id bound in nodes_at region new (p ++ node_here ∷ []) ≡ nodes_at region old p ++ node ∷ []
     aside_parked =
-        map-append (node_at box new) p (node_here ∷ [])
-        ∙ ap (λ t. t ++ node_at box new node_here ∷ []) (nodes_same box old new p (changes_still Parked old new (λ k. k ≢ n) p aside_keeps ap_apart ap_stands))
-        ∙ ap (λ t. nodes_at box old p ++ (let node : Node = record { number = id; box = narrowed box t; bound = bound } in node) ∷ []) aside_changes
+        map-append (node_at region new) p (node_here ∷ [])
+        ∙ ap (λ t. t ++ node_at region new node_here ∷ []) (nodes_same region old new p (changes_still Parked old new (λ k. k ≢ n) p aside_keeps ap_apart ap_stands))
+        ∙ ap (λ t. nodes_at region old p ++ (node_in (narrowed region t) id bound) ∷ []) aside_changes
 
     pub aside_gone : get_or (bases new) n None ≡ None
     aside_gone = bases_at new n ∙ ap (base_of new) h.now
@@ -262,10 +265,10 @@ module _ (old new : Slots) (n : ℕ) (r : IsReleased old new n) (kept : AreSound
   pub released_given : (ids : ℕ) → ((k : ℕ) (s : Slot) → slot_at old k ≡ Some s → s.number < ids) → (k : ℕ) (s : Slot) → slot_at new k ≡ Some s → s.number < ids
   released_given ids g k s e = let w = r.left k s e in g k (record s { below = w.0 }) w.1
 
-  pub released_nodes : (box : List Sides) (stage : Stage) (nodes : List OpenNode) → All (StandsAs stage new) nodes → nodes_at box new nodes ≡ nodes_at box old nodes
-  released_nodes box stage nodes h = nodes_same box old new nodes (changes_still stage old new Anywhere nodes released_keeps (λ k d l. tt) h)
+  pub released_nodes : (region : Region) (stage : Stage) (nodes : List OpenNode) → All (StandsAs stage new) nodes → nodes_at region new nodes ≡ nodes_at region old nodes
+  released_nodes region stage nodes h = nodes_same region old new nodes (changes_still stage old new Anywhere nodes released_keeps (λ k d l. tt) h)
 
-module _ (box : List Sides) (old new : Slots) (n : ℕ) (q p : List OpenNode) (ids work : ℕ) (base : Base) (o : IsInOrder old q p ids work) (w : get_or (bases old) n None ≡ Some base) where
+module _ (region : Region) (old new : Slots) (n : ℕ) (q p : List OpenNode) (ids work : ℕ) (base : Base) (o : IsInOrder old q p ids work) (w : get_or (bases old) n None ≡ Some base) where
   pub taken_is_idle : IsIdle old n
   taken_is_idle = let s = in_work old n base w in live_is_idle old n s.slot o.kept s.found (taken_not_ended s.slot.stage s.taken)
 
@@ -302,15 +305,15 @@ module _ (box : List Sides) (old new : Slots) (n : ℕ) (q p : List OpenNode) (i
           rests = omega (arith, o.rests, released_count old new n r kept is_aside refl, ap (λ x. one_if (has_stage is_aside x)) s.found, ap (λ x. one_if (is_aside x)) s.taken);
         }
 
-    pub closed_open : nodes_at box new q ≡ nodes_at box old q
-    closed_open = released_nodes old new n r kept box Open q closed_waiting
+    pub closed_open : nodes_at region new q ≡ nodes_at region old q
+    closed_open = released_nodes old new n r kept region Open q closed_waiting
 
-    pub closed_parked : nodes_at box new p ≡ nodes_at box old p
-    closed_parked = released_nodes old new n r kept box Parked p closed_aside
+    pub closed_parked : nodes_at region new p ≡ nodes_at region old p
+    closed_parked = released_nodes old new n r kept region Parked p closed_aside
 
 -- ---- the first node is taken
 
-module _ (box : List Sides) (old new : Slots) (e : OpenNode) (had none : List Change) (q rest p : List OpenNode) (ids work : ℕ) (o : IsInOrder old q p ids work) (perm : IsPermutation q (e ∷ rest)) where
+module _ (region : Region) (old new : Slots) (e : OpenNode) (had none : List Note) (q rest p : List OpenNode) (ids work : ℕ) (o : IsInOrder old q p ids work) (perm : IsPermutation q (e ∷ rest)) where
   pub first_stands : StandsAs Open old e
   first_stands = All-head (StandsAs Open old) e rest (All-permutation (StandsAs Open old) q (e ∷ rest) perm o.waiting)
 
@@ -357,8 +360,8 @@ module _ (box : List Sides) (old new : Slots) (e : OpenNode) (had none : List Ch
       rests = omega (arith, o.rests, first_count is_aside, ap (λ s. one_if (is_aside s)) first_open);
     }
 
-    pub first_parked : nodes_at box new p ≡ nodes_at box old p
-    first_parked = nodes_same box old new p (changes_still Parked old new (λ k. k ≢ e.place) p first_keeps aside_apart aside_stands)
+    pub first_parked : nodes_at region new p ≡ nodes_at region old p
+    first_parked = nodes_same region old new p (changes_still Parked old new (λ k. k ≢ e.place) p first_keeps aside_apart aside_stands)
 
     pub first_base : Base
     first_base = record { number = h.slot.number; changes = above h.slot.number new h.slot.origin }
@@ -375,33 +378,33 @@ module _ (box : List Sides) (old new : Slots) (e : OpenNode) (had none : List Ch
     pub first_others : (k : ℕ) → k ≢ e.place → get_or (bases new) k None ≡ get_or (bases old) k None
     first_others k d = bases_at new k ∙ base_others old new e.place had none Taken h o.kept first_live taken_is_not k d ∙ sym (bases_at old k)
 
-    first_changes : changes_at old e.place ≡ reverse had ++ above h.slot.number new h.slot.origin
+    first_changes : changes_at old e.place ≡ noted had ++ above h.slot.number new h.slot.origin
     first_changes =
         ap (slot_changes old) h.was
-        ∙ ap (λ t. reverse t ++ above h.slot.number old h.slot.origin) (sym h.had_is)
-        ∙ ap (λ t. reverse had ++ t) (sym (above_here old new e.place had none Taken h o.kept first_live taken_is_not h.slot.number))
+        ∙ ap (λ t. noted t ++ above h.slot.number old h.slot.origin) (sym h.had_is)
+        ∙ ap (λ t. noted had ++ t) (sym (above_here old new e.place had none Taken h o.kept first_live taken_is_not h.slot.number))
 
-    pub first_nodes : let node : Node = record { number = e.id; box = narrowed box (reverse had ++ above h.slot.number new h.slot.origin); bound = e.bound } in IsPermutation (nodes_at box old q) (node ∷ nodes_at box new rest)
+    pub first_nodes : let node : Node = node_in (narrowed region (noted had ++ above h.slot.number new h.slot.origin)) e.id e.bound in IsPermutation (nodes_at region old q) (node ∷ nodes_at region new rest)
     first_nodes =
-        let mapped : IsPermutation (nodes_at box old q) (node_at box old e ∷ nodes_at box old rest) = IsPermutation-map (node_at box old) q (e ∷ rest) perm in
-        subst (λ t. IsPermutation (nodes_at box old q) ((let node : Node = record { number = e.id; box = narrowed box t; bound = e.bound } in node) ∷ nodes_at box new rest)) first_changes
-        (subst (λ t. IsPermutation (nodes_at box old q) (node_at box old e ∷ t)) (sym (nodes_same box old new rest (changes_still Open old new (λ k. k ≢ e.place) rest first_keeps rest_apart rest_stands))) mapped)
+        let mapped : IsPermutation (nodes_at region old q) (node_at region old e ∷ nodes_at region old rest) = IsPermutation-map (node_at region old) q (e ∷ rest) perm in
+        subst (λ t. IsPermutation (nodes_at region old q) ((node_in (narrowed region t) e.id e.bound) ∷ nodes_at region new rest)) first_changes
+        (subst (λ t. IsPermutation (nodes_at region old q) (node_at region old e ∷ t)) (sym (nodes_same region old new rest (changes_still Open old new (λ k. k ≢ e.place) rest first_keeps rest_apart rest_stands))) mapped)
 
-    pub first_before : IsFirst e rest → (b : List Sides) → let node : Node = record { number = e.id; box = b; bound = e.bound } in All (IsBefore node) (nodes_at box new rest)
-    first_before first b = All-map (IsBefore (let node : Node = record { number = e.id; box = b; bound = e.bound } in node)) (node_at box new) rest (λ k d l. let f = first k d l in record { bounds = f.bounds; numbers = f.ids })
+    pub first_before : IsFirst e rest → (b : Region) → let node : Node = node_in b e.id e.bound in All (IsBefore node) (nodes_at region new rest)
+    first_before first b = All-map (IsBefore (node_in b e.id e.bound)) (node_at region new) rest (λ k d l. let f = first k d l in record { bounds = f.bounds; numbers = f.ids })
 
 -- ---- the least bound
 
 contains_map : {X Y : Type 0} (f : X → Y) (xs : List X) (x : X) → Contains xs x → Contains (map f xs) (f x)
 contains_map f xs x h = (h.0, omega (arith, h.1, length-map xs f), get_or-map f xs h.0 x (f x) h.1 ∙ ap f h.2)
 
-pub least_shown : (box : List Sides) (slots : Slots) (nodes : List OpenNode) (r : Option (Option ℚ)) → MatchOption r (nodes ≡ []) (λ bound. IsLeast bound nodes) → MatchOption r (nodes_at box slots nodes ≡ []) (λ bound. IsLeastBound bound (nodes_at box slots nodes))
-least_shown box slots nodes None h = ap (nodes_at box slots) h
-least_shown box slots nodes (Some bound) h = record {
-  node = node_at box slots h.node;
-  among = contains_map (node_at box slots) nodes h.node h.among;
+pub least_shown : (region : Region) (slots : Slots) (nodes : List OpenNode) (r : Option (Option ℚ)) → MatchOption r (nodes ≡ []) (λ bound. IsLeast bound nodes) → MatchOption r (nodes_at region slots nodes ≡ []) (λ bound. IsLeastBound bound (nodes_at region slots nodes))
+least_shown region slots nodes None h = ap (nodes_at region slots) h
+least_shown region slots nodes (Some bound) h = record {
+  node = node_at region slots h.node;
+  among = contains_map (node_at region slots) nodes h.node h.among;
   is = h.is;
-  least = All-map (λ other. IsBoundAtMost bound other.bound) (node_at box slots) nodes h.least;
+  least = All-map (λ other. IsBoundAtMost bound other.bound) (node_at region slots) nodes h.least;
 }
 
 -- trees of equal parts are equal

@@ -1,5 +1,9 @@
 -- What holds where a node was split.
-use Rattle.std.proofs.Common.{◌≡◌, ◌≢◌, ◌⊎◌, inl, inr, ℕ, ◌+◌, ◌-◌, ◌<◌, ◌≤◌, ◌==◌, Bool, true, false, List, [], ◌∷◌, ◌++◌, reverse, count_by, get_or, set, Option, None, Some, IfSome, All, refl, sym, ap, ◌∙◌, subst, arith}
+use Rattle.cip_tree.specs.declared.notes.Note.{Note}
+use Rattle.cip_tree.specs.Notes.{noted}
+use Rattle.cip_domain.specs.Changes.{Region}
+use Rattle.cip_tree.specs.Nodes.{node_in}
+use Rattle.std.proofs.Common.{◌≡◌, ◌≢◌, ◌⊎◌, inl, inr, ℕ, ◌+◌, ◌-◌, ◌<◌, ◌≤◌, ◌==◌, Bool, true, false, List, [], ◌∷◌, ◌++◌, count_by, get_or, set, Option, None, Some, IfSome, All, refl, sym, ap, ◌∙◌, subst, arith}
 use Rattle.std.specs.List.Sorted.{IsPermutation}
 use Rattle.std.proofs.lemmas.Bool.{cases_eq}
 use Rattle.std.proofs.lemmas.Option.{none-some, same_Some}
@@ -8,7 +12,6 @@ use Rattle.std.proofs.lemmas.List.Sums.{sum_by-set}
 use Rattle.std.proofs.lemmas.List.Elements.{All-cons}
 use Rattle.std.proofs.lemmas.List.Sorted.{All-permutation, IsPermutation-map, IsPermutation-trans, IsPermutation-cons, length_permutation}
 use Rattle.cip_rational.specs.Rational.{ℚ}
-use Rattle.cip_problem.specs.Program.{Sides}
 use Rattle.cip_problem.specs.Log.{Node}
 use Rattle.cip_domain.specs.Changes.{Change, narrowed}
 use Rattle.cip_tree.specs.declared.kept.Stage.{Stage}
@@ -29,7 +32,7 @@ test_itself n = grind arith
 test_apart : (m n : ℕ) → m ≢ n → (m == n) ≡ false
 test_apart m n d = grind arith
 
-module _ (box : List Sides) (old new : Slots) (n : ℕ) (notes : List Change) (lp hp : ℕ) (cl ch : Change) (q p : List OpenNode) (ids work : ℕ) (base : Base) (o : IsInOrder old q p ids work) (w : get_or (bases old) n None ≡ Some base) where
+module _ (region : Region) (old new : Slots) (n : ℕ) (notes : List Note) (lp hp : ℕ) (cl ch : Change) (q p : List OpenNode) (ids work : ℕ) (base : Base) (o : IsInOrder old q p ids work) (w : get_or (bases old) n None ≡ Some base) where
   abbrev low_slot : Slot
   low_slot = open_slot ids (Some (record { parent = n; change = cl }))
 
@@ -230,10 +233,10 @@ module _ (box : List Sides) (old new : Slots) (n : ℕ) (notes : List Change) (l
         ∙ ap (λ (s : Slot). above s.number old s.origin) slot_is ∙ here.changes
 
     -- the changes of a half
-    pub half_changes : (number : ℕ) (change : Change) → ids ≤ number → above number new (Some (record { parent = n; change = change })) ≡ change ∷ (reverse notes ++ base.changes)
+    pub half_changes : (number : ℕ) (change : Change) → ids ≤ number → above number new (Some (record { parent = n; change = change })) ≡ change ∷ (noted notes ++ base.changes)
     half_changes number change l =
         first_above new (up_of_kept new part_kept) number (record { parent = n; change = change }) (record { parent = record h.slot { notes = notes; below = 2; stage = Ended }; found = h.now; lower = omega (arith, o.given n h.slot h.was, l) })
-        ∙ ap (λ r. change ∷ (reverse notes ++ r)) above_here
+        ∙ ap (λ r. change ∷ (noted notes ++ r)) above_here
 
     module _ (bound : Option ℚ) (q1 q2 : List OpenNode) (p1 : let e : OpenNode = record { bound = bound; id = ids + 1; place = hp } in IsPermutation (e ∷ q) q1) (p2 : let e : OpenNode = record { bound = bound; id = ids; place = lp } in IsPermutation (e ∷ q1) q2) where
       abbrev low_node : OpenNode
@@ -288,18 +291,18 @@ module _ (box : List Sides) (old new : Slots) (n : ℕ) (notes : List Change) (l
       pub part_some : 1 ≤ work
       part_some = omega (arith, o.work, part_stages is_taken, ap (λ s. one_if (is_taken s)) was_taken)
 
-      pub part_parked : nodes_at box new p ≡ nodes_at box old p
-      part_parked = nodes_same box old new p (changes_still Parked old new Old p part_keeps p_old p_stands)
+      pub part_parked : nodes_at region new p ≡ nodes_at region old p
+      part_parked = nodes_same region old new p (changes_still Parked old new Old p part_keeps p_old p_stands)
 
-      pub part_nodes : let low : Node = record { number = ids; box = narrowed box (cl ∷ (reverse notes ++ base.changes)); bound = bound } in let high : Node = record { number = ids + 1; box = narrowed box (ch ∷ (reverse notes ++ base.changes)); bound = bound } in IsPermutation (low ∷ high ∷ nodes_at box old q) (nodes_at box new q2)
+      pub part_nodes : let low : Node = node_in (narrowed region (cl ∷ (noted notes ++ base.changes))) ids bound in let high : Node = node_in (narrowed region (ch ∷ (noted notes ++ base.changes))) (ids + 1) bound in IsPermutation (low ∷ high ∷ nodes_at region old q) (nodes_at region new q2)
       part_nodes =
-          let mapped : IsPermutation (node_at box new low_node ∷ node_at box new high_node ∷ nodes_at box new q) (nodes_at box new q2) = IsPermutation-map (node_at box new) (low_node ∷ high_node ∷ q) q2 (IsPermutation-trans (low_node ∷ high_node ∷ q) (low_node ∷ q1) q2 (IsPermutation-cons low_node (high_node ∷ q) q1 p1) p2) in
-          let low_is : changes_at new lp ≡ cl ∷ (reverse notes ++ base.changes) = ap (slot_changes new) h.low_now ∙ half_changes ids cl (omega arith) in
-          let high_is : changes_at new hp ≡ ch ∷ (reverse notes ++ base.changes) = ap (slot_changes new) h.high_now ∙ half_changes (ids + 1) ch (omega arith) in
-          let rest : nodes_at box new q ≡ nodes_at box old q = nodes_same box old new q (changes_still Open old new Old q part_keeps q_old q_stands) in
-          subst (λ t. IsPermutation ((let low : Node = record { number = ids; box = narrowed box t; bound = bound } in low) ∷ (let high : Node = record { number = ids + 1; box = narrowed box (ch ∷ (reverse notes ++ base.changes)); bound = bound } in high) ∷ nodes_at box old q) (nodes_at box new q2)) low_is
-          (subst (λ t. IsPermutation (node_at box new low_node ∷ (let high : Node = record { number = ids + 1; box = narrowed box t; bound = bound } in high) ∷ nodes_at box old q) (nodes_at box new q2)) high_is
-          (subst (λ t. IsPermutation (node_at box new low_node ∷ node_at box new high_node ∷ t) (nodes_at box new q2)) rest mapped))
+          let mapped : IsPermutation (node_at region new low_node ∷ node_at region new high_node ∷ nodes_at region new q) (nodes_at region new q2) = IsPermutation-map (node_at region new) (low_node ∷ high_node ∷ q) q2 (IsPermutation-trans (low_node ∷ high_node ∷ q) (low_node ∷ q1) q2 (IsPermutation-cons low_node (high_node ∷ q) q1 p1) p2) in
+          let low_is : changes_at new lp ≡ cl ∷ (noted notes ++ base.changes) = ap (slot_changes new) h.low_now ∙ half_changes ids cl (omega arith) in
+          let high_is : changes_at new hp ≡ ch ∷ (noted notes ++ base.changes) = ap (slot_changes new) h.high_now ∙ half_changes (ids + 1) ch (omega arith) in
+          let rest : nodes_at region new q ≡ nodes_at region old q = nodes_same region old new q (changes_still Open old new Old q part_keeps q_old q_stands) in
+          subst (λ t. IsPermutation ((node_in (narrowed region t) ids bound) ∷ (node_in (narrowed region (ch ∷ (noted notes ++ base.changes))) (ids + 1) bound) ∷ nodes_at region old q) (nodes_at region new q2)) low_is
+          (subst (λ t. IsPermutation (node_at region new low_node ∷ (node_in (narrowed region t) (ids + 1) bound) ∷ nodes_at region old q) (nodes_at region new q2)) high_is
+          (subst (λ t. IsPermutation (node_at region new low_node ∷ node_at region new high_node ∷ t) (nodes_at region new q2)) rest mapped))
 
       pub part_gone : get_or (bases new) n None ≡ None
       part_gone = bases_at new n ∙ ap (base_of new) h.now

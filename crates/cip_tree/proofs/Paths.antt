@@ -1,13 +1,14 @@
 -- The changes of nodes stay where other slots change.
-use Rattle.std.proofs.Common.{◌≡◌, ◌≢◌, inl, inr, ℕ, zero, suc, ◌+◌, ◌≤◌, ◌==◌, Bool, true, false, List, [], ◌∷◌, ◌++◌, map, reverse, get_or, count_by, Option, None, Some, IfSome, All, refl, sym, ap, ◌∙◌, arith}
+use Rattle.cip_tree.specs.Notes.{noted}
+use Rattle.cip_domain.specs.Changes.{Region}
+use Rattle.cip_tree.specs.Nodes.{node_in}
+use Rattle.std.proofs.Common.{◌≡◌, ◌≢◌, inl, inr, ℕ, zero, suc, ◌+◌, ◌≤◌, ◌==◌, Bool, true, false, List, [], ◌∷◌, ◌++◌, map, get_or, count_by, Option, None, Some, IfSome, All, refl, sym, ap, ◌∙◌, arith}
 use Rattle.std.specs.List.Sorted.{IsPermutation}
 use Rattle.std.proofs.lemmas.Bool.{cases_eq}
 use Rattle.std.proofs.lemmas.Option.{none-some, same_Some}
 use Rattle.std.proofs.lemmas.List.Elements.{All-tail, All-head}
 use Rattle.std.proofs.lemmas.List.Sums.{sum_by-cons, get_or-le-sum_by}
 use Rattle.std.proofs.lemmas.List.Sorted.{sum_by-IsPermutation}
-use Rattle.cip_problem.specs.Program.{Sides}
-use Rattle.cip_problem.specs.Log.{Node}
 use Rattle.cip_domain.specs.Changes.{narrowed}
 use Rattle.cip_tree.specs.declared.kept.Stage.{Stage}
 use Rattle.cip_tree.specs.declared.kept.Stage.TheVariants.{Open, Taken, Parked, Ended}
@@ -36,9 +37,9 @@ module _ (old new : Slots) (D : ℕ → Type 0) (h : KeepsPaths old new D) where
   same_above (suc f) None u = refl
   same_above (suc f) (Some o) u =
       let w = h.same o.parent u.1.0 u.0 u.1.1 in
-      let there : changes_of (slot_at new o.parent) (above f new) ≡ reverse u.1.0.notes ++ above f new u.1.0.origin = ap (λ t. changes_of t (above f new)) u.1.1 in
-      let before : changes_of (slot_at old o.parent) (above f old) ≡ reverse u.1.0.notes ++ above f old u.1.0.origin = ap (λ t. changes_of t (above f old)) w.1 in
-      ap (λ r. o.change ∷ r) (there ∙ ap (λ r. reverse u.1.0.notes ++ r) (same_above f u.1.0.origin (next_up o.parent u.1.0 u.0 u.1.1 u.1.0.origin refl)) ∙ sym before)
+      let there : changes_of (slot_at new o.parent) (above f new) ≡ noted u.1.0.notes ++ above f new u.1.0.origin = ap (λ t. changes_of t (above f new)) u.1.1 in
+      let before : changes_of (slot_at old o.parent) (above f old) ≡ noted u.1.0.notes ++ above f old u.1.0.origin = ap (λ t. changes_of t (above f old)) w.1 in
+      ap (λ r. o.change ∷ r) (there ∙ ap (λ r. noted u.1.0.notes ++ r) (same_above f u.1.0.origin (next_up o.parent u.1.0 u.0 u.1.1 u.1.0.origin refl)) ∙ sym before)
 
   -- what is above a node
   pub same_up : (k : ℕ) (s : Slot) → D k → slot_at new k ≡ Some s → above s.number new s.origin ≡ above s.number old s.origin
@@ -48,7 +49,7 @@ module _ (old new : Slots) (D : ℕ → Type 0) (h : KeepsPaths old new D) where
   same_changes k s d e =
       let w = h.same k s d e in
       ap (slot_changes new) e
-      ∙ ap (λ r. reverse s.notes ++ r) (same_above s.number s.origin (next_up k s d e s.origin refl))
+      ∙ ap (λ r. noted s.notes ++ r) (same_above s.number s.origin (next_up k s d e s.origin refl))
       ∙ sym (ap (slot_changes old) w.1)
 
   pub same_base : (k : ℕ) (s : Slot) → D k → slot_at new k ≡ Some s → base_of new (slot_at new k) ≡ base_of old (slot_at old k)
@@ -97,9 +98,9 @@ map_same f g [] h = refl
 map_same f g (x ∷ xs) h =
     ap (λ t. t ∷ map f xs) (All-head (λ y. f y ≡ g y) x xs h) ∙ ap (λ t. g x ∷ t) (map_same f g xs (All-tail (λ y. f y ≡ g y) x xs h))
 
-pub nodes_same : (box : List Sides) (old new : Slots) (nodes : List OpenNode) → All (λ e. changes_at new e.place ≡ changes_at old e.place) nodes → nodes_at box new nodes ≡ nodes_at box old nodes
-nodes_same box old new nodes h =
-    map_same (node_at box new) (node_at box old) nodes (λ k d l. ap (λ t. (let n : Node = record { number = (get_or nodes k d).id; box = narrowed box t; bound = (get_or nodes k d).bound } in n)) (h k d l))
+pub nodes_same : (region : Region) (old new : Slots) (nodes : List OpenNode) → All (λ e. changes_at new e.place ≡ changes_at old e.place) nodes → nodes_at region new nodes ≡ nodes_at region old nodes
+nodes_same region old new nodes h =
+    map_same (node_at region new) (node_at region old) nodes (λ k d l. ap (λ t. (node_in (narrowed region t) ((get_or nodes k d).id) ((get_or nodes k d).bound))) (h k d l))
 
 -- nodes at one stage are not at the place of a node at another
 pub stage_apart : (stage : Stage) (slots : Slots) (place : ℕ) (slot : Slot) (nodes : List OpenNode) → slot_at slots place ≡ Some slot → slot.stage ≢ stage → All (StandsAs stage slots) nodes → All (λ e. e.place ≢ place) nodes

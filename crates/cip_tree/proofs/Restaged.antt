@@ -1,8 +1,9 @@
 -- What holds where a node has other notes and another stage.
-use Rattle.std.proofs.Common.{◌≡◌, ◌≢◌, inl, inr, ℕ, ◌+◌, ◌<◌, Bool, List, ◌++◌, reverse, count_by, Option, None, Some, IfSome, refl, sym, ap, ◌∙◌, subst, arith}
+use Rattle.cip_tree.specs.declared.notes.Note.{Note}
+use Rattle.cip_tree.specs.Notes.{noted}
+use Rattle.std.proofs.Common.{◌≡◌, ◌≢◌, inl, inr, ℕ, ◌+◌, ◌<◌, Bool, List, ◌++◌, count_by, Option, None, Some, IfSome, refl, sym, ap, ◌∙◌, subst, arith}
 use Rattle.std.proofs.lemmas.Bool.{cases_eq}
 use Rattle.std.proofs.lemmas.Option.{same_Some}
-use Rattle.cip_domain.specs.Changes.{Change}
 use Rattle.cip_tree.specs.declared.kept.Stage.{Stage}
 use Rattle.cip_tree.specs.declared.kept.Stage.TheVariants.{Ended}
 use Rattle.cip_tree.specs.declared.kept.Origin.{Origin}
@@ -11,7 +12,7 @@ use Rattle.cip_tree.specs.Inside.{base_of, has_stage}
 use Rattle.cip_tree.proofs.Keeping.{one_if, count_changed, none_or_slot, same_slot}
 use Rattle.cip_tree.proofs.Paths.{KeepsPaths, same_above, same_base}
 
-module _ (old new : Slots) (n : ℕ) (had notes : List Change) (stage : Stage) (h : IsRestaged old new n had notes stage) (kept : AreSoundSlots old) (live : h.slot.stage ≢ Ended) (still : stage ≢ Ended) where
+module _ (old new : Slots) (n : ℕ) (had notes : List Note) (stage : Stage) (h : IsRestaged old new n had notes stage) (kept : AreSoundSlots old) (live : h.slot.stage ≢ Ended) (still : stage ≢ Ended) where
   -- no parent stands there
   parent_apart : (s : Slot) (o : Origin) → HasParent old s o → o.parent ≢ n
   parent_apart s o p e = live (ap (λ (t : Slot). t.stage) (same_slot old n h.slot p.parent h.was (ap (slot_at old) (sym e) ∙ p.found)) ∙ p.ended)
@@ -67,8 +68,8 @@ module _ (old new : Slots) (n : ℕ) (had notes : List Change) (stage : Stage) (
   above_here f = same_above old new (λ k. k ≢ n) keeps f h.slot.origin (up_here h.slot.origin refl)
 
   -- the changes there are the notes and what was above
-  pub changes_here : changes_at new n ≡ reverse notes ++ above h.slot.number old h.slot.origin
-  changes_here = ap (slot_changes new) h.now ∙ ap (λ r. reverse notes ++ r) (above_here h.slot.number)
+  pub changes_here : changes_at new n ≡ noted notes ++ above h.slot.number old h.slot.origin
+  changes_here = ap (slot_changes new) h.now ∙ ap (λ r. noted notes ++ r) (above_here h.slot.number)
 
   pub base_others : (k : ℕ) → k ≢ n → base_of new (slot_at new k) ≡ base_of old (slot_at old k)
   base_others k d = elim (none_or_slot (slot_at new k)) [

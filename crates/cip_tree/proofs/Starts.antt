@@ -1,5 +1,7 @@
 -- A tree of one node is in order.
-use Rattle.std.proofs.Common.{◌≡◌, ◌≢◌, inl, inr, ℕ, ◌≤◌, Bool, true, false, List, [], ◌∷◌, count_by, get_or, Option, None, Some, IfSome, refl, sym, ap, ◌∙◌, subst, arith}
+use Rattle.cip_domain.specs.Changes.{Region}
+use Rattle.cip_tree.specs.Nodes.{node_in}
+use Rattle.std.proofs.Common.{◌≡◌, ◌≢◌, inl, inr, ℕ, ◌≤◌, Bool, true, false, [], ◌∷◌, count_by, get_or, Option, None, Some, IfSome, refl, sym, ap, ◌∙◌, subst, arith}
 use Rattle.std.proofs.lemmas.Bool.{cases_eq}
 use Rattle.std.proofs.lemmas.Option.{none-some, same_Some}
 use Rattle.std.proofs.lemmas.List.Elements.{All-cons, All-nil}
@@ -7,8 +9,6 @@ use Rattle.std.proofs.lemmas.List.Sums.{sum_by-cons}
 use Rattle.cip_tree.specs.declared.kept.Stage.TheVariants.{Open, Parked, Ended}
 use Rattle.cip_tree.specs.declared.queue.OpenNode.{OpenNode}
 use Rattle.cip_tree.specs.Slots.{Slot, Slots, slot_at, open_slot, comes_from, changes_at, slot_changes, HasParent, AreSoundSlots}
-use Rattle.cip_problem.specs.Program.{Sides}
-use Rattle.cip_problem.specs.Log.{Node}
 use Rattle.cip_domain.specs.Changes.{narrowed}
 use Rattle.cip_tree.specs.Inside.{nodes_at, base_of, bases, is_waiting, is_taken, is_aside, has_stage, is_at, StandsAs, IsInOrder}
 use Rattle.cip_tree.proofs.Keeping.{one_if, sum_same, sum_changed}
@@ -71,6 +71,6 @@ module _ (slots : Slots) (place : ℕ) (here : slot_at slots place ≡ Some (ope
     | inr apart ↦ ap (base_of slots) (others k apart)
   ]
 
-  pub root_nodes : (box : List Sides) (node : OpenNode) → node.place ≡ place → nodes_at box slots (node ∷ []) ≡ (let n : Node = record { number = node.id; box = box; bound = node.bound } in n) ∷ []
-  root_nodes box node f =
-      ap (λ t. (let n : Node = record { number = node.id; box = narrowed box t; bound = node.bound } in n) ∷ []) (ap (changes_at slots) f ∙ root_changes)
+  pub root_nodes : (region : Region) (node : OpenNode) → node.place ≡ place → nodes_at region slots (node ∷ []) ≡ (node_in region node.id node.bound) ∷ []
+  root_nodes region node f =
+      ap (λ t. (node_in (narrowed region t) node.id node.bound) ∷ []) (ap (changes_at slots) f ∙ root_changes)

@@ -1,13 +1,16 @@
 -- The log stays right, and knows the nodes that are kept.
+use Rattle.cip_tree.specs.declared.notes.Note.{Note}
+use Rattle.cip_tree.specs.Notes.{noted}
+use Rattle.cip_domain.specs.Changes.{Region}
+use Rattle.cip_tree.specs.Nodes.{node_in, region_in}
 use Rattle.std.proofs.lemmas.List.Elements.{All-map}
-use Rattle.std.proofs.Common.{◌≡◌, ◌≢◌, ◌⊎◌, inl, inr, ℕ, ◌+◌, ◌<◌, ◌≤◌, ℤ, Bool, true, false, List, [], ◌∷◌, ◌++◌, reverse, get_or, Option, None, Some, refl, sym, ap, ◌∙◌, subst, arith, All}
+use Rattle.std.proofs.Common.{◌≡◌, ◌≢◌, ◌⊎◌, inl, inr, ℕ, ◌+◌, ◌<◌, ◌≤◌, ℤ, Bool, true, false, List, [], ◌∷◌, ◌++◌, get_or, Option, None, Some, refl, sym, ap, ◌∙◌, subst, arith, All}
 use Rattle.std.proofs.lemmas.Bool.{cases_eq}
 use Rattle.std.proofs.lemmas.List.{append-nil}
 use Rattle.std.proofs.lemmas.Option.{none-some, same_Some}
 use Rattle.cip_rational.specs.Rational.{ℚ}
-use Rattle.cip_problem.specs.Program.{Sides}
-use Rattle.cip_problem.specs.Log.{Entry, Node, Split, Closed, Parked, low_half, high_half, node_of, halves, nodes_of, CanSplit, IsRightEnd}
-use Rattle.cip_domain.specs.Changes.{Change, narrowed}
+use Rattle.cip_problem.specs.Log.{Entry, Node, Split, Closed, Parked, low_node, high_node, node_of, halves, nodes_of, CanSplit, IsRightEnd}
+use Rattle.cip_domain.specs.Changes.{Change, tightened, narrowed}
 use Rattle.cip_tree.specs.declared.kept.Stage.{Stage}
 use Rattle.cip_tree.specs.declared.kept.Stage.TheVariants.{Open, Taken, Parked, Ended}
 use Rattle.cip_tree.specs.declared.kept.Origin.{Origin}
@@ -24,16 +27,16 @@ use Rattle.cip_tree.proofs.Restaged as restaged
 use Rattle.cip_tree.proofs.Orders.{released_keeps}
 use Rattle.cip_tree.proofs.Freeing.{Anywhere, freed_keeps}
 use Rattle.cip_tree.proofs.Parted as parted
-use Rattle.cip_tree.proofs.Within.{within_itself, within_later, within_low, within_high, split_within, in_wider}
+use Rattle.cip_tree.proofs.Within.{within_itself, within_later, noted_choices, within_low, within_high, low_choices, high_choices, split_within, in_wider}
 use Rattle.cip_tree.proofs.Entering.{node_of_kept, node_of_new, node_of_here, node_of_later, given_more, follow_more, taken_more, taken_given, node_of_number}
 
 -- ---- the first log
 
-pub tracked_root : (box : List Sides) (integral : List Bool) (bound : Option ℚ) (slots : Slots) (place : ℕ) → slot_at slots place ≡ Some (open_slot 0 None) → ((other : ℕ) → other ≢ place → slot_at slots other ≡ None) → IsTracked (record { number = 0; box = box; bound = bound }) integral slots 1 []
-tracked_root box integral bound slots place here others = record {
+pub tracked_root : (region : Region) (integral : List Bool) (bound : Option ℚ) (slots : Slots) (place : ℕ) → slot_at slots place ≡ Some (open_slot 0 None) → ((other : ℕ) → other ≢ place → slot_at slots other ≡ None) → IsTracked (node_in region 0 bound) integral slots 1 []
+tracked_root region integral bound slots place here others = record {
   searched = tt;
-  free = λ number l. node_of_later (let n : Node = record { number = 0; box = box; bound = bound } in n) [] number (λ e. omega (arith, e, l));
-  given = λ k s e. subst (IsGiven box slots ((let n : Node = record { number = 0; box = box; bound = bound } in n) ∷ [])) (only k s e) (record { node = record { number = 0; box = box; bound = bound }; found = refl; within = within_itself box });
+  free = λ number l. node_of_later (node_in region 0 bound) [] number (λ e. omega (arith, e, l));
+  given = λ k s e. subst (IsGiven region slots (node_in region 0 bound ∷ [])) (only k s e) (record { node = node_in region 0 bound; found = refl; within = within_itself region.box; choices_are = refl });
   live = λ k s e l c. omega (arith, c.1);
 }
   where
@@ -56,19 +59,21 @@ pub record WasKept (old new : Slots) (place : ℕ) (slot : Slot) : Type 0 where
 abbrev pub AllWereKept : Slots → Slots → Type 0
 AllWereKept old new = (place : ℕ) (slot : Slot) → slot_at new place ≡ Some slot → WasKept old new place slot
 
-given_still : (root : List Sides) (old new : Slots) (given : List Node) (place : ℕ) (slot : Slot) (w : WasKept old new place slot) → IsGiven root old given w.before → IsGiven root new given slot
+given_still : (root : Region) (old new : Slots) (given : List Node) (place : ℕ) (slot : Slot) (w : WasKept old new place slot) → IsGiven root old given w.before → IsGiven root new given slot
 given_still root old new given place slot w g = record {
   node = g.node;
   found = ap (node_of given) (sym w.number) ∙ g.found;
-  within = subst (λ c. IsWithin (narrowed root c) g.node.box) (sym w.above_is) g.within;
+  within = subst (λ c. IsWithin (narrowed root c).box g.node.box) (sym w.above_is) g.within;
+  choices_are = ap (λ c. (narrowed root c).choices) w.above_is ∙ g.choices_are;
 }
 
 -- more nodes are given
-given_also : (root : List Sides) (slots : Slots) (given more : List Node) (slot : Slot) → IsGiven root slots given slot → IsGiven root slots (given ++ more) slot
+given_also : (root : Region) (slots : Slots) (given more : List Node) (slot : Slot) → IsGiven root slots given slot → IsGiven root slots (given ++ more) slot
 given_also root slots given more slot g = record {
   node = g.node;
   found = node_of_kept given more slot.number g.node g.found;
   within = g.within;
+  choices_are = g.choices_are;
 }
 
 module _ (root : Node) (integral : List Bool) (old new : Slots) (ids : ℕ) (log : List Entry) (t : IsTracked root integral old ids log) where
@@ -77,13 +82,13 @@ module _ (root : Node) (integral : List Bool) (old new : Slots) (ids : ℕ) (log
   same_log was = record {
     searched = t.searched;
     free = t.free;
-    given = λ k s e. let w = was k s e in given_still root.box old new (given_by root log) k s w (t.given k w.before w.found);
+    given = λ k s e. let w = was k s e in given_still (region_in root) old new (given_by root log) k s w (t.given k w.before w.found);
     live = λ k s e l. let w = was k s e in subst (HasNotEnded log) w.number (t.live k w.before w.found (w.live l));
   }
 
   -- a live node has one entry more
   module _ (entry : Entry) (n : ℕ) (here : Slot) (kept : AreSoundSlots old) (found : slot_at old n ≡ Some here) (live : is_live here.stage ≡ true) (number : here.number ≡ entry.node) where
-    abbrev pub node_given : IsGiven root.box old (given_by root log) here
+    abbrev pub node_given : IsGiven (region_in root) old (given_by root log) here
     node_given = t.given n here found
 
     is_given : node_of (given_by root log) entry.node ≡ Some node_given.node
@@ -112,7 +117,7 @@ module _ (root : Node) (integral : List Bool) (old new : Slots) (ids : ℕ) (log
         record {
           searched = followed right;
           free = λ m l. ap (λ g. node_of g m) same ∙ t.free m l;
-          given = λ k s e. let w = was k s e in subst (λ g. IsGiven root.box new g s) (sym same) (given_still root.box old new (given_by root log) k s w (t.given k w.before w.found));
+          given = λ k s e. let w = was k s e in subst (λ g. IsGiven (region_in root) new g s) (sym same) (given_still (region_in root) old new (given_by root log) k s w (t.given k w.before w.found));
           live = λ k s e l.
               let w = was k s e in
               subst (HasNotEnded (log ++ entry ∷ [])) w.number (still_not w.before.number (t.live k w.before w.found (w.live l)) (other_number k w.before w.found (apart k s e l)));
@@ -138,25 +143,27 @@ live_stays stage e f = let g : false ≡ true = sym (ap is_live f) ∙ e in cc
 -- ---- the open nodes
 
 module _ (root : Node) (integral : List Bool) (slots : Slots) (ids : ℕ) (log : List Entry) (t : IsTracked root integral slots ids log) where
-  open_in : (e : OpenNode) → StandsAs Open slots e → IsOpenIn root log (node_at root.box slots e)
+  open_in : (e : OpenNode) → StandsAs Open slots e → IsOpenIn root log (node_at (region_in root) slots e)
   open_in e s =
       let g = t.given e.place s.slot s.found in
-      let within : IsWithin (narrowed root.box (changes_at slots e.place)) g.node.box =
-      subst (λ c. IsWithin (narrowed root.box c) g.node.box) (sym (ap (slot_changes slots) s.found)) (within_later root.box g.node.box (reverse s.slot.notes) (above s.slot.number slots s.slot.origin) g.within) in
+      let changes = sym (ap (slot_changes slots) s.found) in
+      let within : IsWithin (narrowed (region_in root) (changes_at slots e.place)).box g.node.box =
+      subst (λ c. IsWithin (narrowed (region_in root) c).box g.node.box) changes (within_later (region_in root) g.node.box (noted s.slot.notes) (above s.slot.number slots s.slot.origin) g.within) in
       record {
         given = g.node;
         number = node_of_number (given_by root log) s.slot.number g.node g.found ∙ s.number;
         found = ap (node_of (given_by root log)) (sym s.number) ∙ g.found;
-        holds = λ point h. in_wider (narrowed root.box (changes_at slots e.place)) g.node.box point within h;
+        choices_are = sym (sym (ap (λ c. (narrowed (region_in root) c).choices) changes) ∙ noted_choices (region_in root) s.slot.notes (above s.slot.number slots s.slot.origin) ∙ g.choices_are);
+        holds = λ point h. in_wider (narrowed (region_in root) (changes_at slots e.place)).box g.node.box point within h;
         unended = subst (HasNotEnded log) s.number (t.live e.place s.slot s.found (live_open s.slot.stage s.stage_is));
       }
 
-  pub all_open : (nodes : List OpenNode) → All (StandsAs Open slots) nodes → All (IsOpenIn root log) (nodes_at root.box slots nodes)
-  all_open nodes h = All-map (IsOpenIn root log) (node_at root.box slots) nodes (λ k d l. open_in _ (h k d l))
+  pub all_open : (nodes : List OpenNode) → All (StandsAs Open slots) nodes → All (IsOpenIn root log) (nodes_at (region_in root) slots nodes)
+  all_open nodes h = All-map (IsOpenIn root log) (node_at (region_in root) slots) nodes (λ k d l. open_in _ (h k d l))
 
 -- ---- a node has another stage
 
-module _ (old new : Slots) (n : ℕ) (had notes : List Change) (stage : Stage) (h : IsRestaged old new n had notes stage) (kept : AreSoundSlots old) (live : is_live h.slot.stage ≡ true) (still : stage ≢ Ended) where
+module _ (old new : Slots) (n : ℕ) (had notes : List Note) (stage : Stage) (h : IsRestaged old new n had notes stage) (kept : AreSoundSlots old) (live : is_live h.slot.stage ≡ true) (still : stage ≢ Ended) where
   restaged_kept : AllWereKept old new
   restaged_kept k s e = elim (cases_eq k n) [
     | inl same ↦
@@ -200,7 +207,7 @@ freed_kept old new gone r kept k s e = record {
 
 module _ (root : Node) (integral : List Bool) (old new : Slots) (ids : ℕ) (log : List Entry) (t : IsTracked root integral old ids log) (kept : AreSoundSlots old) where
   -- the first node is taken
-  pub tracked_first : (e : OpenNode) (had none : List Change) → StandsAs Open old e → IsRestaged old new e.place had none Taken → IsTracked root integral new ids log
+  pub tracked_first : (e : OpenNode) (had none : List Note) → StandsAs Open old e → IsRestaged old new e.place had none Taken → IsTracked root integral new ids log
   tracked_first e had none s h =
       let open_ : h.slot.stage ≡ Open = sym (ap (λ (x : Slot). x.stage) (same_slot old e.place s.slot h.slot s.found h.was)) ∙ s.stage_is in
       same_log root integral old new ids log t (restaged_kept old new e.place had none Taken h kept (live_open h.slot.stage open_) (λ f. cc))
@@ -216,15 +223,15 @@ module _ (root : Node) (integral : List Bool) (old new : Slots) (ids : ℕ) (log
     work_live : is_live work_slot.slot.stage ≡ true
     work_live = live_taken work_slot.slot.stage work_slot.taken
 
-    restaged_live : (had notes : List Change) (stage : Stage) (h : IsRestaged old new n had notes stage) → is_live h.slot.stage ≡ true
+    restaged_live : (had notes : List Note) (stage : Stage) (h : IsRestaged old new n had notes stage) → is_live h.slot.stage ≡ true
     restaged_live had notes stage h = ap (λ (x : Slot). is_live x.stage) (same_slot old n h.slot work_slot.slot h.was work_slot.found) ∙ work_live
 
     -- it is put back
-    pub tracked_back : (had notes : List Change) → IsRestaged old new n had notes Open → IsTracked root integral new ids log
+    pub tracked_back : (had notes : List Note) → IsRestaged old new n had notes Open → IsTracked root integral new ids log
     tracked_back had notes h = same_log root integral old new ids log t (restaged_kept old new n had notes Open h kept (restaged_live had notes Open h) (λ f. cc))
 
     -- it is put aside
-    pub tracked_aside : (had notes : List Change) (number : ℕ) (bound : Option ℚ) → base.number ≡ number → IsRestaged old new n had notes Parked → IsTracked root integral new ids (log ++ record { node = number; bound = bound; end = Parked } ∷ [])
+    pub tracked_aside : (had notes : List Note) (number : ℕ) (bound : Option ℚ) → base.number ≡ number → IsRestaged old new n had notes Parked → IsTracked root integral new ids (log ++ record { node = number; bound = bound; end = Parked } ∷ [])
     tracked_aside had notes number bound e h =
         ended_log root integral old new ids log t (record { node = number; bound = bound; end = Parked }) n work_slot.slot kept work_slot.found work_live (work_slot.number ∙ e) tt (none_parked (node_of (given_by root log) number) bound)
         (restaged_kept old new n had notes Parked h kept (restaged_live had notes Parked h) (λ f. cc))
@@ -243,9 +250,9 @@ module _ (root : Node) (integral : List Bool) (old new : Slots) (ids : ℕ) (log
 
 -- ---- a node is split
 
-module _ (root_bound : Option ℚ) (integral : List Bool) (box : List Sides) (old new : Slots) (n : ℕ) (notes : List Change) (lp hp : ℕ) (cl ch : Change) (q p : List OpenNode) (ids work : ℕ) (base : Base) (o : IsInOrder old q p ids work) (w : get_or (bases old) n None ≡ Some base) (h : IsParted old new n notes (open_slot ids (Some (let x : Origin = record { parent = n; change = cl } in x))) (open_slot (ids + 1) (Some (let x : Origin = record { parent = n; change = ch } in x))) lp hp) where
+module _ (root_bound : Option ℚ) (integral : List Bool) (region : Region) (old new : Slots) (n : ℕ) (notes : List Note) (lp hp : ℕ) (cl ch : Change) (q p : List OpenNode) (ids work : ℕ) (base : Base) (o : IsInOrder old q p ids work) (w : get_or (bases old) n None ≡ Some base) (h : IsParted old new n notes (open_slot ids (Some (let x : Origin = record { parent = n; change = cl } in x))) (open_slot (ids + 1) (Some (let x : Origin = record { parent = n; change = ch } in x))) lp hp) where
   abbrev root : Node
-  root = record { number = 0; box = box; bound = root_bound }
+  root = node_in region 0 root_bound
 
   split_slot : IsInWork old n base
   split_slot = in_work old n base w
@@ -267,7 +274,7 @@ module _ (root_bound : Option ℚ) (integral : List Bool) (box : List Sides) (ol
                 before = h.slot;
                 found = ap (slot_at old) same ∙ h.was;
                 number = refl;
-                above_is = parted.above_same box old new n notes lp hp cl ch q p ids work base o w h;
+                above_is = parted.above_same region old new n notes lp hp cl ch q p ids work base o w h;
                 live = λ l. let g : false ≡ true = l in cc;
               }),
           (λ l x. let g : false ≡ true = ap (λ (y : Slot). is_live y.stage) t ∙ l in cc),
@@ -282,7 +289,7 @@ module _ (root_bound : Option ℚ) (integral : List Bool) (box : List Sides) (ol
                 before = s;
                 found = sym (h.others k apart d f) ∙ e;
                 number = refl;
-                above_is = same_up old new (parted.Old box old new n notes lp hp cl ch q p ids work base o w h) (parted.part_keeps box old new n notes lp hp cl ch q p ids work base o w h) k s (apart, d, f) e;
+                above_is = same_up old new (parted.Old region old new n notes lp hp cl ch q p ids work base o w h) (parted.part_keeps region old new n notes lp hp cl ch q p ids work base o w h) k s (apart, d, f) e;
                 live = λ l. l;
               },
               (λ l. apart),
@@ -291,34 +298,45 @@ module _ (root_bound : Option ℚ) (integral : List Bool) (box : List Sides) (ol
     ]
   ]
 
-  module _ (log : List Entry) (t : IsTracked root integral old ids log) (column : ℕ) (at : ℤ) (number : ℕ) (bound : Option ℚ) (same : base.number ≡ number) (can : CanSplit integral (narrowed box (reverse notes ++ base.changes)) column at) (low_box : narrowed box (cl ∷ (reverse notes ++ base.changes)) ≡ low_half (narrowed box (reverse notes ++ base.changes)) column at) (high_box : narrowed box (ch ∷ (reverse notes ++ base.changes)) ≡ high_half (narrowed box (reverse notes ++ base.changes)) column at) where
+  -- the region of the node, and the node as it is shown
+  abbrev part_region : Region
+  part_region = narrowed region (noted notes ++ base.changes)
+
+  module _ (log : List Entry) (t : IsTracked root integral old ids log) (column : ℕ) (at : ℤ) (number : ℕ) (bound : Option ℚ) (same : base.number ≡ number) (can : CanSplit integral (node_in part_region number bound) column at) (low_is : tightened part_region cl ≡ region_in (low_node (node_in part_region number bound) column at)) (high_is : tightened part_region ch ≡ region_in (high_node (node_in part_region number bound) column at)) where
+    abbrev part_node : Node
+    part_node = node_in part_region number bound
+
     abbrev entry : Entry
     entry = record { node = number; bound = bound; end = Split column at ids (ids + 1) }
 
     abbrev given : List Node
     given = given_by root log
 
-    abbrev split_given : IsGiven box old given split_slot.slot
+    abbrev split_given : IsGiven region old given split_slot.slot
     split_given = t.given n split_slot.slot split_slot.found
 
     split_is : node_of given number ≡ Some split_given.node
     split_is = ap (node_of given) (sym (split_slot.number ∙ same)) ∙ split_given.found
 
-    split_inside : IsWithin (narrowed box (reverse notes ++ base.changes)) split_given.node.box
-    split_inside = within_later box split_given.node.box (reverse notes) base.changes (subst (λ c. IsWithin (narrowed box c) split_given.node.box) split_slot.changes split_given.within)
+    split_inside : IsWithin part_region.box split_given.node.box
+    split_inside = within_later region split_given.node.box (noted notes) base.changes (subst (λ c. IsWithin (narrowed region c).box split_given.node.box) split_slot.changes split_given.within)
+
+    split_choices : part_region.choices ≡ split_given.node.choices
+    split_choices =
+        noted_choices region notes base.changes ∙ sym (ap (λ c. (narrowed region c).choices) split_slot.changes) ∙ split_given.choices_are
 
     abbrev low_given : Node
-    low_given = record { number = ids; box = low_half split_given.node.box column at; bound = bound }
+    low_given = record (low_node split_given.node column at) { number = ids; bound = bound }
 
     abbrev high_given : Node
-    high_given = record { number = ids + 1; box = high_half split_given.node.box column at; bound = bound }
+    high_given = record (high_node split_given.node column at) { number = ids + 1; bound = bound }
 
     more_are : given_by root (log ++ entry ∷ []) ≡ given ++ (low_given ∷ high_given ∷ [])
     more_are = given_more (root ∷ []) log entry ∙ ap (λ x. given ++ halves x bound (Split column at ids (ids + 1))) split_is
 
     right_end : IsRightEnd integral given split_given.node (Split column at ids (ids + 1))
     right_end = (
-      split_within integral _ split_given.node.box column at split_inside can,
+      split_within part_node split_given.node column at split_inside split_choices integral can,
       t.free ids (omega arith),
       t.free (ids + 1) (omega arith),
       (λ e. omega (arith, e)),
@@ -337,20 +355,29 @@ module _ (root_bound : Option ℚ) (integral : List Bool) (box : List Sides) (ol
     half_unended m l =
         still_not root integral old new ids log t entry n split_slot.slot o.kept split_slot.found split_live (split_slot.number ∙ same) m (none_ended m l) (λ e. omega (arith, l, below_ids, e))
 
-    low_is_given : IsGiven box new (given ++ (low_given ∷ high_given ∷ [])) (open_slot ids (Some (record { parent = n; change = cl })))
+    -- the regions of the halves
+    low_after : narrowed region (above ids new (Some (let x : Origin = record { parent = n; change = cl } in x))) ≡ region_in (low_node part_node column at)
+    low_after = ap (narrowed region) (parted.half_changes region old new n notes lp hp cl ch q p ids work base o w h ids cl (omega arith)) ∙ low_is
+
+    high_after : narrowed region (above (ids + 1) new (Some (let x : Origin = record { parent = n; change = ch } in x))) ≡ region_in (high_node part_node column at)
+    high_after = ap (narrowed region) (parted.half_changes region old new n notes lp hp cl ch q p ids work base o w h (ids + 1) ch (omega arith)) ∙ high_is
+
+    low_is_given : IsGiven region new (given ++ (low_given ∷ high_given ∷ [])) (open_slot ids (Some (record { parent = n; change = cl })))
     low_is_given = record {
       node = low_given;
       found = node_of_new given (low_given ∷ high_given ∷ []) ids (t.free ids (omega arith)) ∙ node_of_here low_given (high_given ∷ []) ids refl;
-      within = subst (λ b. IsWithin b low_given.box) (sym (ap (narrowed box) (parted.half_changes box old new n notes lp hp cl ch q p ids work base o w h ids cl (omega arith)) ∙ low_box)) (within_low _ split_given.node.box column at split_inside);
+      within = subst (λ (r : Region). IsWithin r.box low_given.box) (sym low_after) (within_low part_node split_given.node column at split_inside split_choices);
+      choices_are = ap (λ (r : Region). r.choices) low_after ∙ low_choices part_node split_given.node column at split_inside split_choices;
     }
 
-    high_is_given : IsGiven box new (given ++ (low_given ∷ high_given ∷ [])) (open_slot (ids + 1) (Some (record { parent = n; change = ch })))
+    high_is_given : IsGiven region new (given ++ (low_given ∷ high_given ∷ [])) (open_slot (ids + 1) (Some (record { parent = n; change = ch })))
     high_is_given = record {
       node = high_given;
       found =
           node_of_new given (low_given ∷ high_given ∷ []) (ids + 1) (t.free (ids + 1) (omega arith))
           ∙ node_of_later low_given (high_given ∷ []) (ids + 1) (λ e. omega (arith, e)) ∙ node_of_here high_given [] (ids + 1) refl;
-      within = subst (λ b. IsWithin b high_given.box) (sym (ap (narrowed box) (parted.half_changes box old new n notes lp hp cl ch q p ids work base o w h (ids + 1) ch (omega arith)) ∙ high_box)) (within_high _ split_given.node.box column at split_inside);
+      within = subst (λ (r : Region). IsWithin r.box high_given.box) (sym high_after) (within_high part_node split_given.node column at split_inside split_choices);
+      choices_are = ap (λ (r : Region). r.choices) high_after ∙ high_choices part_node split_given.node column at split_inside split_choices;
     }
 
     pub tracked_split : IsTracked root integral new (ids + 2) (log ++ entry ∷ [])
@@ -359,10 +386,10 @@ module _ (root_bound : Option ℚ) (integral : List Bool) (box : List Sides) (ol
       free = λ m l.
           ap (λ g. node_of g m) more_are ∙ node_of_new given (low_given ∷ high_given ∷ []) m (t.free m (omega (arith, l)))
           ∙ node_of_later low_given (high_given ∷ []) m (λ e. omega (arith, e, l)) ∙ node_of_later high_given [] m (λ e. omega (arith, e, l));
-      given = λ k s e. subst (λ g. IsGiven box new g s) (sym more_are) (elim (part_was k s e) [
-        | inl a ↦ given_also box new given (low_given ∷ high_given ∷ []) s (given_still box old new given k s a.0 (t.given k a.0.before a.0.found))
-        | inr (inl b) ↦ subst (IsGiven box new (given ++ (low_given ∷ high_given ∷ []))) b.1 low_is_given
-        | inr (inr b) ↦ subst (IsGiven box new (given ++ (low_given ∷ high_given ∷ []))) b.1 high_is_given
+      given = λ k s e. subst (λ g. IsGiven region new g s) (sym more_are) (elim (part_was k s e) [
+        | inl a ↦ given_also region new given (low_given ∷ high_given ∷ []) s (given_still region old new given k s a.0 (t.given k a.0.before a.0.found))
+        | inr (inl b) ↦ subst (IsGiven region new (given ++ (low_given ∷ high_given ∷ []))) b.1 low_is_given
+        | inr (inr b) ↦ subst (IsGiven region new (given ++ (low_given ∷ high_given ∷ []))) b.1 high_is_given
       ]);
       live = λ k s e l. elim (part_was k s e) [
         | inl a ↦

@@ -1,22 +1,20 @@
 -- How a tree is kept.
 use Rattle.std.specs.Prelude.{◌≡◌, ℕ, ◌+◌, ◌<◌, ◌≤◌, ◌==◌, Bool, true, false, List, map, length, count_by, Option, None, Some, All}
-use Rattle.cip_problem.specs.Program.{Sides}
 use Rattle.cip_problem.specs.Log.{Node}
-use Rattle.cip_domain.specs.Changes.{narrowed}
+use Rattle.cip_domain.specs.Changes.{Region, narrowed}
 use Rattle.cip_tree.specs.declared.kept.Stage.{Stage}
 use Rattle.cip_tree.specs.declared.kept.Stage.TheVariants.{Open, Taken, Parked, Ended}
 use Rattle.cip_tree.specs.declared.queue.OpenNode.{OpenNode}
 use Rattle.cip_tree.specs.Slots.{Slot, Slots, slot_at, above, changes_at, AreSoundSlots}
-use Rattle.cip_tree.specs.Nodes.{Base}
+use Rattle.cip_tree.specs.Nodes.{Base, node_in}
 
 -- a node that is kept at a place
-abbrev pub node_at : List Sides → Slots → OpenNode → Node
-node_at box slots node =
-    record { number = node.id; box = narrowed box (changes_at slots node.place); bound = node.bound }
+abbrev pub node_at : Region → Slots → OpenNode → Node
+node_at root slots node = node_in (narrowed root (changes_at slots node.place)) node.id node.bound
 
 -- the nodes that are kept at places
-abbrev pub nodes_at : List Sides → Slots → List OpenNode → List Node
-nodes_at box slots nodes = map (node_at box slots) nodes
+abbrev pub nodes_at : Region → Slots → List OpenNode → List Node
+nodes_at root slots nodes = map (node_at root slots) nodes
 
 -- what a node at a stage keeps for its work: only one that is taken does
 abbrev pub base_if : Stage → Base → Option Base

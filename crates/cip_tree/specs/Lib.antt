@@ -4,6 +4,7 @@ pub mod Freed
 pub mod Inside
 pub mod Moves
 pub mod Nodes
+pub mod Notes
 pub mod Queue
 pub mod Searched
 pub mod Slots

@@ -1,23 +1,23 @@
 -- How a tree changes from call to call.
-use Rattle.std.specs.Prelude.{◌≡◌, ◌≢◌, ℕ, ◌<◌, ◌≤◌, ◌+◌, ◌^◌, ℤ, unsigned_abs, Bool, List, [], ◌∷◌, ◌++◌, Option, None, All, Contains}
+use Rattle.std.specs.Prelude.{◌≡◌, ◌≢◌, ℕ, ◌<◌, ◌≤◌, ◌+◌, ◌^◌, ℤ, unsigned_abs, Bool, true, List, [], ◌∷◌, ◌++◌, Option, None, Some, slice_get, All, Contains}
 use Rattle.std.specs.List.Sorted.{IsPermutation}
 use Rattle.cip_rational.specs.Rational.{ℚ}
-use Rattle.cip_problem.specs.Program.{Sides}
-use Rattle.cip_problem.specs.Log.{Node, Split, low_half, high_half, CanSplit}
+use Rattle.cip_problem.specs.Log.{Node, Split, low_node, high_node, CanSplit}
+use Rattle.cip_domain.specs.Changes.{Region}
 use Rattle.cip_tree.specs.Bounds.{IsBoundAtMost}
 use Rattle.cip_tree.specs.Queue.{bound_below}
 use Rattle.cip_tree.specs.Searched.{HasNotEnded, HalvesHold}
-use Rattle.cip_tree.specs.Nodes.{TakenNode, Nodes, base_at, box_of, shown, IsTaken}
+use Rattle.cip_tree.specs.Nodes.{TakenNode, Nodes, base_at, node_in, shown, IsTaken}
 
 -- a node is taken before another: without a bound, of lesser bound, or of lesser number
 pub record IsBefore (node other : Node) : Type 0 where
   pub bounds : IsBoundAtMost node.bound other.bound
   pub numbers : node.bound ≡ other.bound → node.number ≤ other.number
 
--- a tree of one open node, the root, with this box and this bound, over so many columns of which these are whole
-pub record IsNew (tree : Nodes) (box : List Sides) (integral : List Bool) (bound : Option ℚ) : Type 0 where
+-- a tree of one open node, the root, with this region and this bound, over so many columns of which these are whole
+pub record IsNew (tree : Nodes) (region : Region) (integral : List Bool) (bound : Option ℚ) : Type 0 where
   pub open_ : tree.open_ ≡ tree.root ∷ []
-  pub root : tree.root ≡ record { number = 0; box = box; bound = bound }
+  pub root : tree.root ≡ node_in region 0 bound
   pub integral_is : tree.integral ≡ integral
   pub parked : tree.parked ≡ []
   pub taken : (place : ℕ) → base_at tree place ≡ None
@@ -54,16 +54,16 @@ is_cheaper cost node = bound_below cost node.bound
 -- ---- splits
 
 -- a node in work was split: it has ended, and its halves are open, with its bound and the next two numbers; they hold
--- each point of its box whose column is whole
+-- each point of its box whose value is whole, or allowed where the choice of the column was open
 pub record IsSplit (old new : Nodes) (node : TakenNode) (column : ℕ) (at : ℤ) (low high : ℕ) : Type 0 where
   pub low_is : low ≡ old.ids
   pub high_is : high ≡ old.ids + 1
-  pub near : unsigned_abs at ≤ 2 ^ 101
-  pub can : CanSplit old.integral (box_of old node) column at
-  pub hold : HalvesHold (box_of old node) column at
+  pub near : slice_get old.integral column ≡ Some true → unsigned_abs at ≤ 2 ^ 101
+  pub can : CanSplit old.integral (shown old node) column at
+  pub hold : HalvesHold (shown old node) column at
   pub nodes : IsPermutation
-      (record { number = low; box = low_half (box_of old node) column at; bound = node.bound }
-      ∷ record { number = high; box = high_half (box_of old node) column at; bound = node.bound } ∷ old.open_)
+      (record (low_node (shown old node) column at) { number = low; bound = node.bound }
+      ∷ record (high_node (shown old node) column at) { number = high; bound = node.bound } ∷ old.open_)
       new.open_
   pub taken : LetsGo old new node.place
   pub rest : new ≡ record old {

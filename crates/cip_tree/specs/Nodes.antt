@@ -1,11 +1,13 @@
 -- What contracts see of a tree: its open and parked nodes with their boxes, and what it keeps of those that are taken.
-use Rattle.std.specs.Prelude.{◌≡◌, ℕ, ℤ, Bool, true, false, List, [], ◌++◌, reverse, Option, None, Some, slice_index_or, refl}
+use Rattle.std.specs.Prelude.{◌≡◌, ℕ, ℤ, Bool, true, false, List, [], ◌++◌, Option, None, Some, slice_index_or, refl}
 use Rattle.std.specs.Coded.{Coded, code_by, coded×, coded_ℕ, coded_ℤ, coded_bool, coded_list, coded_option}
 use Rattle.cip_rational.specs.Rational.{ℚ, coded_ℚ}
-use Rattle.cip_problem.specs.Program.{Sides}
-use Rattle.cip_problem.specs.Codes.{box_code}
+use Rattle.cip_problem.specs.Program.{Sides, Choice}
+use Rattle.cip_problem.specs.Codes.{box_code, choices_code}
 use Rattle.cip_problem.specs.Log.{Node, Entry, End, Split, Closed, Parked}
-use Rattle.cip_domain.specs.Changes.{Change, change_code, narrowed}
+use Rattle.cip_domain.specs.Changes.{Region, Change, change_code, narrowed}
+use Rattle.cip_tree.specs.declared.notes.Note.{Note}
+use Rattle.cip_tree.specs.Notes.{noted, note_code}
 
 -- a node in work: its number, its bound, where the tree keeps the rest, and the changes of its own work, the oldest
 -- first
@@ -13,7 +15,7 @@ pub record TakenNode : Type 0 where
   pub number : ℕ
   pub bound : Option ℚ
   pub place : ℕ
-  pub notes : List Change
+  pub notes : List Note
 
 -- what a tree keeps of a node in work: its number, and the changes of the splits and of the nodes above it, the newest
 -- first
@@ -42,15 +44,32 @@ base_changes (Some base) = base.changes
 
 -- the changes of a node in work and of those above it, the newest first
 abbrev pub node_changes : Nodes → TakenNode → List Change
-node_changes tree node = reverse node.notes ++ base_changes (base_at tree node.place)
+node_changes tree node = noted node.notes ++ base_changes (base_at tree node.place)
 
--- the box of a node in work: the root's, with the strongest change of each side
+-- the box and the choices of a node
+abbrev pub region_in : Node → Region
+region_in node = record { box = node.box; choices = node.choices }
+
+-- a node with this box and these choices
+abbrev pub node_in : Region → ℕ → Option ℚ → Node
+node_in region number bound =
+    record { number = number; box = region.box; choices = region.choices; bound = bound }
+
+-- the region of a node in work: the root's, after its changes
+abbrev pub region_of : Nodes → TakenNode → Region
+region_of tree node = narrowed (region_in tree.root) (node_changes tree node)
+
+-- its box: the root's, with the strongest change of each side
 abbrev pub box_of : Nodes → TakenNode → List Sides
-box_of tree node = narrowed tree.root.box (node_changes tree node)
+box_of tree node = (region_of tree node).box
+
+-- its choices: the root's, with those that were made
+abbrev pub choices_of : Nodes → TakenNode → List Choice
+choices_of tree node = (region_of tree node).choices
 
 -- a node in work as a node of the log
 abbrev pub shown : Nodes → TakenNode → Node
-shown tree node = record { number = node.number; box = box_of tree node; bound = node.bound }
+shown tree node = node_in (region_of tree node) node.number node.bound
 
 -- a node was taken from the tree, and has not ended
 pub record IsTaken (tree : Nodes) (node : TakenNode) : Type 0 where
@@ -62,8 +81,8 @@ pub record IsTaken (tree : Nodes) (node : TakenNode) : Type 0 where
 
 abbrev pub taken_code : Coded TakenNode
 taken_code =
-    code_by (ℕ × (Option ℚ × (ℕ × List Change)))
-    (coded× coded_ℕ (coded× (coded_option coded_ℚ) (coded× coded_ℕ (coded_list change_code))))
+    code_by (ℕ × (Option ℚ × (ℕ × List Note)))
+    (coded× coded_ℕ (coded× (coded_option coded_ℚ) (coded× coded_ℕ (coded_list note_code))))
     (λ n. (n.number, (n.bound, (n.place, n.notes))))
     (λ p. record { number = p.0; bound = p.1.0; place = p.1.1.0; notes = p.1.1.1 }) (λ _. refl)
 
@@ -74,8 +93,10 @@ base_code =
 
 abbrev node_code : Coded Node
 node_code =
-    code_by (ℕ × (List Sides × Option ℚ)) (coded× coded_ℕ (coded× box_code (coded_option coded_ℚ)))
-    (λ n. (n.number, (n.box, n.bound))) (λ p. record { number = p.0; box = p.1.0; bound = p.1.1 }) (λ _. refl)
+    code_by (ℕ × ((List Sides × List Choice) × Option ℚ))
+    (coded× coded_ℕ (coded× (coded× box_code choices_code) (coded_option coded_ℚ)))
+    (λ n. (n.number, ((n.box, n.choices), n.bound)))
+    (λ p. record { number = p.0; box = p.1.0.0; choices = p.1.0.1; bound = p.1.1 }) (λ _. refl)
 
 -- the parts of a split, and else whether the node was closed
 abbrev pub end_parts : End → Option (ℕ × (ℤ × (ℕ × ℕ))) × Bool

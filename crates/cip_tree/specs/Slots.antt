@@ -1,7 +1,9 @@
 -- What is kept of nodes, by place, and how a node's changes are found there.
-use Rattle.std.specs.Prelude.{◌≡◌, ◌≢◌, ℕ, zero, suc, ◌-◌, ◌<◌, ◌==◌, Bool, false, List, [], ◌∷◌, ◌++◌, reverse, count_by, Option, None, Some, IfSome, slice_index_or, refl}
+use Rattle.std.specs.Prelude.{◌≡◌, ◌≢◌, ℕ, zero, suc, ◌-◌, ◌<◌, ◌==◌, Bool, false, List, [], ◌∷◌, ◌++◌, count_by, Option, None, Some, IfSome, slice_index_or, refl}
 use Rattle.std.specs.Coded.{Coded, code_by, coded×, coded_ℕ, coded_list, coded_option}
 use Rattle.cip_domain.specs.Changes.{Change, change_code}
+use Rattle.cip_tree.specs.declared.notes.Note.{Note}
+use Rattle.cip_tree.specs.Notes.{noted, note_code}
 use Rattle.cip_tree.specs.declared.kept.Stage.{Stage}
 use Rattle.cip_tree.specs.declared.kept.Stage.TheVariants.{Open, Taken, Parked, Ended}
 use Rattle.cip_tree.specs.declared.kept.Origin.{Origin}
@@ -11,7 +13,7 @@ use Rattle.cip_tree.specs.declared.kept.Origin.{Origin}
 pub record Slot : Type 0 where
   pub number : ℕ
   pub origin : Option Origin
-  pub notes : List Change
+  pub notes : List Note
   pub below : ℕ
   pub stage : Stage
 
@@ -31,7 +33,7 @@ open_slot number origin = record { number = number; origin = origin; notes = [];
 -- the changes of a node and of those above it, the newest first
 abbrev pub changes_of : Option Slot → (Option Origin → List Change) → List Change
 changes_of None above = []
-changes_of (Some slot) above = reverse slot.notes ++ above slot.origin
+changes_of (Some slot) above = noted slot.notes ++ above slot.origin
 
 -- the change that gave a node, and those of its parent and of the nodes above that, in so many steps
 abbrev pub above : ℕ → Slots → Option Origin → List Change
@@ -42,7 +44,7 @@ above (suc steps) slots (Some origin) = origin.change ∷ changes_of (slot_at sl
 -- the changes of the node in a slot, its own first: it has no more nodes above it than its number
 abbrev pub slot_changes : Slots → Option Slot → List Change
 slot_changes slots None = []
-slot_changes slots (Some slot) = reverse slot.notes ++ above slot.number slots slot.origin
+slot_changes slots (Some slot) = noted slot.notes ++ above slot.number slots slot.origin
 
 -- the changes of the node at a place
 abbrev pub changes_at : Slots → ℕ → List Change
@@ -113,7 +115,7 @@ pub record IsLinked (slots : Slots) (number : ℕ) (origin : Option Origin) : Ty
 -- ---- steps
 
 -- the node at a place has other notes and another stage
-pub record IsRestaged (old new : Slots) (place : ℕ) (had notes : List Change) (stage : Stage) : Type 0 where
+pub record IsRestaged (old new : Slots) (place : ℕ) (had notes : List Note) (stage : Stage) : Type 0 where
   pub slot : Slot
   pub was : slot_at old place ≡ Some slot
   pub had_is : had ≡ slot.notes
@@ -122,7 +124,7 @@ pub record IsRestaged (old new : Slots) (place : ℕ) (had notes : List Change) 
 
 -- the node at a place was split: it has ended with these notes, and its halves stand at two new places
 pub record IsParted
-    (old new : Slots) (place : ℕ) (notes : List Change) (low high : Slot) (low_place high_place : ℕ) : Type 0
+    (old new : Slots) (place : ℕ) (notes : List Note) (low high : Slot) (low_place high_place : ℕ) : Type 0
   where
     pub slot : Slot
     pub was : slot_at old place ≡ Some slot
@@ -184,7 +186,7 @@ origin_code =
 -- all fields of a slot, in pairs
 abbrev pub slot_code : Coded Slot
 slot_code =
-    code_by (ℕ × (Option Origin × (List Change × (ℕ × Stage))))
-    (coded× coded_ℕ (coded× (coded_option origin_code) (coded× (coded_list change_code) (coded× coded_ℕ stage_code))))
+    code_by (ℕ × (Option Origin × (List Note × (ℕ × Stage))))
+    (coded× coded_ℕ (coded× (coded_option origin_code) (coded× (coded_list note_code) (coded× coded_ℕ stage_code))))
     (λ s. (s.number, (s.origin, (s.notes, (s.below, s.stage)))))
     (λ p. record { number = p.0; origin = p.1.0; notes = p.1.1.0; below = p.1.1.1.0; stage = p.1.1.1.1 }) (λ _. refl)

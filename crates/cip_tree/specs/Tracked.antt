@@ -4,9 +4,10 @@ use Rattle.std.specs.List.{AllZip}
 use Rattle.cip_rational.specs.Rational.{ℚ, ◌≤ℚ◌}
 use Rattle.cip_problem.specs.Program.{Sides}
 use Rattle.cip_problem.specs.Log.{Entry, Node, node_of, given_after}
-use Rattle.cip_domain.specs.Changes.{narrowed}
+use Rattle.cip_domain.specs.Changes.{Region, narrowed}
 use Rattle.cip_tree.specs.declared.kept.Stage.{Stage}
 use Rattle.cip_tree.specs.declared.kept.Stage.TheVariants.{Open, Taken, Parked, Ended}
+use Rattle.cip_tree.specs.Nodes.{region_in}
 use Rattle.cip_tree.specs.Slots.{Slot, Slots, slot_at, above}
 use Rattle.cip_tree.specs.Searched.{IsSearched, HasNotEnded}
 
@@ -23,11 +24,13 @@ IsWithin box outer = AllZip AreAsStrong box outer
 abbrev pub given_by : Node → List Entry → List Node
 given_by root log = given_after (root ∷ []) log
 
--- the node in a slot was given, and its box, before its own work changed it, lies within the one that was given
-pub record IsGiven (root : List Sides) (slots : Slots) (given : List Node) (slot : Slot) : Type 0 where
+-- the node in a slot was given with its choices, and its box, before its own work changed it, lies within the one that
+-- was given
+pub record IsGiven (root : Region) (slots : Slots) (given : List Node) (slot : Slot) : Type 0 where
   pub node : Node
   pub found : node_of given slot.number ≡ Some node
-  pub within : IsWithin (narrowed root (above slot.number slots slot.origin)) node.box
+  pub within : IsWithin (narrowed root (above slot.number slots slot.origin)).box node.box
+  pub choices_are : (narrowed root (above slot.number slots slot.origin)).choices ≡ node.choices
 
 -- nodes that wait or are in work have no entry in the log yet
 abbrev pub is_live : Stage → Bool
@@ -42,6 +45,6 @@ pub record IsTracked (root : Node) (integral : List Bool) (slots : Slots) (ids :
   pub searched : IsSearched integral root log
   pub free : (number : ℕ) → ids ≤ number → node_of (given_by root log) number ≡ None
   pub given : (place : ℕ) (slot : Slot)
-      → slot_at slots place ≡ Some slot → IsGiven root.box slots (given_by root log) slot
+      → slot_at slots place ≡ Some slot → IsGiven (region_in root) slots (given_by root log) slot
   pub live : (place : ℕ) (slot : Slot)
       → slot_at slots place ≡ Some slot → is_live slot.stage ≡ true → HasNotEnded log slot.number

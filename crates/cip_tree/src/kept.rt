@@ -3,6 +3,7 @@ ghost use Rattle.std.specs.Prelude.{◌≡◌, ◌+◌, IfSome, Some};
 ghost use Rattle.slab.specs.Slab.{ContainsKey, HasRoomFor, slab_len};
 ghost use Rattle.cip_tree.specs.Slots.{Slot, slot_at, IsRestaged, IsParted, IsLowered, IsReleased, IsUsed, IsIdle, IsUnused, IsKeptBut, AreSoundSlots, open_slot};
 
+use crate::notes::Note;
 use cip_domain::Change;
 use slab::Slab;
 use std::alloc::Global;
@@ -36,7 +37,7 @@ pub(crate) struct Kept {
     // none of the root
     pub(crate) origin: Option<Origin>,
     // what its own work changed, the oldest first; empty while the node is taken
-    pub(crate) notes: Vec<Change>,
+    pub(crate) notes: Vec<Note>,
     // how many nodes have this one as parent
     pub(crate) below: usize,
     pub(crate) stage: Stage,
@@ -71,13 +72,20 @@ pub(crate) fn new_kept(alloc: Global, number: u64, origin: Option<Origin>) -> Ke
     }
 }
 
+/// A half of the node at a place, which a change gives.
+pub(crate) fn half_kept(alloc: Global, number: u64, parent: usize, change: Change) -> Kept
+    ensures { result ≡ open_slot number (Some (record { parent = parent; change = change })) }
+{
+    new_kept(alloc, number, Some(Origin { parent, change }))
+}
+
 /// Gives the node at a place other notes and another stage, and answers the notes that it had.
 pub(crate) fn restage(
     kept: &mut Slab<Kept>,
     place: usize,
-    notes: Vec<Change>,
+    notes: Vec<Note>,
     stage: Stage,
-) -> Vec<Change>
+) -> Vec<Note>
     requires { ContainsKey kept.old place }
     ensures slots { IsRestaged kept.old.slots kept.new.slots place result.items notes.items stage }
     ensures len { slab_len kept.new ≡ slab_len kept.old }
@@ -155,7 +163,7 @@ pub(crate) fn release(kept: &mut Slab<Kept>, place: usize)
 pub(crate) fn part(
     kept: &mut Slab<Kept>,
     place: usize,
-    notes: Vec<Change>,
+    notes: Vec<Note>,
     low: Kept,
     high: Kept,
 ) -> (usize, usize)

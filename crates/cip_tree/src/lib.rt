@@ -7,6 +7,7 @@ mod closed;
 mod kept;
 mod logs;
 mod nodes;
+mod notes;
 mod queue;
 mod splits;
 mod trees;

@@ -6,7 +6,8 @@ use cip_frac::Frac;
 /// How a node ended.
 #[derive(Clone, Copy, Debug, PartialEq, Eq)]
 pub enum End {
-    /// Two new nodes: `low` has the column at most `at`, `high` at least `at + 1`.
+    /// Two new nodes: `low` has a whole column at most `at`, `high` at least `at + 1`; where the choice of the column
+    /// was open, it is off in `low` and on in `high`.
     Split {
         col: u32,
         at: i128,

@@ -1,7 +1,8 @@
 //! A node in work.
 ghost use Rattle.std.specs.Prelude.{◌≡◌, ◌++◌, ◌∷◌, [], Some, OnOk, OnErr};
 
-use cip_domain::{Change, Side};
+use crate::notes::Note;
+use cip_domain::Side;
 use cip_frac::Frac;
 use std::alloc::AllocError;
 use std::marker::Model;
@@ -14,7 +15,7 @@ pub struct Node {
     pub(crate) bound: Option<Frac>,
     // where the tree keeps the rest
     pub(crate) place: usize,
-    pub(crate) notes: Vec<Change>,
+    pub(crate) notes: Vec<Note>,
 }
 
 impl Model for Node {
@@ -49,15 +50,15 @@ impl Node {
         self.bound = Some(bound);
     }
 
-    /// Notes a change of one side of a column, which counts in the node's box where it is stronger. `Err` comes where a
-    /// growth was refused, and leaves the node as it was.
+    /// Notes a change of one side of a column, which counts in the node's box where it is stronger; it makes no choice.
+    /// `Err` comes where a growth was refused, and leaves the node as it was.
     pub fn note(&mut self, col: u32, side: Side, value: Frac) -> Result<(), AllocError>
         ensures ok { OnOk result (self.new ≡ record self.old {
-          notes = self.old.notes ++ record { column = col; side = side; value = value } ∷ [];
+          notes = self.old.notes ++ record { col = col; side = side; value = value } ∷ [];
         }) }
         ensures err { OnErr result (self.new ≡ self.old) }
     {
-        self.notes.push(Change { col, side, value })?;
+        self.notes.push(Note { col, side, value })?;
         Ok(())
     }
 }

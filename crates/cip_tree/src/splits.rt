@@ -1,20 +1,22 @@
 //! Splits of one column.
-ghost use Rattle.std.specs.Prelude.{◌≡◌, ◌<◌, length, slice_get, ◌==◌, ◌↔◌, ◌^◌, ◌≤◌, ◌+ℤ◌, pos, unsigned_abs, IsTrue, None, Some, if◌then◌else◌};
+ghost use Rattle.std.specs.Prelude.{◌≡◌, ◌<◌, length, slice_get, ◌==◌, ◌+ℤ◌, pos, Some, MatchResult, if◌then◌else◌};
 ghost use Rattle.cip_rational.specs.Rational.{integer};
+ghost use Rattle.cip_problem.specs.Choices.{met};
 ghost use Rattle.cip_lin.specs.declared.sides.Side.TheVariants.{Low, High};
-ghost use Rattle.cip_domain.specs.Changes.{tightened_sides};
+ghost use Rattle.cip_domain.specs.Changes.{choice_after, side_change};
+ghost use Rattle.cip_domain.specs.Halves.{CanHalve};
+ghost use Rattle.cip_tree.specs.declared.splits.SplitFault.TheVariants.{Outside};
 
-use crate::kept::Origin;
-use cip_domain::{Change, high_change, low_change};
-use cip_lin::Sides;
+use cip_domain::{Change, can_halve, high_change, low_change};
+use cip_lin::{Choice, Sides};
 use std::alloc::AllocError;
 
 /// Why a node was not split.
 #[derive(Clone, Copy, Debug, PartialEq, Eq)]
 pub enum SplitFault {
-    /// The column isn't whole.
+    /// The column is neither a whole one that is plain nor one whose choice is open.
     NotWhole,
-    /// The number has a size above 2^101, or a half has no whole value.
+    /// The column is whole, and the number has a size above 2^101, or a half has no whole value.
     Outside,
     /// A growth was refused.
     NoMemory,
@@ -30,42 +32,39 @@ impl From<AllocError> for SplitFault {
     }
 }
 
-/// How the low half of a split is given.
-pub(crate) fn low_origin(parent: usize, col: u32, at: i128) -> Origin
-    requires { unsigned_abs at ≤ 2 ^ 101 }
-    ensures { result ≡ record {
-      parent = parent;
-      change = record { column = col; side = High; value = integer at };
-    } }
+/// The changes that give the halves of a whole column with these sides.
+pub(crate) fn whole_halves(sides: Sides, col: u32, at: i128) -> Result<(Change, Change), SplitFault>
+    ensures { MatchResult result
+        (λ halves. CanHalve sides at × (halves.0 ≡ side_change col High (integer at))
+        × (halves.1 ≡ side_change col Low (integer (at +ℤ pos 1))))
+        (λ fault. (fault ≡ Outside) × (¬ CanHalve sides at)) }
 {
-    Origin {
-        parent,
-        change: low_change(col, at),
-    }
-}
-
-/// How the high half of a split is given.
-pub(crate) fn high_origin(parent: usize, col: u32, at: i128) -> Origin
-    requires { unsigned_abs at ≤ 2 ^ 101 }
-    ensures { result ≡ record {
-      parent = parent;
-      change = record { column = col; side = Low; value = integer (at +ℤ pos 1) };
-    } }
-{
-    Origin {
-        parent,
-        change: high_change(col, at),
+    if can_halve(sides, at) {
+        Ok((low_change(col, at), high_change(col, at)))
+    } else {
+        Err(SplitFault::Outside)
     }
 }
 
 /// The sides of a column after a change, which may be of another one.
 pub(crate) fn sides_past(sides: Sides, change: Change, col: u32) -> Sides
-    ensures { result ≡ (if change.column == col then tightened_sides sides change.side change.value else sides) }
+    ensures { result ≡ (if change.column == col then met sides change.sides else sides) }
 {
     if change.col == col {
         change.narrow(sides)
     } else {
         sides
+    }
+}
+
+/// The choice of a column after a change, which may be of another one.
+pub(crate) fn choice_past(choice: Choice, change: Change, col: u32) -> Choice
+    ensures { result ≡ (if change.column == col then choice_after choice change.made else choice) }
+{
+    if change.col == col {
+        change.choose(choice)
+    } else {
+        choice
     }
 }
 

@@ -6,22 +6,23 @@ ghost use Rattle.cip_problem.specs.Log.{Closed, Parked, Split};
 ghost use Rattle.cip_problem.specs.Box.{sides_at};
 ghost use Rattle.cip_problem.specs.Wholes.{AllHaveWholes};
 ghost use Rattle.cip_tree.specs.Searched.{IsSearched, IsOpenIn};
-ghost use Rattle.cip_tree.specs.Splitting.{IsSplitFault};
+ghost use Rattle.cip_problem.specs.Choices.{choice_at};
+ghost use Rattle.cip_tree.specs.Splitting.{AreHalves, IsSplitFault};
 ghost use Rattle.cip_tree.specs.Slots.{slot_at, open_slot};
 ghost use Rattle.cip_tree.specs.Entries.{entry_of, entries_of};
-ghost use Rattle.cip_tree.specs.Nodes.{IsTaken, base_at, node_changes, box_of, shown};
+ghost use Rattle.cip_tree.specs.Nodes.{IsTaken, base_at, node_changes, box_of, choices_of, shown};
 ghost use Rattle.cip_tree.specs.Moves.{IsNew, IsSplit, TakesFirst, LetsGo, IsLeastBound, is_cheaper};
 
 use crate::changes::Changes;
 use crate::closed::release_from;
-use crate::kept::{Kept, Stage, new_kept, origin_at, part, release, restage};
+use crate::kept::{Kept, Stage, half_kept, new_kept, origin_at, part, release, restage};
 use crate::logs::{End, Logged};
 use crate::nodes::Node;
 use crate::queue::{OpenNode, Queue};
-use crate::splits::{SplitFault, flag_at, high_origin, low_origin, sides_past};
-use cip_domain::can_halve;
+use crate::splits::{SplitFault, choice_past, flag_at, sides_past, whole_halves};
+use cip_domain::{Change, Region, choice_change};
 use cip_frac::Frac;
-use cip_lin::{Bounds, Sides};
+use cip_lin::{Choice, Sides};
 use slab::Slab;
 use std::alloc::{AllocError, Global};
 use std::marker::Model;
@@ -31,7 +32,7 @@ use std::marker::Model;
 #[derive(Drop)]
 pub struct Tree {
     alloc: Global,
-    root: Bounds,
+    root: Region,
     root_bound: Option<Frac>,
     whole: Vec<bool>,
     kept: Slab<Kept>,
@@ -44,7 +45,7 @@ pub struct Tree {
 
 impl Model for Tree {
     ghost use Rattle.std.specs.Prelude.{◌-◌, length, vec_len, vec_capacity};
-    ghost use Rattle.cip_tree.specs.Nodes.{Nodes, nodes_code};
+    ghost use Rattle.cip_tree.specs.Nodes.{Nodes, nodes_code, node_in};
     ghost use Rattle.cip_tree.specs.Entries.{entries_of};
     ghost use Rattle.cip_tree.specs.Inside.{nodes_at, bases, IsInOrder, HasRoom};
     ghost use Rattle.cip_tree.specs.Tracked.{IsTracked};
@@ -54,7 +55,7 @@ impl Model for Tree {
     ghost coded = { nodes_code };
 
     ghost view = { λ t. record {
-      root = record { number = 0; box = t.root; bound = t.root_bound };
+      root = node_in t.root 0 t.root_bound;
       integral = t.whole.items;
       open_ = nodes_at t.root t.kept.slots t.queue.nodes;
       parked = nodes_at t.root t.kept.slots t.parked.items;
@@ -67,7 +68,7 @@ impl Model for Tree {
         IsInOrder t.kept.slots t.queue.nodes t.parked.items t.ids t.in_work
         × HasRoom (length t.queue.nodes) t.in_work t.queue.spare
         (vec_capacity t.parked - vec_len t.parked) (vec_capacity t.log - vec_len t.log)
-        × IsTracked (record { number = 0; box = t.root; bound = t.root_bound }) t.whole.items t.kept.slots t.ids
+        × IsTracked (node_in t.root 0 t.root_bound) t.whole.items t.kept.slots t.ids
         (entries_of t.log.items) };
 }
 
@@ -160,15 +161,15 @@ fn split_entry(node: &Node, col: u32, at: i128, low: u64) -> Logged
 }
 
 impl Tree {
-    /// The tree of one open node, number 0, with this box and this bound, `None` where none is known; `whole` says of
-    /// each column whether it wants whole values. `Err` comes where the memory for it was refused.
+    /// The tree of one open node, number 0, with this region and this bound, `None` where none is known; `whole` says
+    /// of each column whether it wants whole values. `Err` comes where the memory for it was refused.
     pub fn new(
         alloc: Global,
-        root: Bounds,
+        root: Region,
         whole: &[bool],
         bound: Option<Frac>,
     ) -> Result<Tree, AllocError>
-        requires { length whole.now ≡ length root }
+        requires { length whole.now ≡ length root.box }
         ensures { IfOk result (λ tree. IsNew tree root whole.now bound) }
     {
         let whole = whole.to_vec(alloc)?;
@@ -257,10 +258,50 @@ impl Tree {
         sides
     }
 
-    /// Splits a node in work at a whole number: it has ended, and its halves, in which the column is at most `at` and
-    /// at least `at + 1`, are open, with the two numbers that are answered. `NotWhole` comes exactly where the column
-    /// isn't whole; `Outside` exactly where it is, and `at` has a size above 2^101 or a half has no whole value in it;
-    /// `NoMemory` where a growth was refused. After an `Err` the tree is as it was.
+    /// The choice of a column in a node in work.
+    pub fn choice(&self, node: &Node, col: u32) -> Choice
+        requires { IsTaken self.now node.now }
+        ensures { result ≡ choice_at (choices_of self.now node.now) col }
+    {
+        let mut choice = self.root.choice(col);
+        if choice.is_plain() {
+            return choice;
+        }
+        for change in self.changes(node) {
+            choice = choice_past(choice, change, col);
+        }
+        choice
+    }
+
+    /// The changes that give the halves of a node in work at a column, or why it can't be split there.
+    fn halves(&self, node: &Node, col: u32, at: i128) -> Result<(Change, Change), SplitFault>
+        requires taken { IsTaken self.now node.now }
+        requires column { col < length self.now.integral }
+        requires wholes { AllHaveWholes self.now.integral (box_of self.now node.now) }
+        ensures { MatchResult result
+            (λ halves. AreHalves self.now node.now col at halves.0 halves.1)
+            (λ fault. IsSplitFault self.now node.now col at fault) }
+    {
+        let whole = flag_at(self.whole.as_slice(), col);
+        let choice = self.choice(node, col);
+        if whole && choice.is_plain() {
+            return whole_halves(self.sides(node, col), col, at);
+        }
+        match choice.own() {
+            Some(own) if !whole => Ok((
+                choice_change(col, own, false),
+                choice_change(col, own, true),
+            )),
+            _ => Err(SplitFault::NotWhole),
+        }
+    }
+
+    /// Splits a node in work at a column: it has ended, and its halves are open, with the two numbers that are
+    /// answered. A whole column is at most `at` in the low half, and at least `at + 1` in the high one. Where the
+    /// choice of the column is open it is off in the low half and on in the high one, whatever `at`. `NotWhole` comes
+    /// exactly where the column is neither a whole one that is plain nor one that isn't whole and whose choice is open;
+    /// `Outside` exactly where it is whole and plain, and `at` has a size above 2^101 or a half has no whole value in
+    /// it; `NoMemory` where a growth was refused. After an `Err` the tree is as it was.
     pub fn split(&mut self, node: &Node, col: u32, at: i128) -> Result<(u64, u64), SplitFault>
         requires taken { IsTaken self.old node.now }
         requires column { col < length self.old.integral }
@@ -273,12 +314,7 @@ impl Tree {
         // Each whole column of the node needs a whole value, and a caller can see to it: a node with a column that has
         // none holds no point and is closed, the halves of a split keep such values (`CanSplit`), and between a take and
         // a split only the caller's own notes could take the last one. The tree would have to look at every column.
-        if !flag_at(self.whole.as_slice(), col) {
-            return Err(SplitFault::NotWhole);
-        }
-        if !can_halve(self.sides(node, col), at) {
-            return Err(SplitFault::Outside);
-        }
+        let (low_change, high_change) = self.halves(node, col, at)?;
         let notes = node.notes.as_slice().to_vec(self.alloc)?;
         make_room(
             &mut self.kept,
@@ -289,9 +325,10 @@ impl Tree {
         )?;
         let low = self.ids;
         let high = low + 1;
-        let low_kept = new_kept(self.alloc, low, Some(low_origin(node.place, col, at)));
-        let high_kept = new_kept(self.alloc, high, Some(high_origin(node.place, col, at)));
-        let (low_place, high_place) = part(&mut self.kept, node.place, notes, low_kept, high_kept);
+        let parent = node.place;
+        let low_kept = half_kept(self.alloc, low, parent, low_change);
+        let high_kept = half_kept(self.alloc, high, parent, high_change);
+        let (low_place, high_place) = part(&mut self.kept, parent, notes, low_kept, high_kept);
         self.queue.push(open_node(node, high, high_place));
         self.queue.push(open_node(node, low, low_place));
         self.in_work -= 1;

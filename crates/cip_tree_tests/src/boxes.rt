@@ -1,7 +1,9 @@
-//! Sides that are tightened and put back.
-use cip_domain::{DomainStore, Tightened};
+//! Sides that are tightened and choices that are made, and put back.
+ghost use Rattle.std.specs.Prelude.{◌≡◌, ◌<◌};
+
+use cip_domain::{Checkpoint, DomainStore, Region, Tightened};
 use cip_frac::Frac;
-use cip_lin::{Bounds, Side, Sides};
+use cip_lin::{Bounds, Choice, Choices, Side, Sides};
 use std::test::Fail;
 
 /// Sides at two numbers.
@@ -43,10 +45,68 @@ fn are_made(store: &mut DomainStore) -> bool {
 fn sides_are_tightened_and_put_back(rt: HostRuntime) -> Result<(), Fail> {
     let mut bounds = Bounds::new(rt.alloc(), 0)?;
     bounds.push(between(0, 3))?;
-    let mut store = DomainStore::new(rt.alloc(), bounds);
+    let mut store = DomainStore::new(rt.alloc(), Region::new(bounds, Choices::new(rt.alloc())));
     let first = store.mark();
     assert!(rt; are_made(&mut store));
     store.undo_to(first);
     assert!(rt; has(&store, between(0, 3)) && store.mark() == first);
+    Ok(())
+}
+
+/// A low side of the column from 0 to 5, which is 0 or from 2 to 5; whether it is made to be on; what that answers, the
+/// sides then, and whether the choice is open then.
+const CHOICES: [(i64, bool, Tightened, (i64, i64), bool); 4] = [
+    (0, false, Tightened::Yes, (0, 0), false),
+    (0, true, Tightened::Yes, (2, 5), false),
+    (3, true, Tightened::Yes, (3, 5), false),
+    (1, false, Tightened::Empty, (1, 5), true),
+];
+
+/// Makes the open choice of the one column, if it is open.
+fn chosen(store: &mut DomainStore, on: bool) -> Option<Tightened> {
+    if store.reserve(1).is_err() || store.bounds().len() != 1 || !store.choices().at(0).is_open() {
+        return None;
+    }
+    Some(store.choose(0, on))
+}
+
+/// Raises the low side of the column, makes its choice, and makes it again.
+fn is_chosen(store: &mut DomainStore, low: i64, on: bool) -> Option<Tightened> {
+    if store.reserve(1).is_err() || store.bounds().len() != 1 {
+        return None;
+    }
+    let _ = store.tighten(0, Side::Low, Frac::from(low));
+    chosen(store, on)
+}
+
+/// A case of the table: the choice comes to what is said there, and is open again after it is taken back.
+fn comes_to(store: &mut DomainStore, start: Checkpoint, at: usize) -> bool
+    requires case { at < 4 }
+    requires start { start ≡ 0 }
+{
+    let (low, on, answer, (least, most), is_open) = CHOICES[at];
+    let answered = is_chosen(store, low, on);
+    let choice = store.choices().at(0);
+    let is_made = has(store, between(least, most))
+        && choice.is_open() == is_open
+        && choice.is_on() == (on && !is_open);
+    store.undo_to(start);
+    answered == Some(answer)
+        && is_made
+        && has(store, between(0, 5))
+        && store.choices().at(0).is_open()
+}
+
+#[test]
+fn choices_are_made_and_put_back(rt: HostRuntime) -> Result<(), Fail> {
+    let mut bounds = Bounds::new(rt.alloc(), 0)?;
+    bounds.push(between(0, 5))?;
+    let mut choices = Choices::new(rt.alloc());
+    choices.push(Choice::open(between(2, 5)))?;
+    let mut store = DomainStore::new(rt.alloc(), Region::new(bounds, choices));
+    let start = store.mark();
+    for at in 0..CHOICES.len() {
+        assert!(rt; comes_to(&mut store, start, at), "case {at}");
+    }
     Ok(())
 }

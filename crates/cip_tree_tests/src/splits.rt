@@ -4,19 +4,20 @@ ghost use Rattle.cip_problem.specs.Wholes.{AllHaveWholes};
 ghost use Rattle.cip_tree.specs.Nodes.{IsTaken, box_of};
 
 use crate::boxes::between;
+use cip_domain::Region;
 use cip_frac::Frac;
-use cip_lin::{Bounds, Sides};
+use cip_lin::{Bounds, Choices, Sides};
 use cip_tree::{Node, SplitFault, Tree};
 use std::alloc::{AllocError, Global};
 
-/// The tree over two columns from 0 to 3, of which the first is whole; its root has no bound.
-pub(crate) fn two_columns(alloc: Global) -> Result<Tree, AllocError>
+/// The tree over two columns from 0 to 3 with these choices, of which the first is whole; its root has no bound.
+pub(crate) fn two_columns(alloc: Global, choices: Choices) -> Result<Tree, AllocError>
     ensures { IfOk result (λ tree. (tree.integral ≡ true ∷ false ∷ []) × (length tree.root.box ≡ 2)) }
 {
     let mut bounds = Bounds::new(alloc, 2)?;
     bounds.set_sides(0, between(0, 3));
     bounds.set_sides(1, between(0, 3));
-    Tree::new(alloc, bounds, &[true, false], None)
+    Tree::new(alloc, Region::new(bounds, choices), &[true, false], None)
 }
 
 /// Whether a number lies between the first column's sides, where it alone is whole.

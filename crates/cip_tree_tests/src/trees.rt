@@ -6,7 +6,7 @@ use crate::boxes::between;
 use crate::splits::{is_node, split, two_columns};
 use cip_domain::Change;
 use cip_frac::Frac;
-use cip_lin::Side;
+use cip_lin::{Choice, Choices, Side, Sides};
 use cip_tree::{End, Logged, Node, SplitFault, Tree};
 use std::test::Fail;
 
@@ -29,7 +29,7 @@ fn halves_end_and_begin(tree: &mut Tree) -> bool
 
 #[test]
 fn halves_end_and_begin_at_the_split(rt: HostRuntime) -> Result<(), Fail> {
-    let mut tree = two_columns(rt.alloc())?;
+    let mut tree = two_columns(rt.alloc(), Choices::new(rt.alloc()))?;
     assert!(rt; halves_end_and_begin(&mut tree));
     Ok(())
 }
@@ -65,9 +65,59 @@ fn root_split(tree: &mut Tree, col: u32, at: i128, want: Option<SplitFault>) -> 
 fn splits_of_other_columns_and_at_the_ends_are_refused(rt: HostRuntime) -> Result<(), Fail> {
     for at in 0..ROOT_SPLITS.len() {
         let (col, place, want) = ROOT_SPLITS[at];
-        let mut tree = two_columns(rt.alloc())?;
+        let mut tree = two_columns(rt.alloc(), Choices::new(rt.alloc()))?;
         assert!(rt; root_split(&mut tree, col, place, want), "case {at}");
     }
+    Ok(())
+}
+
+/// A node has this number, and its second column these sides and a choice that is made so.
+fn has_made(tree: &Tree, node: &Node, number: u64, sides: Sides, on: bool) -> bool
+    requires taken { IsTaken tree.now node.now }
+    requires columns { length tree.now.root.box ≡ 2 }
+{
+    let choice = tree.choice(node, 1);
+    is_node(tree, node, number, between(0, 3))
+        && tree.sides(node, 1) == sides
+        && !choice.is_open()
+        && !choice.is_plain()
+        && choice.is_on() == on
+}
+
+/// The root is split by the choice of its second column, which is 0 or from 2 to 3, whatever the number: off in the
+/// low half, and on in the high one. That can't be split there once more.
+fn is_split_by_choice(tree: &mut Tree) -> bool
+    requires flags { tree.old.integral ≡ true ∷ false ∷ [] }
+    requires columns { length tree.old.root.box ≡ 2 }
+{
+    let Some(root) = tree.next() else {
+        return false;
+    };
+    if split(tree, &root, 1, 1, 7) != Some(Ok((1, 2))) {
+        return false;
+    }
+    let (Some(low), Some(high)) = (tree.next(), tree.next()) else {
+        return false;
+    };
+    has_made(tree, &low, 1, between(0, 0), false)
+        && has_made(tree, &high, 2, between(2, 3), true)
+        && split(tree, &high, 1, 1, 7) == Some(Err(SplitFault::NotWhole))
+}
+
+#[test]
+fn an_open_choice_is_split(rt: HostRuntime) -> Result<(), Fail> {
+    let mut choices = Choices::new(rt.alloc());
+    choices.push(Choice::plain())?;
+    choices.push(Choice::open(between(2, 3)))?;
+    let mut tree = two_columns(rt.alloc(), choices)?;
+    assert!(rt; is_split_by_choice(&mut tree));
+    let by_choice = End::Split {
+        col: 1,
+        at: 7,
+        low: 1,
+        high: 2,
+    };
+    assert!(rt; tree.log().first().map(|entry| entry.end) == Some(by_choice));
     Ok(())
 }
 
@@ -104,18 +154,14 @@ fn keeps_the_stronger(tree: &mut Tree) -> bool
 
 #[test]
 fn the_stronger_change_counts(rt: HostRuntime) -> Result<(), Fail> {
-    let mut tree = two_columns(rt.alloc())?;
+    let mut tree = two_columns(rt.alloc(), Choices::new(rt.alloc()))?;
     assert!(rt; keeps_the_stronger(&mut tree));
     Ok(())
 }
 
 /// A change of the first column.
 fn change(side: Side, value: i64) -> Option<Change> {
-    Some(Change {
-        col: 0,
-        side,
-        value: Frac::from(value),
-    })
+    Some(Change::of_side(0, side, Frac::from(value)))
 }
 
 /// The changes of node 3, which is at least 2 and at most 2.
@@ -152,7 +198,7 @@ fn is_split_twice(tree: &mut Tree) -> bool
 
 #[test]
 fn changes_go_from_the_node_up(rt: HostRuntime) -> Result<(), Fail> {
-    let mut tree = two_columns(rt.alloc())?;
+    let mut tree = two_columns(rt.alloc(), Choices::new(rt.alloc()))?;
     assert!(rt; is_split_twice(&mut tree));
     Ok(())
 }
@@ -200,7 +246,7 @@ fn takes_the_least_first(tree: &mut Tree) -> bool {
 
 #[test]
 fn the_least_bound_comes_first(rt: HostRuntime) -> Result<(), Fail> {
-    let mut tree = two_columns(rt.alloc())?;
+    let mut tree = two_columns(rt.alloc(), Choices::new(rt.alloc()))?;
     assert!(rt; is_halved(&mut tree, Some(Frac::from(3))));
     assert!(rt; has_bound(&tree, 3));
     assert!(rt; takes_the_least_first(&mut tree));
@@ -231,7 +277,7 @@ fn are_ended(tree: &mut Tree) -> bool {
 
 #[test]
 fn ends_are_logged_in_their_order(rt: HostRuntime) -> Result<(), Fail> {
-    let mut tree = two_columns(rt.alloc())?;
+    let mut tree = two_columns(rt.alloc(), Choices::new(rt.alloc()))?;
     assert!(rt; is_halved(&mut tree, Some(Frac::from(3))) && are_ended(&mut tree));
     let split = End::Split {
         col: 0,
@@ -250,7 +296,7 @@ fn ends_are_logged_in_their_order(rt: HostRuntime) -> Result<(), Fail> {
 
 #[test]
 fn nodes_are_closed_from_a_cost(rt: HostRuntime) -> Result<(), Fail> {
-    let mut tree = two_columns(rt.alloc())?;
+    let mut tree = two_columns(rt.alloc(), Choices::new(rt.alloc()))?;
     assert!(rt; is_halved(&mut tree, Some(Frac::from(3))));
     tree.close_from(Frac::from(4));
     assert!(rt; tree.open_count() == 2);

@@ -1,52 +1,75 @@
 -- The verdict on a point holds, and every verdict but that a sum overflows settles whether the point is feasible.
-use Rattle.std.proofs.Common.{◌≡◌, ◌⊎◌, inl, inr, ℕ, suc, ◌+◌, ◌<◌, Bool, true, false, cond, not, ◌&&◌, List, [], ◌∷◌, Option, None, Some, Result, Ok, Err, length, slice_get, refl, sym, ap, ◌∙◌, subst, arith, true≢false}
+use Rattle.std.proofs.Common.{◌≡◌, ◌⊎◌, inl, inr, ℕ, zero, suc, ◌+◌, ◌<◌, Bool, true, false, cond, not, ◌&&◌, List, [], ◌∷◌, Option, None, Some, Result, Ok, Err, length, slice_get, refl, sym, ap, ◌∙◌, subst, arith, true≢false}
 use Rattle.std.specs.List.{AllByRecursion}
+use Rattle.std.proofs.lemmas.Bool.{and_parts, and_from}
 use Rattle.cip_rational.specs.Rational.{ℚ, zeroℚ, IsWhole, is_whole}
 use Rattle.cip_rational.proofs.Rational.Whole.{IsWhole_of_test, test_of_IsWhole}
 use Rattle.cip_frac.specs.declared.operations.Wide.{Wide as Overflow}
-use Rattle.cip_problem.specs.Program.{Sides, Row, Program}
+use Rattle.cip_problem.specs.Program.{Sides, Row, Choice, Program}
 use Rattle.cip_problem.specs.Activity.{activity, value_at}
 use Rattle.cip_problem.specs.Box.{Between, IsInBox, sides_at, is_between}
-use Rattle.cip_problem.proofs.Box.SideTests.{between_of_test, not_between_of_test}
+use Rattle.cip_problem.proofs.Box.SideTests.{between_of_test, test_of_between, not_between_of_test}
+use Rattle.cip_problem.specs.Choices.{choice_at, Allows, KeepsChoices}
 use Rattle.cip_problem.specs.Points.{IsSatisfied, AreWhole, IsFeasible, cost_of}
 use Rattle.cip_problem.proofs.Points.AtPlaces.{IsInBox-long, in_box_at, whole_at, satisfied_at}
 use Rattle.cip_problem.specs.WellFormed.{IsWellFormed, columns}
 use Rattle.cip_frac.specs.Outcomes.{dot_from}
 use Rattle.cip_frac.proofs.Outcomes.{dot_from-value}
+use Rattle.cip_lin.specs.ChoiceParts.{is_allowed}
+use Rattle.cip_lin.proofs.AllowedValues.{allowed_says, allowed_from, zero_allowed}
 use Rattle.cip_lin.specs.RowSums.{activity_from}
 use Rattle.cip_lin.proofs.RowSums.ActivityValue.{activity_from-zero}
 use Rattle.cip_model.specs.declared.verdicts.Place.{Place}
 use Rattle.cip_model.specs.declared.verdicts.Place.TheVariants.{Row as AtRow, Cost}
 use Rattle.cip_model.specs.declared.verdicts.Verdict.{Verdict}
 use Rattle.cip_model.specs.declared.verdicts.Verdict.TheVariants.{Feasible, BreaksBound, BreaksWhole, BreaksRow, Wide}
-use Rattle.cip_model.specs.Verdicts.{first_outside, first_not_whole, row_verdict, or_else, first_broken, cost_verdict, from_rows, from_wholes, from_bounds, verdict_of}
-use Rattle.cip_model.specs.Meaning.{IsOutside, IsFractional, IsBroken, RowOverflows, VerdictHolds}
+use Rattle.cip_model.specs.Verdicts.{is_kept, first_outside, first_not_whole, row_verdict, or_else, first_broken, cost_verdict, from_rows, from_wholes, from_bounds, verdict_of}
+use Rattle.cip_model.specs.Meaning.{IsKept, IsOutside, IsFractional, IsBroken, RowOverflows, VerdictHolds}
 
--- ---- bounds
+-- ---- bounds and choices
 
--- a place, counted from `at`, whose value is outside its sides
-record OutsideFrom (at : ℕ) (box : List Sides) (point : List ℚ) (column : ℕ) : Type 0 where
+kept_says : (sides : Sides) (choice : Choice) (value : ℚ) → is_kept sides choice value ≡ true → IsKept sides choice value
+kept_says sides choice value e =
+    let parts = and_parts (is_between sides.low sides.high value) (is_allowed choice value) e in
+    record { between = between_of_test sides.low sides.high value parts.0; allowed = allowed_says choice value parts.1 }
+
+not_kept_says : (sides : Sides) (choice : Choice) (value : ℚ) → is_kept sides choice value ≡ false → ¬ IsKept sides choice value
+not_kept_says sides choice value e h =
+    true≢false (sym (and_from (is_between sides.low sides.high value) (is_allowed choice value) (test_of_between sides.low sides.high value h.between) (allowed_from choice value h.allowed)) ∙ e)
+
+-- a place, counted from `at`, whose value is outside its sides or isn't allowed
+record OutsideFrom (at : ℕ) (box : List Sides) (choices : List Choice) (point : List ℚ) (column : ℕ) : Type 0 where
   pub place : ℕ
-  pub is : column ≡ at + place
+  pub is : at + place ≡ column
   pub is_place : place < length box
-  pub outside : ¬ Between (sides_at box place).low (sides_at box place).high (value_at point place)
+  pub outside : ¬ IsKept (sides_at box place) (choice_at choices column) (value_at point place)
 
--- where there is no first place outside, the point is in the box
-abbrev FirstOutsideSays : ℕ → List Sides → List ℚ → Option ℕ → Type 0
-FirstOutsideSays at box point None = IsInBox box point
-FirstOutsideSays at box point (Some column) = OutsideFrom at box point column
+-- the values from `at` on are allowed
+abbrev AllowFrom : ℕ → List Choice → List ℚ → Type 0
+AllowFrom at choices point = (place : ℕ) → Allows (choice_at choices (at + place)) (value_at point place)
 
-bounds_cons : (at : ℕ) (s : Sides) (box : List Sides) (v : ℚ) (point : List ℚ) (rest : Option ℕ) (t : Bool) → is_between s.low s.high v ≡ t → FirstOutsideSays (at + 1) box point rest → FirstOutsideSays at (s ∷ box) (v ∷ point) (cond t rest (Some at))
-bounds_cons at s box v point None true e h = (between_of_test s.low s.high v e, h)
-bounds_cons at s box v point (Some column) true e h = record { place = suc h.place; is = omega (arith, h.is); is_place = omega (arith, h.is_place); outside = h.outside }
-bounds_cons at s box v point rest false e h = record { place = 0; is = omega arith; is_place = omega arith; outside = not_between_of_test s.low s.high v e }
+-- where there is no first place outside, the point is in the box, and its values are allowed
+abbrev FirstOutsideSays : ℕ → List Sides → List Choice → List ℚ → Option ℕ → Type 0
+FirstOutsideSays at box choices point None = IsInBox box point × AllowFrom at choices point
+FirstOutsideSays at box choices point (Some column) = OutsideFrom at box choices point column
 
-first_outside_holds : (at : ℕ) (box : List Sides) (point : List ℚ) → length box ≡ length point → FirstOutsideSays at box point (first_outside at box point)
-first_outside_holds at [] [] e = tt
-first_outside_holds at [] (v ∷ vs) e = absurd (omega (arith, e))
-first_outside_holds at (s ∷ ss) [] e = absurd (omega (arith, e))
-first_outside_holds at (s ∷ ss) (v ∷ vs) e =
-    bounds_cons at s ss v vs (first_outside (at + 1) ss vs) (is_between s.low s.high v) refl (first_outside_holds (at + 1) ss vs (omega (arith, e)))
+allow_more : (at : ℕ) (choices : List Choice) (v : ℚ) (point : List ℚ) → Allows (choice_at choices at) v → AllowFrom (at + 1) choices point → AllowFrom at choices (v ∷ point)
+allow_more at choices v point h k zero = subst (λ n. Allows (choice_at choices n) v) (omega arith) h
+allow_more at choices v point h k (suc place) = subst (λ n. Allows (choice_at choices n) (value_at point place)) (omega arith) (k place)
+
+bounds_cons : (at : ℕ) (s : Sides) (box : List Sides) (choices : List Choice) (v : ℚ) (point : List ℚ) (rest : Option ℕ) (t : Bool) → is_kept s (choice_at choices at) v ≡ t → FirstOutsideSays (at + 1) box choices point rest → FirstOutsideSays at (s ∷ box) choices (v ∷ point) (cond t rest (Some at))
+bounds_cons at s box choices v point None true e h =
+    let kept = kept_says s (choice_at choices at) v e in
+    ((kept.between, h.0), allow_more at choices v point kept.allowed h.1)
+bounds_cons at s box choices v point (Some column) true e h = record { place = suc h.place; is = omega (arith, h.is); is_place = omega (arith, h.is_place); outside = h.outside }
+bounds_cons at s box choices v point rest false e h = record { place = 0; is = omega arith; is_place = omega arith; outside = not_kept_says s (choice_at choices at) v e }
+
+first_outside_holds : (at : ℕ) (box : List Sides) (choices : List Choice) (point : List ℚ) → length box ≡ length point → FirstOutsideSays at box choices point (first_outside at box choices point)
+first_outside_holds at [] choices [] e = (tt, λ place. zero_allowed (choice_at choices (at + place)))
+first_outside_holds at [] choices (v ∷ vs) e = absurd (omega (arith, e))
+first_outside_holds at (s ∷ ss) choices [] e = absurd (omega (arith, e))
+first_outside_holds at (s ∷ ss) choices (v ∷ vs) e =
+    bounds_cons at s ss choices v vs (first_outside (at + 1) ss choices vs) (is_kept s (choice_at choices at) v) refl (first_outside_holds (at + 1) ss choices vs (omega (arith, e)))
 
 -- ---- whole columns
 
@@ -149,19 +172,23 @@ module _ (program : Program) (point : List ℚ) where
       let e : h.place ≡ column = omega (arith, h.is) in
       subst (λ n. IsFractional program point n) e (record { integral = h.integral_there; not_whole = h.not_whole })
 
-  bounds_case : IsWellFormed program → (first : Option ℕ) (next : Verdict) → FirstOutsideSays 0 program.bounds point first → (IsInBox program.bounds point → VerdictHolds program point next) → VerdictHolds program point (from_bounds first next)
-  bounds_case formed None next h f = f h
+  bounds_case : IsWellFormed program → (first : Option ℕ) (next : Verdict) → FirstOutsideSays 0 program.bounds program.choices point first → (IsInBox program.bounds point → KeepsChoices program.choices point → VerdictHolds program point next) → VerdictHolds program point (from_bounds first next)
+  bounds_case formed None next h f =
+      f h.0 (λ column. let e : 0 + column ≡ column = omega arith in subst (λ n. Allows (choice_at program.choices n) (value_at point column)) e (h.1 column))
   bounds_case formed (Some column) next h f =
       let e : h.place ≡ column = omega (arith, h.is) in
-      subst (λ n. IsOutside program point n) e (record { is_column = omega (arith, h.is_place, formed.bounds); outside = h.outside })
+      record {
+        is_column = omega (arith, h.is_place, e, formed.bounds);
+        outside = subst (λ n. ¬ IsKept (sides_at program.bounds n) (choice_at program.choices column) (value_at point n)) e h.outside;
+      }
 
   -- the verdict on a point with a value for each column holds
   pub verdict_holds : IsWellFormed program → length point ≡ columns program → VerdictHolds program point (verdict_of program point)
   verdict_holds formed long =
-      bounds_case formed (first_outside 0 program.bounds point) _ (first_outside_holds 0 program.bounds point (formed.bounds ∙ sym long))
-      (λ within. wholes_case (first_not_whole 0 program.integral point) _ (first_not_whole_holds 0 program.integral point (formed.integral ∙ sym long))
+      bounds_case formed (first_outside 0 program.bounds program.choices point) _ (first_outside_holds 0 program.bounds program.choices point (formed.bounds ∙ sym long))
+      (λ within choices. wholes_case (first_not_whole 0 program.integral point) _ (first_not_whole_holds 0 program.integral point (formed.integral ∙ sym long))
       (λ wholes. rows_case (first_broken 0 program.rows point) _ (first_broken_holds 0 program.rows point)
-      (λ rows. cost_case (dot_from program.constant program.costs point) refl (record { within = within; whole = wholes; rows = rows }))))
+      (λ rows. cost_case (dot_from program.constant program.costs point) refl (record { within = within; whole = wholes; choices = choices; rows = rows }))))
 
   pub verdict_is_right : (verdict : Verdict) → verdict ≡ verdict_of program point → IsWellFormed program → length point ≡ columns program → VerdictHolds program point verdict
   verdict_is_right verdict e formed long = rw e (verdict_holds formed long)
@@ -169,7 +196,7 @@ module _ (program : Program) (point : List ℚ) where
   -- ---- what callers may conclude
 
   outside_is_infeasible : (column : ℕ) → IsOutside program point column → ¬ IsFeasible program point
-  outside_is_infeasible column h k = h.outside (in_box_at program.bounds point column k.within)
+  outside_is_infeasible column h k = h.outside (record { between = in_box_at program.bounds point column k.within; allowed = k.choices column })
 
   fractional_is_infeasible : (column : ℕ) → IsFractional program point column → ¬ IsFeasible program point
   fractional_is_infeasible column h k = h.not_whole (whole_at program.integral point column k.whole h.integral)

@@ -1,21 +1,23 @@
 -- What the test of a ray says.
-use Rattle.std.proofs.Common.{◌≡◌, ℕ, zero, suc, Bool, true, false, not, ◌||◌, List, [], ◌∷◌, Option, None, Some, IfSome, Result, Ok, Err, length, refl, sym, ap, ◌∙◌, subst, arith, true≢false}
+use Rattle.std.proofs.Common.{◌≡◌, ℕ, zero, suc, Bool, true, false, not, ◌||◌, List, [], ◌∷◌, Option, None, Some, IfSome, Result, Ok, Err, length, slice_get, refl, sym, ap, ◌∙◌, subst, arith, true≢false}
 use Rattle.std.specs.Prelude.{IsErr}
 use Rattle.std.specs.List.{AllZip, AllByRecursion}
 use Rattle.std.proofs.lemmas.Bool.{and_parts, and_from}
 use Rattle.std.proofs.lemmas.Option.{none-some, same_Some}
 use Rattle.cip_rational.specs.Rational.{ℚ, ◌+ℚ◌, ◌*ℚ◌, zeroℚ, ◌≤ℚ◌, ◌<ℚ◌, IsWhole}
 use Rattle.cip_rational.specs.Sums.{dot}
-use Rattle.cip_rational.proofs.Rational.Order.{le_of_test, test_of_le, lt_of_test, test_of_lt}
+use Rattle.cip_rational.proofs.Rational.Order.{≤ℚ_antisymm, le_of_test, test_of_le, lt_of_test, test_of_lt}
 use Rattle.cip_rational.proofs.Rational.Ring.{zero-+ℚ, +ℚ-zero, +ℚ_assoc, *ℚ-zero}
 use Rattle.cip_frac.specs.declared.operations.Wide.{Wide as Overflow}
 use Rattle.cip_frac.specs.Order.{same_rational, same_from_equal, equal_from_same}
 use Rattle.cip_frac.specs.Outcomes.{dot_from}
 use Rattle.cip_frac.proofs.Outcomes.{dot_from-value}
-use Rattle.cip_problem.specs.Program.{Sides, Row, Program}
-use Rattle.cip_problem.specs.Activity.{activity}
+use Rattle.cip_problem.specs.Program.{Sides, Row, Choice, Plain, Open, Off, On, Program}
+use Rattle.cip_problem.specs.Activity.{activity, value_at}
+use Rattle.cip_problem.specs.Box.{IsInBox, sides_at}
+use Rattle.cip_problem.specs.Choices.{choice_at, Allows, KeepsChoices, greater, open_sides}
 use Rattle.cip_problem.specs.Points.{AreWhole, IsFeasible, cost_of}
-use Rattle.cip_problem.specs.WellFormed.{IsWellFormed, columns}
+use Rattle.cip_problem.specs.WellFormed.{IsChoice, IsWellFormed, columns}
 use Rattle.cip_linear.specs.LinearProgram.{LinearProgram, IsPoint, StaysBetween, IsRay as IsLinearRay, moved}
 use Rattle.cip_linear.proofs.Rays.{ray_points, ray_cost}
 use Rattle.cip_lin.specs.RowSums.{activity_from}
@@ -204,15 +206,54 @@ whole_kept (w ∷ ws) (v ∷ vs) (c ∷ cs) far h k = (
   whole_kept ws vs cs far h.1 k.1,
 )
 
+-- ---- values that the choices allow
+
+-- a column stays between the sides of an open choice only where it doesn't change
+pub still_open : (own : Sides) (change : ℚ) → StaysBetween (open_sides own).low (open_sides own).high change → change ≡ zeroℚ
+still_open own change h = ≤ℚ_antisymm (not_up own.high h.not_up) h.not_down
+  where
+    not_up : (high : Option ℚ) → IfSome (greater (Some zeroℚ) high) (λ _. change ≤ℚ zeroℚ) → change ≤ℚ zeroℚ
+    not_up None k = k
+    not_up (Some side) k = k
+
+-- the change of a column stays between its sides
+stays_at : (box : List Sides) (ray : List ℚ) (column : ℕ) → KeepsBounds box ray → StaysBetween (sides_at box column).low (sides_at box column).high (value_at ray column)
+stays_at [] ray column h = record { not_down = tt; not_up = tt }
+stays_at (s ∷ ss) [] column h = absurd h
+stays_at (s ∷ ss) (c ∷ cs) zero h = h.0
+stays_at (s ∷ ss) (c ∷ cs) (suc column) h = stays_at ss cs column h.1
+
+-- where a column doesn't change, its value is the same
+value_kept : (box : List Sides) (point ray : List ℚ) (far : ℚ) (column : ℕ) → IsInBox box point → KeepsBounds box ray → value_at ray column ≡ zeroℚ → value_at (moved point far ray) column ≡ value_at point column
+value_kept [] [] [] far column h k e = refl
+value_kept [] [] (c ∷ cs) far column h k e = absurd k
+value_kept [] (v ∷ vs) ray far column h k e = absurd h
+value_kept (s ∷ ss) [] ray far column h k e = absurd h
+value_kept (s ∷ ss) (v ∷ vs) [] far column h k e = absurd k
+value_kept (s ∷ ss) (v ∷ vs) (c ∷ cs) far zero h k e = ap (λ t. v +ℚ far *ℚ t) e ∙ (ap (λ t. v +ℚ t) (*ℚ-zero far) ∙ +ℚ-zero v)
+value_kept (s ∷ ss) (v ∷ vs) (c ∷ cs) far (suc column) h k e = value_kept ss vs cs far column h.1 k.1 e
+
+choice_kept : (program : Program) (point ray : List ℚ) (far : ℚ) (column : ℕ) (choice : Choice) → IsInBox program.bounds point → KeepsBounds program.bounds ray → IsChoice choice (slice_get program.integral column) (sides_at program.bounds column) → Allows choice (value_at point column) → Allows choice (value_at (moved point far ray) column)
+choice_kept program point ray far column Plain h k f a = tt
+choice_kept program point ray far column (Open own) h k f a =
+    let still = still_open own (value_at ray column) (subst (λ (s : Sides). StaysBetween s.low s.high (value_at ray column)) f.open_ (stays_at program.bounds ray column k)) in
+    subst (Allows (Open own)) (sym (value_kept program.bounds point ray far column h k still)) a
+choice_kept program point ray far column Off h k f a = tt
+choice_kept program point ray far column On h k f a = tt
+
+choices_kept : (program : Program) (point ray : List ℚ) (far : ℚ) → IsWellFormed program → IsFeasible program point → KeepsBounds program.bounds ray → KeepsChoices program.choices (moved point far ray)
+choices_kept program point ray far formed h k column =
+    choice_kept program point ray far column (choice_at program.choices column) h.within k (formed.choices column) (h.choices column)
+
 abbrev relaxed : Program → LinearProgram
 relaxed program = record { rows = program.rows; bounds = program.bounds; costs = program.costs }
 
-pub falls_along : (program : Program) (point ray : List ℚ) → IsFeasible program point → IsRay program ray → FallsAlong program point ray
-falls_along program point ray h k =
+pub falls_along : (program : Program) (point ray : List ℚ) → IsWellFormed program → IsFeasible program point → IsRay program ray → FallsAlong program point ray
+falls_along program point ray formed h k =
     let p : IsPoint (relaxed program) point = record { within = h.within; rows = h.rows } in
     let r : IsLinearRay (relaxed program) ray = record { within = k.within; rows = k.rows; falls = k.falls } in
     record {
-      points = λ far f. (let m = ray_points (relaxed program) point ray far p r f in record { within = m.within; whole = whole_kept program.integral point ray far h.whole k.still; rows = m.rows });
+      points = λ far f. (let m = ray_points (relaxed program) point ray far p r f in record { within = m.within; whole = whole_kept program.integral point ray far h.whole k.still; choices = choices_kept program point ray far formed h k.within; rows = m.rows });
       cost = λ far. ap (λ t. program.constant +ℚ t) (ray_cost (relaxed program) point ray far) ∙ sym (+ℚ_assoc program.constant (dot program.costs point) (far *ℚ dot program.costs ray));
       falls = k.falls;
     }
@@ -235,8 +276,8 @@ module _ (program : Program) (point ray : List ℚ) where
   pub cost_kept : (costs : List ℚ) → costs ≡ program.costs → IsShownRay program point ray → cost_falls (dot_from zeroℚ costs ray) ≡ true
   cost_kept costs b h = rw b (cost_test program point ray h)
 
-  pub feasible_along : IsFeasible program point → IsShownRay program point ray → FallsAlong program point ray
-  feasible_along h k = falls_along program point ray h k.is_ray
+  pub feasible_along : IsWellFormed program → IsFeasible program point → IsShownRay program point ray → FallsAlong program point ray
+  feasible_along formed h k = falls_along program point ray formed h k.is_ray
 
   pub shown_by : (cost : ℚ) → IsWellFormed program → length ray ≡ columns program → verdict_of program point ≡ Feasible cost → VerdictHolds program point (Feasible cost) → all_stay program.bounds ray ≡ true → all_still program.integral ray ≡ true → rows_stay program.rows ray ≡ true → cost_falls (dot_from zeroℚ program.costs ray) ≡ true → IsShownRay program point ray
   shown_by cost formed long v h =

@@ -5,7 +5,7 @@ use Rattle.cip_problem.specs.Box.{Between, sides_at}
 use Rattle.cip_problem.specs.Wholes.{HasWhole, AllHaveWholes}
 use Rattle.cip_problem.proofs.Box.SideTests.{between_of_test}
 use Rattle.cip_domain.proofs.Boxes.{length-narrowed}
-use Rattle.cip_tree.specs.Nodes.{node_changes, box_of}
+use Rattle.cip_tree.specs.Nodes.{region_in, node_changes, box_of}
 use Rattle.cip_tree_tests.proofs.splits.has_between.Goals as goal
 
 -- the first of two columns has a whole value, and the other wants none
@@ -23,5 +23,5 @@ returns c = λ yes.
           (between_of_test c.sides.result.low c.sides.result.high c.from.result (sym c.contains.ensures ∙ yes));
     } in
     subst (λ l. AllHaveWholes l (box_of c.args.tree.now c.args.node.now)) (sym c.requires.flags)
-    (wide (box_of c.args.tree.now c.args.node.now) (length-narrowed c.args.tree.now.root.box (node_changes c.args.tree.now c.args.node.now) ∙ c.requires.columns)
+    (wide (box_of c.args.tree.now c.args.node.now) (length-narrowed (region_in c.args.tree.now.root) (node_changes c.args.tree.now c.args.node.now) ∙ c.requires.columns)
     (subst HasWhole c.sides.ensures whole))

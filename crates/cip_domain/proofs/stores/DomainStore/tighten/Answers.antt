@@ -1,20 +1,24 @@
-use Rattle.std.proofs.Common.{◌≡◌, ◌<◌, ◌++◌, ◌∷◌, [], Some, ◌∙◌, ap, refl, arith, set, length}
+use Rattle.std.proofs.Common.{◌≡◌, false, true, Some, ◌∙◌, sym, ap}
 use Rattle.cip_problem.specs.Box.{sides_at}
-use Rattle.cip_domain.specs.Changes.{side_of, with_side}
-use Rattle.cip_domain.specs.Trail.{boxes_before}
-use Rattle.cip_domain.proofs.Trails.{boxes_before_changed, domain_same}
+use Rattle.cip_problem.specs.Choices.{choice_at}
+use Rattle.cip_domain.specs.Changes.{with_side, is_as_strong}
+use Rattle.cip_domain.specs.Domain.{region_of, stepped}
+use Rattle.cip_domain.proofs.OneSide.{strong_stays, weak_changes}
 use Rattle.cip_domain.proofs.stores.DomainStore.tighten.Goals as goal
 
-pub returns-clause-after : goal.returns-clause-after
-returns-clause-after c =
-    let same = ap (λ d. d.box) c.self.view_is in
-    let at : c.sides-sides.result ≡ sides_at c.self.inside.bounds c.args.col = c.sides-sides.ensures in
-    let box : c.set_sides.new.self ≡ set c.self.inside.bounds c.args.col (with_side (sides_at c.self.inside.bounds c.args.col) c.args.side (Some c.args.value)) = rw (c.set_sides.ensures, c.with_value.ensures, at) refl in
-    let items : c.push_reserved.new.self.items ≡ c.self.inside.trail.items ++ record { col = c.args.col; side = c.args.side; value = side_of (sides_at c.self.inside.bounds c.args.col) c.args.side } ∷ [] = rw (c.push_reserved.ensures.items, c.side_at.ensures, at) refl in
-    let column : c.args.col < length c.self.inside.bounds = omega (arith, c.requires.column, ap length same) in
-    let before : boxes_before c.set_sides.new.self c.push_reserved.new.self.items ≡ boxes_before c.self.inside.bounds c.self.inside.trail.items ++ c.self.inside.bounds ∷ [] =
-    rw (box, items) (boxes_before_changed c.self.inside.bounds c.self.inside.trail.items c.args.col c.args.side c.args.value column) in
-    domain_same _ _ _ _ _ _
-    (box ∙ ap (λ b. set b c.args.col (with_side (sides_at b c.args.col) c.args.side (Some c.args.value))) same)
-    (before ∙ ap (λ d. d.before ++ d.box ∷ []) c.self.view_is)
-    (omega (arith, ap (λ d. d.spare) c.self.view_is, c.push_reserved.ensures.len, c.push_reserved.ensures.capacity))
+pub returns-then-is_strong-clause-narrows : goal.returns-then-is_strong-clause-narrows
+returns-then-is_strong-clause-narrows c = λ _.
+    let at = c.sides-sides.ensures ∙ ap (λ d. sides_at d.box c.args.col) c.self.view_is in
+    let strong : is_as_strong (sides_at c.args.self.now.box c.args.col) c.args.side c.args.value ≡ true = ap (λ s. is_as_strong s c.args.side c.args.value) (sym at) ∙ sym c.is_strong.ensures ∙ c.if-is_strong.true in
+    strong_stays (region_of c.args.self.now) c.args.col c.args.side c.args.value strong
+
+pub returns-clause-narrows : goal.returns-clause-narrows
+returns-clause-narrows c = λ _.
+    let at = c.sides-sides.ensures ∙ ap (λ d. sides_at d.box c.args.col) c.self.view_is in
+    let weak : is_as_strong (sides_at c.args.self.now.box c.args.col) c.args.side c.args.value ≡ false = ap (λ s. is_as_strong s c.args.side c.args.value) (sym at) ∙ sym c.is_strong.ensures ∙ c.if-is_strong.false in
+    let choice = c.choice-choice.ensures ∙ ap (λ d. choice_at d.choices c.args.col) c.self.view_is in
+    let now : c.step.new.self ≡ stepped c.args.self.now c.args.col (with_side (sides_at c.args.self.now.box c.args.col) c.args.side (Some c.args.value)) (choice_at c.args.self.now.choices c.args.col) =
+    c.step.ensures
+    ∙ ap (λ s. stepped c.args.self.now c.args.col s c.choice-choice.result) (c.with_value.ensures ∙ ap (λ s. with_side s c.args.side (Some c.args.value)) at)
+    ∙ ap (stepped c.args.self.now c.args.col (with_side (sides_at c.args.self.now.box c.args.col) c.args.side (Some c.args.value))) choice in
+    ap region_of now ∙ weak_changes (region_of c.args.self.now) c.args.col c.args.side c.args.value weak

@@ -1,11 +1,11 @@
 use Rattle.std.proofs.Common.{ℕ, ◌≡◌, ◌+◌, ◌≤◌, length, take}
-use Rattle.cip_domain.specs.Domain.{Domain, boxes}
+use Rattle.cip_domain.specs.Domain.{Domain, regions}
 use Rattle.cip_domain.proofs.stores.DomainStore.undo_to.Given as goal
 
--- the boxes so far are the first of those at the start, and the room of the rest is free
+-- the regions so far are the first of those at the start, and the room of the rest is free
 pub record Undone (first now : Domain) (mark : ℕ) : Type 0 where
   pub held : mark ≤ length now.before
-  pub boxes_are : boxes now ≡ take (length now.before + 1) (boxes first)
+  pub regions_are : regions now ≡ take (length now.before + 1) (regions first)
   pub room : now.spare + length now.before ≡ first.spare + length first.before
 
 abbrev pub invariant-loop-mark : goal.invariant-loop-mark

@@ -37,4 +37,4 @@ returns-clause-shown c =
 pub returns-clause-falls : goal.returns-clause-falls
 returns-clause-falls c =
     let m : VerdictHolds c.args.self.now c.args.point.now (Feasible c.in-Feasible.field-0) = search rules in
-    λ h. feasible_along c.args.self.now c.args.point.now c.args.ray.now m.0 ((returns-clause-shown c).0 h)
+    λ h. feasible_along c.args.self.now c.args.point.now c.args.ray.now c.costs.ensures.formed m.0 ((returns-clause-shown c).0 h)

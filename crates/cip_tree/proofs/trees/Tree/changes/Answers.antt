@@ -1,4 +1,6 @@
-use Rattle.std.proofs.Common.{◌≡◌, ◌++◌, Some, None, get_or, reverse, ap, sym, ◌∙◌}
+use Rattle.cip_tree.specs.Notes.{noted}
+use Rattle.cip_tree.specs.declared.notes.Note.{Note}
+use Rattle.std.proofs.Common.{List, ◌≡◌, ◌++◌, Some, None, get_or, ap, sym, ◌∙◌}
 use Rattle.cip_tree.specs.Nodes.{Nodes, TakenNode, base_at, base_changes}
 use Rattle.cip_tree.specs.Inside.{bases}
 use Rattle.cip_tree.specs.Slots.{above}
@@ -17,4 +19,4 @@ returns c =
     let number = c.requires.same ∙ sym (ap (λ (x : TakenNode). x.number) c.node.view_is) in
     let e = linked_changes c.self.inside.kept.slots c.node.inside.place c.node.inside.id c.requires.base c.origin_at.result w number c.origin_at.ensures in
     rw (← c.self.view_is, ← c.node.view_is)
-    (ap (λ l. reverse l ++ above c.node.inside.id c.self.inside.kept.slots c.origin_at.result) c.as_slice.ensures.value ∙ ap (λ l. reverse c.node.inside.notes.items ++ l) (e ∙ ap base_changes (sym w)))
+    (ap (λ (l : List Note). noted l ++ above c.node.inside.id c.self.inside.kept.slots c.origin_at.result) c.as_slice.ensures.value ∙ ap (λ l. noted c.node.inside.notes.items ++ l) (e ∙ ap base_changes (sym w)))

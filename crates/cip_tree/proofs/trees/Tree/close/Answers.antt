@@ -1,6 +1,6 @@
+use Rattle.cip_tree.specs.Nodes.{node_in}
 use Rattle.std.proofs.Common.{◌≡◌, Some, None, map, get_or, sym, ap, ◌∙◌, subst, arith}
 use Rattle.std.proofs.lemmas.List.{map-append}
-use Rattle.cip_problem.specs.Log.{Node}
 use Rattle.cip_tree.specs.Entries.{entry_of}
 use Rattle.cip_tree.specs.Nodes.{Nodes, TakenNode, base_at}
 use Rattle.cip_tree.specs.Inside.{bases}
@@ -38,8 +38,8 @@ invariant_of-self c =
         parked = omega (arith, room.parked);
         log = omega (arith, room.log, some, c.push_reserved.ensures.len, c.push_reserved.ensures.capacity);
       },
-      subst (IsTracked (let n : Node = record { number = 0; box = c.self.inside.root; bound = c.self.inside.root_bound } in n) c.self.inside.whole.items c.release.new.kept.slots c.self.inside.ids) (sym log)
-          (tracked_closed (let n : Node = record { number = 0; box = c.self.inside.root; bound = c.self.inside.root_bound } in n) c.self.inside.whole.items c.self.inside.kept.slots c.release.new.kept.slots c.self.inside.ids (map entry_of c.self.inside.log.items) c.self.invariant.2 c.self.invariant.0.kept c.node.inside.place c.requires.base w c.node.inside.id c.node.inside.bound number c.release.ensures.slots c.release.ensures.kept),
+      subst (IsTracked (node_in c.self.inside.root 0 c.self.inside.root_bound) c.self.inside.whole.items c.release.new.kept.slots c.self.inside.ids) (sym log)
+          (tracked_closed (node_in c.self.inside.root 0 c.self.inside.root_bound) c.self.inside.whole.items c.self.inside.kept.slots c.release.new.kept.slots c.self.inside.ids (map entry_of c.self.inside.log.items) c.self.invariant.2 c.self.invariant.0.kept c.node.inside.place c.requires.base w c.node.inside.id c.node.inside.bound number c.release.ensures.slots c.release.ensures.kept),
     )
 
 pub returns-clause-taken : goal.returns-clause-taken

@@ -1,6 +1,6 @@
+use Rattle.cip_tree.specs.Nodes.{node_in}
 use Rattle.std.proofs.Common.{subst, sym, arith, filter, refl, ◌≤◌, ℕ, count_by}
 use Rattle.std.specs.List.Sorted.{IsPermutation}
-use Rattle.cip_problem.specs.Log.{Node}
 use Rattle.cip_tree.specs.Entries.{entries_of}
 use Rattle.cip_tree.specs.Nodes.{Nodes}
 use Rattle.cip_tree.specs.Moves.{is_cheaper}
@@ -26,7 +26,7 @@ invariant_of-self c =
         parked = omega (arith, room.parked, shorter);
         log = omega (arith, room.log, shorter);
       },
-      tracked_freed (let n : Node = record { number = 0; box = c.self.inside.root; bound = c.self.inside.root_bound } in n) c.self.inside.whole.items c.self.inside.kept.slots c.release_from.new.kept.slots c.self.inside.ids (entries_of c.self.inside.log.items) c.self.invariant.2 c.self.invariant.0.kept _ freed c.release_from.ensures.kept,
+      tracked_freed (node_in c.self.inside.root 0 c.self.inside.root_bound) c.self.inside.whole.items c.self.inside.kept.slots c.release_from.new.kept.slots c.self.inside.ids (entries_of c.self.inside.log.items) c.self.invariant.2 c.self.invariant.0.kept _ freed c.release_from.ensures.kept,
     )
 
 pub returns-then-reaches-clause-nodes : goal.returns-then-reaches-clause-nodes

@@ -1,5 +1,5 @@
+use Rattle.cip_tree.specs.Nodes.{node_in}
 use Rattle.std.proofs.Common.{◌≡◌, ◌∷◌, [], List, rules, ap, sym, ◌∙◌, subst, refl, arith, length}
-use Rattle.cip_problem.specs.Log.{Node}
 use Rattle.cip_tree.specs.declared.queue.OpenNode.{OpenNode}
 use Rattle.cip_tree.specs.Inside.{IsInOrder, nodes_at}
 use Rattle.cip_tree.proofs.Starts.{root_order, root_nodes, root_bases}
@@ -21,7 +21,7 @@ invariant_of-result c =
         parked = omega (arith, one, c.in_ok-parked.ensures.len, c.in_ok-parked.ensures.exact);
         log = omega (arith, one, c.in_ok-log.ensures.len, c.in_ok-log.ensures.exact);
       },
-      subst (λ l. IsTracked (let n : Node = record { number = 0; box = c.args.root; bound = c.args.bound } in n) c.in_ok-whole.whole.items c.in_ok-kept.field-0.kept.slots 1 (entries_of l)) (sym c.in_ok-log.ensures.items)
+      subst (λ l. IsTracked (node_in c.args.root 0 c.args.bound) c.in_ok-whole.whole.items c.in_ok-kept.field-0.kept.slots 1 (entries_of l)) (sym c.in_ok-log.ensures.items)
           (tracked_root c.args.root c.in_ok-whole.whole.items c.args.bound c.in_ok-kept.field-0.kept.slots c.in_ok-kept.field-0.place c.in_ok-kept.ensures.0 c.in_ok-kept.ensures.1),
     )
 
@@ -29,7 +29,7 @@ pub returns : goal.returns
 returns c =
     let place : c.first_node.result.place ≡ c.in_ok-kept.field-0.place = cc (ap (λ (e : OpenNode). e.place) c.first_node.ensures, c.in_ok-kept.place-is) in
     let shown = ap (nodes_at c.args.root c.in_ok-kept.field-0.kept.slots) c.in_ok-queue.ensures ∙ root_nodes c.in_ok-kept.field-0.kept.slots c.in_ok-kept.field-0.place c.in_ok-kept.ensures.0 c.in_ok-kept.ensures.1 c.args.root c.first_node.result place in
-    let same = ap (λ (e : OpenNode). (let n : Node = record { number = e.id; box = c.args.root; bound = e.bound } in n) ∷ []) c.first_node.ensures in
+    let same = ap (λ (e : OpenNode). node_in c.args.root e.id e.bound ∷ []) c.first_node.ensures in
     record {
       open_ = shown ∙ same;
       root = refl;

@@ -1,7 +1,8 @@
-use Rattle.std.proofs.Common.{◌∷◌, ◌++◌, [], reverse, sym, subst, refl, arith}
+use Rattle.cip_tree.specs.Nodes.{node_in}
+use Rattle.cip_tree.specs.Notes.{noted}
+use Rattle.std.proofs.Common.{◌∷◌, ◌++◌, [], sym, subst, refl, arith}
 use Rattle.std.specs.List.Sorted.{IsPermutation}
 use Rattle.std.proofs.lemmas.List.Sorted.{length_permutation}
-use Rattle.cip_problem.specs.Log.{Node}
 use Rattle.cip_domain.specs.Changes.{narrowed}
 use Rattle.cip_tree.specs.Entries.{entries_of}
 use Rattle.cip_tree.specs.Nodes.{base_changes}
@@ -25,7 +26,7 @@ invariant_of-self-2 c =
         parked = omega (arith, room.parked, shorter);
         log = omega (arith, room.log, shorter);
       },
-      tracked_first (let n : Node = record { number = 0; box = c.self.inside.root; bound = c.self.inside.root_bound } in n) c.self.inside.whole.items c.self.inside.kept.slots c.restage-notes.new.kept.slots c.self.inside.ids (entries_of c.self.inside.log.items) c.self.invariant.2 c.self.invariant.0.kept c.in_ok-first.first c.restage-notes.result.items _
+      tracked_first (node_in c.self.inside.root 0 c.self.inside.root_bound) c.self.inside.whole.items c.self.inside.kept.slots c.restage-notes.new.kept.slots c.self.inside.ids (entries_of c.self.inside.log.items) c.self.invariant.2 c.self.invariant.0.kept c.in_ok-first.first c.restage-notes.result.items _
           (first_stands c.self.inside.root c.self.inside.kept.slots c.restage-notes.new.kept.slots c.in_ok-first.first [] [] c.self.inside.queue.nodes c.pop.new.self.nodes c.self.inside.parked.items c.self.inside.ids c.self.inside.in_work c.self.invariant.0 c.in_ok-first.ensures.0)
           c.restage-notes.ensures.slots,
     )
@@ -34,7 +35,7 @@ pub returns : goal.returns
 returns c =
     let found = first_found c.self.inside.root c.self.inside.kept.slots c.restage-notes.new.kept.slots c.in_ok-first.first c.restage-notes.result.items c.new-none.result.items c.self.inside.queue.nodes c.pop.new.self.nodes c.self.inside.parked.items c.self.inside.ids c.self.inside.in_work c.self.invariant.0 c.in_ok-first.ensures.0 c.restage-notes.ensures.slots c.new-none.ensures.items in
     let nodes = first_nodes c.self.inside.root c.self.inside.kept.slots c.restage-notes.new.kept.slots c.in_ok-first.first c.restage-notes.result.items c.new-none.result.items c.self.inside.queue.nodes c.pop.new.self.nodes c.self.inside.parked.items c.self.inside.ids c.self.inside.in_work c.self.invariant.0 c.in_ok-first.ensures.0 c.restage-notes.ensures.slots c.new-none.ensures.items in
-    let shown_nodes = subst (λ b. IsPermutation (nodes_at c.self.inside.root c.self.inside.kept.slots c.self.inside.queue.nodes) ((let node : Node = record { number = c.in_ok-first.first.id; box = narrowed c.self.inside.root (reverse c.restage-notes.result.items ++ base_changes b); bound = c.in_ok-first.first.bound } in node) ∷ nodes_at c.self.inside.root c.restage-notes.new.kept.slots c.pop.new.self.nodes)) (sym found) nodes in
+    let shown_nodes = subst (λ b. IsPermutation (nodes_at c.self.inside.root c.self.inside.kept.slots c.self.inside.queue.nodes) ((node_in (narrowed c.self.inside.root (noted c.restage-notes.result.items ++ base_changes b)) c.in_ok-first.first.id c.in_ok-first.first.bound) ∷ nodes_at c.self.inside.root c.restage-notes.new.kept.slots c.pop.new.self.nodes)) (sym found) nodes in
     let stands = first_stands c.self.inside.root c.self.inside.kept.slots c.restage-notes.new.kept.slots c.in_ok-first.first [] [] c.self.inside.queue.nodes c.pop.new.self.nodes c.self.inside.parked.items c.self.inside.ids c.self.inside.in_work c.self.invariant.0 c.in_ok-first.ensures.0 in
     rw (← c.self.view_is)
     (record {
@@ -42,7 +43,7 @@ returns c =
       first = first_before c.self.inside.root c.self.inside.kept.slots c.restage-notes.new.kept.slots c.in_ok-first.first c.restage-notes.result.items c.new-none.result.items c.self.inside.queue.nodes c.pop.new.self.nodes c.self.inside.parked.items c.self.inside.ids c.self.inside.in_work c.self.invariant.0 c.in_ok-first.ensures.0 c.restage-notes.ensures.slots c.new-none.ensures.items c.in_ok-first.ensures.1 _;
       taken = record { base = _; found = found; same = first_number c.self.inside.root c.self.inside.kept.slots c.restage-notes.new.kept.slots c.in_ok-first.first c.restage-notes.result.items c.new-none.result.items c.self.inside.queue.nodes c.pop.new.self.nodes c.self.inside.parked.items c.self.inside.ids c.self.inside.in_work c.self.invariant.0 c.in_ok-first.ensures.0 c.restage-notes.ensures.slots c.new-none.ensures.items };
       given = omega (arith, c.self.invariant.0.given c.in_ok-first.first.place stands.slot stands.found, stands.number);
-      unended = first_unended (let n : Node = record { number = 0; box = c.self.inside.root; bound = c.self.inside.root_bound } in n) c.self.inside.whole.items c.self.inside.kept.slots c.restage-notes.new.kept.slots c.self.inside.ids (entries_of c.self.inside.log.items) c.self.invariant.2 c.self.invariant.0.kept c.in_ok-first.first stands;
+      unended = first_unended (node_in c.self.inside.root 0 c.self.inside.root_bound) c.self.inside.whole.items c.self.inside.kept.slots c.restage-notes.new.kept.slots c.self.inside.ids (entries_of c.self.inside.log.items) c.self.invariant.2 c.self.invariant.0.kept c.in_ok-first.first stands;
       fresh = first_fresh c.self.inside.root c.self.inside.kept.slots c.restage-notes.new.kept.slots c.in_ok-first.first c.restage-notes.result.items c.new-none.result.items c.self.inside.queue.nodes c.pop.new.self.nodes c.self.inside.parked.items c.self.inside.ids c.self.inside.in_work c.self.invariant.0 c.in_ok-first.ensures.0 c.restage-notes.ensures.slots c.new-none.ensures.items;
       others = first_others c.self.inside.root c.self.inside.kept.slots c.restage-notes.new.kept.slots c.in_ok-first.first c.restage-notes.result.items c.new-none.result.items c.self.inside.queue.nodes c.pop.new.self.nodes c.self.inside.parked.items c.self.inside.ids c.self.inside.in_work c.self.invariant.0 c.in_ok-first.ensures.0 c.restage-notes.ensures.slots c.new-none.ensures.items;
       rest = nodes_equal _ _ _ _ _ _ _ _ _ _ refl (first_parked c.self.inside.root c.self.inside.kept.slots c.restage-notes.new.kept.slots c.in_ok-first.first c.restage-notes.result.items c.new-none.result.items c.self.inside.queue.nodes c.pop.new.self.nodes c.self.inside.parked.items c.self.inside.ids c.self.inside.in_work c.self.invariant.0 c.in_ok-first.ensures.0 c.restage-notes.ensures.slots c.new-none.ensures.items) refl;

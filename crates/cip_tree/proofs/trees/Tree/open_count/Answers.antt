@@ -1,5 +1,5 @@
+use Rattle.cip_tree.specs.Nodes.{node_in}
 use Rattle.std.proofs.Common.{All, subst}
-use Rattle.cip_problem.specs.Log.{Node}
 use Rattle.cip_tree.specs.Entries.{entries_of}
 use Rattle.cip_tree.specs.Nodes.{Nodes}
 use Rattle.cip_tree.specs.Searched.{IsOpenIn}
@@ -9,4 +9,4 @@ use Rattle.cip_tree.proofs.trees.Tree.open_count.Goals as goal
 pub returns-clause-logged : goal.returns-clause-logged
 returns-clause-logged c =
     subst (λ (t : Nodes). All (IsOpenIn t.root t.log) t.open_) c.self.view_is
-    (all_open (let n : Node = record { number = 0; box = c.self.inside.root; bound = c.self.inside.root_bound } in n) c.self.inside.whole.items c.self.inside.kept.slots c.self.inside.ids (entries_of c.self.inside.log.items) c.self.invariant.2 c.self.inside.queue.nodes c.self.invariant.0.waiting)
+    (all_open (node_in c.self.inside.root 0 c.self.inside.root_bound) c.self.inside.whole.items c.self.inside.kept.slots c.self.inside.ids (entries_of c.self.inside.log.items) c.self.invariant.2 c.self.inside.queue.nodes c.self.invariant.0.waiting)

@@ -1,6 +1,8 @@
-use Rattle.std.proofs.Common.{◌≡◌, ◌∷◌, ◌++◌, [], ◌-◌, Some, None, map, reverse, get_or, sym, ap, ◌∙◌, subst, arith}
+use Rattle.cip_tree.specs.Nodes.{node_in}
+use Rattle.cip_tree.specs.Notes.{noted}
+use Rattle.std.proofs.Common.{◌≡◌, ◌∷◌, ◌++◌, [], ◌-◌, Some, None, map, get_or, sym, ap, ◌∙◌, subst, arith}
 use Rattle.std.proofs.lemmas.List.{map-append}
-use Rattle.cip_problem.specs.Log.{Node, Entry, Parked}
+use Rattle.cip_problem.specs.Log.{Entry, Parked}
 use Rattle.cip_domain.specs.Changes.{narrowed}
 use Rattle.cip_tree.specs.declared.queue.OpenNode.{OpenNode}
 use Rattle.cip_tree.specs.Entries.{entry_of}
@@ -27,8 +29,8 @@ invariant_of-self c =
         parked = omega (arith, room.parked, some, c.push_reserved.ensures.len, c.push_reserved.ensures.capacity);
         log = omega (arith, room.log, some, c.push_reserved-2.ensures.len, c.push_reserved-2.ensures.capacity);
       },
-      subst (IsTracked (let n : Node = record { number = 0; box = c.self.inside.root; bound = c.self.inside.root_bound } in n) c.self.inside.whole.items c.restage.new.kept.slots c.self.inside.ids) (sym log)
-          (tracked_aside (let n : Node = record { number = 0; box = c.self.inside.root; bound = c.self.inside.root_bound } in n) c.self.inside.whole.items c.self.inside.kept.slots c.restage.new.kept.slots c.self.inside.ids (map entry_of c.self.inside.log.items) c.self.invariant.2 c.self.invariant.0.kept c.node.inside.place c.requires.base w _ _ c.node.inside.id c.node.inside.bound number c.restage.ensures.slots),
+      subst (IsTracked (node_in c.self.inside.root 0 c.self.inside.root_bound) c.self.inside.whole.items c.restage.new.kept.slots c.self.inside.ids) (sym log)
+          (tracked_aside (node_in c.self.inside.root 0 c.self.inside.root_bound) c.self.inside.whole.items c.self.inside.kept.slots c.restage.new.kept.slots c.self.inside.ids (map entry_of c.self.inside.log.items) c.self.invariant.2 c.self.invariant.0.kept c.node.inside.place c.requires.base w _ _ c.node.inside.id c.node.inside.bound number c.restage.ensures.slots),
     )
 
 pub returns-clause-taken : goal.returns-clause-taken
@@ -48,6 +50,6 @@ returns-clause-rest c =
     let f : c.bound.result ≡ c.node.inside.bound = cc (c.bound.ensures, ap (λ (x : TakenNode). x.bound) c.node.view_is) in
     let log = ap (λ l. map entry_of l) c.push_reserved-2.ensures.items ∙ map-append entry_of c.self.inside.log.items _ ∙ ap (λ b. map entry_of c.self.inside.log.items ++ (let x : Entry = record { node = c.node.inside.id; bound = b; end = Parked } in x) ∷ []) f in
     let parked = ap (nodes_at c.self.inside.root c.restage.new.kept.slots) items ∙ aside_parked c.self.inside.root c.self.inside.kept.slots c.restage.new.kept.slots c.node.inside.place _ _ c.self.inside.queue.nodes c.self.inside.queue.nodes c.self.inside.parked.items c.self.inside.ids c.self.inside.in_work c.node.inside.id c.node.inside.bound c.requires.base c.self.invariant.0 w number c.restage.ensures.slots
-    ∙ ap (λ b. nodes_at c.self.inside.root c.self.inside.kept.slots c.self.inside.parked.items ++ (let n : Node = record { number = c.node.inside.id; box = narrowed c.self.inside.root (reverse c.node.inside.notes.items ++ base_changes b); bound = c.node.inside.bound } in n) ∷ []) (sym w) in
+    ∙ ap (λ b. nodes_at c.self.inside.root c.self.inside.kept.slots c.self.inside.parked.items ++ (node_in (narrowed c.self.inside.root (noted c.node.inside.notes.items ++ base_changes b)) c.node.inside.id c.node.inside.bound) ∷ []) (sym w) in
     rw (← c.self.view_is, ← c.node.view_is)
     (nodes_equal _ _ _ _ _ _ _ _ _ _ (aside_open c.self.inside.root c.self.inside.kept.slots c.restage.new.kept.slots c.node.inside.place _ _ c.self.inside.queue.nodes c.self.inside.queue.nodes c.self.inside.parked.items c.self.inside.ids c.self.inside.in_work c.node.inside.id c.node.inside.bound c.requires.base c.self.invariant.0 w number c.restage.ensures.slots) parked log)

@@ -1,7 +1,8 @@
-use Rattle.std.proofs.Common.{◌≡◌, ◌∷◌, ◌++◌, Some, None, reverse, get_or, sym, ap, ◌∙◌, subst, refl, arith}
+use Rattle.cip_tree.specs.Nodes.{node_in}
+use Rattle.cip_tree.specs.Notes.{noted}
+use Rattle.std.proofs.Common.{◌≡◌, ◌∷◌, ◌++◌, Some, None, get_or, sym, ap, ◌∙◌, subst, refl, arith}
 use Rattle.std.specs.List.Sorted.{IsPermutation}
 use Rattle.std.proofs.lemmas.List.Sorted.{length_permutation}
-use Rattle.cip_problem.specs.Log.{Node}
 use Rattle.cip_domain.specs.Changes.{narrowed}
 use Rattle.cip_tree.specs.Nodes.{Nodes, TakenNode, base_at, base_changes}
 use Rattle.cip_tree.specs.Inside.{bases, nodes_at}
@@ -23,7 +24,7 @@ invariant_of-self c =
         parked = omega (arith, room.parked, some, longer);
         log = omega (arith, room.log, some, longer);
       },
-      tracked_back (let n : Node = record { number = 0; box = c.self.inside.root; bound = c.self.inside.root_bound } in n) c.self.inside.whole.items c.self.inside.kept.slots c.restage.new.kept.slots c.self.inside.ids (entries_of c.self.inside.log.items) c.self.invariant.2 c.self.invariant.0.kept c.node.inside.place c.requires.base w _ _ c.restage.ensures.slots,
+      tracked_back (node_in c.self.inside.root 0 c.self.inside.root_bound) c.self.inside.whole.items c.self.inside.kept.slots c.restage.new.kept.slots c.self.inside.ids (entries_of c.self.inside.log.items) c.self.invariant.2 c.self.invariant.0.kept c.node.inside.place c.requires.base w _ _ c.restage.ensures.slots,
     )
 
 pub returns-clause-nodes : goal.returns-clause-nodes
@@ -32,7 +33,7 @@ returns-clause-nodes c =
     let number = c.requires.same ∙ sym (ap (λ (x : TakenNode). x.number) c.node.view_is) in
     let nodes = back_nodes c.self.inside.root c.self.inside.kept.slots c.restage.new.kept.slots c.node.inside.place _ _ c.self.inside.queue.nodes c.push.new.self.nodes c.self.inside.parked.items c.self.inside.ids c.self.inside.in_work c.node.inside.id c.node.inside.bound c.requires.base c.self.invariant.0 w number c.restage.ensures.slots c.push.ensures.nodes in
     rw (← c.self.view_is, ← c.node.view_is)
-    (subst (λ b. IsPermutation ((let node : Node = record { number = c.node.inside.id; box = narrowed c.self.inside.root (reverse c.node.inside.notes.items ++ base_changes b); bound = c.node.inside.bound } in node) ∷ nodes_at c.self.inside.root c.self.inside.kept.slots c.self.inside.queue.nodes) (nodes_at c.self.inside.root c.restage.new.kept.slots c.push.new.self.nodes)) (sym w) nodes)
+    (subst (λ b. IsPermutation ((node_in (narrowed c.self.inside.root (noted c.node.inside.notes.items ++ base_changes b)) c.node.inside.id c.node.inside.bound) ∷ nodes_at c.self.inside.root c.self.inside.kept.slots c.self.inside.queue.nodes) (nodes_at c.self.inside.root c.restage.new.kept.slots c.push.new.self.nodes)) (sym w) nodes)
 
 pub returns-clause-taken : goal.returns-clause-taken
 returns-clause-taken c =
