@@ -21,10 +21,10 @@ use Rattle.cip_model.specs.declared.verdicts.Verdict.TheVariants.{Feasible, Wide
 use Rattle.cip_model.specs.Meaning.{Overflows}
 use Rattle.cip_model.specs.Verdicts.{verdict_of}
 use Rattle.cip_model.proofs.Meaning.Point.{verdict_on_feasible}
-use Rattle.cip_leaf.specs.LeafAnswers.{place_of, IsBest, EndsInOptimum}
+use Rattle.cip_leaf.specs.LeafAnswers.{place_of, IsBestValues, EndsInOptimum}
 use Rattle.cip_leaf.proofs.Sums.{point_overflows}
 
-module _ (program : Program) (leaf : List ℚ) (formed : IsWellFormed program) (is_leaf : IsLeaf program leaf) where
+module _ (program : Program) (leaf : List ℚ) (formed : IsWellFormed program) (none : program.choices ≡ []) (is_leaf : IsLeaf program leaf) where
   abbrev linear : LinearProgram
   linear = program_of_leaf program leaf
 
@@ -40,7 +40,7 @@ module _ (program : Program) (leaf : List ℚ) (formed : IsWellFormed program) (
   shows others e = subst (IsRight linear) e.is_answer right
 
   pub optimum_point : (others : List ℚ) → EndsInOptimum program leaf others → IsPointOf program leaf (merged program.integral leaf others)
-  optimum_point others e = point_back program leaf others formed is_leaf (shows others e).optimal.is_point
+  optimum_point others e = point_back program leaf others formed none is_leaf (shows others e).optimal.is_point
 
   cheapest : (others other : List ℚ) (number : ℚ) → IsOptimal linear others number → IsPointOf program leaf other → cost_of program (merged program.integral leaf others) ≤ℚ cost_of program other
   cheapest others other number best h =
@@ -56,15 +56,15 @@ module _ (program : Program) (leaf : List ℚ) (formed : IsWellFormed program) (
       (cost_of program (merged program.integral leaf others) ∷ cost_of program other ∷ cost_of program (merged program.integral leaf xs) ∷ base ∷ dot linear.costs others ∷ dot linear.costs xs ∷ number ∷ [])
       (λ s w. omega (arith, s.le_out, s.same_out))
 
-  pub best_on : (others point : List ℚ) (number cost : ℚ) → IsOptimal linear others number → point ≡ merged program.integral leaf others → verdict_of program point ≡ Feasible cost → cost ≡ cost_of program point → IsBest program leaf point cost
+  pub best_on : (others point : List ℚ) (number cost : ℚ) → IsOptimal linear others number → point ≡ merged program.integral leaf others → verdict_of program point ≡ Feasible cost → cost ≡ cost_of program point → IsBestValues program leaf point cost
   best_on others point number cost best p v c = record {
-    is_point = subst (IsPointOf program leaf) (sym p) (point_back program leaf others formed is_leaf best.is_point);
+    is_point = subst (IsPointOf program leaf) (sym p) (point_back program leaf others formed none is_leaf best.is_point);
     found = v;
     cost_is = c;
     least = λ other h. subst (λ t. t ≤ℚ cost_of program other) (sym (c ∙ ap (cost_of program) p)) (cheapest others other number best h);
   }
 
-  pub best_by : (others point : List ℚ) (cost : ℚ) → EndsInOptimum program leaf others → point ≡ merged program.integral leaf others → verdict_of program point ≡ Feasible cost → cost ≡ cost_of program point → IsBest program leaf point cost
+  pub best_by : (others point : List ℚ) (cost : ℚ) → EndsInOptimum program leaf others → point ≡ merged program.integral leaf others → verdict_of program point ≡ Feasible cost → cost ≡ cost_of program point → IsBestValues program leaf point cost
   best_by others point cost e p v c = best_on others point e.cost cost (shows others e).optimal p v c
 
   -- no other verdict comes

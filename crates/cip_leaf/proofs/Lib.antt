@@ -1,5 +1,7 @@
 pub mod Along
 pub mod Answered
+pub mod ChoicesMade
+pub mod DecidedSides
 pub mod Ends
 pub mod FirstPlaces
 pub mod Rays

@@ -28,7 +28,7 @@ use Rattle.cip_model.specs.Rays.{AreStill, IsRay, RayOverflows, RaySumsFit, IsSh
 use Rattle.cip_model.specs.Verdicts.{verdict_of}
 use Rattle.cip_model.proofs.Meaning.Point.{verdict_on_feasible}
 use Rattle.cip_model.proofs.Meaning.Ray.{falls_along}
-use Rattle.cip_leaf.specs.LeafAnswers.{place_of, IsRayOf, EndsInRay, IsFirstAlong}
+use Rattle.cip_leaf.specs.LeafAnswers.{place_of, IsRayOfValues, EndsInRay, IsFirstAlong}
 use Rattle.cip_leaf.proofs.Sums.{point_overflows, ray_overflows}
 use Rattle.cip_leaf.proofs.Ends.{right, long_point}
 
@@ -61,7 +61,7 @@ zero_not_down : (low : Option ℚ) → IfSome low (λ _. zeroℚ ≤ℚ zeroℚ)
 zero_not_down None = tt
 zero_not_down (Some side) = ≤ℚ_refl zeroℚ
 
-zero_stays : (low high : Option ℚ) → StaysBetween low high zeroℚ
+pub zero_stays : (low high : Option ℚ) → StaysBetween low high zeroℚ
 zero_stays low high = record { not_down = zero_not_down low; not_up = zero_not_down high }
 
 box_stays : (integral : List Bool) (box : List Sides) (direction : List ℚ) → length integral ≡ length box → AllZip (λ sides change. StaysBetween sides.low sides.high change) (at_continuous integral box) direction → AllZip (λ sides change. StaysBetween sides.low sides.high change) box (merged integral [] direction)
@@ -128,22 +128,22 @@ place_overflows program point ray (AtRow number) v r n h = h
 place_overflows program point ray Cost v r n h =
     cost_case program point ray (dot_from zeroℚ program.costs ray) refl h (λ fits. n (record { feasible = v; is_ray = r; fits = fits }))
 
-module _ (program : Program) (leaf : List ℚ) (formed : IsWellFormed program) (is_leaf : IsLeaf program leaf) where
+module _ (program : Program) (leaf : List ℚ) (formed : IsWellFormed program) (none : program.choices ≡ []) (is_leaf : IsLeaf program leaf) where
   abbrev linear : LinearProgram
   linear = program_of_leaf program leaf
 
   shows : (others direction : List ℚ) → EndsInRay program leaf others direction → ShowsUnbounded linear others direction
-  shows others direction e = subst (IsRight linear) e.is_answer (right program leaf formed is_leaf)
+  shows others direction e = subst (IsRight linear) e.is_answer (right program leaf formed none is_leaf)
 
-  endless_point : (others direction : List ℚ) → EndsInRay program leaf others direction → IsPointOf program leaf (merged program.integral leaf others)
-  endless_point others direction e = point_back program leaf others formed is_leaf (shows others direction e).is_point
+  pub endless_point : (others direction : List ℚ) → EndsInRay program leaf others direction → IsPointOf program leaf (merged program.integral leaf others)
+  endless_point others direction e = point_back program leaf others formed none is_leaf (shows others direction e).is_point
 
-  pub ray_on : (others point ray : List ℚ) → IsPoint linear others → point ≡ merged program.integral leaf others → IsShownRay program point ray → IsRayOf program leaf point ray
+  pub ray_on : (others point ray : List ℚ) → IsPoint linear others → point ≡ merged program.integral leaf others → IsShownRay program point ray → IsRayOfValues program leaf point ray
   ray_on others point ray k p h =
-      let there = subst (IsPointOf program leaf) (sym p) (point_back program leaf others formed is_leaf k) in
-      record { is_point = there; shown = h; falls = falls_along program point ray there.feasible h.is_ray }
+      let there = subst (IsPointOf program leaf) (sym p) (point_back program leaf others formed none is_leaf k) in
+      record { is_point = there; shown = h; falls = falls_along program point ray formed there.feasible h.is_ray }
 
-  pub ray_of_leaf : (others direction point ray : List ℚ) → EndsInRay program leaf others direction → point ≡ merged program.integral leaf others → IsShownRay program point ray → IsRayOf program leaf point ray
+  pub ray_of_leaf : (others direction point ray : List ℚ) → EndsInRay program leaf others direction → point ≡ merged program.integral leaf others → IsShownRay program point ray → IsRayOfValues program leaf point ray
   ray_of_leaf others direction point ray e p h = ray_on others point ray (shows others direction e).is_point p h
 
   at_point : (place : Place) (a : def.Answer) (others direction : List ℚ) → a ≡ def.Unbounded others direction → SumOverflows program program.constant (merged program.integral leaf others) (place_of place) → EndOverflows program leaf (place_of place) a
@@ -155,7 +155,7 @@ module _ (program : Program) (leaf : List ℚ) (formed : IsWellFormed program) (
   pub point_wide : (others direction point : List ℚ) (place : Place) → EndsInRay program leaf others direction → point ≡ merged program.integral leaf others → Overflows program point place → IsWideBy program leaf (AtPlace (place_of place))
   point_wide others direction point place e p h =
       inr (inr (at_point place (whole_answer linear) others direction e.is_answer
-      (point_overflows program formed (merged program.integral leaf others) (long_point program leaf formed is_leaf others) place (subst (λ x. Overflows program x place) p h))))
+      (point_overflows program formed (merged program.integral leaf others) (long_point program leaf formed none is_leaf others) place (subst (λ x. Overflows program x place) p h))))
 
   found : (others direction : List ℚ) → EndsInRay program leaf others direction → ((place : Place) → ¬ (verdict_of program (merged program.integral leaf others) ≡ Wide place)) → verdict_of program (merged program.integral leaf others) ≡ Feasible (cost_of program (merged program.integral leaf others))
   found others direction e n = elim (verdict_on_feasible program (merged program.integral leaf others) formed (endless_point others direction e).feasible) [

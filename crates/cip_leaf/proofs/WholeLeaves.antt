@@ -15,7 +15,7 @@ use Rattle.cip_model.specs.declared.verdicts.Verdict.{Verdict}
 use Rattle.cip_model.specs.declared.verdicts.Verdict.TheVariants.{Feasible, Wide}
 use Rattle.cip_model.specs.Meaning.{Overflows}
 use Rattle.cip_model.specs.Verdicts.{verdict_of}
-use Rattle.cip_leaf.specs.LeafAnswers.{place_of, IsBest}
+use Rattle.cip_leaf.specs.LeafAnswers.{place_of, IsBestValues}
 use Rattle.cip_leaf.proofs.Sums.{point_overflows}
 use Rattle.cip_leaf.proofs.Ends.{settled}
 
@@ -36,7 +36,7 @@ leaf-long (true ∷ ws) (s ∷ ss) [] h e k = absurd k
 leaf-long (true ∷ ws) (s ∷ ss) (v ∷ vs) h e k = ap suc (leaf-long ws ss vs (All-tail (λ whole. whole ≡ true) true ws h) (omega (arith, e)) k.1)
 leaf-long (false ∷ ws) (s ∷ ss) leaf h e k = let f : false ≡ true = All-head (λ whole. whole ≡ true) false ws h in absurd (cc)
 
-module _ (program : Program) (leaf : List ℚ) (formed : IsWellFormed program) (whole : All (λ whole. whole ≡ true) program.integral) (is_leaf : IsLeaf program leaf) where
+module _ (program : Program) (leaf : List ℚ) (formed : IsWellFormed program) (none : program.choices ≡ []) (whole : All (λ whole. whole ≡ true) program.integral) (is_leaf : IsLeaf program leaf) where
   same_long : length leaf ≡ length program.integral
   same_long = leaf-long program.integral program.bounds leaf whole (formed.integral ∙ sym formed.bounds) is_leaf
 
@@ -47,7 +47,7 @@ module _ (program : Program) (leaf : List ℚ) (formed : IsWellFormed program) (
   one : (point : List ℚ) → IsPointOf program leaf point → point ≡ leaf
   one point h = whole_leaf program leaf point whole (formed.integral ∙ sym formed.bounds) h
 
-  pub best : (point : List ℚ) (cost : ℚ) → point ≡ leaf → IsFeasible program leaf → verdict_of program leaf ≡ Feasible cost → cost ≡ cost_of program leaf → IsBest program leaf point cost
+  pub best : (point : List ℚ) (cost : ℚ) → point ≡ leaf → IsFeasible program leaf → verdict_of program leaf ≡ Feasible cost → cost ≡ cost_of program leaf → IsBestValues program leaf point cost
   best point cost e feasible v c = record {
     is_point = record { feasible = subst (IsFeasible program) (sym e) feasible; values = ap (λ p. at_wholes program.integral p) e ∙ all_wholes program.integral leaf whole same_long };
     found = ap (verdict_of program) e ∙ v;
@@ -63,4 +63,4 @@ module _ (program : Program) (leaf : List ℚ) (formed : IsWellFormed program) (
   wide place h = inl (sum_wide (place_of place) (point_overflows program formed leaf long place h))
 
   pub no_point : (verdict : Verdict) → verdict ≡ verdict_of program leaf → ((cost : ℚ) → ¬ (verdict ≡ Feasible cost)) → ((place : Place) → ¬ (verdict ≡ Wide place)) → (point : List ℚ) → ¬ IsPointOf program leaf point
-  no_point verdict v f w point h = settled program leaf formed is_leaf leaf verdict (subst (IsPointOf program leaf) (one point h) h) v f w
+  no_point verdict v f w point h = settled program leaf formed none is_leaf leaf verdict (subst (IsPointOf program leaf) (one point h) h) v f w

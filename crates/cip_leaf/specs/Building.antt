@@ -1,7 +1,8 @@
 -- What the building of a leaf's program makes, list by list.
-use Rattle.std.specs.Prelude.{◌≡◌, ◌||◌, ℕ, ◌+◌, Bool, true, false, List, [], ◌∷◌, Some, Result, Ok, Err, slice_get, ⊤}
+use Rattle.std.specs.Prelude.{◌≡◌, ◌||◌, ℕ, ◌+◌, Bool, true, false, List, [], ◌∷◌, Option, None, Some, Result, Ok, Err, slice_get, if◌then◌else◌, ⊤}
 use Rattle.cip_rational.specs.Rational.{ℚ, zeroℚ}
-use Rattle.cip_problem.specs.Program.{Row}
+use Rattle.cip_problem.specs.Program.{Sides, Row}
+use Rattle.cip_problem.specs.Choices.{zero_sides}
 use Rattle.cip_problem.specs.Activity.{activity}
 use Rattle.cip_frac.specs.declared.operations.Wide.{Wide as Overflow}
 use Rattle.cip_lin.specs.RowSums.{activity_from}
@@ -17,6 +18,18 @@ abbrev pub numbers_from : ℕ → List Bool → List ℕ
 numbers_from n [] = []
 numbers_from n (true ∷ wholes) = n ∷ numbers_from n wholes
 numbers_from n (false ∷ wholes) = n ∷ numbers_from (n + 1) wholes
+
+-- the sides of a column with these own sides, if its choice is open, where that is made, if it is
+abbrev pub sides_made : Option Sides → Option Bool → Sides → Sides
+sides_made None on sides = sides
+sides_made (Some own) None sides = sides
+sides_made (Some own) (Some is_on) sides = if is_on then own else zero_sides
+
+-- how many choices of the leaf a column takes
+abbrev pub made_more : Option Sides → Option Bool → ℕ
+made_more None on = 0
+made_more (Some own) None = 0
+made_more (Some own) (Some is_on) = 1
 
 -- what is left of a row, where a point has the values of the leaf, and 0 on continuous columns
 abbrev pub left_of : List Bool → List ℚ → Row → Row

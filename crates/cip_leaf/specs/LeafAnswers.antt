@@ -1,4 +1,4 @@
--- What is answered of a leaf with continuous columns.
+-- What is answered of a leaf, and of its values where the choices are made.
 use Rattle.std.specs.Prelude.{◌≡◌, ℕ, List, length}
 use Rattle.cip_rational.specs.Rational.{ℚ, ◌≤ℚ◌}
 use Rattle.cip_problem.specs.Program.{Row, Program}
@@ -7,7 +7,8 @@ use Rattle.cip_linear.specs.LinearProgram.{LinearProgram, IsOptimal}
 use Rattle.cip_dictionary.specs.declared.moves.Move.{Move}
 use Rattle.cip_bland.specs.EndAnswers.{Certificate, Optimal, Unbounded, OutOfRange}
 use Rattle.cip_bland.specs.NoRepeat.{whole_answer}
-use Rattle.cip_leaves.specs.Leaf.{IsPointOf}
+use Rattle.cip_problem.specs.Choices.{decided}
+use Rattle.cip_leaves.specs.Leaf.{IsPointOf, Leaf, IsPointOfLeaf}
 use Rattle.cip_leaves.specs.Wide as wide
 use Rattle.cip_leaves.specs.LeafProgram.{program_of_leaf}
 use Rattle.cip_leaves.specs.WideLeaf as wide_leaf
@@ -32,24 +33,44 @@ shown_as (shown.Place place) = wide_leaf.AtPlace (place_of place)
 shown_as (shown.Moves number) = wide_leaf.AfterMoves number
 
 -- a point of a leaf is found to be feasible at this cost, and no point of the leaf costs less
-pub record IsBest (program : Program) (leaf point : List ℚ) (cost : ℚ) : Type 0 where
+pub record IsBest (program : Program) (leaf : Leaf) (point : List ℚ) (cost : ℚ) : Type 0 where
+  pub is_point : IsPointOfLeaf program leaf point
+  pub found : verdict_of program point ≡ Feasible cost
+  pub cost_is : cost ≡ cost_of program point
+  pub least : (other : List ℚ) → IsPointOfLeaf program leaf other → cost ≤ℚ cost_of program other
+
+-- a ray is shown beside a point of a leaf, and from there the cost falls along it without end
+pub record IsRayOf (program : Program) (leaf : Leaf) (point ray : List ℚ) : Type 0 where
+  pub is_point : IsPointOfLeaf program leaf point
+  pub shown : IsShownRay program point ray
+  pub falls : FallsAlong program point ray
+
+-- what an answer says of a leaf
+abbrev pub IsLeafAnswer : Program → Leaf → LeafAnswer → Type 0
+IsLeafAnswer program leaf (Best point cost) = IsBest program leaf point.items cost
+IsLeafAnswer program leaf NoPoint = (point : List ℚ) → ¬ IsPointOfLeaf program leaf point
+IsLeafAnswer program leaf (HasRay point ray) = IsRayOf program leaf point.items ray.items
+IsLeafAnswer program leaf (Wide found) = wide_leaf.IsWideBy (decided program leaf.on) leaf.values (shown_as found)
+
+-- ---- the values of a leaf, in a program in which the choices are made
+
+-- the same of values
+pub record IsBestValues (program : Program) (leaf point : List ℚ) (cost : ℚ) : Type 0 where
   pub is_point : IsPointOf program leaf point
   pub found : verdict_of program point ≡ Feasible cost
   pub cost_is : cost ≡ cost_of program point
   pub least : (other : List ℚ) → IsPointOf program leaf other → cost ≤ℚ cost_of program other
 
--- a ray is shown beside a point of a leaf, and from there the cost falls along it without end
-pub record IsRayOf (program : Program) (leaf point ray : List ℚ) : Type 0 where
+pub record IsRayOfValues (program : Program) (leaf point ray : List ℚ) : Type 0 where
   pub is_point : IsPointOf program leaf point
   pub shown : IsShownRay program point ray
   pub falls : FallsAlong program point ray
 
--- what an answer says of a leaf
-abbrev pub IsLeafAnswer : Program → List ℚ → LeafAnswer → Type 0
-IsLeafAnswer program leaf (Best point cost) = IsBest program leaf point.items cost
-IsLeafAnswer program leaf NoPoint = (point : List ℚ) → ¬ IsPointOf program leaf point
-IsLeafAnswer program leaf (HasRay point ray) = IsRayOf program leaf point.items ray.items
-IsLeafAnswer program leaf (Wide found) = wide_leaf.IsWideBy program leaf (shown_as found)
+abbrev pub IsValuesAnswer : Program → List ℚ → LeafAnswer → Type 0
+IsValuesAnswer program leaf (Best point cost) = IsBestValues program leaf point.items cost
+IsValuesAnswer program leaf NoPoint = (point : List ℚ) → ¬ IsPointOf program leaf point
+IsValuesAnswer program leaf (HasRay point ray) = IsRayOfValues program leaf point.items ray.items
+IsValuesAnswer program leaf (Wide found) = wide_leaf.IsWideBy program leaf (shown_as found)
 
 -- ---- ends of the leaf's program
 

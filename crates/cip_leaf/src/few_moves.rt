@@ -4,12 +4,13 @@ ghost use Rattle.cip_linear.specs.LinearProgram.{IsPoint};
 ghost use Rattle.cip_problem.specs.WellFormed.{IsWellFormed};
 ghost use Rattle.cip_leaves.specs.Leaf.{IsLeaf};
 ghost use Rattle.cip_leaves.specs.LeafProgram.{program_of_leaf};
-ghost use Rattle.cip_leaf.specs.LeafAnswers.{IsLeafAnswer, IsOptimalThere};
+ghost use Rattle.cip_leaf.specs.LeafAnswers.{IsValuesAnswer, IsOptimalThere};
 
 use crate::answers::LeafAnswer;
+use crate::decided::Decided;
 use crate::lists::merged;
 use cip_frac::Frac;
-use cip_model::{Program, Verdict};
+use cip_model::Verdict;
 use cip_simplex::{Lp, LpAnswer, Solver, Start, solve_greedily};
 use std::alloc::{AllocError, Global};
 
@@ -20,13 +21,13 @@ const FEW_MOVES: u32 = 2_000;
 /// range. `Err` where memory was refused.
 fn best_of(
     alloc: Global,
-    program: &Program,
+    program: &Decided,
     leaf: &[Frac],
     others: &[Frac],
 ) -> Result<Option<LeafAnswer>, AllocError>
     requires leaf { IsLeaf program.now leaf.now }
     requires optimal { IsOptimalThere program.now leaf.now others.now }
-    ensures { IfOk result (λ found. IfSome found (IsLeafAnswer program.now leaf.now)) }
+    ensures { IfOk result (λ found. IfSome found (IsValuesAnswer program.now leaf.now)) }
 {
     let point = merged(alloc, program.whole(), leaf, others)?;
     match program.check(point.as_slice()) {
@@ -39,14 +40,14 @@ fn best_of(
 /// the test of the ray refuses it. `Err` where memory was refused.
 fn ray_of(
     alloc: Global,
-    program: &Program,
+    program: &Decided,
     leaf: &[Frac],
     others: &[Frac],
     direction: &[Frac],
 ) -> Result<Option<LeafAnswer>, AllocError>
     requires leaf { IsLeaf program.now leaf.now }
     requires point { IsPoint (program_of_leaf program.now leaf.now) others.now }
-    ensures { IfOk result (λ found. IfSome found (IsLeafAnswer program.now leaf.now)) }
+    ensures { IfOk result (λ found. IfSome found (IsValuesAnswer program.now leaf.now)) }
 {
     let point = merged(alloc, program.whole(), leaf, others)?;
     let ray = merged(alloc, program.whole(), &[], direction)?;
@@ -61,14 +62,14 @@ fn ray_of(
 pub(crate) fn shown_by_few(
     alloc: Global,
     solver: &mut Solver,
-    program: &Program,
+    program: &Decided,
     leaf: &[Frac],
     lp: &Lp,
 ) -> Result<Option<LeafAnswer>, AllocError>
     requires leaf { IsLeaf program.now leaf.now }
     requires formed { IsWellFormed program.now }
     requires linear { lp.now ≡ program_of_leaf program.now leaf.now }
-    ensures { IfOk result (λ found. IfSome found (IsLeafAnswer program.now leaf.now)) }
+    ensures { IfOk result (λ found. IfSome found (IsValuesAnswer program.now leaf.now)) }
 {
     let start = Start::slack(alloc, lp)?;
     let (first, _last) = solve_greedily(alloc, solver, lp, &start, FEW_MOVES)?;

@@ -4,17 +4,18 @@ ghost use Rattle.cip_problem.specs.Activity.{StandsBelow};
 ghost use Rattle.cip_problem.specs.Limits.{most_rows};
 ghost use Rattle.cip_problem.specs.WellFormed.{IsWellFormed};
 ghost use Rattle.cip_simplex.specs.LpShape.{IsSolvable};
-ghost use Rattle.cip_leaves.specs.Leaf.{IsLeaf};
+ghost use Rattle.cip_leaves.specs.Leaf.{IsLeaf, Leaf, IsLeafOf};
 ghost use Rattle.cip_leaves.specs.LeafProgram as program_spec;
 ghost use Rattle.cip_leaf.specs.Building.{IsRowsFault};
-ghost use Rattle.cip_leaf.specs.LeafAnswers.{IsLeafAnswer, EndsInOptimum, EndsInRay, EndsOutOfRange, IsWideAnswer};
+ghost use Rattle.cip_leaf.specs.LeafAnswers.{IsLeafAnswer, IsValuesAnswer, EndsInOptimum, EndsInRay, EndsOutOfRange, IsWideAnswer};
 ghost use Rattle.cip_leaf.specs.LeafAnswers.{IsFirstAlong};
 ghost use Rattle.cip_leaf.specs.Parts.{IsProgramOf};
 
 use crate::answers::{LeafAnswer, Shown};
+use crate::decided::Decided;
 use crate::few_moves::shown_by_few;
 use crate::first_values::first_wide;
-use crate::lists::{continuous_costs, continuous_sides, merged, new_numbers};
+use crate::lists::{continuous_costs, merged, new_numbers};
 use crate::rows::{RowsFault, rows_left};
 use crate::whole_leaves::{are_all_whole, tested};
 use cip_frac::Frac;
@@ -33,7 +34,7 @@ pub(crate) struct Parts {
 
 /// The lists of the program of a leaf; `Wide` names the first row whose fixed part overflows, or what a side leaves of
 /// it.
-fn parts_of_leaf(alloc: Global, program: &Program, leaf: &[Frac]) -> Result<Parts, RowsFault>
+fn parts_of_leaf(alloc: Global, program: &Decided, leaf: &[Frac]) -> Result<Parts, RowsFault>
     ensures { MatchResult result
         (IsProgramOf program.now leaf.now)
         (IsRowsFault program.now.rows (program_spec.merged program.now.integral leaf.now [])) }
@@ -48,7 +49,7 @@ fn parts_of_leaf(alloc: Global, program: &Program, leaf: &[Frac]) -> Result<Part
         numbers.as_slice(),
         point.as_slice(),
     )?;
-    let bounds = continuous_sides(alloc, whole, program.bounds().as_slice())?;
+    let bounds = program.continuous_sides(alloc)?;
     let costs = continuous_costs(alloc, whole, program.costs())?;
     Ok(Parts {
         rows,
@@ -60,13 +61,13 @@ fn parts_of_leaf(alloc: Global, program: &Program, leaf: &[Frac]) -> Result<Part
 /// The answer where the leaf's program ends in an optimum with these values; `Err` where memory was refused.
 fn optimum(
     alloc: Global,
-    program: &Program,
+    program: &Decided,
     leaf: &[Frac],
     others: &[Frac],
 ) -> Result<LeafAnswer, AllocError>
     requires leaf { IsLeaf program.now leaf.now }
     requires end { EndsInOptimum program.now leaf.now others.now }
-    ensures { IfOk result (IsLeafAnswer program.now leaf.now) }
+    ensures { IfOk result (IsValuesAnswer program.now leaf.now) }
 {
     let point = merged(alloc, program.whole(), leaf, others)?;
     match program.check(point.as_slice()) {
@@ -95,14 +96,14 @@ fn first_along(rows: &[Row], ray: &[Frac]) -> Place
 /// The answer where the leaf's program ends in a ray from these values; `Err` where memory was refused.
 fn endless(
     alloc: Global,
-    program: &Program,
+    program: &Decided,
     leaf: &[Frac],
     others: &[Frac],
     direction: &[Frac],
 ) -> Result<LeafAnswer, AllocError>
     requires leaf { IsLeaf program.now leaf.now }
     requires end { EndsInRay program.now leaf.now others.now direction.now }
-    ensures { IfOk result (IsLeafAnswer program.now leaf.now) }
+    ensures { IfOk result (IsValuesAnswer program.now leaf.now) }
 {
     let point = merged(alloc, program.whole(), leaf, others)?;
     let ray = merged(alloc, program.whole(), &[], direction)?;
@@ -157,14 +158,14 @@ fn out_of_range(alloc: Global, parts: &Parts, moves: usize) -> Result<LeafAnswer
 /// memory was refused.
 fn answer_on(
     alloc: Global,
-    program: &Program,
+    program: &Decided,
     wholes: &[Frac],
     parts: &Parts,
 ) -> Result<LeafAnswer, AllocError>
     requires leaf { IsLeaf program.now wholes.now }
     requires formed { IsWellFormed program.now }
     requires parts { IsProgramOf program.now wholes.now parts.now }
-    ensures { IfOk result (IsLeafAnswer program.now wholes.now) }
+    ensures { IfOk result (IsValuesAnswer program.now wholes.now) }
 {
     let lp = Lp::new(parts.rows.as_slice(), &parts.bounds, parts.costs.as_slice());
     let mut solver = Solver::new(alloc);
@@ -182,14 +183,15 @@ fn answer_on(
     }
 }
 
-/// What is known of a leaf of a program, given by its values, which are whole and lie within the bounds, one for each
-/// whole column by rising column: a point of least cost, that there is none, that the cost falls without end, or that
-/// the leaf is wide. `NoPoint` comes exactly where the leaf has no point and the answer isn't `Wide`; `Wide` comes only
-/// where the leaf is wide by what is shown. Where no column is continuous, the test of its one point says which, and no
-/// program is made of it. `Err` where memory was refused.
-pub fn leaf(alloc: Global, program: &Program, wholes: &[Frac]) -> Result<LeafAnswer, AllocError>
+/// What is known of values, which are a leaf of a program in which the choices are made. Where no column is continuous,
+/// the test of its one point says it, and no program is made of it. `Err` where memory was refused.
+fn values_answer(
+    alloc: Global,
+    program: &Decided,
+    wholes: &[Frac],
+) -> Result<LeafAnswer, AllocError>
     requires { IsLeaf program.now wholes.now }
-    ensures { IfOk result (IsLeafAnswer program.now wholes.now) }
+    ensures { IfOk result (IsValuesAnswer program.now wholes.now) }
 {
     let _columns = program.columns();
     if are_all_whole(program.whole()) {
@@ -202,4 +204,24 @@ pub fn leaf(alloc: Global, program: &Program, wholes: &[Frac]) -> Result<LeafAns
         }),
         Err(RowsFault::NoMemory) => Err(AllocError),
     }
+}
+
+/// What is known of a leaf of a program, given by its values, which are whole and lie within the bounds, one for each
+/// whole column by rising column, and by whether each semi-continuous column is on, by rising column: a point of least
+/// cost, that there is none, that the cost falls without end, or that the leaf is wide. `NoPoint` comes exactly where
+/// the leaf has no point and the answer isn't `Wide`; `Wide` comes only where the leaf is wide by what is shown. A
+/// semi-continuous column lies between its own sides where it is on, and is 0 where it is off. `Err` where memory was
+/// refused.
+pub fn leaf(
+    alloc: Global,
+    program: &Program,
+    wholes: &[Frac],
+    on: &[bool],
+) -> Result<LeafAnswer, AllocError>
+    requires { IsLeafOf program.now (record { values = wholes.now; on = on.now }) }
+    ensures { IfOk result (IsLeafAnswer program.now (record { values = wholes.now; on = on.now })) }
+{
+    let _columns = program.columns();
+    let decided = Decided::new(program, on);
+    values_answer(alloc, &decided, wholes)
 }

@@ -1,12 +1,13 @@
 //! Lists by column: points put together, the new numbers of continuous columns, and their sides and costs.
-ghost use Rattle.std.specs.Prelude.{◌≡◌, ◌≤◌, [], length, IfOk};
+ghost use Rattle.std.specs.Prelude.{◌≡◌, ◌+◌, ◌≤◌, [], length, slice_get, IfOk};
 ghost use Rattle.cip_problem.specs.Activity.{value_at};
 ghost use Rattle.cip_problem.specs.Limits.{most_columns};
 ghost use Rattle.cip_leaves.specs.LeafProgram as program;
-ghost use Rattle.cip_leaf.specs.Building.{numbers_from};
+ghost use Rattle.cip_problem.specs.Choices.{decided_box};
+ghost use Rattle.cip_leaf.specs.Building.{numbers_from, sides_made, made_more};
 
 use cip_frac::Frac;
-use cip_lin::{Bounds, Sides};
+use cip_lin::{Bounds, Choices, Sides};
 use std::alloc::{AllocError, Global};
 
 /// The value at a place, 0 past the end.
@@ -59,6 +60,59 @@ pub(crate) fn new_numbers(alloc: Global, whole: &[bool]) -> Result<Vec<u32>, All
         }
     }
     Ok(numbers)
+}
+
+/// The sides of a column where its choice is made, if it is open: its own ones where it is on, and else 0.
+fn made_sides(own: Option<Sides>, on: Option<bool>, sides: Sides) -> Sides
+    ensures { result ≡ sides_made own on sides }
+{
+    match (own, on) {
+        (Some(own), Some(true)) => own,
+        (Some(_), Some(false)) => Sides::zero(),
+        _ => sides,
+    }
+}
+
+/// How many choices of the leaf are taken behind a column, where so many were before it.
+fn taken_behind(own: &Option<Sides>, on: Option<bool>, taken: usize) -> usize
+    requires { taken ≤ most_columns }
+    ensures { result ≡ taken + made_more own.now on }
+{
+    match (own, on) {
+        (Some(_), Some(_)) => taken + 1,
+        _ => taken,
+    }
+}
+
+/// The entry of this place, if it is there.
+fn entry_at(on: &[bool], at: usize) -> Option<bool>
+    ensures { result ≡ slice_get on.now at }
+{
+    match on.get(at) {
+        Some(is_on) => Some(*is_on),
+        None => None,
+    }
+}
+
+/// The sides of the columns where their choices are made; `Err` where memory was refused.
+pub(crate) fn decided_sides(
+    alloc: Global,
+    bounds: &Bounds,
+    choices: &Choices,
+    on: &[bool],
+) -> Result<Bounds, AllocError>
+    requires { length bounds.now ≤ most_columns }
+    ensures { IfOk result (λ decided. decided ≡ decided_box choices.now bounds.now on.now) }
+{
+    let mut decided = Bounds::new(alloc, 0)?;
+    let mut taken = 0;
+    for column in 0..bounds.len() as u32 {
+        let own = choices.at(column).own();
+        let is_on = entry_at(on, taken);
+        taken = taken_behind(&own, is_on, taken);
+        decided.push(made_sides(own, is_on, bounds.sides(column)))?;
+    }
+    Ok(decided)
 }
 
 /// The sides of the continuous columns; `Err` where memory was refused.

@@ -1,11 +1,12 @@
 //! Leaves of a program whose columns are all whole.
 ghost use Rattle.std.specs.Prelude.{◌≡◌, true, All, IfOk, MatchBool};
 ghost use Rattle.cip_leaves.specs.Leaf.{IsLeaf};
-ghost use Rattle.cip_leaf.specs.LeafAnswers.{IsLeafAnswer};
+ghost use Rattle.cip_leaf.specs.LeafAnswers.{IsValuesAnswer};
 
 use crate::answers::{LeafAnswer, Shown};
+use crate::decided::Decided;
 use cip_frac::Frac;
-use cip_model::{Program, Verdict};
+use cip_model::Verdict;
 use std::alloc::{AllocError, Global};
 
 /// Whether no column is continuous.
@@ -19,15 +20,15 @@ pub(crate) fn are_all_whole(whole: &[bool]) -> bool
 /// refused.
 pub(crate) fn tested(
     alloc: Global,
-    program: &Program,
+    program: &Decided,
     leaf: &[Frac],
 ) -> Result<LeafAnswer, AllocError>
     requires leaf { IsLeaf program.now leaf.now }
     requires whole { All (λ whole. whole ≡ true) program.now.integral }
-    ensures { IfOk result (IsLeafAnswer program.now leaf.now) }
+    ensures { IfOk result (IsValuesAnswer program.now leaf.now) }
 {
-    let _columns = program.columns();
-    match program.check(leaf) {
+    let _whole = program.whole();
+    match program.check_whole(leaf) {
         Verdict::Feasible(cost) => Ok(LeafAnswer::Best {
             point: leaf.to_vec(alloc)?,
             cost,

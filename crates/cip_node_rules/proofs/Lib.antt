@@ -1,2 +1,3 @@
 pub mod BothSides
+pub mod OpenChoices
 pub mod Places

@@ -1,4 +1,5 @@
 pub mod BoxLooks
+pub mod OpenChoices
 pub mod OpenColumns
 pub mod RootBounds
 pub mod SplitRules

@@ -1,13 +1,16 @@
--- Where a box is split: the first open column whose value in the last linear program isn't whole, at its floor; else the
--- first open column, at the middle of its whole values. An open side lets it be split at 0. A number that leaves no whole
--- value on one side is moved to the nearest that does.
+-- Where a box with choices is split: the first open column whose value in the last linear program isn't whole, at its
+-- floor; else the first open column, at the middle of its whole values. An open side lets it be split at 0. A number
+-- that leaves no whole value on one side is moved to the nearest that does. Where no whole column is open, the choice is
+-- made of the first column whose choice is open and doesn't allow its value in the last linear program; else of the
+-- first column whose choice is open.
 use Rattle.std.specs.Prelude.{◌≡◌, ◌⊎◌, ℕ, ◌+◌, ◌^◌, ◌≤◌, ℤ, pos, ◌+ℤ◌, ◌-ℤ◌, int_lt, unsigned_abs, Bool, List, length, Option, None, Some, IfSome, if◌then◌else◌}
 use Rattle.cip_rational.specs.Rational.{ℚ, integer, floor, ceil}
-use Rattle.cip_problem.specs.Program.{Sides}
+use Rattle.cip_problem.specs.Program.{Sides, Choice}
 use Rattle.cip_problem.specs.Activity.{value_at}
 use Rattle.cip_problem.specs.Box.{sides_at}
 use Rattle.cip_problem.specs.Wholes.{HasWhole}
 use Rattle.cip_node_rules.specs.OpenColumns.{is_open_at, is_fractional_at, IsFirstColumn, PassesNowhere}
+use Rattle.cip_node_rules.specs.OpenChoices.{is_choice_open, is_unallowed}
 
 -- ---- where a column is split
 
@@ -47,12 +50,33 @@ pub record IsAtMiddle (integral : List Bool) (box : List Sides) (column : ℕ) (
   pub first : IsFirstColumn (is_open_at integral box) (length integral) column
   pub place : IsMiddle (sides_at box column).low (sides_at box column).high at
 
--- the split of a box: by a point of its linear program, if there is one, else at the middle
+-- the split of a whole column: by a point of its linear program, if there is one, else at the middle
 abbrev pub IsSplitRule : List Bool → List Sides → Option (List ℚ) → ℕ → ℤ → Type 0
 IsSplitRule integral box None column at = IsAtMiddle integral box column at
 IsSplitRule integral box (Some point) column at =
     IsAtFraction integral box point column at
     ⊎ (PassesNowhere (is_fractional_at integral box point) (length integral) × IsAtMiddle integral box column at)
+
+-- of the first so many columns the one whose choice is made: by a point of its linear program, if there is one, else
+-- the first whose choice is open
+abbrev pub IsChoiceRule : List Choice → Option (List ℚ) → (columns column : ℕ) → Type 0
+IsChoiceRule choices None columns column = IsFirstColumn (is_choice_open choices) columns column
+IsChoiceRule choices (Some point) columns column =
+    IsFirstColumn (is_unallowed choices point) columns column
+    ⊎ (PassesNowhere (is_unallowed choices point) columns × IsFirstColumn (is_choice_open choices) columns column)
+
+-- a choice is made, as no whole column has two whole values; it has no place
+pub record IsAtChoice
+    (integral : List Bool) (box : List Sides) (choices : List Choice) (point : Option (List ℚ)) (column : ℕ) (at : ℤ)
+    : Type 0 where
+  pub none_open : PassesNowhere (is_open_at integral box) (length integral)
+  pub first : IsChoiceRule choices point (length integral) column
+  pub place : at ≡ pos 0
+
+-- the split of a box with choices: whole columns come first
+abbrev pub IsNodeRule : List Bool → List Sides → List Choice → Option (List ℚ) → ℕ → ℤ → Type 0
+IsNodeRule integral box choices point column at =
+    IsSplitRule integral box point column at ⊎ IsAtChoice integral box choices point column at
 
 -- ---- what holds of the place
 

@@ -2,6 +2,7 @@
 //! pruned, where it is split, and whether its bound may be rounded.
 #![tactic(auto)]
 
+mod choices;
 mod columns;
 mod looks;
 mod pruning;
@@ -9,6 +10,7 @@ mod roots;
 mod splits;
 mod values;
 
+pub use choices::{choice_column, chosen_choice, unallowed_column};
 pub use columns::{fractional_column, has_whole, lacking_column, open_column};
 pub use looks::{Looked, look_at};
 pub use pruning::matters;

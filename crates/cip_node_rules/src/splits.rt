@@ -5,18 +5,21 @@ ghost use Rattle.cip_rational.specs.Range.{magnitude, largest};
 ghost use Rattle.cip_problem.specs.Box.{two_wholes_between, sides_at};
 ghost use Rattle.cip_problem.specs.Limits.{most_columns};
 ghost use Rattle.cip_node_rules.specs.OpenColumns.{is_open_at, PassesNowhere};
-ghost use Rattle.cip_node_rules.specs.SplitRules.{moved, raised_to, lowered_to, IsHalf, IsMiddle, IsSplitRule, SplitsLeaveBoth};
+ghost use Rattle.cip_node_rules.specs.OpenChoices.{IsSettledBox};
+ghost use Rattle.cip_node_rules.specs.SplitRules.{moved, raised_to, lowered_to, IsHalf, IsMiddle, IsSplitRule, IsNodeRule, SplitsLeaveBoth};
 
+use crate::choices::chosen_choice;
 use crate::columns::{fractional_column, open_column};
 use cip_frac::Frac;
-use cip_lin::{Bounds, Sides};
+use cip_lin::{Bounds, Choices, Sides};
 
-/// Where a box is split: the column is at most `at`, or at least `at + 1`.
+/// Where a box is split: the column is at most `at`, or at least `at + 1`; or, where its choice is open, that is made,
+/// off or on.
 #[derive(Clone, Copy, Debug, PartialEq, Eq)]
 pub struct SplitPlace {
     /// The number of the column.
     pub col: u32,
-    /// The whole number.
+    /// The whole number; 0 where a choice is made.
     pub at: i128,
 }
 
@@ -93,7 +96,7 @@ pub fn middle(sides: Sides) -> i128
 /// Where a box is split that has a whole column with two whole values: by the point of its linear program, if there is
 /// one, at the first of these columns whose value isn't whole and not farther than 2^100 from 0, at its floor; else at
 /// the first, at the middle of its whole values. `None` exactly where no whole column has two whole values.
-pub fn chosen_place(whole: &[bool], bounds: &Bounds, point: Option<&[Frac]>) -> Option<SplitPlace>
+fn whole_place(whole: &[bool], bounds: &Bounds, point: Option<&[Frac]>) -> Option<SplitPlace>
     requires columns { length whole.now ≤ most_columns }
     requires long { length whole.now ≡ length bounds.now }
     requires values { IfSome point (λ values. length values.now ≡ length bounds.now) }
@@ -111,8 +114,32 @@ pub fn chosen_place(whole: &[bool], bounds: &Bounds, point: Option<&[Frac]>) -> 
     Some(SplitPlace { col, at })
 }
 
-/// A split by these rules leaves a whole value on both sides, and no whole number that it names is farther from 0 than
-/// 1 past the sides and 2^100.
+/// Where a box with choices is split: at a whole column with two whole values, if there is one, by the point of its
+/// linear program, if there is one, at the first of these columns whose value isn't whole and not farther than 2^100
+/// from 0, at its floor, else at the first, at the middle of its whole values; and else at the column whose choice is
+/// made next (`chosen_choice`). `None` exactly where no whole column has two whole values and no choice is open.
+pub fn chosen_place(
+    whole: &[bool],
+    bounds: &Bounds,
+    choices: &Choices,
+    point: Option<&[Frac]>,
+) -> Option<SplitPlace>
+    requires columns { length whole.now ≤ most_columns }
+    requires long { length whole.now ≡ length bounds.now }
+    requires values { IfSome point (λ values. length values.now ≡ length bounds.now) }
+    ensures { MatchOption result (IsSettledBox whole.now bounds.now choices.now)
+        (λ place. IsNodeRule whole.now bounds.now choices.now (option_map (λ values. values.now) point.entry)
+        place.col place.at) }
+{
+    if let Some(place) = whole_place(whole, bounds, point) {
+        return Some(place);
+    }
+    let col = chosen_choice(whole.len(), choices, point)?;
+    Some(SplitPlace { col, at: 0 })
+}
+
+/// A split of a whole column by these rules leaves a whole value on both sides, and no whole number that it names is
+/// farther from 0 than 1 past the sides and 2^100.
 pub fn splits_leave_both()
     ensures { SplitsLeaveBoth }
 {}

@@ -1,10 +1,18 @@
-use Rattle.std.proofs.Common.{◌≡◌, rules}
+use Rattle.std.proofs.Common.{◌≡◌, sym, subst, rules}
 use Rattle.cip_leaves.specs.LeafProgram.{merged}
 use Rattle.cip_model.specs.declared.verdicts.Verdict.TheVariants.{Feasible}
 use Rattle.cip_model.specs.Meaning.{VerdictHolds}
 use Rattle.cip_model.specs.Verdicts.{verdict_of}
 use Rattle.cip_leaf.proofs.Ends.{best_on}
+use Rattle.cip_leaves.proofs.Merged.{point_back}
+use Rattle.cip_problem.specs.Points.{IsFeasible}
 use Rattle.cip_leaf.proofs.few_moves.best_of.Goals as goal
+
+pub check-requires-clause-feasible : goal.check-requires-clause-feasible
+check-requires-clause-feasible c =
+    let program = c.args.program.now in
+    let p : c.as_slice.result.now ≡ merged program.integral c.args.leaf.now c.args.others.now = search rules in
+    subst (IsFeasible program) (sym p) (point_back program c.args.leaf.now c.args.others.now c.whole.ensures.formed c.whole.ensures.none c.requires.leaf c.requires.optimal.optimal.is_point).feasible
 
 pub returns-in-Feasible : goal.returns-in-Feasible
 returns-in-Feasible c =
@@ -12,4 +20,4 @@ returns-in-Feasible c =
     let p : c.in_ok-point.point.items ≡ merged program.integral c.args.leaf.now c.args.others.now = search rules in
     let v : verdict_of program c.in_ok-point.point.items ≡ Feasible c.in-Feasible.cost = search rules in
     let m : VerdictHolds program c.in_ok-point.point.items (Feasible c.in-Feasible.cost) = search rules in
-    best_on program c.args.leaf.now c.whole.ensures.formed c.requires.leaf c.args.others.now c.in_ok-point.point.items c.requires.optimal.cost c.in-Feasible.cost c.requires.optimal.optimal p v m.1
+    best_on program c.args.leaf.now c.whole.ensures.formed c.whole.ensures.none c.requires.leaf c.args.others.now c.in_ok-point.point.items c.requires.optimal.cost c.in-Feasible.cost c.requires.optimal.optimal p v m.1

@@ -1,12 +1,20 @@
-use Rattle.std.proofs.Common.{◌≡◌, rules}
+use Rattle.std.proofs.Common.{◌≡◌, sym, subst, rules}
 use Rattle.cip_leaves.specs.LeafProgram.{merged}
 use Rattle.cip_model.specs.Rays.{IsShownRay}
 use Rattle.cip_leaf.proofs.Rays.{ray_on}
+use Rattle.cip_leaves.proofs.Merged.{point_back}
+use Rattle.cip_problem.specs.Points.{IsFeasible}
 use Rattle.cip_leaf.proofs.few_moves.ray_of.Goals as goal
+
+pub check_ray-requires-clause-feasible : goal.check_ray-requires-clause-feasible
+check_ray-requires-clause-feasible c =
+    let program = c.args.program.now in
+    let p : c.as_slice.result.now ≡ merged program.integral c.args.leaf.now c.args.others.now = search rules in
+    subst (IsFeasible program) (sym p) (point_back program c.args.leaf.now c.args.others.now c.whole.ensures.formed c.whole.ensures.none c.requires.leaf c.requires.point).feasible
 
 pub returns-then-check_ray : goal.returns-then-check_ray
 returns-then-check_ray c =
     let program = c.args.program.now in
     let p : c.in_ok-point.point.items ≡ merged program.integral c.args.leaf.now c.args.others.now = search rules in
     let s : IsShownRay program c.in_ok-point.point.items c.in_ok-ray.ray.items = search rules in
-    ray_on program c.args.leaf.now c.whole.ensures.formed c.requires.leaf c.args.others.now c.in_ok-point.point.items c.in_ok-ray.ray.items c.requires.point p s
+    ray_on program c.args.leaf.now c.whole.ensures.formed c.whole.ensures.none c.requires.leaf c.args.others.now c.in_ok-point.point.items c.in_ok-ray.ray.items c.requires.point p s

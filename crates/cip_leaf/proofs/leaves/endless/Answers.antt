@@ -6,22 +6,35 @@ use Rattle.cip_model.specs.Meaning.{Overflows}
 use Rattle.cip_model.specs.Rays.{IsShownRay}
 use Rattle.cip_model.specs.Verdicts.{verdict_of}
 use Rattle.cip_leaf.specs.LeafAnswers.{IsFirstAlong}
-use Rattle.cip_leaf.proofs.Rays.{ray_of_leaf, point_wide, ray_wide}
+use Rattle.cip_leaf.proofs.Rays.{endless_point, ray_of_leaf, point_wide, ray_wide}
+use Rattle.cip_problem.specs.Points.{IsFeasible}
 use Rattle.cip_leaf.proofs.leaves.endless.Goals as goal
+
+pub check-requires-clause-feasible : goal.check-requires-clause-feasible
+check-requires-clause-feasible c =
+    let program = c.args.program.now in
+    let p : c.as_slice.result.now ≡ merged program.integral c.args.leaf.now c.args.others.now = search rules in
+    subst (IsFeasible program) (sym p) (endless_point program c.args.leaf.now c.whole.ensures.formed c.whole.ensures.none c.requires.leaf c.args.others.now c.args.direction.now c.requires.end).feasible
+
+pub check_ray-requires-clause-feasible : goal.check_ray-requires-clause-feasible
+check_ray-requires-clause-feasible c =
+    let program = c.args.program.now in
+    let p : c.as_slice-2.result.now ≡ merged program.integral c.args.leaf.now c.args.others.now = search rules in
+    subst (IsFeasible program) (sym p) (endless_point program c.args.leaf.now c.whole.ensures.formed c.whole.ensures.none c.requires.leaf c.args.others.now c.args.direction.now c.requires.end).feasible
 
 pub returns-in-Wide : goal.returns-in-Wide
 returns-in-Wide c =
     let program = c.args.program.now in
     let p : c.in_ok-point.point.items ≡ merged program.integral c.args.leaf.now c.args.others.now = search rules in
     let m : Overflows program c.in_ok-point.point.items c.in-Wide.place = search rules in
-    point_wide program c.args.leaf.now c.whole.ensures.formed c.requires.leaf c.args.others.now c.args.direction.now c.in_ok-point.point.items c.in-Wide.place c.requires.end p m
+    point_wide program c.args.leaf.now c.whole.ensures.formed c.whole.ensures.none c.requires.leaf c.args.others.now c.args.direction.now c.in_ok-point.point.items c.in-Wide.place c.requires.end p m
 
 pub returns-then-check_ray : goal.returns-then-check_ray
 returns-then-check_ray c =
     let program = c.args.program.now in
     let p : c.in_ok-point.point.items ≡ merged program.integral c.args.leaf.now c.args.others.now = search rules in
     let s : IsShownRay program c.in_ok-point.point.items c.in_ok-ray.ray.items = search rules in
-    ray_of_leaf program c.args.leaf.now c.whole.ensures.formed c.requires.leaf c.args.others.now c.args.direction.now c.in_ok-point.point.items c.in_ok-ray.ray.items c.requires.end p s
+    ray_of_leaf program c.args.leaf.now c.whole.ensures.formed c.whole.ensures.none c.requires.leaf c.args.others.now c.args.direction.now c.in_ok-point.point.items c.in_ok-ray.ray.items c.requires.end p s
 
 pub returns : goal.returns
 returns c =
@@ -32,4 +45,4 @@ returns c =
     let n : (found : Place) → ¬ (verdict_of program c.in_ok-point.point.items ≡ Wide found) = λ found e. c.in_default.not-Wide found (v ∙ e) in
     let s : ¬ IsShownRay program c.in_ok-point.point.items c.in_ok-ray.ray.items = λ k. (let t = c.if-check_ray.ensures.shown.1 (subst (λ x. IsShownRay program x c.as_slice-3.result.now) (sym c.as_slice-2.ensures.value) (subst (IsShownRay program c.in_ok-point.point.items) (sym c.as_slice-3.ensures.value) k)) in absurd (cc)) in
     let h : IsFirstAlong program.rows c.in_ok-ray.ray.items c.first_along.result = subst (λ r. IsFirstAlong program.rows r c.first_along.result) c.as_slice-4.ensures.value (subst (λ rows. IsFirstAlong rows c.as_slice-4.result.now c.first_along.result) c.rows.ensures.rows c.first_along.ensures) in
-    ray_wide program c.args.leaf.now c.whole.ensures.formed c.requires.leaf c.args.others.now c.args.direction.now c.in_ok-point.point.items c.in_ok-ray.ray.items c.first_along.result c.requires.end p q n s h
+    ray_wide program c.args.leaf.now c.whole.ensures.formed c.whole.ensures.none c.requires.leaf c.args.others.now c.args.direction.now c.in_ok-point.point.items c.in_ok-ray.ray.items c.first_along.result c.requires.end p q n s h

@@ -1,8 +1,8 @@
-use Rattle.std.proofs.Common.{inl}
-use Rattle.cip_leaf.proofs.Sums.{part_overflows}
+use Rattle.cip_leaf.proofs.ChoicesMade.{leaf_answer}
 use Rattle.cip_leaf.proofs.leaves.leaf.Goals as goal
 
-pub returns-in-Err-Wide : goal.returns-in-Err-Wide
-returns-in-Err-Wide c =
-    let fault = rw c.in-Err-Wide.field-0-is at c.in-Err-Wide.ensures in
-    rw c.in-Err-Wide.number-is (inl (part_overflows c.args.program.now c.args.wholes.now c.in-Err-Wide.number c.columns-columns.ensures.formed c.requires fault))
+pub returns : goal.returns
+returns c =
+    let formed = c.columns-columns.ensures.formed in
+    let e = c.new-decided.ensures in
+    leaf_answer c.args.program.now (record { values = c.args.wholes.now; on = c.args.on.now }) c.values_answer.result formed c.requires.each (rw e at c.values_answer.ensures)

@@ -5,14 +5,21 @@ use Rattle.cip_model.specs.declared.verdicts.Verdict.TheVariants.{Feasible}
 use Rattle.cip_model.specs.Meaning.{VerdictHolds, Overflows}
 use Rattle.cip_model.specs.Verdicts.{verdict_of}
 use Rattle.cip_leaf.proofs.Ends.{best_by, settled, optimum_point, optimum_wide}
+use Rattle.cip_problem.specs.Points.{IsFeasible}
 use Rattle.cip_leaf.proofs.leaves.optimum.Goals as goal
+
+pub check-requires-clause-feasible : goal.check-requires-clause-feasible
+check-requires-clause-feasible c =
+    let program = c.args.program.now in
+    let p : c.as_slice.result.now ≡ merged program.integral c.args.leaf.now c.args.others.now = search rules in
+    subst (IsFeasible program) (sym p) (optimum_point program c.args.leaf.now c.whole.ensures.formed c.whole.ensures.none c.requires.leaf c.args.others.now c.requires.end).feasible
 
 pub unreachable-requires : goal.unreachable-requires
 unreachable-requires c =
     let program = c.args.program.now in
     let p : c.as_slice.result.now ≡ merged program.integral c.args.leaf.now c.args.others.now = search rules in
-    settled program c.args.leaf.now c.whole.ensures.formed c.requires.leaf c.as_slice.result.now c.check.result
-    (subst (IsPointOf program c.args.leaf.now) (sym p) (optimum_point program c.args.leaf.now c.whole.ensures.formed c.requires.leaf c.args.others.now c.requires.end))
+    settled program c.args.leaf.now c.whole.ensures.formed c.whole.ensures.none c.requires.leaf c.as_slice.result.now c.check.result
+    (subst (IsPointOf program c.args.leaf.now) (sym p) (optimum_point program c.args.leaf.now c.whole.ensures.formed c.whole.ensures.none c.requires.leaf c.args.others.now c.requires.end))
     c.check.ensures.verdict c.in_default.not-Feasible c.in_default.not-Wide
 
 pub returns-in-Feasible : goal.returns-in-Feasible
@@ -21,11 +28,11 @@ returns-in-Feasible c =
     let p : c.in_ok-point.point.items ≡ merged program.integral c.args.leaf.now c.args.others.now = search rules in
     let v : verdict_of program c.in_ok-point.point.items ≡ Feasible c.in-Feasible.cost = search rules in
     let m : VerdictHolds program c.in_ok-point.point.items (Feasible c.in-Feasible.cost) = search rules in
-    best_by program c.args.leaf.now c.whole.ensures.formed c.requires.leaf c.args.others.now c.in_ok-point.point.items c.in-Feasible.cost c.requires.end p v m.1
+    best_by program c.args.leaf.now c.whole.ensures.formed c.whole.ensures.none c.requires.leaf c.args.others.now c.in_ok-point.point.items c.in-Feasible.cost c.requires.end p v m.1
 
 pub returns-in-Wide : goal.returns-in-Wide
 returns-in-Wide c =
     let program = c.args.program.now in
     let p : c.in_ok-point.point.items ≡ merged program.integral c.args.leaf.now c.args.others.now = search rules in
     let m : Overflows program c.in_ok-point.point.items c.in-Wide.place = search rules in
-    optimum_wide program c.args.leaf.now c.whole.ensures.formed c.requires.leaf c.args.others.now c.in_ok-point.point.items c.in-Wide.place c.requires.end p m
+    optimum_wide program c.args.leaf.now c.whole.ensures.formed c.whole.ensures.none c.requires.leaf c.args.others.now c.in_ok-point.point.items c.in-Wide.place c.requires.end p m

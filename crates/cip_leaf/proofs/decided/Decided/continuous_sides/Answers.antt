@@ -1,0 +1,12 @@
+use Rattle.std.proofs.Common.{◌≡◌, ◌∙◌, length, ap, sym, rules}
+use Rattle.cip_problem.specs.Choices.{decided_box}
+use Rattle.cip_problem.proofs.Choices.Decided.{decided_formed}
+use Rattle.cip_leaf.proofs.decided.Decided.continuous_sides.Goals as goal
+
+pub continuous_sides-requires-2 : goal.continuous_sides-requires-2
+continuous_sides-requires-2 c =
+    let program = c.self.inside.program.now in
+    let on = c.self.inside.on.now in
+    let formed = c.whole-whole.ensures.formed in
+    let e : c.as_slice-2.result.now ≡ decided_box program.choices program.bounds on = search rules in
+    ap length c.whole-whole.ensures.whole ∙ formed.integral ∙ sym (decided_formed program on formed).bounds ∙ sym (ap length e)

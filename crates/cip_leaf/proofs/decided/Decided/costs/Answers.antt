@@ -1,0 +1,7 @@
+use Rattle.std.proofs.Common.{subst}
+use Rattle.cip_problem.specs.WellFormed.{IsWellFormed}
+use Rattle.cip_problem.proofs.Choices.Decided.{decided_formed}
+use Rattle.cip_leaf.proofs.decided.Decided.costs.Goals as goal
+
+pub returns-clause-formed : goal.returns-clause-formed
+returns-clause-formed c = subst IsWellFormed c.self.view_is (decided_formed c.self.inside.program.now c.self.inside.on.now c.costs.ensures.formed)
