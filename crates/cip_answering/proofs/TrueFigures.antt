@@ -38,7 +38,7 @@ status_same rows Infeasible = refl
 status_same rows (Unbounded ray) = refl
 status_same rows NodeLimit = refl
 status_same rows Gap = refl
-status_same rows (Wide leaf shown) = ap (PrintedWide leaf.items) (overflow_same rows shown)
+status_same rows (Wide leaf on shown) = ap (PrintedWide (record { values = leaf.items; on = on.items })) (overflow_same rows shown)
 status_same rows NoMemory = refl
 
 held_same : (program : Program) (held : Option Held) → option_map (held_printed program) (option_map held_of held) ≡ option_map (printed_held program) held
@@ -72,7 +72,7 @@ lacks Infeasible e = absurd (cc)
 lacks (Unbounded ray) e = absurd (cc)
 lacks NodeLimit e = absurd (cc)
 lacks Gap e = absurd (cc)
-lacks (Wide leaf shown) e = absurd (cc)
+lacks (Wide leaf on shown) e = absurd (cc)
 lacks NoMemory e = refl
 
 -- a right answer has true figures

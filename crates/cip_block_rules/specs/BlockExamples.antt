@@ -21,6 +21,7 @@ four_columns rows = record {
   maximized = false;
   integral = false ∷ false ∷ false ∷ false ∷ [];
   bounds = up_to 1 ∷ up_to 1 ∷ up_to 1 ∷ up_to 1 ∷ [];
+  choices = [];
 }
 
 -- 2 x1 + 2 x2 is at most 3, and 2 y1 + 2 y2, and x1 + x2 + y1 + y2

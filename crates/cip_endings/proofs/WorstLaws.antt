@@ -4,6 +4,7 @@ use Rattle.std.proofs.lemmas.List.Elements.{Contains-append_cases}
 use Rattle.cip_rational.specs.Rational.{ℚ}
 use Rattle.cip_problem.specs.Program.{Program}
 use Rattle.cip_problem.specs.Log.{Node}
+use Rattle.cip_leaves.specs.Leaf.{Leaf}
 use Rattle.cip_leaves.specs.Searched.{NoMore}
 use Rattle.cip_leaves.specs.WideLeaf.{Shown}
 use Rattle.cip_search.proofs.Members.{only_one, none_in}
@@ -15,7 +16,7 @@ use Rattle.cip_endings.specs.Worst.{IsFirstWorst}
 use Rattle.cip_endings.proofs.BoundLaws.{no_more_tells, more_tells, more_below}
 
 -- the first one
-pub first_worst : (program : Program) (node : Node) (leaf : List ℚ) (bound : Option ℚ) (shown : Shown) → node.bound ≡ bound → IsWideAs program node leaf shown → IsFirstWorst program (node ∷ []) leaf bound shown
+pub first_worst : (program : Program) (node : Node) (leaf : Leaf) (bound : Option ℚ) (shown : Shown) → node.bound ≡ bound → IsWideAs program node leaf shown → IsFirstWorst program (node ∷ []) leaf bound shown
 first_worst program node leaf bound shown e p = record {
   at = record {
     before = [];
@@ -32,7 +33,7 @@ first_worst program node leaf bound shown e p = record {
 }
 
 -- it stays, where its bound is no more
-pub stays_worst : (program : Program) (parked : List Node) (node : Node) (leaf other : List ℚ) (bound more : Option ℚ) (shown by : Shown) → is_no_more bound more ≡ true → IsFirstWorst program parked leaf bound shown → node.bound ≡ more → IsWideAs program node other by → IsFirstWorst program (parked ++ node ∷ []) leaf bound shown
+pub stays_worst : (program : Program) (parked : List Node) (node : Node) (leaf other : Leaf) (bound more : Option ℚ) (shown by : Shown) → is_no_more bound more ≡ true → IsFirstWorst program parked leaf bound shown → node.bound ≡ more → IsWideAs program node other by → IsFirstWorst program (parked ++ node ∷ []) leaf bound shown
 stays_worst program parked node leaf other bound more shown by t w e p = record {
   at = record {
     before = w.at.before;
@@ -52,7 +53,7 @@ stays_worst program parked node leaf other bound more shown by t w e p = record 
 }
 
 -- another one is worse, where it isn't
-pub new_worst : (program : Program) (parked : List Node) (node : Node) (leaf other : List ℚ) (bound more : Option ℚ) (shown by : Shown) → is_no_more bound more ≡ false → IsFirstWorst program parked leaf bound shown → node.bound ≡ more → IsWideAs program node other by → IsFirstWorst program (parked ++ node ∷ []) other more by
+pub new_worst : (program : Program) (parked : List Node) (node : Node) (leaf other : Leaf) (bound more : Option ℚ) (shown by : Shown) → is_no_more bound more ≡ false → IsFirstWorst program parked leaf bound shown → node.bound ≡ more → IsWideAs program node other by → IsFirstWorst program (parked ++ node ∷ []) other more by
 new_worst program parked node leaf other bound more shown by t w e p =
     let below : NoMore node.bound bound = subst (λ b. NoMore b bound) (sym e) (more_below bound more t) in
     record {

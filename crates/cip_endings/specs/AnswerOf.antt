@@ -14,7 +14,7 @@ ended_of Infeasible = ends.Infeasible
 ended_of (Unbounded ray) = ends.Unbounded ray.items
 ended_of NodeLimit = ends.NodeLimit
 ended_of Gap = ends.Gap
-ended_of (Wide leaf shown) = ends.Wide leaf.items (shown_as shown)
+ended_of (Wide leaf on shown) = ends.Wide (record { values = leaf.items; on = on.items }) (shown_as shown)
 ended_of NoMemory = ends.NoMemory
 
 abbrev pub held_of : Held → ends.Held

@@ -1,12 +1,13 @@
 -- How a search ends by what it has found and by what is left of it.
-use Rattle.std.specs.Prelude.{◌≡◌, Bool, true, false, List, Option, None, Some, IsSome}
+use Rattle.std.specs.Prelude.{◌≡◌, Bool, true, false, Option, None, Some, IsSome}
 use Rattle.cip_rational.specs.Rational.{ℚ}
 use Rattle.cip_problem.specs.Log.{matters}
+use Rattle.cip_leaves.specs.Leaf.{Leaf}
 use Rattle.cip_leaf.specs.declared.answers.Shown.{Shown}
 use Rattle.cip_report.specs.declared.figures.Ended.{Ended}
 use Rattle.cip_report.specs.declared.figures.Ended.TheVariants.{Optimal, Infeasible, Unbounded, NodeLimit}
 use Rattle.cip_report.specs.declared.figures.Ended.TheVariants.{Gap, Wide, NoMemory}
-use Rattle.cip_endings.specs.Worst.{worst_bound}
+use Rattle.cip_endings.specs.Worst.{leaf_of, worst_bound}
 use Rattle.cip_endings.specs.declared.worst.Worst.{Worst}
 
 -- there is a bound, and it matters beside the cost held
@@ -15,10 +16,10 @@ one_matters held None = false
 one_matters held (Some bound) = matters held bound
 
 -- the worst leaf matters, and is shown
-pub record IsShownWorst (held : Option ℚ) (worst : Option Worst) (leaf : List ℚ) (shown : Shown) : Type 0 where
+pub record IsShownWorst (held : Option ℚ) (worst : Option Worst) (leaf : Leaf) (shown : Shown) : Type 0 where
   pub found : Worst
   pub is_worst : worst ≡ Some found
-  pub leaf_is : leaf ≡ found.leaf.items
+  pub leaf_is : leaf ≡ leaf_of found
   pub shown_is : shown ≡ found.shown
   pub matter : matters held found.bound ≡ true
 
@@ -32,6 +33,7 @@ EndsBy held open_ worst Infeasible =
 EndsBy held open_ worst (Unbounded ray) = ⊥
 EndsBy held open_ worst NodeLimit = one_matters held open_ ≡ true
 EndsBy held open_ worst Gap = ⊥
-EndsBy held open_ worst (Wide leaf shown) =
-    (one_matters held open_ ≡ false) × IsShownWorst held worst leaf.items shown
+EndsBy held open_ worst (Wide leaf on shown) =
+    (one_matters held open_ ≡ false)
+    × IsShownWorst held worst (record { values = leaf.items; on = on.items }) shown
 EndsBy held open_ worst NoMemory = ⊥

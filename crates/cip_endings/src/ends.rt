@@ -32,6 +32,7 @@ fn ended_by(held: &Option<Frac>, waiting: &Option<Option<Frac>>, worst: Option<W
         return match worst {
             Some(worst) => Ended::Wide {
                 leaf: worst.leaf,
+                on: worst.on,
                 shown: worst.shown,
             },
             None => unreachable!(),

@@ -7,11 +7,13 @@ use crate::bounds::{bound_held, is_no_more, least_of};
 use cip_frac::Frac;
 use cip_leaf::Shown;
 
-/// The parked leaf of least bound, the first of these: its values, its bound, and by what it is shown.
+/// The parked leaf of least bound, the first of these: its values and choices, its bound, and by what it is shown.
 #[derive(Debug, Drop)]
 pub struct Worst {
     /// The value of each whole column, by rising column.
     pub leaf: Vec<Frac>,
+    /// Whether each semi-continuous column is on, by rising column.
+    pub on: Vec<bool>,
     /// The bound of its node, if that had one.
     pub bound: Option<Frac>,
     /// What overflows there.

@@ -4,7 +4,7 @@ use Rattle.std.proofs.Common.{sym, ap, ◌∙◌, subst, inl, inr, arith}
 use Rattle.cip_io.specs.Faults.{Rose}
 use Rattle.cip_io.specs.Store.{StoreTells}
 use Rattle.cip_problem.specs.Program.{Program}
-use Rattle.cip_problem.specs.Wholes.{assignments}
+use Rattle.cip_problem.specs.Log.{root, leaf_count}
 use Rattle.cip_mps_rules.specs.MpsOutcome.{mps_reading, HasProgram, HasFault}
 use Rattle.cip_rational.specs.Rational.{ℚ}
 use Rattle.cip_line_texts.specs.LineTexts.{Reading, Outcome, outcome_of, HasResult, HasFault as HasLineFault}
@@ -504,7 +504,7 @@ spent_log call (gives_verdict c) e = absurd (verdict_not_ten (checked c.program 
 spent_log call (gives_figures a) e =
     spent_of call a (is_spent a.answers.figures.status (own_answer call _ 10 (said_figures call a) e ten_five)) a.answers.logged
 
-no_limit : (call : Call) (program : Program) (limits : Limits) (n : ℕ) → assignments program.integral program.bounds ≡ Some n → max 1 (2 * n - 1) ≤ limits.nodes → TellsTruth call program limits → call.status ≡ 10 → ⊥
+no_limit : (call : Call) (program : Program) (limits : Limits) (n : ℕ) → leaf_count program.integral (root program) ≡ Some n → max 1 (2 * n - 1) ≤ limits.nodes → TellsTruth call program limits → call.status ≡ 10 → ⊥
 no_limit call program limits n e l t ten =
     let limit = is_spent t.figures.status (own_answer call _ 10 (said call _ (exit_status t.figures.status) t.told) ten ten_five) in
     let both : EndsWith program t.start limits.nodes limits.gap t.entries t.figures NodeLimit = subst (EndsWith program t.start limits.nodes limits.gap t.entries t.figures) limit t.are_true.ends in
@@ -512,7 +512,7 @@ no_limit call program limits n e l t ten =
     let full : length t.entries ≡ limits.nodes = both.0.full in
     omega (arith, short, full, l)
 
-ample : (call : Call) → Ran call → (text : List ℕ) (limits : Limits) (program : Program) (n : ℕ) → Asks call text limits → HasProgram text program → assignments program.integral program.bounds ≡ Some n → max 1 (2 * n - 1) ≤ limits.nodes → call.status ≢ 10
+ample : (call : Call) → Ran call → (text : List ℕ) (limits : Limits) (program : Program) (n : ℕ) → Asks call text limits → HasProgram text program → leaf_count program.integral (root program) ≡ Some n → max 1 (2 * n - 1) ≤ limits.nodes → call.status ≢ 10
 ample call (gives_plain answer g) text limits program n asks h e l ten = plain_not_ten answer (own_answer call _ 10 (said_plain call answer g) ten ten_five)
 ample call (gives_figures a) text limits program n asks h e l ten = no_limit call program limits n e l (headline_figures call text limits program asks h a) ten
 ample call (gives_verdict c) text limits program n asks h e l ten = absurd (solve_check asks.job c.asked)

@@ -3,6 +3,7 @@ use Rattle.std.specs.Prelude.{◌≡◌, ◌≢◌, List, refl}
 use Rattle.std.proofs.Common.{arith}
 use lib.Chars.{codes}
 use Rattle.cip_rational.specs.Rational.{ℚ}
+use Rattle.cip_leaves.specs.Leaf.{Leaf}
 use Rattle.cip_answers.specs.Figures.{Overflow, Status, Optimal, Infeasible, Unbounded, Wide, NodeLimit, Gap, NoMemory as LacksMemory, status_word, exit_status}
 use Rattle.cip_answers.proofs.AnswerTexts.{apart}
 use Rattle.cip_answers.specs.Checks.{Checked, Feasible, BreaksBound, BreaksWhole, BreaksRow, WideRow, WideCost, check_status}
@@ -136,7 +137,7 @@ is_spent Gap e = absurd (omega (arith, e))
 is_spent (Wide leaf place) e = absurd (omega (arith, e))
 is_spent LacksMemory e = absurd (omega (arith, e))
 
-pub is_wide : (status : Status) → exit_status status ≡ 11 → (leaf : List ℚ) × (place : Overflow) × (status ≡ Wide leaf place)
+pub is_wide : (status : Status) → exit_status status ≡ 11 → (leaf : Leaf) × (place : Overflow) × (status ≡ Wide leaf place)
 is_wide Optimal e = absurd (omega (arith, e))
 is_wide Infeasible e = absurd (omega (arith, e))
 is_wide (Unbounded ray) e = absurd (omega (arith, e))

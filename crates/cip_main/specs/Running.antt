@@ -6,7 +6,8 @@ use Rattle.cip_io.specs.Store.{StoreTells}
 use Rattle.cip_io.specs.Sink.{SinkTells}
 use Rattle.cip_rational.specs.Rational.{ℚ}
 use Rattle.cip_problem.specs.Program.{Program}
-use Rattle.cip_problem.specs.Wholes.{assignments}
+use Rattle.cip_problem.specs.Log.{root, leaf_count}
+use Rattle.cip_leaves.specs.Leaf.{Leaf}
 use Rattle.cip_mps_rules.specs.MpsOutcome.{HasProgram, HasFault}
 use Rattle.cip_line_texts.specs.LineTexts.{HasResult, HasFault as HasLineFault}
 use Rattle.cip_parts.specs.BlockParts.{Blocks as Parts}
@@ -353,12 +354,13 @@ pub record SpentLog (call : Call) : Type 0 where
       answered.answers.figures.held
   pub far : ¬ FiguresReachGap call answered
 
--- and it never comes where the words allow at least twice as many nodes as the box of the program has whole
--- assignments, less one: then a search that isn't cut short ends by what is left, or by the gap where one is asked for
+-- and it never comes where the words allow at least twice as many nodes as the program has leaves, less one: these are
+-- the whole assignments of its box, times the ways to make its choices. Then a search that isn't cut short ends by what
+-- is left, or by the gap where one is asked for
 pub record NodeLimitClause (call : Call) : Type 0 where
   pub spent : call.status ≡ 10 → SpentLog call
   pub ample : (text : List ℕ) (limits : Limits) (program : Program) (n : ℕ) → Asks call text limits
-      → HasProgram text program → assignments program.integral program.bounds ≡ Some n
+      → HasProgram text program → leaf_count program.integral (root program) ≡ Some n
       → max 1 (2 * n - 1) ≤ limits.nodes → call.status ≢ 10
 
 -- a search has ended by the gap that the words ask for
@@ -378,7 +380,7 @@ pub record GapClause (call : Call) : Type 0 where
 -- a search has shown an overflow, and the gap that the words ask for isn't reached
 pub record OverflowLog (call : Call) : Type 0 where
   pub answered : IsAnswered call
-  pub leaf : List ℚ
+  pub leaf : Leaf
   pub place : Overflow
   pub shown : answered.answers.figures.status ≡ Wide leaf place
   pub overflows :

@@ -8,7 +8,7 @@ use Rattle.std.proofs.lemmas.List.Elements.{All-from_recursion}
 use Rattle.std.proofs.lemmas.Bool.{and_parts, ltb-true}
 use Rattle.cip_rational.specs.Rational.{ℚ, negate}
 use Rattle.cip_problem.specs.Limits.{most_rows, most_columns}
-use Rattle.cip_problem.specs.Program.{Term, Sides, Row, Program}
+use Rattle.cip_problem.specs.Program.{Term, Sides, Row, Choice, Program}
 use Rattle.cip_problem.specs.Activity.{StandsBelow}
 use Rattle.cip_problem.specs.WellFormed.{IsWellFormed}
 use Rattle.cip_mps_rules.specs.MpsWords.{next, number_in, is_in}
@@ -132,6 +132,7 @@ formed s rows_named columns_named counted few_rows few_columns below =
       few_rows = subst (λ (m : ℕ). m ≤ most_rows) (counted ∙ sym rows) few_rows;
       rows = subst (λ (m : ℕ). All (λ row. StandsBelow m row.terms) (map finished_row (filter is_kept s.rows))) (sym count)
           (All-from_recursion (λ row. StandsBelow n row.terms) (map finished_row (filter is_kept s.rows)) (rows_stand n s.rows below));
+      choices = λ column. tt;
     }
 
 -- ---- the program of its parts
@@ -140,13 +141,13 @@ map_twice : {X Y Z : Type 0} (f : Y → Z) (g : X → Y) (xs : List X) → map (
 map_twice f g [] = refl
 map_twice f g (x ∷ xs) = ap (λ ys. f (g x) ∷ ys) (map_twice f g xs)
 
-pub same_program : (s : State) (column_names row_names : List (List ℕ)) (rows : List Row) (costs : List ℚ) (constant : ℚ) (maximized : Bool) (integral : List Bool) (bounds : List Sides)
+pub same_program : (s : State) (column_names row_names : List (List ℕ)) (rows : List Row) (costs : List ℚ) (constant : ℚ) (maximized : Bool) (integral : List Bool) (bounds : List Sides) (choices : List Choice)
     → column_names ≡ s.column_names → row_names ≡ kept_names s.row_names s.rows → rows ≡ map finished_row (filter is_kept s.rows)
     → costs ≡ costs_from s.sense (objective_row s.rows).held 0 (length s.column_names)
     → constant ≡ minimized_by s.sense (negate (right_side_of (objective_row s.rows))) → maximized ≡ unwrap_or s.sense false
-    → integral ≡ map (λ (b : Bounded). (settled b).whole) s.columns → bounds ≡ map (λ (b : Bounded). column_sides (settled b)) s.columns
-    → ◌≡◌ {A = Program} (record { column_names = column_names; row_names = row_names; rows = rows; costs = costs; constant = constant; maximized = maximized; integral = integral; bounds = bounds }) (program_from s)
-same_program s column_names row_names rows costs constant maximized integral bounds a b c d e f g h =
+    → integral ≡ map (λ (b : Bounded). (settled b).whole) s.columns → bounds ≡ map (λ (b : Bounded). column_sides (settled b)) s.columns → choices ≡ []
+    → ◌≡◌ {A = Program} (record { column_names = column_names; row_names = row_names; rows = rows; costs = costs; constant = constant; maximized = maximized; integral = integral; bounds = bounds; choices = choices }) (program_from s)
+same_program s column_names row_names rows costs constant maximized integral bounds choices a b c d e f g h j =
     let whole : integral ≡ map (λ (b : Bounded). b.whole) (map settled s.columns) = g ∙ map_twice (λ (b : Bounded). b.whole) settled s.columns in
     let sides : bounds ≡ map column_sides (map settled s.columns) = h ∙ map_twice column_sides settled s.columns in
-    λ i. record { column_names = a i; row_names = b i; rows = c i; costs = d i; constant = e i; maximized = f i; integral = whole i; bounds = sides i }
+    λ i. record { column_names = a i; row_names = b i; rows = c i; costs = d i; constant = e i; maximized = f i; integral = whole i; bounds = sides i; choices = j i }

@@ -16,7 +16,7 @@ use crate::name_index::NameIndex;
 use crate::row_draft::{Held, RowDraft};
 use crate::row_program::finished_rows;
 use cip_frac::Frac;
-use cip_lin::{Bounds, Row};
+use cip_lin::{Bounds, Choices, Row};
 use cip_model::{Names, Parts, Program, Sense};
 use cip_mps_steps::numbers_are_of_names;
 use std::alloc::{AllocError, Global};
@@ -176,6 +176,7 @@ impl Draft {
         let copied = self.copied()?;
         let constant = objective_constant(self.sense, self.rows.as_slice());
         let sense = sense_of(self.sense);
+        let choices = Choices::new(self.alloc);
         let (column_names, rows) = self.into_rows()?;
         let Copied {
             row_names,
@@ -192,6 +193,7 @@ impl Draft {
             sense,
             whole,
             bounds,
+            choices,
         };
         Ok(Program::new(parts))
     }

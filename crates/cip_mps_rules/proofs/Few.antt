@@ -120,6 +120,7 @@ well_formed facts rows cols =
       few_rows = subst (λ (n : ℕ). n ≤ most_rows) (sym made) rows;
       rows = All-map (λ row. StandsBelow (columns (program_of facts)) row.terms) (row_of facts) (constraints facts)
           (λ i d l. terms_below (column_names facts) (columns (program_of facts)) (names ∙ sym costs) facts.coefficients (get_or (constraints facts) i d).name);
+      choices = λ column. tt;
     }
 
 pub texts_fit : (text : List ℕ) (program : Program) → HasProgram text program → IsWellFormed program

@@ -60,6 +60,7 @@ three_columns_program = record {
   maximized = true;
   integral = true ∷ true ∷ true ∷ [];
   bounds = up_to 10 ∷ up_to 10 ∷ up_to 10 ∷ [];
+  choices = [];
 }
 
 -- a comment, tabs, carriage returns, empty lines, a second N row, sets, an entry 0, a column behind the markers that is
@@ -88,6 +89,7 @@ loose_program = record {
   maximized = false;
   integral = true ∷ true ∷ [];
   bounds = up_to 4 ∷ record { low = Some zeroℚ; high = Some oneℚ } ∷ [];
+  choices = [];
 }
 
 -- a continuous column without bound records, a free one, and a whole one without a high side
@@ -109,6 +111,7 @@ open_program = record {
   bounds =
       record { low = Some zeroℚ; high = None } ∷ record { low = None; high = None }
       ∷ record { low = Some zeroℚ; high = None } ∷ [];
+  choices = [];
 }
 
 -- what a text comes to

@@ -156,4 +156,5 @@ program_of facts = record {
   maximized = is_maximized facts;
   integral = map (λ b. b.whole) (all_bounds facts);
   bounds = map column_sides (all_bounds facts);
+  choices = [];
 }

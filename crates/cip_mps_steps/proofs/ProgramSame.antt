@@ -171,8 +171,8 @@ costs_same facts row o g done (c ∷ rest) e =
 
 -- ---- the program
 
-same_program : (p q : Program) → p.column_names ≡ q.column_names → p.row_names ≡ q.row_names → p.rows ≡ q.rows → p.costs ≡ q.costs → p.constant ≡ q.constant → p.maximized ≡ q.maximized → p.integral ≡ q.integral → p.bounds ≡ q.bounds → p ≡ q
-same_program p q a b c d e f g h = λ i. record {
+same_program : (p q : Program) → p.column_names ≡ q.column_names → p.row_names ≡ q.row_names → p.rows ≡ q.rows → p.costs ≡ q.costs → p.constant ≡ q.constant → p.maximized ≡ q.maximized → p.integral ≡ q.integral → p.bounds ≡ q.bounds → p.choices ≡ q.choices → p ≡ q
+same_program p q a b c d e f g h j = λ i. record {
   column_names = a i;
   row_names = b i;
   rows = c i;
@@ -181,6 +181,7 @@ same_program p q a b c d e f g h = λ i. record {
   maximized = f i;
   integral = g i;
   bounds = h i;
+  choices = j i;
 }
 
 pub program_is : (place : LinePlace) (facts : Facts) → Good facts → list_any is_free (kinds_of facts) ≡ true → program_from (state_of place facts) ≡ program_of facts
@@ -192,4 +193,4 @@ program_is place facts g free =
     same_program (program_from (state_of place facts)) (program_of facts) refl (names_same facts facts.rows) (rows_same facts facts.rows g)
     (ap (λ hs. costs_from (first_of facts.senses) hs 0 (length (column_names facts))) held ∙ costs_same facts o.row o.is_name g [] facts.columns refl)
     (ap (λ r. minimized_by (first_of facts.senses) (negate r)) right ∙ minimized_same facts (negate (right_side facts.right_sides (objective facts))))
-    (sense_same facts.senses) (ap (map (λ b. b.whole)) bounds) (ap (map column_sides) bounds)
+    (sense_same facts.senses) (ap (map (λ b. b.whole)) bounds) (ap (map column_sides) bounds) refl

@@ -186,4 +186,5 @@ program_from state = record {
   maximized = unwrap_or state.sense false;
   integral = map (λ b. b.whole) (map settled state.columns);
   bounds = map column_sides (map settled state.columns);
+  choices = [];
 }

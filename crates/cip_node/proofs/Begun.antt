@@ -24,6 +24,7 @@ use Rattle.cip_lin.specs.declared.outcomes.Least.{Least}
 use Rattle.cip_lin.specs.declared.outcomes.Least.TheVariants.{Value, NoBound, Wide}
 use Rattle.cip_model.specs.Least.{least_cost_from}
 use Rattle.cip_model.specs.Meaning.{BoundHolds}
+use Rattle.cip_leaves.specs.Searched.{first_node}
 use Rattle.cip_search.specs.SearchState.{stay, IsWayBack}
 use Rattle.cip_search.proofs.Kept as searching
 use Rattle.cip_search.proofs.AsGiven as giving
@@ -34,6 +35,7 @@ use Rattle.cip_node_rules.specs.SplitRules.{AreNear}
 use Rattle.cip_node_rules.specs.RootBounds.{value_of, rounded_if}
 use Rattle.cip_problem.specs.NearSides.{IsNear, HasNearSides}
 use Rattle.cip_node.specs.Beginning.{root_value, IsRootBound, AreNearColumns}
+use Rattle.cip_node.specs.Entering.{own_region}
 use Rattle.cip_node.specs.KeptNodes.{farthest, IsNearBox, IsKept}
 use Rattle.cip_node.proofs.Rounded.{rounded_holds}
 
@@ -123,9 +125,9 @@ if_ok P Q (Ok a) f h = f a h
 if_ok P Q (Err e) f h = tt
 
 way : (program : Program) → IsWayBack program program stay
-way program = record { reduction = reduction_itself program; leaves = λ point h. refl }
+way program = record { reduction = reduction_itself program; leaves = λ point h. refl; choices = λ on point h. h }
 
-pub begun : (program : Program) (tree : Nodes) (start : Option ℚ) → AreNearColumns program → IfSome start (IsBoundIn program None program.bounds) → IsNew tree program.bounds program.integral start → IsKept program tree None []
+pub begun : (program : Program) (tree : Nodes) (start : Option ℚ) → AreNearColumns program → IfSome start (IsBoundIn program None program.bounds) → IsNew tree (own_region program) program.integral start → IsKept program tree None []
 begun program tree start near holds new =
     subst (λ t. IsKept program t None []) (sym is_tree) (record {
       searched = searching.begun program program stay IsWideLeaf start None (way program) tt holds;
@@ -136,7 +138,7 @@ begun program tree start near holds new =
     })
   where
     first : Node
-    first = record { number = 0; box = program.bounds; bound = start }
+    first = first_node program start
 
     made : Node → List Bool → List Node → List Node → ℕ → List Entry → Nodes
     made root integral open_ parked ids log = record { root = root; integral = integral; open_ = open_; parked = parked; taken = tree.taken; ids = ids; log = log }

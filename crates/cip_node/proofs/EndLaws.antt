@@ -3,11 +3,13 @@ use Rattle.std.proofs.Common.{◌≡◌, ℕ, ◌+◌, ◌≤◌, ℤ, false, Li
 use Rattle.std.specs.List.Sorted.{IsPermutation}
 use Rattle.std.proofs.lemmas.List.Sorted.{Contains-permutation}
 use Rattle.cip_rational.specs.Rational.{ℚ}
-use Rattle.cip_problem.specs.Program.{Sides, Program}
+use Rattle.cip_problem.specs.Program.{Program}
 use Rattle.cip_problem.specs.Log.{End, Split, Closed, Parked, Entry, Node, AllFollow, matters}
 use Rattle.cip_cuts.specs.Improving.{HasNoImproving}
 use Rattle.cip_cert.specs.Lent.{Lent}
-use Rattle.cip_leaves.specs.Leaf.{IsLeaf, IsPointOf, IsOnlyLeaf}
+use Rattle.cip_problem.specs.Choices.{AreMade, decided, made_on}
+use Rattle.cip_domain.specs.Changes.{Region}
+use Rattle.cip_leaves.specs.Leaf.{IsOnlyLeaf, Leaf, IsLeafOf, IsPointOfLeaf, IsOnlyLeafOf}
 use Rattle.cip_leaves.specs.Searched.{first_node, NoMore}
 use Rattle.cip_leaves.specs.WideLeaf.{Shown, IsWideBy}
 use Rattle.cip_model.specs.Rays.{IsShownRay}
@@ -16,7 +18,7 @@ use Rattle.cip_node_bounds.specs.declared.relaxed.Mark.{Mark}
 use Rattle.cip_search.proofs.Bounds.{no_more_itself}
 use Rattle.cip_search.proofs.Members.{here}
 use Rattle.cip_search.proofs.Relaxed.{no_more_trans}
-use Rattle.cip_tree.specs.Nodes.{TakenNode, Nodes, Base, box_of, shown}
+use Rattle.cip_tree.specs.Nodes.{TakenNode, Nodes, Base, region_in, node_in, region_of, box_of, shown}
 use Rattle.cip_tree.specs.Moves.{TakesFirst}
 use Rattle.cip_tree.specs.Searched.{IsSearched}
 use Rattle.cip_node.specs.Bounding.{IsAsGood, HasTried, IsSplitBy}
@@ -45,7 +47,7 @@ pub record IsSameWork (old mid : Nodes) (node other : TakenNode) : Type 0 where
   pub parked : mid.parked ≡ old.parked
   pub root : mid.root ≡ old.root
   pub number : other.number ≡ node.number
-  pub box : box_of mid other ≡ box_of old node
+  pub region : region_of mid other ≡ region_of old node
   pub own : NoMore node.bound other.bound
 
 pub same_work : (old mid : Nodes) (node : TakenNode) (open_ : List Node) (taken : List (Option Base)) → mid ≡ record old { open_ = open_; taken = taken } → shown mid node ≡ shown old node → IsSameWork old mid node node
@@ -54,25 +56,32 @@ same_work old mid node open_ taken e f = record {
   parked = ap (λ (t : Nodes). t.parked) e;
   root = ap (λ (t : Nodes). t.root) e;
   number = refl;
-  box = ap (λ (n : Node). n.box) f;
+  region = ap region_in f;
   own = no_more_itself node.bound;
 }
 
-pub raised_work : (old mid : Nodes) (node other : TakenNode) (open_ : List Node) (taken : List (Option Base)) (bound : Option ℚ) → mid ≡ record old { open_ = open_; taken = taken } → other ≡ record node { bound = bound } → NoMore node.bound other.bound → box_of mid other ≡ box_of old node → IsSameWork old mid node other
-raised_work old mid node other open_ taken bound e f own box = record {
+pub raised_work : (old mid : Nodes) (node other : TakenNode) (open_ : List Node) (taken : List (Option Base)) (bound : Option ℚ) → mid ≡ record old { open_ = open_; taken = taken } → other ≡ record node { bound = bound } → NoMore node.bound other.bound → region_of mid other ≡ region_of old node → IsSameWork old mid node other
+raised_work old mid node other open_ taken bound e f own region = record {
   log = ap (λ (t : Nodes). t.log) e;
   parked = ap (λ (t : Nodes). t.parked) e;
   root = ap (λ (t : Nodes). t.root) e;
   number = ap (λ (n : TakenNode). n.number) f;
-  box = box;
+  region = region;
   own = own;
 }
 
 module _ (old mid : Nodes) (node other : TakenNode) (w : IsSameWork old mid node other) where
   bound_same : (bound : Option ℚ) → with_bound mid other bound ≡ with_bound old node bound
   bound_same bound =
-      ap (λ (n : ℕ). let t : Node = record { number = n; box = box_of mid other; bound = bound } in t) w.number
-      ∙ ap (λ (b : List Sides). let t : Node = record { number = node.number; box = b; bound = bound } in t) w.box
+      ap (λ (n : ℕ). node_in (region_of mid other) n bound) w.number ∙ ap (λ (r : Region). node_in r node.number bound) w.region
+
+  -- the only leaf of the node is that of the other
+  only_of : (b c : Option ℚ) (program : Program) (leaf : Leaf) → IsOnlyLeafOf program (node_in (region_of mid other) other.number b) leaf → IsOnlyLeafOf program (node_in (region_of old node) node.number c) leaf
+  only_of b c program leaf h = record {
+    made = subst (λ (r : Region). AreMade r.choices) w.region h.made;
+    on = h.on ∙ ap (λ (r : Region). made_on program.choices r.choices) w.region;
+    values = subst (λ (r : Region). IsOnlyLeaf program.integral r.box leaf.values) w.region h.values;
+  }
 
   pub entry_from : (new : Nodes) (bound : Option ℚ) (end : End) → LeavesEntry mid new other bound end → LeavesEntry old new node bound end
   entry_from new bound end e = record {
@@ -97,16 +106,16 @@ module _ (old mid : Nodes) (node other : TakenNode) (w : IsSameWork old mid node
 
   pub end_from : (program : Program) (held : Option ℚ) (lent : Lent) (room : ℕ) (new : Nodes) (mark : Option Mark) (end : NodeEnd) → IsEnd program held lent room mid new other mark end → IsEnd program held lent room old new node mark end
   end_from program held lent room new mark by.Pruned h = record { bound = h.bound; entry = entry_from new h.bound Closed h.entry; kept = h.kept; passed = h.passed }
-  end_from program held lent room new mark by.Empty h = record { bound = h.bound; entry = entry_from new h.bound Closed h.entry; kept = h.kept; empty = subst (HasNoImproving program held) w.box h.empty }
+  end_from program held lent room new mark by.Empty h = record { bound = h.bound; entry = entry_from new h.bound Closed h.entry; kept = h.kept; empty = subst (λ (r : Region). HasNoImproving program held r.box) w.region h.empty }
   end_from program held lent room new mark by.Solved h = record {
     bound = h.bound;
     entry = entry_from new h.bound Closed h.entry;
     kept = h.kept;
     leaf = h.leaf;
-    only = subst (λ b. IsOnlyLeaf program.integral b h.leaf) w.box h.only;
+    only = only_of other.bound node.bound program h.leaf h.only;
     point = h.point;
     is_point = h.is_point;
-    settled = subst (HasNoImproving program held) w.box h.settled;
+    settled = subst (λ (r : Region). HasNoImproving program held r.box) w.region h.settled;
   }
   end_from program held lent room new mark (by.Split low high) h = record {
     bound = h.bound;
@@ -115,15 +124,15 @@ module _ (old mid : Nodes) (node other : TakenNode) (w : IsSameWork old mid node
     entry = entry_from new h.bound (Split h.column h.at low high) h.entry;
     kept = h.kept;
     point = h.point;
-    rule = subst (λ b. IsSplitBy program.integral b h.point h.column h.at) w.box h.rule;
-    good = subst (λ b. IsAsGood program lent b room h.bound mark) w.box h.good;
-    tried = subst (λ b. HasTried program held lent b h.point mark) w.box h.tried;
+    rule = subst (λ r. IsSplitBy program.integral r h.point h.column h.at) w.region h.rule;
+    good = subst (λ (r : Region). IsAsGood program lent r.box room h.bound mark) w.region h.good;
+    tried = subst (λ (r : Region). HasTried program held lent r.box h.point mark) w.region h.tried;
   }
-  end_from program held lent room new mark (by.Parked leaf bound shown) h = record {
+  end_from program held lent room new mark (by.Parked leaf on bound by_this) h = record {
     entry = entry_from new bound Parked h.entry;
     kept = h.kept;
     wide_as = record {
-      only = subst (λ b. IsOnlyLeaf program.integral b leaf.items) w.box h.wide_as.only;
+      only = only_of bound bound program (record { values = leaf.items; on = on.items }) h.wide_as.only;
       is_leaf = h.wide_as.is_leaf;
       wide = h.wide_as.wide;
     };
@@ -181,7 +190,7 @@ pruned_end program held old new node taken e k m = record { bound = node.bound; 
 pub emptied_end : (program : Program) (held : Option ℚ) (old new : Nodes) (node : TakenNode) (taken : List (Option Base)) → new ≡ record old { taken = taken; log = old.log ++ record { node = node.number; bound = node.bound; end = Closed } ∷ [] } → IsKept program new held [] → HasNoImproving program held (box_of old node) → IsEmptied program held old new node
 emptied_end program held old new node taken e k h = record { bound = node.bound; entry = closed_entry old new node taken e; kept = k; empty = h }
 
-pub solved_end : (program : Program) (held : Option ℚ) (old mid new : Nodes) (node : TakenNode) (taken : List (Option Base)) (leaf point : List ℚ) → IsSameWork old mid node node → new ≡ record mid { taken = taken; log = mid.log ++ record { node = node.number; bound = node.bound; end = Closed } ∷ [] } → IsKept program new held [] → IsOnlyLeaf program.integral (box_of old node) leaf → IsPointOf program leaf point → HasNoImproving program held (box_of old node) → IsSolvedLeaf program held old new node
+pub solved_end : (program : Program) (held : Option ℚ) (old mid new : Nodes) (node : TakenNode) (taken : List (Option Base)) (leaf : Leaf) (point : List ℚ) → IsSameWork old mid node node → new ≡ record mid { taken = taken; log = mid.log ++ record { node = node.number; bound = node.bound; end = Closed } ∷ [] } → IsKept program new held [] → IsOnlyLeafOf program (shown old node) leaf → IsPointOfLeaf program leaf point → HasNoImproving program held (box_of old node) → IsSolvedLeaf program held old new node
 solved_end program held old mid new node taken leaf point w e k only is h = record {
   bound = node.bound;
   entry = entry_from old mid node node w new node.bound Closed (closed_entry mid new node taken e);
@@ -202,12 +211,12 @@ endless_end program old mid new node taken point ray w e l f s = record {
   shown = s;
 }
 
-pub aside_end : (program : Program) (held : Option ℚ) (old new : Nodes) (node : TakenNode) (taken : List (Option Base)) (leaf : List ℚ) (bound : Option ℚ) (by_this : Shown) → new ≡ record old { parked = old.parked ++ shown old node ∷ []; taken = taken; log = old.log ++ record { node = node.number; bound = node.bound; end = Parked } ∷ [] } → IsKept program new held [] → bound ≡ node.bound → IsOnlyLeaf program.integral (box_of old node) leaf → IsLeaf program leaf → IsWideBy program leaf by_this → IsAside program held old new node leaf bound by_this
+pub aside_end : (program : Program) (held : Option ℚ) (old new : Nodes) (node : TakenNode) (taken : List (Option Base)) (leaf : Leaf) (bound : Option ℚ) (by_this : Shown) → new ≡ record old { parked = old.parked ++ shown old node ∷ []; taken = taken; log = old.log ++ record { node = node.number; bound = node.bound; end = Parked } ∷ [] } → IsKept program new held [] → bound ≡ node.bound → IsOnlyLeafOf program (shown old node) leaf → IsLeafOf program leaf → IsWideBy (decided program leaf.on) leaf.values by_this → IsAside program held old new node leaf bound by_this
 aside_end program held old new node taken leaf bound by_this e k b only is wide =
     subst (λ b. IsAside program held old new node leaf b by_this) (sym b)
     (record { entry = parked_entry old new node taken e; kept = k; wide_as = record { only = only; is_leaf = is; wide = wide } })
 
-pub halved_end : (program : Program) (held : Option ℚ) (lent : Lent) (room : ℕ) (old new : Nodes) (node : TakenNode) (mark : Option Mark) (column : ℕ) (at : ℤ) (low high : ℕ) (point : Option (List ℚ)) → new.log ≡ old.log ++ record { node = node.number; bound = node.bound; end = Split column at low high } ∷ [] → new.parked ≡ old.parked → IsKept program new held [] → IsSplitBy program.integral (box_of old node) point column at → IsAsGood program lent (box_of old node) room node.bound mark → HasTried program held lent (box_of old node) point mark → IsHalved program held lent room old new node mark low high
+pub halved_end : (program : Program) (held : Option ℚ) (lent : Lent) (room : ℕ) (old new : Nodes) (node : TakenNode) (mark : Option Mark) (column : ℕ) (at : ℤ) (low high : ℕ) (point : Option (List ℚ)) → new.log ≡ old.log ++ record { node = node.number; bound = node.bound; end = Split column at low high } ∷ [] → new.parked ≡ old.parked → IsKept program new held [] → IsSplitBy program.integral (region_of old node) point column at → IsAsGood program lent (box_of old node) room node.bound mark → HasTried program held lent (box_of old node) point mark → IsHalved program held lent room old new node mark low high
 halved_end program held lent room old new node mark column at low high point e f k r g t = record {
   bound = node.bound;
   column = column;

@@ -1,31 +1,36 @@
 -- Steps of the tree keep what holds of a search.
-use Rattle.std.proofs.Common.{◌≡◌, ◌≢◌, inl, inr, ℕ, zero, suc, ◌+◌, ◌<◌, ◌≤◌, ℤ, pos, ◌+ℤ◌, unsigned_abs, length, slice_set, IfSome, true, false, List, [], ◌∷◌, ◌++◌, reverse, filter, Option, None, Some, Contains, MatchOption, refl, sym, ap, ◌∙◌, subst, arith}
+use Rattle.std.proofs.Common.{◌≡◌, ◌≢◌, inl, inr, ℕ, zero, suc, ◌+◌, ◌<◌, ◌≤◌, ℤ, pos, ◌+ℤ◌, unsigned_abs, length, slice_set, slice_get, IfSome, Bool, true, false, List, [], ◌∷◌, ◌++◌, filter, Option, None, Some, Contains, MatchOption, refl, sym, ap, ◌∙◌, subst, arith, true≢false}
 use Rattle.std.specs.List.Sorted.{IsPermutation}
 use Rattle.std.proofs.lemmas.Bool.{cases_lt, cases_eq}
+use Rattle.std.proofs.lemmas.Option.{same_Some, none-some}
 use Rattle.std.proofs.lemmas.List.{get_or-set_same}
 use Rattle.cip_rational.specs.Rational.{ℚ, integer, floor, ceil}
 use Rattle.cip_rational.proofs.Rational.Rounding.{floor-integer, ceil-integer}
 use Rattle.cip_problem.specs.Box.{no_sides, sides_at}
-use Rattle.cip_problem.specs.Program.{Sides, Program}
-use Rattle.cip_problem.specs.Log.{Entry, Node, Split, Closed, Parked, low_half, high_half, CanSplit, matters}
+use Rattle.cip_problem.specs.Program.{Sides, Choice, Plain, Open, Off, On, Program}
+use Rattle.cip_problem.specs.Choices.{choice_at, is_open, met, zero_sides}
+use Rattle.cip_problem.specs.Log.{Entry, Node, Split, Closed, Parked, low_of, high_of, low_node, high_node, CanSplit, matters}
 use Rattle.std.proofs.lemmas.List.Elements.{Contains-append_left, Contains-append_right, Contains-append_cases}
 use Rattle.cip_domain.specs.Changes.{narrowed}
 use Rattle.cip_cuts.specs.Improving.{IsBoundIn, HasNoImproving, IsNoDearer}
 use Rattle.cip_leaves.specs.Searched.{first_node, NoMore}
 use Rattle.cip_leaves.specs.WideLeaf.{IsWideLeaf}
 use Rattle.cip_search.specs.SearchState.{stay, IsAttained, IsStuck}
+use Rattle.cip_search.specs.Statements.{AreHalves}
 use Rattle.cip_search.proofs.Members.{here, later, here_or_later, kept_was_there}
 use Rattle.cip_search.proofs.Kept as searching
 use Rattle.cip_search.proofs.Ended as ending
 use Rattle.cip_search.proofs.AsGiven as giving
 use Rattle.std.proofs.lemmas.List.Sorted.{Contains-permutation, IsPermutation-sym}
-use Rattle.cip_tree.specs.Nodes.{Nodes, Base, TakenNode, base_at, base_changes, box_of, shown}
+use Rattle.cip_tree.specs.Nodes.{Nodes, Base, TakenNode, base_at, base_changes, region_in, node_in, region_of, box_of, choices_of, shown}
+use Rattle.cip_tree.specs.Notes.{noted}
 use Rattle.cip_tree.specs.Moves.{TakesFirst, IsSplit, is_cheaper}
 use Rattle.cip_tree.specs.Searched.{IsSearched}
 use Rattle.cip_node_rules.specs.OpenColumns.{is_whole_at}
 use Rattle.cip_node_rules.specs.SplitRules.{AreNear, LeavesBoth}
 use Rattle.cip_tree.specs.Queue.{bound_below}
 use Rattle.cip_node.specs.KeptNodes.{state_of, farthest, IsSearchOf, IsNearBox, IsKept}
+use Rattle.cip_node.specs.SplitPlaces.{IsSplitPlace}
 
 -- what holds of a tree holds of one that is the same
 pub kept_same : (program : Program) (old new : Nodes) (held : Option ℚ) (work : List Node) → new ≡ old → IsKept program old held work → IsKept program new held work
@@ -90,8 +95,8 @@ taken_or_none program old new held (Some node) h k = kept_taken program old new 
 -- a node is shown as it was where what is kept of it and the root are the same
 pub shown_same : (old new : Nodes) (node : TakenNode) → base_at new node.place ≡ base_at old node.place → new.root ≡ old.root → shown new node ≡ shown old node
 shown_same old new node e f =
-    ap (λ (b : Option Base). let n : Node = record { number = node.number; box = narrowed new.root.box (reverse node.notes ++ base_changes b); bound = node.bound } in n) e
-    ∙ ap (λ (r : Node). let n : Node = record { number = node.number; box = narrowed r.box (reverse node.notes ++ base_changes (base_at old node.place)); bound = node.bound } in n) f
+    ap (λ (b : Option Base). node_in (narrowed (region_in new.root) (noted node.notes ++ base_changes b)) node.number node.bound) e
+    ∙ ap (λ (r : Node). node_in (narrowed (region_in r) (noted node.notes ++ base_changes (base_at old node.place))) node.number node.bound) f
 
 -- the bound of the first node in work rises
 pub kept_raised : (program : Program) (tree : Nodes) (held : Option ℚ) (node : Node) (b : ℚ) → IsBoundIn program held node.box b → NoMore node.bound (Some b) → IsKept program tree held (node ∷ []) → IsKept program tree held (record node { bound = Some b } ∷ [])
@@ -187,15 +192,57 @@ near_set program ids box column sides h k = λ other w. elim (cases_lt column (l
   | inr l ↦ subst (λ b. AreNear (farthest ids) (sides_at b other)) (sym (past_end box column sides l)) (h other w)
 ]
 
+-- a box with other sides for a column that isn't whole is near
+near_apart : (program : Program) (ids : ℕ) (box : List Sides) (column : ℕ) (sides : Sides) → is_whole_at program.integral column ≡ false → IsNearBox program ids box → IsNearBox program ids (slice_set box column sides)
+near_apart program ids box column sides n h = λ other w. elim (cases_eq other column) [
+  | inl e ↦ absurd (true≢false (sym w ∙ ap (is_whole_at program.integral) e ∙ n))
+  | inr d ↦ subst (AreNear (farthest ids)) (sym (at_other box column other sides d)) (h other w)
+]
+
 nearer : (program : Program) (ids more : ℕ) (box : List Sides) → ids ≤ more → IsNearBox program ids box → IsNearBox program more box
 nearer program ids more box l h = λ column w. no_farther (farthest ids) (farthest more) (sides_at box column) (omega (arith, l)) (h column w)
 
-module _ (program : Program) (old new : Nodes) (held : Option ℚ) (node : TakenNode) (column : ℕ) (at : ℤ) (low high : ℕ) (s : IsSplit old new node column at low high) (k : IsKept program old held (shown old node ∷ [])) (b : LeavesBoth (sides_at (box_of old node) column) (farthest old.ids + 1) at) (whole : is_whole_at program.integral column ≡ true) where
-  abbrev low_node : Node
-  low_node = record { number = low; box = low_half (box_of old node) column at; bound = node.bound }
+not_whole : (integral : List Bool) (column : ℕ) → slice_get integral column ≡ Some false → is_whole_at integral column ≡ false
+not_whole [] column e = refl
+not_whole (w ∷ ws) zero e = same_Some w false e
+not_whole (w ∷ ws) (suc column) e = not_whole ws column e
 
-  abbrev high_node : Node
-  high_node = record { number = high; box = high_half (box_of old node) column at; bound = node.bound }
+is_whole : (integral : List Bool) (column : ℕ) → slice_get integral column ≡ Some true → is_whole_at integral column ≡ true
+is_whole [] column e = absurd (none-some true e)
+is_whole (w ∷ ws) zero e = same_Some w true e
+is_whole (w ∷ ws) (suc column) e = is_whole ws column e
+
+-- the halves of a near box are near
+module _ (program : Program) (ids : ℕ) (node : Node) (column : ℕ) (at : ℤ) (near : IsNearBox program (ids + 2) node.box) where
+  abbrev AreNearHalves : Choice → Type 0
+  AreNearHalves choice = IsNearBox program (ids + 2) (low_of choice node column at).box × IsNearBox program (ids + 2) (high_of choice node column at).box
+
+  whole_halves : is_whole_at program.integral column ≡ true → LeavesBoth (sides_at node.box column) (farthest ids + 1) at → AreNearHalves Plain
+  whole_halves whole b =
+      let own = near column whole in (
+        near_set program (ids + 2) node.box column (record { low = (sides_at node.box column).low; high = Some (integer at) }) near (record { low = own.low; high = omega (arith, b.near, ap unsigned_abs (floor-integer at)) }),
+        near_set program (ids + 2) node.box column (record { low = Some (integer (at +ℤ pos 1)); high = (sides_at node.box column).high }) near (record { low = omega (arith, b.next_near, ap unsigned_abs (ceil-integer (at +ℤ pos 1))); high = own.high }),
+      )
+
+  choice_halves : (choice : Choice) → is_whole_at program.integral column ≡ false → is_open choice ≡ true → AreNearHalves choice
+  choice_halves Plain n e = absurd (true≢false (sym e))
+  choice_halves (Open own) n e = (
+    near_apart program (ids + 2) node.box column (met (sides_at node.box column) zero_sides) n near,
+    near_apart program (ids + 2) node.box column (met (sides_at node.box column) own) n near,
+  )
+  choice_halves Off n e = absurd (true≢false (sym e))
+  choice_halves On n e = absurd (true≢false (sym e))
+
+  near_halves : IsSplitPlace program.integral (region_in node) (farthest ids + 1) column at → AreNearHalves (choice_at node.choices column)
+  near_halves (inl p) = subst AreNearHalves (sym p.plain) (whole_halves (is_whole program.integral column p.whole) p.both)
+  near_halves (inr p) = choice_halves (choice_at node.choices column) (not_whole program.integral column p.continuous) p.open_
+
+module _ (program : Program) (old new : Nodes) (held : Option ℚ) (node : TakenNode) (column : ℕ) (at : ℤ) (low high : ℕ) (s : IsSplit old new node column at low high) (k : IsKept program old held (shown old node ∷ [])) (place : IsSplitPlace program.integral (region_of old node) (farthest old.ids + 1) column at) where
+  abbrev low_half_node : Node
+  low_half_node = record (low_node (shown old node) column at) { number = low; bound = node.bound }
+
+  abbrev high_half_node : Node
+  high_half_node = record (high_node (shown old node) column at) { number = high; bound = node.bound }
 
   abbrev entry : Entry
   entry = record { node = node.number; bound = node.bound; end = Split column at low high }
@@ -209,20 +256,14 @@ module _ (program : Program) (old new : Nodes) (held : Option ℚ) (node : Taken
   wider_near : IsNearBox program (old.ids + 2) (box_of old node)
   wider_near = nearer program old.ids (old.ids + 2) (box_of old node) (omega arith) own_near
 
-  own_sides : AreNear (farthest (old.ids + 2)) (sides_at (box_of old node) column)
-  own_sides = wider_near column whole
-
-  low_near : IsNearBox program (old.ids + 2) low_node.box
-  low_near = near_set program (old.ids + 2) (box_of old node) column (record { low = (sides_at (box_of old node) column).low; high = Some (integer at) }) wider_near (record { low = own_sides.low; high = omega (arith, b.near, ap unsigned_abs (floor-integer at)) })
-
-  high_near : IsNearBox program (old.ids + 2) high_node.box
-  high_near = near_set program (old.ids + 2) (box_of old node) column (record { low = Some (integer (at +ℤ pos 1)); high = (sides_at (box_of old node) column).high }) wider_near (record { low = omega (arith, b.next_near, ap unsigned_abs (ceil-integer (at +ℤ pos 1))); high = own_sides.high })
+  both_near : AreNearHalves program old.ids (shown old node) column at wider_near (choice_at (choices_of old node) column)
+  both_near = near_halves program old.ids (shown old node) column at wider_near place
 
   all_near : (other : Node) → Contains new.open_ other → IsNearBox program (old.ids + 2) other.box
-  all_near other c = elim (here_or_later low_node other (high_node ∷ old.open_) (Contains-permutation new.open_ (low_node ∷ high_node ∷ old.open_) other (IsPermutation-sym (low_node ∷ high_node ∷ old.open_) new.open_ s.nodes) c)) [
-    | inl e ↦ subst (λ (n : Node). IsNearBox program (old.ids + 2) n.box) e low_near
-    | inr j ↦ elim (here_or_later high_node other old.open_ j) [
-      | inl e ↦ subst (λ (n : Node). IsNearBox program (old.ids + 2) n.box) e high_near
+  all_near other c = elim (here_or_later low_half_node other (high_half_node ∷ old.open_) (Contains-permutation new.open_ (low_half_node ∷ high_half_node ∷ old.open_) other (IsPermutation-sym (low_half_node ∷ high_half_node ∷ old.open_) new.open_ s.nodes) c)) [
+    | inl e ↦ subst (λ (n : Node). IsNearBox program (old.ids + 2) n.box) e both_near.0
+    | inr j ↦ elim (here_or_later high_half_node other old.open_ j) [
+      | inl e ↦ subst (λ (n : Node). IsNearBox program (old.ids + 2) n.box) e both_near.1
       | inr i ↦ nearer program old.ids (old.ids + 2) other.box (omega arith) (k.near other (later (shown old node) other old.open_ i))
     ]
   ]
@@ -234,16 +275,19 @@ module _ (program : Program) (old new : Nodes) (held : Option ℚ) (node : Taken
         (subst (λ i. IsSearched i old.root (old.log ++ entry ∷ [])) k.integral
         (subst (λ (t : Nodes). IsSearched t.integral t.root t.log) s.rest logged))
 
-    can : CanSplit program.integral (box_of old node) column at
-    can = subst (λ i. CanSplit i (box_of old node) column at) k.integral s.can
+    can : CanSplit program.integral (shown old node) column at
+    can = subst (λ i. CanSplit i (shown old node) column at) k.integral s.can
+
+    halved : AreHalves (shown old node) column at low_half_node high_half_node
+    halved = record { low_box = refl; high_box = refl; low_choices = refl; high_choices = refl; low_bound = refl; high_bound = refl }
 
     pub kept_split : IsKept program new held []
     kept_split =
         let state = state_of old held (shown old node ∷ []) in
         kept_same program split_tree new held [] s.rest
         (record {
-          searched = ending.split program program stay IsWideLeaf old.root.bound state (shown old node) low_node high_node [] new.open_ column at refl can (record { low_box = refl; high_box = refl; low_bound = refl; high_bound = refl }) s.nodes followed k.searched;
-          as_given = giving.split program program stay IsWideLeaf old.root.bound state (shown old node) low_node high_node [] new.open_ column at refl can (record { low_box = refl; high_box = refl; low_bound = refl; high_bound = refl }) s.nodes followed k.searched k.as_given;
+          searched = ending.split program program stay IsWideLeaf old.root.bound state (shown old node) low_half_node high_half_node [] new.open_ column at refl can halved s.nodes followed k.searched;
+          as_given = giving.split program program stay IsWideLeaf old.root.bound state (shown old node) low_half_node high_half_node [] new.open_ column at refl can halved s.nodes followed k.searched k.as_given;
           root = k.root;
           integral = k.integral;
           near = all_near;

@@ -1,14 +1,19 @@
 -- What is known of a leaf, and what that says of its node.
-use Rattle.std.proofs.Common.{◌≡◌, ℕ, Bool, true, false, List, Option, None, Some, IfSome, refl, ap, ◌∙◌, subst}
+use Rattle.std.proofs.Common.{◌≡◌, ℕ, Bool, true, false, List, [], ◌∷◌, ◌++◌, length, Option, None, Some, IfSome, refl, ap, ◌∙◌, subst}
 use Rattle.cip_rational.specs.Rational.{ℚ, ◌≤ℚ◌, ◌<ℚ◌}
 use Rattle.cip_rational.proofs.Rational.Order.{≤ℚ_trans, not_le_of_lt, le_of_lt_test}
-use Rattle.cip_problem.specs.Program.{Sides, Program}
+use Rattle.cip_problem.specs.Program.{Program}
 use Rattle.cip_problem.specs.Box.{IsInBox}
-use Rattle.cip_problem.specs.Points.{cost_of}
+use Rattle.cip_problem.specs.Points.{IsFeasible, cost_of}
 use Rattle.cip_problem.specs.Log.{Node}
 use Rattle.cip_cuts.specs.Improving.{IsImproving, HasNoImproving}
-use Rattle.cip_leaves.specs.Leaf.{IsLeaf, IsPointOf, IsOnlyLeaf}
-use Rattle.cip_leaves.proofs.Points.{only_leaf}
+use Rattle.cip_problem.specs.Choices.{decided}
+use Rattle.cip_problem.specs.Statements.{IsNodeOf}
+use Rattle.cip_problem.specs.WellFormed.{columns, IsWellFormed}
+use Rattle.cip_problem.proofs.Choices.Decided.{feasible}
+use Rattle.cip_problem.proofs.Points.AtPlaces.{IsInBox-long}
+use Rattle.cip_leaves.specs.Leaf.{Leaf, IsLeafOf, IsPointOfLeaf, IsOnlyLeafOf}
+use Rattle.cip_leaves.proofs.Points.{only_leaf_of}
 use Rattle.cip_leaves.specs.WideLeaf.{Shown, IsWideBy, IsWideLeaf}
 use Rattle.cip_leaf.specs.LeafAnswers.{IsBest}
 use Rattle.cip_model.specs.Verdicts.{verdict_of}
@@ -16,14 +21,17 @@ use Rattle.cip_model.specs.declared.verdicts.Verdict.TheVariants.{Feasible}
 use Rattle.cip_incumbent.specs.HeldPoint.{HeldPoint, Holding, is_cheaper, taken_if, offered, after_taking, after_offer}
 use Rattle.cip_incumbent.specs.declared.offers.Offered.{Offered}
 use Rattle.cip_search.specs.SearchState.{stay, IsStuck}
-use Rattle.cip_node.specs.KeptNodes.{cost_held}
+use Rattle.cip_search.proofs.Members.{here}
+use Rattle.cip_search.proofs.Told.{given_node_of}
+use Rattle.cip_tree.specs.Nodes.{Nodes}
+use Rattle.cip_node.specs.KeptNodes.{cost_held, state_of, IsKept}
 
 -- an improving point in the box is one of the leaf
-there : (program : Program) (held : Option ℚ) (box : List Sides) (leaf point : List ℚ) → IsOnlyLeaf program.integral box leaf → IsImproving program held point → IsInBox box point → IsPointOf program leaf point
-there program held box leaf point only i w = record { feasible = i.feasible; values = only_leaf program.integral box leaf point only w i.feasible.whole }
+there : (program : Program) (held : Option ℚ) (node : Node) (leaf : Leaf) (point : List ℚ) → IsNodeOf program node → IsOnlyLeafOf program node leaf → IsImproving program held point → IsInBox node.box point → IsPointOfLeaf program leaf point
+there program held node leaf point n only i w = only_leaf_of program node leaf point n only w i.feasible
 
-pub none_there : (program : Program) (held : Option ℚ) (box : List Sides) (leaf : List ℚ) → IsOnlyLeaf program.integral box leaf → ((point : List ℚ) → ¬ IsPointOf program leaf point) → HasNoImproving program held box
-none_there program held box leaf only h = λ point i w. h point (there program held box leaf point only i w)
+pub none_there : (program : Program) (held : Option ℚ) (node : Node) (leaf : Leaf) → IsNodeOf program node → IsOnlyLeafOf program node leaf → ((point : List ℚ) → ¬ IsPointOfLeaf program leaf point) → HasNoImproving program held node.box
+none_there program held node leaf n only h = λ point i w. h point (there program held node leaf point n only i w)
 
 -- after an offer what is held costs no more than the point
 held_below : (best : Option HeldPoint) (columns : ℕ) (cost own least : ℚ) (point : List ℚ) (cheaper : Bool) → is_cheaper cost best ≡ cheaper → cost ≡ own → cost ≤ℚ least → IfSome (cost_held (after_taking (taken_if cheaper) own point (record { columns = columns; best = best }))) (λ held. least <ℚ held) → ⊥
@@ -31,15 +39,30 @@ held_below best columns cost own least point true e f l i = not_le_of_lt i (subs
 held_below None columns cost own least point false e f l i = absurd (cc)
 held_below (Some held) columns cost own least point false e f l i = not_le_of_lt i (≤ℚ_trans (le_of_lt_test e) l)
 
-best_case : (program : Program) (box : List Sides) (leaf point : List ℚ) (cost : ℚ) (holding new : Holding) → IsOnlyLeaf program.integral box leaf → IsBest program leaf point cost → new ≡ after_offer (offered holding.best (Feasible cost)) program point holding → HasNoImproving program (cost_held new) box
-best_case program box leaf point cost holding new only b e = λ other i w.
-    held_below holding.best holding.columns cost (cost_of program point) (cost_of program other) point (is_cheaper cost holding.best) refl b.cost_is (b.least other (there program (cost_held new) box leaf other only i w))
+best_case : (program : Program) (node : Node) (leaf : Leaf) (point : List ℚ) (cost : ℚ) (holding new : Holding) → IsNodeOf program node → IsOnlyLeafOf program node leaf → IsBest program leaf point cost → new ≡ after_offer (offered holding.best (Feasible cost)) program point holding → HasNoImproving program (cost_held new) node.box
+best_case program node leaf point cost holding new n only b e = λ other i w.
+    held_below holding.best holding.columns cost (cost_of program point) (cost_of program other) point (is_cheaper cost holding.best) refl b.cost_is (b.least other (there program (cost_held new) node leaf other n only i w))
     (subst (λ t. IfSome (cost_held t) (λ held. cost_of program other <ℚ held)) e i.cheaper)
 
-pub best_settles : (program : Program) (box : List Sides) (leaf point : List ℚ) (cost : ℚ) (holding new : Holding) (answer : Offered) → IsOnlyLeaf program.integral box leaf → IsBest program leaf point cost → answer ≡ offered holding.best (verdict_of program point) → new ≡ after_offer answer program point holding → HasNoImproving program (cost_held new) box
-best_settles program box leaf point cost holding new answer only b e f =
-    best_case program box leaf point cost holding new only b
+pub best_settles : (program : Program) (node : Node) (leaf : Leaf) (point : List ℚ) (cost : ℚ) (holding new : Holding) (answer : Offered) → IsNodeOf program node → IsOnlyLeafOf program node leaf → IsBest program leaf point cost → answer ≡ offered holding.best (verdict_of program point) → new ≡ after_offer answer program point holding → HasNoImproving program (cost_held new) node.box
+best_settles program node leaf point cost holding new answer n only b e f =
+    best_case program node leaf point cost holding new n only b
     (f ∙ ap (λ a. after_offer a program point holding) (e ∙ ap (offered holding.best) b.found))
 
-pub wide_stuck : (program : Program) (node : Node) (leaf : List ℚ) (shown : Shown) → IsOnlyLeaf program.integral node.box leaf → IsLeaf program leaf → IsWideBy program leaf shown → IsStuck program program stay IsWideLeaf node
-wide_stuck program node leaf shown only is wide = record { leaf = leaf; at_leaf = record { values = leaf; only = only; is = refl; is_leaf = is; wide = (shown, wide) } }
+pub wide_stuck : (program : Program) (node : Node) (leaf : Leaf) (shown : Shown) → IsOnlyLeafOf program node leaf → IsLeafOf program leaf → IsWideBy (decided program leaf.on) leaf.values shown → IsStuck program program stay IsWideLeaf node
+wide_stuck program node leaf shown only is wide = record { leaf = leaf; at_leaf = record { left = leaf; only = only; is = refl; is_leaf = is; wide = (shown, wide) } }
+
+-- a point of the leaf is one of the program
+pub feasible_back : (program : Program) (leaf : Leaf) (point : List ℚ) → IsWellFormed program → IsLeafOf program leaf → IsPointOfLeaf program leaf point → IsFeasible program point
+feasible_back program leaf point formed is h = feasible program leaf.on point formed is.each h.feasible
+
+pub long_point : (program : Program) (leaf : Leaf) (point : List ℚ) → IsWellFormed program → IsLeafOf program leaf → IsPointOfLeaf program leaf point → length point ≡ columns program
+long_point program leaf point formed is h =
+    IsInBox-long program.bounds point (feasible_back program leaf point formed is h).within ∙ formed.bounds
+
+-- a node of a search is one of the program
+pub kept_node_of : (program : Program) (tree : Nodes) (held : Option ℚ) (node : Node) → IsKept program tree held (node ∷ []) → IsNodeOf program node
+kept_node_of program tree held node k =
+    let state = state_of tree held (node ∷ []) in
+    given_node_of program tree.root.bound state.log state.held node k.searched.logged
+    (k.searched.given node (here node (tree.open_ ++ tree.parked)))

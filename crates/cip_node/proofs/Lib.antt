@@ -5,6 +5,7 @@ pub mod Inside
 pub mod KeptSteps
 pub mod LeafSettled
 pub mod Looked
+pub mod MadeChoices
 pub mod NodeBound
 pub mod Offering
 pub mod OneLeaf

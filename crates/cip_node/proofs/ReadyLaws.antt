@@ -10,7 +10,7 @@ use Rattle.cip_cuts.specs.Improving.{IsNoDearer}
 use Rattle.cip_cuts.proofs.Improving.{holds_later}
 use Rattle.cip_cert.specs.declared.rows.PoolRow.{PoolRow}
 use Rattle.cip_node.specs.Cores.{IsReady}
-use Rattle.cip_node.specs.Entering.{first_box}
+use Rattle.cip_node.specs.Entering.{own_region, first_region}
 use Rattle.cip_node.specs.KeptNodes.{cost_held, IsHolding, IsPoolOf, IsWorkplace}
 use Rattle.cip_node.specs.declared.cores.Core.{Core}
 
@@ -27,7 +27,7 @@ pool_aged program held pool n h = λ kept c.
 pub ready_from : (old new : Core) → new ≡ record old { solver = new.solver; scratch = new.scratch; starts = new.starts; tree = new.tree; incumbent = new.incumbent } → IsWorkplace new.program.now (length new.scratch.row.entries) new.pool.columns → IsHolding new.program.now new.incumbent → IsNoDearer (cost_held new.incumbent) (cost_held old.incumbent) → IsReady old → IsReady new
 ready_from old new e place holding d r = record {
   start = subst (λ (s : Core). s.start ≡ 0) (sym e) r.start;
-  first = subst (λ (s : Core). first_box s.domain ≡ s.program.now.bounds) (sym e) r.first;
+  first = subst (λ (s : Core). first_region s.domain ≡ own_region s.program.now) (sym e) r.first;
   place = place;
   pool = subst (λ (s : Core). IsPoolOf s.program.now (cost_held new.incumbent) s.pool.rows) (sym e) (pool_later old.program.now (cost_held old.incumbent) (cost_held new.incumbent) old.pool.rows d r.pool);
   cutoff = subst (λ (s : Core). s.cutoff ≡ None) (sym e) r.cutoff;

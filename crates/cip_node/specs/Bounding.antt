@@ -8,7 +8,8 @@ use Rattle.cip_cert.specs.Lent.{Lent}
 use Rattle.cip_model.specs.Verdicts.{verdict_of}
 use Rattle.cip_model.specs.declared.verdicts.Verdict.TheVariants.{Feasible}
 use Rattle.cip_search.specs.Relaxation.{IsRelaxedBound}
-use Rattle.cip_node_rules.specs.SplitRules.{IsSplitRule}
+use Rattle.cip_domain.specs.Changes.{Region}
+use Rattle.cip_node_rules.specs.SplitRules.{IsNodeRule}
 use Rattle.cip_node_bounds.specs.NodeRows.{usable_rows}
 use Rattle.cip_node_bounds.specs.Relaxing.{node_program, IsMark}
 use Rattle.cip_node_bounds.specs.declared.relaxed.Mark.{Mark}
@@ -42,7 +43,10 @@ GoesOnTried program held lent box Empty = ⊤
 GoesOnTried program held lent box (Open point mark) =
     HasTried program held lent box (option_map (λ values. values.items) point) mark
 
--- the split of a box by the point of its linear program; where that has none, by the values of another, if there is one
-abbrev pub IsSplitBy : List Bool → List Sides → Option (List ℚ) → ℕ → ℤ → Type 0
-IsSplitBy integral box (Some point) column at = IsSplitRule integral box (Some point) column at
-IsSplitBy integral box None column at = (last : Option (List ℚ)) × IsSplitRule integral box last column at
+-- the split of a region by the point of its linear program; where that has none, by the values of another, if there is
+-- one
+abbrev pub IsSplitBy : List Bool → Region → Option (List ℚ) → ℕ → ℤ → Type 0
+IsSplitBy integral region (Some point) column at =
+    IsNodeRule integral region.box region.choices (Some point) column at
+IsSplitBy integral region None column at =
+    (last : Option (List ℚ)) × IsNodeRule integral region.box region.choices last column at

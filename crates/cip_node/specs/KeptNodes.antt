@@ -8,6 +8,7 @@ use Rattle.cip_problem.specs.Box.{sides_at}
 use Rattle.cip_problem.specs.WellFormed.{columns}
 use Rattle.cip_problem.specs.Log.{Node}
 use Rattle.cip_cuts.specs.Improving.{IsValidRow}
+use Rattle.cip_leaves.specs.Searched.{first_node}
 use Rattle.cip_cert.specs.declared.rows.PoolRow.{PoolRow}
 use Rattle.cip_tree.specs.Nodes.{Nodes}
 use Rattle.cip_incumbent.specs.HeldPoint.{Holding, HoldsPointOf}
@@ -44,8 +45,8 @@ pub record IsKept (program : Program) (tree : Nodes) (held : Option ℚ) (work :
   pub searched : IsSearchOf program tree held work
   -- nothing was done on the nodes but what the log tells
   pub as_given : IsAsGiven program tree.root.bound (state_of tree held work)
-  -- the root is the program's box, and the whole columns are its
-  pub root : tree.root ≡ record { number = 0; box = program.bounds; bound = tree.root.bound }
+  -- the root has the program's box and choices, and the whole columns are its
+  pub root : tree.root ≡ first_node program tree.root.bound
   pub integral : tree.integral ≡ program.integral
   -- sides are not too far from 0
   pub near : (node : Node)

@@ -6,3 +6,5 @@ pub mod KeptNodes
 pub mod LeafValues
 pub mod Looking
 pub mod NodeEnds
+pub mod SolvedLeaves
+pub mod SplitPlaces

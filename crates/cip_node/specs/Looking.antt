@@ -1,23 +1,23 @@
--- What the look of a node's box comes to.
-use Rattle.std.specs.Prelude.{◌≡◌, ◌⊎◌, ℕ, Bool, List, length}
+-- What the look of a node's box and choices comes to.
+use Rattle.std.specs.Prelude.{◌≡◌, ◌⊎◌, ℕ, Bool, List}
 use Rattle.cip_rational.specs.Rational.{ℚ}
-use Rattle.cip_problem.specs.Program.{Sides}
 use Rattle.cip_problem.specs.Box.{IsInBox}
 use Rattle.cip_problem.specs.Wholes.{AllHaveWholes}
-use Rattle.cip_node_rules.specs.OpenColumns.{is_open_at, IsFirstColumn, PassesNowhere, LacksWhole}
+use Rattle.cip_domain.specs.Changes.{Region}
+use Rattle.cip_node_rules.specs.OpenColumns.{LacksWhole}
+use Rattle.cip_node_rules.specs.OpenChoices.{IsSettledBox, IsOpenBox}
 use Rattle.cip_node_rules.specs.declared.looks.Looked.{Looked}
 use Rattle.cip_node_rules.specs.declared.looks.Looked.TheVariants.{Empty, Leaf, Open}
 
--- the box in work is the node's, and each whole column has a whole value
-pub record IsFull (integral : List Bool) (box own : List Sides) : Type 0 where
-  pub same : box ≡ own
-  pub wholes : AllHaveWholes integral own
+-- the region in work is the node's, and each whole column has a whole value
+pub record IsFull (integral : List Bool) (region own : Region) : Type 0 where
+  pub same : region ≡ own
+  pub wholes : AllHaveWholes integral own.box
 
--- the node's box has no point, or a whole column of it no whole value; each whole column has one whole value; or each
--- has one, and one has two
-abbrev pub IsLook : List Bool → List Sides → List Sides → Looked → Type 0
-IsLook integral box own Empty =
-    ((point : List ℚ) → ¬ IsInBox own point) ⊎ ((column : ℕ) × LacksWhole integral own column)
-IsLook integral box own Leaf = IsFull integral box own × PassesNowhere (is_open_at integral own) (length integral)
-IsLook integral box own Open =
-    IsFull integral box own × ((column : ℕ) × IsFirstColumn (is_open_at integral own) (length integral) column)
+-- the node's box has no point, or a whole column of it no whole value; each whole column has one whole value, and no
+-- choice is open; or each has one, and one has two, or a choice is open
+abbrev pub IsLook : List Bool → Region → Region → Looked → Type 0
+IsLook integral region own Empty =
+    ((point : List ℚ) → ¬ IsInBox own.box point) ⊎ ((column : ℕ) × LacksWhole integral own.box column)
+IsLook integral region own Leaf = IsFull integral region own × IsSettledBox integral own.box own.choices
+IsLook integral region own Open = IsFull integral region own × IsOpenBox integral own.box own.choices

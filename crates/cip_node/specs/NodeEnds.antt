@@ -8,14 +8,14 @@ use Rattle.cip_problem.specs.Points.{IsFeasible}
 use Rattle.cip_problem.specs.Log.{End, Split, Closed, Parked, Node, AllFollow, matters}
 use Rattle.cip_cuts.specs.Improving.{HasNoImproving}
 use Rattle.cip_cert.specs.Lent.{Lent}
-use Rattle.cip_leaves.specs.Leaf.{IsPointOf, IsOnlyLeaf}
+use Rattle.cip_leaves.specs.Leaf.{Leaf, IsPointOfLeaf, IsOnlyLeafOf}
 use Rattle.cip_leaves.specs.Searched.{first_node, NoMore}
 use Rattle.cip_leaves.specs.WideLeaf.{Shown}
 use Rattle.cip_leaves.specs.WideNodes.{IsWideAs}
 use Rattle.cip_leaf.specs.LeafAnswers.{shown_as}
 use Rattle.cip_model.specs.Rays.{IsShownRay}
 use Rattle.cip_node_bounds.specs.declared.relaxed.Mark.{Mark}
-use Rattle.cip_tree.specs.Nodes.{TakenNode, Nodes, box_of}
+use Rattle.cip_tree.specs.Nodes.{TakenNode, Nodes, node_in, region_of, box_of, shown}
 use Rattle.cip_node.specs.Bounding.{IsAsGood, HasTried, IsSplitBy}
 use Rattle.cip_node.specs.KeptNodes.{IsSearchOf, IsKept}
 use Rattle.cip_node.specs.declared.ends.NodeEnd.{NodeEnd}
@@ -25,7 +25,7 @@ use Rattle.cip_node.specs.declared.ends.NodeEnd.TheVariants as by
 
 -- a node in work with another bound, as a node of the log
 abbrev pub with_bound : Nodes → TakenNode → Option ℚ → Node
-with_bound tree node bound = record { number = node.number; box = box_of tree node; bound = bound }
+with_bound tree node bound = node_in (region_of tree node) node.number bound
 
 -- the parked nodes after a node has ended
 abbrev pub parked_after : List Node → Node → End → List Node
@@ -56,15 +56,15 @@ pub record IsEmptied (program : Program) (held : Option ℚ) (old new : Nodes) (
   pub kept : IsKept program new held []
   pub empty : HasNoImproving program held (box_of old node)
 
--- it was closed; its box has one whole assignment, that leaf has a point, and none that is cheaper than what is held
+-- it was closed; its box has one leaf, which has a point, and none that is cheaper than what is held
 pub record IsSolvedLeaf (program : Program) (held : Option ℚ) (old new : Nodes) (node : TakenNode) : Type 0 where
   pub bound : Option ℚ
   pub entry : LeavesEntry old new node bound Closed
   pub kept : IsKept program new held []
-  pub leaf : List ℚ
-  pub only : IsOnlyLeaf program.integral (box_of old node) leaf
+  pub leaf : Leaf
+  pub only : IsOnlyLeafOf program (shown old node) leaf
   pub point : List ℚ
-  pub is_point : IsPointOf program leaf point
+  pub is_point : IsPointOfLeaf program leaf point
   pub settled : HasNoImproving program held (box_of old node)
 
 -- ---- split nodes
@@ -81,7 +81,7 @@ pub record IsHalved
   pub entry : LeavesEntry old new node bound (Split column at low high)
   pub kept : IsKept program new held []
   pub point : Option (List ℚ)
-  pub rule : IsSplitBy program.integral (box_of old node) point column at
+  pub rule : IsSplitBy program.integral (region_of old node) point column at
   pub good : IsAsGood program lent (box_of old node) room bound mark
   pub tried : HasTried program held lent (box_of old node) point mark
 
@@ -89,11 +89,11 @@ pub record IsHalved
 
 -- it was put aside as a wide leaf
 pub record IsAside
-    (program : Program) (held : Option ℚ) (old new : Nodes) (node : TakenNode) (leaf : List ℚ) (bound : Option ℚ)
-    (shown : Shown) : Type 0 where
+    (program : Program) (held : Option ℚ) (old new : Nodes) (node : TakenNode) (leaf : Leaf) (bound : Option ℚ)
+    (by_this : Shown) : Type 0 where
   pub entry : LeavesEntry old new node bound Parked
   pub kept : IsKept program new held []
-  pub wide_as : IsWideAs program (with_bound old node bound) leaf shown
+  pub wide_as : IsWideAs program (with_bound old node bound) leaf by_this
 
 -- it was put aside, as the cost falls from a feasible point along a ray that is shown. The log is one of the program
 pub record IsEndless
@@ -114,8 +114,8 @@ IsEnd program held lent room old new node mark by.Empty = IsEmptied program held
 IsEnd program held lent room old new node mark by.Solved = IsSolvedLeaf program held old new node
 IsEnd program held lent room old new node mark (by.Split low high) =
     IsHalved program held lent room old new node mark low high
-IsEnd program held lent room old new node mark (by.Parked leaf bound shown) =
-    IsAside program held old new node leaf.items bound (shown_as shown)
+IsEnd program held lent room old new node mark (by.Parked leaf on bound by_this) =
+    IsAside program held old new node (record { values = leaf.items; on = on.items }) bound (shown_as by_this)
 IsEnd program held lent room old new node mark (by.Ray point ray) =
     IsEndless program old new node point.items ray.items
 

@@ -7,12 +7,13 @@ ghost use Rattle.cip_incumbent.specs.HeldPoint.{nothing_held};
 ghost use Rattle.cip_tree.specs.Moves.{IsNew};
 ghost use Rattle.cip_node.specs.Beginning.{IsRootBound, AreNearColumns};
 ghost use Rattle.cip_node.specs.Cores.{IsReady};
+ghost use Rattle.cip_node.specs.Entering.{own_region};
 ghost use Rattle.cip_node.specs.KeptNodes.{cost_held, IsKept};
 
 use crate::cores::Core;
 use crate::starts::Starts;
 use cip_cert::Scratch;
-use cip_domain::DomainStore;
+use cip_domain::{DomainStore, Region};
 use cip_frac::Frac;
 use cip_incumbent::Incumbent;
 use cip_model::Program;
@@ -49,20 +50,29 @@ pub fn root_bound(program: &Program) -> Option<Frac>
     rounded_box_bound(program, are_costs_whole(program))
 }
 
+/// The box and the choices of a program, by themselves; `Err` where memory was refused.
+fn region_of(alloc: Global, program: &Program) -> Result<Region, AllocError>
+    ensures { IfOk result (λ region. region ≡ own_region program.now) }
+{
+    let bounds = program.bounds().copied(alloc)?;
+    let choices = program.choices().copied(alloc)?;
+    Ok(Region::new(bounds, choices))
+}
+
 /// The tree of one open node, the root of the program.
 fn rooted_tree(alloc: Global, program: &Program) -> Result<Tree, AllocError>
     requires near { AreNearColumns program.now }
-    ensures new { IfOk result (λ tree. IsNew tree program.now.bounds program.now.integral tree.root.bound) }
+    ensures new { IfOk result (λ tree. IsNew tree (own_region program.now) program.now.integral tree.root.bound) }
     ensures root { IfOk result (λ tree. IsRootBound program.now tree.root.bound) }
     ensures kept { IfOk result (λ tree. IsKept program.now tree None []) }
 {
     let _columns = program.columns();
     let bound = root_bound(program);
-    let root = program.bounds().copied(alloc)?;
+    let root = region_of(alloc, program)?;
     Tree::new(alloc, root, program.whole(), bound)
 }
 
-/// What nodes are worked on in: the box in work, and what checks work in.
+/// What nodes are worked on in: the region in work, and what checks work in.
 #[derive(Drop)]
 struct Workplace {
     domain: DomainStore,
@@ -70,17 +80,18 @@ struct Workplace {
 }
 
 impl Workplace {
-    /// The workplace of a program: the box in work is the program's. `Err` comes where memory was refused.
+    /// The workplace of a program: the region in work is the program's. `Err` comes where memory was refused.
     fn new(alloc: Global, program: &Program) -> Result<Workplace, AllocError>
         ensures domain { IfOk result
-            (λ place. place.domain ≡ record { box = program.now.bounds; before = []; spare = 0 }) }
+            (λ place. place.domain
+            ≡ record { box = program.now.bounds; choices = program.now.choices; before = []; spare = 0 }) }
         ensures scratch { IfOk result (λ place. length place.scratch.row.entries ≡ columns program.now) }
     {
         let columns = program.columns();
-        let bounds = program.bounds().copied(alloc)?;
+        let region = region_of(alloc, program)?;
         let scratch = Scratch::new(alloc, columns)?;
         Ok(Workplace {
-            domain: DomainStore::new(alloc, bounds),
+            domain: DomainStore::new(alloc, region),
             scratch,
         })
     }
@@ -94,7 +105,7 @@ impl<'a> Core<'a> {
         requires near { AreNearColumns program.now }
         ensures ready { IfOk result IsReady }
         ensures new { IfOk result
-            (λ core. IsNew core.tree program.now.bounds program.now.integral core.tree.root.bound) }
+            (λ core. IsNew core.tree (own_region program.now) program.now.integral core.tree.root.bound) }
         ensures root { IfOk result (λ core. IsRootBound program.now core.tree.root.bound) }
         ensures kept { IfOk result (λ core. IsKept program.now core.tree (cost_held core.incumbent) []) }
         ensures whole_costs { IfOk result (λ core. MatchBool core.whole_costs (HasWholeCosts program.now)

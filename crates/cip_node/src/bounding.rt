@@ -4,7 +4,7 @@ ghost use Rattle.cip_problem.specs.WellFormed.{columns};
 ghost use Rattle.cip_cuts.specs.Improving.{IsBoundIn, IsNoDearer};
 ghost use Rattle.cip_cuts.specs.Cuts.{HasWholeCosts};
 ghost use Rattle.cip_leaves.specs.Searched.{NoMore};
-ghost use Rattle.cip_tree.specs.Nodes.{IsTaken, box_of, shown};
+ghost use Rattle.cip_tree.specs.Nodes.{IsTaken, region_of, box_of, shown};
 ghost use Rattle.cip_node_bounds.specs.Relaxing.{IsRelaxed};
 ghost use Rattle.cip_node.specs.KeptNodes.{cost_held, IsKept, IsHolding, IsPoolOf, IsWorkplace};
 ghost use Rattle.cip_node.specs.Bounding.{IsBounded, IsTried, GoesOnTried};
@@ -151,7 +151,7 @@ impl<'a> Core<'a> {
         ensures holding { IsHolding self.new.program.now self.new.incumbent }
         ensures node { node.new ≡ record node.old { bound = node.new.bound } }
         ensures own { NoMore node.old.bound node.new.bound }
-        ensures same { box_of self.new.tree node.new ≡ box_of self.old.tree node.old }
+        ensures same { region_of self.new.tree node.new ≡ region_of self.old.tree node.old }
         ensures bounded { IfOk result (IsBounded self.new.program.now (cost_held self.new.incumbent)
             (record { own = self.new.program.now.rows; pool = self.new.pool.rows; cutoff = None }) self.new.domain.box
             (length self.new.scratch.row.entries) node.new.bound) }

@@ -1,10 +1,11 @@
 //! A node that is open is pruned or split.
-ghost use Rattle.std.specs.Prelude.{◌≡◌, ◌<◌, ◌^◌, ◌∷◌, [], ℕ, length, option_map, Option, IfSome, MatchOption, MatchResult};
+ghost use Rattle.std.specs.Prelude.{◌≡◌, ◌<◌, ◌^◌, ◌∷◌, [], length, option_map, Option, IfSome, MatchOption, MatchResult};
 ghost use Rattle.cip_problem.specs.Wholes.{AllHaveWholes};
 ghost use Rattle.cip_problem.specs.WellFormed.{columns};
-ghost use Rattle.cip_tree.specs.Nodes.{IsTaken, box_of, shown};
+ghost use Rattle.cip_domain.specs.Domain.{region_of};
+ghost use Rattle.cip_tree.specs.Nodes.{IsTaken, region_of as node_region, box_of, shown};
 ghost use Rattle.cip_node_bounds.specs.declared.relaxed.Mark.{Mark};
-ghost use Rattle.cip_node_rules.specs.OpenColumns.{is_open_at, IsFirstColumn, PassesNowhere};
+ghost use Rattle.cip_node_rules.specs.OpenChoices.{IsSettledBox, IsOpenBox};
 ghost use Rattle.cip_node.specs.Bounding.{IsAsGood, HasTried, IsSplitBy};
 ghost use Rattle.cip_node.specs.Cores.{rows_lent, StaysRooted};
 ghost use Rattle.cip_node.specs.KeptNodes.{cost_held, IsKept};
@@ -19,22 +20,23 @@ use cip_tree::Node;
 use std::alloc::AllocError;
 
 impl<'a> Core<'a> {
-    /// Where the box in work is split: by a point of its linear program, if there is one, else by the last linear values,
-    /// if a linear program had a point. `None` exactly where no whole column has two whole values.
+    /// Where the region in work is split: by a point of its linear program, if there is one, else by the last linear
+    /// values, if a linear program had a point. `None` exactly where no whole column has two whole values and no choice
+    /// is open.
     fn place_by(&self, point: &Option<Vec<Frac>>) -> Option<SplitPlace>
         requires columns { length self.now.domain.box ≡ columns self.now.program.now }
         requires values { IfSome point.now (λ values. length values.items ≡ length self.now.domain.box) }
         ensures { MatchOption result
-            (PassesNowhere (is_open_at self.now.program.now.integral self.now.domain.box)
-            (length self.now.program.now.integral))
-            (λ place. IsSplitBy self.now.program.now.integral self.now.domain.box
+            (IsSettledBox self.now.program.now.integral self.now.domain.box self.now.domain.choices)
+            (λ place. IsSplitBy self.now.program.now.integral (region_of self.now.domain)
             (option_map (λ values. values.items) point.now) place.col place.at) }
     {
         let columns = self.program.columns();
         let (whole, bounds) = (self.program.whole(), self.domain.bounds());
+        let choices = self.domain.choices();
         match point {
-            Some(own) => chosen_place(whole, bounds, Some(own.as_slice())),
-            None => chosen_place(whole, bounds, self.starts.last_values(columns)),
+            Some(own) => chosen_place(whole, bounds, choices, Some(own.as_slice())),
+            None => chosen_place(whole, bounds, choices, self.starts.last_values(columns)),
         }
     }
 
@@ -52,11 +54,10 @@ impl<'a> Core<'a> {
             (shown self.old.tree node ∷ []) }
         requires taken { IsTaken self.old.tree node }
         requires few { self.old.tree.ids < 2 ^ 63 }
-        requires box_in_work { self.old.domain.box ≡ box_of self.old.tree node }
+        requires region_in_work { region_of self.old.domain ≡ node_region self.old.tree node }
         requires columns { length self.old.domain.box ≡ columns self.old.program.now }
         requires wholes { AllHaveWholes self.old.program.now.integral (box_of self.old.tree node) }
-        requires open_column { (column : ℕ) × IsFirstColumn
-            (is_open_at self.old.program.now.integral self.old.domain.box) (length self.old.program.now.integral) column }
+        requires open_ { IsOpenBox self.old.program.now.integral self.old.domain.box self.old.domain.choices }
         requires values { IfSome point.now (λ values. length values.items ≡ length self.old.domain.box) }
         ensures end { (mark : Option Mark)
             → IsAsGood self.old.program.now (rows_lent self.old.program.now self.old.pool) (box_of self.old.tree node)

@@ -20,9 +20,9 @@ pub struct Core<'a> {
     pub pool: RowPool,
     /// The cutoff row; no combination names it yet.
     pub cutoff: Option<Row>,
-    /// The box in work.
+    /// The region in work: the box of a node and its choices.
     pub domain: DomainStore,
-    /// The moment at which the box in work is the program's.
+    /// The moment at which the region in work is the program's.
     pub start: Checkpoint,
     /// What solves the linear programs of nodes.
     pub solver: Solver,

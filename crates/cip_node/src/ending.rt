@@ -1,10 +1,11 @@
 //! How the node in work ends, once its box was looked at.
-ghost use Rattle.std.specs.Prelude.{◌≡◌, ◌<◌, ◌^◌, ◌∷◌, [], ℕ, length, None, IfOk, IfSome, MatchResult};
+ghost use Rattle.std.specs.Prelude.{◌≡◌, ◌<◌, ◌^◌, ◌∷◌, [], length, None, IfOk, IfSome, MatchResult};
 ghost use Rattle.cip_problem.specs.WellFormed.{columns};
 ghost use Rattle.cip_cuts.specs.Improving.{IsNoDearer};
-ghost use Rattle.cip_tree.specs.Nodes.{IsTaken, box_of, shown};
+ghost use Rattle.cip_domain.specs.Domain.{region_of};
+ghost use Rattle.cip_tree.specs.Nodes.{IsTaken, region_of as node_region, box_of, choices_of, shown};
 ghost use Rattle.cip_node_bounds.specs.Relaxing.{IsMark};
-ghost use Rattle.cip_node_rules.specs.OpenColumns.{is_open_at, IsFirstColumn, PassesNowhere};
+ghost use Rattle.cip_node_rules.specs.OpenChoices.{IsSettledBox, IsOpenBox};
 ghost use Rattle.cip_node.specs.Cores.{IsReady, rows_lent, StaysRooted};
 ghost use Rattle.cip_node.specs.KeptNodes.{cost_held, IsKept};
 ghost use Rattle.cip_node.specs.Looking.{IsFull};
@@ -18,16 +19,17 @@ use cip_tree::Node;
 use std::alloc::{AllocError, Global};
 
 impl<'a> Core<'a> {
-    /// Ends a node that is a leaf, whose box is the box in work. `Err` comes where memory was refused; the node is open
-    /// again then.
+    /// Ends a node that is a leaf, whose region is the region in work. `Err` comes where memory was refused; the node is
+    /// open again then.
     pub(crate) fn end_leaf(&mut self, alloc: Global, node: Node) -> Result<NodeEnd, AllocError>
         requires kept { IsKept self.old.program.now self.old.tree (cost_held self.old.incumbent)
             (shown self.old.tree node ∷ []) }
         requires taken { IsTaken self.old.tree node }
         requires ready { IsReady self.old }
-        requires full { IsFull self.old.program.now.integral self.old.domain.box (box_of self.old.tree node) }
-        requires closed { PassesNowhere (is_open_at self.old.program.now.integral (box_of self.old.tree node))
-            (length self.old.program.now.integral) }
+        requires full { IsFull self.old.program.now.integral (region_of self.old.domain)
+            (node_region self.old.tree node) }
+        requires settled { IsSettledBox self.old.program.now.integral (box_of self.old.tree node)
+            (choices_of self.old.tree node) }
         requires columns { length self.old.domain.box ≡ columns self.old.program.now }
         ensures end { MatchResult result
             (IsEnd self.new.program.now (cost_held self.new.incumbent)
@@ -39,7 +41,8 @@ impl<'a> Core<'a> {
         ensures tree { StaysRooted self.old.tree self.new.tree }
         ensures frame { self.new ≡ record self.old { tree = self.new.tree; incumbent = self.new.incumbent } }
     {
-        match solve_leaf(alloc, self.program, self.domain.bounds()) {
+        let (bounds, choices) = (self.domain.bounds(), self.domain.choices());
+        match solve_leaf(alloc, self.program, bounds, choices) {
             Err(error) => {
                 self.go_back(node);
                 Err(error)
@@ -48,8 +51,8 @@ impl<'a> Core<'a> {
         }
     }
 
-    /// Ends a node whose box is the box in work, and in which a whole column has two whole values. `Err` comes where
-    /// memory was refused; the node is open again then.
+    /// Ends a node whose region is the region in work, and in which a whole column has two whole values or a choice is
+    /// open. `Err` comes where memory was refused; the node is open again then.
     pub(crate) fn end_open(
         &mut self,
         alloc: Global,
@@ -59,9 +62,10 @@ impl<'a> Core<'a> {
             (shown self.old.tree node ∷ []) }
         requires taken { IsTaken self.old.tree node }
         requires ready { IsReady self.old }
-        requires full { IsFull self.old.program.now.integral self.old.domain.box (box_of self.old.tree node) }
-        requires open_column { (column : ℕ) × IsFirstColumn (is_open_at self.old.program.now.integral
-            (box_of self.old.tree node)) (length self.old.program.now.integral) column }
+        requires full { IsFull self.old.program.now.integral (region_of self.old.domain)
+            (node_region self.old.tree node) }
+        requires open_ { IsOpenBox self.old.program.now.integral (box_of self.old.tree node)
+            (choices_of self.old.tree node) }
         requires columns { length self.old.domain.box ≡ columns self.old.program.now }
         requires few { self.old.tree.ids < 2 ^ 63 }
         ensures end { MatchResult result

@@ -14,9 +14,11 @@ pub enum NodeEnd {
     Solved,
     /// It was split into halves with these numbers, the low one first.
     Split(u64, u64),
-    /// It is this leaf, which is wide by what is shown, and was put aside with this bound.
+    /// It is the leaf of these whole values and choices, which is wide by what is shown, and was put aside with this
+    /// bound.
     Parked {
         leaf: Vec<Frac>,
+        on: Vec<bool>,
         bound: Option<Frac>,
         shown: Shown,
     },

@@ -2,15 +2,18 @@
 ghost use Rattle.std.specs.Prelude.{◌≡◌, length, IfOk};
 ghost use Rattle.cip_problem.specs.Wholes.{AllHaveWholes};
 ghost use Rattle.cip_problem.specs.WellFormed.{columns};
-ghost use Rattle.cip_leaves.specs.Leaf.{IsLeaf, IsOnlyLeaf};
+ghost use Rattle.cip_problem.specs.Choices.{choice_at, is_on, AreStillOpen, made_on};
+ghost use Rattle.cip_problem.specs.Log.{Node};
+ghost use Rattle.cip_leaves.specs.Leaf.{IsLeafOf, IsOnlyLeafOf};
 ghost use Rattle.cip_leaf.specs.LeafAnswers.{IsLeafAnswer};
 ghost use Rattle.cip_tree.specs.Tracked.{IsWithin};
-ghost use Rattle.cip_node_rules.specs.OpenColumns.{is_open_at, PassesNowhere};
+ghost use Rattle.cip_node_rules.specs.OpenChoices.{IsSettledBox};
 ghost use Rattle.cip_node.specs.LeafValues.{least_above, least_values};
+ghost use Rattle.cip_node.specs.SolvedLeaves.{leaf_of};
 
 use cip_frac::Frac;
 use cip_leaf::{LeafAnswer, leaf};
-use cip_lin::{Bounds, Sides};
+use cip_lin::{Bounds, Choice, Choices, Sides};
 use cip_model::Program;
 use std::alloc::{AllocError, Global};
 
@@ -40,30 +43,60 @@ fn values_in(alloc: Global, whole: &[bool], sides: &[Sides]) -> Result<Vec<Frac>
     Ok(values)
 }
 
+/// Whether a column is on, by its choice; one past the end of the choices is plain.
+fn is_on_at(choices: &[Choice], column: usize) -> bool
+    ensures { result ≡ is_on (choice_at choices.now column) }
+{
+    match choices.get(column) {
+        None => false,
+        Some(choice) => choice.is_on(),
+    }
+}
+
+/// For each semi-continuous column, by rising column, whether it is on; `Err` where memory was refused.
+#[tactic(auto, using(crate::proofs::MadeChoices::made_open, crate::proofs::MadeChoices::made_other))]
+fn choices_made(alloc: Global, own: &[Choice], now: &[Choice]) -> Result<Vec<bool>, AllocError>
+    ensures { IfOk result (λ on. on.items ≡ made_on own.now now.now) }
+{
+    let mut on = Vec::new(alloc);
+    for at in 0..own.len() {
+        if !own[at].is_open() {
+            continue;
+        }
+        on.push(is_on_at(now, at))?;
+    }
+    Ok(on)
+}
+
 /// A leaf, and what is known of it.
 #[derive(Debug, Drop)]
 pub(crate) struct Solved {
     pub(crate) values: Vec<Frac>,
+    pub(crate) on: Vec<bool>,
     pub(crate) answer: LeafAnswer,
 }
 
-/// What is known of the leaf of a box within the program's, in which each whole column has one whole value. `Err` where
-/// memory was refused.
+/// What is known of the leaf of a box within the program's, in which each whole column has one whole value and no
+/// choice is open. `Err` where memory was refused.
 pub(crate) fn solve_leaf(
     alloc: Global,
     program: &Program,
     bounds: &Bounds,
+    choices: &Choices,
 ) -> Result<Solved, AllocError>
     requires wholes { AllHaveWholes program.now.integral bounds.now }
-    requires closed { PassesNowhere (is_open_at program.now.integral bounds.now) (length program.now.integral) }
+    requires settled { IsSettledBox program.now.integral bounds.now choices.now }
     requires within { IsWithin bounds.now program.now.bounds }
+    requires still_open { AreStillOpen program.now.choices choices.now }
     requires columns { length bounds.now ≡ columns program.now }
-    ensures only { IfOk result (λ solved. IsOnlyLeaf program.now.integral bounds.now solved.values.items) }
-    ensures leaf { IfOk result (λ solved. IsLeaf program.now solved.values.items) }
-    ensures answer { IfOk result (λ solved. IsLeafAnswer program.now solved.values.items solved.answer) }
+    ensures only { IfOk result (λ solved. (node : Node) → node.box ≡ bounds.now → node.choices ≡ choices.now
+        → IsOnlyLeafOf program.now node (leaf_of solved)) }
+    ensures leaf { IfOk result (λ solved. IsLeafOf program.now (leaf_of solved)) }
+    ensures answer { IfOk result (λ solved. IsLeafAnswer program.now (leaf_of solved) solved.answer) }
 {
     let _columns = program.columns();
     let values = values_in(alloc, program.whole(), bounds.as_slice())?;
-    let answer = leaf(alloc, program, values.as_slice())?;
-    Ok(Solved { values, answer })
+    let on = choices_made(alloc, program.choices().as_slice(), choices.as_slice())?;
+    let answer = leaf(alloc, program, values.as_slice(), on.as_slice())?;
+    Ok(Solved { values, on, answer })
 }

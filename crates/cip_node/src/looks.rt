@@ -1,8 +1,9 @@
-//! The look of a node's box.
+//! The look of a node's box and choices.
 ghost use Rattle.std.specs.Prelude.{◌≡◌, length, IfOk};
 ghost use Rattle.cip_problem.specs.WellFormed.{columns};
-ghost use Rattle.cip_tree.specs.Nodes.{IsTaken, box_of};
-ghost use Rattle.cip_node.specs.Entering.{first_box};
+ghost use Rattle.cip_domain.specs.Domain.{region_of};
+ghost use Rattle.cip_tree.specs.Nodes.{IsTaken, region_in, region_of as node_region};
+ghost use Rattle.cip_node.specs.Entering.{first_region, ArePlainPast};
 ghost use Rattle.cip_node.specs.Looking.{IsLook};
 
 use crate::entering::enter;
@@ -12,7 +13,8 @@ use cip_node_rules::{Looked, look_at};
 use cip_tree::{Node, Tree};
 use std::alloc::AllocError;
 
-/// Makes the box of a node the box in work, and looks at its whole columns. `Err` comes where memory was refused.
+/// Makes the region of a node the region in work, and looks at its whole columns and its choices. `Err` comes where
+/// memory was refused.
 pub(crate) fn look(
     domain: &mut DomainStore,
     start: Checkpoint,
@@ -22,14 +24,16 @@ pub(crate) fn look(
 ) -> Result<Looked, AllocError>
     requires taken { IsTaken tree.now node.now }
     requires start { start ≡ 0 }
-    requires first { first_box domain.old ≡ tree.now.root.box }
+    requires first { first_region domain.old ≡ region_in tree.now.root }
+    requires past { ArePlainPast (region_in tree.now.root) }
     requires columns { length tree.now.root.box ≡ columns program.now }
-    ensures first { first_box domain.new ≡ tree.now.root.box }
-    ensures look { IfOk result (IsLook program.now.integral domain.new.box (box_of tree.now node.now)) }
+    ensures first { first_region domain.new ≡ region_in tree.now.root }
+    ensures look { IfOk result
+        (IsLook program.now.integral (region_of domain.new) (node_region tree.now node.now)) }
 {
     if !enter(domain, start, tree, node)? {
         return Ok(Looked::Empty);
     }
     let _columns = program.columns();
-    Ok(look_at(program.whole(), domain.bounds()))
+    Ok(look_at(program.whole(), domain.bounds(), domain.choices()))
 }

@@ -1,7 +1,8 @@
 //! The work on a node.
 ghost use Rattle.std.specs.Prelude.{◌≡◌, ◌<◌, ◌^◌, ◌∷◌, [], length, IfOk, IfSome, MatchResult};
 ghost use Rattle.cip_cuts.specs.Improving.{IsNoDearer};
-ghost use Rattle.cip_tree.specs.Nodes.{IsTaken, box_of, shown};
+ghost use Rattle.cip_domain.specs.Domain.{region_of};
+ghost use Rattle.cip_tree.specs.Nodes.{IsTaken, region_of as node_region, box_of, shown};
 ghost use Rattle.cip_node_bounds.specs.Relaxing.{IsMark};
 ghost use Rattle.cip_node.specs.Cores.{IsReady, aged, rows_lent, StaysRooted};
 ghost use Rattle.cip_node.specs.KeptNodes.{cost_held, IsKept};
@@ -26,14 +27,14 @@ impl<'a> Core<'a> {
         self.starts.turn_to(node.id());
     }
 
-    /// Makes the box of a node the box in work, and looks at it. `Err` comes where memory was refused.
+    /// Makes the region of a node the region in work, and looks at it. `Err` comes where memory was refused.
     fn look_at(&mut self, node: &Node) -> Result<Looked, AllocError>
         requires kept { IsKept self.old.program.now self.old.tree (cost_held self.old.incumbent)
             (shown self.old.tree node.now ∷ []) }
         requires taken { IsTaken self.old.tree node.now }
         requires ready { IsReady self.old }
         ensures look { IfOk result
-            (IsLook self.new.program.now.integral self.new.domain.box (box_of self.new.tree node.now)) }
+            (IsLook self.new.program.now.integral (region_of self.new.domain) (node_region self.new.tree node.now)) }
         ensures ready { IsReady self.new }
         ensures frame { self.new ≡ record self.old { domain = self.new.domain } }
     {
@@ -41,8 +42,8 @@ impl<'a> Core<'a> {
         look(&mut self.domain, self.start, self.program, &self.tree, node)
     }
 
-    /// Ends a node by the look of its box, which is the box in work. `Err` comes where memory was refused; the node is
-    /// open again then.
+    /// Ends a node by the look of its region, which is the region in work. `Err` comes where memory was refused; the
+    /// node is open again then.
     fn end(
         &mut self,
         alloc: Global,
@@ -54,7 +55,8 @@ impl<'a> Core<'a> {
         requires taken { IsTaken self.old.tree node }
         requires ready { IsReady self.old }
         requires few { self.old.tree.ids < 2 ^ 63 }
-        requires look { IsLook self.old.program.now.integral self.old.domain.box (box_of self.old.tree node) looked }
+        requires look { IsLook self.old.program.now.integral (region_of self.old.domain)
+            (node_region self.old.tree node) looked }
         ensures end { MatchResult result
             (λ done. IsEnd self.new.program.now (cost_held self.new.incumbent)
             (rows_lent self.new.program.now self.new.pool) (length self.new.scratch.row.entries) self.old.tree

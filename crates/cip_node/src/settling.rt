@@ -1,12 +1,13 @@
 //! A node that is a leaf ends.
 ghost use Rattle.std.specs.Prelude.{◌≡◌, ◌∷◌, [], length, None};
-ghost use Rattle.cip_leaves.specs.Leaf.{IsLeaf, IsOnlyLeaf};
+ghost use Rattle.cip_leaves.specs.Leaf.{IsLeafOf, IsOnlyLeafOf};
 ghost use Rattle.cip_leaf.specs.LeafAnswers.{IsLeafAnswer};
 ghost use Rattle.cip_cuts.specs.Improving.{IsNoDearer};
-ghost use Rattle.cip_tree.specs.Nodes.{IsTaken, box_of, shown};
+ghost use Rattle.cip_tree.specs.Nodes.{IsTaken, shown};
 ghost use Rattle.cip_node.specs.Cores.{rows_lent, StaysRooted};
 ghost use Rattle.cip_node.specs.KeptNodes.{cost_held, IsKept, IsHolding};
 ghost use Rattle.cip_node.specs.NodeEnds.{IsEnd};
+ghost use Rattle.cip_node.specs.SolvedLeaves.{leaf_of};
 
 use crate::cores::Core;
 use crate::ends::NodeEnd;
@@ -21,9 +22,9 @@ impl<'a> Core<'a> {
             (shown self.old.tree node ∷ []) }
         requires taken { IsTaken self.old.tree node }
         requires holding { IsHolding self.old.program.now self.old.incumbent }
-        requires only { IsOnlyLeaf self.old.program.now.integral (box_of self.old.tree node) solved.values.items }
-        requires leaf { IsLeaf self.old.program.now solved.values.items }
-        requires answer { IsLeafAnswer self.old.program.now solved.values.items solved.answer }
+        requires only { IsOnlyLeafOf self.old.program.now (shown self.old.tree node) (leaf_of solved) }
+        requires leaf { IsLeafOf self.old.program.now (leaf_of solved) }
+        requires answer { IsLeafAnswer self.old.program.now (leaf_of solved) solved.answer }
         ensures end { IsEnd self.new.program.now (cost_held self.new.incumbent)
             (rows_lent self.new.program.now self.new.pool) (length self.new.scratch.row.entries) self.old.tree
             self.new.tree node None result }
@@ -32,7 +33,7 @@ impl<'a> Core<'a> {
         ensures tree { StaysRooted self.old.tree self.new.tree }
         ensures frame { self.new ≡ record self.old { tree = self.new.tree; incumbent = self.new.incumbent } }
     {
-        let Solved { values, answer } = solved;
+        let Solved { values, on, answer } = solved;
         match answer {
             LeafAnswer::Best { point, cost } => {
                 let _columns = self.program.columns();
@@ -55,6 +56,7 @@ impl<'a> Core<'a> {
                 self.park(node);
                 NodeEnd::Parked {
                     leaf: values,
+                    on,
                     bound,
                     shown,
                 }

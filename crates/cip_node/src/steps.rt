@@ -2,21 +2,19 @@
 ghost use Rattle.std.specs.Prelude.{◌≡◌, ◌<◌, ◌^◌, ◌+◌, ◌++◌, ◌∷◌, [], true, false, length, MatchBool, MatchOption, MatchResult};
 ghost use Rattle.cip_problem.specs.Log.{Split, Closed, Parked, AllFollow, matters};
 ghost use Rattle.cip_problem.specs.Wholes.{AllHaveWholes};
-ghost use Rattle.cip_problem.specs.Box.{sides_at};
 ghost use Rattle.cip_problem.specs.WellFormed.{columns};
 ghost use Rattle.cip_model.specs.Verdicts.{verdict_of};
 ghost use Rattle.cip_model.specs.declared.verdicts.Verdict.TheVariants.{Feasible};
 ghost use Rattle.cip_incumbent.specs.HeldPoint.{offered, after_offer};
-ghost use Rattle.cip_node_rules.specs.OpenColumns.{is_whole_at};
-ghost use Rattle.cip_node_rules.specs.SplitRules.{LeavesBoth};
 ghost use Rattle.cip_cuts.specs.Improving.{IsBoundIn, HasNoImproving, IsNoDearer};
 ghost use Rattle.cip_leaves.specs.Searched.{first_node, NoMore};
 ghost use Rattle.cip_leaves.specs.WideLeaf.{IsWideLeaf};
 ghost use Rattle.cip_search.specs.SearchState.{stay, IsStuck};
 ghost use Rattle.cip_tree.specs.Moves.{TakesFirst};
-ghost use Rattle.cip_tree.specs.Nodes.{IsTaken, box_of, shown};
+ghost use Rattle.cip_tree.specs.Nodes.{IsTaken, region_of as node_region, box_of, shown};
 ghost use Rattle.cip_node.specs.KeptNodes.{cost_held, farthest, IsKept, IsHolding};
 ghost use Rattle.cip_node.specs.Cores.{IsReady};
+ghost use Rattle.cip_node.specs.SplitPlaces.{IsSplitPlace};
 ghost use Rattle.cip_node.specs.NodeEnds.{IsOpenAgain};
 
 use crate::cores::Core;
@@ -301,8 +299,9 @@ impl<'a> Core<'a> {
         answer
     }
 
-    /// Splits a node where both sides keep a whole value: it has ended, and the halves are open, with the numbers that
-    /// are answered. `Err` comes where memory was refused; the node is open again then.
+    /// Splits a node at a whole column, where both sides keep a whole value, or at a column whose choice is open: it
+    /// has ended, and the halves are open, with the numbers that are answered. `Err` comes where memory was refused;
+    /// the node is open again then.
     pub(crate) fn split(&mut self, node: Node, col: u32, at: i128) -> Result<(u64, u64), AllocError>
         requires kept { IsKept self.old.program.now self.old.tree (cost_held self.old.incumbent)
             (shown self.old.tree node ∷ []) }
@@ -310,8 +309,8 @@ impl<'a> Core<'a> {
         requires few { self.old.tree.ids < 2 ^ 63 }
         requires wholes { AllHaveWholes self.old.program.now.integral (box_of self.old.tree node) }
         requires column { col < length self.old.program.now.integral }
-        requires whole { is_whole_at self.old.program.now.integral col ≡ true }
-        requires both { LeavesBoth (sides_at (box_of self.old.tree node) col) (farthest self.old.tree.ids + 1) at }
+        requires place { IsSplitPlace self.old.program.now.integral (node_region self.old.tree node)
+            (farthest self.old.tree.ids + 1) col at }
         ensures split { MatchResult result
             (λ halves. IsKept self.new.program.now self.new.tree (cost_held self.new.incumbent) []
             × (self.new.tree ≡ record self.old.tree {

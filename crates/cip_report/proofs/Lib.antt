@@ -1,2 +1,3 @@
 pub mod LeafLines
+pub mod ToldSides
 pub mod WritingLemmas

@@ -25,7 +25,8 @@ status_of rows EndedInfeasible = Infeasible
 status_of rows (EndedUnbounded ray) = Unbounded ray.items
 status_of rows EndedNodeLimit = NodeLimit
 status_of rows EndedGap = Gap
-status_of rows (EndedWide leaf shown) = Wide leaf.items (overflow_of rows shown)
+status_of rows (EndedWide leaf on shown) =
+    Wide (record { values = leaf.items; on = on.items }) (overflow_of rows shown)
 status_of rows EndedNoMemory = NoMemory
 
 abbrev pub printed_held : Program → HeldPoint → Held
@@ -44,15 +45,17 @@ StandsAmong rows (Place (Row number)) = number < rows
 StandsAmong rows (Place Cost) = ⊤
 StandsAmong rows (Moves number) = ⊤
 
--- a ray has a change for each column, and a leaf that is shown a value for each whole column
+-- a ray has a change for each column, and a leaf that is shown a value for each whole column and a choice for each
+-- semi-continuous one
 abbrev pub EndedFits : Program → Ended → Type 0
 EndedFits program EndedOptimal = ⊤
 EndedFits program EndedInfeasible = ⊤
 EndedFits program (EndedUnbounded ray) = length ray.items ≡ length program.column_names
 EndedFits program EndedNodeLimit = ⊤
 EndedFits program EndedGap = ⊤
-EndedFits program (EndedWide leaf shown) =
-    (length leaf.items ≡ length (names_of program).wholes) × StandsAmong (length program.row_names) shown
+EndedFits program (EndedWide leaf on shown) =
+    (length leaf.items ≡ length (names_of program).wholes) × (length on.items ≡ length (names_of program).semis)
+    × StandsAmong (length program.row_names) shown
 EndedFits program EndedNoMemory = ⊤
 
 -- an answer is one of a program: its point, if it holds one, has a value for each column, and its end fits

@@ -2,9 +2,10 @@
 -- the side that it breaks, and of a program that maximises the cost negated again.
 use Rattle.std.specs.Prelude.{ℕ, List, [], Option, None, Some, slice_get, slice_index_or, if◌then◌else◌}
 use Rattle.cip_rational.specs.Rational.{ℚ, le_test}
-use Rattle.cip_problem.specs.Program.{Sides, Row, Program}
+use Rattle.cip_problem.specs.Program.{Sides, Row, Choice, Plain, Open, Off, On, Program}
 use Rattle.cip_problem.specs.Activity.{value_at}
 use Rattle.cip_problem.specs.Box.{no_sides, sides_at}
+use Rattle.cip_problem.specs.Choices.{choice_at}
 use Rattle.cip_problem.specs.Points.{printed}
 use Rattle.cip_answers.specs.Checks.{Broken, Below, Above, Checked, Feasible, BreaksBound, BreaksWhole, BreaksRow, WideRow, WideCost}
 use Rattle.cip_model.specs.declared.verdicts.Place.TheVariants.{Row as AtRow, Cost}
@@ -33,6 +34,13 @@ row_broken name value sides = BreaksRow name value (broken_side sides.low sides.
 abbrev pub bound_broken : List ℕ → ℚ → Sides → Checked
 bound_broken name value sides = BreaksBound name value (broken_side sides.low sides.high value)
 
+-- the sides that a column's value is told to break: the own ones of a semi-continuous column, and else its bounds
+abbrev pub told_sides : Choice → Sides → Sides
+told_sides Plain sides = sides
+told_sides (Open own) sides = own
+told_sides Off sides = sides
+told_sides On sides = sides
+
 -- the name of a number
 abbrev pub name_at : List (List ℕ) → ℕ → List ℕ
 name_at names number = slice_index_or names number []
@@ -41,7 +49,8 @@ name_at names number = slice_index_or names number []
 abbrev pub checked_of : Program → List ℚ → Verdict → Checked
 checked_of program point (IsFeasible cost) = Feasible (printed program cost)
 checked_of program point (OutsideBound column) =
-    bound_broken (name_at program.column_names column) (value_at point column) (sides_at program.bounds column)
+    bound_broken (name_at program.column_names column) (value_at point column)
+    (told_sides (choice_at program.choices column) (sides_at program.bounds column))
 checked_of program point (NotWhole column) = BreaksWhole (name_at program.column_names column) (value_at point column)
 checked_of program point (OutsideRow number value) =
     row_broken (name_at program.row_names number) value (sides_of_row (slice_get program.rows number))

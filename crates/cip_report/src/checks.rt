@@ -6,7 +6,8 @@ ghost use Rattle.cip_io.specs.Sink.{TakesAll, PushesPart};
 ghost use Rattle.cip_rational.specs.Rational.{ℚ, le_test};
 ghost use Rattle.cip_numerals.specs.NumberText.{fraction_text};
 ghost use Rattle.cip_problem.specs.Program as problem;
-ghost use Rattle.cip_problem.specs.Box.{Between};
+ghost use Rattle.cip_problem.specs.Box.{Between, sides_at};
+ghost use Rattle.cip_problem.specs.Choices.{choice_at};
 ghost use Rattle.cip_problem.specs.WellFormed.{columns};
 ghost use Rattle.cip_model.specs.Meaning.{IsOutside, VerdictHolds};
 ghost use Rattle.cip_model.specs.declared.verdicts.Verdict.TheVariants.{BreaksBound, BreaksWhole, BreaksRow, Wide};
@@ -14,7 +15,7 @@ ghost use Rattle.cip_answers.specs.Figures.{line};
 ghost use Rattle.cip_answers.specs.Checks as texts;
 ghost use Rattle.cip_leaf.specs.declared.answers.Shown.TheVariants.{Place as AtPlace};
 ghost use Rattle.cip_report.specs.Answers.{StandsAmong};
-ghost use Rattle.cip_report.specs.Checks.{broken_side, sides_of_row, checked_of};
+ghost use Rattle.cip_report.specs.Checks.{broken_side, sides_of_row, told_sides, checked_of};
 ghost use Rattle.cip_report.specs.Writing.{Writes};
 
 use crate::buffer::Buffer;
@@ -136,7 +137,18 @@ fn write_broken<K: Sink>(
     write_side(out, buffer, sides, value)
 }
 
-/// Writes the line of a column whose value is outside its sides.
+/// The sides that a column's value is told to break: its own where it is semi-continuous, and else its bounds.
+fn told_sides(program: &Program, col: u32) -> Sides
+    requires { col < columns program.now }
+    ensures { result ≡ told_sides (choice_at program.now.choices col) (sides_at program.now.bounds col) }
+{
+    match program.choices().at(col).own() {
+        Some(own) => own,
+        None => program.bounds().sides(col),
+    }
+}
+
+/// Writes the line of a column whose value is outside its sides, or isn't allowed by its choice.
 fn write_bound<K: Sink>(
     out: &mut K,
     buffer: &mut Buffer,
@@ -152,7 +164,7 @@ fn write_bound<K: Sink>(
 {
     let number = col as usize;
     let name = program.column_names().name(number);
-    let sides = program.bounds().sides(col);
+    let sides = told_sides(program, col);
     write_broken(out, buffer, b"bound ", name, point[number], sides)
 }
 

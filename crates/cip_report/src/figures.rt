@@ -27,6 +27,8 @@ pub enum Ended {
     Wide {
         /// The value of each whole column in such a leaf, by rising column.
         leaf: Vec<Frac>,
+        /// Whether each semi-continuous column is on there, by rising column.
+        on: Vec<bool>,
         /// What overflows there.
         shown: Shown,
     },

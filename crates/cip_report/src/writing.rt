@@ -1,5 +1,5 @@
 //! Answers as bytes, written to a sink from a fixed buffer.
-ghost use Rattle.std.specs.Prelude.{◌≡◌, ◌++◌, length, option_map, IfSome, MatchResult};
+ghost use Rattle.std.specs.Prelude.{◌≡◌, ◌<◌, ◌++◌, ℕ, true, map, length, option_map, IfSome, MatchResult};
 ghost use lib.Chars.{codes};
 ghost use Rattle.cip_leaves.specs.Leaf.{at_wholes};
 ghost use Rattle.cip_io.specs.Faults.{CountsFaults};
@@ -7,7 +7,8 @@ ghost use Rattle.cip_io.specs.Sink.{TakesAll, PushesPart};
 ghost use Rattle.cip_numerals.specs.NumberText.{natural_text, fraction_text};
 ghost use Rattle.cip_problem.specs.WellFormed.{columns};
 ghost use Rattle.cip_problem.specs.Points.{printed};
-ghost use Rattle.cip_answers.specs.Figures.{line, figure_text, point_lines, cost_lines, held_lines, leaf_name, leaf_lines, ray_name, ray_lines, overflow_text, shown_lines, figure_lines, answer_text, held_cost, names_of};
+ghost use Rattle.cip_problem.specs.Choices.{choice_at, is_open};
+ghost use Rattle.cip_answers.specs.Figures.{line, figure_text, point_lines, cost_lines, held_lines, leaf_name, choice_text, choice_lines, leaf_lines, ray_name, ray_lines, overflow_text, shown_lines, figure_lines, answer_text, held_cost, names_of};
 ghost use Rattle.cip_report.specs.Answers.{figures_of, printed_held, status_of, overflow_of, StandsAmong, EndedFits, AnswerFits};
 ghost use Rattle.cip_report.specs.Writing.{Writes};
 
@@ -16,6 +17,7 @@ use crate::figures::{Answer, Ended, Held};
 use cip_frac::Frac;
 use cip_io::{Failed, Sink};
 use cip_leaf::Shown;
+use cip_lin::Choice;
 use cip_model::{Names, Place, Program, Sense};
 
 /// Writes a line of a word and a figure.
@@ -201,7 +203,7 @@ fn write_leaf_line<K: Sink>(
 }
 
 /// Writes a line for each whole column: its name and its value in a leaf.
-fn write_leaf<K: Sink>(
+fn write_leaf_values<K: Sink>(
     out: &mut K,
     buffer: &mut Buffer,
     names: &Names,
@@ -211,7 +213,7 @@ fn write_leaf<K: Sink>(
     requires long { length whole.now ≡ length names.now }
     requires fits { length leaf.now ≡ length (at_wholes whole.now names.now) }
     ensures taken { Writes result (K.tells out.old) (K.tells out.new)
-        (buffer.old ++ leaf_lines (at_wholes whole.now names.now) leaf.now) buffer.new }
+        (buffer.old ++ point_lines (map leaf_name (at_wholes whole.now names.now)) leaf.now) buffer.new }
     ensures faults { CountsFaults result (K.tells out.old).faults (K.tells out.new).faults }
 {
     let mut place = 0;
@@ -222,6 +224,72 @@ fn write_leaf<K: Sink>(
         }
     }
     Ok(())
+}
+
+/// Whether a column is on, as it is printed.
+fn choice_word(is_on: bool) -> &'static str
+    ensures { result.now ≡ choice_text is_on }
+{
+    if is_on { "on" } else { "off" }
+}
+
+/// Writes a line of `leaf`, a name, and whether the column is on.
+fn write_choice_line<K: Sink>(
+    out: &mut K,
+    buffer: &mut Buffer,
+    name: &[u8],
+    is_on: bool,
+) -> Result<(), Failed>
+    ensures taken { Writes result (K.tells out.old) (K.tells out.new)
+        (buffer.old ++ line (leaf_name name.now) (choice_text is_on)) buffer.new }
+    ensures faults { CountsFaults result (K.tells out.old).faults (K.tells out.new).faults }
+{
+    buffer.write(out, b"leaf ")?;
+    write_line(out, buffer, name, choice_word(is_on).as_bytes())
+}
+
+/// Writes a line for each semi-continuous column: its name and whether it is on in a leaf.
+fn write_leaf_choices<K: Sink>(
+    out: &mut K,
+    buffer: &mut Buffer,
+    names: &Names,
+    choices: &[Choice],
+    on: &[bool],
+) -> Result<(), Failed>
+    requires among { (column : ℕ) → is_open (choice_at choices.now column) ≡ true → column < length names.now }
+    requires fits { length on.now ≡ length (at_wholes (map is_open choices.now) names.now) }
+    ensures taken { Writes result (K.tells out.old) (K.tells out.new)
+        (buffer.old ++ choice_lines (map leaf_name (at_wholes (map is_open choices.now) names.now)) on.now)
+        buffer.new }
+    ensures faults { CountsFaults result (K.tells out.old).faults (K.tells out.new).faults }
+{
+    let mut place = 0;
+    for column in 0..choices.len() {
+        if choices[column].is_open() {
+            write_choice_line(out, buffer, names.name(column), on[place])?;
+            place += 1;
+        }
+    }
+    Ok(())
+}
+
+/// Writes the lines of a leaf: of the whole columns, and then of the semi-continuous ones.
+fn write_leaf<K: Sink>(
+    out: &mut K,
+    buffer: &mut Buffer,
+    program: &Program,
+    leaf: &[Frac],
+    on: &[bool],
+) -> Result<(), Failed>
+    requires values { length leaf.now ≡ length (names_of program.now).wholes }
+    requires choices { length on.now ≡ length (names_of program.now).semis }
+    ensures taken { Writes result (K.tells out.old) (K.tells out.new)
+        (buffer.old ++ leaf_lines (names_of program.now) (record { values = leaf.now; on = on.now })) buffer.new }
+    ensures faults { CountsFaults result (K.tells out.old).faults (K.tells out.new).faults }
+{
+    let names = program.column_names();
+    write_leaf_values(out, buffer, names, program.whole(), leaf)?;
+    write_leaf_choices(out, buffer, names, program.choices().as_slice(), on)
 }
 
 /// Writes the line of a number of moves.
@@ -270,14 +338,8 @@ fn write_shown<K: Sink>(
     ensures faults { CountsFaults result (K.tells out.old).faults (K.tells out.new).faults }
 {
     match ended {
-        Ended::Wide { leaf, shown } => {
-            write_leaf(
-                out,
-                buffer,
-                program.column_names(),
-                program.whole(),
-                leaf.as_slice(),
-            )?;
+        Ended::Wide { leaf, on, shown } => {
+            write_leaf(out, buffer, program, leaf.as_slice(), on.as_slice())?;
             write_overflow(out, buffer, program.row_names(), *shown)
         }
         Ended::Unbounded { ray } => {

@@ -22,6 +22,7 @@ use Rattle.cip_search.proofs.ShownNode.{true_entries}
 use Rattle.cip_search.proofs.WorkLogs.{none_relaxed, none_marked}
 use Rattle.cip_tree.specs.Moves.{IsNew}
 use Rattle.cip_tree.specs.Nodes.{Nodes}
+use Rattle.cip_node.specs.Entering.{own_region}
 use Rattle.cip_node.specs.KeptNodes.{cost_held, IsKept, IsHolding}
 use Rattle.cip_solve.specs.Solved.{AreMet}
 use Rattle.cip_solve.specs.Searching.{IsStill, IsTold}
@@ -46,7 +47,7 @@ start_lower program tree holding columns h e k =
 
 -- ---- the search
 
-pub still_begun : (program : Program) (tree : Nodes) (holding : Holding) → IsNew tree program.bounds program.integral tree.root.bound → IsKept program tree (cost_held holding) [] → IsHolding program holding → IsStill program tree.root.bound tree holding None
+pub still_begun : (program : Program) (tree : Nodes) (holding : Holding) → IsNew tree (own_region program) program.integral tree.root.bound → IsKept program tree (cost_held holding) [] → IsHolding program holding → IsStill program tree.root.bound tree holding None
 still_begun program tree holding new k h = record {
   kept = k;
   start_is = refl;
@@ -76,7 +77,7 @@ module _ (program : Program) (start : Option ℚ) (holds : IfSome start (IsBound
   state = record { held = None; work = []; open_ = first ∷ []; parked = []; log = [] }
 
   way : IsWayBack program program stay
-  way = record { reduction = reduction_itself program; leaves = λ point h. refl }
+  way = record { reduction = reduction_itself program; leaves = λ point h. refl; choices = λ on point h. h }
 
   searched : IsSearch program program stay IsWideLeaf start state
   searched = searching.begun program program stay IsWideLeaf start None way tt holds

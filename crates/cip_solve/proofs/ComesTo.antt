@@ -6,6 +6,7 @@ use Rattle.cip_rational.specs.Rational.{ℚ}
 use Rattle.cip_rational.proofs.Rational.Order.{le_of_lt_test, lt_test_of_le, ≤ℚ_trans}
 use Rattle.cip_problem.specs.Program.{Program}
 use Rattle.cip_problem.specs.Log.{Node, matters}
+use Rattle.cip_leaves.specs.Leaf.{Leaf}
 use Rattle.cip_leaves.specs.Searched.{NoMore, IsCostHeld}
 use Rattle.cip_tree.specs.Bounds.{IsBoundAtMost}
 use Rattle.cip_tree.specs.Moves as tree
@@ -20,7 +21,7 @@ use Rattle.cip_leaf.specs.LeafAnswers.{shown_as}
 use Rattle.cip_endings.specs.AnswerOf.{ended_of}
 use Rattle.cip_endings.specs.LeastBounds.{least_of, bound_held}
 use Rattle.cip_endings.specs.Ends.{one_matters, IsShownWorst, EndsBy}
-use Rattle.cip_endings.specs.Worst.{IsFirstWorst, IsWorst, worst_bound}
+use Rattle.cip_endings.specs.Worst.{leaf_of, IsFirstWorst, IsWorst, worst_bound}
 use Rattle.cip_endings.specs.declared.worst.Worst.{Worst}
 use Rattle.cip_solve.proofs.LeastBounds.{IsLeastAmong, least_both, least_held}
 
@@ -46,7 +47,7 @@ open_least nodes (Some bound) h = (
     all_at bound nodes h node c = All-contains (λ other. IsBoundAtMost bound other.bound) nodes node h c
 
 -- the worst parked leaf has the least
-among_parked : (program : Program) (parked : List Node) (worst : Worst) → IsFirstWorst program parked worst.leaf.items worst.bound (shown_as worst.shown) → IsLeastAmong (IsBoundOfOne parked) (Some worst.bound)
+among_parked : (program : Program) (parked : List Node) (worst : Worst) → IsFirstWorst program parked (leaf_of worst) worst.bound (shown_as worst.shown) → IsLeastAmong (IsBoundOfOne parked) (Some worst.bound)
 among_parked program parked worst w = (
   record {
     node = w.at.node;
@@ -115,13 +116,13 @@ module _ (program : Program) (nodes : ℕ) (state : State) (idle : state.work �
   some_open : OneMatters state.held state.open_ → state.open_ ≢ []
   some_open m e = none_in m.node (subst (λ l. Contains l m.node) e m.among)
 
-  shown_there : (leaf : List ℚ) (shown : Shown) → IsShownWorst state.held worst leaf shown → IsShownNode program state.parked leaf (shown_as shown)
+  shown_there : (leaf : Leaf) (shown : Shown) → IsShownWorst state.held worst leaf shown → IsShownNode program state.parked leaf (shown_as shown)
   shown_there leaf shown s =
-      let k : IsFirstWorst program state.parked s.found.leaf.items s.found.bound (shown_as s.found.shown) = subst (IsWorst program state.parked) s.is_worst w in
+      let k : IsFirstWorst program state.parked (leaf_of s.found) s.found.bound (shown_as s.found.shown) = subst (IsWorst program state.parked) s.is_worst w in
       subst (λ l. IsShownNode program state.parked l (shown_as shown)) (sym s.leaf_is)
-      (subst (λ t. IsShownNode program state.parked s.found.leaf.items (shown_as t)) (sym s.shown_is) k.at)
+      (subst (λ t. IsShownNode program state.parked (leaf_of s.found) (shown_as t)) (sym s.shown_is) k.at)
 
-  worst_loud : (leaf : List ℚ) (shown : Shown) → IsShownWorst state.held worst leaf shown → one_matters state.held (worst_bound worst) ≡ true
+  worst_loud : (leaf : Leaf) (shown : Shown) → IsShownWorst state.held worst leaf shown → one_matters state.held (worst_bound worst) ≡ true
   worst_loud leaf shown s = ap (λ t. one_matters state.held (worst_bound t)) s.is_worst ∙ s.matter
 
   pub comes_to : (ended : Ended) → EndsBy state.held open_ worst ended → ComesTo program nodes state (ended_of ended)
@@ -137,9 +138,9 @@ module _ (program : Program) (nodes : ℕ) (state : State) (idle : state.work �
       let m = loud state.held state.open_ open_ o h in
       (spent (some_open m), m)
   comes_to Gap h = absurd h
-  comes_to (Wide leaf shown) h = (
+  comes_to (Wide leaf on shown) h = (
     quiet state.held state.open_ open_ o h.0,
-    loud state.held state.parked (worst_bound worst) p (worst_loud leaf.items shown h.1),
-    shown_there leaf.items shown h.1,
+    loud state.held state.parked (worst_bound worst) p (worst_loud (record { values = leaf.items; on = on.items }) shown h.1),
+    shown_there (record { values = leaf.items; on = on.items }) shown h.1,
   )
   comes_to NoMemory h = absurd h

@@ -85,7 +85,7 @@ nothing_ends Infeasible h = refl
 nothing_ends (Unbounded ray) h = absurd h
 nothing_ends NodeLimit h = absurd (true≢false (sym h))
 nothing_ends Gap h = absurd h
-nothing_ends (Wide leaf shown) h = absurd (let s = h.1.is_worst in cc)
+nothing_ends (Wide leaf on shown) h = absurd (let s = h.1.is_worst in cc)
 nothing_ends NoMemory h = absurd h
 
 ended_none : (held : Option ℚ) (waiting : Option (Option ℚ)) (worst : Option Worst) (ended : Ended) → least_of (bound_held held) (least_of waiting (worst_bound worst)) ≡ None → EndsBy held waiting worst ended → ended_of ended ≡ ends.Infeasible
@@ -111,7 +111,7 @@ no_bound held waiting worst Infeasible e h =
 no_bound held waiting worst (Unbounded ray) e h = absurd h
 no_bound held waiting worst NodeLimit e h = absurd (cc)
 no_bound held waiting worst Gap e h = absurd h
-no_bound held waiting worst (Wide leaf shown) e h = absurd (cc)
+no_bound held waiting worst (Wide leaf on shown) e h = absurd (cc)
 no_bound held waiting worst NoMemory e h = absurd h
 
 -- the gap that was asked for isn't reached
@@ -121,7 +121,7 @@ not_gap held waiting worst Infeasible h e = cc
 not_gap held waiting worst (Unbounded ray) h e = h
 not_gap held waiting worst NodeLimit h e = cc
 not_gap held waiting worst Gap h e = h
-not_gap held waiting worst (Wide leaf shown) h e = cc
+not_gap held waiting worst (Wide leaf on shown) h e = cc
 not_gap held waiting worst NoMemory h e = h
 
 not_endless : (held : Option ℚ) (waiting : Option (Option ℚ)) (worst : Option Worst) (ended : Ended) (ray : List ℚ) → EndsBy held waiting worst ended → ¬ (ended_of ended ≡ ends.Unbounded ray)
@@ -130,7 +130,7 @@ not_endless held waiting worst Infeasible ray h e = cc
 not_endless held waiting worst (Unbounded other) ray h e = h
 not_endless held waiting worst NodeLimit ray h e = cc
 not_endless held waiting worst Gap ray h e = h
-not_endless held waiting worst (Wide leaf shown) ray h e = cc
+not_endless held waiting worst (Wide leaf on shown) ray h e = cc
 not_endless held waiting worst NoMemory ray h e = h
 
 -- ---- it stands still: what each end says of the gap that was asked for
@@ -217,9 +217,9 @@ still_right program nodes asked marks tree_ holding worst waiting best bound end
 parked_some : (log : List Entry) → IsParkedLast log → log ≢ []
 parked_some log p e = not_empty p.before p.entry (sym p.placed ∙ e)
 
-endless_there : (program : Program) (start : Option ℚ) (nodes : ℕ) (asked : Option ℚ) (log : List Entry) (cost : ℚ) (point ray : List ℚ) → StopsEndless program log point ray → cost ≡ cost_of program point → IsAnswer program start nodes asked log (record { ended = ends.Unbounded ray; held = Some (record { cost = cost; point = point }); bound = None })
-endless_there program start nodes asked log cost point ray k e =
-    let a = falls_along program point ray k.falls.feasible k.falls.shown.is_ray in
+endless_there : (program : Program) (start : Option ℚ) (nodes : ℕ) (asked : Option ℚ) (log : List Entry) (cost : ℚ) (point ray : List ℚ) → IsWellFormed program → StopsEndless program log point ray → cost ≡ cost_of program point → IsAnswer program start nodes asked log (record { ended = ends.Unbounded ray; held = Some (record { cost = cost; point = point }); bound = None })
+endless_there program start nodes asked log cost point ray formed k e =
+    let a = falls_along program point ray formed k.falls.feasible k.falls.shown.is_ray in
     record {
       point = record { feasible = k.falls.feasible; cost = e };
       end_ = record { held = record { cost = cost; point = point }; is_held = refl; falls = record { points = a.points; cost = a.cost; falls = a.falls }; no_bound = refl };
@@ -236,7 +236,7 @@ same_ray ray other e = cc
 pub endless_right : (program : Program) (start : Option ℚ) (nodes : ℕ) (asked : Option ℚ) (log : List Entry) (marks : List (ℕ × Mark)) (cost : ℚ) (point ray : List ℚ) → IsWellFormed program → StopsEndless program log point ray → IsWithin program start nodes log marks → cost ≡ cost_of program point → IsSearchAnswer program start nodes asked log (numbers_of marks) (record { ended = ends.Unbounded ray; held = Some (record { cost = cost; point = point }); bound = None }) × RayIsShown program (record { ended = ends.Unbounded ray; held = Some (record { cost = cost; point = point }); bound = None })
 endless_right program start nodes asked log marks cost point ray formed k w e = (
   within_right program start nodes asked log marks (record { ended = ends.Unbounded ray; held = Some (record { cost = cost; point = point }); bound = None }) w
-      (endless_there program start nodes asked log cost point ray k e)
+      (endless_there program start nodes asked log cost point ray formed k e)
       (λ f. absurd (parked_some log k.last f))
       (λ other f. (subst (λ r. length r ≡ columns program) (same_ray ray other f) (ray_long program point ray formed k.falls), k.last)),
   λ other f. record { point = point; is_held = refl; shown = subst (IsShownRay program point) (same_ray ray other f) k.falls.shown },

@@ -2,19 +2,22 @@
 use Rattle.std.proofs.Common.{◌≡◌, inl, inr, ℕ, zero, suc, ◌<◌, Bool, true, false, List, [], ◌∷◌, length, Option, None, Some, IfSome, refl, sym, ap, ◌∙◌, subst, arith, slice_get}
 use Rattle.std.specs.Prelude.{option_map}
 use Rattle.std.proofs.lemmas.Option.{none-some}
-use Rattle.std.proofs.lemmas.Slice.Zip.{AllZip-long}
 use Rattle.cip_rational.specs.Rational.{ℚ}
 use Rattle.cip_problem.specs.Program.{Row, Program}
 use Rattle.cip_problem.specs.WellFormed.{IsWellFormed, columns}
+use Rattle.cip_problem.specs.Choices.{decided}
+use Rattle.cip_problem.proofs.Choices.Decided.{decided_formed}
 use Rattle.cip_problem.proofs.Points.AtPlaces.{IsInBox-long}
 use Rattle.cip_problem.specs.Log.{Entry}
 use Rattle.cip_bland.specs.EndAnswers as linear
 use Rattle.cip_bland.specs.NoRepeat.{whole_answer}
-use Rattle.cip_leaves.specs.Leaf.{at_wholes, IsWholeBetween, IsLeaf}
+use Rattle.cip_leaves.specs.Leaf.{Leaf, IsLeafOf}
 use Rattle.cip_leaves.specs.Wide.{InRow}
 use Rattle.cip_leaves.specs.LeafProgram.{program_of_leaf}
 use Rattle.cip_leaves.specs.WideLeaf.{AtPlace, EndOverflows, IsWideBy}
 use Rattle.cip_model.specs.declared.verdicts.Place.TheVariants.{Row as AtRow, Cost}
+use Rattle.cip_answers.specs.Figures.{names_of}
+use Rattle.cip_search.proofs.Fitting.{leaf_values, leaf_choices}
 use Rattle.cip_search.specs.SearchEnds as ends
 use Rattle.cip_search.specs.SearchEnds.{IsHeldPoint, EndHolds}
 use Rattle.cip_search.specs.SearchAnswers.{IsSearchAnswer}
@@ -58,18 +61,14 @@ stands_there program leaf (Place (AtRow number)) formed h = let l = row_there pr
 stands_there program leaf (Place Cost) formed h = tt
 stands_there program leaf (Moves number) formed h = tt
 
--- as many names of whole columns as sides of such
-as_many : {X Y : Type 0} (integral : List Bool) (xs : List X) (ys : List Y) → length xs ≡ length ys → length (at_wholes integral xs) ≡ length (at_wholes integral ys)
-as_many [] xs ys e = refl
-as_many (w ∷ ws) [] [] e = refl
-as_many (w ∷ ws) [] (y ∷ ys) e = absurd (omega (arith, e))
-as_many (w ∷ ws) (x ∷ xs) [] e = absurd (omega (arith, e))
-as_many (true ∷ ws) (x ∷ xs) (y ∷ ys) e = ap suc (as_many ws xs ys (omega (arith, e)))
-as_many (false ∷ ws) (x ∷ xs) (y ∷ ys) e = as_many ws xs ys (omega (arith, e))
-
-leaf_long : (program : Program) (leaf : List ℚ) → IsWellFormed program → IsLeaf program leaf → length leaf ≡ length (at_wholes program.integral program.column_names)
-leaf_long program leaf formed h =
-    AllZip-long IsWholeBetween (at_wholes program.integral program.bounds) leaf h ∙ as_many program.integral program.bounds program.column_names (formed.bounds ∙ sym formed.column_names)
+-- a leaf that is shown has a value for each whole column and a choice for each semi-continuous one, and what overflows
+-- is there
+leaf_fits : (program : Program) (leaf : Leaf) (shown : Shown) → IsWellFormed program → IsLeafOf program leaf → IsWideBy (decided program leaf.on) leaf.values (shown_as shown) → (length leaf.values ≡ length (names_of program).wholes) × (length leaf.on ≡ length (names_of program).semis) × StandsAmong (length program.row_names) shown
+leaf_fits program leaf shown formed h w = (
+  leaf_values program leaf formed h,
+  leaf_choices program leaf formed h,
+  stands_there (decided program leaf.on) leaf.values shown (decided_formed program leaf.on formed) w,
+)
 
 -- ---- the end
 
@@ -79,9 +78,9 @@ ended_fits program start nodes asked log answer Infeasible formed e r h = tt
 ended_fits program start nodes asked log answer (Unbounded ray) formed e r h = r ray.items e ∙ sym formed.column_names
 ended_fits program start nodes asked log answer NodeLimit formed e r h = tt
 ended_fits program start nodes asked log answer Gap formed e r h = tt
-ended_fits program start nodes asked log answer (Wide leaf shown) formed e r h =
+ended_fits program start nodes asked log answer (Wide leaf on shown) formed e r h =
     let k = (subst (ends.EndsAs program start nodes log answer.held) e h.ends).2 in
-    (leaf_long program leaf.items formed k.is_leaf, stands_there program leaf.items shown formed k.wide)
+    leaf_fits program (record { values = leaf.items; on = on.items }) shown formed k.is_leaf k.wide
 ended_fits program start nodes asked log answer NoMemory formed e r h = tt
 
 pub answer_fits : (program : Program) (start : Option ℚ) (nodes : ℕ) (asked : Option ℚ) (log : List Entry) (marked : List ℕ) (answer : Answer) → IsWellFormed program → IsSearchAnswer program start nodes asked log marked (answer_of answer) → AnswerFits program answer

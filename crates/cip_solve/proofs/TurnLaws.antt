@@ -176,9 +176,9 @@ module _ (program : Program) (old : Nodes) (open_ : List Node) (taken : List (Op
   turned_by nodes asked lent room mark next stop by.Solved a h = subst (Turned nodes asked next) (sym a.1) (quiet_after next h.bound Closed h.entry h.entry.parked a.0 h.kept)
   turned_by nodes asked lent room mark next stop (by.Split low high) a h =
       subst (Turned nodes asked next) (sym a.1) (quiet_after next h.bound (Split h.column h.at low high) h.entry h.entry.parked a.0 h.kept)
-  turned_by nodes asked lent room mark next stop (by.Parked leaf bound shown) a h =
+  turned_by nodes asked lent room mark next stop (by.Parked leaf on bound shown) a h =
       subst (Turned nodes asked next) (sym a.1)
-      (still_after next bound Parked h.entry h.kept (worst_more program (cost_held after) (taken_up old open_ taken) new node leaf.items bound (shown_as shown) worst next h k.is_worst a.0))
+      (still_after next bound Parked h.entry h.kept (worst_more program (cost_held after) (taken_up old open_ taken) new node (record { values = leaf.items; on = on.items }) bound (shown_as shown) worst next h k.is_worst a.0))
   turned_by nodes asked lent room mark next stop (by.Ray point ray) a h = subst (Turned nodes asked next) (sym a) (endless_after point.items ray.items h)
 
 -- ---- a turn

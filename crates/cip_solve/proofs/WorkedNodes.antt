@@ -20,6 +20,7 @@ use Rattle.cip_node_bounds.specs.Relaxing.{IsMark}
 use Rattle.cip_node_bounds.specs.declared.relaxed.Mark.{Mark}
 use Rattle.cip_node.specs.Bounding.{IsAsGood}
 use Rattle.cip_node.specs.KeptNodes.{IsKept}
+use Rattle.cip_leaves.specs.Leaf.{Leaf}
 use Rattle.cip_leaves.specs.WideNodes.{IsWideAs}
 use Rattle.cip_node.specs.NodeEnds.{with_bound, LeavesEntry, IsAside, IsEnd}
 use Rattle.cip_node.specs.declared.ends.NodeEnd.{NodeEnd}
@@ -28,7 +29,7 @@ use Rattle.cip_leaves.specs.WideLeaf.{Shown}
 use Rattle.cip_solve.specs.Logs.{numbers_of, marks_by}
 use Rattle.cip_solve.specs.Solved.{own_rows, IsMet, AreMet}
 use Rattle.cip_solve.specs.Searching.{IsTold, IsWorseOf}
-use Rattle.cip_endings.specs.Worst.{IsWorst}
+use Rattle.cip_endings.specs.Worst.{leaf_of, IsWorst}
 use Rattle.cip_endings.specs.declared.worst.Worst.{Worst}
 
 -- ---- the entry
@@ -46,7 +47,7 @@ entry_of_end program held lent room old new node mark by.Pruned h = record { bou
 entry_of_end program held lent room old new node mark by.Empty h = record { bound = h.bound; end = Closed; entry = h.entry; good = λ s. absurd s }
 entry_of_end program held lent room old new node mark by.Solved h = record { bound = h.bound; end = Closed; entry = h.entry; good = λ s. absurd s }
 entry_of_end program held lent room old new node mark (by.Split low high) h = record { bound = h.bound; end = Split h.column h.at low high; entry = h.entry; good = λ s. h.good }
-entry_of_end program held lent room old new node mark (by.Parked leaf bound shown) h = record { bound = bound; end = Parked; entry = h.entry; good = λ s. absurd s }
+entry_of_end program held lent room old new node mark (by.Parked leaf on bound shown) h = record { bound = bound; end = Parked; entry = h.entry; good = λ s. absurd s }
 entry_of_end program held lent room old new node mark (by.Ray point ray) h = record { bound = h.bound; end = Parked; entry = h.entry; good = λ s. absurd s }
 
 pub one_longer : (old new : Nodes) (node : TakenNode) (bound : Option ℚ) (end : End) → LeavesEntry old new node bound end → length new.log ≡ length old.log + 1
@@ -115,11 +116,11 @@ told_more program lent room old new held node mark marks r k h m t =
 
 -- ---- the worst leaf
 
-same_wide : (program : Program) (node : Node) (leaf other : List ℚ) (shown by_ : Shown) → other ≡ leaf → by_ ≡ shown → IsWideAs program node leaf shown → IsWideAs program node other by_
+same_wide : (program : Program) (node : Node) (leaf other : Leaf) (shown by_ : Shown) → other ≡ leaf → by_ ≡ shown → IsWideAs program node leaf shown → IsWideAs program node other by_
 same_wide program node leaf other shown by_ e g p =
     subst (λ t. IsWideAs program node t by_) (sym e) (subst (IsWideAs program node leaf) (sym g) p)
 
-pub worst_more : (program : Program) (held : Option ℚ) (old new : Nodes) (node : TakenNode) (leaf : List ℚ) (bound : Option ℚ) (shown : Shown) (worst next : Option Worst) → IsAside program held old new node leaf bound shown → IsWorst program old.parked worst → IsWorseOf worst leaf bound shown next → IsWorst program new.parked next
+pub worst_more : (program : Program) (held : Option ℚ) (old new : Nodes) (node : TakenNode) (leaf : Leaf) (bound : Option ℚ) (shown : Shown) (worst next : Option Worst) → IsAside program held old new node leaf bound shown → IsWorst program old.parked worst → IsWorseOf worst leaf bound shown next → IsWorst program new.parked next
 worst_more program held old new node leaf bound shown worst next a w k =
     subst (λ l. IsWorst program l next) (sym a.entry.parked)
-    (k.worse program old.parked (with_bound old node bound) w (sym k.bound_is) (same_wide program (with_bound old node bound) leaf k.parked.leaf.items shown _ k.leaf_is k.shown_is a.wide_as))
+    (k.worse program old.parked (with_bound old node bound) w (sym k.bound_is) (same_wide program (with_bound old node bound) leaf (leaf_of k.parked) shown _ k.leaf_is k.shown_is a.wide_as))

@@ -7,6 +7,7 @@ use Rattle.cip_problem.specs.Points.{IsFeasible, IsLowerBound}
 use Rattle.cip_problem.specs.Log.{Entry, IsLog}
 use Rattle.cip_model.specs.Rays.{IsShownRay}
 use Rattle.cip_incumbent.specs.HeldPoint.{Holding}
+use Rattle.cip_leaves.specs.Leaf.{Leaf}
 use Rattle.cip_leaves.specs.WideLeaf.{Shown}
 use Rattle.cip_leaf.specs.LeafAnswers.{shown_as}
 use Rattle.cip_search.specs.Endings.{IsLeastBound}
@@ -20,7 +21,7 @@ use Rattle.cip_endings.specs.Gaps.{reaches_gap}
 use Rattle.cip_solve.specs.Logs.{numbers_of}
 use Rattle.cip_solve.specs.Solved.{AreMet}
 use Rattle.cip_solve.specs.Stopping.{WasLeast}
-use Rattle.cip_endings.specs.Worst.{IsWorst, IsWorse}
+use Rattle.cip_endings.specs.Worst.{leaf_of, IsWorst, IsWorse}
 use Rattle.cip_endings.specs.declared.worst.Worst.{Worst}
 use Rattle.cip_solve.specs.declared.turns.Stop.{Stop}
 use Rattle.cip_solve.specs.declared.turns.Stop.TheVariants as kinds
@@ -98,9 +99,9 @@ pub record IsWithin
 
 -- the worse of the worst leaf so far and of this one was kept
 pub record IsWorseOf
-    (old : Option Worst) (leaf : List ℚ) (bound : Option ℚ) (shown : Shown) (new : Option Worst) : Type 0 where
+    (old : Option Worst) (leaf : Leaf) (bound : Option ℚ) (shown : Shown) (new : Option Worst) : Type 0 where
   pub parked : Worst
-  pub leaf_is : parked.leaf.items ≡ leaf
+  pub leaf_is : leaf_of parked ≡ leaf
   pub bound_is : parked.bound ≡ bound
   pub shown_is : shown_as parked.shown ≡ shown
   pub worse : IsWorse old parked new
@@ -111,6 +112,6 @@ IsKeptAs old new by.Pruned stop = (new ≡ old) × (stop ≡ None)
 IsKeptAs old new by.Empty stop = (new ≡ old) × (stop ≡ None)
 IsKeptAs old new by.Solved stop = (new ≡ old) × (stop ≡ None)
 IsKeptAs old new (by.Split low high) stop = (new ≡ old) × (stop ≡ None)
-IsKeptAs old new (by.Parked leaf bound shown) stop =
-    IsWorseOf old leaf.items bound (shown_as shown) new × (stop ≡ None)
+IsKeptAs old new (by.Parked leaf on bound shown) stop =
+    IsWorseOf old (record { values = leaf.items; on = on.items }) bound (shown_as shown) new × (stop ≡ None)
 IsKeptAs old new (by.Ray point ray) stop = stop ≡ Some (kinds.Endless point ray)

@@ -51,9 +51,20 @@ impl<'a> Search<'a> {
         ensures kept { IsKeptAs self.old.worst self.new.worst end result }
     {
         match end {
-            NodeEnd::Parked { leaf, bound, shown } => {
+            NodeEnd::Parked {
+                leaf,
+                on,
+                bound,
+                shown,
+            } => {
                 let before = self.worst.take();
-                self.worst = worse(before, Worst { leaf, bound, shown });
+                let parked = Worst {
+                    leaf,
+                    on,
+                    bound,
+                    shown,
+                };
+                self.worst = worse(before, parked);
                 None
             }
             NodeEnd::Ray { point, ray } => Some(Stop::Endless { point, ray }),

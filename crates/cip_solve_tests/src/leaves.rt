@@ -1,6 +1,6 @@
 //! What is known of leaves.
 ghost use Rattle.std.specs.Prelude.{◌∷◌, [], IsTrue};
-ghost use Rattle.cip_leaves.specs.Leaf.{IsLeaf};
+ghost use Rattle.cip_leaves.specs.Leaf.{IsLeaf, IsLeafOf};
 
 use crate::programs::{FREE_COLUMN, program_of};
 use cip_frac::Frac;
@@ -18,6 +18,17 @@ fn is_leaf(program: &Program, value: Frac) -> bool
     }
 }
 
+/// Whether the program has no semi-continuous column either, so that the value by itself is a leaf of it.
+#[tactic(auto, using(crate::proofs::PlainLeaves::plain_leaf))]
+fn is_plain_leaf(program: &Program, value: Frac) -> bool
+    ensures { IsTrue result → IsLeafOf program.now (record { values = value ∷ []; on = [] }) }
+{
+    if !program.choices().is_empty() {
+        return false;
+    }
+    is_leaf(program, value)
+}
+
 /// The best point has these values, and the cost of the second one.
 fn is_best(answer: &LeafAnswer, value: Frac, other: Frac) -> bool {
     let values = [value, other];
@@ -29,10 +40,10 @@ fn is_best(answer: &LeafAnswer, value: Frac, other: Frac) -> bool {
 
 fn is_known(alloc: Global, program: &Program, value: Frac, other: Frac) -> bool {
     let values = [value];
-    if !is_leaf(program, value) {
+    if !is_plain_leaf(program, value) {
         return false;
     }
-    match leaf(alloc, program, values.as_slice()) {
+    match leaf(alloc, program, values.as_slice(), &[]) {
         Ok(answer) => is_best(&answer, value, other),
         Err(_) => false,
     }

@@ -155,7 +155,12 @@ fn goes_up(point: &[Frac], ray: &[Frac]) -> bool {
 
 fn is_wide_leaf(end: &NodeEnd) -> bool {
     match end {
-        NodeEnd::Parked { leaf, bound, shown } => is_eighteen(leaf.as_slice(), *bound, *shown),
+        NodeEnd::Parked {
+            leaf,
+            bound,
+            shown,
+            ..
+        } => is_eighteen(leaf.as_slice(), *bound, *shown),
         _ => false,
     }
 }

@@ -181,7 +181,7 @@ fn is_of_kind(ended: &Ended, kind: Kind) -> bool {
         (Ended::Optimal, Kind::Optimal) => true,
         (Ended::NodeLimit, Kind::NodeLimit) => true,
         (Ended::Unbounded { ray }, Kind::Unbounded) => goes_up(ray.as_slice()),
-        (Ended::Wide { leaf, shown }, Kind::WideLeaf) => is_eighteen(leaf.as_slice(), *shown),
+        (Ended::Wide { leaf, shown, .. }, Kind::WideLeaf) => is_eighteen(leaf.as_slice(), *shown),
         _ => false,
     }
 }

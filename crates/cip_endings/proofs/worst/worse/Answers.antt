@@ -1,14 +1,14 @@
 use Rattle.std.proofs.Common.{◌≡◌, ◌∷◌, ◌++◌, [], ◌∙◌, sym, subst}
 use Rattle.cip_leaf.specs.LeafAnswers.{shown_as}
-use Rattle.cip_endings.specs.Worst.{IsWorst, IsFirstWorst}
+use Rattle.cip_endings.specs.Worst.{leaf_of, IsWorst, IsFirstWorst}
 use Rattle.cip_endings.proofs.WorstLaws.{first_worst, stays_worst, new_worst}
 use Rattle.cip_endings.proofs.worst.worse.Goals as goal
 
 pub returns-in-None : goal.returns-in-None
 returns-in-None c = λ program nodes node w e p.
     let none : nodes ≡ [] = subst (IsWorst program nodes) c.in-None.is w in
-    subst (λ l. IsFirstWorst program (l ++ node ∷ []) c.args.parked.leaf.items c.args.parked.bound (shown_as c.args.parked.shown)) (sym none)
-    (first_worst program node c.args.parked.leaf.items c.args.parked.bound (shown_as c.args.parked.shown) e p)
+    subst (λ l. IsFirstWorst program (l ++ node ∷ []) (leaf_of c.args.parked) c.args.parked.bound (shown_as c.args.parked.shown)) (sym none)
+    (first_worst program node (leaf_of c.args.parked) c.args.parked.bound (shown_as c.args.parked.shown) e p)
 
 pub returns-then-is_no_more : goal.returns-then-is_no_more
 returns-then-is_no_more c = λ program nodes node w e p.

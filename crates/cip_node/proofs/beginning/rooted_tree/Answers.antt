@@ -1,4 +1,4 @@
-use Rattle.std.proofs.Common.{[], None, ◌∙◌, subst}
+use Rattle.std.proofs.Common.{[], None, subst}
 use Rattle.cip_tree.specs.Moves.{IsNew}
 use Rattle.cip_node.specs.KeptNodes.{IsKept}
 use Rattle.cip_node.proofs.Begun.{begun, if_ok}
@@ -8,6 +8,6 @@ pub returns-clause-kept : goal.returns-clause-kept
 returns-clause-kept c =
     if_ok (λ tree. IsNew tree c.in_ok-root.root c.whole.result.now c.root_bound-bound.result) (λ tree. IsKept c.args.program.now tree None []) c.new.result
     (λ tree n. begun c.args.program.now tree c.root_bound-bound.result c.requires.near c.root_bound-bound.ensures.holds
-    (subst (λ b. IsNew tree b c.args.program.now.integral c.root_bound-bound.result) (c.in_ok-root.ensures ∙ c.bounds.ensures.bounds)
+    (subst (λ b. IsNew tree b c.args.program.now.integral c.root_bound-bound.result) c.in_ok-root.ensures
     (subst (λ i. IsNew tree c.in_ok-root.root i c.root_bound-bound.result) c.whole.ensures.whole n)))
     c.new.ensures

@@ -10,11 +10,11 @@ pub returns-in_err-write_leaf-in-Wide-clause-taken : goal.returns-in_err-write_l
 returns-in_err-write_leaf-in-Wide-clause-taken g c =
     rw (c.in-Wide.is)
     (first_of_two c.from_residual.result _ _ c.args.buffer.now _ _ _ c.from_residual.ensures.0
-    (rw (c.column_names.ensures.names, c.whole.ensures.whole, c.as_slice.ensures.value) at c.in_err-write_leaf-in-Wide.ensures.taken))
+    (rw (c.as_slice.ensures.value, c.as_slice-in-Wide.ensures.value) at c.in_err-write_leaf-in-Wide.ensures.taken))
 
 pub returns-in_ok-write_leaf-in-Wide-clause-taken : goal.returns-in_ok-write_leaf-in-Wide-clause-taken
 returns-in_ok-write_leaf-in-Wide-clause-taken g c =
     rw (c.in-Wide.is)
     (second_of_two c.write_overflow.result _ _ _ c.args.buffer.now _ _ _ _
-    (rw (c.column_names.ensures.names, c.whole.ensures.whole, c.as_slice.ensures.value) at c.in_ok-write_leaf-in-Wide.ensures.taken)
+    (rw (c.as_slice.ensures.value, c.as_slice-in-Wide.ensures.value) at c.in_ok-write_leaf-in-Wide.ensures.taken)
     (subst (λ rows. Writes c.write_overflow.result (g.K.Sink.tells c.write_leaf.new.out) (g.K.Sink.tells c.write_overflow.new.out) (c.write_leaf.new.buffer ++ line (codes "overflow") (overflow_text (overflow_of rows c.in-Wide.shown))) c.write_overflow.new.buffer) c.row_names.ensures.names c.write_overflow.ensures.taken))

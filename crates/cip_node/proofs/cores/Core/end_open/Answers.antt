@@ -1,5 +1,6 @@
 use Rattle.std.proofs.Common.{◌≡◌, length, sym, ap, ◌∙◌, subst}
 use Rattle.cip_cuts.specs.Improving.{HasNoImproving}
+use Rattle.cip_domain.specs.Changes.{Region}
 use Rattle.cip_tree.specs.Nodes.{box_of}
 use Rattle.std.specs.Prelude.{option_map}
 use Rattle.cip_node.specs.Bounding.{IsAsGood, HasTried, GoesOnTried, IsBounded}
@@ -12,7 +13,7 @@ use Rattle.cip_node.proofs.cores.Core.end_open.Goals as goal
 
 pub close_empty-requires-clause-empty : goal.close_empty-requires-clause-empty
 close_empty-requires-clause-empty c =
-    let e = subst (λ s. s.domain.box ≡ box_of c.bound.new.self.tree c.bound.new.node) (sym c.bound.ensures.frame) (c.requires.full.same ∙ sym c.bound.ensures.same) in
+    let e = subst (λ s. s.domain.box ≡ box_of c.bound.new.self.tree c.bound.new.node) (sym c.bound.ensures.frame) (ap (λ (r : Region). r.box) (c.requires.full.same ∙ sym c.bound.ensures.same)) in
     subst (HasNoImproving c.bound.new.self.program.now (cost_held c.bound.new.self.incumbent)) e
     (subst (IsBounded c.bound.new.self.program.now (cost_held c.bound.new.self.incumbent) (rows_lent c.bound.new.self.program.now c.bound.new.self.pool) c.bound.new.self.domain.box (length c.bound.new.self.scratch.row.entries) c.bound.new.node.bound) c.in-Ok-Empty.field-0-is c.in-Ok-Empty.ensures.bounded)
 
@@ -35,7 +36,7 @@ pub returns-in_Err-ended-in-Ok-Open-clause-end : goal.returns-in_Err-ended-in-Ok
 returns-in_Err-ended-in-Ok-Open-clause-end c =
     let w = raised_work c.args.self.now.tree c.bound.new.self.tree c.args.node c.bound.new.node c.bound.new.self.tree.open_ c.bound.new.self.tree.taken c.bound.new.node.bound c.bound.ensures.tree c.bound.ensures.node c.bound.ensures.own c.bound.ensures.same in
     let bounded = subst (IsBounded c.bound.new.self.program.now (cost_held c.bound.new.self.incumbent) (rows_lent c.bound.new.self.program.now c.bound.new.self.pool) c.bound.new.self.domain.box (length c.bound.new.self.scratch.row.entries) c.bound.new.node.bound) c.in-Ok-Open.field-0-is c.in-Ok-Open.ensures.bounded in
-    let e = subst (λ s. s.domain.box ≡ box_of c.bound.new.self.tree c.bound.new.node) (sym c.bound.ensures.frame) (c.requires.full.same ∙ sym c.bound.ensures.same) in
+    let e = subst (λ s. s.domain.box ≡ box_of c.bound.new.self.tree c.bound.new.node) (sym c.bound.ensures.frame) (ap (λ (r : Region). r.box) (c.requires.full.same ∙ sym c.bound.ensures.same)) in
     let good = subst (λ b. IsAsGood c.bound.new.self.program.now (rows_lent c.bound.new.self.program.now c.bound.new.self.pool) b (length c.bound.new.self.scratch.row.entries) c.bound.new.node.bound c.in-Ok-Open.mark) e bounded.1 in
     let tried = subst (λ b. HasTried c.bound.new.self.program.now (cost_held c.bound.new.self.incumbent) (rows_lent c.bound.new.self.program.now c.bound.new.self.pool) b (option_map (λ v. v.items) c.in-Ok-Open.point) c.in-Ok-Open.mark) e
     (subst (GoesOnTried c.bound.new.self.program.now (cost_held c.bound.new.self.incumbent) (rows_lent c.bound.new.self.program.now c.bound.new.self.pool) c.bound.new.self.domain.box) c.in-Ok-Open.field-0-is c.in-Ok-Open.ensures.tried) in
@@ -50,7 +51,7 @@ pub returns-in_Ok-ended-in-Ok-Open-clause-end : goal.returns-in_Ok-ended-in-Ok-O
 returns-in_Ok-ended-in-Ok-Open-clause-end c =
     let w = raised_work c.args.self.now.tree c.bound.new.self.tree c.args.node c.bound.new.node c.bound.new.self.tree.open_ c.bound.new.self.tree.taken c.bound.new.node.bound c.bound.ensures.tree c.bound.ensures.node c.bound.ensures.own c.bound.ensures.same in
     let bounded = subst (IsBounded c.bound.new.self.program.now (cost_held c.bound.new.self.incumbent) (rows_lent c.bound.new.self.program.now c.bound.new.self.pool) c.bound.new.self.domain.box (length c.bound.new.self.scratch.row.entries) c.bound.new.node.bound) c.in-Ok-Open.field-0-is c.in-Ok-Open.ensures.bounded in
-    let e = subst (λ s. s.domain.box ≡ box_of c.bound.new.self.tree c.bound.new.node) (sym c.bound.ensures.frame) (c.requires.full.same ∙ sym c.bound.ensures.same) in
+    let e = subst (λ s. s.domain.box ≡ box_of c.bound.new.self.tree c.bound.new.node) (sym c.bound.ensures.frame) (ap (λ (r : Region). r.box) (c.requires.full.same ∙ sym c.bound.ensures.same)) in
     let good = subst (λ b. IsAsGood c.bound.new.self.program.now (rows_lent c.bound.new.self.program.now c.bound.new.self.pool) b (length c.bound.new.self.scratch.row.entries) c.bound.new.node.bound c.in-Ok-Open.mark) e bounded.1 in
     let tried = subst (λ b. HasTried c.bound.new.self.program.now (cost_held c.bound.new.self.incumbent) (rows_lent c.bound.new.self.program.now c.bound.new.self.pool) b (option_map (λ v. v.items) c.in-Ok-Open.point) c.in-Ok-Open.mark) e
     (subst (GoesOnTried c.bound.new.self.program.now (cost_held c.bound.new.self.incumbent) (rows_lent c.bound.new.self.program.now c.bound.new.self.pool) c.bound.new.self.domain.box) c.in-Ok-Open.field-0-is c.in-Ok-Open.ensures.tried) in

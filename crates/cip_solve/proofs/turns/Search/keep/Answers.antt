@@ -6,7 +6,7 @@ use Rattle.cip_solve.proofs.turns.Search.keep.Goals as goal
 
 pub returns-in-Parked-clause-kept : goal.returns-in-Parked-clause-kept
 returns-in-Parked-clause-kept c =
-    let parked : Worst = record { leaf = c.in-Parked.leaf; bound = c.in-Parked.bound; shown = c.in-Parked.shown } in
+    let parked : Worst = record { leaf = c.in-Parked.leaf; on = c.in-Parked.on; bound = c.in-Parked.bound; shown = c.in-Parked.shown } in
     subst (λ e. IsKeptAs c.args.self.now.worst c.worse.result e None) (sym c.in-Parked.is) (
       record {
         parked = parked;
