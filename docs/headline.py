@@ -16,9 +16,9 @@ from dataclasses import dataclass, field
 from pathlib import Path
 
 CRATES = Path(__file__).resolve().parent.parent / "crates"
-DEFINES = re.compile(r"^(?:(?:abbrev|unfoldable)(?: pub)?|(?:pub )?record|(?:pub )?data) (\S+)")
+DEFINES = re.compile(r"^(?:(?:abbrev|unfoldable)(?: pub)?|(?:pub )?record|(?:pub )?data) (?!use )(?!pub )(\S+)")
 LEMMA = re.compile(r"^(?:pub )?(\S+) :(?: |$)")
-USE = re.compile(r"^(?:pub )?(?:ghost )?use (\S+?)(?:\.\{(.*)\}| as (\S+))?;?$")
+USE = re.compile(r"^(?:unfoldable )?(?:pub )?(?:ghost )?use (\S+?)(?:\.\{(.*)\}| as (\S+))?;?$")
 WORD = re.compile(r"[^\s(){},;\[\]]+")
 
 

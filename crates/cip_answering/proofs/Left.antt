@@ -10,7 +10,7 @@ use Rattle.cip_search.specs.SearchEnds as ends
 use Rattle.cip_search.specs.SearchEnds.{Ended, Held, Answer, IsHeldPoint, EndHolds, IsSettled}
 use Rattle.cip_search.specs.SearchAnswers.{IsSearchAnswer}
 use Rattle.cip_answers.specs.Figures.{Infeasible, Unbounded}
-use Rattle.cip_search.specs.Headline.{cost_held}
+use Rattle.cip_search.specs.Headline.{cost_of_printed}
 use Rattle.cip_search.specs.Printed.{status_of, printed_held, figures_of}
 use Rattle.cip_solve.specs.Solved.{IsShownBeside, RayIsShown}
 use Rattle.cip_answering.specs.Work.{HasNoRay, HasNoBound, TellsWhatIsLeft}
@@ -28,7 +28,7 @@ is_unbounded rows (ends.Wide leaf shown) ray e = absurd (cc)
 is_unbounded rows ends.NoMemory ray e = absurd (cc)
 
 -- the costs held, as they are and as they are printed
-costs_held : (program : Program) (held : Option Held) → IfSome held (IsHeldPoint program) → ends.cost_held held ≡ cost_held program (option_map (printed_held program) held)
+costs_held : (program : Program) (held : Option Held) → IfSome held (IsHeldPoint program) → ends.cost_of_held held ≡ cost_of_printed program (option_map (printed_held program) held)
 costs_held program None h = refl
 costs_held program (Some held) h = ap Some h.cost
 
@@ -62,9 +62,9 @@ module _ (program : Program) (start : Option ℚ) (nodes : ℕ) (asked : Option 
 pub left_of : (program : Program) (start : Option ℚ) (nodes : ℕ) (asked : Option ℚ) (log : List Entry) (marked : List ℕ) (answer : Answer) → IsSearchAnswer program start nodes asked log marked answer → RayIsShown program answer → TellsWhatIsLeft program start log (figures_of program answer)
 left_of program start nodes asked log marked answer r s =
     let rows = program.row_names in
-    let costs : ends.cost_held answer.held ≡ cost_held program (option_map (printed_held program) answer.held) = costs_held program answer.held r.right.point in
+    let costs : ends.cost_of_held answer.held ≡ cost_of_printed program (option_map (printed_held program) answer.held) = costs_held program answer.held r.right.point in
     let at_end : HasNoRay (status_of rows answer.ended) → IsSettled program start nodes asked log answer = λ m. settled program start nodes asked log answer answer.ended (λ ray e. m ray (ap (status_of rows) e)) r.right.end_ in
-    let is_least : status_of rows answer.ended ≢ Infeasible → HasNoRay (status_of rows answer.ended) → IsLeast program start log (ends.cost_held answer.held) answer.bound = λ n m. (at_end m).least (λ e. n (ap (status_of rows) e)) in
+    let is_least : status_of rows answer.ended ≢ Infeasible → HasNoRay (status_of rows answer.ended) → IsLeast program start log (ends.cost_of_held answer.held) answer.bound = λ n m. (at_end m).least (λ e. n (ap (status_of rows) e)) in
     record {
       cover = λ m. subst (IsCovered program start log) costs (at_end m).cover;
       least = λ n m. record {
@@ -72,7 +72,7 @@ left_of program start nodes asked log marked answer r s =
         is_printed = refl;
         is_least = subst (λ held. IsLeast program start log held answer.bound) costs (is_least n m);
       };
-      no_bound = λ n m e. none_least program start log (ends.cost_held answer.held) (subst (IsOneOf program start log (ends.cost_held answer.held)) (none_before program answer.bound e) (is_least n m).one);
+      no_bound = λ n m e. none_least program start log (ends.cost_of_held answer.held) (subst (IsOneOf program start log (ends.cost_of_held answer.held)) (none_before program answer.bound e) (is_least n m).one);
       empty = λ e. ap (status_of rows) (r.searched e);
       ray = λ ray e. r.ray ray (is_unbounded rows answer.ended ray e);
       shown = λ ray e. subst (λ point. IsShownBeside program point ray) (points_held program answer.held) (s ray (is_unbounded rows answer.ended ray e));

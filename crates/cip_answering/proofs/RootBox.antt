@@ -16,7 +16,7 @@ use Rattle.cip_lin.specs.RowSums.{least_of, least_at, least_then}
 use Rattle.cip_model.specs.Least.{least_cost_from}
 use Rattle.cip_model.specs.Meaning.{BoundHolds}
 use Rattle.cip_model.proofs.Meaning.BoxBound.{least_cost_from_holds}
-use Rattle.cip_node_rules.specs.RootBounds.{value_of}
+use Rattle.cip_node_rules.specs.RootBounds.{least_value}
 use Rattle.cip_node.specs.Beginning.{root_value}
 use Rattle.cip_answering.specs.RootBox.{LeavesWith, LeavesRange, IsBoxBound}
 
@@ -68,12 +68,12 @@ leaves_range sum (cost ∷ costs) (sides ∷ others) e =
     column (λ more. least_cost_from more costs others) (λ more. LeavesRange more costs others) (λ more f. leaves_range more costs others f)
     sum cost sides (same_rational cost zeroℚ) (lt_test cost zeroℚ) (lt_test zeroℚ cost) refl refl refl e
 
-value_holds : (bound : Option ℚ) (least : Least) → BoundHolds bound least → IfSome (value_of least) (λ value. bound ≡ Some value)
+value_holds : (bound : Option ℚ) (least : Least) → BoundHolds bound least → IfSome (least_value least) (λ value. bound ≡ Some value)
 value_holds bound (Value value) h = h
 value_holds bound NoBound h = tt
 value_holds bound TooWide h = tt
 
-none_holds : {Leaves : Type 0} (bound : Option ℚ) (least : Least) → BoundHolds bound least → (least ≡ TooWide → Leaves) → value_of least ≡ None → (bound ≡ None) ⊎ Leaves
+none_holds : {Leaves : Type 0} (bound : Option ℚ) (least : Least) → BoundHolds bound least → (least ≡ TooWide → Leaves) → least_value least ≡ None → (bound ≡ None) ⊎ Leaves
 none_holds bound (Value value) h l e = absurd (cc)
 none_holds bound NoBound h l e = inl h
 none_holds bound TooWide h l e = inr (l refl)

@@ -10,7 +10,7 @@ use Rattle.cip_problem.specs.Log.{Closed, Parked, Entry, Node, node_of}
 use Rattle.cip_leaves.specs.Searched.{NoMore, first_node, nodes_given, IsLeast, IsCovered, IsInOpen, IsInParked}
 use Rattle.cip_search.proofs.Members.{none_in}
 use Rattle.cip_search.proofs.OneMore.{contains_here, contains_cons, node_of_among}
-use Rattle.cip_search.specs.Headline.{cost_held}
+use Rattle.cip_search.specs.Headline.{cost_of_printed}
 use Rattle.cip_answering.specs.Statements.{BoundsAreTold, root_closed, PointsAreTold}
 
 both_ways : (b c : Option ℚ) → NoMore b c → NoMore c b → b ≡ c
@@ -26,8 +26,8 @@ pub bounds_are_told : BoundsAreTold
 bounds_are_told program start log figures other a b e n m =
     let l = a.least n.feasible n.no_ray in
     let k = b.least m.feasible m.no_ray in
-    let is_least : IsLeast program start log (cost_held program figures.held) k.bound = subst (λ held. IsLeast program start log (cost_held program held) k.bound) (sym e) k.is_least in
-    l.is_printed ∙ (ap (option_map (printed program)) (one_least program start log (cost_held program figures.held) l.bound k.bound l.is_least is_least) ∙ sym k.is_printed)
+    let is_least : IsLeast program start log (cost_of_printed program figures.held) k.bound = subst (λ held. IsLeast program start log (cost_of_printed program held) k.bound) (sym e) k.is_least in
+    l.is_printed ∙ (ap (option_map (printed program)) (one_least program start log (cost_of_printed program figures.held) l.bound k.bound l.is_least is_least) ∙ sym k.is_printed)
 
 -- ---- the root, closed
 
@@ -57,7 +57,7 @@ none_parked program start bound point p = not_parked bound p.entry p.leaf.among 
 
 pub points_are_told : PointsAreTold
 points_are_told program start bound figures point f n t e =
-    let cover : IsCovered program start (root_closed bound) None = subst (λ held. IsCovered program start (root_closed bound) (cost_held program held)) e (t.cover n) in
+    let cover : IsCovered program start (root_closed bound) None = subst (λ held. IsCovered program start (root_closed bound) (cost_of_printed program held)) e (t.cover n) in
     elim (cover.reached point (record { feasible = f; cheaper = tt })) [
       | inl o ↦ none_open program start bound point o
       | inr p ↦ none_parked program start bound point p

@@ -11,7 +11,7 @@ use Rattle.cip_search.specs.SearchEnds as ends
 use Rattle.cip_search.specs.SearchAnswers.{IsParkedLast}
 use Rattle.cip_node_bounds.specs.declared.relaxed.Mark.{Mark}
 use Rattle.cip_answers.specs.Figures.{Status, Infeasible, Unbounded, NoMemory, Figures}
-use Rattle.cip_search.specs.Headline.{cost_held}
+use Rattle.cip_search.specs.Headline.{cost_of_printed}
 use Rattle.cip_search.specs.Printed.{figures_of}
 use Rattle.cip_report.specs.declared.figures.Ended.TheVariants.{NoMemory as LacksMemory}
 use Rattle.cip_report.specs.declared.figures.Answer.{Answer}
@@ -59,7 +59,7 @@ HasNoRay status = (ray : List ℚ) → status ≢ Unbounded ray
 pub record IsLeastLeft (program : Program) (start : Option ℚ) (log : List Entry) (figures : Figures) : Type 0 where
   pub bound : Option ℚ
   pub is_printed : figures.bound ≡ option_map (printed program) bound
-  pub is_least : IsLeast program start log (cost_held program figures.held) bound
+  pub is_least : IsLeast program start log (cost_of_printed program figures.held) bound
 
 -- an open node or a parked leaf of the search has no bound
 abbrev pub HasNoBound : Program → (start : Option ℚ) → List Entry → Type 0
@@ -69,7 +69,7 @@ HasNoBound program start log = IsOfOpen program start log None ⊎ IsOfParked lo
 pub record TellsWhatIsLeft (program : Program) (start : Option ℚ) (log : List Entry) (figures : Figures) : Type 0 where
   -- each feasible point that is better than the printed one lies in the box of an open node or of a parked leaf: where
   -- none is printed, each feasible point does
-  pub cover : HasNoRay figures.status → IsCovered program start log (cost_held program figures.held)
+  pub cover : HasNoRay figures.status → IsCovered program start log (cost_of_printed program figures.held)
   -- the printed bound is the least of what is left
   pub least : figures.status ≢ Infeasible → HasNoRay figures.status → IsLeastLeft program start log figures
   -- it is left out only where an open node or a parked leaf has none

@@ -1,10 +1,9 @@
 -- What true figures say of a program, one by one: the point, the bound, and that both agree; and the ray.
 use Rattle.std.specs.Prelude.{◌≡◌, Bool, true, false, List, Some}
-use Rattle.cip_rational.specs.Rational.{ℚ, ◌+ℚ◌, ◌*ℚ◌, zeroℚ, ◌≤ℚ◌, ◌<ℚ◌}
-use Rattle.cip_rational.specs.Sums.{dot}
+use Rattle.cip_rational.specs.Rational.{ℚ, ◌<ℚ◌}
 use Rattle.cip_problem.specs.Program.{Program}
 use Rattle.cip_problem.specs.Points.{IsFeasible, cost_of, printed}
-use Rattle.cip_linear.specs.LinearProgram.{moved}
+use Rattle.cip_linear.specs.Falling.{FallsWithoutEnd}
 use Rattle.cip_answers.specs.Figures.{Figures, Held}
 
 -- a printed cost is better than another: it is more where the program maximises, and less where it minimises
@@ -32,14 +31,8 @@ pub record Agree (figures : Figures) : Type 0 where
   pub is_held : figures.held ≡ Some held
   pub bound : figures.bound ≡ Some held.cost
 
--- from the printed point one may go any way along the printed ray, for feasible points, and the cost falls as one goes
-pub record IsTrueRay (program : Program) (point ray : List ℚ) : Type 0 where
-  pub points : (far : ℚ) → zeroℚ ≤ℚ far → IsFeasible program (moved point far ray)
-  pub cost : (far : ℚ) → cost_of program (moved point far ray) ≡ cost_of program point +ℚ far *ℚ dot program.costs ray
-  pub falls : dot program.costs ray <ℚ zeroℚ
-
--- a ray is shown: a point is printed, and the printed ray is a true one from there
+-- a ray is shown: a point is printed, and from there the cost falls without end along the printed ray
 pub record ShowsRay (program : Program) (figures : Figures) (ray : List ℚ) : Type 0 where
   pub held : Held
   pub is_held : figures.held ≡ Some held
-  pub true_ray : IsTrueRay program held.point ray
+  pub falls : FallsWithoutEnd program held.point ray

@@ -14,7 +14,7 @@ use Rattle.cip_linear.specs.LinearProgram.{LinearProgram}
 use Rattle.cip_linear.specs.Aggregate.{Part, table, coefficient_on, combined, aggregate, bound_of, Empties}
 use Rattle.cip_linear.specs.Multipliers.{Of_row, Of_column, ArePartsOf, column_part, row_sides}
 use Rattle.cip_linear.proofs.Parts.{used_low, used_high}
-use Rattle.cip_linear.proofs.Aggregates.{length-table}
+use Rattle.cip_linear.proofs.Aggregates.{length-table, listed, table_listed}
 use Rattle.cip_linear.proofs.Certificates.{bound_of_same}
 use Rattle.cip_dictionary.specs.Dictionary.{Dictionary, size}
 use Rattle.cip_dictionary.specs.ProgramState.{no_row, first_of_program}
@@ -30,9 +30,12 @@ abbrev two_parts : List Term → ℚ → ℚ → List Part
 two_parts terms low high =
     record { factor = oneℚ; terms = terms; side = low } ∷ record { factor = negate oneℚ; terms = terms; side = high } ∷ []
 
+zeros_listed : (n : ℕ) (f : ℕ → ℚ) → ((k : ℕ) → f k ≡ zeroℚ) → listed n f ≡ replicate n zeroℚ
+zeros_listed zero f h = refl
+zeros_listed (suc n) f h = ap₂ (λ q qs. q ∷ qs) (h 0) (zeros_listed n (λ k. f (suc k)) (λ k. h (suc k)))
+
 zero_table : (n : ℕ) (f : ℕ → ℚ) → ((k : ℕ) → f k ≡ zeroℚ) → table n f ≡ replicate n zeroℚ
-zero_table zero f h = refl
-zero_table (suc n) f h = ap₂ (λ q qs. q ∷ qs) (h 0) (zero_table n (λ k. f (suc k)) (λ k. h (suc k)))
+zero_table n f h = table_listed n f ∙ zeros_listed n f h
 
 cancels : (a : ℚ) → oneℚ *ℚ a +ℚ (negate oneℚ *ℚ a +ℚ zeroℚ) ≡ zeroℚ
 cancels a = linear_same (a ∷ []) (λ s w. let m = s.products tt in omega arith)

@@ -1,5 +1,5 @@
 -- Operations with the places at which they are formed, in their order, and the first of them that overflows.
-use Rattle.std.specs.Prelude.{ℕ, Bool, ◌&&◌, ◌||◌, List, [], ◌∷◌, Option, None, Some, if◌then◌else◌}
+use Rattle.std.specs.Prelude.{ℕ, Bool, ◌||◌, List, [], ◌∷◌, Option, None, Some, if◌then◌else◌}
 use Rattle.cip_rational.specs.Rational.{ℚ, ◌*ℚ◌, is_zero}
 use Rattle.cip_rational.specs.Range.{sum_overflows, difference_overflows, product_overflows}
 use Rattle.cip_dictionary.specs.declared.places.Line.{Line}

@@ -17,7 +17,8 @@ pub record KeepsSolutions (before later : Dictionary) : Type 0 where
 -- so is the state after an exchange
 abbrev pub ExchangesKeep : Type 0
 ExchangesKeep =
-    (d : Dictionary) (i j : ℕ) (to : Stand) → IsConsistent d → CanExchange d i j to → KeepsSolutions d (exchanged d i j to)
+    (d : Dictionary) (i j : ℕ) (to : Stand) → IsConsistent d → CanExchange d i j to
+    → KeepsSolutions d (exchanged d i j to)
 
 -- and the state after a flip
 abbrev pub FlipsKeep : Type 0

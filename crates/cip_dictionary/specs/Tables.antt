@@ -4,13 +4,9 @@
 --     total n f       f 0 + f 1 + .. + f (n - 1)
 --     form n row x    the sum of the products row k * x k
 --     least n test    the least number below n that passes a test
-use Rattle.std.specs.Prelude.{ℕ, zero, suc, Bool, List, [], ◌++◌, map, Option, None, Some, if◌then◌else◌}
-use Rattle.std.specs.List.{range_with_len}
+use Rattle.std.specs.Prelude.{ℕ, zero, suc, Bool, List, [], ◌++◌, Option, None, Some, if◌then◌else◌}
 use Rattle.cip_rational.specs.Rational.{ℚ, ◌+ℚ◌, ◌*ℚ◌, zeroℚ}
-
--- the list of f 0, f 1, .., f (n - 1)
-unfoldable pub table : {X : Type 0} → ℕ → (ℕ → X) → List X
-table n f = map f (range_with_len 0 n)
+unfoldable pub use Rattle.cip_linear.specs.Aggregate.{table}
 
 -- the lists f 0, f 1, .., f (n - 1), one after another
 abbrev pub each : {X : Type 0} → ℕ → (ℕ → List X) → List X

@@ -3,8 +3,7 @@ use Rattle.std.proofs.Common.{◌≡◌, ◌≢◌, inl, inr, ℕ, zero, suc, �
 use Rattle.std.specs.List.{AllByRecursion}
 use Rattle.std.proofs.lemmas.Bool.{cases_eq, cases_lt}
 use Rattle.std.proofs.lemmas.List.{get_or-set_same, get_or-set_other, set-set, set_comm, set_past, length-set, reverse-append}
-use Rattle.cip_rational.specs.Rational.{ℚ, ◌≤ℚ◌}
-use Rattle.cip_rational.proofs.Rational.{minimum, maximum}
+use Rattle.cip_rational.specs.Rational.{ℚ, ◌≤ℚ◌, minimum, maximum}
 use Rattle.cip_rational.proofs.Rational.Order.{≤ℚ_trans, ≤ℚ_antisymm}
 use Rattle.cip_rational.proofs.Rational.Extremes.{minimum_le, minimum_comm, le_minimum, maximum_ge, maximum_comm, maximum_le}
 use Rattle.cip_problem.specs.Program.{Sides, Choice, Plain, Open, Off, On}
@@ -16,14 +15,6 @@ use Rattle.cip_domain.specs.Changes.{Region, Change, choice_after, tightened, na
 use Rattle.cip_domain.specs.Narrowing.{Meets}
 
 -- ---- sides met with two others, in either order
-
-pub greater_maximum : (a b : ℚ) → greater (Some a) (Some b) ≡ Some (maximum a b)
-unfolding maximum
-greater_maximum a b = refl
-
-pub lesser_minimum : (a b : ℚ) → lesser (Some a) (Some b) ≡ Some (minimum a b)
-unfolding minimum
-lesser_minimum a b = refl
 
 maximum_below : (a b c : ℚ) → maximum (maximum a b) c ≤ℚ maximum (maximum a c) b
 maximum_below a b c =
@@ -41,13 +32,13 @@ greater_comm : (a b : Option ℚ) → greater a b ≡ greater b a
 greater_comm None None = refl
 greater_comm None (Some b) = refl
 greater_comm (Some a) None = refl
-greater_comm (Some a) (Some b) = greater_maximum a b ∙ ap Some (maximum_comm a b) ∙ sym (greater_maximum b a)
+greater_comm (Some a) (Some b) = ap Some (maximum_comm a b)
 
 lesser_comm : (a b : Option ℚ) → lesser a b ≡ lesser b a
 lesser_comm None None = refl
 lesser_comm None (Some b) = refl
 lesser_comm (Some a) None = refl
-lesser_comm (Some a) (Some b) = lesser_minimum a b ∙ ap Some (minimum_comm a b) ∙ sym (lesser_minimum b a)
+lesser_comm (Some a) (Some b) = ap Some (minimum_comm a b)
 
 greater_order : (own a b : Option ℚ) → greater (greater own a) b ≡ greater (greater own b) a
 greater_order None a b = greater_comm a b
@@ -55,9 +46,7 @@ greater_order (Some own) None None = refl
 greater_order (Some own) None (Some b) = refl
 greater_order (Some own) (Some a) None = refl
 greater_order (Some own) (Some a) (Some b) =
-    ap (λ t. greater t (Some b)) (greater_maximum own a) ∙ greater_maximum (maximum own a) b
-    ∙ ap Some (≤ℚ_antisymm (maximum_below own a b) (maximum_below own b a))
-    ∙ sym (ap (λ t. greater t (Some a)) (greater_maximum own b) ∙ greater_maximum (maximum own b) a)
+    ap Some (≤ℚ_antisymm (maximum_below own a b) (maximum_below own b a))
 
 lesser_order : (own a b : Option ℚ) → lesser (lesser own a) b ≡ lesser (lesser own b) a
 lesser_order None a b = lesser_comm a b
@@ -65,9 +54,7 @@ lesser_order (Some own) None None = refl
 lesser_order (Some own) None (Some b) = refl
 lesser_order (Some own) (Some a) None = refl
 lesser_order (Some own) (Some a) (Some b) =
-    ap (λ t. lesser t (Some b)) (lesser_minimum own a) ∙ lesser_minimum (minimum own a) b
-    ∙ ap Some (≤ℚ_antisymm (minimum_below own a b) (minimum_below own b a))
-    ∙ sym (ap (λ t. lesser t (Some a)) (lesser_minimum own b) ∙ lesser_minimum (minimum own b) a)
+    ap Some (≤ℚ_antisymm (minimum_below own a b) (minimum_below own b a))
 
 pub met_order : (sides a b : Sides) → met (met sides a) b ≡ met (met sides b) a
 met_order sides a b =

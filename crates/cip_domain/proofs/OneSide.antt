@@ -12,7 +12,7 @@ use Rattle.cip_lin.specs.declared.sides.Side.{Side}
 use Rattle.cip_lin.specs.declared.sides.Side.TheVariants.{Low, High}
 use Rattle.cip_domain.specs.Changes.{Region, Change, choice_after, with_side, side_change, is_as_strong, tightened, with_column}
 use Rattle.cip_domain.specs.Domain.{is_settled}
-use Rattle.cip_domain.proofs.Boxes.{region_same, greater_maximum, lesser_minimum}
+use Rattle.cip_domain.proofs.Boxes.{region_same}
 
 pub greater_none : (own : Option ℚ) → greater own None ≡ own
 greater_none None = refl
@@ -25,20 +25,20 @@ lesser_none (Some own) = refl
 inside_low : (own other : Option ℚ) → low_inside own other ≡ true → greater own other ≡ own
 inside_low own None e = greater_none own
 inside_low None (Some other) e = absurd (let f : false ≡ true = e in cc)
-inside_low (Some own) (Some other) e = greater_maximum own other ∙ ap Some (maximum_left (le_of_test e))
+inside_low (Some own) (Some other) e = ap Some (maximum_left (le_of_test e))
 
 inside_high : (own other : Option ℚ) → high_inside own other ≡ true → lesser own other ≡ own
 inside_high own None e = lesser_none own
 inside_high None (Some other) e = absurd (let f : false ≡ true = e in cc)
-inside_high (Some own) (Some other) e = lesser_minimum own other ∙ ap Some (minimum_left (le_of_test e))
+inside_high (Some own) (Some other) e = ap Some (minimum_left (le_of_test e))
 
 weak_low : (own : Option ℚ) (value : ℚ) → low_inside own (Some value) ≡ false → greater own (Some value) ≡ Some value
 weak_low None value e = refl
-weak_low (Some own) value e = greater_maximum own value ∙ ap Some (maximum_right (≤ℚ_of_lt (lt_of_le_test e)))
+weak_low (Some own) value e = ap Some (maximum_right (≤ℚ_of_lt (lt_of_le_test e)))
 
 weak_high : (own : Option ℚ) (value : ℚ) → high_inside own (Some value) ≡ false → lesser own (Some value) ≡ Some value
 weak_high None value e = refl
-weak_high (Some own) value e = lesser_minimum own value ∙ ap Some (minimum_right (≤ℚ_of_lt (lt_of_le_test e)))
+weak_high (Some own) value e = ap Some (minimum_right (≤ℚ_of_lt (lt_of_le_test e)))
 
 sides_same : (a b c d : Option ℚ) → a ≡ c → b ≡ d → let s : Sides = record { low = a; high = b } in let t : Sides = record { low = c; high = d } in s ≡ t
 sides_same a b c d e f = cc

@@ -1,25 +1,27 @@
 -- The sides of the columns of a text are near: a bound of a size of 10^20 or more is none.
-use Rattle.std.proofs.Common.{◌≡◌, ℕ, ◌^◌, Bool, true, false, cond, not, ◌&&◌, List, [], ◌∷◌, ◌++◌, Option, None, Some, refl, sym, subst}
+use Rattle.std.proofs.Common.{◌≡◌, ℕ, zero, suc, ◌^◌, Bool, true, false, cond, not, ◌&&◌, List, [], ◌∷◌, ◌++◌, map, Option, None, Some, refl, sym, subst}
 use Rattle.std.specs.Prelude.{All, pos, fold}
-use Rattle.std.specs.List.{AllByRecursion}
+use Rattle.std.specs.List.{AllByRecursion, list_any}
 use Rattle.std.specs.Str.{bytes_eq}
 use Rattle.std.proofs.lemmas.Bool.{cond_both}
 use Rattle.std.proofs.lemmas.List.Elements.{All-map}
 use Rattle.cip_rational.specs.Rational.{ℚ, integer, absolute, ratio, whole, negate, zeroℚ, oneℚ, ◌<ℚ◌, le_test, lt_test}
 use Rattle.cip_rational.proofs.Rational.Order.{lt_of_le_test}
-use Rattle.cip_problem.specs.Program.{Program}
+use Rattle.cip_problem.specs.Program.{Plain, Open, Program}
+use Rattle.cip_problem.specs.Choices.{choice_at, greater, open_sides}
 use Rattle.cip_syntax.specs.Lines.{Record, Section, Entry}
 use Rattle.cip_number_text.specs.Numeral.{Numeral, Exact, NotANumber, Huge, TooFine, value_of, numeral_of, is_minus}
 use Rattle.cip_mps_rules.specs.MpsWords.{Part, NoPart, Title, Sense, Rows, Columns, RightSides, Ranges, Bounds, End, BoundKind, Low, High, Fixed, WholeLow, WholeHigh, Unbounded, NoLow, NoHigh, Binary, SemiContinuous, section_of, bound_kind_of, has_value, marker_of, is_infinity, is_negative, near_or_huge, bound_number}
 use Rattle.cip_mps_rules.specs.MpsSayings.{Saying, Skipped, Misplaced, ColumnLine, RightSideLine, RangeLine, BoundLine, LinePlace, opening, section_said, sense_said, row_said, one_value, two_values, is_marker, marker_said, column_said, of_set, right_side_said, range_said, no_value, valued_bound, plain_bound, typed_bound, bound_said, fields_said, said}
 use Rattle.cip_mps_rules.specs.MpsFacts.{GivenColumn, GivenBound, Facts, facts_with, bounds_in}
-use Rattle.cip_mps_rules.specs.MpsBounds.{Bounded, unbounded, with_bound, bounded_by, settled, bounds_of, all_bounds, column_sides}
+use Rattle.cip_mps_rules.specs.MpsBounds.{Bounded, unbounded, with_bound, bounded_by, settled, bounds_of, all_bounds, own_sides, is_semi, column_sides, choice_of, choices_of}
 use Rattle.cip_mps_rules.specs.MpsProgram.{program_of}
 use Rattle.cip_mps_rules.specs.MpsOutcome.{Context, said_in, HasProgram}
 use Rattle.cip_mps_rules.proofs.Quiet.{Keeps}
 use Rattle.cip_mps_rules.proofs.Outcomes.{of_program}
 use Rattle.cip_mps_steps.specs.MpsStepStatements.{is_far_value, ValuesAreTested}
 use Rattle.cip_problem.specs.NearSides.{IsNear, HasNearSides}
+use Rattle.cip_input.specs.LimitedModels.{HasNearOwn}
 
 -- ---- 0 and 1
 
@@ -175,7 +177,7 @@ with_near b Unbounded value n v = record { low = tt; high = tt }
 with_near b NoLow value n v = record { low = tt; high = n.high }
 with_near b NoHigh value n v = record { low = n.low; high = tt }
 with_near b Binary value n v = record { low = zero_near; high = one_near }
-with_near b SemiContinuous value n v = n
+with_near b SemiContinuous value n v = record { low = n.low; high = v }
 
 by_near : (column : List ℕ) (b : Bounded) (bound : GivenBound) → NearBounded b → IsNear (value_of bound.value) → NearBounded (bounded_by column b bound)
 by_near column b bound n v =
@@ -191,17 +193,52 @@ settled_near b n =
     cond_both (b.whole && not b.named) (record b { low = Some zeroℚ; high = Some oneℚ }) b NearBounded
     (λ _. record { low = zero_near; high = one_near }) (λ _. n)
 
-column_near_of : (facts : Facts) (column : GivenColumn) → AreNear facts.bounds → HasNearSides (column_sides (bounds_of facts column))
-column_near_of facts column h =
-    let n = settled_near _ (fold_near column.name facts.bounds (unbounded column.whole) h (record { low = zero_near; high = tt })) in
-    record { low = n.low; high = n.high }
+bounds_near_of : (facts : Facts) (column : GivenColumn) → AreNear facts.bounds → NearBounded (bounds_of facts column)
+bounds_near_of facts column h = settled_near _ (fold_near column.name facts.bounds (unbounded column.whole) h (record { low = zero_near; high = tt }))
+
+-- the greater of 0 and a side
+greater_near : (side : Option ℚ) → IsNear side → IsNear (greater (Some zeroℚ) side)
+greater_near None n = zero_near
+greater_near (Some side) n = go (le_test zeroℚ side)
+  where
+    go : (above : Bool) → IsNear (Some (cond above side zeroℚ))
+    go true = n
+    go false = zero_near
+
+sides_near_of : (b : Bounded) → NearBounded b → HasNearSides (column_sides b)
+sides_near_of b n =
+    cond_both (is_semi b) (open_sides (own_sides b)) (own_sides b) HasNearSides
+    (λ _. record { low = zero_near; high = greater_near b.high n.high }) (λ _. record { low = n.low; high = n.high })
+
+choice_near_of : (b : Bounded) → NearBounded b → HasNearOwn (choice_of b)
+choice_near_of b n =
+    cond_both (is_semi b) (Open (own_sides b)) Plain HasNearOwn (λ _. record { low = n.low; high = n.high }) (λ _. tt)
 
 -- ---- the program
 
 facts_near : (facts : Facts) → AreNear facts.bounds → All HasNearSides (program_of facts).bounds
 facts_near facts near =
     All-map HasNearSides column_sides (all_bounds facts)
-    (All-map (λ (b : Bounded). HasNearSides (column_sides b)) (bounds_of facts) facts.columns (λ k d l. column_near_of facts _ near))
+    (All-map (λ (b : Bounded). HasNearSides (column_sides b)) (bounds_of facts) facts.columns
+    (λ k d l. sides_near_of _ (bounds_near_of facts _ near)))
 
 pub sides_near : (v : ValuesAreTested) (text : List ℕ) (program : Program) → HasProgram text program → All HasNearSides program.bounds
 sides_near v = of_program (λ facts. AreNear facts.bounds) (near_with v) tt (λ (program : Program). All HasNearSides program.bounds) facts_near
+
+-- ---- the choices
+
+each_own : (facts : Facts) (columns : List GivenColumn) → AreNear facts.bounds → (k : ℕ) → HasNearOwn (choice_at (map choice_of (map (bounds_of facts) columns)) k)
+each_own facts [] near k = tt
+each_own facts (column ∷ columns) near zero = choice_near_of _ (bounds_near_of facts column near)
+each_own facts (column ∷ columns) near (suc k) = each_own facts columns near k
+
+facts_own : (facts : Facts) → AreNear facts.bounds → (k : ℕ) → HasNearOwn (choice_at (program_of facts).choices k)
+facts_own facts near k = go (list_any is_semi (all_bounds facts))
+  where
+    go : (any : Bool) → HasNearOwn (choice_at (cond any (map choice_of (all_bounds facts)) []) k)
+    go true = each_own facts facts.columns near k
+    go false = tt
+
+pub own_near : (v : ValuesAreTested) (text : List ℕ) (program : Program) → HasProgram text program → (k : ℕ) → HasNearOwn (choice_at program.choices k)
+own_near v =
+    of_program (λ facts. AreNear facts.bounds) (near_with v) tt (λ (program : Program). (k : ℕ) → HasNearOwn (choice_at program.choices k)) facts_own

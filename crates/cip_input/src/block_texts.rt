@@ -86,9 +86,9 @@ fn read_text<S: Store>(
 /// end, or to byte 67,108,865, a faulty one too.
 ///
 /// An `Err` says why there are no blocks: `Faulty` comes exactly where the text is faulty and all of it could be
-/// pulled, with the first line that breaks a rule and the least kind that is broken there; `StoreFailed` where a call of the
-/// store failed, so that its count of faults rose or stands at its last value; `NoMemory` where a growth was refused,
-/// and then no call of the store failed. The texts that the store holds stay the same.
+/// pulled, with the first line that breaks a rule and the least kind that is broken there; `StoreFailed` where a call
+/// of the store failed, so that its count of faults rose or stands at its last value; `NoMemory` where a growth was
+/// refused, and then no call of the store failed. The texts that the store holds stay the same.
 pub fn read_blocks<S: Store>(
     alloc: Global,
     store: &mut S,

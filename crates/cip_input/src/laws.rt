@@ -5,7 +5,8 @@ ghost use Rattle.cip_input.specs.LimitedModels.{ProgramsAreLimited};
 use cip_mps_rules::texts::programs_are_well_formed;
 use cip_mps_steps::values_are_tested;
 
-/// The program of a text is well-formed, and each side of a column that is there has a size below 10^20.
+/// The program of a text is well-formed, and each side of a column that is there has a size below 10^20, as have those
+/// that a semi-continuous column has of its own.
 pub fn programs_are_limited()
     ensures { ProgramsAreLimited }
 {

@@ -4,6 +4,7 @@ use Rattle.cip_rational.specs.Rational.{ℚ, ◌≤ℚ◌}
 use Rattle.cip_problem.specs.Program.{Row, Program}
 use Rattle.cip_problem.specs.Points.{cost_of}
 use Rattle.cip_linear.specs.LinearProgram.{LinearProgram, IsOptimal}
+use Rattle.cip_linear.specs.Falling.{FallsWithoutEnd}
 use Rattle.cip_dictionary.specs.declared.moves.Move.{Move}
 use Rattle.cip_bland.specs.EndAnswers.{Certificate, Optimal, Unbounded, OutOfRange}
 use Rattle.cip_bland.specs.NoRepeat.{whole_answer}
@@ -16,7 +17,7 @@ use Rattle.cip_model.specs.declared.verdicts.Place.{Place}
 use Rattle.cip_model.specs.declared.verdicts.Place.TheVariants.{Row as AtRow, Cost}
 use Rattle.cip_model.specs.declared.verdicts.Verdict.TheVariants.{Feasible}
 use Rattle.cip_model.specs.Meaning.{RowOverflows}
-use Rattle.cip_model.specs.Rays.{IsShownRay, FallsAlong}
+use Rattle.cip_model.specs.Rays.{IsShownRay}
 use Rattle.cip_model.specs.Verdicts.{verdict_of}
 use Rattle.cip_leaf.specs.declared.answers.Shown.{Shown}
 use Rattle.cip_leaf.specs.declared.answers.Shown.TheVariants as shown
@@ -43,7 +44,7 @@ pub record IsBest (program : Program) (leaf : Leaf) (point : List ℚ) (cost : �
 pub record IsRayOf (program : Program) (leaf : Leaf) (point ray : List ℚ) : Type 0 where
   pub is_point : IsPointOfLeaf program leaf point
   pub shown : IsShownRay program point ray
-  pub falls : FallsAlong program point ray
+  pub falls : FallsWithoutEnd program point ray
 
 -- what an answer says of a leaf
 abbrev pub IsLeafAnswer : Program → Leaf → LeafAnswer → Type 0
@@ -64,7 +65,7 @@ pub record IsBestValues (program : Program) (leaf point : List ℚ) (cost : ℚ)
 pub record IsRayOfValues (program : Program) (leaf point ray : List ℚ) : Type 0 where
   pub is_point : IsPointOf program leaf point
   pub shown : IsShownRay program point ray
-  pub falls : FallsAlong program point ray
+  pub falls : FallsWithoutEnd program point ray
 
 abbrev pub IsValuesAnswer : Program → List ℚ → LeafAnswer → Type 0
 IsValuesAnswer program leaf (Best point cost) = IsBestValues program leaf point.items cost

@@ -1,16 +1,15 @@
 -- What a cover says.
-use Rattle.std.proofs.Common.{◌≡◌, inl, inr, true, List, [], ◌∷◌, Option, None, Some, IfSome, refl}
+use Rattle.std.proofs.Common.{◌≡◌, inl, inr, true, List, Option, None, Some, IfSome, refl}
 use Rattle.cip_rational.specs.Rational.{ℚ, ◌≤ℚ◌, ◌<ℚ◌}
 use Rattle.cip_rational.proofs.Rational.Order.{≤ℚ_trans, test_of_lt, le_or_lt, <ℚ_of_le_of_lt}
 use Rattle.cip_problem.specs.Program.{Sides, Program}
 use Rattle.cip_problem.specs.Box.{IsInBox}
 use Rattle.cip_problem.specs.Points.{IsFeasible, cost_of, IsLowerBound}
-use Rattle.cip_problem.specs.Log.{Entry, AllFollow, matters}
-use Rattle.cip_problem.proofs.Log.Given.{node_of_log}
+use Rattle.cip_problem.specs.Log.{Entry, matters}
 use Rattle.cip_cuts.specs.Improving.{IsImproving, IsBoundIn}
-use Rattle.cip_leaves.specs.Searched.{first_node, OpenMatters, ParkedMatters, NoMore, IsOneOf, IsLeast, IsInOpen, IsInParked, IsCovered, AreTrueEntries}
+use Rattle.cip_leaves.specs.Searched.{OpenMatters, ParkedMatters, NoMore, IsOneOf, IsLeast, IsInOpen, IsInParked, IsCovered, AreTrueEntries}
+use Rattle.cip_leaves.specs.Wide.{IsWide}
 use Rattle.cip_leaves.specs.Statements.{HasWideLeafAt}
-use Rattle.cip_leaves.proofs.Points.{only_leaf_of}
 
 -- a bound that doesn't matter holds at no improving point
 matters_at : (program : Program) (held bound : Option ℚ) (point : List ℚ) → IsImproving program held point → IfSome bound (λ b. b ≤ℚ cost_of program point) → matters held bound ≡ true
@@ -63,13 +62,12 @@ module _ (program : Program) (start : Option ℚ) (log : List Entry) (held : Opt
         (bound_at program held o.entry.bound o.node.box point (cover.parked_bounds o.entry o.node o.leaf) i o.within)
   ]
 
-  wide_here : AllFollow program.integral (first_node program start ∷ []) [] log → AreTrueEntries program start log held → ¬ OpenMatters program start log held → HasWideLeafAt program point
-  wide_here follows true_entries no_open = elim (cover.reached point i) [
+  wide_here : AreTrueEntries program IsWide start log held → ¬ OpenMatters program start log held → HasWideLeafAt program point
+  wide_here true_entries no_open = elim (cover.reached point i) [
     | inl o ↦ absurd (no_open (open_matters o))
     | inr o ↦
         let leaf = (true_entries o.entry o.node o.leaf.among o.leaf.given).parked o.leaf.parked in
-        let node = node_of_log program start log o.entry.node o.node follows o.leaf.given in
-        record { leaf = leaf.leaf; is_point = only_leaf_of program o.node leaf.leaf point node leaf.only o.within i.feasible; wide = leaf.wide }
+        record { leaf = leaf.leaf; is_point = leaf.only point i o.within; wide = leaf.wide }
   ]
 
 -- a point that costs less than the cost held improves
@@ -99,5 +97,5 @@ bound_for program start log (Some cost) b cover least = λ point f. elim (le_or_
 pub bound_holds : (program : Program) (start : Option ℚ) (log : List Entry) (held : Option ℚ) (b : ℚ) → IsCovered program start log held → IsLeast program start log held (Some b) → IsLowerBound program b
 bound_holds program start log held b cover l = bound_for program start log held b cover l.least
 
-pub wide_leaf : (program : Program) (start : Option ℚ) (log : List Entry) (held : Option ℚ) (point : List ℚ) → AllFollow program.integral (first_node program start ∷ []) [] log → IsCovered program start log held → AreTrueEntries program start log held → ¬ OpenMatters program start log held → IsImproving program held point → HasWideLeafAt program point
-wide_leaf program start log held point follows cover true_entries no_open i = wide_here program start log held point cover i follows true_entries no_open
+pub wide_leaf : (program : Program) (start : Option ℚ) (log : List Entry) (held : Option ℚ) (point : List ℚ) → IsCovered program start log held → AreTrueEntries program IsWide start log held → ¬ OpenMatters program start log held → IsImproving program held point → HasWideLeafAt program point
+wide_leaf program start log held point cover true_entries no_open i = wide_here program start log held point cover i true_entries no_open

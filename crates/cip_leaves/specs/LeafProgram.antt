@@ -1,5 +1,6 @@
--- The linear program of a leaf: the continuous columns with their bounds and costs, numbered anew from 0, and each row
--- with each side less the row's fixed part, which is the sum of its products over the whole columns at the leaf's values.
+-- The linear program of a leaf: the continuous columns with their bounds and costs, numbered anew from 0, and each
+-- row with each side less the row's fixed part, which is the sum of its products over the whole columns at the leaf's
+-- values.
 use Rattle.std.specs.Prelude.{ℕ, zero, suc, Bool, true, false, List, [], ◌∷◌, map, Option, None, Some, if◌then◌else◌}
 use Rattle.cip_rational.specs.Rational.{ℚ, ◌-ℚ◌, zeroℚ}
 use Rattle.cip_problem.specs.Program.{Term, Row, Program}

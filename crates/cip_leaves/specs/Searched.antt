@@ -7,9 +7,9 @@ use Rattle.cip_problem.specs.Program.{Program}
 use Rattle.cip_problem.specs.Box.{IsInBox}
 use Rattle.cip_problem.specs.Choices.{decided}
 use Rattle.cip_problem.specs.Log.{Parked, Entry, Node, node_of, given_after, matters}
-use Rattle.cip_cuts.specs.Improving.{IsImproving, IsBoundIn}
-use Rattle.cip_leaves.specs.Leaf.{Leaf, IsLeafOf, IsOnlyLeafOf}
-use Rattle.cip_leaves.specs.Wide.{Place, IsWideAt, IsWide}
+use Rattle.cip_cuts.specs.Improving.{HoldsInBox, IsImproving, IsBoundIn}
+use Rattle.cip_leaves.specs.Leaf.{Leaf, IsLeafOf, IsPointOfLeaf}
+use Rattle.cip_leaves.specs.Wide.{Place, IsWideAt}
 
 -- ---- nodes and leaves
 
@@ -111,26 +111,35 @@ pub record IsCovered (program : Program) (start : Option ℚ) (log : List Entry)
   pub parked_bounds : (entry : Entry) (node : Node)
       → IsParkedLeaf program start log entry node → IfSome entry.bound (IsBoundIn program held node.box)
 
--- ---- entries
+-- ---- entries, by what `Wide` says of the program of a leaf and its values
 
--- the box of a node has one leaf, which is wide
-pub record HasWideLeaf (program : Program) (node : Node) : Type 0 where
+-- each improving point in the box of a node is one of this leaf
+abbrev pub HoldsOnly : Program → Option ℚ → Node → Leaf → Type 0
+HoldsOnly program held node leaf = HoldsInBox program held node.box (IsPointOfLeaf program leaf)
+
+-- each improving point in the box of a node is one of the same leaf of the program, which is wide
+pub record HasWideLeaf
+    (program : Program) (Wide : Program → List ℚ → Type 0) (held : Option ℚ) (node : Node) : Type 0 where
   pub leaf : Leaf
-  pub only : IsOnlyLeafOf program node leaf
-  pub wide : IsWide (decided program leaf.on) leaf.values
+  pub is_leaf : IsLeafOf program leaf
+  pub only : HoldsOnly program held node leaf
+  pub wide : Wide (decided program leaf.on) leaf.values
 
 -- an entry is a true one of its node: its bound is at least the node's and holds in the node's box, and where it says
--- that the node was parked, that is a wide leaf
-pub record IsTrueEntry (program : Program) (held : Option ℚ) (node : Node) (entry : Entry) : Type 0 where
+-- that the node was parked, its improving points are those of a wide leaf
+pub record IsTrueEntry
+    (program : Program) (Wide : Program → List ℚ → Type 0) (held : Option ℚ) (node : Node) (entry : Entry)
+    : Type 0 where
   pub kept : NoMore node.bound entry.bound
   pub holds : IfSome entry.bound (IsBoundIn program held node.box)
-  pub parked : entry.end ≡ Parked → HasWideLeaf program node
+  pub parked : entry.end ≡ Parked → HasWideLeaf program Wide held node
 
 -- all entries of a log are true ones of their nodes
-abbrev pub AreTrueEntries : Program → Option ℚ → List Entry → Option ℚ → Type 0
-AreTrueEntries program start log held =
+abbrev pub AreTrueEntries :
+    Program → (Wide : Program → List ℚ → Type 0) → (start : Option ℚ) → List Entry → (held : Option ℚ) → Type 0
+AreTrueEntries program Wide start log held =
     (entry : Entry) (node : Node) → Contains log entry → node_of (nodes_given program start log) entry.node ≡ Some node
-    → IsTrueEntry program held node entry
+    → IsTrueEntry program Wide held node entry
 
 -- ---- the leaf that is shown
 
@@ -143,13 +152,14 @@ pub record IsFirstLeast (log : List Entry) (entry : Entry) : Type 0 where
   pub least : (other : Entry) → Contains log other → other.end ≡ Parked → NoMore entry.bound other.bound
   pub first : (other : Entry) → Contains before other → other.end ≡ Parked → ¬ NoMore other.bound entry.bound
 
--- a leaf that is shown for an overflow: the parked leaf of least bound, which is wide at this place
+-- a leaf that is shown for an overflow: that of the parked node of least bound, which is wide at this place
 pub record IsShown
-    (program : Program) (start : Option ℚ) (log : List Entry) (leaf : Leaf) (place : Place) : Type 0 where
-  pub entry : Entry
-  pub node : Node
-  pub chosen : IsFirstLeast log entry
-  pub given : node_of (nodes_given program start log) entry.node ≡ Some node
-  pub only : IsOnlyLeafOf program node leaf
-  pub is_leaf : IsLeafOf program leaf
-  pub wide : IsWideAt (decided program leaf.on) leaf.values place
+    (program : Program) (start : Option ℚ) (log : List Entry) (held : Option ℚ) (leaf : Leaf) (place : Place) : Type 0
+  where
+    pub entry : Entry
+    pub node : Node
+    pub chosen : IsFirstLeast log entry
+    pub given : node_of (nodes_given program start log) entry.node ≡ Some node
+    pub only : HoldsOnly program held node leaf
+    pub is_leaf : IsLeafOf program leaf
+    pub wide : IsWideAt (decided program leaf.on) leaf.values place

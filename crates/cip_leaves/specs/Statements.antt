@@ -1,15 +1,15 @@
 -- The laws, each as one statement: the functions of `src/lib.rt` have them as contracts.
-use Rattle.std.specs.Prelude.{◌≡◌, true, Bool, All, List, [], ◌∷◌, Option, None, Some, length}
+use Rattle.std.specs.Prelude.{◌≡◌, true, Bool, All, List, Option, None, Some, length}
 use Rattle.cip_rational.specs.Rational.{ℚ}
 use Rattle.cip_problem.specs.Program.{Sides, Program}
 use Rattle.cip_problem.specs.Box.{IsInBox}
 use Rattle.cip_problem.specs.Points.{AreWhole, IsFeasible, IsLowerBound}
 use Rattle.cip_problem.specs.Choices.{decided}
-use Rattle.cip_problem.specs.Log.{Entry, Node, AllFollow}
+use Rattle.cip_problem.specs.Log.{Entry, Node}
 use Rattle.cip_problem.specs.Statements.{IsNodeOf}
 use Rattle.cip_cuts.specs.Improving.{IsImproving}
 use Rattle.cip_leaves.specs.Leaf.{at_wholes, IsLeafIn, IsPointOf, IsOnlyLeaf, Leaf, IsLeafOf, IsPointOfLeaf, IsOnlyLeafOf}
-use Rattle.cip_leaves.specs.Searched.{first_node, OpenMatters, ParkedMatters, IsCovered, IsLeast, AreTrueEntries}
+use Rattle.cip_leaves.specs.Searched.{OpenMatters, ParkedMatters, IsCovered, IsLeast, AreTrueEntries}
 use Rattle.cip_leaves.specs.Wide.{IsWide}
 
 -- a feasible point has this leaf
@@ -53,7 +53,6 @@ pub record CoversTell : Type 0 where
       → IsCovered program start log None → ¬ OpenMatters program start log None → ¬ ParkedMatters log None
       → (point : List ℚ) → ¬ IsFeasible program point
   pub wide : (program : Program) (start : Option ℚ) (log : List Entry) (held : Option ℚ) (point : List ℚ)
-      → AllFollow program.integral (first_node program start ∷ []) [] log
-      → IsCovered program start log held → AreTrueEntries program start log held
+      → IsCovered program start log held → AreTrueEntries program IsWide start log held
       → ¬ OpenMatters program start log held → IsImproving program held point
       → HasWideLeafAt program point

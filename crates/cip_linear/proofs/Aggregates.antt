@@ -1,7 +1,8 @@
 -- The aggregated row holds where its parts do; it is the one that is computed.
 use mathlib.Core.Path.{fun_ext}
-use Rattle.std.proofs.Common.{◌≡◌, ℕ, zero, suc, ◌<◌, ◌==◌, cond, List, [], ◌∷◌, length, refl, sym, ap, ap₂, ◌∙◌, arith}
-use Rattle.std.specs.List.{AllByRecursion}
+use Rattle.std.proofs.Common.{◌≡◌, ℕ, zero, suc, ◌+◌, ◌<◌, ◌==◌, cond, List, [], ◌∷◌, length, map, refl, sym, ap, ap₂, ◌∙◌, arith}
+use Rattle.std.specs.List.{AllByRecursion, range_with_len}
+use Rattle.std.proofs.lemmas.List.FromFn.{length-map-range_with_len}
 use Rattle.std.proofs.Math.Dec.{eqb-suc-zero, eqb-zero-suc, eqb-suc-suc}
 use Rattle.std.proofs.lemmas.List.Elements.{recursion_from_All}
 use Rattle.cip_rational.specs.Rational.{ℚ, ◌+ℚ◌, ◌*ℚ◌, zeroℚ, oneℚ, ◌≤ℚ◌}
@@ -25,32 +26,48 @@ aggregate_holds columns parts row point h k = rw (h.least, h.form point) (total_
 
 -- ---- tables
 
-pub length-table : (n : ℕ) (f : ℕ → ℚ) → length (table n f) ≡ n
-length-table zero f = refl
-length-table (suc n) f = ap suc (length-table n (λ k. f (suc k)))
+pub length-table : {X : Type 0} (n : ℕ) (f : ℕ → X) → length (table n f) ≡ n
+unfolding table
+length-table n f = length-map-range_with_len f 0 n
 
-pub table_zeros : (n : ℕ) (f : ℕ → ℚ) (xs : List ℚ) → ((k : ℕ) → f k ≡ zeroℚ) → dot (table n f) xs ≡ zeroℚ
-table_zeros zero f xs e = refl
-table_zeros (suc n) f [] e = refl
-table_zeros (suc n) f (x ∷ xs) e = rw (e 0, zero-*ℚ x, table_zeros n (λ k. f (suc k)) xs (λ k. e (suc k))) (zero-+ℚ zeroℚ)
+-- a table, one value before the others
+abbrev pub listed : {X : Type 0} → ℕ → (ℕ → X) → List X
+listed zero f = []
+listed (suc n) f = f 0 ∷ listed n (λ k. f (suc k))
 
-pub table_sum : (n : ℕ) (f g : ℕ → ℚ) (c : ℚ) (xs : List ℚ) → dot (table n (λ k. c *ℚ f k +ℚ g k)) xs ≡ c *ℚ dot (table n f) xs +ℚ dot (table n g) xs
-table_sum zero f g c xs = sym (+ℚ-zero (c *ℚ zeroℚ) ∙ *ℚ-zero c)
-table_sum (suc n) f g c [] = sym (+ℚ-zero (c *ℚ zeroℚ) ∙ *ℚ-zero c)
-table_sum (suc n) f g c (x ∷ xs) =
-    let e = table_sum n (λ k. f (suc k)) (λ k. g (suc k)) c xs in
+listed_from : {X : Type 0} (a n : ℕ) (f g : ℕ → X) → ((k : ℕ) → f (a + k) ≡ g k) → map f (range_with_len a n) ≡ listed n g
+listed_from a zero f g h = refl
+listed_from a (suc n) f g h =
+    let first : a ≡ a + 0 = omega arith in
+    ap₂ (λ x xs. x ∷ xs) (ap f first ∙ h 0)
+    (listed_from (a + 1) n f (λ k. g (suc k)) (λ k. let next : (a + 1) + k ≡ a + suc k = omega arith in ap f next ∙ h (suc k)))
+
+pub table_listed : {X : Type 0} (n : ℕ) (f : ℕ → X) → table n f ≡ listed n f
+unfolding table
+table_listed n f = listed_from 0 n f f (λ k. let same : 0 + k ≡ k = omega arith in ap f same)
+
+zeros_listed : (n : ℕ) (f : ℕ → ℚ) (xs : List ℚ) → ((k : ℕ) → f k ≡ zeroℚ) → dot (listed n f) xs ≡ zeroℚ
+zeros_listed zero f xs e = refl
+zeros_listed (suc n) f [] e = refl
+zeros_listed (suc n) f (x ∷ xs) e = rw (e 0, zero-*ℚ x, zeros_listed n (λ k. f (suc k)) xs (λ k. e (suc k))) (zero-+ℚ zeroℚ)
+
+sum_listed : (n : ℕ) (f g : ℕ → ℚ) (c : ℚ) (xs : List ℚ) → dot (listed n (λ k. c *ℚ f k +ℚ g k)) xs ≡ c *ℚ dot (listed n f) xs +ℚ dot (listed n g) xs
+sum_listed zero f g c xs = sym (+ℚ-zero (c *ℚ zeroℚ) ∙ *ℚ-zero c)
+sum_listed (suc n) f g c [] = sym (+ℚ-zero (c *ℚ zeroℚ) ∙ *ℚ-zero c)
+sum_listed (suc n) f g c (x ∷ xs) =
+    let e = sum_listed n (λ k. f (suc k)) (λ k. g (suc k)) c xs in
     let a : (c *ℚ f 0) *ℚ x ≡ c *ℚ (f 0 *ℚ x) = *ℚ_assoc c (f 0) x in
     linear_same
-    ((c *ℚ f 0 *ℚ x) ∷ (g 0 *ℚ x) ∷ (c *ℚ (f 0 *ℚ x)) ∷ (c *ℚ dot (table n (λ k. f (suc k))) xs) ∷ dot (table n (λ k. g (suc k))) xs ∷ dot (table n (λ k. c *ℚ f (suc k) +ℚ g (suc k))) xs ∷ [])
+    ((c *ℚ f 0 *ℚ x) ∷ (g 0 *ℚ x) ∷ (c *ℚ (f 0 *ℚ x)) ∷ (c *ℚ dot (listed n (λ k. f (suc k))) xs) ∷ dot (listed n (λ k. g (suc k))) xs ∷ dot (listed n (λ k. c *ℚ f (suc k) +ℚ g (suc k))) xs ∷ [])
     (λ s w. let m = s.products tt in omega (arith, s.same_out))
 
-pub table_add : (n : ℕ) (f g : ℕ → ℚ) (xs : List ℚ) → dot (table n (λ k. f k +ℚ g k)) xs ≡ dot (table n f) xs +ℚ dot (table n g) xs
-table_add zero f g xs = sym (+ℚ-zero zeroℚ)
-table_add (suc n) f g [] = sym (+ℚ-zero zeroℚ)
-table_add (suc n) f g (x ∷ xs) =
-    let e = table_add n (λ k. f (suc k)) (λ k. g (suc k)) xs in
+add_listed : (n : ℕ) (f g : ℕ → ℚ) (xs : List ℚ) → dot (listed n (λ k. f k +ℚ g k)) xs ≡ dot (listed n f) xs +ℚ dot (listed n g) xs
+add_listed zero f g xs = sym (+ℚ-zero zeroℚ)
+add_listed (suc n) f g [] = sym (+ℚ-zero zeroℚ)
+add_listed (suc n) f g (x ∷ xs) =
+    let e = add_listed n (λ k. f (suc k)) (λ k. g (suc k)) xs in
     linear_same
-    ((f 0 *ℚ x) ∷ (g 0 *ℚ x) ∷ dot (table n (λ k. f (suc k))) xs ∷ dot (table n (λ k. g (suc k))) xs ∷ dot (table n (λ k. f (suc k) +ℚ g (suc k))) xs ∷ [])
+    ((f 0 *ℚ x) ∷ (g 0 *ℚ x) ∷ dot (listed n (λ k. f (suc k))) xs ∷ dot (listed n (λ k. g (suc k))) xs ∷ dot (listed n (λ k. f (suc k) +ℚ g (suc k))) xs ∷ [])
     (λ s w. let m = s.products tt in omega (arith, s.same_out))
 
 -- ---- the coefficients of a sum of terms
@@ -59,24 +76,27 @@ table_add (suc n) f g (x ∷ xs) =
 abbrev at_column : ℕ → ℚ → ℕ → ℚ
 at_column column c k = cond (column == k) c zeroℚ
 
-table_at : (n column : ℕ) (c : ℚ) (xs : List ℚ) → column < n → dot (table n (at_column column c)) xs ≡ c *ℚ value_at xs column
-table_at zero column c xs h = absurd (omega arith)
-table_at (suc n) column c [] h = sym (*ℚ-zero c)
-table_at (suc n) zero c (x ∷ xs) h =
-    rw (table_zeros n (λ k. cond (0 == suc k) c zeroℚ) xs (λ k. ap (λ b. cond b c zeroℚ) (eqb-zero-suc k))) (+ℚ-zero (c *ℚ x))
-table_at (suc n) (suc column) c (x ∷ xs) h =
+at_listed : (n column : ℕ) (c : ℚ) (xs : List ℚ) → column < n → dot (listed n (at_column column c)) xs ≡ c *ℚ value_at xs column
+at_listed zero column c xs h = absurd (omega arith)
+at_listed (suc n) column c [] h = sym (*ℚ-zero c)
+at_listed (suc n) zero c (x ∷ xs) h =
+    rw (zeros_listed n (λ k. cond (0 == suc k) c zeroℚ) xs (λ k. ap (λ b. cond b c zeroℚ) (eqb-zero-suc k))) (+ℚ-zero (c *ℚ x))
+at_listed (suc n) (suc column) c (x ∷ xs) h =
     let e : (λ (k : ℕ). cond (suc column == suc k) c zeroℚ) ≡ at_column column c = fun_ext (λ k. ap (λ b. cond b c zeroℚ) (eqb-suc-suc column k)) in
-    rw (eqb-suc-zero column, zero-*ℚ x, ap (λ f. dot (table n f) xs) e, table_at n column c xs (omega arith)) (zero-+ℚ (c *ℚ value_at xs column))
+    rw (eqb-suc-zero column, zero-*ℚ x, ap (λ f. dot (listed n f) xs) e, at_listed n column c xs (omega arith)) (zero-+ℚ (c *ℚ value_at xs column))
 
-terms_form : (n : ℕ) (terms : List Term) (xs : List ℚ) → AllByRecursion (λ t. t.column < n) terms → dot (table n (coefficient_on terms)) xs ≡ activity terms xs
-terms_form n [] xs h = table_zeros n (λ k. zeroℚ) xs (λ k. refl)
-terms_form n (t ∷ ts) xs h =
-    table_add n (at_column t.column t.coefficient) (coefficient_on ts) xs ∙ ap₂ (λ u v. u +ℚ v) (table_at n t.column t.coefficient xs h.0) (terms_form n ts xs h.1)
+terms_listed : (n : ℕ) (terms : List Term) (xs : List ℚ) → AllByRecursion (λ t. t.column < n) terms → dot (listed n (coefficient_on terms)) xs ≡ activity terms xs
+terms_listed n [] xs h = zeros_listed n (λ k. zeroℚ) xs (λ k. refl)
+terms_listed n (t ∷ ts) xs h =
+    add_listed n (at_column t.column t.coefficient) (coefficient_on ts) xs ∙ ap₂ (λ u v. u +ℚ v) (at_listed n t.column t.coefficient xs h.0) (terms_listed n ts xs h.1)
+
+parts_listed : (n : ℕ) (parts : List Part) (xs : List ℚ) → AllByRecursion (λ part. StandsBelow n part.terms) parts → dot (listed n (combined parts)) xs ≡ total_activity parts xs
+parts_listed n [] xs h = zeros_listed n (λ k. zeroℚ) xs (λ k. refl)
+parts_listed n (p ∷ ps) xs h =
+    sum_listed n (coefficient_on p.terms) (combined ps) p.factor xs ∙ ap₂ (λ u v. p.factor *ℚ u +ℚ v) (terms_listed n p.terms xs (recursion_from_All _ p.terms h.0)) (parts_listed n ps xs h.1)
 
 pub parts_form : (n : ℕ) (parts : List Part) (xs : List ℚ) → AllByRecursion (λ part. StandsBelow n part.terms) parts → dot (table n (combined parts)) xs ≡ total_activity parts xs
-parts_form n [] xs h = table_zeros n (λ k. zeroℚ) xs (λ k. refl)
-parts_form n (p ∷ ps) xs h =
-    table_sum n (coefficient_on p.terms) (combined ps) p.factor xs ∙ ap₂ (λ u v. p.factor *ℚ u +ℚ v) (terms_form n p.terms xs (recursion_from_All _ p.terms h.0)) (parts_form n ps xs h.1)
+parts_form n parts xs h = ap (λ t. dot t xs) (table_listed n (combined parts)) ∙ parts_listed n parts xs h
 
 pub aggregate_is : (columns : ℕ) (parts : List Part) → AllByRecursion (λ part. StandsBelow columns part.terms) parts → IsAggregate columns parts (aggregate columns parts)
 aggregate_is columns parts h = record {

@@ -8,7 +8,7 @@ use Rattle.cip_rational.proofs.Rational.Inverse.{inverse_unique}
 use Rattle.cip_rational.proofs.Linear.{linear_lt, linear_le, linear_same}
 use Rattle.cip_problem.specs.Program.{Sides}
 use Rattle.cip_problem.specs.BoxBound.{sum_if_both, least_cost}
-use Rattle.cip_linear.specs.Aggregate.{Inequality, aggregate, bound_of, Empties, only, implied_sides}
+use Rattle.cip_linear.specs.Aggregate.{Inequality, table, aggregate, bound_of, Empties, only, implied_sides}
 use Rattle.cip_linear.specs.Examples.{half, unit_box, half_row, half_of_five, at_least_two_at_most_one, at_one}
 use Rattle.cip_linear.proofs.Aggregates.{inequality_same}
 use Rattle.cip_linear.proofs.Certificates.{no_cost, bound_of_same}
@@ -29,6 +29,7 @@ twice_three_halves =
 -- ---- half of 2 x + 2 y at most 3
 
 pub half_row_is : aggregate 2 half_row ≡ record { coefficients = whole 0 1 ∷ whole 0 1 ∷ []; least = ratio (negsuc 2) 2 }
+unfolding table
 half_row_is =
     let a = twice_half in
     let b = twice_three_halves in
@@ -54,6 +55,7 @@ half_of_five_sides =
     linear_same (half ∷ ratio (pos 5) 2 ∷ (half *ℚ whole 5 0) ∷ []) (λ s w. omega (arith, s.same_out))
 
 five_row_is : aggregate 5 half_of_five ≡ record { coefficients = replicate 5 oneℚ; least = ratio (pos 5) 2 }
+unfolding table
 five_row_is =
     let cons = λ (x : ℚ) (xs : List ℚ). x ∷ xs in
     inequality_same _ _
@@ -67,6 +69,7 @@ half_of_five_is =
 -- ---- x at least 2 and at most 1
 
 pub contradiction_is : aggregate 1 at_least_two_at_most_one ≡ record { coefficients = zeroℚ ∷ []; least = whole 1 0 }
+unfolding table
 contradiction_is =
     let first : oneℚ *ℚ (oneℚ +ℚ zeroℚ) +ℚ (negate oneℚ *ℚ (oneℚ +ℚ zeroℚ) +ℚ zeroℚ) ≡ zeroℚ = linear_same [] (λ s w. let m = s.products tt in omega arith) in
     let least : oneℚ *ℚ whole 2 0 +ℚ (negate oneℚ *ℚ whole 1 0 +ℚ zeroℚ) ≡ whole 1 0 = linear_same [] (λ s w. let m = s.products tt in omega arith) in

@@ -1,7 +1,7 @@
 -- Aggregated rows: the inequality that a sum of rows and bounds, each times a factor, implies, and what that implies
 -- for costs and for single columns in a box (weak duality with bounds).
-use Rattle.std.specs.Prelude.{◌≡◌, ℕ, zero, suc, ◌==◌, List, [], ◌∷◌, ◌++◌, length, replicate, Option, None, Some, if◌then◌else◌}
-use Rattle.std.specs.List.{AllByRecursion}
+use Rattle.std.specs.Prelude.{◌≡◌, ℕ, ◌==◌, List, [], ◌∷◌, ◌++◌, map, length, replicate, Option, None, Some, if◌then◌else◌}
+use Rattle.std.specs.List.{AllByRecursion, range_with_len}
 use Rattle.cip_rational.specs.Rational.{ℚ, ◌+ℚ◌, ◌-ℚ◌, ◌*ℚ◌, inverse, zeroℚ, oneℚ, ◌≤ℚ◌, ◌<ℚ◌, lt_test}
 use Rattle.cip_rational.specs.Sums.{dot}
 use Rattle.cip_problem.specs.Program.{Term, Sides, Row}
@@ -71,10 +71,9 @@ pub record IsAggregate (columns : ℕ) (parts : List Part) (row : Inequality) : 
 
 -- ---- the aggregated row as it is computed
 
--- f 0, f 1, and so on, n of them
-abbrev pub table : ℕ → (ℕ → ℚ) → List ℚ
-table zero f = []
-table (suc n) f = f 0 ∷ table n (λ k. f (suc k))
+-- the list of f 0, f 1, .., f (n - 1)
+unfoldable pub table : {X : Type 0} → ℕ → (ℕ → X) → List X
+table n f = map f (range_with_len 0 n)
 
 -- the coefficient of a sum of terms on a column
 abbrev pub coefficient_on : List Term → ℕ → ℚ

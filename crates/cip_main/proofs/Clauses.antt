@@ -22,6 +22,7 @@ use Rattle.cip_model.specs.Verdicts.{verdict_of}
 use Rattle.cip_main.specs.declared.refusals.TextFault.{TextFault}
 use Rattle.cip_main.specs.declared.refusals.TextFault.TheVariants.{Model, Blocks, Point}
 use Rattle.cip_answers.specs.Figures.{NodeLimit, Gap, Wide, NoMemory as LacksMemory, exit_status}
+use Rattle.cip_search.specs.SearchEnds.{ReachesGap}
 use Rattle.cip_search.specs.Headline.{IsSpent, EndsWith, EndsItself}
 use Rattle.cip_search.proofs.Ends.{budgets_suffice}
 use Rattle.cip_main.specs.declared.plain.Plain.{Plain}
@@ -542,10 +543,7 @@ no_gap_asked : (call : Call) → Ran call → (text : List ℕ) (limits : Limits
 no_gap_asked call r text limits asks none e =
     let g = gap_log call r e in
     let same : g.answered.limits ≡ limits = same_limits g.answered.asked asks.job in
-    some_gap g.near.gap (sym g.near.is_asked ∙ (ap (λ (l : Limits). l.gap) same ∙ none))
-  where
-    some_gap : (gap : ℚ) → Some gap ≡ None → ⊥
-    some_gap gap f = cc
+    subst (λ asked. ReachesGap asked (Some g.near.cost) (Some g.near.least)) (ap (λ (l : Limits). l.gap) same ∙ none) g.near.reached
 
 -- ---- overflows, and want of memory
 

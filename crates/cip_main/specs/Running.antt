@@ -16,7 +16,7 @@ use Rattle.cip_point_rules.specs.PointRules.{point_reading}
 use Rattle.cip_words.specs.Jobs.{Limits, Job, Solve, Check}
 use Rattle.cip_input.specs.TextPulls.{IsAllPulled}
 use Rattle.cip_answers.specs.Figures.{NodeLimit, Gap, Wide, Overflow}
-use Rattle.cip_search.specs.Headline.{ReachesGap, IsSpent, ShowsOverflow, EndsItself}
+use Rattle.cip_search.specs.Headline.{ShowsGap, IsSpent, ShowsOverflow, EndsItself}
 use Rattle.cip_answers.specs.Checks.{check_text, check_status}
 use Rattle.cip_model.specs.Verdicts.{verdict_of}
 use Rattle.cip_model.specs.Meaning.{VerdictHolds}
@@ -339,7 +339,7 @@ pub record WriteFaultClause (call : Call) : Type 0 where
 
 -- the figures that are told reach the gap that the words ask for: the cost less the bound is above 0 and at most that
 abbrev pub FiguresReachGap : (call : Call) → IsAnswered call → Type 0
-FiguresReachGap call answered = ReachesGap answered.program answered.limits.gap answered.answers.figures
+FiguresReachGap call answered = ShowsGap answered.program answered.limits.gap answered.answers.figures
 
 -- status 10 comes only after a search of as many nodes as the words allow, which left an open node that matters, and
 -- where the gap that they ask for isn't reached; the figures that are told say exactly so

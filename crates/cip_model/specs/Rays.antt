@@ -1,14 +1,16 @@
 -- Rays of a program: directions in which whole columns don't change, each bound and each row is kept, however far one
 -- goes, and the cost falls. A ray is shown beside a point that is found to be feasible, where no sum of its test
 -- overflows: these go by rising column, from 0, each product before its sum.
-use Rattle.std.specs.Prelude.{◌≡◌, Bool, true, List, IsErr}
+use Rattle.std.specs.Prelude.{◌≡◌, Bool, true, List, length, IsErr}
 use Rattle.std.specs.List.{AllZip, AllByRecursion}
-use Rattle.cip_rational.specs.Rational.{ℚ, ◌+ℚ◌, ◌*ℚ◌, zeroℚ, ◌≤ℚ◌, ◌<ℚ◌}
+use Rattle.cip_rational.specs.Rational.{ℚ, zeroℚ, ◌<ℚ◌}
 use Rattle.cip_rational.specs.Sums.{dot}
 use Rattle.cip_problem.specs.Program.{Program}
 use Rattle.cip_problem.specs.Activity.{activity}
-use Rattle.cip_problem.specs.Points.{IsFeasible, cost_of}
-use Rattle.cip_linear.specs.LinearProgram.{StaysBetween, moved}
+use Rattle.cip_problem.specs.Points.{cost_of}
+use Rattle.cip_problem.specs.WellFormed.{IsWellFormed, columns}
+use Rattle.cip_linear.specs.LinearProgram.{StaysBetween}
+use Rattle.cip_linear.specs.Falling.{FallsWithoutEnd}
 use Rattle.cip_frac.specs.Outcomes.{dot_from}
 use Rattle.cip_model.specs.declared.verdicts.Place.{Place}
 use Rattle.cip_model.specs.declared.verdicts.Place.TheVariants.{Row as AtRow, Cost}
@@ -42,8 +44,9 @@ pub record IsShownRay (program : Program) (point ray : List ℚ) : Type 0 where
   pub is_ray : IsRay program ray
   pub fits : RaySumsFit program ray
 
--- from a point one may go any way along a ray, and the cost falls as one goes
-pub record FallsAlong (program : Program) (point ray : List ℚ) : Type 0 where
-  pub points : (far : ℚ) → zeroℚ ≤ℚ far → IsFeasible program (moved point far ray)
-  pub cost : (far : ℚ) → cost_of program (moved point far ray) ≡ cost_of program point +ℚ far *ℚ dot program.costs ray
-  pub falls : dot program.costs ray <ℚ zeroℚ
+-- where a ray is shown beside a point, the cost falls without end along it from there
+abbrev pub ShownRaysFall : Type 0
+ShownRaysFall =
+    (program : Program) (point ray : List ℚ)
+    → IsWellFormed program → length point ≡ columns program → IsShownRay program point ray
+    → FallsWithoutEnd program point ray

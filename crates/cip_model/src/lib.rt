@@ -17,4 +17,5 @@ pub use limits::{LONGEST_NAME, LONGEST_TEXT, MOST_COLUMNS, MOST_ENTRIES, MOST_RO
 pub use names::Names;
 pub use parts::{Parts, Sense};
 pub use programs::Program;
+pub use rays::shown_rays_fall;
 pub use verdicts::{Place, Verdict};

@@ -1,5 +1,5 @@
-//! Hints where a name may stand among others: numbers by the fingerprints of names. A hint says nothing until the name at
-//! its number was compared, so no contract speaks of fingerprints.
+//! Hints where a name may stand among others: numbers by the fingerprints of names. A hint says nothing until the
+//! name at its number was compared, so no contract speaks of fingerprints.
 ghost use Rattle.std.specs.Prelude.{◌≡◌, ◌<◌, Some, length, map, slice_get, IfSome};
 
 use indexmap::IndexMap;

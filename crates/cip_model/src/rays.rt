@@ -8,7 +8,8 @@ ghost use Rattle.cip_frac.specs.Outcomes.{dot_from};
 ghost use Rattle.cip_lin.specs.RowSums.{activity_from};
 ghost use Rattle.cip_model.specs.RayTests as tests;
 ghost use Rattle.cip_model.specs.RayTests.{stays, all_stay, all_still, row_stays, rows_stay, cost_falls};
-ghost use Rattle.cip_model.specs.Rays.{IsShownRay, FallsAlong};
+ghost use Rattle.cip_linear.specs.Falling.{FallsWithoutEnd};
+ghost use Rattle.cip_model.specs.Rays.{IsShownRay, ShownRaysFall};
 
 use crate::checks::cost;
 use crate::programs::Program;
@@ -126,6 +127,12 @@ fn lowers_cost(costs: &[Frac], ray: &[Frac]) -> bool
     }
 }
 
+/// Where a ray is shown beside a point, the point may be left for feasible points along it without end, and the cost
+/// falls.
+pub fn shown_rays_fall()
+    ensures { ShownRaysFall }
+{}
+
 impl Program {
     /// Whether a ray is shown beside a point, each with a value for each column: `check` says `Feasible` of the point,
     /// and the ray is 0 on whole columns, at least 0 on columns and rows with a low side and at most 0 on those with a
@@ -136,7 +143,7 @@ impl Program {
         requires point { length point.now ≡ columns self.now }
         requires ray { length ray.now ≡ columns self.now }
         ensures shown { IsTrue result ↔ IsShownRay self.now point.now ray.now }
-        ensures falls { IsTrue result → FallsAlong self.now point.now ray.now }
+        ensures falls { IsTrue result → FallsWithoutEnd self.now point.now ray.now }
     {
         let _columns = self.columns();
         let Verdict::Feasible(_) = self.check(point) else {

@@ -1,7 +1,7 @@
 -- The objective, the names of the rows that are kept, and that the program is well-formed.
 use Rattle.std.proofs.Common.{◌≡◌, ℕ, zero, suc, ◌+◌, ◌<◌, ◌≤◌, Bool, true, false, cond, ◌||◌, List, [], ◌∷◌, ◌++◌, length, map, take, drop, Option, None, Some, refl, sym, ap, subst, ◌∙◌, arith, All}
 use Rattle.std.specs.Prelude.{slice_get, slice_index_or, nat_lt, unwrap_or}
-use Rattle.std.specs.List.{AllByRecursion, filter, list_all}
+use Rattle.std.specs.List.{AllByRecursion, filter, list_all, list_any}
 use Rattle.std.specs.Str.{bytes_eq}
 use Rattle.std.proofs.lemmas.List.{length-map}
 use Rattle.std.proofs.lemmas.List.Elements.{All-from_recursion}
@@ -12,12 +12,14 @@ use Rattle.cip_problem.specs.Program.{Term, Sides, Row, Choice, Program}
 use Rattle.cip_problem.specs.Activity.{StandsBelow}
 use Rattle.cip_problem.specs.WellFormed.{IsWellFormed}
 use Rattle.cip_mps_rules.specs.MpsWords.{next, number_in, is_in}
-use Rattle.cip_mps_rules.specs.MpsBounds.{Bounded, settled, column_sides}
+use Rattle.cip_mps_rules.specs.MpsBounds.{Bounded, settled, is_semi, column_sides, choice_of, choices_of}
 use Rattle.cip_mps_rules.specs.MpsProgram.{is_free}
 use Rattle.cip_mps_rules.proofs.Quiet.{left_false, right_false, or_false}
 use Rattle.cip_mps_steps.specs.MpsState.{Held, RowRead, State, no_row, is_zero_value, is_kept, kept_names, objective_row, right_side_of, minimized_by, costs_from, terms_from, finished_row, program_from}
 use Rattle.cip_mps_steps.specs.MpsSoundState.{held_below}
+use Rattle.cip_mps_rules.proofs.SemiColumns.{choices_formed}
 use Rattle.cip_mps_steps.proofs.LookUps.{is_in-cons}
+use Rattle.cip_mps_draft.proofs.ListLaws.{list_any_map}
 
 -- ---- the objective
 
@@ -132,7 +134,7 @@ formed s rows_named columns_named counted few_rows few_columns below =
       few_rows = subst (λ (m : ℕ). m ≤ most_rows) (counted ∙ sym rows) few_rows;
       rows = subst (λ (m : ℕ). All (λ row. StandsBelow m row.terms) (map finished_row (filter is_kept s.rows))) (sym count)
           (All-from_recursion (λ row. StandsBelow n row.terms) (map finished_row (filter is_kept s.rows)) (rows_stand n s.rows below));
-      choices = λ column. tt;
+      choices = choices_formed (map settled s.columns);
     }
 
 -- ---- the program of its parts
@@ -141,13 +143,21 @@ map_twice : {X Y Z : Type 0} (f : Y → Z) (g : X → Y) (xs : List X) → map (
 map_twice f g [] = refl
 map_twice f g (x ∷ xs) = ap (λ ys. f (g x) ∷ ys) (map_twice f g xs)
 
+choices_made : (columns : List Bounded) → cond (list_any (λ (b : Bounded). is_semi (settled b)) columns) (map (λ (b : Bounded). choice_of (settled b)) columns) [] ≡ choices_of (map settled columns)
+choices_made columns =
+    let any = sym (list_any_map is_semi settled columns) in
+    let each = map_twice choice_of settled columns in
+    λ i. cond (any i) (each i) []
+
 pub same_program : (s : State) (column_names row_names : List (List ℕ)) (rows : List Row) (costs : List ℚ) (constant : ℚ) (maximized : Bool) (integral : List Bool) (bounds : List Sides) (choices : List Choice)
     → column_names ≡ s.column_names → row_names ≡ kept_names s.row_names s.rows → rows ≡ map finished_row (filter is_kept s.rows)
     → costs ≡ costs_from s.sense (objective_row s.rows).held 0 (length s.column_names)
     → constant ≡ minimized_by s.sense (negate (right_side_of (objective_row s.rows))) → maximized ≡ unwrap_or s.sense false
-    → integral ≡ map (λ (b : Bounded). (settled b).whole) s.columns → bounds ≡ map (λ (b : Bounded). column_sides (settled b)) s.columns → choices ≡ []
+    → integral ≡ map (λ (b : Bounded). (settled b).whole) s.columns → bounds ≡ map (λ (b : Bounded). column_sides (settled b)) s.columns
+    → choices ≡ cond (list_any (λ (b : Bounded). is_semi (settled b)) s.columns) (map (λ (b : Bounded). choice_of (settled b)) s.columns) []
     → ◌≡◌ {A = Program} (record { column_names = column_names; row_names = row_names; rows = rows; costs = costs; constant = constant; maximized = maximized; integral = integral; bounds = bounds; choices = choices }) (program_from s)
-same_program s column_names row_names rows costs constant maximized integral bounds choices a b c d e f g h j =
+same_program s column_names row_names rows costs constant maximized integral bounds choices a b c d e f g h k =
     let whole : integral ≡ map (λ (b : Bounded). b.whole) (map settled s.columns) = g ∙ map_twice (λ (b : Bounded). b.whole) settled s.columns in
     let sides : bounds ≡ map column_sides (map settled s.columns) = h ∙ map_twice column_sides settled s.columns in
-    λ i. record { column_names = a i; row_names = b i; rows = c i; costs = d i; constant = e i; maximized = f i; integral = whole i; bounds = sides i; choices = j i }
+    let open_ : choices ≡ choices_of (map settled s.columns) = k ∙ choices_made s.columns in
+    λ i. record { column_names = a i; row_names = b i; rows = c i; costs = d i; constant = e i; maximized = f i; integral = whole i; bounds = sides i; choices = open_ i }

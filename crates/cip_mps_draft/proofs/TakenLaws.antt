@@ -8,8 +8,8 @@ use Rattle.cip_number_text.specs.Numeral.{Numeral}
 use Rattle.cip_mps_rules.specs.MpsWords.{Part, NoPart, Title, Sense, Rows, Columns, RightSides, Ranges, Bounds, End, RowKind, BoundKind, sense_of, is_zero, is_no_number, is_too_fine, number_in, is_in}
 use Rattle.cip_mps_rules.specs.MpsSayings.{LinePlace, Value, Saying, UnknownSection, Opens, Misplaced, Miscounted, Skipped, SenseLine, RowLine, ColumnLine, Marker, BadMarker, RightSideLine, RangeLine, BoundLine, BadBound, no_place, place_after}
 use Rattle.cip_mps_rules.specs.MpsFacts.{coefficients_in, senses_in, sense_if}
-use Rattle.cip_mps_rules.specs.MpsRules.{Rule, rule, least, entry_count, is_end, has_twins, is_before_last}
-use Rattle.cip_mps_steps.specs.MpsState.{State, row_at, first_of, program_from}
+use Rattle.cip_mps_rules.specs.MpsRules.{Rule, rule, least, entry_count, has_twins, is_before_last}
+use Rattle.cip_mps_steps.specs.MpsState.{State, row_at, first_of}
 use Rattle.cip_mps_steps.specs.MpsSteps.{or_else, holds, put, taken, tests}
 use Rattle.cip_mps_steps.specs.MpsLineTests.{column_tests, numbers_of, has_huge, has_unknown}
 use Rattle.cip_mps_draft.specs.DraftLines.{entries_in, column_rules, sense_said_on}
@@ -133,29 +133,5 @@ taken_at place state (RangeLine set_name values) = refl
 taken_at place state (BoundLine kind set_name column value) = refl
 taken_at place state BadBound = refl
 
-ended_at : (place : LinePlace) (state : State) (now : Saying) → is_end now ≡ true → program_from (at_place place (taken state now)) ≡ program_from state
-ended_at place s (Opens End words) e = λ i. program_from (record s { sense = or_none s.sense i })
-ended_at place s (Opens NoPart words) e = absurd (cc)
-ended_at place s (Opens Title words) e = absurd (cc)
-ended_at place s (Opens Sense words) e = absurd (cc)
-ended_at place s (Opens Rows words) e = absurd (cc)
-ended_at place s (Opens Columns words) e = absurd (cc)
-ended_at place s (Opens RightSides words) e = absurd (cc)
-ended_at place s (Opens Ranges words) e = absurd (cc)
-ended_at place s (Opens Bounds words) e = absurd (cc)
-ended_at place s UnknownSection e = absurd (cc)
-ended_at place s Misplaced e = absurd (cc)
-ended_at place s Miscounted e = absurd (cc)
-ended_at place s Skipped e = absurd (cc)
-ended_at place s (SenseLine word) e = absurd (cc)
-ended_at place s (RowLine kind name) e = absurd (cc)
-ended_at place s (ColumnLine column whole values) e = absurd (cc)
-ended_at place s (Marker begins) e = absurd (cc)
-ended_at place s BadMarker e = absurd (cc)
-ended_at place s (RightSideLine set_name values) e = absurd (cc)
-ended_at place s (RangeLine set_name values) e = absurd (cc)
-ended_at place s (BoundLine kind set_name column value) e = absurd (cc)
-ended_at place s BadBound e = absurd (cc)
-
 pub places : PlacesJoin
-places = record { same_tests = tests_at; same_state = taken_at; same_program = ended_at }
+places = record { same_tests = tests_at; same_state = taken_at }

@@ -1,21 +1,23 @@
 //! A column as far as it was read.
 ghost use Rattle.std.specs.Prelude.{◌≡◌, true};
-ghost use Rattle.cip_number_text.specs.Numeral.{value_of};
+ghost use Rattle.cip_number_text.specs.Numeral.{Numeral, value_of};
 ghost use Rattle.cip_mps_lines.specs.MpsKinds.{bound_kind_in};
-ghost use Rattle.cip_mps_rules.specs.MpsBounds.{unbounded, with_low, with_high, with_bound, made_whole, settled, column_sides};
+ghost use Rattle.cip_mps_rules.specs.MpsBounds.{unbounded, with_low, with_high, with_semi, with_bound, made_whole, settled, own_sides, lacks_sides, is_mixed, is_semi, column_sides, choice_of};
 
+use crate::semi_sides::{are_semi_sides, open_sides};
 use cip_frac::Frac;
-use cip_lin::Sides;
+use cip_lin::{Choice, Sides};
 use cip_mps_lines::{BoundKind, BoundNumber};
 use std::marker::Model;
 
-/// A column: its bounds so far, whether it is whole, whether a record has set the low bound, and whether there is any
-/// record of it.
+/// A column: its bounds so far, whether it is whole, whether a record made it semi-continuous, whether a record has set
+/// the low bound, and whether there is any record of it.
 #[derive(Clone, Copy, Debug)]
 pub(crate) struct ColumnDraft {
     low: Option<Frac>,
     high: Option<Frac>,
     whole: bool,
+    semi: bool,
     low_set: bool,
     named: bool,
 }
@@ -32,6 +34,7 @@ impl Model for ColumnDraft {
       low = c.low;
       high = c.high;
       whole = c.whole;
+      semi = c.semi;
       low_set = c.low_set;
       named = c.named;
     } };
@@ -40,6 +43,7 @@ impl Model for ColumnDraft {
       low = c.low;
       high = c.high;
       whole = c.whole;
+      semi = c.semi;
       low_set = c.low_set;
       named = c.named;
     } };
@@ -54,6 +58,7 @@ impl ColumnDraft {
             low: Some(Frac::zero()),
             high: None,
             whole,
+            semi: false,
             low_set: false,
             named: false,
         }
@@ -76,6 +81,15 @@ impl ColumnDraft {
             self.low = None;
         }
         self.high = value.value();
+        self.named = true;
+    }
+
+    /// Sets the high bound of a semi-continuous column.
+    fn set_semi(&mut self, value: &BoundNumber<'_>)
+        ensures { self.new ≡ with_semi self.old value.now }
+    {
+        self.high = value.value();
+        self.semi = true;
         self.named = true;
     }
 
@@ -112,14 +126,20 @@ impl ColumnDraft {
                 self.set_sides(Some(Frac::zero()), Some(Frac::one()));
                 self.make_whole();
             }
-            BoundKind::SemiContinuous => {}
+            BoundKind::SemiContinuous => self.set_semi(value),
         }
     }
 
     /// Sets both sides.
     fn set_sides(&mut self, low: Option<Frac>, high: Option<Frac>)
-        ensures { self.new
-            ≡ record { low = low; high = high; whole = self.old.whole; low_set = true; named = true } }
+        ensures { self.new ≡ record {
+          low = low;
+          high = high;
+          whole = self.old.whole;
+          semi = self.old.semi;
+          low_set = true;
+          named = true;
+        } }
     {
         self.low = low;
         self.high = high;
@@ -134,9 +154,20 @@ impl ColumnDraft {
         self.whole
     }
 
-    /// The sides at the end of the text: a column between markers that no record names lies between 0 and 1.
-    pub(crate) fn sides(self) -> Sides
-        ensures { result ≡ column_sides (settled self) }
+    /// Whether a bound record of this type makes the column both whole and semi-continuous.
+    pub(crate) fn is_mixed_by(self, kind: BoundKind) -> bool
+        ensures { (value : Numeral) → result ≡ is_mixed (with_bound self (bound_kind_in kind) value) }
+    {
+        match kind {
+            BoundKind::WholeLow | BoundKind::WholeHigh | BoundKind::Binary => self.semi,
+            BoundKind::SemiContinuous => self.whole,
+            _ => self.whole && self.semi,
+        }
+    }
+
+    /// Low and high at the end of the text: a column between markers that no record names lies between 0 and 1.
+    fn own_sides(self) -> Sides
+        ensures { result ≡ own_sides (settled self) }
     {
         if self.whole && !self.named {
             return Sides {
@@ -147,6 +178,39 @@ impl ColumnDraft {
         Sides {
             low: self.low,
             high: self.high,
+        }
+    }
+
+    /// Whether a semi-continuous column lacks one of the bounds that it must have at the end of the text.
+    pub(crate) fn lacks_sides(self) -> bool
+        ensures { result ≡ lacks_sides (settled self) }
+    {
+        self.semi && !are_semi_sides(self.own_sides())
+    }
+
+    /// Whether the column is semi-continuous, and such that the text isn't refused.
+    pub(crate) fn is_semi(self) -> bool
+        ensures { result ≡ is_semi (settled self) }
+    {
+        self.semi && !self.whole && are_semi_sides(self.own_sides())
+    }
+
+    /// The sides in the box of the program.
+    pub(crate) fn sides(self) -> Sides
+        ensures { result ≡ column_sides (settled self) }
+    {
+        let own = self.own_sides();
+        if self.is_semi() { open_sides(own) } else { own }
+    }
+
+    /// The choice of the column: open where it is semi-continuous.
+    pub(crate) fn choice(self) -> Choice
+        ensures { result ≡ choice_of (settled self) }
+    {
+        if self.is_semi() {
+            Choice::open(self.own_sides())
+        } else {
+            Choice::plain()
         }
     }
 }

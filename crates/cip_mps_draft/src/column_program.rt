@@ -1,8 +1,8 @@
-//! The columns of the program: costs, whole columns and bounds.
-ghost use Rattle.std.specs.Prelude.{◌≡◌, ◌≤◌, true, map, nat_le, IfOk};
-ghost use Rattle.std.specs.List.{list_all};
+//! The columns of the program: costs, whole columns, bounds and choices.
+ghost use Rattle.std.specs.Prelude.{◌≡◌, ◌≤◌, [], true, map, nat_le, IfOk, if◌then◌else◌};
+ghost use Rattle.std.specs.List.{list_all, list_any};
 ghost use Rattle.cip_problem.specs.Limits.{most_columns};
-ghost use Rattle.cip_mps_rules.specs.MpsBounds.{settled, column_sides};
+ghost use Rattle.cip_mps_rules.specs.MpsBounds.{settled, lacks_sides, is_semi, column_sides, choice_of};
 ghost use Rattle.cip_mps_steps.specs.MpsState.{held_value, minimized_by, costs_from};
 ghost use Rattle.cip_mps_steps.specs.MpsSoundState.{rises};
 ghost use Rattle.cip_mps_draft.specs.Costs.{held_behind};
@@ -10,7 +10,7 @@ ghost use Rattle.cip_mps_draft.specs.Costs.{held_behind};
 use crate::column_draft::ColumnDraft;
 use crate::row_draft::Held;
 use cip_frac::Frac;
-use cip_lin::Bounds;
+use cip_lin::{Bounds, Choices};
 use std::alloc::{AllocError, Global};
 
 /// A cost in the minimised form.
@@ -44,6 +44,44 @@ pub(crate) fn bounds_of(alloc: Global, columns: &[ColumnDraft]) -> Result<Bounds
         bounds.push(column.sides())?;
     }
     Ok(bounds)
+}
+
+/// Whether a semi-continuous column lacks one of the bounds that it must have.
+pub(crate) fn any_lacks_sides(columns: &[ColumnDraft]) -> bool
+    ensures { result ≡ list_any (λ column. lacks_sides (settled column)) columns.now }
+{
+    columns.iter().any(|column| column.lacks_sides())
+}
+
+/// Whether a column is semi-continuous.
+fn any_semi(columns: &[ColumnDraft]) -> bool
+    ensures { result ≡ list_any (λ column. is_semi (settled column)) columns.now }
+{
+    columns.iter().any(|column| column.is_semi())
+}
+
+/// The choice of each column.
+fn each_choice(alloc: Global, columns: &[ColumnDraft]) -> Result<Choices, AllocError>
+    ensures { IfOk result (λ choices. choices ≡ map (λ column. choice_of (settled column)) columns.now) }
+{
+    let mut choices = Choices::new(alloc);
+    for column in columns {
+        choices.push(column.choice())?;
+    }
+    Ok(choices)
+}
+
+/// The choices of the columns; there are none, and they take no memory, where no column is semi-continuous.
+pub(crate) fn choices_of(alloc: Global, columns: &[ColumnDraft]) -> Result<Choices, AllocError>
+    ensures { IfOk result (λ choices. choices
+        ≡ (if list_any (λ column. is_semi (settled column)) columns.now
+        then map (λ column. choice_of (settled column)) columns.now else [])) }
+{
+    if any_semi(columns) {
+        each_choice(alloc, columns)
+    } else {
+        Ok(Choices::new(alloc))
+    }
 }
 
 /// The number of a column among numbers by rising column, none of which stands before it, and those behind it.

@@ -1,5 +1,5 @@
-//! A program as far as the lines of a free MPS text have said it: the tests of each line, what a line without fault adds,
-//! and the program at the end.
+//! A program as far as the lines of a free MPS text have said it: the tests of each line, what a line without fault
+//! adds, and the program at the end.
 #![tactic(auto)]
 
 mod bound_lines;
@@ -17,6 +17,7 @@ mod row_draft;
 mod row_lines;
 mod row_program;
 mod sections;
+mod semi_sides;
 mod steps;
 mod values;
 

@@ -1,16 +1,16 @@
 //! The program that the lines of a text have said.
 ghost use Rattle.std.specs.Prelude.{◌≡◌, ◌≤◌, ◌<◌, true, false, length, map, slice_index_or, unwrap_or, ◌++◌, ◌∷◌, [], if◌then◌else◌, IfOk, OnOk, MatchOption};
-ghost use Rattle.std.specs.List.{filter};
+ghost use Rattle.std.specs.List.{filter, list_any};
 ghost use Rattle.cip_rational.specs.Rational.{negate};
 ghost use Rattle.cip_problem.specs.Limits.{most_columns};
 ghost use Rattle.cip_mps_rules.specs.MpsWords.{is_in};
-ghost use Rattle.cip_mps_rules.specs.MpsBounds.{settled, column_sides};
+ghost use Rattle.cip_mps_rules.specs.MpsBounds.{settled, is_semi, column_sides, choice_of};
 ghost use Rattle.cip_mps_steps.specs.MpsState.{no_row, is_kept, right_side_of, objective_row, kept_names, minimized_by, costs_from, finished_row, program_from};
 ghost use Rattle.cip_mps_steps.specs.MpsSoundState.{rises};
 ghost use Rattle.cip_model.specs.Programs.{is_maximize};
 ghost use Rattle.cip_mps_draft.specs.DraftStates.{kept};
 
-use crate::column_program::{bounds_of, costs_of, minimized, wholes_of};
+use crate::column_program::{bounds_of, choices_of, costs_of, minimized, wholes_of};
 use crate::draft::Draft;
 use crate::name_index::NameIndex;
 use crate::row_draft::{Held, RowDraft};
@@ -126,24 +126,30 @@ struct Copied {
     costs: Vec<Frac>,
     whole: Vec<bool>,
     bounds: Bounds,
+    choices: Choices,
 }
 
 impl Draft {
-    /// Its names of rows, costs, whole columns and bounds. `Err` comes where a growth was refused.
+    /// Its names of rows, costs, whole columns, bounds and choices. `Err` comes where a growth was refused.
     fn copied(&self) -> Result<Copied, AllocError>
-        ensures row_names { IfOk result (λ copied. copied.row_names ≡ kept_names self.now.row_names self.now.rows.items) }
+        ensures row_names { IfOk result (λ copied. copied.row_names
+            ≡ kept_names self.now.row_names self.now.rows.items) }
         ensures costs { IfOk result (λ copied. copied.costs.items
             ≡ costs_from self.now.sense (objective_row self.now.rows.items).held 0 (length self.now.column_names)) }
         ensures whole { IfOk result (λ copied. copied.whole.items
             ≡ map (λ column. (settled column).whole) self.now.columns.items) }
         ensures bounds { IfOk result (λ copied. copied.bounds
             ≡ map (λ column. column_sides (settled column)) self.now.columns.items) }
+        ensures choices { IfOk result (λ copied. copied.choices
+            ≡ (if list_any (λ column. is_semi (settled column)) self.now.columns.items
+            then map (λ column. choice_of (settled column)) self.now.columns.items else [])) }
     {
         let alloc = self.alloc;
         let rows = self.rows.as_slice();
         let columns = self.columns.as_slice();
         let whole = wholes_of(alloc, columns)?;
         let bounds = bounds_of(alloc, columns)?;
+        let choices = choices_of(alloc, columns)?;
         let costs = objective_costs(alloc, self.sense, rows, columns.len())?;
         let row_names = names_of(alloc, &self.row_names, rows)?;
         Ok(Copied {
@@ -151,6 +157,7 @@ impl Draft {
             costs,
             whole,
             bounds,
+            choices,
         })
     }
 
@@ -176,13 +183,13 @@ impl Draft {
         let copied = self.copied()?;
         let constant = objective_constant(self.sense, self.rows.as_slice());
         let sense = sense_of(self.sense);
-        let choices = Choices::new(self.alloc);
         let (column_names, rows) = self.into_rows()?;
         let Copied {
             row_names,
             costs,
             whole,
             bounds,
+            choices,
         } = copied;
         let parts = Parts {
             column_names,

@@ -6,6 +6,7 @@ ghost use Rattle.cip_mps_lines.specs.MpsKinds.{part_of};
 ghost use Rattle.cip_mps_rules.specs.MpsWords as text;
 ghost use Rattle.cip_mps_rules.specs.MpsSayings.{Opens};
 ghost use Rattle.cip_mps_rules.specs.MpsFacts.{sense_words_in};
+ghost use Rattle.cip_mps_rules.specs.MpsBounds.{settled, lacks_sides};
 ghost use Rattle.cip_mps_rules.specs.MpsProgram.{is_free};
 ghost use Rattle.cip_mps_rules.specs.MpsRules.{least, stands_behind, is_opened, has_many_words};
 ghost use Rattle.cip_mps_steps.specs.MpsSteps.{or_else};
@@ -13,6 +14,7 @@ ghost use Rattle.cip_mps_steps.specs.MpsLineTests.{opening_tests, end_tests, sen
 ghost use Rattle.cip_mps_draft.specs.DraftLines.{section_tests, sense_said_on};
 ghost use Rattle.cip_mps_draft.specs.DraftStates.{kept};
 
+use crate::column_program::any_lacks_sides;
 use crate::draft::Draft;
 use crate::row_draft::RowDraft;
 use cip_mps_lines::{Part, sense_of};
@@ -145,6 +147,13 @@ impl Draft {
         any_free(self.rows.as_slice())
     }
 
+    /// Whether a semi-continuous column lacks one of the bounds that it must have.
+    fn lacks_sides(&self) -> bool
+        ensures { result ≡ list_any lacks_sides (map settled self.now.columns.items) }
+    {
+        any_lacks_sides(self.columns.as_slice())
+    }
+
     /// The least kind of fault of a section line that isn't ENDATA.
     fn opening_fault(&self, part: Part, words: &Fields<'_>) -> Option<u32>
         ensures { result ≡ least (opening_tests (kept self.now) (part_of part) (fields_left words.now)) }
@@ -176,6 +185,9 @@ impl Draft {
         }
         if !self.has_objective() {
             return Some(16);
+        }
+        if self.lacks_sides() {
+            return Some(21);
         }
         None
     }

@@ -129,9 +129,9 @@ impl Draft {
         fault
     }
 
-    /// Reads one line more: the least kind of fault of it, from 1 to 21, or none, and then the draft has what the line
-    /// says. A line with a fault changes nothing. `Err` comes where a growth was refused; the draft may then have a part
-    /// of the line.
+    /// Reads one line more: the least kind of fault of it, from 1 to 21, or none, and then the draft has what the
+    /// line says. A line with a fault changes nothing. `Err` comes where a growth was refused; the draft may then
+    /// have a part of the line.
     pub fn read(&mut self, line: &Line<'_>) -> Result<Option<u32>, AllocError>
         ensures { IfOk result (IsStep (kept self.old) (kept self.new) (saying_of line.now)) }
     {
@@ -182,8 +182,7 @@ impl Draft {
     }
 }
 
-/// No test of a line looks at its place. The state behind a line is what is kept behind it, at the place behind it; and
-/// ENDATA leaves the program as it is.
+/// No test of a line looks at its place, and the state behind a line is what is kept behind it, at the place behind it.
 pub fn places_join()
     ensures { PlacesJoin }
 {}

@@ -1,13 +1,13 @@
 -- The code's tests of a value, as those of the text that says it.
-use Rattle.std.proofs.Common.{◌≡◌, ◌↔◌, ℕ, ◌*◌, ◌^◌, nat_le, Bool, true, false, not, ◌&&◌, if◌then◌else◌, List, Some, IsTrue, is_le, pos, refl, sym, ap, ◌∙◌, rules}
+use Rattle.std.proofs.Common.{◌≡◌, ◌↔◌, ℕ, ◌*◌, ◌^◌, nat_le, Bool, true, false, not, ◌&&◌, if◌then◌else◌, List, None, Some, IsTrue, is_le, pos, refl, sym, ap, ◌∙◌, rules}
 use Rattle.cip_rational.specs.Rational.{ℚ, zeroℚ, lt_test, ◌<ℚ◌, integer, absolute, compare_rational}
 use Rattle.cip_rational.proofs.Rational.Order.{≤ℚ_antisymm, le_of_lt_test, lt_of_test, test_of_lt}
 use Rattle.cip_rational.proofs.Comparisons.{is_le-compare}
 use Rattle.cip_number_text.specs.Numeral.{Numeral, Exact, NotANumber, Huge, TooFine, value_of, numeral_of, is_minus}
-use Rattle.cip_mps_rules.specs.MpsWords.{is_zero, is_negative, is_huge, is_infinity, near_or_huge, bound_number}
+use Rattle.cip_mps_rules.specs.MpsWords.{is_zero, is_negative, is_positive, is_huge, is_infinity, near_or_huge, bound_number}
 use Rattle.cip_mps_steps.specs.MpsState.{is_zero_value, is_negative_value}
-use Rattle.cip_mps_steps.specs.MpsStepStatements.{is_far_value}
-use Rattle.cip_mps_steps.proofs.Told.{value_zero, zero_is_zero, value_far, value_bound, value_bound_negative}
+use Rattle.cip_mps_steps.specs.MpsStepStatements.{is_far_value, is_positive_value}
+use Rattle.cip_mps_steps.proofs.Told.{value_zero, zero_is_zero, value_far, value_bound, value_bound_negative, value_bound_positive}
 
 -- ---- 0
 
@@ -84,3 +84,26 @@ negative_bound text value false e h = value_bound_negative text value (value_nea
 pub negative_read : (text : List ℕ) (value : ℚ) (answer : Bool) → value_of (bound_number text) ≡ Some value → IsTrue answer ↔ (value <ℚ zeroℚ) → answer ≡ is_negative (bound_number text)
 negative_read text value answer e h =
     negative_test_is value answer (is_negative_value value) refl h ∙ sym (negative_bound text value (is_infinity text) refl e)
+
+-- a value above 0
+positive_test_is : (value : ℚ) (answer test : Bool) → lt_test zeroℚ value ≡ test → IsTrue answer ↔ (zeroℚ <ℚ value) → answer ≡ test
+positive_test_is value true true e h = refl
+positive_test_is value false false e h = refl
+positive_test_is value true false e h = let above : lt_test zeroℚ value ≡ true = test_of_lt (h.0 refl) in cc
+positive_test_is value false true e h = h.1 (lt_of_test e)
+
+-- a bound with a value isn't far
+not_far : (value : ℚ) (far above : Bool) → (if far then None else Some value) ≡ Some value → (not far && above) ≡ above
+not_far value true above e = cc
+not_far value false above e = refl
+
+positive_bound : (text : List ℕ) (value : ℚ) (infinite : Bool) → is_infinity text ≡ infinite → value_of (if infinite then Huge (is_minus text) else near_or_huge (numeral_of text)) ≡ Some value → is_positive (if infinite then Huge (is_minus text) else near_or_huge (numeral_of text)) ≡ is_positive_value value
+positive_bound text value true e h = cc
+positive_bound text value false e h =
+    let near = value_near (numeral_of text) value h in
+    value_bound_positive text value near ∙ not_far value (is_far_value value) (is_positive_value value) (sym (value_bound text value near) ∙ h)
+
+-- whether a bound with a value is above 0
+pub positive_read : (text : List ℕ) (value : ℚ) (answer : Bool) → value_of (bound_number text) ≡ Some value → IsTrue answer ↔ (zeroℚ <ℚ value) → answer ≡ is_positive (bound_number text)
+positive_read text value answer e h =
+    positive_test_is value answer (is_positive_value value) refl h ∙ sym (positive_bound text value (is_infinity text) refl e)

@@ -151,4 +151,14 @@ impl<'a> BoundNumber<'a> {
             Err(_) => false,
         }
     }
+
+    /// Whether the value is above 0, and isn't no bound.
+    pub fn is_positive(&self) -> bool
+        ensures { result ≡ words.is_positive self.now }
+    {
+        match &self.outcome {
+            Ok(value) => value.is_positive(),
+            Err(_) => false,
+        }
+    }
 }

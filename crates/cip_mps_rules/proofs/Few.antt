@@ -23,6 +23,7 @@ use Rattle.cip_mps_rules.specs.MpsOutcome.{Context, said_in, HasProgram}
 use Rattle.cip_mps_rules.proofs.Quiet.{Keeps, left_false, right_false}
 use Rattle.cip_mps_rules.proofs.Outcomes.{of_program}
 use Rattle.cip_mps_rules.proofs.MpsNames.{number_below}
+use Rattle.cip_mps_rules.proofs.SemiColumns.{choices_formed}
 
 -- ---- the limits
 
@@ -120,7 +121,7 @@ well_formed facts rows cols =
       few_rows = subst (λ (n : ℕ). n ≤ most_rows) (sym made) rows;
       rows = All-map (λ row. StandsBelow (columns (program_of facts)) row.terms) (row_of facts) (constraints facts)
           (λ i d l. terms_below (column_names facts) (columns (program_of facts)) (names ∙ sym costs) facts.coefficients (get_or (constraints facts) i d).name);
-      choices = λ column. tt;
+      choices = choices_formed (all_bounds facts);
     }
 
 pub texts_fit : (text : List ℕ) (program : Program) → HasProgram text program → IsWellFormed program

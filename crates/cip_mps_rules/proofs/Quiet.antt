@@ -7,7 +7,7 @@ use Rattle.std.proofs.Math.Nat.{le_trans, le_refl}
 use Rattle.cip_mps_rules.specs.MpsSayings.{Saying}
 use Rattle.cip_mps_rules.specs.MpsFacts.{Facts, row_names, column_names}
 use Rattle.cip_mps_rules.specs.MpsProgram.{constraints}
-use Rattle.cip_mps_rules.specs.MpsRules.{Rule, least, rules, fault_of, is_unknown_section, is_out_of_order, lacks_section, is_miscounted, numbers_in, has_huge_value, has_wide_side, names_unknown_row, names_unknown_column, repeats_row, repeats_value, splits_column, has_bad_row_type, has_bad_bound_type, is_bad_marker, lacks_objective, is_too_many, has_long_name, ranges_free_row, has_bad_sense, has_bad_bound, kinds_of, entry_count}
+use Rattle.cip_mps_rules.specs.MpsRules.{Rule, least, rules, fault_of, is_unknown_section, is_out_of_order, lacks_section, is_miscounted, numbers_in, has_huge_value, has_wide_side, names_unknown_row, names_unknown_column, repeats_row, repeats_value, splits_column, has_bad_row_type, has_bad_bound_type, is_bad_marker, lacks_objective, is_too_many, has_long_name, ranges_free_row, is_out_of_profile, kinds_of, entry_count}
 use Rattle.cip_mps_rules.specs.MpsWords.{is_no_number, is_too_fine}
 
 -- ---- tests
@@ -119,7 +119,7 @@ pub record Keeps (facts : Facts) (now : Saying) : Type 0 where
   pub not_many : is_too_many (length (constraints facts)) (column_names facts) (entry_count facts.coefficients) now ≡ false
   pub short_name : has_long_name now ≡ false
   pub no_free_range : ranges_free_row facts.rows now ≡ false
-  pub in_profile : (has_bad_sense now || has_bad_bound now) ≡ false
+  pub in_profile : is_out_of_profile facts now ≡ false
 
 pub keeps : (facts : Facts) (now : Saying) → fault_of facts now ≡ None → Keeps facts now
 keeps facts now e = go (kept (rules facts now) e)

@@ -12,9 +12,10 @@ use Rattle.cip_rational.proofs.Rational.Ring.{negate_zero, sub_is}
 use Rattle.cip_problem.specs.Program.{Program}
 use Rattle.cip_number_text.specs.Numeral.{numeral_of}
 use Rattle.cip_line_texts.specs.LineTexts.{outcome_of, Means}
-use Rattle.cip_mps_rules.specs.MpsExamples.{three_columns, three_columns_program, loose_text, loose_program, open_text, open_program, four_rows, row_sides_in, mps_outcome, sides_of_four, integral, large_value, facts_in}
+use Rattle.cip_mps_rules.specs.MpsExamples.{three_columns, three_columns_program, loose_text, loose_program, open_text, open_program, semi_text, semi_program, four_rows, row_sides_in, mps_outcome, sides_of_four, integral, large_value, facts_in}
 use Rattle.cip_mps_rules.specs.MpsSayings.{RangeLine, RightSideLine}
 use Rattle.cip_mps_rules.specs.MpsRules.{fault_of}
+use Rattle.cip_mps_rules.proofs.SemiTried.{two_tested, five_tested}
 
 negate_five : negate (ratio (pos 5) 1) ≡ ratio (negsuc 4) 1
 negate_five = ratio-negate (pos 5) 1
@@ -62,6 +63,13 @@ open_read = refl
 
 pub open_is : mps_outcome open_text ≡ Means open_program
 open_is = open_read ∙ ap (λ x. Means (with_costs open_program open_program.costs x)) negate_zero
+
+semi_read : mps_outcome semi_text ≡ Means (with_costs semi_program semi_program.costs (negate zeroℚ))
+unfolding numeral_of outcome_of
+semi_read = rw (two_tested, five_tested)
+
+pub semi_is : mps_outcome semi_text ≡ Means semi_program
+semi_is = semi_read ∙ ap (λ x. Means (with_costs semi_program semi_program.costs x)) negate_zero
 
 pub ranged : row_sides_in (four_rows (codes "RHS\n R1 10 R2 10\n R3 10\nRANGES\n R1 -4 R2 -4\n R3 4\n")) ≡ sides_of_four (Some (integral 6)) (Some (integral 10)) (Some (integral 10)) (Some (integral 14)) (Some (integral 10)) (Some (integral 14))
 unfolding numeral_of

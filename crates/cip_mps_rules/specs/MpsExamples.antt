@@ -2,14 +2,14 @@
 use lib.Chars.{codes}
 use Rattle.std.specs.Prelude.{◌≡◌, ℕ, Bool, true, false, pos, negsuc, List, [], ◌∷◌, ◌++◌, map, Option, None, Some, replicate}
 use Rattle.cip_rational.specs.Rational.{ℚ, ratio, zeroℚ, oneℚ}
-use Rattle.cip_problem.specs.Program.{Term, Sides, Row, Program}
+use Rattle.cip_problem.specs.Program.{Term, Sides, Row, Choice, Plain, Open, Program}
 use Rattle.cip_number_text.specs.Numeral.{Exact}
 use Rattle.cip_line_texts.specs.LineTexts.{Outcome, Means, Faulty, items_in, too_long, outcome_of}
 use Rattle.cip_line_texts.specs.LineStatements.{known_after}
 use Rattle.cip_mps_rules.specs.MpsWords.{AtMost}
 use Rattle.cip_mps_rules.specs.MpsSayings.{Value, RowLine, RightSideLine, RangeLine}
 use Rattle.cip_mps_rules.specs.MpsFacts.{GivenRow, Facts, no_facts}
-use Rattle.cip_mps_rules.specs.MpsBounds.{all_bounds, column_sides}
+use Rattle.cip_mps_rules.specs.MpsBounds.{all_bounds, column_sides, choices_of}
 use Rattle.cip_mps_rules.specs.MpsProgram.{row_sides}
 use Rattle.cip_mps_rules.specs.MpsRules.{fault_of}
 use Rattle.cip_mps_rules.specs.MpsOutcome.{no_context, mps_records, mps_reading}
@@ -114,6 +114,26 @@ open_program = record {
   choices = [];
 }
 
+-- a semi-continuous column from 2 to 5
+abbrev pub semi_text : List ℕ
+semi_text =
+    codes "ROWS\n N COST\n G R1\nCOLUMNS\n x COST 1 R1 1\nRHS\n RHS R1 1\n"
+    ++ codes "BOUNDS\n LO B x 2\n SC B x 5\nENDATA\n"
+
+-- x is to be least, and at least 1; it is 0 or from 2 to 5, so that its bounds are 0 and 5 while its choice is open
+abbrev pub semi_program : Program
+semi_program = record {
+  column_names = codes "x" ∷ [];
+  row_names = codes "R1" ∷ [];
+  rows = record { terms = term 1 0 ∷ []; low = Some (integral 1); high = None } ∷ [];
+  costs = integral 1 ∷ [];
+  constant = zeroℚ;
+  maximized = false;
+  integral = false ∷ [];
+  bounds = up_to 5 ∷ [];
+  choices = Open (record { low = Some (integral 2); high = Some (integral 5) }) ∷ [];
+}
+
 -- what a text comes to
 abbrev pub mps_outcome : List ℕ → Outcome Program
 mps_outcome text = outcome_of mps_reading text
@@ -123,6 +143,7 @@ pub record TextsHavePrograms : Type 0 where
   pub three_columns : mps_outcome three_columns ≡ Means three_columns_program
   pub loose : mps_outcome loose_text ≡ Means loose_program
   pub open_columns : mps_outcome open_text ≡ Means open_program
+  pub semi : mps_outcome semi_text ≡ Means semi_program
 
 -- ---- faults
 
@@ -288,6 +309,63 @@ pub record BoundsAreRead : Type 0 where
   pub fixed_far : IsFaulty (with_bounds (codes " FX B a 1e30\n")) 10 21
   pub far_and_unknown : IsFaulty (with_bounds (codes " LO B b inf\n")) 10 9
   pub fine_bound : IsFaulty (with_bounds (codes " LO B a 1e-39\n")) 10 7
+
+-- ---- readings: semi-continuous columns
+
+-- the choices of the columns of a text
+abbrev pub choices_in : List ℕ → List Choice
+choices_in text = choices_of (all_bounds (facts_in text))
+
+-- lines 1 to 7: two continuous columns, with these lines of BOUNDS
+abbrev pub continuous : List ℕ → List ℕ
+continuous lines = with_rows (codes "COLUMNS\n w R1 1\n x R1 1\nBOUNDS\n" ++ lines)
+
+-- the second of two columns is open, with these own sides
+abbrev pub open_between : (low high : ℚ) → List Choice
+open_between low high = Plain ∷ Open (record { low = Some low; high = Some high }) ∷ []
+
+-- the sides of two columns, the first of which has no bounds
+abbrev pub behind_plain : (low high : ℚ) → List Sides
+behind_plain low high = record { low = Some zeroℚ; high = None } ∷ record { low = Some low; high = Some high } ∷ []
+
+-- bounds of type SC: the choices and the sides that they make, and their faults
+pub record SemisAreRead : Type 0 where
+  pub no_choices : choices_in (continuous (codes " UP B x 5\n")) ≡ []
+  pub low_zero : choices_in (continuous (codes " SC B x 5\n")) ≡ open_between zeroℚ (integral 5)
+  pub low_before : choices_in (continuous (codes " LO B x 2\n SC B x 5\n")) ≡ open_between (integral 2) (integral 5)
+  pub low_behind : choices_in (continuous (codes " SC B x 5\n LO B x 2\n")) ≡ open_between (integral 2) (integral 5)
+  pub later_high : choices_in (continuous (codes " SC B x 5\n UP B x 7\n")) ≡ open_between zeroℚ (integral 7)
+  pub again : choices_in (continuous (codes " SC B x 5\n SC B x 3\n")) ≡ open_between zeroℚ (integral 3)
+  pub sides : sides_in (continuous (codes " LO B x 2\n SC B x 5\n")) ≡ behind_plain zeroℚ (integral 5)
+  -- the high bound falls below 0: the column is 0
+  pub falls :
+      choices_in (continuous (codes " LO B x 0\n SC B x 5\n UP B x -3\n"))
+      ≡ open_between (ratio (pos 0) 1) (ratio (negsuc 2) 1)
+  pub sides_fall :
+      sides_in (continuous (codes " LO B x 0\n SC B x 5\n UP B x -3\n")) ≡ behind_plain zeroℚ zeroℚ
+  -- faults at the record
+  pub zero_value : IsFaulty (continuous (codes " SC B x 0\n")) 9 21
+  pub negative_value : IsFaulty (continuous (codes " SC B x -1\n")) 9 21
+  pub no_bound : IsFaulty (continuous (codes " SC B x inf\n")) 9 21
+  pub far_value : IsFaulty (continuous (codes " SC B x 1e20\n")) 9 21
+  pub past_range : IsFaulty (continuous (codes " SC B x 1e400\n")) 9 21
+  pub fields_are_less : IsFaulty (continuous (codes " SC B x 0 0\n")) 9 4
+  pub number_is_less : IsFaulty (continuous (codes " SC B x y\n")) 9 5
+  pub fine_is_less : IsFaulty (continuous (codes " SC B x 1e-39\n")) 9 7
+  pub column_is_less : IsFaulty (continuous (codes " SC B y 0\n")) 9 9
+  pub other_set : IsFaulty (continuous (codes " UP B w 1\n SC x 0\n")) 11 17
+  pub whole_before : IsFaulty (continuous (codes " LI B x 1\n SC B x 5\n")) 10 21
+  pub whole_low : IsFaulty (continuous (codes " SC B x 5\n LI B x 1\n")) 10 21
+  pub whole_high : IsFaulty (continuous (codes " SC B x 5\n UI B x 5\n")) 10 21
+  pub binary : IsFaulty (continuous (codes " SC B x 5\n BV B x\n")) 10 21
+  pub other_column : IsFaulty (continuous (codes " SC B x 5\n BV B w\n")) 11 17
+  -- faults at ENDATA
+  pub low_removed : IsFaulty (continuous (codes " SC B x 5\n UP B x -3\nENDATA\n")) 11 21
+  pub no_low : IsFaulty (continuous (codes " SC B x 5\n MI B x\nENDATA\n")) 11 21
+  pub no_high : IsFaulty (continuous (codes " SC B x 5\n PL B x\nENDATA\n")) 11 21
+  pub free : IsFaulty (continuous (codes " SC B x 5\n FR B x\nENDATA\n")) 11 21
+  pub negative_low : IsFaulty (continuous (codes " LO B x -1\n SC B x 5\nENDATA\n")) 11 21
+  pub end_fields_are_less : IsFaulty (continuous (codes " SC B x 5\n PL B x\nENDATA x\n")) 11 4
 
 -- the sides of the rows of a text
 abbrev pub row_sides_in : List ℕ → List Sides

@@ -9,7 +9,7 @@ use Rattle.cip_number_text.specs.Numeral.{Numeral, Exact, value_of}
 use Rattle.cip_mps_rules.specs.MpsWords.{RowKind, Free, AtMost, AtLeast, EqualTo, number_in, is_zero, is_negative}
 use Rattle.cip_mps_rules.specs.MpsSayings.{Value}
 use Rattle.cip_mps_rules.specs.MpsFacts.{GivenRow, GivenColumn, Coefficient, Facts, column_names}
-use Rattle.cip_mps_rules.specs.MpsBounds.{all_bounds, column_sides}
+use Rattle.cip_mps_rules.specs.MpsBounds.{all_bounds, column_sides, choices_of}
 
 -- ---- look-ups
 
@@ -156,5 +156,5 @@ program_of facts = record {
   maximized = is_maximized facts;
   integral = map (λ b. b.whole) (all_bounds facts);
   bounds = map column_sides (all_bounds facts);
-  choices = [];
+  choices = choices_of (all_bounds facts);
 }

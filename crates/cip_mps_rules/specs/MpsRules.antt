@@ -4,14 +4,16 @@
 --     fault_of facts saying      the least kind that is broken
 use Rattle.std.specs.Prelude.{ℕ, ◌+◌, ◌==◌, nat_lt, nat_le, Bool, true, false, not, ◌&&◌, ◌||◌, if◌then◌else◌, List, [], ◌∷◌, ◌++◌, length, map, Option, None, Some, is_none}
 use Rattle.std.specs.List.{filter, list_any}
+use Rattle.std.specs.Option.{option_map}
 use Rattle.std.specs.Str.{bytes_eq}
 use Rattle.cip_rational.specs.Rational.{ℚ}
 use Rattle.cip_rational.specs.Range.{sum_overflows, difference_overflows}
 use Rattle.cip_problem.specs.Limits.{most_rows, most_columns, longest_name, most_entries}
 use Rattle.cip_number_text.specs.Numeral.{Numeral}
-use Rattle.cip_mps_rules.specs.MpsWords.{Part, Title, Sense, Rows, Columns, End, RowKind, BoundKind, Low, High, Fixed, WholeLow, WholeHigh, SemiContinuous, rank, part_number, is_in, number_in, is_zero, is_negative, is_no_number, is_huge, is_too_fine, sense_of}
+use Rattle.cip_mps_rules.specs.MpsWords.{Part, Title, Sense, Rows, Columns, End, RowKind, BoundKind, Low, High, Fixed, WholeLow, WholeHigh, SemiContinuous, rank, part_number, is_in, number_in, is_zero, is_negative, is_positive, is_no_number, is_huge, is_too_fine, sense_of}
 use Rattle.cip_mps_rules.specs.MpsSayings.{Value, Saying, UnknownSection, Opens, Misplaced, Miscounted, RowLine, ColumnLine, BadMarker, RightSideLine, RangeLine, BoundLine, BadBound}
-use Rattle.cip_mps_rules.specs.MpsFacts.{GivenRow, Coefficient, Facts, row_names, column_names, coefficients_in, right_sides_in, ranges_in, sense_words_in}
+use Rattle.cip_mps_rules.specs.MpsFacts.{GivenRow, GivenColumn, Coefficient, Facts, row_names, column_names, coefficients_in, right_sides_in, ranges_in, sense_words_in}
+use Rattle.cip_mps_rules.specs.MpsBounds.{Bounded, with_bound, bounds_so_far, all_bounds, lacks_sides, is_mixed}
 use Rattle.cip_mps_rules.specs.MpsProgram.{is_free, constraints, moves_low, unsigned, number, right_side, first_value}
 
 -- a kind of fault, and whether its rule is broken
@@ -241,24 +243,34 @@ abbrev pub has_bad_sense : Saying → Bool
 has_bad_sense now = list_any (λ word. is_none (sense_of word)) (sense_words_in now)
 
 -- a value that is no bound, on a side on which it can't be left out: a low side is left out downwards, a high side
--- upwards, and a fixed one not at all
+-- upwards, and a fixed one not at all; the high side of a semi-continuous column must be above 0
 abbrev pub is_no_bound : BoundKind → Numeral → Bool
 is_no_bound Low value = is_huge value && not (is_negative value)
 is_no_bound WholeLow value = is_huge value && not (is_negative value)
 is_no_bound High value = is_huge value && is_negative value
 is_no_bound WholeHigh value = is_huge value && is_negative value
 is_no_bound Fixed value = is_huge value
+is_no_bound SemiContinuous value = not (is_positive value)
 is_no_bound other value = false
 
--- a bound of type SC
-abbrev pub is_semicontinuous : BoundKind → Bool
-is_semicontinuous SemiContinuous = true
-is_semicontinuous other = false
+-- the column of a name, if it was given
+abbrev pub column_in : List GivenColumn → List ℕ → Option GivenColumn
+column_in [] name = None
+column_in (column ∷ columns) name = if bytes_eq name column.name then Some column else column_in columns name
 
--- a bound that isn't in the profile
-abbrev pub has_bad_bound : Saying → Bool
-has_bad_bound (BoundLine kind set_name column value) = is_semicontinuous kind || is_no_bound kind value
-has_bad_bound other = false
+-- a bound record makes a column with these bounds both whole and semi-continuous
+abbrev pub is_mixed_by : BoundKind → Numeral → Option Bounded → Bool
+is_mixed_by kind value None = false
+is_mixed_by kind value (Some b) = is_mixed (with_bound b kind value)
+
+-- what isn't in the profile: a value that is no bound, or a column that a bound record makes both whole and
+-- semi-continuous; at ENDATA a semi-continuous column without its bounds; and a sense that isn't one of the four
+abbrev pub is_out_of_profile : Facts → Saying → Bool
+is_out_of_profile facts (BoundLine kind set_name column value) =
+    is_no_bound kind value
+    || is_mixed_by kind value (option_map (bounds_so_far facts) (column_in facts.columns column))
+is_out_of_profile facts (Opens End words) = list_any lacks_sides (all_bounds facts)
+is_out_of_profile facts other = has_bad_sense other
 
 -- ---- the list of rules
 
@@ -288,7 +300,7 @@ rules facts now =
     ∷ rule 18 (is_too_many (length (constraints facts)) (column_names facts) (entry_count facts.coefficients) now)
     ∷ rule 19 (has_long_name now)
     ∷ rule 20 (ranges_free_row facts.rows now)
-    ∷ rule 21 (has_bad_sense now || has_bad_bound now)
+    ∷ rule 21 (is_out_of_profile facts now)
     ∷ []
 
 -- the least kind whose rule is broken

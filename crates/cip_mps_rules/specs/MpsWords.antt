@@ -1,6 +1,6 @@
 -- The words of free MPS: sections, senses, types of rows and bounds, markers, numbers and names.
 use lib.Chars.{codes}
-use Rattle.std.specs.Prelude.{ℕ, suc, ◌*◌, ◌^◌, nat_le, Bool, true, false, if◌then◌else◌, List, [], ◌∷◌, Option, None, Some, is_some}
+use Rattle.std.specs.Prelude.{ℕ, suc, ◌*◌, ◌^◌, nat_le, Bool, true, false, not, ◌&&◌, if◌then◌else◌, List, [], ◌∷◌, Option, None, Some, is_some}
 use Rattle.std.specs.Str.{bytes_eq, str_to_ascii_lowercase}
 use Rattle.cip_number_text.specs.Numeral.{Numeral, Exact, NotANumber, Huge, TooFine, is_minus, without_sign, numeral_of}
 
@@ -171,6 +171,11 @@ abbrev pub is_negative : Numeral → Bool
 is_negative (Exact negative size below) = negative
 is_negative (Huge negative) = negative
 is_negative other = false
+
+-- a number is above 0, and has a value
+abbrev pub is_positive : Numeral → Bool
+is_positive (Exact negative size below) = not negative && not (nat_le size 0)
+is_positive other = false
 
 -- a text that says no number
 abbrev pub is_no_number : Numeral → Bool

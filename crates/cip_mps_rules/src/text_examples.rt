@@ -1,7 +1,7 @@
 //! Examples of texts, by computation.
 // Each function here does nothing. Its contract is a record of examples, so that the check computes them.
 
-ghost use Rattle.cip_mps_rules.specs.MpsExamples.{TextsHavePrograms, EachKindIsFound, SectionsAreRead, ColumnsAreRead, BoundsAreRead, SidesAreRead};
+ghost use Rattle.cip_mps_rules.specs.MpsExamples.{TextsHavePrograms, EachKindIsFound, SectionsAreRead, ColumnsAreRead, BoundsAreRead, SemisAreRead, SidesAreRead};
 
 /// Two texts have the programs that were written out for them, one of them with much that a text may have.
 pub fn texts_have_programs()
@@ -27,6 +27,12 @@ pub fn columns_are_read()
 /// Each type of bound gives a column the sides that were worked out by hand, and bounds that are none are refused.
 pub fn bounds_are_read()
     ensures { BoundsAreRead }
+{}
+
+/// A bound of type SC makes a column semi-continuous, with its own sides and those of an open choice; values that
+/// aren't above 0, columns that would be whole too, and at ENDATA columns without their bounds are refused.
+pub fn semis_are_read()
+    ensures { SemisAreRead }
 {}
 
 /// Each type of row gets the sides that were worked out by hand, by its values in RHS and RANGES.

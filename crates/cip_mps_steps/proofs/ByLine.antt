@@ -1,7 +1,6 @@
 -- The tests of a kind of line, without the rules that it can't break.
 use Rattle.std.specs.Prelude.{nat_lt, nat_le, is_none}
 use Rattle.cip_problem.specs.Limits.{most_rows, longest_name}
-use Rattle.cip_mps_rules.specs.MpsFacts.{sense_words_in}
 use Rattle.cip_mps_rules.specs.MpsProgram.{is_free}
 use Rattle.std.proofs.Common.{◌≡◌, ℕ, ◌+◌, Bool, true, false, not, length, ◌&&◌, ◌||◌, cond, List, [], ◌∷◌, Option, None, Some, refl, sym, ap, ◌∙◌, arith}
 use Rattle.std.specs.Str.{bytes_eq}
@@ -10,8 +9,8 @@ use Rattle.cip_problem.specs.Names.{number_of}
 use Rattle.cip_number_text.specs.Numeral.{Numeral}
 use Rattle.cip_mps_rules.specs.MpsWords.{Part, NoPart, Title, Sense, Rows, Columns, RightSides, Ranges, Bounds, End, RowKind, BoundKind, next, number_in, is_in, is_no_number, is_too_fine, sense_of}
 use Rattle.cip_mps_rules.specs.MpsSayings.{Value, Opens, SenseLine, RowLine, ColumnLine, BoundLine}
-use Rattle.cip_mps_rules.specs.MpsRules.{Rule, rule, least, is_end, stands_behind, has_many_words, has_twins, is_before_last, is_semicontinuous, is_no_bound}
-use Rattle.cip_mps_steps.specs.MpsState.{State, row_at}
+use Rattle.cip_mps_rules.specs.MpsRules.{Rule, rule, least, is_end, has_twins, is_before_last, is_no_bound, is_mixed_by}
+use Rattle.cip_mps_steps.specs.MpsState.{State, row_at, column_at}
 use Rattle.cip_mps_steps.specs.MpsSteps.{holds, tests}
 use Rattle.cip_mps_steps.specs.MpsLineTests.{opening_tests, end_tests, sense_tests, row_tests, column_tests, bound_tests, numbers_of, has_huge, has_unknown, is_full}
 
@@ -23,9 +22,7 @@ pub opens : (state : State) (part : Part) (words : List (List ℕ)) → is_end (
 opens state End words e = absurd (cc)
 opens state NoPart words e = refl
 opens state Title words e = refl
-opens state Sense words e =
-    ap (λ t. least (rule 2 (list_any (stands_behind Sense) state.opened) ∷ rule 4 (has_many_words Sense words) ∷ rule 21 t ∷ []))
-    (or_nothing (list_any (λ word. is_none (sense_of word)) (sense_words_in (Opens Sense words))))
+opens state Sense words e = refl
 opens state Rows words e = refl
 opens state Columns words e = refl
 opens state RightSides words e = refl
@@ -36,7 +33,7 @@ pub ends : (state : State) (words : List (List ℕ)) → least (tests state (Ope
 ends state words = refl
 
 pub sense : (state : State) (word : List ℕ) → least (tests state (SenseLine word)) ≡ least (sense_tests word)
-sense state word = ap (λ t. least (rule 21 t ∷ [])) (or_nothing (is_none (sense_of word) || false) ∙ or_nothing (is_none (sense_of word)))
+sense state word = ap (λ t. least (rule 21 t ∷ [])) (or_nothing (is_none (sense_of word)))
 
 pub row : (state : State) (kind : RowKind) (name : List ℕ) → least (tests state (RowLine (Some kind) name)) ≡ least (row_tests state kind name)
 row state kind name =
@@ -63,7 +60,7 @@ pub bound : (state : State) (kind : BoundKind) (set_name name : List ℕ) (value
 bound state kind set_name name value =
     let e = or_nothing (is_no_number value) in
     let d = or_nothing (is_too_fine value) in
-    λ i. least (rule 5 (e i) ∷ rule 7 (d i) ∷ rule 9 (not (is_in state.column_names name)) ∷ rule 21 (is_semicontinuous kind || is_no_bound kind value) ∷ [])
+    λ i. least (rule 5 (e i) ∷ rule 7 (d i) ∷ rule 9 (not (is_in state.column_names name)) ∷ rule 21 (is_no_bound kind value || is_mixed_by kind value (column_at state name)) ∷ [])
 
 -- ---- numbers of names
 

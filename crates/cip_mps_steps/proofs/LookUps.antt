@@ -5,8 +5,9 @@ use Rattle.std.specs.Str.{bytes_eq}
 use Rattle.std.specs.Option.{option_map}
 use Rattle.std.specs.List.{AllByRecursion}
 use Rattle.cip_mps_rules.specs.MpsWords.{next, number_in, is_in}
-use Rattle.cip_mps_rules.specs.MpsFacts.{GivenRow}
-use Rattle.cip_mps_rules.specs.MpsRules.{row_in}
+use Rattle.cip_mps_rules.specs.MpsFacts.{GivenRow, GivenColumn}
+use Rattle.cip_mps_rules.specs.MpsBounds.{Bounded, unbounded}
+use Rattle.cip_mps_rules.specs.MpsRules.{row_in, column_in}
 use Rattle.cip_mps_rules.proofs.Quiet.{left_false, right_false, or_false}
 use Rattle.cip_mps_rules.proofs.MpsNames.{bytes_same, bytes_self, bytes_flip}
 use Rattle.cip_mps_steps.specs.MpsState.{RowRead, no_row, item_at}
@@ -134,6 +135,18 @@ row_in_none (r ∷ rs) name e = go (bytes_eq name r.name) refl e (row_in_none rs
     go : (b : Bool) → bytes_eq name r.name ≡ b → cond b (Some r) (row_in rs name) ≡ None → (row_in rs name ≡ None → is_in (map (λ row. row.name) rs) name ≡ false) → is_in (r.name ∷ map (λ row. row.name) rs) name ≡ false
     go true p e h = absurd (cc)
     go false p e h = is_in-cons r.name (map (λ row. row.name) rs) name ∙ or_false _ _ p (h e)
+
+-- ---- columns
+
+-- the bounds of the column of a name, by its number
+pub column_by_number : (g : GivenColumn → Bounded) (columns : List GivenColumn) (name : List ℕ) → item_at (unbounded false) (map g columns) (number_in (map (λ column. column.name) columns) name) ≡ option_map g (column_in columns name)
+column_by_number g [] name = refl
+column_by_number g (c ∷ cs) name = go (bytes_eq name c.name) (column_by_number g cs name)
+  where
+    go : (b : Bool) → item_at (unbounded false) (map g cs) (number_in (map (λ column. column.name) cs) name) ≡ option_map g (column_in cs name)
+        → item_at (unbounded false) (g c ∷ map g cs) (cond b (Some 0) (next (number_in (map (λ column. column.name) cs) name))) ≡ option_map g (cond b (Some c) (column_in cs name))
+    go true h = refl
+    go false h = shift_item (unbounded false) (g c) (map g cs) (number_in (map (λ column. column.name) cs) name) ∙ h
 
 -- ---- writes
 

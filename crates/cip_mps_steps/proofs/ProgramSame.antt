@@ -12,12 +12,12 @@ use Rattle.cip_number_text.specs.Numeral.{Numeral}
 use Rattle.cip_mps_rules.specs.MpsWords.{RowKind, next, is_in, number_in}
 use Rattle.cip_mps_rules.specs.MpsSayings.{LinePlace}
 use Rattle.cip_mps_rules.specs.MpsFacts.{GivenRow, GivenColumn, Coefficient, Facts, row_names, names_of, column_names}
-use Rattle.cip_mps_rules.specs.MpsBounds.{settled, all_bounds, column_sides}
+use Rattle.cip_mps_rules.specs.MpsBounds.{settled, bounds_so_far, all_bounds, column_sides, choices_of}
 use Rattle.cip_mps_rules.specs.MpsProgram.{number, number_or_zero, first_value, number_at, coefficient, is_free, has_sides, term_on, terms_of, ranged, sides_of, right_side, row_sides, row_with, row_of, first_or, objective, minimized, cost_of_column, program_of}
 use Rattle.cip_mps_rules.specs.MpsRules.{kinds_of}
 use Rattle.cip_mps_rules.proofs.Quiet.{left_false, right_false}
 use Rattle.cip_mps_rules.proofs.MpsNames.{bytes_same, bytes_other, bytes_flip, bytes_self, number_same}
-use Rattle.cip_mps_steps.specs.MpsState.{Held, held_on, held_of, value_for, row_read, bounds_so_far, first_of, state_of, is_zero_value, sides_with, right_side_of, terms_from, finished_row, is_kept, kept_names, objective_row, held_value, minimized_by, costs_from, program_from}
+use Rattle.cip_mps_steps.specs.MpsState.{Held, held_on, held_of, value_for, row_read, first_of, state_of, is_zero_value, sides_with, right_side_of, terms_from, finished_row, is_kept, kept_names, objective_row, held_value, minimized_by, costs_from, program_from}
 use Rattle.cip_mps_steps.proofs.Told.{IsTold, is_zero_is, absolute_is}
 use Rattle.cip_mps_steps.proofs.LookUps.{AreApart, is_in-cons, is_in-append, none_number}
 use Rattle.cip_mps_steps.proofs.Good.{Good, IsKnown}
@@ -172,7 +172,7 @@ costs_same facts row o g done (c ∷ rest) e =
 -- ---- the program
 
 same_program : (p q : Program) → p.column_names ≡ q.column_names → p.row_names ≡ q.row_names → p.rows ≡ q.rows → p.costs ≡ q.costs → p.constant ≡ q.constant → p.maximized ≡ q.maximized → p.integral ≡ q.integral → p.bounds ≡ q.bounds → p.choices ≡ q.choices → p ≡ q
-same_program p q a b c d e f g h j = λ i. record {
+same_program p q a b c d e f g h k = λ i. record {
   column_names = a i;
   row_names = b i;
   rows = c i;
@@ -181,7 +181,7 @@ same_program p q a b c d e f g h j = λ i. record {
   maximized = f i;
   integral = g i;
   bounds = h i;
-  choices = j i;
+  choices = k i;
 }
 
 pub program_is : (place : LinePlace) (facts : Facts) → Good facts → list_any is_free (kinds_of facts) ≡ true → program_from (state_of place facts) ≡ program_of facts
@@ -193,4 +193,4 @@ program_is place facts g free =
     same_program (program_from (state_of place facts)) (program_of facts) refl (names_same facts facts.rows) (rows_same facts facts.rows g)
     (ap (λ hs. costs_from (first_of facts.senses) hs 0 (length (column_names facts))) held ∙ costs_same facts o.row o.is_name g [] facts.columns refl)
     (ap (λ r. minimized_by (first_of facts.senses) (negate r)) right ∙ minimized_same facts (negate (right_side facts.right_sides (objective facts))))
-    (sense_same facts.senses) (ap (map (λ b. b.whole)) bounds) (ap (map column_sides) bounds) refl
+    (sense_same facts.senses) (ap (map (λ b. b.whole)) bounds) (ap (map column_sides) bounds) (ap choices_of bounds)

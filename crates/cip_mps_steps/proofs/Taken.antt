@@ -11,12 +11,12 @@ use Rattle.cip_number_text.specs.Numeral.{Numeral}
 use Rattle.cip_mps_rules.specs.MpsWords.{RowKind, BoundKind, is_in, number_in}
 use Rattle.cip_mps_rules.specs.MpsSayings.{LinePlace, Value, Saying, RowLine, ColumnLine, RightSideLine, RangeLine, BoundLine, place_after}
 use Rattle.cip_mps_rules.specs.MpsFacts.{GivenRow, GivenColumn, Coefficient, GivenBound, Facts, facts_with, row_names, names_of, column_names, senses_in, coefficients_in, with_columns}
-use Rattle.cip_mps_rules.specs.MpsBounds.{Bounded, unbounded, with_bound, bounded_by}
+use Rattle.cip_mps_rules.specs.MpsBounds.{Bounded, unbounded, with_bound, bounded_by, bounds_so_far}
 use Rattle.cip_mps_rules.specs.MpsProgram.{number, first_value, is_free, has_sides, constraints}
 use Rattle.cip_mps_rules.specs.MpsRules.{entry_count}
 use Rattle.cip_mps_rules.proofs.Quiet.{Keeps}
 use Rattle.cip_mps_rules.proofs.MpsNames.{same_bytes, bytes_flip, other_bytes}
-use Rattle.cip_mps_steps.specs.MpsState.{RowRead, State, no_row, held_on, held_of, value_for, row_read, bounds_so_far, first_of, state_of}
+use Rattle.cip_mps_steps.specs.MpsState.{RowRead, State, no_row, held_on, held_of, value_for, row_read, first_of, state_of}
 use Rattle.cip_mps_steps.specs.MpsSteps.{or_else, changed, with_held, with_right_side, with_range, put_values, new_row, with_name, with_column, number_or_next, taken}
 use Rattle.cip_mps_steps.proofs.LookUps.{AreApart, number_in-left, number_in-push, number_some, number_none, changed_map}
 use Rattle.std.specs.Option.{option_map}

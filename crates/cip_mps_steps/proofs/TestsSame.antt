@@ -11,17 +11,18 @@ use Rattle.cip_rational.specs.Rational.{ℚ, zeroℚ, absolute}
 use Rattle.cip_rational.specs.Range.{sum_overflows, difference_overflows}
 use Rattle.cip_number_text.specs.Numeral.{Numeral}
 use Rattle.cip_number_text.proofs.InRange.{IsSound}
-use Rattle.cip_mps_rules.specs.MpsWords.{RowKind, Free, AtMost, AtLeast, EqualTo, is_in, number_in, is_huge}
-use Rattle.cip_mps_rules.specs.MpsSayings.{LinePlace, Value, Saying, ColumnLine, RightSideLine, RangeLine}
+use Rattle.cip_mps_rules.specs.MpsWords.{End, RowKind, Free, AtMost, AtLeast, EqualTo, is_in, number_in, is_huge}
+use Rattle.cip_mps_rules.specs.MpsSayings.{LinePlace, Value, Saying, Opens, ColumnLine, RightSideLine, RangeLine, BoundLine}
 use Rattle.cip_mps_rules.specs.MpsFacts.{GivenRow, Coefficient, Facts, row_names, column_names}
+use Rattle.cip_mps_rules.specs.MpsBounds.{bounds_so_far, settled, lacks_sides}
 use Rattle.cip_mps_rules.specs.MpsProgram.{number, number_or_zero, first_value, right_side, moves_low, unsigned, is_free}
-use Rattle.cip_mps_rules.specs.MpsRules.{Rule, rule, least, rules, fault_of, row_in, side_overflows, row_overflows, has_wide_row, has_wide_side, has_huge_value, has_twins, has_coefficient, has_value_for, repeats_value, ranges_free_row, is_free_row, lacks_objective, values_in}
+use Rattle.cip_mps_rules.specs.MpsRules.{Rule, rule, least, rules, fault_of, row_in, side_overflows, row_overflows, has_wide_row, has_wide_side, has_huge_value, has_twins, has_coefficient, has_value_for, repeats_value, ranges_free_row, is_free_row, lacks_objective, values_in, is_no_bound, is_mixed_by, is_out_of_profile}
 use Rattle.cip_mps_rules.proofs.Quiet.{left_false, right_false, or_false}
 use Rattle.cip_mps_rules.proofs.MpsNames.{same_bytes, other_bytes, number_same}
 use Rattle.cip_mps_steps.specs.MpsState.{held_on, held_of, value_for, row_read, state_of, row_at, moves_low_side}
-use Rattle.cip_mps_steps.specs.MpsSteps.{or_else, moved_overflows, overflows_with, has_wide_side_now, holds, has_right_side, has_range, repeats_value_now, is_free_at, ranges_free_row_now, tests}
+use Rattle.cip_mps_steps.specs.MpsSteps.{or_else, moved_overflows, overflows_with, has_wide_side_now, holds, has_right_side, has_range, repeats_value_now, is_free_at, ranges_free_row_now, is_out_of_profile_now, tests}
 use Rattle.cip_mps_steps.proofs.Told.{IsTold, AreSound, told_sound, told_near, is_negative_is, absolute_is}
-use Rattle.cip_mps_steps.proofs.LookUps.{all_append, all_weaker, none_number, row_by_number, row_in_name, row_in_none}
+use Rattle.cip_mps_steps.proofs.LookUps.{all_append, all_weaker, none_number, row_by_number, column_by_number, row_in_name, row_in_none}
 use Rattle.cip_mps_steps.proofs.Good.{Good, IsKnown}
 
 -- ---- lists of rules
@@ -265,6 +266,12 @@ pub map_twice : {X Y Z : Type 0} (f : Y → Z) (g : X → Y) (xs : List X) → m
 map_twice f g [] = refl
 map_twice f g (x ∷ xs) = ap (λ ys. f (g x) ∷ ys) (map_twice f g xs)
 
+profile_is : (place : LinePlace) (facts : Facts) (now : Saying) → is_out_of_profile_now (state_of place facts) now ≡ is_out_of_profile facts now
+profile_is place facts (BoundLine kind set_name column value) =
+    ap (λ b. is_no_bound kind value || is_mixed_by kind value b) (column_by_number (bounds_so_far facts) facts.columns column)
+profile_is place facts (Opens End words) = ap (list_any lacks_sides) (map_twice settled (bounds_so_far facts) facts.columns)
+profile_is place facts other = refl
+
 pub tests_same : (place : LinePlace) (facts : Facts) (now : Saying) → Good facts → AreSound (values_in now) → least (tests (state_of place facts) now) ≡ fault_of facts now
 tests_same place facts now g s = all.same
   where
@@ -274,5 +281,5 @@ tests_same place facts now g s = all.same
         chain (six_is place facts now g s) (λ _. chain refl (λ _. chain refl (λ _. chain refl (λ _. chain refl (λ _.
         chain (eleven_is place facts now g) (λ _. chain refl (λ _. chain refl (λ _. chain refl (λ _. chain refl (λ _.
         chain (ap (λ kinds. lacks_objective kinds now) (map_twice (λ row. row.kind) (row_read facts) facts.rows)) (λ _.
-        chain refl (λ _. chain refl (λ _. chain (twenty_is place facts now) (λ _. chain refl (λ _.
-        record { same = refl }))))))))))))))))))))
+        chain refl (λ _. chain refl (λ _. chain (twenty_is place facts now) (λ _.
+        chain (profile_is place facts now) (λ _. record { same = refl }))))))))))))))))))))

@@ -9,17 +9,17 @@ use Rattle.std.specs.List.{AllByRecursion, list_any}
 use Rattle.std.proofs.Math.Dec.{leb-suc-zero}
 use Rattle.std.proofs.lemmas.Int.{ints}
 use Rattle.std.proofs.lemmas.Bool.{cond_both, leb-true, leb-false, false_from_ne_true}
-use Rattle.cip_mps_steps.specs.MpsStepStatements.{is_far_value}
+use Rattle.cip_mps_steps.specs.MpsStepStatements.{is_far_value, is_positive_value}
 use Rattle.cip_rational.specs.Rational.{ℚ, zeroℚ, ratio, lt_test, absolute, ◌≤ℚ◌, ◌<ℚ◌, integer, le_test}
 use Rattle.cip_rational.proofs.Rational.Ratio.{ratio_same, integer_ratio, ratio-negate, ratio-lt, ratio-le, le-ratio}
-use Rattle.cip_rational.proofs.Rational.Order.{≤ℚ_refl, test_of_lt, lt_test_of_le, test_of_le, le_of_test}
+use Rattle.cip_rational.proofs.Rational.Order.{≤ℚ_refl, ≤ℚ_of_lt, test_of_lt, lt_test_of_le, test_of_le, le_of_test}
 use Rattle.cip_rational.proofs.Rational.Extremes.{absolute_nonneg, absolute_negative}
 use Rattle.cip_rational.proofs.Rational.Rounding.{integer-zero}
 use Rattle.cip_number_text.specs.Numeral.{Numeral, numeral_of, Exact, NotANumber, Huge, TooFine, signed, value_of}
 use Rattle.cip_number_text.specs.NumeralStatements.{IsInRange}
 use Rattle.cip_number_text.proofs.InRange.{IsSound, sound_numeral}
 use Rattle.cip_syntax.specs.Lines.{Record, Section, Entry}
-use Rattle.cip_mps_rules.specs.MpsWords.{Part, NoPart, Title, Sense, Rows, Columns, RightSides, Ranges, Bounds, End, BoundKind, section_of, marker_of, bound_kind_of, has_value, bound_number, is_zero, is_negative, is_no_number, is_huge, is_too_fine, near_or_huge}
+use Rattle.cip_mps_rules.specs.MpsWords.{Part, NoPart, Title, Sense, Rows, Columns, RightSides, Ranges, Bounds, End, BoundKind, section_of, marker_of, bound_kind_of, has_value, bound_number, is_zero, is_negative, is_positive, is_no_number, is_huge, is_too_fine, near_or_huge}
 use Rattle.cip_mps_rules.specs.MpsSayings.{Value, Saying, Skipped, Misplaced, ColumnLine, RightSideLine, RangeLine, BoundLine, no_value, LinePlace, opening, section_said, sense_said, row_said, one_value, two_values, is_marker, marker_said, column_said, of_set, right_side_said, range_said, valued_bound, plain_bound, typed_bound, bound_said, fields_said, said}
 use Rattle.cip_mps_rules.specs.MpsProgram.{number, unsigned}
 use Rattle.cip_mps_rules.specs.MpsRules.{values_in}
@@ -303,5 +303,24 @@ value_bound_negative text value e =
     ∙ exact_negative v.negative v.size v.below v.in_range ∙ ap is_negative_value v.is_value
   where
     go : (n : Bool) (s b : ℕ) (t : Bool) → is_negative (cond t (Huge n) (Exact n s b)) ≡ n
+    go n s b true = refl
+    go n s b false = refl
+
+-- a value above 0
+exact_positive : (n : Bool) (s b : ℕ) → IsInRange n s b → (not n && not (leb s 0)) ≡ is_positive_value (ratio (signed n s) b)
+exact_positive true zero b r = let e : true ≡ false = r.zero_unsigned refl in absurd (cc)
+exact_positive false zero b r = rw (ratio_zero b r.positive, zero_not_below)
+exact_positive false (suc m) b r = rw (test_of_lt (above_zero m b r.positive)) (ap not (leb-suc-zero m))
+exact_positive true (suc m) b r = sym (lt_test_of_le (≤ℚ_of_lt (below_zero m b r.positive)))
+
+pub value_bound_positive : (text : List ℕ) (value : ℚ) → value_of (numeral_of text) ≡ Some value → is_positive (near_or_huge (numeral_of text)) ≡ (not (is_far_value value) && is_positive_value value)
+value_bound_positive text value e =
+    let v = has_value_of (numeral_of text) (sound_numeral text) value e in
+    let f = far_value v.negative v.size v.below value v.in_range v.is_value in
+    let p = exact_positive v.negative v.size v.below v.in_range ∙ ap is_positive_value v.is_value in
+    ap (λ n. is_positive (near_or_huge n)) v.is ∙ go v.negative v.size v.below (nat_le (10 ^ 20 * v.below) v.size)
+    ∙ (λ i. not (f i) && p i)
+  where
+    go : (n : Bool) (s b : ℕ) (t : Bool) → is_positive (cond t (Huge n) (Exact n s b)) ≡ (not t && (not n && not (leb s 0)))
     go n s b true = refl
     go n s b false = refl

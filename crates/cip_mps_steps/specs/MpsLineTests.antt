@@ -6,9 +6,10 @@ use Rattle.cip_number_text.specs.Numeral.{Numeral}
 use Rattle.cip_mps_rules.specs.MpsWords.{Part, Rows, Columns, End, RowKind, BoundKind, number_in, is_in, is_no_number, is_huge, is_too_fine, sense_of}
 use Rattle.cip_mps_rules.specs.MpsSayings.{Value, Opens, ColumnLine}
 use Rattle.cip_mps_rules.specs.MpsFacts.{coefficients_in, sense_words_in}
+use Rattle.cip_mps_rules.specs.MpsBounds.{settled, lacks_sides}
 use Rattle.cip_mps_rules.specs.MpsProgram.{is_free}
-use Rattle.cip_mps_rules.specs.MpsRules.{Rule, rule, stands_behind, is_opened, has_many_words, has_twins, is_before_last, is_no_bound, is_semicontinuous, entry_count}
-use Rattle.cip_mps_steps.specs.MpsState.{State, row_at, value_for}
+use Rattle.cip_mps_rules.specs.MpsRules.{Rule, rule, stands_behind, is_opened, has_many_words, has_twins, is_before_last, is_no_bound, is_mixed_by, entry_count}
+use Rattle.cip_mps_steps.specs.MpsState.{State, row_at, column_at, value_for}
 use Rattle.cip_mps_steps.specs.MpsSteps.{overflows_with, holds, has_right_side, has_range, is_free_at}
 
 -- ---- section lines
@@ -28,6 +29,7 @@ end_tests state words =
     ∷ rule 3 (not (is_opened state.opened Rows && is_opened state.opened Columns))
     ∷ rule 4 (nat_lt 0 (length words))
     ∷ rule 16 (not (list_any is_free (map (λ row. row.kind) state.rows)))
+    ∷ rule 21 (list_any lacks_sides (map settled state.columns))
     ∷ []
 
 -- ---- lines of OBJSENSE and ROWS
@@ -110,5 +112,5 @@ bound_tests state kind column value =
     rule 5 (is_no_number value)
     ∷ rule 7 (is_too_fine value)
     ∷ rule 9 (not (is_in state.column_names column))
-    ∷ rule 21 (is_semicontinuous kind || is_no_bound kind value)
+    ∷ rule 21 (is_no_bound kind value || is_mixed_by kind value (column_at state column))
     ∷ []

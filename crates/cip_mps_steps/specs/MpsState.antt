@@ -1,9 +1,9 @@
 -- What a reader of free MPS keeps of the lines that it has read: names have become numbers, and each row has its own
 -- numbers. Values are rationals, since a line without fault has no other numbers.
 --     state_of place facts      the state that stands for the facts
---     row_at state name      the row of a name
+--     row_at, column_at state name      the row and the bounds of the column of a name
 --     program_from state      the program of the state
-use Rattle.std.specs.Prelude.{ℕ, zero, suc, ◌+◌, ◌==◌, Bool, true, false, not, ◌&&◌, if◌then◌else◌, List, [], ◌∷◌, ◌++◌, length, map, Option, None, Some, fold, unwrap_or, slice_index_or}
+use Rattle.std.specs.Prelude.{ℕ, zero, suc, ◌+◌, ◌==◌, Bool, true, false, not, ◌&&◌, if◌then◌else◌, List, [], ◌∷◌, ◌++◌, length, map, Option, None, Some, unwrap_or, slice_index_or}
 use Rattle.std.specs.List.{filter}
 use Rattle.std.specs.Option.{option_map}
 use Rattle.std.specs.Str.{bytes_eq}
@@ -11,8 +11,8 @@ use Rattle.cip_rational.specs.Rational.{ℚ, zeroℚ, lt_test, absolute, negate}
 use Rattle.cip_problem.specs.Program.{Term, Sides, Row, Program}
 use Rattle.cip_mps_rules.specs.MpsWords.{Part, RowKind, Free, AtMost, AtLeast, EqualTo, number_in}
 use Rattle.cip_mps_rules.specs.MpsSayings.{LinePlace, Value}
-use Rattle.cip_mps_rules.specs.MpsFacts.{GivenRow, GivenColumn, Coefficient, Facts, row_names, column_names}
-use Rattle.cip_mps_rules.specs.MpsBounds.{Bounded, unbounded, bounded_by, settled, column_sides}
+use Rattle.cip_mps_rules.specs.MpsFacts.{GivenRow, Coefficient, Facts, row_names, column_names}
+use Rattle.cip_mps_rules.specs.MpsBounds.{Bounded, unbounded, bounds_so_far, settled, column_sides, choices_of}
 use Rattle.cip_mps_rules.specs.MpsProgram.{number, first_value, is_free, constraints, plain_sides, ranged, row_with}
 use Rattle.cip_mps_rules.specs.MpsRules.{entry_count}
 
@@ -70,10 +70,6 @@ row_read facts row = record {
   range = value_for facts.ranges row.name;
 }
 
--- the bounds of a column so far
-abbrev pub bounds_so_far : Facts → GivenColumn → Bounded
-bounds_so_far facts column = fold (bounded_by column.name) (unbounded column.whole) facts.bounds
-
 -- the first of a list, if there is one
 abbrev pub first_of : {X : Type 0} → List X → Option X
 first_of [] = None
@@ -107,6 +103,10 @@ item_at default items (Some k) = Some (slice_index_or items k default)
 -- the row of a name
 abbrev pub row_at : State → List ℕ → Option RowRead
 row_at state name = item_at no_row state.rows (number_in state.row_names name)
+
+-- the bounds of the column of a name, as far as they were read
+abbrev pub column_at : State → List ℕ → Option Bounded
+column_at state name = item_at (unbounded false) state.columns (number_in state.column_names name)
 
 -- ---- the program
 
@@ -186,5 +186,5 @@ program_from state = record {
   maximized = unwrap_or state.sense false;
   integral = map (λ b. b.whole) (map settled state.columns);
   bounds = map column_sides (map settled state.columns);
-  choices = [];
+  choices = choices_of (map settled state.columns);
 }

@@ -1,12 +1,12 @@
 -- The laws of the steps, each as one statement: functions of `src/lib.rt` have them as contracts.
-use Rattle.std.specs.Prelude.{◌≡◌, ℕ, Bool, true, false, List, [], ◌∷◌, None, Some, All, ◌^◌, pos, if◌then◌else◌}
-use Rattle.cip_rational.specs.Rational.{ℚ, integer, le_test, absolute}
+use Rattle.std.specs.Prelude.{◌≡◌, ℕ, Bool, true, false, not, ◌&&◌, List, [], ◌∷◌, None, Some, All, ◌^◌, pos, if◌then◌else◌}
+use Rattle.cip_rational.specs.Rational.{ℚ, zeroℚ, integer, lt_test, le_test, absolute}
 use Rattle.cip_problem.specs.Names.{number_of}
 use Rattle.cip_problem.specs.Program.{Program}
 use Rattle.cip_problem.specs.RowTerms.{AreTerms}
 use Rattle.cip_number_text.specs.Numeral.{Numeral, value_of, numeral_of}
 use Rattle.cip_line_texts.specs.LineStream.{TextsAreRead, FaultsOfEndedLines, FaultsStay}
-use Rattle.cip_mps_rules.specs.MpsWords.{Part, End, RowKind, BoundKind, number_in, is_in, is_zero, is_negative, is_huge, near_or_huge}
+use Rattle.cip_mps_rules.specs.MpsWords.{Part, End, RowKind, BoundKind, number_in, is_in, is_zero, is_negative, is_positive, is_huge, near_or_huge}
 use Rattle.cip_mps_rules.specs.MpsSayings.{Value, Saying, no_place, UnknownSection, Opens, Misplaced, Miscounted, Skipped, SenseLine, RowLine, ColumnLine, Marker, BadMarker, RightSideLine, RangeLine, BoundLine, BadBound}
 use Rattle.cip_mps_rules.specs.MpsFacts.{no_facts}
 use Rattle.cip_mps_rules.specs.MpsProgram.{number, unsigned}
@@ -77,6 +77,10 @@ pub record StatesAreSound : Type 0 where
 
 -- ---- values
 
+-- a value is above 0
+abbrev pub is_positive_value : ℚ → Bool
+is_positive_value value = lt_test zeroℚ value
+
 -- a value of size 10^20 or more
 abbrev pub is_far_value : ℚ → Bool
 is_far_value value = le_test (integer (pos (10 ^ 20))) (absolute value)
@@ -95,3 +99,5 @@ pub record ValuesAreTested : Type 0 where
       → value_of (near_or_huge (numeral_of text)) ≡ (if is_far_value value then None else Some value)
   pub bound_negative : (text : List ℕ) (value : ℚ) → value_of (numeral_of text) ≡ Some value
       → is_negative (near_or_huge (numeral_of text)) ≡ is_negative_value value
+  pub bound_positive : (text : List ℕ) (value : ℚ) → value_of (numeral_of text) ≡ Some value
+      → is_positive (near_or_huge (numeral_of text)) ≡ (not (is_far_value value) && is_positive_value value)

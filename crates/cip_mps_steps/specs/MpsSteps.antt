@@ -10,13 +10,13 @@ use Rattle.cip_problem.specs.Program.{Program}
 use Rattle.cip_syntax.specs.Lines.{Record}
 use Rattle.cip_line_texts.specs.LineTexts.{Reading, records_of}
 use Rattle.cip_line_texts.specs.LineEnds.{Stage, ending}
-use Rattle.cip_mps_rules.specs.MpsWords.{RowKind, number_in, is_in, is_no_number, is_too_fine}
-use Rattle.cip_mps_rules.specs.MpsSayings.{Value, Saying, RowLine, ColumnLine, RightSideLine, RangeLine, BoundLine, no_place, said, place_after}
+use Rattle.cip_mps_rules.specs.MpsWords.{End, RowKind, number_in, is_in, is_no_number, is_too_fine}
+use Rattle.cip_mps_rules.specs.MpsSayings.{Value, Saying, Opens, RowLine, ColumnLine, RightSideLine, RangeLine, BoundLine, no_place, said, place_after}
 use Rattle.cip_mps_rules.specs.MpsFacts.{no_facts, parts_in, senses_in, coefficients_in}
-use Rattle.cip_mps_rules.specs.MpsBounds.{Bounded, unbounded, with_bound}
+use Rattle.cip_mps_rules.specs.MpsBounds.{Bounded, unbounded, with_bound, settled, lacks_sides}
 use Rattle.cip_mps_rules.specs.MpsProgram.{number, is_free}
-use Rattle.cip_mps_rules.specs.MpsRules.{Rule, rule, least, is_unknown_section, is_out_of_order, lacks_section, is_miscounted, numbers_in, has_huge_value, names_unknown_row, names_unknown_column, repeats_row, has_twins, splits_column, has_bad_row_type, has_bad_bound_type, is_bad_marker, lacks_objective, is_too_many, has_long_name, has_bad_sense, has_bad_bound, is_end, entry_count}
-use Rattle.cip_mps_steps.specs.MpsState.{RowRead, State, state_of, no_row, row_at, first_of, value_for, moves_low_side, program_from}
+use Rattle.cip_mps_rules.specs.MpsRules.{Rule, rule, least, is_unknown_section, is_out_of_order, lacks_section, is_miscounted, numbers_in, has_huge_value, names_unknown_row, names_unknown_column, repeats_row, has_twins, splits_column, has_bad_row_type, has_bad_bound_type, is_bad_marker, lacks_objective, is_too_many, has_long_name, has_bad_sense, is_no_bound, is_mixed_by, is_end, entry_count}
+use Rattle.cip_mps_steps.specs.MpsState.{RowRead, State, state_of, no_row, row_at, column_at, first_of, value_for, moves_low_side, program_from}
 
 -- ---- tests
 
@@ -84,6 +84,13 @@ abbrev pub ranges_free_row_now : State → Saying → Bool
 ranges_free_row_now state (RangeLine set_name values) = list_any (λ value. is_free_at (row_at state value.row)) values
 ranges_free_row_now state other = false
 
+-- what isn't in the profile
+abbrev pub is_out_of_profile_now : State → Saying → Bool
+is_out_of_profile_now state (BoundLine kind set_name column value) =
+    is_no_bound kind value || is_mixed_by kind value (column_at state column)
+is_out_of_profile_now state (Opens End words) = list_any lacks_sides (map settled state.columns)
+is_out_of_profile_now state other = has_bad_sense other
+
 -- the rules of a line, by rising kind
 abbrev pub tests : State → Saying → List Rule
 tests state now =
@@ -106,7 +113,7 @@ tests state now =
     ∷ rule 18 (is_too_many state.row_count state.column_names state.entries now)
     ∷ rule 19 (has_long_name now)
     ∷ rule 20 (ranges_free_row_now state now)
-    ∷ rule 21 (has_bad_sense now || has_bad_bound now)
+    ∷ rule 21 (is_out_of_profile_now state now)
     ∷ []
 
 -- ---- puts

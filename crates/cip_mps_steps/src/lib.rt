@@ -36,7 +36,7 @@ pub fn rows_are_terms()
     ensures { RowsAreTerms }
 {}
 
-/// Whether a number is 0, negative or no bound, and its size, can be told by its value instead of its text.
+/// Whether a number is 0, below or above 0 or no bound, and its size, can be told by its value instead of its text.
 pub fn values_are_tested()
     ensures { ValuesAreTested }
 {}

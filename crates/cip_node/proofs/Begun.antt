@@ -28,11 +28,12 @@ use Rattle.cip_leaves.specs.Searched.{first_node}
 use Rattle.cip_search.specs.SearchState.{stay, IsWayBack}
 use Rattle.cip_search.proofs.Kept as searching
 use Rattle.cip_search.proofs.AsGiven as giving
+use Rattle.cip_search.proofs.GivenBoxes as boxing
 use Rattle.cip_search.proofs.Members.{only_one}
 use Rattle.cip_tree.specs.Nodes.{Nodes}
 use Rattle.cip_tree.specs.Moves.{IsNew}
 use Rattle.cip_node_rules.specs.SplitRules.{AreNear}
-use Rattle.cip_node_rules.specs.RootBounds.{value_of, rounded_if}
+use Rattle.cip_node_rules.specs.RootBounds.{least_value, rounded_if}
 use Rattle.cip_problem.specs.NearSides.{IsNear, HasNearSides}
 use Rattle.cip_node.specs.Beginning.{root_value, IsRootBound, AreNearColumns}
 use Rattle.cip_node.specs.Entering.{own_region}
@@ -97,7 +98,7 @@ near_box program ids h = λ column w. elim (cases_lt column (length program.boun
 
 -- ---- the root's bound
 
-pub value_holds : (program : Program) (least : Least) (whole : Bool) → IsWellFormed program → (whole ≡ true → HasWholeCosts program) → BoundHolds (box_bound program program.bounds) least → IfSome (option_map (rounded_if whole) (value_of least)) (IsBoundIn program None program.bounds)
+pub value_holds : (program : Program) (least : Least) (whole : Bool) → IsWellFormed program → (whole ≡ true → HasWholeCosts program) → BoundHolds (box_bound program program.bounds) least → IfSome (option_map (rounded_if whole) (least_value least)) (IsBoundIn program None program.bounds)
 value_holds program (Value v) whole formed w h = rounded_holds program None program.bounds v whole w (λ point i b. root_bound_holds program v formed h point i.feasible)
 value_holds program NoBound whole formed w h = tt
 value_holds program Wide whole formed w h = tt
@@ -114,8 +115,8 @@ root_case : (program : Program) (whole : Bool) (start : Option ℚ) → MatchBoo
 root_case program true start m e = record { whole = λ w. e; plain = λ n. absurd (n m) }
 root_case program false start m e = record { whole = λ w. absurd (m w); plain = λ n. e ∙ unrounded (root_value program) }
 
-pub root_is : (program : Program) (least : Least) (whole : Bool) (start : Option ℚ) → MatchBool whole (HasWholeCosts program) (¬ HasWholeCosts program) → least ≡ least_cost_from program.constant program.costs program.bounds → start ≡ option_map (rounded_if whole) (value_of least) → IsRootBound program start
-root_is program least whole start m l e = root_case program whole start m (e ∙ ap (λ t. option_map (rounded_if whole) (value_of t)) l)
+pub root_is : (program : Program) (least : Least) (whole : Bool) (start : Option ℚ) → MatchBool whole (HasWholeCosts program) (¬ HasWholeCosts program) → least ≡ least_cost_from program.constant program.costs program.bounds → start ≡ option_map (rounded_if whole) (least_value least) → IsRootBound program start
+root_is program least whole start m l e = root_case program whole start m (e ∙ ap (λ t. option_map (rounded_if whole) (least_value t)) l)
 
 -- ---- the search
 
@@ -132,6 +133,7 @@ begun program tree start near holds new =
     subst (λ t. IsKept program t None []) (sym is_tree) (record {
       searched = searching.begun program program stay IsWideLeaf start None (way program) tt holds;
       as_given = giving.begun program start None;
+      boxes = boxing.begun program start None;
       root = refl;
       integral = refl;
       near = λ node c. subst (λ (n : Node). IsNearBox program 1 n.box) (only_one first node c) (near_box program 1 near);

@@ -21,6 +21,7 @@ use Rattle.cip_search.proofs.Members.{here, later, here_or_later, kept_was_there
 use Rattle.cip_search.proofs.Kept as searching
 use Rattle.cip_search.proofs.Ended as ending
 use Rattle.cip_search.proofs.AsGiven as giving
+use Rattle.cip_search.proofs.GivenBoxes as boxing
 use Rattle.std.proofs.lemmas.List.Sorted.{Contains-permutation, IsPermutation-sym}
 use Rattle.cip_tree.specs.Nodes.{Nodes, Base, TakenNode, base_at, base_changes, region_in, node_in, region_of, box_of, choices_of, shown}
 use Rattle.cip_tree.specs.Notes.{noted}
@@ -44,6 +45,7 @@ kept_closed program old new held node taken e h k =
     (record {
       searched = ending.closed program program stay IsWideLeaf old.root.bound state node [] refl h k.searched;
       as_given = giving.closed program program stay IsWideLeaf old.root.bound state node [] refl k.searched k.as_given;
+      boxes = boxing.closed program program stay IsWideLeaf old.root.bound state node [] refl k.searched k.boxes;
       root = k.root;
       integral = k.integral;
       near = λ other c. k.near other (later node other old.open_ c);
@@ -56,6 +58,7 @@ kept_pruned program old new held node taken e h k =
     (record {
       searched = ending.pruned program program stay IsWideLeaf old.root.bound state node [] refl h k.searched;
       as_given = giving.closed program program stay IsWideLeaf old.root.bound state node [] refl k.searched k.as_given;
+      boxes = boxing.closed program program stay IsWideLeaf old.root.bound state node [] refl k.searched k.boxes;
       root = k.root;
       integral = k.integral;
       near = λ other c. k.near other (later node other old.open_ c);
@@ -68,6 +71,7 @@ kept_parked program old new held node taken e h k =
     (record {
       searched = ending.parked program program stay IsWideLeaf old.root.bound state node [] refl h k.searched;
       as_given = giving.parked program program stay IsWideLeaf old.root.bound state node [] refl k.searched k.as_given;
+      boxes = boxing.parked program program stay IsWideLeaf old.root.bound state node [] refl k.searched k.boxes;
       root = k.root;
       integral = k.integral;
       near = λ other c. k.near other (later node other old.open_ c);
@@ -81,6 +85,7 @@ kept_taken program old new held node open_ taken e p k =
     (record {
       searched = searching.taken program program stay IsWideLeaf old.root.bound state node open_ p k.searched;
       as_given = giving.taken program old.root.bound state node open_ p k.as_given;
+      boxes = boxing.taken program old.root.bound state node open_ p k.boxes;
       root = k.root;
       integral = k.integral;
       near = λ other c. k.near other (Contains-permutation (node ∷ open_) old.open_ other (IsPermutation-sym old.open_ (node ∷ open_) p) c);
@@ -105,6 +110,7 @@ kept_raised program tree held node b h l k =
     record {
       searched = searching.raised program program stay IsWideLeaf tree.root.bound state node [] b refl h l k.searched;
       as_given = giving.raised program tree.root.bound state node [] (Some b) refl k.as_given;
+      boxes = boxing.raised program tree.root.bound state node [] (Some b) refl k.boxes;
       root = k.root;
       integral = k.integral;
       near = λ other c. elim (here_or_later (record node { bound = Some b }) other tree.open_ c) [
@@ -120,6 +126,7 @@ kept_offered program tree held work cost a l k =
     record {
       searched = searching.offered program program stay IsWideLeaf tree.root.bound state cost a l k.searched;
       as_given = giving.offered program tree.root.bound state (Some cost) k.as_given;
+      boxes = boxing.offered program tree.root.bound state (Some cost) k.boxes;
       root = k.root;
       integral = k.integral;
       near = k.near;
@@ -137,6 +144,7 @@ kept_let_go program old new cost work open_ taken e p k =
     (record {
       searched = searching.closed_from program program stay IsWideLeaf old.root.bound state open_ (is_cheaper cost) (λ node. cheaper_matters cost node node.bound) p k.as_given k.searched;
       as_given = giving.closed_from program old.root.bound state open_ (is_cheaper cost) p k.as_given;
+      boxes = boxing.closed_from program old.root.bound state open_ (is_cheaper cost) p k.boxes;
       root = k.root;
       integral = k.integral;
       near = λ other c. elim (Contains-append_cases work open_ other c) [
@@ -288,6 +296,7 @@ module _ (program : Program) (old new : Nodes) (held : Option ℚ) (node : Taken
         (record {
           searched = ending.split program program stay IsWideLeaf old.root.bound state (shown old node) low_half_node high_half_node [] new.open_ column at refl can halved s.nodes followed k.searched;
           as_given = giving.split program program stay IsWideLeaf old.root.bound state (shown old node) low_half_node high_half_node [] new.open_ column at refl can halved s.nodes followed k.searched k.as_given;
+          boxes = boxing.split program program stay IsWideLeaf old.root.bound state (shown old node) low_half_node high_half_node [] new.open_ column at refl can halved s.nodes followed k.searched k.boxes;
           root = k.root;
           integral = k.integral;
           near = all_near;

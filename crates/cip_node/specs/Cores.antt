@@ -9,9 +9,9 @@ use Rattle.cip_node.specs.Entering.{own_region, first_region}
 use Rattle.cip_node.specs.KeptNodes.{cost_held, IsHolding, IsPoolOf, IsWorkplace}
 use Rattle.cip_node.specs.declared.cores.Core.{Core}
 
--- all but the tree: the region in work can be made the program's, there is room for its columns, each row of the pool is
--- valid in its scope, no cutoff row is used, bounds are rounded only where costs are whole, and the point held is one of
--- the program
+-- all but the tree: the region in work can be made the program's, there is room for its columns, each row of the pool
+-- is valid in its scope, no cutoff row is used, bounds are rounded only where costs are whole, and the point held is
+-- one of the program
 pub record IsReady (core : Core) : Type 0 where
   pub start : core.start ≡ 0
   pub first : first_region core.domain ≡ own_region core.program.now

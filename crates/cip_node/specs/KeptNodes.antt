@@ -15,7 +15,7 @@ use Rattle.cip_incumbent.specs.HeldPoint.{Holding, HoldsPointOf}
 use Rattle.cip_leaves.specs.WideLeaf.{IsWideLeaf}
 use Rattle.cip_node_rules.specs.OpenColumns.{is_whole_at}
 use Rattle.cip_node_rules.specs.SplitRules.{AreNear}
-use Rattle.cip_search.specs.SearchState.{State, stay, unended, IsSearch, IsAsGiven}
+use Rattle.cip_search.specs.SearchState.{State, stay, unended, IsSearch, IsAsGiven, HasGivenBoxes}
 
 -- the cost held, if a point is
 abbrev pub cost_held : Holding → Option ℚ
@@ -43,8 +43,9 @@ IsNearBox program ids box =
 -- with these nodes in work
 pub record IsKept (program : Program) (tree : Nodes) (held : Option ℚ) (work : List Node) : Type 0 where
   pub searched : IsSearchOf program tree held work
-  -- nothing was done on the nodes but what the log tells
+  -- open nodes have the bounds that the log gave them, and no box was changed
   pub as_given : IsAsGiven program tree.root.bound (state_of tree held work)
+  pub boxes : HasGivenBoxes program tree.root.bound (state_of tree held work)
   -- the root has the program's box and choices, and the whole columns are its
   pub root : tree.root ≡ first_node program tree.root.bound
   pub integral : tree.integral ≡ program.integral

@@ -156,7 +156,8 @@ impl<'a> Core<'a> {
             (record { own = self.new.program.now.rows; pool = self.new.pool.rows; cutoff = None }) self.new.domain.box
             (length self.new.scratch.row.entries) node.new.bound) }
         ensures tried { IfOk result (GoesOnTried self.new.program.now (cost_held self.new.incumbent)
-            (record { own = self.new.program.now.rows; pool = self.new.pool.rows; cutoff = None }) self.new.domain.box) }
+            (record { own = self.new.program.now.rows; pool = self.new.pool.rows; cutoff = None })
+            self.new.domain.box) }
         ensures place { IsWorkplace self.new.program.now (length self.new.scratch.row.entries) self.new.pool.columns }
         ensures no_dearer { IsNoDearer (cost_held self.new.incumbent) (cost_held self.old.incumbent) }
         ensures tree { self.new.tree ≡ record self.old.tree {

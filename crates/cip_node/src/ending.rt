@@ -19,8 +19,8 @@ use cip_tree::Node;
 use std::alloc::{AllocError, Global};
 
 impl<'a> Core<'a> {
-    /// Ends a node that is a leaf, whose region is the region in work. `Err` comes where memory was refused; the node is
-    /// open again then.
+    /// Ends a node that is a leaf, whose region is the region in work. `Err` comes where memory was refused; the node
+    /// is open again then.
     pub(crate) fn end_leaf(&mut self, alloc: Global, node: Node) -> Result<NodeEnd, AllocError>
         requires kept { IsKept self.old.program.now self.old.tree (cost_held self.old.incumbent)
             (shown self.old.tree node ∷ []) }

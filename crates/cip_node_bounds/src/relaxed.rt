@@ -119,7 +119,8 @@ fn of_optimum(
     requires room { length bounds.now ≤ length scratch.old.row.entries }
     requires columns { length bounds.now ≡ columns program.now }
     requires found { IsOptimumFound program.now (lent_of rows.now) bounds.now point.items combo cost }
-    ensures relaxed { IsRelaxed program.now (lent_of rows.entry.now) bounds.now (length scratch.old.row.entries) result }
+    ensures relaxed { IsRelaxed program.now (lent_of rows.entry.now) bounds.now
+        (length scratch.old.row.entries) result }
     ensures room { length scratch.new.row.entries ≡ length scratch.old.row.entries }
 {
     match checked_cost(rows, program, bounds, &combo, cost, scratch) {
@@ -143,7 +144,8 @@ fn of_no_point(
     requires room { length bounds.now ≤ length scratch.old.row.entries }
     requires columns { length bounds.now ≡ columns program.now }
     requires found { IsEmptinessFound program.now (lent_of rows.now) bounds.now combo }
-    ensures relaxed { IsRelaxed program.now (lent_of rows.entry.now) bounds.now (length scratch.old.row.entries) result }
+    ensures relaxed { IsRelaxed program.now (lent_of rows.entry.now) bounds.now
+        (length scratch.old.row.entries) result }
     ensures room { length scratch.new.row.entries ≡ length scratch.old.row.entries }
 {
     match empties(rows, bounds, &combo, scratch) {
@@ -169,7 +171,8 @@ fn judged(
     requires columns { length bounds.now ≡ columns program.now }
     requires ids { ids.now ≡ usable_ids bounds.now rows.now.pool.now }
     requires solved { SaysRight (node_program program.now (lent_of rows.now) bounds.now) found }
-    ensures relaxed { IsRelaxed program.now (lent_of rows.entry.now) bounds.now (length scratch.old.row.entries) result }
+    ensures relaxed { IsRelaxed program.now (lent_of rows.entry.now) bounds.now
+        (length scratch.old.row.entries) result }
     ensures room { length scratch.new.row.entries ≡ length scratch.old.row.entries }
 {
     let own = program.rows().len();
@@ -198,15 +201,15 @@ fn judged(
     }
 }
 
-/// Solves the linear program of a node over the rows of the program and those of the pool that may be used in its box,
-/// from a start: that of a node above, as its last one, or the first state. It makes at most 2,000 moves and two for each
-/// of its columns and rows by a rule that makes few; where that has no answer, as many from the first state; and where
-/// that has none, at most 10,000 by Bland's rule. What that shows is checked. `Bound` comes with a point of least cost
-/// and that cost with the constant, where the check accepts its combination; `Empty` where there is no point, and the
-/// check accepts that; `Falls` where the cost falls without end from a point; and `Unsolved` with its mark in all other
-/// cases. Rows behind those that a start knows are basic, and of one that knows more the others are passed over. Beside
-/// what it came to stands where the variables are then, to be the start of the nodes below. `Err` comes where memory was
-/// refused.
+/// Solves the linear program of a node over the rows of the program and those of the pool that may be used in its
+/// box, from a start: that of a node above, as its last one, or the first state. It makes at most 2,000 moves and two
+/// for each of its columns and rows by a rule that makes few; where that has no answer, as many from the first state;
+/// and where that has none, at most 10,000 by Bland's rule. What that shows is checked. `Bound` comes with a point of
+/// least cost and that cost with the constant, where the check accepts its combination; `Empty` where there is no
+/// point, and the check accepts that; `Falls` where the cost falls without end from a point; and `Unsolved` with its
+/// mark in all other cases. Rows behind those that a start knows are basic, and of one that knows more the others are
+/// passed over. Beside what it came to stands where the variables are then, to be the start of the nodes below. `Err`
+/// comes where memory was refused.
 pub fn relax_from(
     alloc: Global,
     program: &Program,

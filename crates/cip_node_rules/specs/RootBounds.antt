@@ -5,10 +5,10 @@ use Rattle.cip_lin.specs.declared.outcomes.Least.{Least}
 use Rattle.cip_lin.specs.declared.outcomes.Least.TheVariants.{Value, NoBound, Wide}
 
 -- a least cost, if it has a value
-abbrev pub value_of : Least → Option ℚ
-value_of (Value value) = Some value
-value_of NoBound = None
-value_of Wide = None
+abbrev pub least_value : Least → Option ℚ
+least_value (Value value) = Some value
+least_value NoBound = None
+least_value Wide = None
 
 -- a bound, rounded up where costs are whole
 abbrev pub rounded_if : (are_whole : Bool) → ℚ → ℚ

@@ -1,8 +1,8 @@
 -- Where a box with choices is split: the first open column whose value in the last linear program isn't whole, at its
 -- floor; else the first open column, at the middle of its whole values. An open side lets it be split at 0. A number
--- that leaves no whole value on one side is moved to the nearest that does. Where no whole column is open, the choice is
--- made of the first column whose choice is open and doesn't allow its value in the last linear program; else of the
--- first column whose choice is open.
+-- that leaves no whole value on one side is moved to the nearest that does. Where no whole column is open, the choice
+-- is made of the first column whose choice is open and doesn't allow its value in the last linear program; else of
+-- the first column whose choice is open.
 use Rattle.std.specs.Prelude.{◌≡◌, ◌⊎◌, ℕ, ◌+◌, ◌^◌, ◌≤◌, ℤ, pos, ◌+ℤ◌, ◌-ℤ◌, int_lt, unsigned_abs, Bool, List, length, Option, None, Some, IfSome, if◌then◌else◌}
 use Rattle.cip_rational.specs.Rational.{ℚ, integer, floor, ceil}
 use Rattle.cip_problem.specs.Program.{Sides, Choice}

@@ -1,7 +1,7 @@
 -- Semi-continuous columns: which values a choice allows, what a choice makes of a column's sides, in how many ways the
 -- open choices can be made, and the program that is left where they are.
 use Rattle.std.specs.Prelude.{◌≡◌, ◌⊎◌, ℕ, suc, ◌^◌, Bool, true, false, List, [], ◌∷◌, Option, None, Some, if◌then◌else◌, slice_index_or, ⊤}
-use Rattle.cip_rational.specs.Rational.{ℚ, zeroℚ, le_test}
+use Rattle.cip_rational.specs.Rational.{ℚ, zeroℚ, minimum, maximum}
 use Rattle.cip_problem.specs.Program.{Sides, Choice, Plain, Open, Off, On, Program}
 use Rattle.cip_problem.specs.Activity.{value_at}
 use Rattle.cip_problem.specs.Box.{Between}
@@ -25,16 +25,16 @@ KeepsChoices choices point = (column : ℕ) → Allows (choice_at choices column
 
 -- ---- sides
 
--- the greater and the lesser of two numbers, as far as they are there
+-- the greater and the lesser of two sides, as far as they are there
 abbrev pub greater : Option ℚ → Option ℚ → Option ℚ
 greater None other = other
 greater (Some side) None = Some side
-greater (Some side) (Some other) = Some (if le_test side other then other else side)
+greater (Some side) (Some other) = Some (maximum side other)
 
 abbrev pub lesser : Option ℚ → Option ℚ → Option ℚ
 lesser None other = other
 lesser (Some side) None = Some side
-lesser (Some side) (Some other) = Some (if le_test side other then side else other)
+lesser (Some side) (Some other) = Some (minimum side other)
 
 -- sides met with others: what lies between both
 abbrev pub met : Sides → Sides → Sides

@@ -109,6 +109,13 @@ compare_rational a b = cond (lt_test a b) Less (cond (lt_test b a) Greater Equal
 unfoldable pub absolute : ℚ → ℚ
 absolute a = cond (le_test zeroℚ a) a (negate a)
 
+-- the lesser and the greater of two numbers
+abbrev pub minimum : ℚ → ℚ → ℚ
+minimum a b = cond (le_test a b) a b
+
+abbrev pub maximum : ℚ → ℚ → ℚ
+maximum a b = cond (le_test a b) b a
+
 -- ---- whole numbers
 
 -- whether q is a whole number: its denominator is 1

@@ -1,38 +1,20 @@
 -- A value that is outside breaks one of the sides that are told.
-use Rattle.std.proofs.Common.{◌≡◌, inr, ℕ, ◌<◌, refl, Bool, true, false, List, Option, None, Some, IsSome, IfSome, length, get_or, sym, ◌∙◌, subst, true≢false}
-use Rattle.std.specs.Prelude.{IsSomeAnd, slice_get}
+use Rattle.std.proofs.Common.{◌≡◌, inr, ℕ, ◌<◌, Bool, List, Option, length, get_or, ◌∙◌, subst}
+use Rattle.std.specs.Prelude.{slice_get}
 use Rattle.std.proofs.lemmas.List.{get_or_default}
-use Rattle.cip_rational.specs.Rational.{ℚ, zeroℚ, ◌≤ℚ◌, le_test}
-use Rattle.cip_rational.proofs.Rational.Order.{≤ℚ_trans, ≤ℚ_of_lt, lt_of_le_test}
+use Rattle.cip_rational.specs.Rational.{ℚ, zeroℚ}
 use Rattle.cip_problem.specs.Program.{Sides, Choice, Plain, Open, Off, On, Program}
 use Rattle.cip_problem.specs.Activity.{value_at}
 use Rattle.cip_problem.specs.Box.{Between, sides_at}
-use Rattle.cip_problem.specs.Choices.{choice_at, greater}
+use Rattle.cip_problem.specs.Choices.{choice_at}
 use Rattle.cip_problem.specs.WellFormed.{IsSemi, IsChoice, IsWellFormed}
+use Rattle.cip_problem.proofs.Choices.Decided.{own_open}
 use Rattle.cip_model.specs.Meaning.{IsKept, IsOutside}
 use Rattle.cip_report.specs.Checks.{told_sides}
 
--- what is at most the own high side is at most that of an open choice, and what is at least the own low one at least 0
-below_greater : (high : Option ℚ) (value : ℚ) → IsSome high → IfSome high (λ side. value ≤ℚ side) → IfSome (greater (Some zeroℚ) high) (λ side. value ≤ℚ side)
-below_greater None value s h = absurd (true≢false (sym s))
-below_greater (Some high) value s h = tested (le_test zeroℚ high) refl
-  where
-    tested : (t : Bool) → le_test zeroℚ high ≡ t → IfSome (greater (Some zeroℚ) (Some high)) (λ side. value ≤ℚ side)
-    tested true e = rw e h
-    tested false e = rw e (≤ℚ_trans h (≤ℚ_of_lt (lt_of_le_test e)))
-
-above_zero : (low : Option ℚ) (value : ℚ) → IsSomeAnd low (λ side. zeroℚ ≤ℚ side) → IfSome low (λ side. side ≤ℚ value) → zeroℚ ≤ℚ value
-above_zero None value s h = absurd s
-above_zero (Some low) value s h = ≤ℚ_trans s h
-
 -- what lies between the own sides lies between the bounds, and is allowed
 own_kept : (own sides : Sides) (whole : Option Bool) (value : ℚ) → IsSemi own whole sides → Between own.low own.high value → IsKept sides (Open own) value
-own_kept own sides whole value semi h = record {
-  between =
-      subst (λ (s : Sides). Between s.low s.high value) (sym semi.open_)
-      (record { above = above_zero own.low value semi.low h.above; below = below_greater own.high value semi.high h.below });
-  allowed = inr h;
-}
+own_kept own sides whole value semi h = record { between = own_open own sides whole value semi h; allowed = inr h }
 
 told_outside : (choice : Choice) (whole : Option Bool) (sides : Sides) (value : ℚ) → IsChoice choice whole sides → ¬ IsKept sides choice value → ¬ Between (told_sides choice sides).low (told_sides choice sides).high value
 told_outside Plain whole sides value f n h = n (record { between = h; allowed = tt })

@@ -77,7 +77,8 @@ pub struct Held {
     pub point: Vec<Frac>,
 }
 
-/// What a search found, of which all but the number of nodes is printed. Cost and bound are those of the minimised form.
+/// What a search found, of which all but the number of nodes is printed. Cost and bound are those of the minimised
+/// form.
 #[derive(Debug, Drop)]
 pub struct Answer {
     /// How the search ended.

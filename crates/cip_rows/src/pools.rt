@@ -109,8 +109,8 @@ impl RowPool {
         Ok(())
     }
 
-    /// Adds the row that says, in boxes inside `scope`, that the sum of the products of the coefficients, which stand in
-    /// the scratch, is at least `least`.
+    /// Adds the row that says, in boxes inside `scope`, that the sum of the products of the coefficients, which stand
+    /// in the scratch, is at least `least`.
     /// `Known` comes exactly where an equal row whose scope holds `scope` is held; else `Full` exactly where the pool
     /// holds `MOST_POOL_ROWS` rows or has given `MOST_IDS` ids; else the row is `New`. `Err` comes where a growth was
     /// refused. All but `New` leave the pool as it was.
@@ -123,7 +123,8 @@ impl RowPool {
         requires coefficients { length scratch.now.row.entries ≡ self.old.columns }
         requires columns { length scope.now ≡ self.old.columns }
         ensures added { MatchResult result
-            (IsAdded self.old (row_of (record { coefficients = scratch.now.row.entries; least = least })) scope.now self.new)
+            (IsAdded self.old (row_of (record { coefficients = scratch.now.row.entries; least = least }))
+            scope.now self.new)
             (λ _. self.new ≡ self.old) }
         ensures columns { self.new.columns ≡ self.old.columns }
     {

@@ -1,4 +1,4 @@
--- A true ray leaves no room for a lower bound.
+-- A cost that falls without end leaves no room for a lower bound.
 use Rattle.std.proofs.Common.{◌≡◌, [], ◌∷◌, List, sym, ap, ◌∙◌, subst, arith, inl, inr}
 use Rattle.cip_rational.specs.Rational.{ℚ, ◌+ℚ◌, ◌-ℚ◌, ◌*ℚ◌, negate, inverse, zeroℚ, oneℚ, ◌≤ℚ◌, ◌<ℚ◌}
 use Rattle.cip_rational.specs.Sums.{dot}
@@ -10,7 +10,7 @@ use Rattle.cip_rational.proofs.Linear.{linear_le, linear_lt, linear_same}
 use Rattle.cip_problem.specs.Program.{Program}
 use Rattle.cip_problem.specs.Points.{cost_of, IsLowerBound}
 use Rattle.cip_linear.specs.LinearProgram.{moved}
-use Rattle.cip_answers.specs.Headline.{IsTrueRay}
+use Rattle.cip_linear.specs.Falling.{FallsWithoutEnd}
 use Rattle.cip_search.specs.HeadlineStatements.{RaysExcludeBounds}
 
 -- how far to go for a cost of b - 1
@@ -32,7 +32,7 @@ less_by_one : (b : ℚ) → b -ℚ oneℚ <ℚ b
 less_by_one b = linear_lt (b ∷ []) (λ s w. omega arith)
 
 -- a bound below the cost of the point is passed further on
-passed : (program : Program) (point ray : List ℚ) (b : ℚ) → IsTrueRay program point ray → b ≤ℚ cost_of program point → ¬ IsLowerBound program b
+passed : (program : Program) (point ray : List ℚ) (b : ℚ) → FallsWithoutEnd program point ray → b ≤ℚ cost_of program point → ¬ IsLowerBound program b
 passed program point ray b r l lower =
     let cost = cost_of program point in
     let falls = dot program.costs ray in

@@ -2,7 +2,7 @@
 use Rattle.std.proofs.Common.{◌≡◌, ◌≢◌, ◌≤◌, ◌*◌, ◌-◌, Bool, true, false, [], ◌∷◌, ◌++◌, length, Option, None, Some, refl, sym, ap, ◌∙◌, arith}
 use Rattle.std.specs.Prelude.{max, IsSome, if◌then◌else◌}
 use Rattle.std.proofs.lemmas.Option.{same_Some}
-use Rattle.cip_rational.specs.Rational.{ℚ, negate}
+use Rattle.cip_rational.specs.Rational.{ℚ, negate, ◌<ℚ◌}
 use Rattle.cip_rational.proofs.Rational.Order.{ne_of_lt}
 use Rattle.cip_rational.proofs.Rational.Ring.{negate_negate}
 use Rattle.cip_problem.specs.Program.{Program}
@@ -15,7 +15,8 @@ use Rattle.cip_search.proofs.OneMore.{follow_more}
 use Rattle.cip_search.proofs.Alike.{is_log, is_log_from}
 use Rattle.cip_answers.specs.Headline.{Agree}
 use Rattle.cip_answers.specs.Figures.{Optimal, Infeasible, Unbounded, NodeLimit, Gap, Wide, NoMemory, Held, Figures}
-use Rattle.cip_search.specs.Headline.{ReachesGap}
+use Rattle.cip_search.specs.SearchEnds.{ReachesGap}
+use Rattle.cip_search.specs.Headline.{ShowsGap}
 use Rattle.cip_search.specs.HeadlineStatements.{EndsExclude, BudgetsSuffice}
 
 pub not_none : {A : Type 0} (held : Option A) → IsSome held → held ≢ None
@@ -27,16 +28,21 @@ pub same_printed : (maximized : Bool) (a b : ℚ) → (if maximized then negate 
 same_printed true a b e = sym (negate_negate a) ∙ (ap negate e ∙ negate_negate b)
 same_printed false a b e = e
 
+-- a gap that is reached is above 0
+above_bound : (asked : Option ℚ) (cost least : ℚ) → ReachesGap asked (Some cost) (Some least) → least <ℚ cost
+above_bound None cost least r = absurd r
+above_bound (Some gap) cost least r = r.above
+
 -- where cost and bound agree the gap isn't reached
-never_both : (program : Program) (asked : Option ℚ) (figures : Figures) → Agree figures → ¬ ReachesGap program asked figures
+never_both : (program : Program) (asked : Option ℚ) (figures : Figures) → Agree figures → ¬ ShowsGap program asked figures
 never_both program asked figures a g =
     let held : a.held ≡ g.held = same_Some _ _ (sym a.is_held ∙ g.is_held) in
     let bound : a.held.cost ≡ printed program g.least = same_Some _ _ (sym a.bound ∙ g.is_bound) in
     let both : printed program g.least ≡ printed program g.cost = sym bound ∙ (ap (λ (h : Held). h.cost) held ∙ g.is_cost) in
-    ne_of_lt g.above (same_printed program.maximized g.least g.cost both)
+    ne_of_lt (above_bound asked g.cost g.least g.reached) (same_printed program.maximized g.least g.cost both)
 
 -- with no point held it isn't either
-none_held : (program : Program) (asked : Option ℚ) (figures : Figures) → figures.held ≡ None → ¬ ReachesGap program asked figures
+none_held : (program : Program) (asked : Option ℚ) (figures : Figures) → figures.held ≡ None → ¬ ShowsGap program asked figures
 none_held program asked figures e g = let f : None ≡ Some g.held = sym e ∙ g.is_held in cc
 
 -- no two ends can be said at once

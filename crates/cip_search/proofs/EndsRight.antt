@@ -9,15 +9,15 @@ use Rattle.cip_problem.specs.Program.{Program}
 use Rattle.cip_problem.specs.Points.{IsFeasible, cost_of, IsLowerBound}
 use Rattle.cip_problem.specs.Log.{Node, matters}
 use Rattle.cip_leaves.specs.Leaf.{Leaf}
-use Rattle.cip_leaves.specs.Searched.{OpenMatters, ParkedMatters, NoMore, IsLeast, IsCovered}
+use Rattle.cip_leaves.specs.Searched.{OpenMatters, ParkedMatters, NoMore, IsLeast, IsCovered, AreTrueEntries}
 use Rattle.cip_leaves.proofs.Covers.{bound_holds}
 use Rattle.cip_leaves.specs.WideLeaf.{Shown, IsWideLeaf}
 use Rattle.cip_search.specs.SearchState.{State, stay, unended, all_nodes, IsSearch, IsAsGiven}
 use Rattle.cip_search.specs.Endings.{OneMatters, NoneMatters, HasWidePoint, IsLeastBound}
-use Rattle.cip_search.proofs.Logs.{is_log, covered, least, open_matter, parked_matter}
+use Rattle.cip_search.proofs.Logs.{is_log, true_entries, covered, least, open_matter, parked_matter}
 use Rattle.cip_search.proofs.Told.{no_point, wide}
-use Rattle.cip_search.specs.SearchEnds.{Ended, Optimal, Infeasible, Unbounded, NodeLimit, Gap, Wide, NoMemory, Held, Answer, cost_held, EndsAs, Agrees, IsCheaper, IsSettled, EndHolds, AreTrueEntries}
-use Rattle.cip_search.proofs.ShownNode.{shown_leaf, true_entries}
+use Rattle.cip_search.specs.SearchEnds.{Ended, Optimal, Infeasible, Unbounded, NodeLimit, Gap, Wide, NoMemory, Held, Answer, cost_of_held, EndsAs, Agrees, IsCheaper, IsSettled, EndHolds, IsShownLeaf}
+use Rattle.cip_search.proofs.ShownNode.{shown_leaf}
 use Rattle.cip_search.specs.EndLaws.{ComesTo, IsAnswerOf, EndsAreRight}
 
 -- ---- what matters
@@ -42,19 +42,19 @@ least_is_cost held cost nodes bound e n h = elim h.one [
   | inr b ↦ is_cost cost bound (ap (λ t. matters t bound) (sym e) ∙ (ap (matters held) b.is_bound ∙ n b.node b.among)) (h.cost cost e)
 ]
 
-held_there : (held : Option Held) → IsSome (cost_held held) → (h : Held) × (held ≡ Some h)
+held_there : (held : Option Held) → IsSome (cost_of_held held) → (h : Held) × (held ≡ Some h)
 held_there None s = absurd (cc)
 held_there (Some h) s = (h, refl)
 
-none_there : (held : Option Held) → cost_held held ≡ None → held ≡ None
+none_there : (held : Option Held) → cost_of_held held ≡ None → held ≡ None
 none_there None e = refl
 none_there (Some h) e = absurd (cc)
 
-some_there : (held : Option Held) → IsSome (cost_held held) → IsSome held
+some_there : (held : Option Held) → IsSome (cost_of_held held) → IsSome held
 some_there None s = s
 some_there (Some h) s = refl
 
-cheaper_there : (program : Program) (held : Option Held) (point : List ℚ) → IsCheaper program held point → IfSome (cost_held held) (λ cost. cost_of program point <ℚ cost)
+cheaper_there : (program : Program) (held : Option Held) (point : List ℚ) → IsCheaper program held point → IfSome (cost_of_held held) (λ cost. cost_of program point <ℚ cost)
 cheaper_there program None point h = tt
 cheaper_there program (Some held) point h = h
 
@@ -62,27 +62,27 @@ module _ (program : Program) (start : Option ℚ) (nodes : ℕ) (asked : Option 
   idle_nodes : unended state ≡ state.open_
   idle_nodes = ap (λ w. w ++ state.open_) a.idle
 
-  quiet_open : NoneMatters state.held state.open_ → ¬ OpenMatters program start state.log (cost_held answer.held)
+  quiet_open : NoneMatters state.held state.open_ → ¬ OpenMatters program start state.log (cost_of_held answer.held)
   quiet_open n o = none_one state.held state.open_ n ((open_matter program program stay IsWideLeaf start state s g a.idle).1 (subst (λ h. OpenMatters program start state.log h) (sym a.held) o))
 
-  quiet_parked : NoneMatters state.held state.parked → ¬ ParkedMatters state.log (cost_held answer.held)
+  quiet_parked : NoneMatters state.held state.parked → ¬ ParkedMatters state.log (cost_of_held answer.held)
   quiet_parked n o = none_one state.held state.parked n ((parked_matter program program stay IsWideLeaf start state s).1 (subst (λ h. ParkedMatters state.log h) (sym a.held) o))
 
-  loud_open : OneMatters state.held state.open_ → OpenMatters program start state.log (cost_held answer.held)
+  loud_open : OneMatters state.held state.open_ → OpenMatters program start state.log (cost_of_held answer.held)
   loud_open o = subst (λ h. OpenMatters program start state.log h) a.held ((open_matter program program stay IsWideLeaf start state s g a.idle).0 o)
 
-  loud_parked : OneMatters state.held state.parked → ParkedMatters state.log (cost_held answer.held)
+  loud_parked : OneMatters state.held state.parked → ParkedMatters state.log (cost_of_held answer.held)
   loud_parked o = subst (λ h. ParkedMatters state.log h) a.held ((parked_matter program program stay IsWideLeaf start state s).0 o)
 
-  least_there : answer.ended ≢ Infeasible → IsLeast program start state.log (cost_held answer.held) answer.bound
+  least_there : answer.ended ≢ Infeasible → IsLeast program start state.log (cost_of_held answer.held) answer.bound
   least_there n = subst (λ h. IsLeast program start state.log h answer.bound) a.held (least program program stay IsWideLeaf start state answer.bound s g a.idle (a.least n))
 
-  cover_there : IsCovered program start state.log (cost_held answer.held)
+  cover_there : IsCovered program start state.log (cost_of_held answer.held)
   cover_there = subst (λ h. IsCovered program start state.log h) a.held (covered program program stay IsWideLeaf start state s)
 
-  bound_below : (bound : Option ℚ) → IsLeast program start state.log (cost_held answer.held) bound → IfSome bound (IsLowerBound program)
+  bound_below : (bound : Option ℚ) → IsLeast program start state.log (cost_of_held answer.held) bound → IfSome bound (IsLowerBound program)
   bound_below None l = tt
-  bound_below (Some b) l = bound_holds program start state.log (cost_held answer.held) b cover_there l
+  bound_below (Some b) l = bound_holds program start state.log (cost_of_held answer.held) b cover_there l
 
   no_bound_below : (bound : Option ℚ) → bound ≡ None → IfSome bound (IsLowerBound program)
   no_bound_below None e = tt
@@ -112,21 +112,21 @@ module _ (program : Program) (start : Option ℚ) (nodes : ℕ) (asked : Option 
   bound_of NoMemory e = bound_below answer.bound (least_there (λ f. absurd (let t = sym e ∙ f in cc)))
 
   ends_as : (ended : Ended) → ComesTo program nodes state ended → EndsAs program start nodes state.log answer.held ended
-  ends_as Optimal c = (quiet_open c.0, quiet_parked c.1, some_there answer.held (subst IsSome a.held c.2))
+  ends_as Optimal c = (record { none_open = quiet_open c.0; none_parked = quiet_parked c.1 }, some_there answer.held (subst IsSome a.held c.2))
   ends_as Infeasible c =
       let parts = empty_parts state.work state.open_ state.parked c.0 in
-      (quiet_open (empty_list state.open_ parts.0), quiet_parked (empty_list state.parked parts.1), none_there answer.held (sym a.held ∙ c.1))
+      (record { none_open = quiet_open (empty_list state.open_ parts.0); none_parked = quiet_parked (empty_list state.parked parts.1) }, none_there answer.held (sym a.held ∙ c.1))
   ends_as (Unbounded ray) c = absurd c
   ends_as NodeLimit c = (c.0, loud_open c.1)
   ends_as Gap c = some_there answer.held (subst IsSome a.held c)
-  ends_as (Wide leaf shown) c = (quiet_open c.0, loud_parked c.1, shown_leaf program start state s g leaf shown c.2)
+  ends_as (Wide leaf shown) c = (quiet_open c.0, loud_parked c.1, subst (λ h. IsShownLeaf program start state.log h leaf shown) a.held (shown_leaf program start state s leaf shown c.2))
   ends_as NoMemory c = tt
 
   agrees : answer.ended ≡ Optimal → Agrees answer
   agrees e =
       let c : ComesTo program nodes state Optimal = subst (ComesTo program nodes state) e a.comes in
       let h = held_there answer.held (subst IsSome a.held c.2) in
-      let cost : state.held ≡ Some h.0.cost = a.held ∙ ap cost_held h.1 in
+      let cost : state.held ≡ Some h.0.cost = a.held ∙ ap cost_of_held h.1 in
       record { held = h.0; is_held = h.1; bound = least_is_cost state.held h.0.cost (all_nodes state) answer.bound cost (all_quiet c.0 c.1) (a.least (λ f. absurd (let t = sym e ∙ f in cc))) }
 
   wide_points : (leaf : Leaf) (shown : Shown) → answer.ended ≡ Wide leaf shown → (point : List ℚ) → IsFeasible program point → IsCheaper program answer.held point → HasWidePoint program IsWideLeaf (cost_of program point)
@@ -151,7 +151,7 @@ module _ (program : Program) (start : Option ℚ) (nodes : ℕ) (asked : Option 
     ends = ends_as answer.ended a.comes;
     gap = a.gap;
     cover = cover_there;
-    entries = subst (λ h. AreTrueEntries program start state.log h) a.held (true_entries program start state s g);
+    entries = subst (AreTrueEntries program IsWideLeaf start state.log) a.held (true_entries program IsWideLeaf start state s);
   }
 
   end_holds : (ended : Ended) → ComesTo program nodes state ended → EndHolds program start nodes asked state.log answer ended

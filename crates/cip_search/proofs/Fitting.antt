@@ -75,7 +75,7 @@ leaf_choices program leaf formed h =
 
 module _ (program : Program) (box start : Option ℚ) (nodes : ℕ) (asked : Option ℚ) (log : List Entry) (answer : Answer) (formed : IsWellFormed program) where
   infeasible_held : answer.ended ≡ Infeasible → IsSettled program start nodes asked log answer → answer.held ≡ None
-  infeasible_held e s = (subst (EndsAs program start nodes log answer.held) e s.ends).2
+  infeasible_held e s = (subst (EndsAs program start nodes log answer.held) e s.ends).1
 
   shown_leaf : (leaf : Leaf) (shown : Shown) → answer.ended ≡ Wide leaf shown → IsSettled program start nodes asked log answer → IsLeafOf program leaf
   shown_leaf leaf shown e s = (subst (EndsAs program start nodes log answer.held) e s.ends).2.is_leaf

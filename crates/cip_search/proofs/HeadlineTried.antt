@@ -14,7 +14,9 @@ use Rattle.cip_linear.specs.LinearProgram.{LinearProgram, moved}
 use Rattle.cip_linear.proofs.Rays.{ray_cost}
 use Rattle.cip_leaves.specs.Leaf.{IsLeafIn}
 use Rattle.cip_leaves.specs.Wide.{InRow, InCost}
-use Rattle.cip_leaves.specs.Searched.{first_node, nodes_given, OpenMatters, NoMore, IsFirstLeast}
+use Rattle.cip_leaves.specs.Searched.{first_node, nodes_given, OpenMatters, NoMore, IsFirstLeast, HoldsOnly}
+use Rattle.cip_leaves.proofs.Points.{only_leaf_of}
+use Rattle.cip_problem.proofs.Log.Given.{node_of_log}
 use Rattle.cip_search.proofs.Members.{none_in}
 use Rattle.cip_search.proofs.OneMore.{contains_here, contains_cons, node_of_among}
 use Rattle.cip_leaves.specs.WideLeaf.{Shown, AtPlace, AfterMoves, IsWideBy}
@@ -65,7 +67,7 @@ endless_up = record {
   shown = record {
     held = at_zeros;
     is_held = refl;
-    true_ray = record { points = λ far p. subst (IsFeasible endless) (sym (gone far)) (kept far p); cost = cost_gone; falls = falls };
+    falls = record { points = λ far p. subst (IsFeasible endless) (sym (gone far)) (kept far p); cost = cost_gone; falls = falls };
   };
   no_bound = refl;
 }
@@ -117,6 +119,12 @@ one_leaf : (leaf : List ℚ) → IsLeafIn steep.integral steep.bounds leaf → l
 one_leaf [] h = refl
 one_leaf (value ∷ values) h = absurd h
 
+-- each feasible point is one of the leaf of no values and no choices
+only_here : HoldsOnly steep None (first_node steep (Some zeroℚ)) no_choices
+only_here point i w =
+    only_leaf_of steep (first_node steep (Some zeroℚ)) no_choices point (node_of_log steep (Some zeroℚ) [] 0 (first_node steep (Some zeroℚ)) tt refl)
+    (record { made = λ column. refl; on = refl; values = record { is_leaf = tt; only = one_leaf } }) w i.feasible
+
 by_one_move : ShowsOverflow steep (Some zeroℚ) root_parked None no_choices (AtMoves 1)
 by_one_move = record {
   none_open = none_open;
@@ -128,7 +136,7 @@ by_one_move = record {
     node = first_node steep (Some zeroℚ);
     chosen = chosen;
     given = refl;
-    only = record { made = λ column. refl; on = refl; values = record { is_leaf = tt; only = one_leaf } };
+    only = only_here;
     is_leaf = record { each = refl; values = tt };
     wide = leaves.examples.wide;
   };
@@ -150,7 +158,7 @@ no_point e = cc
 pub examples : Examples
 examples = record {
   endless_up = endless_up;
-  not_down = λ h. not_le_of_lt rises (≤ℚ_of_lt h.shown.true_ray.falls);
+  not_down = λ h. not_le_of_lt rises (≤ℚ_of_lt h.shown.falls.falls);
   not_without_point = λ h. no_point h.shown.is_held;
   by_one_move = by_one_move;
   not_by_two = not_by_two;

@@ -6,6 +6,7 @@ pub mod Endless
 pub mod Ends
 pub mod EndsRight
 pub mod Fitting
+pub mod GivenBoxes
 mod HeadlineTried
 pub mod Kept
 pub mod Logs

@@ -1,19 +1,17 @@
 -- The leaf that is shown, and the entries of parked nodes.
-use Rattle.std.proofs.Common.{◌≡◌, Bool, true, false, List, [], ◌∷◌, ◌++◌, map, Option, Some, refl, sym, ap, ◌∙◌, subst, cond}
+use Rattle.std.proofs.Common.{◌≡◌, Bool, true, false, List, [], ◌∷◌, ◌++◌, map, Option, refl, sym, ap, ◌∙◌, subst, cond}
 use Rattle.std.specs.List.{Contains}
-use Rattle.std.proofs.lemmas.Option.{same_Some}
 use Rattle.std.proofs.lemmas.List.Elements.{Contains-append_right}
 use Rattle.cip_rational.specs.Rational.{ℚ}
 use Rattle.cip_problem.specs.Program.{Program}
-use Rattle.cip_problem.specs.Log.{Parked, Entry, Node, node_of}
-use Rattle.cip_problem.specs.Choices.{decided}
+use Rattle.cip_problem.specs.Log.{Parked, Entry, Node}
 use Rattle.cip_leaves.specs.Leaf.{Leaf}
-use Rattle.cip_leaves.specs.Searched.{NoMore, nodes_given}
+use Rattle.cip_leaves.specs.Searched.{NoMore}
 use Rattle.cip_leaves.specs.WideLeaf.{Shown, IsWideLeaf}
-use Rattle.cip_search.specs.SearchState.{State, stay, unended, all_nodes, IsSearch, IsAsGiven, parked_entry, is_parked_end, parked_entries}
-use Rattle.cip_search.proofs.Logs.{parked_from, only_there}
+use Rattle.cip_search.specs.SearchState.{State, stay, unended, all_nodes, IsSearch, parked_entry, is_parked_end, parked_entries}
+use Rattle.cip_search.proofs.Logs.{parked_from, only_points}
 use Rattle.cip_search.proofs.Members.{ComesFrom, here, of_mapped, is_kept}
-use Rattle.cip_search.specs.SearchEnds.{IsShownLeaf, AreTrueEntries}
+use Rattle.cip_search.specs.SearchEnds.{IsShownLeaf}
 use Rattle.cip_search.specs.EndLaws.{IsShownNode}
 
 -- ---- an entry of the filtered log stands in the log, with what is before it
@@ -65,18 +63,17 @@ map_parts (n ∷ before) after node = ap (λ t. parked_entry n ∷ t) (map_parts
 
 -- ---- the leaf
 
-module _ (program : Program) (start : Option ℚ) (state : State) (s : IsSearch program program stay IsWideLeaf start state) (g : IsAsGiven program start state) where
+module _ (program : Program) (start : Option ℚ) (state : State) (s : IsSearch program program stay IsWideLeaf start state) where
   from_parked : (entry : Entry) → Contains state.log entry → entry.end ≡ Parked → ComesFrom parked_entry state.parked entry
   from_parked = parked_from program program stay IsWideLeaf start state s
 
-  pub shown_leaf : (leaf : Leaf) (shown : Shown) → IsShownNode program state.parked leaf shown → IsShownLeaf program start state.log leaf shown
+  pub shown_leaf : (leaf : Leaf) (shown : Shown) → IsShownNode program state.parked leaf shown → IsShownLeaf program start state.log state.held leaf shown
   shown_leaf leaf shown h =
       let there : parked_entries state.log ≡ map parked_entry h.before ++ parked_entry h.node ∷ map parked_entry h.after = s.parked ∙ (ap (map parked_entry) h.placed ∙ map_parts h.before h.after h.node) in
       let at = stands state.log (map parked_entry h.before) (map parked_entry h.after) (parked_entry h.node) there in
       let among : Contains state.parked h.node = subst (λ t. Contains t h.node) (sym h.placed) (Contains-append_right h.before (h.node ∷ h.after) h.node (here h.node h.after)) in
       let every : Contains (all_nodes state) h.node = Contains-append_right (unended state) state.parked h.node among in
       let given = s.given h.node every in
-      let box : h.node.box ≡ given.given.box = g.boxes h.node given.given every given.found in
       record {
         entry = parked_entry h.node;
         node = given.given;
@@ -92,23 +89,7 @@ module _ (program : Program) (start : Option ℚ) (state : State) (s : IsSearch 
               h.first f.from f.among (subst (λ b. NoMore b h.node.bound) (ap (λ (t : Entry). t.bound) (sym f.is)) n));
         };
         given = given.found;
-        only = only_there program h.node given.given leaf box given.choices h.only;
+        only = only_points program start state.log state.held h.node leaf s.logged given h.only;
         is_leaf = h.is_leaf;
         wide = h.wide;
-      }
-
-  pub true_entries : AreTrueEntries program start state.log state.held
-  true_entries entry node c e =
-      let r = s.entries entry node c e in
-      record {
-        kept = r.kept;
-        holds = r.holds;
-        parked = λ p. (
-            let f = from_parked entry c p in
-            let k = (s.stuck f.from f.among).at_leaf in
-            let box : f.from.box ≡ node.box = g.boxes f.from node (Contains-append_right (unended state) state.parked f.from f.among) (ap (λ (t : Entry). node_of (nodes_given program start state.log) t.node) f.is ∙ e) in
-            let given = s.given f.from (Contains-append_right (unended state) state.parked f.from f.among) in
-            let found : node_of (nodes_given program start state.log) f.from.number ≡ Some node = ap (λ (t : Entry). node_of (nodes_given program start state.log) t.node) f.is ∙ e in
-            let choices : f.from.choices ≡ node.choices = given.choices ∙ ap (λ (n : Node). n.choices) (same_Some given.given node (sym given.found ∙ found)) in
-            (k.left, only_there program f.from node k.left box choices k.only, subst (λ (l : Leaf). IsWideLeaf (decided program l.on) l.values) k.is k.wide));
       }

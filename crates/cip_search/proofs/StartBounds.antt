@@ -11,7 +11,7 @@ use Rattle.cip_search.proofs.Bounds.{no_more_same}
 use Rattle.cip_search.proofs.Members.{none_in, here, later, here_or_later, only_one}
 use Rattle.cip_search.proofs.OneMore.{node_of_among, node_of_kept, given_kept}
 use Rattle.cip_search.proofs.Relaxed.{no_more_trans}
-use Rattle.cip_search.specs.SearchEnds.{Ended, Optimal, Infeasible, Unbounded, NodeLimit, Gap, Wide, NoMemory, Answer, Held, cost_held, IsHeldPoint, IsSettled, EndHolds, IsAnswer}
+use Rattle.cip_search.specs.SearchEnds.{Ended, Optimal, Infeasible, Unbounded, NodeLimit, Gap, Wide, NoMemory, Answer, Held, cost_of_held, IsHeldPoint, IsSettled, EndHolds, IsAnswer}
 use Rattle.cip_search.specs.SearchAnswers.{TellsBound}
 
 -- ---- nodes and entries
@@ -56,7 +56,7 @@ cost_above : (program : Program) (start : Option ℚ) (held : Held) → IfSome s
 cost_above program None held l p = tt
 cost_above program (Some s) held l p = subst (λ c. s ≤ℚ c) (sym p.cost) (l held.point p.feasible)
 
-held_above : (program : Program) (start : Option ℚ) (held : Option Held) (cost : ℚ) → IfSome start (IsLowerBound program) → IfSome held (IsHeldPoint program) → cost_held held ≡ Some cost → NoMore start (Some cost)
+held_above : (program : Program) (start : Option ℚ) (held : Option Held) (cost : ℚ) → IfSome start (IsLowerBound program) → IfSome held (IsHeldPoint program) → cost_of_held held ≡ Some cost → NoMore start (Some cost)
 held_above program start None cost l p e = absurd (cc)
 held_above program start (Some held) cost l p e = subst (λ c. NoMore start c) e (cost_above program start held l p)
 
@@ -77,7 +77,7 @@ module _ (program : Program) (start : Option ℚ) (nodes : ℕ) (asked : Option 
       (λ entry node c e. (s.entries entry node c e).kept)
       (λ node c. no_more_same start node.bound (ap (λ (n : Node). n.bound) (only_one (first_node program start) node c)))
 
-  one_above : (bound : Option ℚ) → IsOneOf program start log (cost_held answer.held) bound → NoMore start bound
+  one_above : (bound : Option ℚ) → IsOneOf program start log (cost_of_held answer.held) bound → NoMore start bound
   one_above bound (inl c) = subst (NoMore start) (sym c.is_bound) (held_above program start answer.held c.cost lower a.point c.is_held)
   one_above bound (inr (inl c)) =
       subst (NoMore start) (sym c.is_bound) (above.nodes_above c.node (node_of_among (nodes_given program start log) c.node.number c.node c.left.given).0)

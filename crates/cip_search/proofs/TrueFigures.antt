@@ -2,8 +2,7 @@
 use Rattle.std.proofs.Common.{◌≡◌, ◌≢◌, inl, inr, ℕ, Bool, true, false, List, Option, None, Some, IfSome, refl, sym, ap, ◌∙◌, subst}
 use Rattle.std.specs.Prelude.{IsSome, option_map, if◌then◌else◌}
 use Rattle.std.proofs.lemmas.Option.{same_Some}
-use Rattle.cip_rational.specs.Rational.{ℚ, ◌-ℚ◌, ◌≤ℚ◌, ◌<ℚ◌, negate, lt_test}
-use Rattle.cip_rational.specs.Range.{difference_overflows}
+use Rattle.cip_rational.specs.Rational.{ℚ, ◌≤ℚ◌, ◌<ℚ◌, negate, lt_test}
 use Rattle.cip_rational.proofs.Rational.Order.{not_le_of_lt, le_of_lt_test, ≤ℚ_antisymm}
 use Rattle.cip_rational.proofs.Rational.Ring.{negate_negate}
 use Rattle.cip_rational.proofs.Rational.Monotone.{negate_strict}
@@ -16,11 +15,11 @@ use Rattle.cip_leaves.specs.Searched.{NoMore, OpenMatters, ParkedMatters, IsOneO
 use Rattle.cip_leaves.specs.WideLeaf.{Shown, IsWideLeaf}
 use Rattle.cip_search.specs.Endings.{HasWidePoint}
 use Rattle.cip_search.specs.SearchEnds as ends
-use Rattle.cip_search.specs.SearchEnds.{Ended, Optimal, Infeasible, Unbounded, NodeLimit, Gap, Wide, NoMemory, Held, Answer, cost_held as cost_of_held, IsHeldPoint, FallsWithoutEnd, EndsAs, Agrees, IsCheaper, IsUnbounded, EndHolds}
+use Rattle.cip_search.specs.SearchEnds.{Ended, Optimal, Infeasible, Unbounded, NodeLimit, Gap, Wide, NoMemory, Held, Answer, cost_of_held, IsHeldPoint, ReachesGap, NothingIsLeft, EndsAs, Agrees, IsCheaper, IsUnbounded, EndHolds}
 use Rattle.cip_answers.specs.Figures.{Held as PrintedHeld, Overflow, Optimal as PrintedOptimal, Infeasible as PrintedInfeasible, Wide as PrintedWide, names_of}
-use Rattle.cip_answers.specs.Headline.{IsBetter, IsTruePoint, IsTrueBound, IsTrueRay, Agree}
+use Rattle.cip_answers.specs.Headline.{IsBetter, IsTruePoint, IsTrueBound, Agree}
 use Rattle.cip_answers.proofs.AnswerTexts.{answer_text_injective}
-use Rattle.cip_search.specs.Headline.{cost_held, IsBetterThan, IsWithinBox, IsSettled, ShowsOverflow, ReachesGap, overflow_at, EndsWith, EndsItself, AgreeAtLast, IsEndless, AreTrue}
+use Rattle.cip_search.specs.Headline.{cost_of_printed, IsBetterThan, IsWithinBox, ShowsOverflow, ShowsGap, overflow_at, EndsWith, EndsItself, AgreeAtLast, IsEndless, AreTrue}
 use Rattle.cip_search.specs.Printed.{status_of, printed_held, figures_of, IsPrintable}
 use Rattle.cip_search.specs.HeadlineStatements.{FiguresAreTrue}
 use Rattle.cip_search.proofs.Ends.{ends_exclude, same_printed, not_none}
@@ -100,7 +99,7 @@ is_wide rows (Wide values shown) leaf place e = (values, shown, refl)
 is_wide rows NoMemory leaf place e = absurd (cc)
 
 -- the costs held, as they are and as they are printed
-costs_held : (program : Program) (held : Option Held) → IfSome held (IsHeldPoint program) → cost_of_held held ≡ cost_held program (option_map (printed_held program) held)
+costs_held : (program : Program) (held : Option Held) → IfSome held (IsHeldPoint program) → cost_of_held held ≡ cost_of_printed program (option_map (printed_held program) held)
 costs_held program None h = refl
 costs_held program (Some held) h = ap Some h.cost
 
@@ -112,15 +111,12 @@ none_printed : {A B : Type 0} (f : A → B) (o : Option A) → o ≡ None → op
 none_printed f None e = refl
 none_printed f (Some x) e = absurd (cc)
 
-true_ray : (program : Program) (point ray : List ℚ) → FallsWithoutEnd program point ray → IsTrueRay program point ray
-true_ray program point ray f = record { points = f.points; cost = f.cost; falls = f.falls }
-
 endless : (program : Program) (answer : Answer) (ray : List ℚ) → IsUnbounded program answer ray → IsEndless program (figures_of program answer) ray
 endless program answer ray u = record {
   shown = record {
     held = printed_held program u.held;
     is_held = ap (option_map (printed_held program)) u.is_held;
-    true_ray = true_ray program u.held.point ray u.falls;
+    falls = u.falls;
   };
   no_bound = ap (option_map (printed program)) u.no_bound;
 }
@@ -139,36 +135,30 @@ bound_back : (program : Program) (bound : Option ℚ) (least : ℚ) → option_m
 bound_back program None least e = absurd (cc)
 bound_back program (Some b) least e = ap Some (same_printed program.maximized b least (same_Some _ _ e))
 
-gap_there : (program : Program) (asked : Option ℚ) (answer : Answer) → ends.ReachesGap asked answer.held answer.bound → ReachesGap program asked (figures_of program answer)
-gap_there program asked answer g = record {
-  gap = g.gap;
-  is_asked = g.is_asked;
-  held = printed_held program g.point;
-  is_held = ap (option_map (printed_held program)) g.is_held;
-  cost = g.point.cost;
+shown_gap : (program : Program) (asked : Option ℚ) (ended : Ended) (held : Option Held) (bound : Option ℚ) → ReachesGap asked (cost_of_held held) bound → ShowsGap program asked (figures_of program (record { ended = ended; held = held; bound = bound }))
+shown_gap program None ended held bound g = absurd g
+shown_gap program (Some gap) ended None bound g = absurd g
+shown_gap program (Some gap) ended (Some held) None g = absurd g
+shown_gap program (Some gap) ended (Some held) (Some least) g = record {
+  held = printed_held program held;
+  is_held = refl;
+  cost = held.cost;
   is_cost = refl;
-  least = g.least;
-  is_bound = ap (option_map (printed program)) g.is_bound;
-  fits = g.fits;
-  above = g.above;
-  most = g.most;
+  least = least;
+  is_bound = refl;
+  reached = g;
 }
 
-gap_back : (program : Program) (asked : Option ℚ) (answer : Answer) → ReachesGap program asked (figures_of program answer) → ends.ReachesGap asked answer.held answer.bound
+gap_there : (program : Program) (asked : Option ℚ) (answer : Answer) → ReachesGap asked (cost_of_held answer.held) answer.bound → ShowsGap program asked (figures_of program answer)
+gap_there program asked answer g = shown_gap program asked answer.ended answer.held answer.bound g
+
+gap_back : (program : Program) (asked : Option ℚ) (answer : Answer) → ShowsGap program asked (figures_of program answer) → ReachesGap asked (cost_of_held answer.held) answer.bound
 gap_back program asked answer g =
     let h = held_back program answer.held g.held g.is_held in
     let same : h.0.cost ≡ g.cost = same_printed program.maximized h.0.cost g.cost (ap (λ (p : PrintedHeld). p.cost) h.2 ∙ g.is_cost) in
-    record {
-      gap = g.gap;
-      is_asked = g.is_asked;
-      point = h.0;
-      is_held = h.1;
-      least = g.least;
-      is_bound = bound_back program answer.bound g.least g.is_bound;
-      fits = ap (λ t. difference_overflows t g.least) same ∙ g.fits;
-      above = subst (λ t. g.least <ℚ t) (sym same) g.above;
-      most = subst (λ t. t -ℚ g.least ≤ℚ g.gap) (sym same) g.most;
-    }
+    let cost : cost_of_held answer.held ≡ Some g.cost = ap cost_of_held h.1 ∙ ap Some same in
+    subst (λ t. ReachesGap asked t answer.bound) (sym cost)
+    (subst (ReachesGap asked (Some g.cost)) (sym (bound_back program answer.bound g.least g.is_bound)) g.reached)
 
 -- ---- where nothing is left
 
@@ -204,16 +194,16 @@ agree_there program start log answer s l o p = agree_held program start log answ
 
 module _ (program : Program) (start : Option ℚ) (nodes : ℕ) (asked : Option ℚ) (log : List Entry) (answer : Answer) (point : IfSome answer.held (IsHeldPoint program)) where
   -- what matters beside the cost held, beside the printed point
-  open_there : OpenMatters program start log (cost_of_held answer.held) → OpenMatters program start log (cost_held program (figures_of program answer).held)
+  open_there : OpenMatters program start log (cost_of_held answer.held) → OpenMatters program start log (cost_of_printed program (figures_of program answer).held)
   open_there = subst (OpenMatters program start log) (costs_held program answer.held point)
 
-  open_back : OpenMatters program start log (cost_held program (figures_of program answer).held) → OpenMatters program start log (cost_of_held answer.held)
+  open_back : OpenMatters program start log (cost_of_printed program (figures_of program answer).held) → OpenMatters program start log (cost_of_held answer.held)
   open_back = subst (OpenMatters program start log) (sym (costs_held program answer.held point))
 
-  parked_there : ParkedMatters log (cost_of_held answer.held) → ParkedMatters log (cost_held program (figures_of program answer).held)
+  parked_there : ParkedMatters log (cost_of_held answer.held) → ParkedMatters log (cost_of_printed program (figures_of program answer).held)
   parked_there = subst (ParkedMatters log) (costs_held program answer.held point)
 
-  parked_back : ParkedMatters log (cost_held program (figures_of program answer).held) → ParkedMatters log (cost_of_held answer.held)
+  parked_back : ParkedMatters log (cost_of_printed program (figures_of program answer).held) → ParkedMatters log (cost_of_held answer.held)
   parked_back = subst (ParkedMatters log) (sym (costs_held program answer.held point))
 
   shown_there : (leaf : Leaf) (shown : Shown) → EndsAs program start nodes log answer.held (Wide leaf shown) → ShowsOverflow program start log (figures_of program answer).held leaf (overflow_at program.row_names shown)
@@ -222,23 +212,23 @@ module _ (program : Program) (start : Option ℚ) (nodes : ℕ) (asked : Option 
     matter = parked_there h.1;
     by = shown;
     is_printed = refl;
-    shown = h.2;
+    shown = subst (λ c. ends.IsShownLeaf program start log c leaf shown) (costs_held program answer.held point) h.2;
   }
 
-  settled_there : ¬ OpenMatters program start log (cost_of_held answer.held) → ¬ ParkedMatters log (cost_of_held answer.held) → IsSettled program start log (figures_of program answer).held
-  settled_there o p = record { none_open = λ m. o (open_back m); none_parked = λ m. p (parked_back m) }
+  left_there : NothingIsLeft program start log (cost_of_held answer.held) → NothingIsLeft program start log (cost_of_printed program (figures_of program answer).held)
+  left_there = subst (NothingIsLeft program start log) (costs_held program answer.held point)
 
   -- the gap isn't reached, as it is printed, by an answer of another end
-  far_there : (ended : Ended) → answer.ended ≡ ended → ended ≢ NoMemory → ended ≢ Gap → ends.IsSettled program start nodes asked log answer → ¬ ReachesGap program asked (figures_of program answer)
+  far_there : (ended : Ended) → answer.ended ≡ ended → ended ≢ NoMemory → ended ≢ Gap → ends.IsSettled program start nodes asked log answer → ¬ ShowsGap program asked (figures_of program answer)
   far_there ended e n m h g = m (sym e ∙ (h.gap (λ f. n (sym e ∙ f))).1 (gap_back program asked answer g))
 
   ends_with : (ended : Ended) → answer.ended ≡ ended → EndHolds program start nodes asked log answer ended → EndsWith program start nodes asked log (figures_of program answer) (status_of program.row_names ended)
   ends_with Optimal e h =
       let k = subst (EndsAs program start nodes log answer.held) e h.ends in
-      (settled_there k.0 k.1, some_printed (printed_held program) answer.held k.2)
+      (left_there k.0, some_printed (printed_held program) answer.held k.1)
   ends_with Infeasible e h =
       let k = subst (EndsAs program start nodes log answer.held) e h.ends in
-      (settled_there k.0 k.1, none_printed (printed_held program) answer.held k.2)
+      (left_there k.0, none_printed (printed_held program) answer.held k.1)
   ends_with (Unbounded ray) e h = endless program answer ray h
   ends_with NodeLimit e h =
       let k = subst (EndsAs program start nodes log answer.held) e h.ends in
@@ -255,7 +245,7 @@ module _ (program : Program) (start : Option ℚ) (nodes : ℕ) (asked : Option 
 
   least_by : (ended : Ended) → answer.ended ≡ ended → EndsItself (status_of program.row_names ended) → EndHolds program start nodes asked log answer ended → IsSome answer.held → IsLeast program start log (cost_of_held answer.held) answer.bound
   least_by Optimal e t h p = h.least (λ f. absurd (let g = sym e ∙ f in cc))
-  least_by Infeasible e t h p = absurd (not_none answer.held p (subst (EndsAs program start nodes log answer.held) e h.ends).2)
+  least_by Infeasible e t h p = absurd (not_none answer.held p (subst (EndsAs program start nodes log answer.held) e h.ends).1)
   least_by (Unbounded ray) e t h p = absurd t
   least_by NodeLimit e t h p = h.least (λ f. absurd (let g = sym e ∙ f in cc))
   least_by Gap e t h p = h.least (λ f. absurd (let g = sym e ∙ f in cc))

@@ -10,7 +10,7 @@ use Rattle.cip_leaves.specs.Searched.{NoMore}
 use Rattle.cip_leaves.specs.WideLeaf.{Shown, IsWideBy, IsWideLeaf}
 use Rattle.cip_search.specs.SearchState.{State, stay, all_nodes, IsSearch, IsAsGiven}
 use Rattle.cip_search.specs.Endings.{OneMatters, NoneMatters, IsLeastBound}
-use Rattle.cip_search.specs.SearchEnds.{Ended, Optimal, Infeasible, Unbounded, NodeLimit, Gap, Wide, NoMemory, Answer, cost_held, IsHeldPoint, ReachesGap, IsAnswer}
+use Rattle.cip_search.specs.SearchEnds.{Ended, Optimal, Infeasible, Unbounded, NodeLimit, Gap, Wide, NoMemory, Answer, cost_of_held, IsHeldPoint, ReachesGap, IsAnswer}
 
 -- the parked node of least bound, the first of these: its box has one leaf, and that is this one, which is wide by what
 -- is shown
@@ -43,12 +43,12 @@ ComesTo program nodes state NoMemory = ⊤
 pub record IsAnswerOf
     (program : Program) (nodes : ℕ) (asked : Option ℚ) (state : State) (answer : Answer) : Type 0 where
   pub idle : state.work ≡ []
-  pub held : state.held ≡ cost_held answer.held
+  pub held : state.held ≡ cost_of_held answer.held
   pub point : IfSome answer.held (IsHeldPoint program)
   pub comes : ComesTo program nodes state answer.ended
   pub least : answer.ended ≢ Infeasible → IsLeastBound state.held (all_nodes state) answer.bound
   pub no_bound : answer.ended ≡ Infeasible → answer.bound ≡ None
-  pub gap : answer.ended ≢ NoMemory → (answer.ended ≡ Gap) ↔ ReachesGap asked answer.held answer.bound
+  pub gap : answer.ended ≢ NoMemory → (answer.ended ≡ Gap) ↔ ReachesGap asked (cost_of_held answer.held) answer.bound
 
 -- then it is right
 abbrev pub EndsAreRight : Type 0

@@ -2,9 +2,8 @@
 -- and with a gap that was asked for, or none.
 -- Costs and bounds that no figure shows are those of the minimised form. `box` is the box bound of the program, which
 -- is none where a side is open or a sum overflows, and `start` the bound of the search's root.
-use Rattle.std.specs.Prelude.{◌≡◌, ◌≢◌, ℕ, false, List, [], Option, None, Some, IfSome, IsSome, option_map, length, slice_index_or, ⊤}
-use Rattle.cip_rational.specs.Rational.{ℚ, ◌-ℚ◌, ◌≤ℚ◌, ◌<ℚ◌}
-use Rattle.cip_rational.specs.Range.{difference_overflows}
+use Rattle.std.specs.Prelude.{◌≡◌, ◌≢◌, ℕ, List, [], Option, None, Some, IfSome, IsSome, option_map, length, slice_index_or, ⊤}
+use Rattle.cip_rational.specs.Rational.{ℚ}
 use Rattle.cip_problem.specs.Program.{Program}
 use Rattle.cip_problem.specs.Points.{IsFeasible, cost_of, printed}
 use Rattle.cip_problem.specs.Log.{Entry, IsLog}
@@ -13,15 +12,15 @@ use Rattle.cip_leaves.specs.Wide.{InRow, InCost}
 use Rattle.cip_leaves.specs.Searched.{OpenMatters, ParkedMatters}
 use Rattle.cip_leaves.specs.WideLeaf.{Shown, AtPlace, AfterMoves, IsWideLeaf}
 use Rattle.cip_search.specs.Endings.{HasWidePoint}
-use Rattle.cip_search.specs.SearchEnds.{IsShownLeaf}
+use Rattle.cip_search.specs.SearchEnds.{IsShownLeaf, ReachesGap, NothingIsLeft}
 use Rattle.cip_answers.specs.Figures.{Overflow, AtRow, AtCost, AtMoves, Status, Figures, Held}
 use Rattle.cip_answers.specs.Figures.{Optimal, Infeasible, Unbounded, NodeLimit, Gap, Wide, NoMemory}
 use Rattle.cip_answers.specs.Figures.{FitNames, status_word, names_of, answer_text}
 use Rattle.cip_answers.specs.Headline.{IsBetter, printed_cost, IsTruePoint, IsTrueBound, Agree, ShowsRay}
 
 -- the cost of the point that is printed, if one is
-abbrev pub cost_held : Program → Option Held → Option ℚ
-cost_held program held = option_map (λ held. cost_of program held.point) held
+abbrev pub cost_of_printed : Program → Option Held → Option ℚ
+cost_of_printed program held = option_map (λ held. cost_of program held.point) held
 
 -- a point is better than the one that is printed; where none is printed, each point is
 abbrev pub IsBetterThan : Program → Option Held → List ℚ → Type 0
@@ -42,36 +41,26 @@ overflow_at rows (AfterMoves number) = AtMoves number
 
 -- an open node of the search matters beside the point held
 abbrev pub HasOpen : Program → (start : Option ℚ) → List Entry → Option Held → Type 0
-HasOpen program start log held = OpenMatters program start log (cost_held program held)
+HasOpen program start log held = OpenMatters program start log (cost_of_printed program held)
 
 -- a parked leaf of the search matters beside the point held
 abbrev pub HasParked : Program → List Entry → Option Held → Type 0
-HasParked program log held = ParkedMatters log (cost_held program held)
-
--- nothing is left: no open node and no parked leaf matters
-pub record IsSettled (program : Program) (start : Option ℚ) (log : List Entry) (held : Option Held) : Type 0 where
-  pub none_open : ¬ HasOpen program start log held
-  pub none_parked : ¬ HasParked program log held
+HasParked program log held = ParkedMatters log (cost_of_printed program held)
 
 -- the cost falls without end: from the printed point one may go any way along the printed ray, and no bound is printed
 pub record IsEndless (program : Program) (figures : Figures) (ray : List ℚ) : Type 0 where
   pub shown : ShowsRay program figures ray
   pub no_bound : figures.bound ≡ None
 
--- the gap that was asked for is reached: a point and a bound are printed, and in the minimised form the cost less the
--- bound is in range, above 0 and at most the gap
-pub record ReachesGap (program : Program) (asked : Option ℚ) (figures : Figures) : Type 0 where
-  pub gap : ℚ
-  pub is_asked : asked ≡ Some gap
+-- the gap that was asked for is reached by what is printed: by a cost and a bound, as they are in the minimised form
+pub record ShowsGap (program : Program) (asked : Option ℚ) (figures : Figures) : Type 0 where
   pub held : Held
   pub is_held : figures.held ≡ Some held
   pub cost : ℚ
   pub is_cost : held.cost ≡ printed program cost
   pub least : ℚ
   pub is_bound : figures.bound ≡ Some (printed program least)
-  pub fits : difference_overflows cost least ≡ false
-  pub above : least <ℚ cost
-  pub most : cost -ℚ least ≤ℚ gap
+  pub reached : ReachesGap asked (Some cost) (Some least)
 
 -- the node budget is spent: the log has as many entries, and an open node matters
 pub record IsSpent
@@ -79,8 +68,8 @@ pub record IsSpent
   pub full : length log ≡ nodes
   pub matter : HasOpen program start log held
 
--- an overflow is shown: no open node matters, a parked leaf does, and the leaf that is printed is the parked one of
--- least bound, the first of these; it is wide by what is printed: the row, the cost, or the number of moves
+-- an overflow is shown: no open node matters, a parked leaf does, and the leaf that is printed is that of the parked
+-- node of least bound, the first of these; it is wide by what is printed: the row, the cost, or the number of moves
 pub record ShowsOverflow
     (program : Program) (start : Option ℚ) (log : List Entry) (held : Option Held) (leaf : Leaf) (overflow : Overflow)
     : Type 0 where
@@ -88,21 +77,21 @@ pub record ShowsOverflow
   pub matter : HasParked program log held
   pub by : Shown
   pub is_printed : overflow ≡ overflow_at program.row_names by
-  pub shown : IsShownLeaf program start log leaf by
+  pub shown : IsShownLeaf program start log (cost_of_printed program held) leaf by
 
 -- what each end says; those by a spent budget and by a shown overflow come only where the gap isn't reached
 abbrev pub EndsWith : Program → (start : Option ℚ) → (nodes : ℕ) → (asked : Option ℚ) → List Entry → Figures → Status
     → Type 0
 EndsWith program start nodes asked log figures Optimal =
-    IsSettled program start log figures.held × IsSome figures.held
+    NothingIsLeft program start log (cost_of_printed program figures.held) × IsSome figures.held
 EndsWith program start nodes asked log figures Infeasible =
-    IsSettled program start log figures.held × (figures.held ≡ None)
+    NothingIsLeft program start log (cost_of_printed program figures.held) × (figures.held ≡ None)
 EndsWith program start nodes asked log figures (Unbounded ray) = IsEndless program figures ray
 EndsWith program start nodes asked log figures NodeLimit =
-    IsSpent program start nodes log figures.held × (¬ ReachesGap program asked figures)
-EndsWith program start nodes asked log figures Gap = ReachesGap program asked figures
+    IsSpent program start nodes log figures.held × (¬ ShowsGap program asked figures)
+EndsWith program start nodes asked log figures Gap = ShowsGap program asked figures
 EndsWith program start nodes asked log figures (Wide leaf overflow) =
-    ShowsOverflow program start log figures.held leaf overflow × (¬ ReachesGap program asked figures)
+    ShowsOverflow program start log figures.held leaf overflow × (¬ ShowsGap program asked figures)
 EndsWith program start nodes asked log figures NoMemory = ⊤
 
 -- an end that comes by what is left of the search and by what was asked: neither a ray nor want of memory has cut it
@@ -119,7 +108,7 @@ EndsItself NoMemory = ⊥
 -- where nothing is left and a point is printed, cost and bound are there and agree
 abbrev pub AgreeAtLast : Program → (start : Option ℚ) → List Entry → Figures → Type 0
 AgreeAtLast program start log figures =
-    IsSettled program start log figures.held → IsSome figures.held → Agree figures
+    NothingIsLeft program start log (cost_of_printed program figures.held) → IsSome figures.held → Agree figures
 
 -- ---- the headline
 

@@ -5,7 +5,7 @@ use Rattle.cip_problem.specs.Program.{Program}
 use Rattle.cip_problem.specs.WellFormed.{IsWellFormed}
 use Rattle.cip_problem.specs.Points.{IsLowerBound}
 use Rattle.cip_problem.specs.Log.{Entry, root, leaf_count, IsLog}
-use Rattle.cip_answers.specs.Headline.{IsTrueRay}
+use Rattle.cip_linear.specs.Falling.{FallsWithoutEnd}
 use Rattle.cip_answers.specs.Figures.{Figures, Held, Status, status_word}
 use Rattle.cip_search.specs.SearchEnds.{Answer}
 use Rattle.cip_search.specs.Headline.{HasOpen, EndsWith, EndsItself, AgreeAtLast, AreTrue}
@@ -33,9 +33,9 @@ BudgetsSuffice =
     → IsLog program log → HasOpen program start log held → leaf_count program.integral (root program) ≡ Some n
     → length log < max 1 (2 * n - 1)
 
--- where there is a true ray, there is no lower bound: so no run says unbounded of a program of which another prints a
--- bound
+-- where the cost falls without end, there is no lower bound: so no run says unbounded of a program of which another
+-- prints a bound
 abbrev pub RaysExcludeBounds : Type 0
 RaysExcludeBounds =
     (program : Program) (point ray : List ℚ) (bound : ℚ)
-    → IsTrueRay program point ray → ¬ IsLowerBound program bound
+    → FallsWithoutEnd program point ray → ¬ IsLowerBound program bound

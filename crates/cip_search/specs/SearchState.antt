@@ -164,11 +164,14 @@ pub record IsSearch
       → IsLeftOpen reduced start state.log node → matters state.held node.bound ≡ true
       → HasNumber (unended state) node.number
 
--- nothing was done on the nodes but what the log tells: each has the box that the log gave it, and an open one the bound
+-- an open node has the bound that the log gave it
 pub record IsAsGiven (reduced : Program) (start : Option ℚ) (state : State) : Type 0 where
-  pub boxes : (node given : Node)
-      → Contains (all_nodes state) node
-      → node_of (nodes_given reduced start state.log) node.number ≡ Some given → node.box ≡ given.box
   pub bounds : (node given : Node)
       → Contains state.open_ node
       → node_of (nodes_given reduced start state.log) node.number ≡ Some given → node.bound ≡ given.bound
+
+-- no box was changed since the log gave it
+pub record HasGivenBoxes (reduced : Program) (start : Option ℚ) (state : State) : Type 0 where
+  pub boxes : (node given : Node)
+      → Contains (all_nodes state) node
+      → node_of (nodes_given reduced start state.log) node.number ≡ Some given → node.box ≡ given.box

@@ -12,7 +12,7 @@ use Rattle.cip_cuts.specs.Improving.{HoldsInBox, IsBoundIn, HasNoImproving, IsNo
 use Rattle.cip_cuts.specs.Cover.{HasBoundFrom}
 use Rattle.cip_leaves.specs.Searched.{first_node, nodes_given, OpenMatters, ParkedMatters, NoMore, IsLeast, IsCovered, AreTrueEntries}
 use Rattle.cip_leaves.specs.Wide.{IsWide}
-use Rattle.cip_search.specs.SearchState.{State, WayBack, stay, IsWayBack, unended, all_nodes, IsAttained, IsStuck, IsSearch, IsAsGiven}
+use Rattle.cip_search.specs.SearchState.{State, WayBack, stay, IsWayBack, unended, all_nodes, IsAttained, IsStuck, IsSearch, IsAsGiven, HasGivenBoxes}
 use Rattle.cip_search.specs.Endings.{OneMatters, NoneMatters, HasWidePoint, IsLeastBound}
 use Rattle.cip_search.specs.Relaxation.{relaxation, IsRelaxedBound}
 
@@ -118,7 +118,7 @@ pub record StepsKeepSearches
       → IsSearch program reduced way Wide start state
       → IsSearch program reduced way Wide start (record state { work = work; open_ = open_ })
 
--- boxes and bounds stay as the log gave them, where a node's box is not changed, and a node goes back with its own bound
+-- the bounds of open nodes stay as the log gave them, where a node goes back with its own bound
 pub record StepsKeepGiven
     (program reduced : Program) (way : WayBack) (Wide : Program → List ℚ → Type 0)
     (start : Option ℚ) : Type 0 where
@@ -168,6 +168,55 @@ pub record StepsKeepGiven
       → ((given : Node) → node_of (nodes_given reduced start state.log) node.number ≡ Some given
       → node.bound ≡ given.bound)
       → IsAsGiven reduced start state → IsAsGiven reduced start (record state { work = work; open_ = open_ })
+
+-- boxes stay as the log gave them, where none is changed
+pub record StepsKeepBoxes
+    (program reduced : Program) (way : WayBack) (Wide : Program → List ℚ → Type 0)
+    (start : Option ℚ) : Type 0 where
+  pub begun : (held : Option ℚ) → HasGivenBoxes reduced start (record {
+    held = held;
+    work = [];
+    open_ = first_node reduced start ∷ [];
+    parked = [];
+    log = [];
+  })
+  pub taken : (state : State) (node : Node) (open_ : List Node)
+      → IsPermutation state.open_ (node ∷ open_) → HasGivenBoxes reduced start state
+      → HasGivenBoxes reduced start (record state { work = node ∷ state.work; open_ = open_ })
+  pub raised : (state : State) (node : Node) (work : List Node) (b : Option ℚ)
+      → state.work ≡ node ∷ work → HasGivenBoxes reduced start state
+      → HasGivenBoxes reduced start (record state { work = record node { bound = b } ∷ work })
+  pub closed : (state : State) (node : Node) (work : List Node)
+      → state.work ≡ node ∷ work → IsSearch program reduced way Wide start state
+      → HasGivenBoxes reduced start state
+      → HasGivenBoxes reduced start (record state { work = work; log = state.log ++ closed_entry node ∷ [] })
+  pub parked : (state : State) (node : Node) (work : List Node)
+      → state.work ≡ node ∷ work → IsSearch program reduced way Wide start state
+      → HasGivenBoxes reduced start state
+      → HasGivenBoxes reduced start (record state {
+        work = work;
+        parked = state.parked ++ node ∷ [];
+        log = state.log ++ record { node = node.number; bound = node.bound; end = Parked } ∷ [];
+      })
+  pub split : (state : State) (node low high : Node) (work open_ : List Node) (column : ℕ) (at : ℤ)
+      → state.work ≡ node ∷ work → CanSplit reduced.integral node column at → AreHalves node column at low high
+      → IsPermutation (low ∷ high ∷ state.open_) open_
+      → AllFollow reduced.integral (first_node reduced start ∷ []) []
+      (state.log ++ split_entry node column at low.number high.number ∷ [])
+      → IsSearch program reduced way Wide start state → HasGivenBoxes reduced start state
+      → HasGivenBoxes reduced start (record state {
+        work = work;
+        open_ = open_;
+        log = state.log ++ split_entry node column at low.number high.number ∷ [];
+      })
+  pub offered : (state : State) (held : Option ℚ)
+      → HasGivenBoxes reduced start state → HasGivenBoxes reduced start (record state { held = held })
+  pub closed_from : (state : State) (open_ : List Node) (stays : Node → Bool)
+      → IsPermutation (filter stays state.open_) open_ → HasGivenBoxes reduced start state
+      → HasGivenBoxes reduced start (record state { open_ = open_ })
+  pub put_back : (state : State) (node : Node) (work open_ : List Node)
+      → state.work ≡ node ∷ work → IsPermutation (node ∷ state.open_) open_
+      → HasGivenBoxes reduced start state → HasGivenBoxes reduced start (record state { work = work; open_ = open_ })
 
 -- ---- ends
 
@@ -224,8 +273,8 @@ pub record SearchLogsTell
 abbrev pub EntriesAreTrue : Type 0
 EntriesAreTrue =
     (program : Program) (start : Option ℚ) (state : State)
-    → IsSearch program program stay IsWide start state → IsAsGiven program start state
-    → AreTrueEntries program start state.log state.held
+    → IsSearch program program stay IsWide start state
+    → AreTrueEntries program IsWide start state.log state.held
 
 -- ---- bounds of the linear program
 

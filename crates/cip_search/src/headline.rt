@@ -20,7 +20,7 @@ pub fn budgets_suffice()
     ensures { BudgetsSuffice }
 {}
 
-/// Where there is a true ray, no number is a lower bound.
+/// Where the cost falls without end along a ray, no number is a lower bound.
 pub fn rays_exclude_bounds()
     ensures { RaysExcludeBounds }
 {}

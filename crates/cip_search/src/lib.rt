@@ -11,21 +11,26 @@ ghost use Rattle.cip_rational.specs.Rational.{ℚ};
 ghost use Rattle.cip_problem.specs.Program.{Program};
 ghost use Rattle.cip_leaves.specs.Wide.{IsWide};
 ghost use Rattle.cip_search.specs.SearchState.{WayBack};
-ghost use Rattle.cip_search.specs.Statements.{StepsKeepSearches, StepsKeepGiven, SearchesTell, SearchLogsTell, EntriesAreTrue, RelaxedBoundsHold};
+ghost use Rattle.cip_search.specs.Statements.{StepsKeepSearches, StepsKeepGiven, StepsKeepBoxes, SearchesTell, SearchLogsTell, EntriesAreTrue, RelaxedBoundsHold};
 
-/// A search begins with its root open, and what holds of it goes on holding as nodes are taken up, their bounds rise and
-/// their boxes shrink, as they are closed, put aside, split and made open again, as a cheaper point is held, and as open
-/// nodes are let go that don't matter.
+/// A search begins with its root open, and what holds of it goes on holding as nodes are taken up, their bounds rise
+/// and their boxes shrink, as they are closed, put aside, split and made open again, as a cheaper point is held, and
+/// as open nodes are let go that don't matter.
 pub fn steps_keep_searches()
     ensures { (program reduced : Program) (way : WayBack) (start : Option ℚ)
         → StepsKeepSearches program reduced way IsWide start }
 {}
 
-/// The boxes of all nodes and the bounds of open ones stay as the log gave them, where no box is changed and a node goes
-/// back with the bound that it came with.
+/// The bounds of open nodes stay as the log gave them, where a node goes back with the bound that it came with.
 pub fn steps_keep_given()
     ensures { (program reduced : Program) (way : WayBack) (start : Option ℚ)
         → StepsKeepGiven program reduced way IsWide start }
+{}
+
+/// The boxes of all nodes stay as the log gave them, where no box is changed.
+pub fn steps_keep_boxes()
+    ensures { (program reduced : Program) (way : WayBack) (start : Option ℚ)
+        → StepsKeepBoxes program reduced way IsWide start }
 {}
 
 /// Of the program as read a search says that it has no feasible point, that none is cheaper than the cost held, what

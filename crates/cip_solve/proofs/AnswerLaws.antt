@@ -5,9 +5,11 @@ use Rattle.cip_rational.specs.Rational.{ℚ, ◌≤ℚ◌}
 use Rattle.cip_rational.proofs.Rational.Order.{≤ℚ_antisymm}
 use Rattle.cip_problem.specs.Program.{Program}
 use Rattle.cip_problem.specs.Points.{IsLowerBound}
-use Rattle.cip_problem.specs.Log.{Entry}
+use Rattle.cip_problem.specs.Log.{Entry, Node}
 use Rattle.cip_cuts.specs.Improving.{IsNoDearer}
-use Rattle.cip_leaves.specs.Searched.{NoMore, IsOneOf, IsLeast, IsCovered}
+use Rattle.cip_cuts.proofs.Improving.{holds_later}
+use Rattle.cip_leaves.specs.Leaf.{IsPointOfLeaf}
+use Rattle.cip_leaves.specs.Searched.{NoMore, IsOneOf, IsLeast, IsCovered, HasWideLeaf, AreTrueEntries}
 use Rattle.cip_leaves.proofs.Covers.{bound_holds}
 use Rattle.cip_leaves.specs.WideLeaf.{IsWideLeaf}
 use Rattle.cip_incumbent.specs.HeldPoint.{HeldPoint, HoldsPointOf}
@@ -17,7 +19,7 @@ use Rattle.cip_search.proofs.Bounds.{there_later, no_more_same}
 use Rattle.cip_search.proofs.Logs as logs
 use Rattle.cip_search.proofs.Relaxed.{no_more_trans}
 use Rattle.cip_search.specs.SearchEnds as ends
-use Rattle.cip_search.specs.SearchEnds.{AreTrueEntries, IsTrueEntry, IsAnswer}
+use Rattle.cip_search.specs.SearchEnds.{IsAnswer}
 use Rattle.cip_search.specs.EndLaws.{ComesTo}
 use Rattle.cip_search.proofs.EndsRight.{ends_are_right}
 use Rattle.cip_report.specs.declared.figures.Held.{Held}
@@ -31,7 +33,7 @@ use Rattle.cip_endings.proofs.BoundLaws.{no_more_tells, more_below}
 abbrev pub cost_of_best : Option HeldPoint → Option ℚ
 cost_of_best best = option_map (λ h. h.cost) best
 
-pub same_cost : (best : Option HeldPoint) (held : Option Held) → BestIs best held → cost_of_best best ≡ ends.cost_held (option_map held_of held)
+pub same_cost : (best : Option HeldPoint) (held : Option Held) → BestIs best held → cost_of_best best ≡ ends.cost_of_held (option_map held_of held)
 same_cost best None e = ap cost_of_best e
 same_cost best (Some held) e = ap cost_of_best e
 
@@ -43,11 +45,23 @@ is_point program columns best (Some held) h e =
 
 -- ---- refused memory
 
+still_wide : (program : Program) (now before : Option ℚ) (node : Node) → IsNoDearer now before → HasWideLeaf program IsWideLeaf before node → HasWideLeaf program IsWideLeaf now node
+still_wide program now before node d w = record {
+  leaf = w.leaf;
+  is_leaf = w.is_leaf;
+  only = holds_later program now before node.box (IsPointOfLeaf program w.leaf) d w.only;
+  wide = w.wide;
+}
+
 module _ (program : Program) (start : Option ℚ) (log : List Entry) where
-  earlier_true : (now before : Option ℚ) → IsNoDearer now before → AreTrueEntries program start log before → AreTrueEntries program start log now
+  earlier_true : (now before : Option ℚ) → IsNoDearer now before → AreTrueEntries program IsWideLeaf start log before → AreTrueEntries program IsWideLeaf start log now
   earlier_true now before d t entry node c e =
       let k = t entry node c e in
-      record { kept = k.kept; holds = there_later program now before entry.bound node.box d k.holds; parked = k.parked }
+      record {
+        kept = k.kept;
+        holds = there_later program now before entry.bound node.box d k.holds;
+        parked = λ p. still_wide program now before node d (k.parked p);
+      }
 
   -- beside a cost held that has fallen the least bound is the lesser of that and the one before
   still_one : (now before bound : Option ℚ) → IsOneOf program start log before bound → (cost : ℚ) → now ≡ Some cost → ((c : ℚ) → before ≡ Some c → bound ≡ Some c → bound ≡ Some cost) → IsOneOf program start log now bound
@@ -86,37 +100,37 @@ module _ (program : Program) (start : Option ℚ) (log : List Entry) where
   capped_least (Some cost) before bound d l = capped_by before bound cost (is_no_more bound (Some cost)) refl d l
 
 module _ (program : Program) (start : Option ℚ) (nodes : ℕ) (asked : Option ℚ) (state : State) (s : IsSearch program program stay IsWideLeaf start state) where
-  cover_there : (held : Option ends.Held) → state.held ≡ ends.cost_held held → IsCovered program start state.log (ends.cost_held held)
+  cover_there : (held : Option ends.Held) → state.held ≡ ends.cost_of_held held → IsCovered program start state.log (ends.cost_of_held held)
   cover_there held e = subst (λ h. IsCovered program start state.log h) e (logs.covered program program stay IsWideLeaf start state s)
 
-  bound_below : (held : Option ends.Held) (bound : Option ℚ) → state.held ≡ ends.cost_held held → IsLeast program start state.log (ends.cost_held held) bound → IfSome bound (IsLowerBound program)
+  bound_below : (held : Option ends.Held) (bound : Option ℚ) → state.held ≡ ends.cost_of_held held → IsLeast program start state.log (ends.cost_of_held held) bound → IfSome bound (IsLowerBound program)
   bound_below held None e l = tt
-  bound_below held (Some b) e l = bound_holds program start state.log (ends.cost_held held) b (cover_there held e) l
+  bound_below held (Some b) e l = bound_holds program start state.log (ends.cost_of_held held) b (cover_there held e) l
 
   -- where memory was refused
-  pub refused_is_right : (held : Option ends.Held) (bound : Option ℚ) → state.held ≡ ends.cost_held held → IfSome held (ends.IsHeldPoint program) → WasLeast program start state.log state.held bound → IsAnswer program start nodes asked state.log (record { ended = ends.NoMemory; held = held; bound = capped (ends.cost_held held) bound })
+  pub refused_is_right : (held : Option ends.Held) (bound : Option ℚ) → state.held ≡ ends.cost_of_held held → IfSome held (ends.IsHeldPoint program) → WasLeast program start state.log state.held bound → IsAnswer program start nodes asked state.log (record { ended = ends.NoMemory; held = held; bound = capped (ends.cost_of_held held) bound })
   refused_is_right held bound e p was =
-      let d : IsNoDearer (ends.cost_held held) was.before = subst (λ h. IsNoDearer h was.before) e was.no_dearer in
-      let l = capped_least program start state.log (ends.cost_held held) was.before bound d was.least in
+      let d : IsNoDearer (ends.cost_of_held held) was.before = subst (λ h. IsNoDearer h was.before) e was.no_dearer in
+      let l = capped_least program start state.log (ends.cost_of_held held) was.before bound d was.least in
       record {
         point = p;
         end_ = record {
           least = λ f. l;
           no_bound = λ f. absurd (cc);
-          bound = bound_below held (capped (ends.cost_held held) bound) e l;
+          bound = bound_below held (capped (ends.cost_of_held held) bound) e l;
           infeasible = λ f. absurd (cc);
           agree = λ f. absurd (cc);
           wide = λ leaf shown f. absurd (cc);
           ends = tt;
           gap = λ f. absurd (f refl);
           cover = cover_there held e;
-          entries = earlier_true program start state.log (ends.cost_held held) was.before d was.entries;
+          entries = earlier_true program start state.log (ends.cost_of_held held) was.before d was.entries;
         };
         logged = logs.is_log program program stay IsWideLeaf start state s;
       }
 
 -- where it stands still
-pub still_is_right : (program : Program) (start : Option ℚ) (nodes : ℕ) (asked : Option ℚ) (state : State) (held : Option ends.Held) (bound : Option ℚ) (ended : ends.Ended) → IsSearch program program stay IsWideLeaf start state → IsAsGiven program start state → state.work ≡ [] → state.held ≡ ends.cost_held held → IfSome held (ends.IsHeldPoint program) → ComesTo program nodes state ended → (ended ≢ ends.Infeasible → IsLeastBound state.held (all_nodes state) bound) → (ended ≡ ends.Infeasible → bound ≡ None) → (ended ≢ ends.NoMemory → (ended ≡ ends.Gap) ↔ ends.ReachesGap asked held bound) → IsAnswer program start nodes asked state.log (record { ended = ended; held = held; bound = bound })
+pub still_is_right : (program : Program) (start : Option ℚ) (nodes : ℕ) (asked : Option ℚ) (state : State) (held : Option ends.Held) (bound : Option ℚ) (ended : ends.Ended) → IsSearch program program stay IsWideLeaf start state → IsAsGiven program start state → state.work ≡ [] → state.held ≡ ends.cost_of_held held → IfSome held (ends.IsHeldPoint program) → ComesTo program nodes state ended → (ended ≢ ends.Infeasible → IsLeastBound state.held (all_nodes state) bound) → (ended ≡ ends.Infeasible → bound ≡ None) → (ended ≢ ends.NoMemory → (ended ≡ ends.Gap) ↔ ends.ReachesGap asked (ends.cost_of_held held) bound) → IsAnswer program start nodes asked state.log (record { ended = ended; held = held; bound = bound })
 still_is_right program start nodes asked state held bound ended s g idle e p comes least none gap =
     ends_are_right program start nodes asked state (record { ended = ended; held = held; bound = bound }) s g
     (record { idle = idle; held = e; point = p; comes = comes; least = least; no_bound = none; gap = gap })

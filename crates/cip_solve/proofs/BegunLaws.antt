@@ -18,7 +18,7 @@ use Rattle.cip_search.proofs.Logs as logs
 use Rattle.cip_search.proofs.Members.{none_in, here, only_one}
 use Rattle.cip_search.specs.SearchEnds as ends
 use Rattle.cip_search.specs.SearchAnswers.{IsSearchAnswer}
-use Rattle.cip_search.proofs.ShownNode.{true_entries}
+use Rattle.cip_search.proofs.Logs.{true_entries}
 use Rattle.cip_search.proofs.WorkLogs.{none_relaxed, none_marked}
 use Rattle.cip_tree.specs.Moves.{IsNew}
 use Rattle.cip_tree.specs.Nodes.{Nodes}
@@ -97,7 +97,7 @@ module _ (program : Program) (start : Option ℚ) (holds : IfSome start (IsBound
     before = None;
     no_dearer = tt;
     least = logs.least program program stay IsWideLeaf start state start searched given refl least;
-    entries = true_entries program start state searched given;
+    entries = true_entries program IsWideLeaf start state searched;
   }
 
   pub nothing_searched : (nodes : ℕ) (asked : Option ℚ) → IsSearchAnswer program start nodes asked [] [] (record { ended = ends.NoMemory; held = None; bound = start })

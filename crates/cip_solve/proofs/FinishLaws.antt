@@ -142,14 +142,14 @@ module _ (program : Program) (nodes : ℕ) (asked : Option ℚ) (tree_ : Nodes) 
   abbrev told : Option ends.Held
   told = option_map held_of best
 
-  same : held ≡ ends.cost_held told
+  same : held ≡ ends.cost_of_held told
   same = same_cost holding.best best is
 
-  reached_there : reaches_gap asked held bound ≡ true → ends.ReachesGap asked told bound
-  reached_there t = gap_reached asked told bound (ap (λ h. reaches_gap asked h bound) (sym same) ∙ t)
+  reached_there : reaches_gap asked held bound ≡ true → ends.ReachesGap asked (ends.cost_of_held told) bound
+  reached_there t = gap_reached asked (ends.cost_of_held told) bound (ap (λ h. reaches_gap asked h bound) (sym same) ∙ t)
 
-  reached_back : ends.ReachesGap asked told bound → reaches_gap asked held bound ≡ true
-  reached_back r = ap (λ h. reaches_gap asked h bound) same ∙ reached_gap asked told bound r
+  reached_back : ends.ReachesGap asked (ends.cost_of_held told) bound → reaches_gap asked held bound ≡ true
+  reached_back r = ap (λ h. reaches_gap asked h bound) same ∙ reached_gap asked (ends.cost_of_held told) bound r
 
   -- it isn't reached: the budget is spent where a node is open
   spent_there : reaches_gap asked held bound ≡ false → tree_.open_ ≢ [] → length tree_.log ≡ nodes
@@ -219,10 +219,9 @@ parked_some log p e = not_empty p.before p.entry (sym p.placed ∙ e)
 
 endless_there : (program : Program) (start : Option ℚ) (nodes : ℕ) (asked : Option ℚ) (log : List Entry) (cost : ℚ) (point ray : List ℚ) → IsWellFormed program → StopsEndless program log point ray → cost ≡ cost_of program point → IsAnswer program start nodes asked log (record { ended = ends.Unbounded ray; held = Some (record { cost = cost; point = point }); bound = None })
 endless_there program start nodes asked log cost point ray formed k e =
-    let a = falls_along program point ray formed k.falls.feasible k.falls.shown.is_ray in
     record {
       point = record { feasible = k.falls.feasible; cost = e };
-      end_ = record { held = record { cost = cost; point = point }; is_held = refl; falls = record { points = a.points; cost = a.cost; falls = a.falls }; no_bound = refl };
+      end_ = record { held = record { cost = cost; point = point }; is_held = refl; falls = falls_along program point ray formed k.falls.feasible k.falls.shown.is_ray; no_bound = refl };
       logged = k.logged;
     }
 
@@ -245,7 +244,7 @@ endless_right program start nodes asked log marks cost point ray formed k w e = 
 refused_there : (program : Program) (start : Option ℚ) (nodes : ℕ) (asked : Option ℚ) (tree_ : Nodes) (holding : Holding) (best : Option Held) (bound last : Option ℚ) → StopsRefused program start tree_ holding bound → IsHolding program holding → BestIs holding.best best → last ≡ capped (cost_held holding) bound → IsAnswer program start nodes asked tree_.log (record { ended = ends.NoMemory; held = option_map held_of best; bound = last })
 refused_there program start nodes asked tree_ holding best bound last k h is e =
     let held = option_map held_of best in
-    let same : cost_held holding ≡ ends.cost_held held = same_cost holding.best best is in
+    let same : cost_held holding ≡ ends.cost_of_held held = same_cost holding.best best is in
     let right = refused_is_right program tree_.root.bound nodes asked (state_of tree_ (cost_held holding) []) k.searched held bound same (is_point program holding.columns holding.best best h.feasible is) (subst (λ s. WasLeast program s tree_.log (cost_held holding) bound) (sym k.start_is) k.was_least) in
     subst (λ s. IsAnswer program s nodes asked tree_.log (record { ended = ends.NoMemory; held = held; bound = last })) k.start_is
     (subst (λ t. IsAnswer program tree_.root.bound nodes asked tree_.log (record { ended = ends.NoMemory; held = held; bound = t })) (sym (e ∙ ap (λ t. capped t bound) same)) right)

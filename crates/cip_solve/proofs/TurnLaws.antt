@@ -15,7 +15,7 @@ use Rattle.cip_search.specs.SearchState.{stay}
 use Rattle.cip_search.specs.Endings.{IsLeastBound}
 use Rattle.cip_search.proofs.Alike as alike
 use Rattle.cip_search.proofs.Logs as logs
-use Rattle.cip_search.proofs.ShownNode.{true_entries}
+use Rattle.cip_search.proofs.Logs.{true_entries}
 use Rattle.cip_tree.specs.Moves as tree
 use Rattle.cip_tree.specs.Nodes.{Base, Nodes, TakenNode, box_of, shown}
 use Rattle.cip_rows.specs.RowPools.{Pool, kept_pool_rows}
@@ -101,7 +101,7 @@ was_least program old before after worst waiting bound log k m n e l d =
       before = cost_held before;
       no_dearer = d;
       least = logs.least program program stay IsWideLeaf old.root.bound state bound k.kept.searched k.kept.as_given refl least;
-      entries = true_entries program old.root.bound state k.kept.searched k.kept.as_given;
+      entries = true_entries program IsWideLeaf old.root.bound state k.kept.searched;
     })
 
 -- one waits

@@ -96,7 +96,7 @@ met_here : (program : Program) (tree : Nodes) (held : Option ℚ) (node : TakenN
 met_here program tree held node room None r k m = tt
 met_here program tree held node room (Some mark) r k m =
     let g = given_taken program tree held node k in
-    let same : box_of tree node ≡ g.given.box = k.as_given.boxes (shown tree node) g.given (here (shown tree node) (tree.open_ ++ tree.parked)) g.found in
+    let same : box_of tree node ≡ g.given.box = k.boxes.boxes (shown tree node) g.given (here (shown tree node) (tree.open_ ++ tree.parked)) g.found in
     record { node = g.given; given = g.found; room = room; wide = r; is_mark = subst (λ b. IsMark program (own_rows program) b room mark) same m }
 
 -- once the node has ended

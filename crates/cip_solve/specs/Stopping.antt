@@ -4,8 +4,8 @@ use Rattle.cip_rational.specs.Rational.{ℚ}
 use Rattle.cip_problem.specs.Program.{Program}
 use Rattle.cip_problem.specs.Log.{Entry}
 use Rattle.cip_cuts.specs.Improving.{IsNoDearer}
-use Rattle.cip_leaves.specs.Searched.{IsLeast}
-use Rattle.cip_search.specs.SearchEnds.{AreTrueEntries}
+use Rattle.cip_leaves.specs.Searched.{IsLeast, AreTrueEntries}
+use Rattle.cip_leaves.specs.WideLeaf.{IsWideLeaf}
 use Rattle.cip_incumbent.specs.HeldPoint.{HeldPoint}
 use Rattle.cip_report.specs.declared.figures.Held.{Held}
 
@@ -15,7 +15,7 @@ pub record WasLeast
   pub before : Option ℚ
   pub no_dearer : IsNoDearer held before
   pub least : IsLeast program start log before bound
-  pub entries : AreTrueEntries program start log before
+  pub entries : AreTrueEntries program IsWideLeaf start log before
 
 -- the point handed over is the one held
 abbrev pub BestIs : Option HeldPoint → Option Held → Type 0

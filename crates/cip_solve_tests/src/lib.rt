@@ -1,4 +1,5 @@
-//! Tests of the points held, of leaves, of the work on single nodes, and of searches over it, on programs worked out by hand.
+//! Tests of the points held, of leaves, of the work on single nodes, and of searches over it, on programs worked out
+//! by hand.
 #![tactic(auto)]
 
 #[cfg(test)]

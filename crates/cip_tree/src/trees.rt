@@ -311,9 +311,10 @@ impl Tree {
             (λ halves. IsSplit self.old self.new node.now col at halves.0 halves.1)
             (λ fault. (self.new ≡ self.old) × IsSplitFault self.old node.now col at fault) }
     {
-        // Each whole column of the node needs a whole value, and a caller can see to it: a node with a column that has
-        // none holds no point and is closed, the halves of a split keep such values (`CanSplit`), and between a take and
-        // a split only the caller's own notes could take the last one. The tree would have to look at every column.
+        // Each whole column of the node needs a whole value, and a caller can see to it: a node with a column that
+        // has none holds no point and is closed, the halves of a split keep such values (`CanSplit`), and between a
+        // take and a split only the caller's own notes could take the last one. The tree would have to look at every
+        // column.
         let (low_change, high_change) = self.halves(node, col, at)?;
         let notes = node.notes.as_slice().to_vec(self.alloc)?;
         make_room(

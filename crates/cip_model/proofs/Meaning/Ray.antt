@@ -19,6 +19,7 @@ use Rattle.cip_problem.specs.Choices.{choice_at, Allows, KeepsChoices, greater, 
 use Rattle.cip_problem.specs.Points.{AreWhole, IsFeasible, cost_of}
 use Rattle.cip_problem.specs.WellFormed.{IsChoice, IsWellFormed, columns}
 use Rattle.cip_linear.specs.LinearProgram.{LinearProgram, IsPoint, StaysBetween, IsRay as IsLinearRay, moved}
+use Rattle.cip_linear.specs.Falling.{FallsWithoutEnd}
 use Rattle.cip_linear.proofs.Rays.{ray_points, ray_cost}
 use Rattle.cip_lin.specs.RowSums.{activity_from}
 use Rattle.cip_lin.proofs.RowSums.ActivityValue.{activity_from-zero}
@@ -26,8 +27,9 @@ use Rattle.cip_model.specs.declared.verdicts.Place.TheVariants.{Row as AtRow, Co
 use Rattle.cip_model.specs.declared.verdicts.Verdict.TheVariants.{Feasible}
 use Rattle.cip_model.specs.Meaning.{RowOverflows, VerdictHolds}
 use Rattle.cip_model.specs.Verdicts.{verdict_of}
+use Rattle.cip_model.proofs.Meaning.Point.{verdict_holds}
 use Rattle.cip_model.specs.RayTests.{falls_not, rises_not, stays, all_stay, all_still, row_stays, rows_stay, cost_falls}
-use Rattle.cip_model.specs.Rays.{AreStill, IsRay, RaySumsFit, IsShownRay, FallsAlong}
+use Rattle.cip_model.specs.Rays.{AreStill, IsRay, RaySumsFit, IsShownRay, ShownRaysFall}
 
 -- ---- one value
 
@@ -248,7 +250,7 @@ choices_kept program point ray far formed h k column =
 abbrev relaxed : Program → LinearProgram
 relaxed program = record { rows = program.rows; bounds = program.bounds; costs = program.costs }
 
-pub falls_along : (program : Program) (point ray : List ℚ) → IsWellFormed program → IsFeasible program point → IsRay program ray → FallsAlong program point ray
+pub falls_along : (program : Program) (point ray : List ℚ) → IsWellFormed program → IsFeasible program point → IsRay program ray → FallsWithoutEnd program point ray
 falls_along program point ray formed h k =
     let p : IsPoint (relaxed program) point = record { within = h.within; rows = h.rows } in
     let r : IsLinearRay (relaxed program) ray = record { within = k.within; rows = k.rows; falls = k.falls } in
@@ -276,9 +278,14 @@ module _ (program : Program) (point ray : List ℚ) where
   pub cost_kept : (costs : List ℚ) → costs ≡ program.costs → IsShownRay program point ray → cost_falls (dot_from zeroℚ costs ray) ≡ true
   cost_kept costs b h = rw b (cost_test program point ray h)
 
-  pub feasible_along : IsWellFormed program → IsFeasible program point → IsShownRay program point ray → FallsAlong program point ray
+  pub feasible_along : IsWellFormed program → IsFeasible program point → IsShownRay program point ray → FallsWithoutEnd program point ray
   feasible_along formed h k = falls_along program point ray formed h k.is_ray
 
   pub shown_by : (cost : ℚ) → IsWellFormed program → length ray ≡ columns program → verdict_of program point ≡ Feasible cost → VerdictHolds program point (Feasible cost) → all_stay program.bounds ray ≡ true → all_still program.integral ray ≡ true → rows_stay program.rows ray ≡ true → cost_falls (dot_from zeroℚ program.costs ray) ≡ true → IsShownRay program point ray
   shown_by cost formed long v h =
       shown_from_tests program point ray (formed.bounds ∙ sym long) (formed.integral ∙ sym long) (v ∙ ap Feasible h.1)
+
+pub shown_rays_fall : ShownRaysFall
+shown_rays_fall program point ray formed long shown =
+    let verdict : VerdictHolds program point (Feasible (cost_of program point)) = subst (VerdictHolds program point) shown.feasible (verdict_holds program point formed long) in
+    feasible_along program point ray formed verdict.0 shown

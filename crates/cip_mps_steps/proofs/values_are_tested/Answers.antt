@@ -1,4 +1,4 @@
-use Rattle.cip_mps_steps.proofs.Told.{value_zero, value_negative, value_size, value_far, value_bound, value_bound_negative}
+use Rattle.cip_mps_steps.proofs.Told.{value_zero, value_negative, value_size, value_far, value_bound, value_bound_negative, value_bound_positive}
 use Rattle.cip_mps_steps.proofs.values_are_tested.Goals as goal
 
 pub returns : goal.returns
@@ -9,4 +9,5 @@ returns c = record {
   far = value_far;
   bound = value_bound;
   bound_negative = value_bound_negative;
+  bound_positive = value_bound_positive;
 }

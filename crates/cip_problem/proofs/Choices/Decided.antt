@@ -89,7 +89,7 @@ above_zero : (low : Option ℚ) (value : ℚ) → IsSomeAnd low (λ side. zero�
 above_zero None value s h = absurd s
 above_zero (Some low) value s h = ≤ℚ_trans s h
 
-own_open : (own sides : Sides) (whole : Option Bool) (value : ℚ) → IsSemi own whole sides → Between own.low own.high value → Between sides.low sides.high value
+pub own_open : (own sides : Sides) (whole : Option Bool) (value : ℚ) → IsSemi own whole sides → Between own.low own.high value → Between sides.low sides.high value
 own_open own sides whole value semi h =
     subst (λ (s : Sides). Between s.low s.high value) (sym semi.open_)
     (record { above = above_zero own.low value semi.low h.above; below = below_greater own.high value semi.high h.below })

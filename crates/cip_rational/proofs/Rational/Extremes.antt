@@ -1,31 +1,26 @@
 -- The laws of the minimum, the maximum and the absolute value.
 use Rattle.std.proofs.Common.{◌≡◌, ◌⊎◌, inl, inr, [], ◌∷◌, cond, ap, ◌∙◌, arith}
-use Rattle.cip_rational.specs.Rational.{ℚ, ◌+ℚ◌, negate, zeroℚ, absolute, ◌≤ℚ◌, ◌<ℚ◌}
-use Rattle.cip_rational.proofs.Rational.{minimum, maximum}
+use Rattle.cip_rational.specs.Rational.{ℚ, ◌+ℚ◌, negate, zeroℚ, absolute, minimum, maximum, ◌≤ℚ◌, ◌<ℚ◌}
 use Rattle.cip_rational.proofs.Rational.Order.{≤ℚ_antisymm, le_or_lt, test_of_le, le_test_of_lt, ≤ℚ_refl, ≤ℚ_total}
 use Rattle.cip_rational.proofs.Rational.Ring.{negate_negate}
 use Rattle.cip_rational.proofs.Linear.{linear_le}
 
 pub minimum_left : {a b : ℚ} → a ≤ℚ b → minimum a b ≡ a
-unfolding minimum
 minimum_left {a} {b} h = ap (λ t. cond t a b) (test_of_le h)
 
 pub minimum_right : {a b : ℚ} → b ≤ℚ a → minimum a b ≡ b
-unfolding minimum
 minimum_right {a} {b} h = elim (le_or_lt a b) [
   | inl k ↦ ap (λ t. cond t a b) (test_of_le k) ∙ ≤ℚ_antisymm k h
   | inr k ↦ ap (λ t. cond t a b) (le_test_of_lt k)
 ]
 
 pub maximum_left : {a b : ℚ} → b ≤ℚ a → maximum a b ≡ a
-unfolding maximum
 maximum_left {a} {b} h = elim (le_or_lt a b) [
   | inl k ↦ ap (λ t. cond t b a) (test_of_le k) ∙ ≤ℚ_antisymm h k
   | inr k ↦ ap (λ t. cond t b a) (le_test_of_lt k)
 ]
 
 pub maximum_right : {a b : ℚ} → a ≤ℚ b → maximum a b ≡ b
-unfolding maximum
 maximum_right {a} {b} h = ap (λ t. cond t b a) (test_of_le h)
 
 -- it is one of the two

@@ -9,4 +9,5 @@ returns c = record {
   three_columns = tried.three_columns_is;
   loose = tried.loose_is;
   open_columns = tried.open_is;
+  semi = tried.semi_is;
 }

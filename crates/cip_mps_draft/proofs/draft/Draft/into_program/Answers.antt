@@ -17,10 +17,10 @@ new-requires c =
     let few : length self.columns.items ≤ most_columns = omega (arith, self.columns.ok.0) in
     let same =
     same_program (kept c.args.self) c.in_ok-column_names.column_names c.in_ok-copied.copied.row_names c.in_ok-column_names.rows.items c.in_ok-copied.copied.costs.items c.objective_constant-constant.result
-    (is_maximize c.sense_of-sense.result) c.in_ok-copied.copied.whole.items c.in_ok-copied.copied.bounds c.new-choices.result
+    (is_maximize c.sense_of-sense.result) c.in_ok-copied.copied.whole.items c.in_ok-copied.copied.bounds c.in_ok-copied.copied.choices
     c.in_ok-column_names.ensures.names c.in_ok-copied.ensures.row_names c.in_ok-column_names.ensures.rows c.in_ok-copied.ensures.costs
     (c.objective_constant-constant.ensures ∙ ap (λ rows. minimized_by self.sense (negate (right_side_of (objective_row rows)))) c.as_slice.ensures.value)
-    c.sense_of-sense.ensures c.in_ok-copied.ensures.whole c.in_ok-copied.ensures.bounds c.new-choices.ensures in
+    c.sense_of-sense.ensures c.in_ok-copied.ensures.whole c.in_ok-copied.ensures.bounds c.in_ok-copied.ensures.choices in
     let P : Program → Type 0 = IsWellFormed in
     subst P (sym same) (formed (kept self) rows_named columns_named self.rows_counted self.few_rows few self.rows_below)
 
@@ -29,8 +29,8 @@ returns c =
     let self = c.args.self in
     let same =
     same_program (kept c.args.self) c.in_ok-column_names.column_names c.in_ok-copied.copied.row_names c.in_ok-column_names.rows.items c.in_ok-copied.copied.costs.items c.objective_constant-constant.result
-    (is_maximize c.sense_of-sense.result) c.in_ok-copied.copied.whole.items c.in_ok-copied.copied.bounds c.new-choices.result
+    (is_maximize c.sense_of-sense.result) c.in_ok-copied.copied.whole.items c.in_ok-copied.copied.bounds c.in_ok-copied.copied.choices
     c.in_ok-column_names.ensures.names c.in_ok-copied.ensures.row_names c.in_ok-column_names.ensures.rows c.in_ok-copied.ensures.costs
     (c.objective_constant-constant.ensures ∙ ap (λ rows. minimized_by self.sense (negate (right_side_of (objective_row rows)))) c.as_slice.ensures.value)
-    c.sense_of-sense.ensures c.in_ok-copied.ensures.whole c.in_ok-copied.ensures.bounds c.new-choices.ensures in
+    c.sense_of-sense.ensures c.in_ok-copied.ensures.whole c.in_ok-copied.ensures.bounds c.in_ok-copied.ensures.choices in
     c.new.ensures ∙ same

@@ -1,0 +1,16 @@
+use Rattle.cip_leaves.specs.Wide.{IsWide}
+use Rattle.cip_search.proofs.GivenBoxes.{begun, taken, raised, closed, parked, split, offered, closed_from, put_back}
+use Rattle.cip_search.proofs.steps_keep_boxes.Goals as goal
+
+pub returns : goal.returns
+returns c = λ program reduced way start. record {
+  begun = begun reduced start;
+  taken = taken reduced start;
+  raised = raised reduced start;
+  closed = closed program reduced way IsWide start;
+  parked = parked program reduced way IsWide start;
+  split = split program reduced way IsWide start;
+  offered = offered reduced start;
+  closed_from = closed_from reduced start;
+  put_back = put_back reduced start;
+}
