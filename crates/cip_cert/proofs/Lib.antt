@@ -1,6 +1,7 @@
 pub mod Cleared
 pub mod Meaning
 pub mod Pools
+pub mod Released
 pub mod Steps
 pub mod Sums
 pub mod Values

@@ -97,7 +97,7 @@ module _ (lent : Lent) (box : List Sides) (columns : ℕ) (combo : Multiples) (f
   either_follows integral true row s = round_follows integral row (first_stop 0 integral row.coefficients) refl s
   either_follows integral false row s = λ point r w whole. sum_holds_at row s point r w
 
-  derived_follows : (integral : List Bool) (round : Bool) → IfOk (derived lent integral box columns combo round) (RowFollows lent integral box round)
+  pub derived_follows : (integral : List Bool) (round : Bool) → IfOk (derived lent integral box columns combo round) (RowFollows lent integral box round)
   derived_follows integral round =
       ok_chain (IsSum lent box columns) (RowFollows lent integral box round) (aggregate_of lent box columns combo) (round_if round integral) (aggregate_sum lent box columns combo fits room)
       (λ row s. either_follows integral round row s)

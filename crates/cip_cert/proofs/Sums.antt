@@ -70,14 +70,14 @@ dot-set (b ∷ bs) (suc column) d c (x ∷ xs) h e =
 -- ---- terms
 
 -- coefficients with a multiple of a sum of terms added
-record Added (ds : List ℚ) (factor : ℚ) (terms : List Term) (es : List ℚ) : Type 0 where
+pub record Added (ds : List ℚ) (factor : ℚ) (terms : List Term) (es : List ℚ) : Type 0 where
   pub long : length es ≡ length ds
   pub form : (xs : List ℚ) → dot es xs ≡ dot ds xs +ℚ factor *ℚ activity terms xs
 
-added_none : (ds : List ℚ) (factor : ℚ) → Added ds factor [] ds
+pub added_none : (ds : List ℚ) (factor : ℚ) → Added ds factor [] ds
 added_none ds factor = record { long = refl; form = λ xs. sym (ap (λ t. dot ds xs +ℚ t) (*ℚ-zero factor) ∙ +ℚ-zero (dot ds xs)) }
 
-added_more : (ds es : List ℚ) (factor d : ℚ) (t : Term) (ts : List Term) → t.column < length ds → d ≡ value_at ds t.column +ℚ factor *ℚ t.coefficient → Added (set ds t.column d) factor ts es → Added ds factor (t ∷ ts) es
+pub added_more : (ds es : List ℚ) (factor d : ℚ) (t : Term) (ts : List Term) → t.column < length ds → d ≡ value_at ds t.column +ℚ factor *ℚ t.coefficient → Added (set ds t.column d) factor ts es → Added ds factor (t ∷ ts) es
 added_more ds es factor d t ts h e a = record {
   long = a.long ∙ length-set ds t.column d;
   form = λ xs.

@@ -3,6 +3,7 @@ pub mod Follows
 pub mod Lent
 pub mod Pool
 pub mod Reductions
+pub mod Resting
 pub mod SparseRows
 pub mod Statements
 pub mod Touched

@@ -1,13 +1,15 @@
 -- Laws of the check, each as one statement: functions of `src/laws.rt` have them as contracts.
-use Rattle.std.specs.Prelude.{◌≡◌, ◌↔◌, ℕ, ◌≤◌, ◌<◌, Bool, List, [], length, Option, None, Some, IfOk, if◌then◌else◌}
+use Rattle.std.specs.Prelude.{◌≡◌, ◌↔◌, ℕ, ◌≤◌, ◌<◌, Bool, List, [], false, length, Option, None, Some, IfOk, if◌then◌else◌}
 use Rattle.cip_rational.specs.Rational.{ℚ}
-use Rattle.cip_problem.specs.Program.{Sides}
+use Rattle.cip_problem.specs.Program.{Sides, Program}
 use Rattle.cip_problem.specs.Activity.{value_at}
 use Rattle.cip_linear.specs.Aggregate.{Inequality, bound_of, only, implied_sides}
+use Rattle.cip_cuts.specs.Improving.{IsValid}
 use Rattle.cip_cuts.specs.Cuts.{CanRound, rounded_low, rounded_high}
 use Rattle.cip_cert.specs.Lent.{Lent, Fits, Multiples}
-use Rattle.cip_cert.specs.Checks.{chain, aggregate_of, first_stop, bound_from, rests_from, implied_low, implied_high}
-use Rattle.cip_cert.specs.Follows.{IsSum}
+use Rattle.cip_cert.specs.Checks.{chain, aggregate_of, derived, first_stop, bound_from, rests_from, implied_low, implied_high}
+use Rattle.cip_cert.specs.Follows.{RowFollows, IsSum}
+use Rattle.cip_cert.specs.Resting.{rests_on_cutoff, lent_released, valid_below, IsLentOf}
 
 -- the row of a combination that is accepted is the sum of parts that hold where the rows hold
 abbrev pub AggregatesAreSums : Type 0
@@ -56,3 +58,21 @@ pub record SidesAreThose : Type 0 where
       → IfOk (chain (rests_from (Some column) 0 row.least row.coefficients box)
       (implied_high column whole (value_at row.coefficients column)))
       (λ side. side ≡ inward_high whole (implied_sides row box column).high)
+
+-- what doesn't rest on the cutoff row: its sum is the same without that row and without the rows that rest, so it
+-- follows from the rows that are left; and it is valid below each cost, where what rests is so below the cost held
+pub record WhatDoesNotRestIsValid : Type 0 where
+  pub same : (lent : Lent) (box : List Sides) (columns : ℕ) (combo : Multiples)
+      → rests_on_cutoff lent.pool combo.rows ≡ false
+      → aggregate_of (lent_released lent) box columns combo ≡ aggregate_of lent box columns combo
+  pub follows : (lent : Lent) (integral : List Bool) (box : List Sides) (columns : ℕ) (combo : Multiples)
+      (round : Bool) → Fits (length box) lent → length box ≤ columns
+      → rests_on_cutoff lent.pool combo.rows ≡ false
+      → IfOk (derived lent integral box columns combo round) (RowFollows (lent_released lent) integral box round)
+  pub valid : (program : Program) (held : Option ℚ) (lent : Lent) (box : List Sides) (columns : ℕ)
+      (combo : Multiples) (round : Bool) → Fits (length box) lent → length box ≤ columns
+      → IsLentOf program held box lent
+      → IfOk (derived lent program.integral box columns combo round)
+      (IsValid program (valid_below held (rests_on_cutoff lent.pool combo.rows)) box)
+  pub left : (program : Program) (held : Option ℚ) (box : List Sides) (lent : Lent)
+      → IsLentOf program held box lent → IsLentOf program None box (lent_released lent)

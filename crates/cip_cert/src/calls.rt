@@ -1,17 +1,40 @@
 //! The checks.
 ghost use Rattle.std.specs.Prelude.{◌≡◌, ◌≤◌, ◌<◌, length, slice_index_or, false, Ok, Err, IsOk, IfOk, OnOk, MatchResult};
 ghost use Rattle.cip_cert.specs.Lent.{lent_of, Fits, multiples_of};
-ghost use Rattle.cip_cert.specs.Checks.{derived, lower_bound_of, emptied};
+ghost use Rattle.cip_cert.specs.Checks.{aggregate_of, derived, lower_bound_of, emptied};
 ghost use Rattle.cip_cert.specs.Reductions.{reduced, SideFollows};
 ghost use Rattle.cip_cert.specs.Follows.{RowFollows, BoundFollows, EmptinessFollows};
 
+use crate::aggregate::aggregate;
 use crate::checks::{derive_row, empties_row, lower_bound_row};
 use crate::faults::CutFault;
 use crate::reductions::{high_reduced_row, low_reduced_row};
 use crate::rows::Rows;
 use crate::scratch::Scratch;
+use crate::sparse::SparseRow;
 use cip_frac::Frac;
 use cip_lin::{Bounds, Combo, Side};
+
+/// Leaves the coefficients of the row that a combination adds up to in a row, and answers its right side: what each
+/// check begins with, for checks of other crates. Each fault comes exactly where the entry that it names is the first
+/// to break the rule that it names; after one the row holds anything.
+pub fn aggregate_row(
+    rows: &Rows<'_>,
+    bounds: &Bounds,
+    combo: &Combo,
+    row: &mut SparseRow,
+) -> Result<Frac, CutFault>
+    requires fits { Fits (length bounds.now) (lent_of rows.now) }
+    requires room { length bounds.now ≤ length row.old.entries }
+    ensures steps { MatchResult result
+        (λ least. aggregate_of (lent_of rows.entry.now) bounds.now (length row.old.entries) (multiples_of combo.now)
+        ≡ Ok (record { coefficients = row.new.entries; least = least }))
+        (λ fault. aggregate_of (lent_of rows.entry.now) bounds.now (length row.old.entries) (multiples_of combo.now)
+        ≡ Err fault) }
+    ensures columns { length row.new.entries ≡ length row.old.entries }
+{
+    aggregate(rows, bounds, combo, row)
+}
 
 /// Leaves the coefficients of the row that a combination adds up to in the scratch, and answers its right side, with
 /// `round` rounded up. Each fault comes exactly where the entry or the column that it names is the first to break the

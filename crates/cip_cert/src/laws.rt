@@ -1,5 +1,5 @@
 //! Laws of the checks: each function does nothing, and its contract is a law.
-ghost use Rattle.cip_cert.specs.Statements.{AggregatesAreSums, BoundsAreThose, RowsAreRoundedWhereTheyCan, SidesAreThose};
+ghost use Rattle.cip_cert.specs.Statements.{AggregatesAreSums, BoundsAreThose, RowsAreRoundedWhereTheyCan, SidesAreThose, WhatDoesNotRestIsValid};
 
 /// The row of a combination that is accepted is the sum of parts, each of which holds at every point of the box at
 /// which the rows hold.
@@ -22,4 +22,10 @@ pub fn rows_are_rounded_where_they_can()
 /// inward where the column is whole.
 pub fn sides_are_those()
     ensures { SidesAreThose }
+{}
+
+/// A row that is derived without citing the cutoff row or a row of the pool that rests on it is the same without those
+/// rows, and valid below each cost; one that cites such a row is valid below the cost held.
+pub fn what_does_not_rest_is_valid()
+    ensures { WhatDoesNotRestIsValid }
 {}

@@ -10,6 +10,8 @@ pub struct PoolRow {
     pub row: Row,
     /// The box in which it is valid.
     pub scope: Bounds,
+    /// Whether it rests on the cutoff row: then it is valid only below the cost that was held when it was derived.
+    pub rests: bool,
 }
 
 /// What names of rows mean, lent for a check.

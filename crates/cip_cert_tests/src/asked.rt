@@ -3,10 +3,14 @@ ghost use Rattle.std.specs.Prelude.{◌≡◌, ◌<◌, IsTrue, length, All, IfS
 ghost use Rattle.cip_problem.specs.Activity.{StandsBelow};
 ghost use Rattle.cip_cert.specs.Lent.{lent_of, Fits};
 
-use cip_cert::{CutFault, Rows, Scratch, derive, empties, lower_bound, reduction};
+use crate::splits::SplitRoom;
+use cip_cert::{
+    CutFault, Rows, Scratch, SplitCut, SplitFormFault, derive, empties, lower_bound, reduction,
+};
 use cip_frac::Frac;
 use cip_lin::{Bounds, Combo, Row, Side};
 use cip_rows::RowPool;
+use cip_split::split_row;
 use std::alloc::{AllocError, Global};
 
 /// Rows, a box and a combination, and what the checks are asked beside.
@@ -137,5 +141,20 @@ impl Asked {
             &self.combo,
             scratch,
         ))
+    }
+
+    /// What `split_row` answers, where it may be asked.
+    pub fn split(
+        &self,
+        cut: &SplitCut,
+        room: &mut SplitRoom,
+    ) -> Option<Result<Frac, SplitFormFault>> {
+        let rows = self.rows()?;
+        let columns = room.first.row.entries().len();
+        if columns < self.bounds.len() || room.second.row.entries().len() != columns {
+            return None;
+        }
+        let (first, second) = (&mut room.first, &mut room.second);
+        Some(split_row(&rows, &self.bounds, cut, first, second))
     }
 }

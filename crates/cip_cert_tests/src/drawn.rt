@@ -121,7 +121,8 @@ fn is_added(
     if row.row.entries().len() != columns || scope.len() != columns {
         return true;
     }
-    asked.pool.add(row, draws.number(numbers), scope).is_ok()
+    let least = draws.number(numbers);
+    asked.pool.add(row, least, scope, false).is_ok()
 }
 
 /// Draws a scope for a row, and adds that to the pool.

@@ -1,5 +1,5 @@
-//! Tests of the checks of combinations and of the pool, on rows worked out by hand, and on 1,000 combinations that look
-//! random against a plain slow check.
+//! Tests of the checks of combinations and of the pool, on rows worked out by hand, on 1,000 combinations that look
+//! random against a plain slow check, and on the split cuts of 1,000 mixed rows.
 #![tactic(auto)]
 
 #[cfg(test)]
@@ -8,6 +8,8 @@ mod asked;
 mod drawn;
 #[cfg(test)]
 mod draws;
+#[cfg(test)]
+mod mixed_rows;
 #[cfg(test)]
 mod pools;
 #[cfg(test)]
@@ -18,3 +20,5 @@ mod single_calls;
 mod slow_answers;
 #[cfg(test)]
 mod slow_sums;
+#[cfg(test)]
+mod splits;

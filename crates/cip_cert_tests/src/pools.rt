@@ -1,8 +1,9 @@
 //! The pool of rows.
 use crate::single_calls::{is_half_a_row, put_columns};
-use cip_cert::Scratch;
+use crate::splits::no_combo;
+use cip_cert::{Scratch, rests_on_cutoff};
 use cip_frac::Frac;
-use cip_lin::Bounds;
+use cip_lin::{Bounds, Combo, RowId, RowMultiple};
 use cip_rows::{Added, RowPool};
 use std::alloc::Global;
 
@@ -28,13 +29,20 @@ fn empty_pool(alloc: Global) -> Option<Pooled> {
     })
 }
 
-/// What adding a row comes to, where its columns are the pool's and there is memory.
-fn added(pool: &mut RowPool, scratch: &Scratch, least: i64, scope: &Bounds) -> Option<Added> {
+/// What adding a row comes to, which rests on the cutoff row or doesn't, where its columns are the pool's and there is
+/// memory.
+fn added(
+    pool: &mut RowPool,
+    scratch: &Scratch,
+    least: i64,
+    scope: &Bounds,
+    rests: bool,
+) -> Option<Added> {
     let columns = pool.columns();
     if scratch.row.entries().len() != columns || scope.len() != columns {
         return None;
     }
-    pool.add(scratch, Frac::from(least), scope).ok()
+    pool.add(scratch, Frac::from(least), scope, rests).ok()
 }
 
 /// How many rows may be used in a box, where its columns are the pool's.
@@ -57,12 +65,17 @@ impl Pooled {
 
     /// What adding the row comes to, with the narrow box as its scope.
     fn is_added(&mut self, least: i64, want: Added) -> bool {
-        added(&mut self.pool, &self.row, least, &self.narrow) == Some(want)
+        added(&mut self.pool, &self.row, least, &self.narrow, false) == Some(want)
     }
 
     /// The same with the wide one.
     fn is_added_widely(&mut self, least: i64, want: Added) -> bool {
-        added(&mut self.pool, &self.row, least, &self.wide) == Some(want)
+        added(&mut self.pool, &self.row, least, &self.wide, false) == Some(want)
+    }
+
+    /// The same as a row that rests.
+    fn is_added_as_resting(&mut self, least: i64, want: Added) -> bool {
+        added(&mut self.pool, &self.row, least, &self.narrow, true) == Some(want)
     }
 
     /// How many rows may be used in the wide and in the narrow box.
@@ -110,6 +123,65 @@ impl Pooled {
         self.pool.age();
         is_full && is_taken && self.is_half_left() && self.is_added(7, Added::New(8193))
     }
+}
+
+impl Pooled {
+    /// Three rows, of which the second rests.
+    fn has_three(&mut self) -> bool {
+        self.is_filled()
+            && self.is_added(1, Added::New(0))
+            && self.is_added_as_resting(2, Added::New(1))
+            && self.is_added(3, Added::New(2))
+    }
+
+    /// Two are left, in their order.
+    fn is_released(&mut self) -> bool {
+        self.pool.release();
+        let rows = self.pool.rows();
+        rows.len() == 2 && rows[0].id == 0 && rows[1].id == 2
+    }
+
+    /// The row that rests is let go, and the others are known as before.
+    fn releases_rows(&mut self) -> bool {
+        self.has_three()
+            && self.is_released()
+            && self.is_added(2, Added::New(3))
+            && self.is_added(3, Added::Known(2))
+    }
+
+    /// Whether a combination that cites this row rests.
+    fn rests(&self, combo: &mut Combo, row: RowId) -> Option<bool> {
+        let factor = Frac::one();
+        combo.rows.push(RowMultiple { row, factor }).ok()?;
+        Some(rests_on_cutoff(self.pool.rows(), combo))
+    }
+
+    /// A combination rests once it cites the row that does.
+    fn tells_resting_rows(&mut self, alloc: Global) -> bool {
+        let mut combo = no_combo(alloc);
+        self.has_three()
+            && self.rests(&mut combo, RowId::Own(1)) == Some(false)
+            && self.rests(&mut combo, RowId::Pool(2)) == Some(false)
+            && self.rests(&mut combo, RowId::Pool(1)) == Some(true)
+            && self.rests(&mut combo, RowId::Own(0)) == Some(true)
+    }
+}
+
+/// A combination rests that cites the cutoff row.
+fn cutoff_rests(alloc: Global) -> bool {
+    match empty_pool(alloc) {
+        Some(pooled) => pooled.rests(&mut no_combo(alloc), RowId::Cutoff) == Some(true),
+        None => false,
+    }
+}
+
+#[test]
+fn resting_rows_are_told_and_let_go(rt: HostRuntime) {
+    let mut pooled = empty_pool(rt.alloc()).expect(&rt, "memory");
+    assert!(rt; pooled.releases_rows());
+    let mut other = empty_pool(rt.alloc()).expect(&rt, "memory");
+    assert!(rt; other.tells_resting_rows(rt.alloc()));
+    assert!(rt; cutoff_rests(rt.alloc()));
 }
 
 #[test]

@@ -6,3 +6,4 @@ pub mod Reductions
 pub mod Rounding
 pub mod Rows
 pub mod Tried
+pub mod Splits

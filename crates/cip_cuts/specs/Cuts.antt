@@ -1,6 +1,6 @@
 -- Cuts: rows that are valid in a box and below the cost held, rounding (Chvatal 1973, Gomory 1958), and what a valid
 -- inequality implies for the cost and for the columns of a program.
-use Rattle.std.specs.Prelude.{◌≡◌, ◌≢◌, ℕ, suc, Bool, true, ◌&&◌, List, [], ◌∷◌, Option, None, Some, if◌then◌else◌}
+use Rattle.std.specs.Prelude.{◌≡◌, ◌≢◌, ℕ, suc, Bool, true, List, [], ◌∷◌, Option, None, Some, if◌then◌else◌}
 use Rattle.std.specs.List.{AllZip}
 use Rattle.cip_rational.specs.Rational.{ℚ, ◌-ℚ◌, integer, zeroℚ, ◌<ℚ◌, IsWhole, floor, ceil, is_zero}
 use Rattle.cip_problem.specs.Program.{Term, Sides, Row, Program}

@@ -1,11 +1,11 @@
 -- The main laws, each as one statement: the functions of `src/lib.rt` have them as contracts.
-use Rattle.std.specs.Prelude.{◌≡◌, ◌↔◌, ℕ, ◌<◌, ℤ, Bool, true, false, List, [], ◌∷◌, ◌++◌, length, Option, None, Some, IfSome, slice_get, slice_set}
+use Rattle.std.specs.Prelude.{◌≡◌, ◌↔◌, ◌⊎◌, ℕ, ◌<◌, ℤ, pos, ◌+ℤ◌, Bool, true, false, List, [], ◌∷◌, ◌++◌, length, Option, None, Some, IfSome, slice_get, slice_set}
 use Rattle.std.specs.List.{Contains}
 use Rattle.std.specs.List.Sorted.{IsPermutation}
 use Rattle.cip_rational.specs.Rational.{ℚ, ◌≤ℚ◌, integer, ceil}
-use Rattle.cip_problem.specs.Program.{Sides, Row, Program}
+use Rattle.cip_problem.specs.Program.{Term, Sides, Row, Program}
 use Rattle.cip_problem.specs.WellFormed.{IsWellFormed}
-use Rattle.cip_problem.specs.Activity.{StandsBelow, value_at}
+use Rattle.cip_problem.specs.Activity.{activity, StandsBelow, value_at}
 use Rattle.cip_problem.specs.Box.{Between, IsInBox, sides_at, box_inside}
 use Rattle.cip_problem.specs.Points.{IsSatisfied, AreWhole, IsFeasible, cost_of, IsLowerBound}
 use Rattle.cip_problem.specs.Wholes.{wholes_between}
@@ -14,6 +14,7 @@ use Rattle.cip_problem.specs.Log.{Node, root, low_node, high_node, CanSplitAt, m
 use Rattle.cip_linear.specs.Aggregate.{Part, IsPartOf, bound_row, HoldsAt, AllHoldAt, Inequality, Holds, IsAggregate, Empties, implied_sides}
 use Rattle.cip_cuts.specs.Improving.{IsImproving, HoldsInBox, IsValidRow, IsValid, IsBoundIn, HasNoImproving, IsNoDearer}
 use Rattle.cip_cuts.specs.Cuts.{CanRound, rounded, rounded_sides, IsCrossed, row_of, cutoff_row, ScopedRow, HoldsInScope, cost_bound, HasWholeCosts}
+use Rattle.cip_cuts.specs.Splits.{IsWholeForm, SplitForm, IsSplitRow}
 use Rattle.cip_cuts.specs.Cover.{IsBounded, IsCover, IsReplacedBy, HasBoundFrom}
 use Rattle.cip_cuts.specs.Reduced.{IsReduction}
 
@@ -97,6 +98,19 @@ pub record ValidRowsImply : Type 0 where
   pub narrowed : (program : Program) (held : Option ℚ) (box : List Sides) (column : ℕ) (sides : Sides)
       → HoldsInBox program held box (λ point. Between sides.low sides.high (value_at point column))
       → HoldsInBox program held box (IsInBox (slice_set box column sides))
+
+-- what a split tells: at a point whose whole columns are whole a whole form is at most a whole number or at least the
+-- next one; so where both rows of a split row hold it does, and it is valid where both are
+pub record SplitRowsAreValid : Type 0 where
+  pub either_side : (integral : List Bool) (form : List Term) (at : ℤ) (point : List ℚ)
+      → IsWholeForm integral form → AreWhole integral point
+      → (activity form point ≤ℚ integer at) ⊎ (integer (at +ℤ pos 1) ≤ℚ activity form point)
+  pub holds : (integral : List Bool) (split : SplitForm) (left right row : Inequality) (point : List ℚ)
+      → IsSplitRow integral split left right row → AreWhole integral point
+      → Holds left point → Holds right point → Holds row point
+  pub valid : (program : Program) (held : Option ℚ) (box : List Sides) (split : SplitForm)
+      (left right row : Inequality) → IsSplitRow program.integral split left right row
+      → IsValid program held box left → IsValid program held box right → IsValid program held box row
 
 -- where a box has no improving point: its bound is not below the cost held; the sides of a column are crossed, or no
 -- whole number lies between those of a whole column

@@ -5,7 +5,7 @@
 #![tactic(auto)]
 
 ghost use Rattle.cip_cuts.specs.Examples.{Examples};
-ghost use Rattle.cip_cuts.specs.Statements.{ImprovingPointsShrink, RowsAreValid, SumsAreValid, ValidRowsImply, BoxesAreEmpty, CoversGoOn, NodesAreReplaced, CoversTell, ReductionsCarry};
+ghost use Rattle.cip_cuts.specs.Statements.{ImprovingPointsShrink, RowsAreValid, SumsAreValid, SplitRowsAreValid, ValidRowsImply, BoxesAreEmpty, CoversGoOn, NodesAreReplaced, CoversTell, ReductionsCarry};
 
 /// Where what is held gets cheaper there are no new improving points, and what holds of those in a box goes on holding,
 /// and holds in each box inside it.
@@ -23,6 +23,12 @@ pub fn rows_are_valid()
 /// whole and stand on whole columns; as a row it is satisfied at the same points.
 pub fn sums_are_valid()
     ensures { SumsAreValid }
+{}
+
+/// At a point whose whole columns are whole a whole form is at most a whole number or at least the next one, so a split
+/// row holds where both of its rows do, and is valid where both are.
+pub fn split_rows_are_valid()
+    ensures { SplitRowsAreValid }
 {}
 
 /// A valid inequality implies a bound, rounded up where costs are whole, that a box has no improving point,

@@ -4,5 +4,6 @@ pub mod Coefficients
 mod Few
 pub mod SemiColumns
 pub mod Outcomes
+mod SemiNamed
 mod SemiTried
 mod Tried

@@ -1,15 +1,17 @@
 -- The laws of texts of free MPS, each as one statement: functions of `src/lib.rt` have them as contracts.
-use Rattle.std.specs.Prelude.{◌≡◌, ⊤, ℕ, ◌==◌, ◌≤◌, true, false, ◌&&◌, List, [], ◌∷◌, None, Some, if◌then◌else◌}
+use Rattle.std.specs.Prelude.{◌≡◌, ⊤, ℕ, ◌==◌, ◌≤◌, Bool, true, false, ◌&&◌, List, [], ◌∷◌, None, Some, if◌then◌else◌}
 use Rattle.std.specs.List.{AllByRecursion, list_any}
+use Rattle.std.specs.Str.{bytes_eq}
 use Rattle.cip_rational.specs.Rational.{ℚ, zeroℚ}
 use Rattle.cip_problem.specs.Program.{Term, Program}
+use Rattle.cip_problem.specs.Choices.{choice_at, is_open}
 use Rattle.cip_problem.specs.WellFormed.{IsWellFormed}
 use Rattle.cip_syntax.specs.Lines.{Record}
 use Rattle.cip_line_texts.specs.LineTexts.{Numbered}
-use Rattle.cip_line_texts.specs.LineStatements.{OneOutcome, known_after, AreOpen, FaultsBeforeEnds, ResultsAtEnds}
-use Rattle.cip_mps_rules.specs.MpsWords.{number_in}
+use Rattle.cip_line_texts.specs.LineStatements.{OneOutcome, known_after, AreOpen, FaultsBeforeEnds, IsEndReached, ResultsAtEnds}
+use Rattle.cip_mps_rules.specs.MpsWords.{BoundKind, SemiContinuous, number_in, is_in}
 use Rattle.cip_mps_rules.specs.MpsSayings.{Saying}
-use Rattle.cip_mps_rules.specs.MpsFacts.{Coefficient, Facts, column_names}
+use Rattle.cip_mps_rules.specs.MpsFacts.{Coefficient, GivenBound, Facts, column_names}
 use Rattle.cip_mps_rules.specs.MpsProgram.{coefficient, terms_of}
 use Rattle.cip_mps_rules.specs.MpsRules.{rules, fault_of, has_coefficient}
 use Rattle.cip_mps_rules.specs.MpsOutcome.{no_context, is_last, mps_records, mps_reading, HasProgram}
@@ -66,3 +68,27 @@ abbrev pub CoefficientsAreNumbers : Type 0
 CoefficientsAreNumbers =
     (records : List (Numbered Record)) → AreOpen is_last mps_records no_context records
     → AreCoefficients (known_after mps_records no_context records).facts
+
+-- ---- semi-continuous columns
+
+-- the type SC
+abbrev pub is_semi_kind : BoundKind → Bool
+is_semi_kind SemiContinuous = true
+is_semi_kind other = false
+
+-- an SC record names this column
+abbrev pub has_semi_record : List GivenBound → List ℕ → Bool
+has_semi_record bounds column = list_any (λ bound. bytes_eq column bound.column && is_semi_kind bound.kind) bounds
+
+-- the semi-continuous columns are those that an SC record names, and each such name is that of a column
+pub record AreNamedSemi (bounds : List GivenBound) (program : Program) : Type 0 where
+  pub known : (name : List ℕ) → has_semi_record bounds name ≡ true → is_in program.column_names name ≡ true
+  pub semi : (name : List ℕ) (column : ℕ) → number_in program.column_names name ≡ Some column
+      → is_open (choice_at program.choices column) ≡ has_semi_record bounds name
+
+-- the semi-continuous columns of the program of a text are exactly those that an SC record of the lines as far as
+-- ENDATA names
+abbrev pub SemisAreNamed : Type 0
+SemisAreNamed =
+    (text : List ℕ) (program : Program) (reached : IsEndReached is_last mps_records text program)
+    → AreNamedSemi (known_after mps_records no_context reached.before).facts.bounds program

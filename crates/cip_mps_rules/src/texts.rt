@@ -1,7 +1,7 @@
 //! The laws of texts of free MPS.
 // Each function here does nothing. Its contract is one of the laws of the definitions, so that the check proves it.
 
-ghost use Rattle.cip_mps_rules.specs.MpsStatements.{TextsHaveOneOutcome, MpsFaultsAreFirst, ProgramsAreDescribed, FaultsAreLeast, ProgramsAreWellFormed, CoefficientsAreNumbers};
+ghost use Rattle.cip_mps_rules.specs.MpsStatements.{TextsHaveOneOutcome, MpsFaultsAreFirst, ProgramsAreDescribed, FaultsAreLeast, ProgramsAreWellFormed, CoefficientsAreNumbers, SemisAreNamed};
 
 /// A text has a program or a first fault, never both, and one of each at the most.
 pub fn one_outcome()
@@ -34,4 +34,10 @@ pub fn programs_are_well_formed()
 /// and else 0.
 pub fn coefficients_are_numbers()
     ensures { CoefficientsAreNumbers }
+{}
+
+/// The semi-continuous columns of the program of a text are exactly those that an SC record of the lines as far as
+/// ENDATA names.
+pub fn semis_are_named()
+    ensures { SemisAreNamed }
 {}

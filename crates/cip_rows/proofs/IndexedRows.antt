@@ -10,6 +10,7 @@ use Rattle.std.proofs.lemmas.List.Edits.{length-insert, get_or-insert_below, get
 use Rattle.cip_problem.specs.Program.{Row, Sides}
 use Rattle.cip_cert.specs.declared.rows.PoolRow.{PoolRow}
 use Rattle.cip_cert.specs.Pool.{AreRising}
+use Rattle.cip_cert.specs.Resting.{released}
 use Rattle.cip_rows.specs.declared.index.Entry.{Entry}
 use Rattle.cip_rows.specs.Mixed.{fingerprint}
 use Rattle.cip_rows.specs.RowIndex.{AreSorted, IsIndex, entry_of}
@@ -114,9 +115,9 @@ pushed rows entries kept place index h before after = record {
   covers = All-push (λ r. Contains (insert entries place (entry_of kept)) (entry_of r)) rows kept (All-weaker (λ r. Contains entries (entry_of r)) (λ r. Contains (insert entries place (entry_of kept)) (entry_of r)) (λ r c. contains_inserted entries place (entry_of kept) (entry_of r) h c) rows index.covers) (place, omega (arith, h, length-insert entries place (entry_of kept) h), get_or-insert_at entries place (entry_of kept) (entry_of kept) h);
 }
 
-pub index_pushed : (rows : List PoolRow) (entries : List Entry) (kept : PoolRow) (print place : ℕ) → print ≡ fingerprint kept.row → IsIndex rows entries → place ≤ length entries → AllWithin (λ (entry : Entry). entry.print < print) entries 0 place → AllWithin (λ (entry : Entry). print ≤ entry.print) entries place (length entries) → IsIndex (rows ++ kept ∷ []) (insert entries place (record { print = print; id = kept.id }))
+pub index_pushed : (rows : List PoolRow) (entries : List Entry) (kept : PoolRow) (print place : ℕ) → print ≡ fingerprint kept.row → IsIndex rows entries → place ≤ length entries → AllWithin (λ (entry : Entry). entry.print < print) entries 0 place → AllWithin (λ (entry : Entry). print ≤ entry.print) entries place (length entries) → IsIndex (rows ++ kept ∷ []) (insert entries place (record { print = print; id = kept.id; rests = kept.rests }))
 index_pushed rows entries kept print place p index h before after =
-    subst (λ n. AllWithin (λ (entry : Entry). entry.print < n) entries 0 place → AllWithin (λ (entry : Entry). n ≤ entry.print) entries place (length entries) → IsIndex (rows ++ kept ∷ []) (insert entries place (record { print = n; id = kept.id }))) (sym p) (pushed rows entries kept place index h) before after
+    subst (λ n. AllWithin (λ (entry : Entry). entry.print < n) entries 0 place → AllWithin (λ (entry : Entry). n ≤ entry.print) entries place (length entries) → IsIndex (rows ++ kept ∷ []) (insert entries place (record { print = n; id = kept.id; rests = kept.rests }))) (sym p) (pushed rows entries kept place index h) before after
 
 -- no id is below the first one
 pub first_least : (rows : List PoolRow) (first : PoolRow) → AreRising rows → first ≡ get_or rows 0 first → (k : ℕ) (d : PoolRow) → k < length rows → first.id ≤ (get_or rows k d).id
@@ -133,6 +134,11 @@ index_last rows others entries first index rising covers r = index_kept rows oth
 pub index_retired : (rows : List PoolRow) (entries : List Entry) (id : ℕ) → IsIndex rows entries → IsIndex (filter (λ (kept : PoolRow). not (kept.id == id)) rows) (filter (λ (entry : Entry). not (entry.id == id)) entries)
 index_retired rows entries id index =
     index_kept rows (filter (λ (kept : PoolRow). not (kept.id == id)) rows) entries (λ (entry : Entry). not (entry.id == id)) index (All-filter (λ (kept : PoolRow). not (kept.id == id)) (λ kept. Contains entries (entry_of kept)) rows index.covers) (filter_passes (λ (kept : PoolRow). not (kept.id == id)) rows)
+
+-- the index without the rows that rest
+pub index_released : (rows : List PoolRow) (entries : List Entry) → IsIndex rows entries → IsIndex (released rows) (filter (λ (entry : Entry). not entry.rests) entries)
+index_released rows entries index =
+    index_kept rows (released rows) entries (λ (entry : Entry). not entry.rests) index (All-filter (λ (kept : PoolRow). not kept.rests) (λ kept. Contains entries (entry_of kept)) rows index.covers) (filter_passes (λ (kept : PoolRow). not kept.rests) rows)
 
 -- rows by rising id don't fall
 pub rising_by : (rows : List PoolRow) → AreRising rows → IsNonDecreasingBy (λ (kept : PoolRow). kept.id) rows

@@ -15,8 +15,8 @@ use Rattle.cip_rows.specs.RowPools.{Pool, IsSoundPool, is_full, with_row, most_p
 abbrev pub Before : PoolRow → PoolRow → Type 0
 Before a b = a.id < b.id
 
-pub one_more : (pool : Pool) (row : Row) (scope : List Sides) → IsSoundPool pool → StandsBelow pool.columns row.terms → length scope ≡ pool.columns → is_full pool ≡ false → IsSoundPool (with_row pool row scope)
-one_more pool row scope k stands fits room =
+pub one_more : (pool : Pool) (row : Row) (scope : List Sides) (rests : Bool) → IsSoundPool pool → StandsBelow pool.columns row.terms → length scope ≡ pool.columns → is_full pool ≡ false → IsSoundPool (with_row pool row scope rests)
+one_more pool row scope rests k stands fits room =
     let parts = or_parts (length pool.rows == most_pool_rows) (pool.next == most_ids) room in
     let rows : length pool.rows ≢ most_pool_rows = eqb-false (length pool.rows) most_pool_rows parts.0 in
     let ids : pool.next ≢ most_ids = eqb-false pool.next most_ids parts.1 in
@@ -24,7 +24,7 @@ one_more pool row scope k stands fits room =
       rising = all_pairs_push Before pool.rows _ k.rising (λ i d l. k.given i d l);
       given = All-push (λ (kept : PoolRow). kept.id < pool.next + 1) pool.rows _ (All-weaker (λ (kept : PoolRow). kept.id < pool.next) (λ (kept : PoolRow). kept.id < pool.next + 1) (λ kept l. omega (arith, l)) pool.rows k.given) (omega arith);
       fits = All-push (KeptFits pool.columns) pool.rows _ k.fits (record { stands = stands; scope = fits });
-      few = omega (arith, length-append pool.rows (record { id = pool.next; row = row; scope = scope } ∷ []), k.few, rows);
+      few = omega (arith, length-append pool.rows (record { id = pool.next; row = row; scope = scope; rests = rests } ∷ []), k.few, rows);
       ids = omega (arith, k.ids, ids);
     }
 

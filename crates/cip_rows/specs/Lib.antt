@@ -3,3 +3,4 @@ pub mod Mixed
 pub mod PoolCodes
 pub mod RowIndex
 pub mod RowPools
+pub mod Statements

@@ -8,7 +8,7 @@ use Rattle.cip_rows.specs.declared.index.Entry.{Entry}
 
 -- the entry of a row that is held
 abbrev pub entry_of : PoolRow → Entry
-entry_of kept = record { print = fingerprint kept.row; id = kept.id }
+entry_of kept = record { print = fingerprint kept.row; id = kept.id; rests = kept.rests }
 
 -- the entries stand by rising fingerprint
 abbrev pub AreSorted : List Entry → Type 0

@@ -42,10 +42,10 @@ pub record IsSoundPool (pool : Pool) : Type 0 where
 abbrev pub is_full : Pool → Bool
 is_full pool = (length pool.rows == most_pool_rows) || (pool.next == most_ids)
 
--- the pool with another row
-abbrev pub with_row : Pool → Row → List Sides → Pool
-with_row pool row scope = record pool {
-  rows = pool.rows ++ record { id = pool.next; row = row; scope = scope } ∷ [];
+-- the pool with another row, which rests on the cutoff row or doesn't
+abbrev pub with_row : Pool → Row → List Sides → Bool → Pool
+with_row pool row scope rests = record pool {
+  rows = pool.rows ++ record { id = pool.next; row = row; scope = scope; rests = rests } ∷ [];
   next = pool.next + 1;
 }
 

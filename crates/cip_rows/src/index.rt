@@ -10,11 +10,12 @@ use crate::built::is_same;
 use cip_cert::PoolRow;
 use cip_lin::{Bounds, Row};
 
-/// A row that is held, by its fingerprint and its id.
+/// A row that is held, by its fingerprint and its id, and whether it rests on the cutoff row.
 #[derive(Clone, Copy, Debug, PartialEq, Eq)]
 pub(crate) struct Entry {
     pub(crate) print: u64,
     pub(crate) id: u64,
+    pub(crate) rests: bool,
 }
 
 /// The place of the first entry whose fingerprint is at least this one, or the number of entries.
@@ -110,4 +111,11 @@ pub(crate) fn forget_below(entries: &mut Vec<Entry>, least: u64)
     ensures { entries.new.items ≡ filter (λ entry. nat_le least entry.id) entries.old.items }
 {
     entries.retain(|entry| least <= entry.id);
+}
+
+/// Takes the entries of all rows that rest on the cutoff row out.
+pub(crate) fn forget_resting(entries: &mut Vec<Entry>)
+    ensures { entries.new.items ≡ filter (λ entry. not entry.rests) entries.old.items }
+{
+    entries.retain(|entry| !entry.rests);
 }

@@ -3,13 +3,14 @@ ghost use Rattle.std.specs.Prelude.{◌≡◌, ◌<◌, ◌≤◌, ◌==◌, [],
 ghost use Rattle.std.specs.List.{filter};
 ghost use Rattle.cip_problem.specs.Activity.{StandsBelow};
 ghost use Rattle.cip_cuts.specs.Cuts.{row_of};
+ghost use Rattle.cip_cert.specs.Resting.{released};
 ghost use Rattle.cip_rows.specs.Mixed.{fingerprint};
 ghost use Rattle.cip_rows.specs.RowPools.{IsSoundPool, usable_in, is_full, with_row, kept_pool_rows};
 ghost use Rattle.cip_rows.specs.Adding.{IsAdded};
 
 use crate::built::row_from;
 use crate::fingerprints::fingerprint;
-use crate::index::{Entry, first_from, forget, forget_below, known};
+use crate::index::{Entry, first_from, forget, forget_below, forget_resting, known};
 use crate::limits::{KEPT_POOL_ROWS, MOST_IDS, MOST_POOL_ROWS};
 use crate::usable::Usable;
 use cip_cert::{PoolRow, Scratch};
@@ -92,25 +93,31 @@ impl RowPool {
     }
 
     // Puts a row, which has this fingerprint, with its scope at the end, and its entry into the index.
-    fn push(&mut self, print: u64, row: Row, scope: Bounds) -> Result<(), AllocError>
+    fn push(&mut self, print: u64, row: Row, scope: Bounds, rests: bool) -> Result<(), AllocError>
         requires print { print ≡ fingerprint row }
         requires columns { length scope ≡ self.old.columns }
         requires stands { StandsBelow self.old.columns row.terms }
         requires room { is_full self.old ≡ false }
-        ensures ok { OnOk result (self.new ≡ with_row self.old row scope) }
+        ensures ok { OnOk result (self.new ≡ with_row self.old row scope rests) }
         ensures err { OnErr result (self.new ≡ self.old) }
     {
         let id = self.next;
         let place = first_from(self.entries.as_slice(), print);
         self.rows.reserve(1)?;
-        self.entries.insert(place, Entry { print, id })?;
-        self.rows.push_reserved(PoolRow { id, row, scope });
+        self.entries.insert(place, Entry { print, id, rests })?;
+        self.rows.push_reserved(PoolRow {
+            id,
+            row,
+            scope,
+            rests,
+        });
         self.next += 1;
         Ok(())
     }
 
     /// Adds the row that says, in boxes inside `scope`, that the sum of the products of the coefficients, which stand
-    /// in the scratch, is at least `least`.
+    /// in the scratch, is at least `least`; it is kept as one that rests on the cutoff row where `rests` says so, which
+    /// `rests_on_cutoff` tells of the combination that it was derived by.
     /// `Known` comes exactly where an equal row whose scope holds `scope` is held; else `Full` exactly where the pool
     /// holds `MOST_POOL_ROWS` rows or has given `MOST_IDS` ids; else the row is `New`. `Err` comes where a growth was
     /// refused. All but `New` leave the pool as it was.
@@ -119,12 +126,13 @@ impl RowPool {
         scratch: &Scratch,
         least: Frac,
         scope: &Bounds,
+        rests: bool,
     ) -> Result<Added, AllocError>
         requires coefficients { length scratch.now.row.entries ≡ self.old.columns }
         requires columns { length scope.now ≡ self.old.columns }
         ensures added { MatchResult result
             (IsAdded self.old (row_of (record { coefficients = scratch.now.row.entries; least = least }))
-            scope.now self.new)
+            scope.now rests self.new)
             (λ _. self.new ≡ self.old) }
         ensures columns { self.new.columns ≡ self.old.columns }
     {
@@ -140,7 +148,7 @@ impl RowPool {
             return Ok(Added::Full);
         }
         let id = self.next;
-        self.push(print, row, scope.copied(self.alloc)?)?;
+        self.push(print, row, scope.copied(self.alloc)?, rests)?;
         Ok(Added::New(id))
     }
 
@@ -158,6 +166,15 @@ impl RowPool {
     {
         self.rows.retain(|kept| kept.id != id);
         forget(&mut self.entries, id);
+    }
+
+    /// Takes out the rows that rest on the cutoff row, for where the cost held is let go. The others stay as they are,
+    /// in their order.
+    pub fn release(&mut self)
+        ensures { self.new ≡ record self.old { rows = released self.old.rows } }
+    {
+        self.rows.retain(|kept| !kept.rests);
+        forget_resting(&mut self.entries);
     }
 
     /// Takes out the rows of least id, until at most `KEPT_POOL_ROWS` are held.

@@ -9,6 +9,8 @@ mod leaves;
 #[cfg(test)]
 mod programs;
 #[cfg(test)]
+mod random;
+#[cfg(test)]
 mod roots;
 #[cfg(test)]
 mod searches;

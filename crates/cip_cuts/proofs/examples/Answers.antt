@@ -10,4 +10,7 @@ returns c = record {
   continuous_zero = tried.continuous_zero;
   inward = tried.inward;
   terms = tried.terms;
+  split = tried.split;
+  without_a_side = tried.without_a_side;
+  fractional_form = tried.fractional_form;
 }

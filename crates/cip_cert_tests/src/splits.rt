@@ -1,0 +1,258 @@
+//! Split cuts on rows worked out by hand.
+use crate::asked::Asked;
+use crate::draws::fraction;
+use cip_cert::{CutFault, FaultPlace, FormTerm, Scratch, SplitCut, SplitFormFault, SplitSide};
+use cip_frac::Frac;
+use cip_lin::{ColumnMultiple, Combo, Row, RowId, RowMultiple, Sides, Term};
+use std::alloc::{AllocError, Global};
+
+/// A split cut over x, whole from 0 to 3, and y, at least 0, of which x + y is at least 1/2: its form and the number
+/// that splits it; the factor of the row, if it is used, and of the form on the left; those of the low side of y and of
+/// the form on the right; and what is answered.
+#[derive(Clone, Copy)]
+struct Case {
+    form: &'static [(u32, i128)],
+    k: i128,
+    left: Option<i64>,
+    left_factor: i64,
+    right: i64,
+    right_factor: i64,
+    want: Result<i64, SplitFormFault>,
+}
+
+/// Twice the row less x at most 0, and twice the low side of y with x at least 1: both are x + 2y at least 1.
+const ROUNDED: Case = Case {
+    form: &[(0, 1)],
+    k: 0,
+    left: Some(2),
+    left_factor: 1,
+    right: 2,
+    right_factor: 1,
+    want: Ok(1),
+};
+
+const CASES: [Case; 14] = [
+    ROUNDED,
+    // where x is at most 0 isn't used
+    Case {
+        left_factor: 0,
+        want: Err(SplitFormFault::Differs { column: 0 }),
+        ..ROUNDED
+    },
+    // y isn't whole
+    Case {
+        form: &[(1, 1)],
+        want: Err(SplitFormFault::NotWhole { column: 1 }),
+        ..ROUNDED
+    },
+    // the lesser right side counts: where x is at most 1 the row says less
+    Case {
+        k: 1,
+        want: Ok(0),
+        ..ROUNDED
+    },
+    Case {
+        form: &[(0, 0)],
+        want: Err(SplitFormFault::FormOrder { at: 0 }),
+        ..ROUNDED
+    },
+    Case {
+        form: &[(0, 1), (0, 1)],
+        want: Err(SplitFormFault::FormOrder { at: 1 }),
+        ..ROUNDED
+    },
+    // the order comes first, and then the columns that aren't there
+    Case {
+        form: &[(1, 1), (2, 1)],
+        want: Err(SplitFormFault::UnknownColumn { column: 2 }),
+        ..ROUNDED
+    },
+    Case {
+        left_factor: -1,
+        right_factor: -1,
+        want: Err(SplitFormFault::Negative {
+            side: SplitSide::Left,
+        }),
+        ..ROUNDED
+    },
+    Case {
+        right_factor: -1,
+        want: Err(SplitFormFault::Negative {
+            side: SplitSide::Right,
+        }),
+        ..ROUNDED
+    },
+    // there is no number above the greatest
+    Case {
+        k: i128::MAX,
+        left: Some(-2),
+        want: Err(SplitFormFault::FormWide),
+        ..ROUNDED
+    },
+    // the row has no high side, which comes before the least number
+    Case {
+        k: i128::MIN,
+        left: Some(-2),
+        want: Err(SplitFormFault::Left(CutFault::NoSide {
+            place: FaultPlace::Entry(0),
+        })),
+        ..ROUNDED
+    },
+    // the sums of the left come before the right
+    Case {
+        k: i128::MIN,
+        right: -1,
+        want: Err(SplitFormFault::FormWide),
+        ..ROUNDED
+    },
+    Case {
+        right: -1,
+        want: Err(SplitFormFault::Right(CutFault::WrongSign { entry: 0 })),
+        ..ROUNDED
+    },
+    // the rows differ on a column that the form doesn't have
+    Case {
+        right: 3,
+        want: Err(SplitFormFault::Differs { column: 1 }),
+        ..ROUNDED
+    },
+];
+
+/// A combination of nothing.
+pub fn no_combo(alloc: Global) -> Combo {
+    Combo {
+        rows: Vec::new(alloc),
+        lows: Vec::new(alloc),
+        highs: Vec::new(alloc),
+    }
+}
+
+/// A split cut of nothing, with these factors.
+pub fn no_cut(alloc: Global, k: i128, left_factor: Frac, right_factor: Frac) -> SplitCut {
+    SplitCut {
+        form: Vec::new(alloc),
+        k,
+        left: no_combo(alloc),
+        left_factor,
+        right: no_combo(alloc),
+        right_factor,
+    }
+}
+
+/// Puts the form, the row and the low side of y into a cut of nothing.
+fn fill_cut(case: &Case, cut: &mut SplitCut) -> Result<(), AllocError> {
+    for (col, coef) in case.form {
+        cut.form.push(FormTerm {
+            col: *col,
+            coef: *coef,
+        })?;
+    }
+    if let Some(factor) = case.left {
+        cut.left.rows.push(RowMultiple {
+            row: RowId::Own(0),
+            factor: Frac::from(factor),
+        })?;
+    }
+    cut.right.lows.push(ColumnMultiple {
+        col: 1,
+        factor: Frac::from(case.right),
+    })?;
+    Ok(())
+}
+
+/// Appends x + y to a row.
+fn is_row_filled(row: &mut Row) -> bool {
+    let coef = Frac::one();
+    row.append(Term { col: 0, coef }).is_ok() && row.append(Term { col: 1, coef }).is_ok()
+}
+
+/// Puts the columns and the row in, where nothing is yet.
+fn fill_asked(asked: &mut Asked) -> Result<(), AllocError> {
+    asked.bounds.push(Sides {
+        low: Some(Frac::zero()),
+        high: Some(Frac::from(3)),
+    })?;
+    asked.bounds.push(Sides {
+        low: Some(Frac::zero()),
+        high: None,
+    })?;
+    asked.whole.push(true)?;
+    asked.whole.push(false)?;
+    Ok(())
+}
+
+fn is_asked_filled(alloc: Global, asked: &mut Asked) -> bool {
+    let mut row = Row::empty(alloc, Some(fraction(1, 2)), None);
+    is_row_filled(&mut row) && fill_asked(asked).is_ok() && asked.own.push(row).is_ok()
+}
+
+/// The answer to a cut is this one.
+fn is_wanted(answer: Result<Frac, SplitFormFault>, want: Result<i64, SplitFormFault>) -> bool {
+    match (answer, want) {
+        (Ok(least), Ok(number)) => least == Frac::from(number),
+        (Err(fault), Err(other)) => fault == other,
+        _ => false,
+    }
+}
+
+/// Asks a case, and compares the answer.
+fn is_as(asked: &Asked, case: &Case, cut: &mut SplitCut, room: &mut SplitRoom) -> bool {
+    if fill_cut(case, cut).is_err() {
+        return false;
+    }
+    match asked.split(cut, room) {
+        Some(answer) => is_wanted(answer, case.want),
+        None => false,
+    }
+}
+
+fn is_case(alloc: Global, asked: &Asked, case: &Case, room: &mut SplitRoom) -> bool {
+    let left_factor = Frac::from(case.left_factor);
+    let right_factor = Frac::from(case.right_factor);
+    let mut cut = no_cut(alloc, case.k, left_factor, right_factor);
+    is_as(asked, case, &mut cut, room)
+}
+
+/// The first case that is answered otherwise; their number where there is none.
+fn first_wrong(alloc: Global, asked: &Asked, room: &mut SplitRoom) -> usize {
+    for at in 0..CASES.len() {
+        if !is_case(alloc, asked, &CASES[at], room) {
+            return at;
+        }
+    }
+    CASES.len()
+}
+
+/// The two scratches in which split cuts are checked.
+#[derive(Drop)]
+pub struct SplitRoom {
+    pub first: Scratch,
+    pub second: Scratch,
+}
+
+impl SplitRoom {
+    /// Room for so many columns.
+    pub fn new(alloc: Global, columns: usize) -> Option<SplitRoom> {
+        if columns > 64 {
+            return None;
+        }
+        let first = Scratch::new(alloc, columns).ok()?;
+        let second = Scratch::new(alloc, columns).ok()?;
+        Some(SplitRoom { first, second })
+    }
+}
+
+/// All cases are answered so, and the coefficients of the first stand in the first scratch.
+fn are_answered(alloc: Global, asked: &mut Asked, room: &mut SplitRoom) -> bool {
+    is_asked_filled(alloc, asked)
+        && first_wrong(alloc, asked, room) == CASES.len()
+        && is_case(alloc, asked, &ROUNDED, room)
+        && room.first.row.entries() == [Frac::one(), Frac::from(2)].as_slice()
+}
+
+#[test]
+fn split_cuts_answer_as_worked_out(rt: HostRuntime) {
+    let mut asked = Asked::new(rt.alloc(), 2).expect(&rt, "memory");
+    let mut room = SplitRoom::new(rt.alloc(), 2).expect(&rt, "memory");
+    assert!(rt; are_answered(rt.alloc(), &mut asked, &mut room));
+}

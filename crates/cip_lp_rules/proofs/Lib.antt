@@ -1,0 +1,4 @@
+pub mod LpEvents
+pub mod LpForms
+pub mod LpFits
+pub mod LpTexts

@@ -1,0 +1,9 @@
+pub mod LpExamples
+pub mod LpFacts
+pub mod LpGrammar
+pub mod LpOutcome
+pub mod LpPlaces
+pub mod LpSound
+pub mod LpStatements
+pub mod LpTokens
+pub mod LpWords

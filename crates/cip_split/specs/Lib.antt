@@ -1,0 +1,3 @@
+pub mod SplitChecks
+pub mod SplitMeaning
+pub mod Statements
