@@ -73,7 +73,7 @@ inside_met own other e =
     let parts = and_parts (low_inside own.low other.low) (high_inside own.high other.high) e in
     sides_same _ _ _ _ (inside_low own.low other.low parts.0) (inside_high own.high other.high parts.1)
 
-settled_choice : (choice : Choice) (made : Option Bool) → is_settled choice made ≡ true → choice_after choice made ≡ choice
+pub settled_choice : (choice : Choice) (made : Option Bool) → is_settled choice made ≡ true → choice_after choice made ≡ choice
 settled_choice choice None e = refl
 settled_choice Plain (Some on) e = refl
 settled_choice (Open own) (Some on) e = absurd (let f : false ≡ true = e in cc)

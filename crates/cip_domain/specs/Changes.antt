@@ -59,6 +59,14 @@ abbrev pub side_change : ℕ → Side → ℚ → Change
 side_change column side value =
     record { column = column; sides = with_side no_sides side (Some value); made = None }
 
+-- the same, where there may be no value
+abbrev pub one_side : ℕ → Side → Option ℚ → Change
+one_side column side value = record { column = column; sides = with_side no_sides side value; made = None }
+
+-- the change that makes a choice, if one is made, and leaves the sides
+abbrev pub one_choice : ℕ → Option Bool → Change
+one_choice column made = record { column = column; sides = no_sides; made = made }
+
 -- a side is at least as strong as a value already
 abbrev pub is_as_strong : Sides → Side → ℚ → Bool
 is_as_strong sides Low value = low_inside sides.low (Some value)

@@ -1,5 +1,5 @@
 -- A region with its earlier states, and what tightening a side of it, or making a choice in it, comes to.
-use Rattle.std.specs.Prelude.{◌≡◌, ℕ, ◌-◌, Bool, true, false, ◌&&◌, List, [], ◌∷◌, ◌++◌, Option, None, Some, if◌then◌else◌, slice_set, refl, ⊤}
+use Rattle.std.specs.Prelude.{◌≡◌, ℕ, ◌-◌, ◌≤◌, Bool, true, false, ◌&&◌, List, [], ◌∷◌, ◌++◌, Option, None, Some, if◌then◌else◌, length, slice_set, slice_index_or, refl, ⊤}
 use Rattle.std.specs.Coded.{Coded, code_by, coded×, coded_ℕ, coded_list}
 use Rattle.cip_rational.specs.Rational.{ℚ}
 use Rattle.cip_problem.specs.Program.{Sides, Choice, Plain, Open, Off, On}
@@ -11,7 +11,7 @@ use Rattle.cip_lin.specs.MetSides.{is_past}
 use Rattle.cip_lin.specs.declared.sides.Side.{Side}
 use Rattle.cip_domain.specs.declared.stores.Tightened.{Tightened}
 use Rattle.cip_domain.specs.declared.stores.Tightened.TheVariants.{Yes, Same, Empty}
-use Rattle.cip_domain.specs.Changes.{Region, region_code, Change, choice_after, with_side, is_as_strong, would_cross}
+use Rattle.cip_domain.specs.Changes.{Region, region_code, Change, with_side, is_as_strong, would_cross}
 
 -- the box, its choices, the regions before each change that can be undone, the oldest first, and for how many changes
 -- there is room
@@ -28,6 +28,15 @@ region_of domain = record { box = domain.box; choices = domain.choices }
 -- the regions so far, the last of them as it stands: the one at each mark
 abbrev pub regions : Domain → List Region
 regions domain = domain.before ++ region_of domain ∷ []
+
+-- the region that stands at a mark
+abbrev pub region_at : Domain → ℕ → Region
+region_at domain mark = slice_index_or (regions domain) mark (region_of domain)
+
+-- what stands at the marks so far stands there still
+pub record KeepsMarks (old new : Domain) : Type 0 where
+  pub grows : length old.before ≤ length new.before
+  pub same : (mark : ℕ) → mark ≤ length old.before → region_at new mark ≡ region_at old mark
 
 -- what making a value a side comes to
 abbrev pub tightening : Sides → Side → ℚ → Tightened
@@ -96,20 +105,19 @@ is_settled (Open own) (Some on) = false
 is_settled Off (Some on) = true
 is_settled On (Some on) = on
 
+-- a choice may be another one later: it is open or on
+abbrev pub is_unsettled : Choice → Bool
+is_unsettled Plain = false
+is_unsettled (Open own) = true
+is_unsettled Off = false
+is_unsettled On = true
+
 -- what a change of a column with these sides and this choice comes to
 abbrev pub making : Sides → Choice → Change → Tightened
 making sides choice change =
     let left = met sides change.sides in
     if sides_inside sides change.sides && is_settled choice change.made then Same
     else (if is_past left.low left.high then Empty else Yes)
-
--- a domain after that
-abbrev pub after_making : Tightened → Domain → Change → Domain
-after_making Yes domain change = stepped domain change.column
-    (met (sides_at domain.box change.column) change.sides)
-    (choice_after (choice_at domain.choices change.column) change.made)
-after_making Same domain change = domain
-after_making Empty domain change = domain
 
 -- box, choices, earlier regions and room
 abbrev pub domain_code : Coded Domain

@@ -1,10 +1,22 @@
--- The laws of regions after changes, each as one statement: the functions of `src/lib.rt` have them as contracts.
-use Rattle.std.specs.Prelude.{◌≡◌, ◌<◌, ◌↔◌, List, length, reverse}
+-- Regions after changes: what narrowing one comes to, and the laws of all, each as one statement. The functions of
+-- `src/lib.rt` have the laws as contracts.
+use Rattle.std.specs.Prelude.{◌≡◌, ◌<◌, ◌≤◌, ◌↔◌, ℕ, Bool, true, false, List, length, reverse}
 use Rattle.std.specs.List.{AllByRecursion}
 use Rattle.cip_rational.specs.Rational.{ℚ}
+use Rattle.cip_problem.specs.Program.{Plain}
 use Rattle.cip_problem.specs.Activity.{value_at}
 use Rattle.cip_problem.specs.Box.{Between, IsInBox}
-use Rattle.cip_domain.specs.Changes.{Region, Change, narrowed}
+use Rattle.cip_problem.specs.Choices.{choice_at}
+use Rattle.cip_domain.specs.Changes.{Region, Change, tightened, narrowed}
+
+-- choices past the end of the box are plain
+abbrev pub ArePlainPast : Region → Type 0
+ArePlainPast region = (column : ℕ) → length region.box ≤ column → choice_at region.choices column ≡ Plain
+
+-- a region after a change; or no point meets it
+abbrev pub IsNarrowed : Region → Region → Change → Bool → Type 0
+IsNarrowed before after change true = after ≡ tightened before change
+IsNarrowed before after change false = (point : List ℚ) → ¬ IsInBox (tightened before change).box point
 
 -- a point meets a change: its value lies between the sides
 abbrev pub Meets : List ℚ → Change → Type 0

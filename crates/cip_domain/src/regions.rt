@@ -1,10 +1,11 @@
 //! A box with the choices of its columns.
-ghost use Rattle.std.specs.Prelude.{◌≡◌, ◌<◌, length};
+ghost use Rattle.std.specs.Prelude.{◌≡◌, ◌<◌, length, IfOk};
 ghost use Rattle.cip_problem.specs.Box.{sides_at};
 ghost use Rattle.cip_problem.specs.Choices.{choice_at};
 ghost use Rattle.cip_domain.specs.Changes.{with_column};
 
 use cip_lin::{Bounds, Choice, Choices, Sides};
+use std::alloc::{AllocError, Global};
 use std::marker::Model;
 
 /// A box with the choices of its columns.
@@ -30,6 +31,15 @@ impl Region {
         ensures { result ≡ record { box = bounds; choices = choices } }
     {
         Region { bounds, choices }
+    }
+
+    /// A copy; `Err` where memory was refused.
+    pub fn copied(&self, alloc: Global) -> Result<Region, AllocError>
+        ensures { IfOk result (λ copy. copy ≡ self.now) }
+    {
+        let bounds = self.bounds.copied(alloc)?;
+        let choices = self.choices.copied(alloc)?;
+        Ok(Region { bounds, choices })
     }
 
     /// The box.

@@ -1,5 +1,5 @@
 -- The rules of what is said: their kinds rise, and without fault none is broken.
-use Rattle.std.proofs.Common.{◌≡◌, ℕ, ◌≤◌, true, false, None, refl, arith}
+use Rattle.std.proofs.Common.{◌≡◌, ◌≤◌, true, false, None, refl, arith}
 use Rattle.std.specs.Prelude.{nat_le}
 use Rattle.std.proofs.lemmas.Bool.{and_from, le-leb}
 use Rattle.std.specs.List.{AllByRecursion}

@@ -1,19 +1,19 @@
 -- What was said without fault keeps the facts sound.
-use Rattle.std.proofs.Common.{◌≡◌, ℕ, suc, ◌+◌, ◌<◌, ◌≤◌, ◌==◌, Bool, true, false, not, ◌&&◌, ◌||◌, cond, List, [], ◌∷◌, ◌++◌, length, Option, None, Some, refl, sym, ap, subst, ◌∙◌, arith, lit≤}
-use Rattle.std.specs.Prelude.{nat_le, All, is_some, slice_set}
+use Rattle.std.proofs.Common.{◌≡◌, ℕ, ◌+◌, ◌<◌, ◌≤◌, ◌==◌, Bool, true, false, not, ◌&&◌, cond, List, [], ◌∷◌, ◌++◌, length, Option, None, Some, refl, sym, ap, subst, ◌∙◌, arith, lit≤}
+use Rattle.std.specs.Prelude.{nat_le, All, is_some}
 use Rattle.std.proofs.lemmas.List.{length_push, length-set}
 use Rattle.std.proofs.lemmas.List.Elements.{All-nil, All-push, All-weaker}
 use Rattle.std.proofs.lemmas.Bool.{leb-false}
 use Rattle.cip_rational.specs.Rational.{ℚ, zeroℚ}
 use Rattle.cip_problem.specs.Limits.{most_rows, most_columns, most_entries}
 use Rattle.cip_problem.specs.Activity.{StandsBelow}
-use Rattle.cip_problem.specs.Program.{Term, Row, Sides}
+use Rattle.cip_problem.specs.Program.{Term, Row}
 use Rattle.cip_mps_rules.specs.MpsWords.{number_in, is_in}
 use Rattle.cip_mps_rules.proofs.MpsNames.{number_below}
 use Rattle.cip_mps_rules.proofs.Quiet.{left_false, right_false}
 use Rattle.cip_lp_rules.specs.LpWords.{LpPart, Costs, Constraints}
 use Rattle.cip_lp_rules.specs.LpPlaces.{Amount, Event, Fails, Opens, NamesObjective, Begins, AddsCost, AddsConstant, Adds, Ends, Mentions, SetsLow, SetsHigh, SetsBoth, MakesWhole, MakesBinary}
-use Rattle.cip_lp_rules.specs.LpFacts.{FormTerm, LpFacts, nothing_said, default_sides, with_column, number_or, column_number, is_column_too_many, is_entry_too_many, is_again, has_term, form_term, form_with, with_sides, with_whole, with_cost, with_term, entries_with, with_row, terms_of, with_part, event_fault, facts_with}
+use Rattle.cip_lp_rules.specs.LpFacts.{FormTerm, LpFacts, nothing_said, default_sides, with_column, number_or, column_number, is_column_too_many, is_entry_too_many, is_again, has_term, form_term, form_with, with_sides, with_whole, with_cost, with_term, with_row, terms_of, with_part, event_fault, facts_with}
 use Rattle.cip_lp_rules.specs.LpSound.{IsSoundLp}
 use Rattle.cip_lp_rules.specs.LpStatements.{number_in_form, amount_value}
 use Rattle.cip_lp_rules.proofs.LpEvents.{unbroken}

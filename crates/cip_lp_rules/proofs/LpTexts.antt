@@ -1,10 +1,10 @@
 -- The program of a text is that of facts that are sound.
-use Rattle.std.proofs.Common.{◌≡◌, ℕ, ◌≤◌, Bool, true, false, List, [], ◌∷◌, length, Option, None, Some, inl, inr, refl, sym, subst, ◌∙◌}
+use Rattle.std.proofs.Common.{◌≡◌, ℕ, ◌≤◌, List, [], ◌∷◌, Option, None, Some, inl, inr, refl, sym, subst, ◌∙◌}
 use Rattle.std.specs.Prelude.{All}
-use Rattle.cip_problem.specs.Limits.{most_rows, most_columns}
+use Rattle.cip_problem.specs.Limits.{most_columns}
 use Rattle.cip_problem.specs.Activity.{StandsBelow}
 use Rattle.cip_problem.specs.Program.{Row, Program}
-use Rattle.cip_problem.specs.WellFormed.{columns, IsWellFormed}
+use Rattle.cip_problem.specs.WellFormed.{IsWellFormed}
 use Rattle.cip_line_texts.specs.LineTexts.{Numbered}
 use Rattle.cip_line_texts.specs.LineStatements.{known_after, AreOpen, IsEndReached, NeedsNoEnd}
 use Rattle.cip_line_texts.proofs.LineEnded.{result_found, holds_open}

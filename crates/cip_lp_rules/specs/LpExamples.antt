@@ -1,6 +1,6 @@
 -- LP texts with what they come to, for the laws of examples.
 use lib.Chars.{codes}
-use Rattle.std.specs.Prelude.{◌≡◌, ℕ, true, false, pos, List, [], ◌∷◌, ◌++◌, Option, None, Some, replicate}
+use Rattle.std.specs.Prelude.{◌≡◌, ℕ, true, false, pos, List, [], ◌∷◌, ◌++◌, None, Some, replicate}
 use Rattle.cip_rational.specs.Rational.{ℚ, ratio, zeroℚ, oneℚ, negate}
 use Rattle.cip_problem.specs.Program.{Term, Sides, Row, Program}
 use Rattle.cip_line_texts.specs.LineTexts.{Outcome, Means, Faulty, too_long, outcome_of}

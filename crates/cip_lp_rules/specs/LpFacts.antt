@@ -2,7 +2,7 @@
 --     event_fault facts event      the kind of the fault of what is said, if it has one
 --     facts_with facts event      the facts behind it
 use Rattle.std.specs.Prelude.{ℕ, ◌+◌, ◌==◌, nat_lt, nat_le, Bool, true, false, not, ◌&&◌, ◌||◌, if◌then◌else◌, List, [], ◌∷◌, ◌++◌, length, Option, None, Some, slice_index_or, slice_set}
-use Rattle.std.specs.List.{list_any, filter}
+use Rattle.std.specs.List.{list_any}
 use Rattle.std.specs.Str.{bytes_eq}
 use Rattle.cip_rational.specs.Rational.{ℚ, zeroℚ, oneℚ, negate}
 use Rattle.cip_numerals.specs.NumberText.{natural_text}

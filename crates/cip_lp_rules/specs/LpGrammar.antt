@@ -6,8 +6,8 @@ use Rattle.cip_rational.specs.Rational.{ℚ}
 use Rattle.cip_number_text.specs.Numeral.{Numeral, value_of, numeral_of}
 use Rattle.cip_mps_rules.specs.MpsWords.{is_huge, is_too_fine, bound_number}
 use Rattle.cip_lp_rules.specs.LpWords.{LpPart, NoPart, Costs, Constraints, Bounds, Generals, Binaries, End, Relation, AtMost, EqualTo, AtLeast}
-use Rattle.cip_lp_rules.specs.LpTokens.{Token, Opening, OutsideSection, Reserved, Free, Infinite, Number, Name, Sign, Colon, Relates, BadToken}
-use Rattle.cip_lp_rules.specs.LpPlaces.{Amount, amount_of, unit, Limit, Near, Far, limit_of, is_equality, agree, flipped, Given, goes_on, Place, Start, Labelled, FirstName, FirstSign, FirstNumber, SecondStart, SecondSign, SecondNumber, SecondName, AfterTerm, TermSign, TermNumber, LastDue, LastSign, BoundName, BoundDue, BoundSign, LimitSign, LimitRead, LimitDue, BoundedName, Where, at, Event, Fails, Opens, NamesObjective, Begins, AddsCost, AddsConstant, Adds, Ends, Mentions, SetsLow, SetsHigh, SetsBoth, MakesWhole, MakesBinary, Reads, fails, moves, says, says_both}
+use Rattle.cip_lp_rules.specs.LpTokens.{Token, Opening, OutsideSection, Free, Infinite, Number, Name, Sign, Colon, Relates, BadToken}
+use Rattle.cip_lp_rules.specs.LpPlaces.{Amount, amount_of, unit, Limit, Near, Far, limit_of, is_equality, agree, flipped, Given, goes_on, Place, Start, Labelled, FirstName, FirstSign, FirstNumber, SecondStart, SecondSign, SecondNumber, SecondName, AfterTerm, TermSign, TermNumber, LastDue, LastSign, BoundName, BoundDue, BoundSign, LimitSign, LimitRead, LimitDue, BoundedName, Where, Event, Opens, NamesObjective, Begins, AddsCost, AddsConstant, Adds, Ends, Mentions, SetsLow, SetsHigh, SetsBoth, MakesWhole, MakesBinary, Reads, fails, moves, says, says_both}
 
 -- ---- tokens that settle what stands before
 

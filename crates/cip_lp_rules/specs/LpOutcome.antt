@@ -5,7 +5,7 @@ use Rattle.std.specs.Prelude.{ℕ, Bool, true, false, List, Option, Some}
 use Rattle.cip_problem.specs.Program.{Program}
 use Rattle.cip_line_texts.specs.LineTexts.{Reading, HasResult, HasFault}
 use Rattle.cip_line_texts.specs.LineEnds.{Stage, ending}
-use Rattle.cip_lp_rules.specs.LpWords.{LpPart, End}
+use Rattle.cip_lp_rules.specs.LpWords.{End}
 use Rattle.cip_lp_rules.specs.LpTokens.{Token, Opening, line_tokens}
 use Rattle.cip_lp_rules.specs.LpPlaces.{Where, no_where}
 use Rattle.cip_lp_rules.specs.LpGrammar.{events_of, place_after}

@@ -1,10 +1,9 @@
 -- What holds of the facts behind tokens without fault: their lists belong together, and forms have their numbers by
 -- rising column.
-use Rattle.std.specs.Prelude.{◌≡◌, ℕ, ◌<◌, ◌≤◌, nat_lt, Bool, true, ◌&&◌, List, [], ◌∷◌, length, All, Option, is_some}
+use Rattle.std.specs.Prelude.{◌≡◌, ◌<◌, ◌≤◌, nat_lt, Bool, true, ◌&&◌, List, [], ◌∷◌, length, All, is_some}
 use Rattle.std.specs.List.{list_all}
 use Rattle.cip_problem.specs.Limits.{most_rows, most_columns, most_entries}
 use Rattle.cip_problem.specs.Activity.{StandsBelow}
-use Rattle.cip_problem.specs.Program.{Row}
 use Rattle.cip_lp_rules.specs.LpFacts.{FormTerm, LpFacts}
 
 -- the columns of a form rise

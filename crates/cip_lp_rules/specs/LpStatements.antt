@@ -1,11 +1,15 @@
 -- The laws of LP texts, each as one statement: functions of `src/lp_texts.rt` have them as contracts.
-use Rattle.std.specs.Prelude.{◌≡◌, ℕ, ◌==◌, ◌≤◌, true, false, ◌&&◌, List, [], ◌∷◌, None, Some, if◌then◌else◌}
+use Rattle.std.specs.Prelude.{◌≡◌, ℕ, ◌==◌, ◌≤◌, true, false, ◌&&◌, ◌||◌, List, [], ◌∷◌, None, Some, drop, if◌then◌else◌}
 use Rattle.std.specs.List.{AllByRecursion, list_any}
 use Rattle.cip_rational.specs.Rational.{ℚ, zeroℚ}
 use Rattle.cip_problem.specs.Program.{Program}
 use Rattle.cip_problem.specs.WellFormed.{IsWellFormed}
+use Rattle.cip_syntax.specs.Lines.{is_blank}
 use Rattle.cip_line_texts.specs.LineStatements.{OneOutcome, FaultsBeforeEnds, ResultsAtEnds}
+use Rattle.cip_line_texts.specs.LineStream.{TextsAreRead, FaultsOfEndedLines, FaultsStay}
 use Rattle.cip_mps_rules.specs.MpsStatements.{coefficient_in}
+use Rattle.cip_lp_rules.specs.LpWords.{first_piece, first_rest}
+use Rattle.cip_lp_rules.specs.LpTokens.{is_comment, line_pieces}
 use Rattle.cip_lp_rules.specs.LpPlaces.{Amount, Event, Adds}
 use Rattle.cip_lp_rules.specs.LpFacts.{FormTerm, LpFacts, nothing_said, has_term, event_rules, event_fault, facts_with, column_number, terms_of}
 use Rattle.cip_lp_rules.specs.LpSound.{form_rises, IsSoundLp}
@@ -25,6 +29,27 @@ LpFaultsAreFirst = FaultsBeforeEnds is_end lp_tokens
 -- a program is that of the tokens as far as End, where none of them breaks a rule
 abbrev pub LpProgramsAreDescribed : Type 0
 LpProgramsAreDescribed = ResultsAtEnds is_end lp_tokens
+
+-- a text that is read byte by byte comes to its outcome
+abbrev pub LpTextsAreRead : Type 0
+LpTextsAreRead = TextsAreRead lp_reading lp_reading
+
+-- a fault is known exactly where the text, as far as it was read, is faulty at a line that has ended
+abbrev pub LpFaultsOfEndedLines : Type 0
+LpFaultsOfEndedLines = FaultsOfEndedLines lp_reading lp_reading
+
+-- a fault that is known is the text's, whatever follows, and stays known
+abbrev pub LpFaultsStay : Type 0
+LpFaultsStay = FaultsStay lp_reading lp_reading
+
+-- a line is cut into pieces: blanks part them, a comment ends it, and each goes as far as its rule says
+pub record LpPiecesAreCut : Type 0 where
+  pub none : line_pieces [] ≡ []
+  pub blank : (byte : ℕ) (behind : List ℕ) → is_blank byte ≡ true → line_pieces (byte ∷ behind) ≡ line_pieces behind
+  pub comment : (byte : ℕ) (behind : List ℕ) → is_blank byte ≡ false → is_comment byte ≡ true
+      → line_pieces (byte ∷ behind) ≡ []
+  pub piece : (byte : ℕ) (behind : List ℕ) → (is_blank byte || is_comment byte) ≡ false
+      → line_pieces (byte ∷ behind) ≡ first_piece byte behind ∷ line_pieces (drop (first_rest byte behind) behind)
 
 -- the fault of what is said is a kind whose rule is broken, and no lesser one is; without fault none is
 pub record LpFaultsAreLeast : Type 0 where

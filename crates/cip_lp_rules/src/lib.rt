@@ -3,4 +3,5 @@
 #![tactic(auto)]
 
 pub mod lp_examples;
+pub mod lp_pieces;
 pub mod lp_texts;

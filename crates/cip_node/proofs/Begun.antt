@@ -143,7 +143,7 @@ begun program tree start near holds new =
     first = first_node program start
 
     made : Node → List Bool → List Node → List Node → ℕ → List Entry → Nodes
-    made root integral open_ parked ids log = record { root = root; integral = integral; open_ = open_; parked = parked; taken = tree.taken; ids = ids; log = log }
+    made root integral open_ parked ids log = record { root = root; integral = integral; open_ = open_; parked = parked; taken = tree.taken; ids = ids; log = log; work = tree.work }
 
     is_tree : tree ≡ made first program.integral (first ∷ []) [] 1 []
     is_tree =

@@ -1,6 +1,7 @@
 pub mod Begun
 pub mod BoxInWork
 pub mod EndLaws
+pub mod InWork
 pub mod Inside
 pub mod KeptSteps
 pub mod LeafSettled

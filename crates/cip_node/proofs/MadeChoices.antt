@@ -12,7 +12,8 @@ use Rattle.std.specs.List.{AllZip}
 use Rattle.cip_leaves.specs.Leaf.{at_wholes, IsWholeBetween, IsLeaf, IsOnlyLeaf, Leaf, IsLeafOf, IsOnlyLeafOf}
 use Rattle.cip_node_rules.specs.OpenColumns.{PassesNowhere}
 use Rattle.cip_node_rules.specs.OpenChoices.{is_choice_open}
-use Rattle.cip_node.specs.Entering.{own_region, ArePlainPast}
+use Rattle.cip_domain.specs.Narrowing.{ArePlainPast}
+use Rattle.cip_node.specs.Entering.{own_region}
 
 -- ---- one more column
 

@@ -10,7 +10,6 @@ use Rattle.cip_cuts.specs.Improving.{IsNoDearer}
 use Rattle.cip_cuts.proofs.Improving.{holds_later}
 use Rattle.cip_cert.specs.declared.rows.PoolRow.{PoolRow}
 use Rattle.cip_node.specs.Cores.{IsReady}
-use Rattle.cip_node.specs.Entering.{own_region, first_region}
 use Rattle.cip_node.specs.KeptNodes.{cost_held, IsHolding, IsPoolOf, IsWorkplace}
 use Rattle.cip_node.specs.declared.cores.Core.{Core}
 
@@ -23,11 +22,9 @@ pub pool_aged : (program : Program) (held : Option ℚ) (pool : List PoolRow) (n
 pool_aged program held pool n h = λ kept c.
     h kept (subst (λ l. Contains l kept) (take-append-drop n pool) (Contains-append_right (take n pool) (drop n pool) kept c))
 
--- after steps that leave the pool and the box in work alone
+-- after steps that leave the pool alone
 pub ready_from : (old new : Core) → new ≡ record old { solver = new.solver; scratch = new.scratch; starts = new.starts; tree = new.tree; incumbent = new.incumbent } → IsWorkplace new.program.now (length new.scratch.row.entries) new.pool.columns → IsHolding new.program.now new.incumbent → IsNoDearer (cost_held new.incumbent) (cost_held old.incumbent) → IsReady old → IsReady new
 ready_from old new e place holding d r = record {
-  start = subst (λ (s : Core). s.start ≡ 0) (sym e) r.start;
-  first = subst (λ (s : Core). first_region s.domain ≡ own_region s.program.now) (sym e) r.first;
   place = place;
   pool = subst (λ (s : Core). IsPoolOf s.program.now (cost_held new.incumbent) s.pool.rows) (sym e) (pool_later old.program.now (cost_held old.incumbent) (cost_held new.incumbent) old.pool.rows d r.pool);
   cutoff = subst (λ (s : Core). s.cutoff ≡ None) (sym e) r.cutoff;
@@ -47,9 +44,9 @@ ready_held old new e holding d r =
 -- after steps on the tree
 pub ready_tree : (old new : Core) → new ≡ record old { tree = new.tree } → IsReady old → IsReady new
 ready_tree old new e r =
-    subst IsReady (sym e) (record { start = r.start; first = r.first; place = r.place; pool = r.pool; cutoff = r.cutoff; whole_costs = r.whole_costs; holding = r.holding })
+    subst IsReady (sym e) (record { place = r.place; pool = r.pool; cutoff = r.cutoff; whole_costs = r.whole_costs; holding = r.holding })
 
 -- after steps on the tree and the starts
 pub ready_started : (old new : Core) → new ≡ record old { tree = new.tree; starts = new.starts } → IsReady old → IsReady new
 ready_started old new e r =
-    subst IsReady (sym e) (record { start = r.start; first = r.first; place = r.place; pool = r.pool; cutoff = r.cutoff; whole_costs = r.whole_costs; holding = r.holding })
+    subst IsReady (sym e) (record { place = r.place; pool = r.pool; cutoff = r.cutoff; whole_costs = r.whole_costs; holding = r.holding })

@@ -5,7 +5,6 @@ use Rattle.cip_cuts.specs.Cuts.{HasWholeCosts}
 use Rattle.cip_cert.specs.Lent.{Lent}
 use Rattle.cip_rows.specs.RowPools.{Pool, kept_pool_rows}
 use Rattle.cip_tree.specs.Nodes.{Nodes}
-use Rattle.cip_node.specs.Entering.{own_region, first_region}
 use Rattle.cip_node.specs.KeptNodes.{cost_held, IsHolding, IsPoolOf, IsWorkplace}
 use Rattle.cip_node.specs.declared.cores.Core.{Core}
 
@@ -13,8 +12,6 @@ use Rattle.cip_node.specs.declared.cores.Core.{Core}
 -- is valid in its scope, no cutoff row is used, bounds are rounded only where costs are whole, and the point held is
 -- one of the program
 pub record IsReady (core : Core) : Type 0 where
-  pub start : core.start ≡ 0
-  pub first : first_region core.domain ≡ own_region core.program.now
   pub place : IsWorkplace core.program.now (length core.scratch.row.entries) core.pool.columns
   pub pool : IsPoolOf core.program.now (cost_held core.incumbent) core.pool.rows
   pub cutoff : core.cutoff ≡ None

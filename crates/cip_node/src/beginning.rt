@@ -13,7 +13,7 @@ ghost use Rattle.cip_node.specs.KeptNodes.{cost_held, IsKept};
 use crate::cores::Core;
 use crate::starts::Starts;
 use cip_cert::Scratch;
-use cip_domain::{DomainStore, Region};
+use cip_domain::Region;
 use cip_frac::Frac;
 use cip_incumbent::Incumbent;
 use cip_model::Program;
@@ -72,31 +72,6 @@ fn rooted_tree(alloc: Global, program: &Program) -> Result<Tree, AllocError>
     Tree::new(alloc, root, program.whole(), bound)
 }
 
-/// What nodes are worked on in: the region in work, and what checks work in.
-#[derive(Drop)]
-struct Workplace {
-    domain: DomainStore,
-    scratch: Scratch,
-}
-
-impl Workplace {
-    /// The workplace of a program: the region in work is the program's. `Err` comes where memory was refused.
-    fn new(alloc: Global, program: &Program) -> Result<Workplace, AllocError>
-        ensures domain { IfOk result
-            (λ place. place.domain
-            ≡ record { box = program.now.bounds; choices = program.now.choices; before = []; spare = 0 }) }
-        ensures scratch { IfOk result (λ place. length place.scratch.row.entries ≡ columns program.now) }
-    {
-        let columns = program.columns();
-        let region = region_of(alloc, program)?;
-        let scratch = Scratch::new(alloc, columns)?;
-        Ok(Workplace {
-            domain: DomainStore::new(alloc, region),
-            scratch,
-        })
-    }
-}
-
 impl<'a> Core<'a> {
     /// What a search of a program begins with: its root is open, with the box bound, rounded up where all costs are
     /// whole, or without a bound where a side is open or a sum of it overflows; the pool has no row, and no point is
@@ -118,15 +93,13 @@ impl<'a> Core<'a> {
         let whole_costs = are_costs_whole(program);
         let columns = program.columns();
         let incumbent = Incumbent::new(alloc, program)?;
-        let Workplace { domain, scratch } = Workplace::new(alloc, program)?;
+        let scratch = Scratch::new(alloc, columns)?;
         let tree = rooted_tree(alloc, program)?;
         Ok(Core {
             program,
             whole_costs,
             pool: RowPool::new(alloc, columns),
             cutoff: None,
-            start: domain.mark(),
-            domain,
             solver: Solver::new(alloc),
             scratch,
             starts: Starts::new(alloc),

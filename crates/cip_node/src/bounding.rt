@@ -21,11 +21,11 @@ impl<'a> Core<'a> {
     /// refused.
     pub(crate) fn relaxed(&mut self, alloc: Global) -> Result<Relaxed, AllocError>
         requires place { IsWorkplace self.old.program.now (length self.old.scratch.row.entries) self.old.pool.columns }
-        requires columns { length self.old.domain.box ≡ columns self.old.program.now }
+        requires columns { length self.old.tree.work.box ≡ columns self.old.program.now }
         requires cutoff { self.old.cutoff ≡ None }
         ensures relaxed { IfOk result (IsRelaxed self.new.program.now
-            (record { own = self.new.program.now.rows; pool = self.new.pool.rows; cutoff = None }) self.new.domain.box
-            (length self.new.scratch.row.entries)) }
+            (record { own = self.new.program.now.rows; pool = self.new.pool.rows; cutoff = None })
+            self.new.tree.work.box (length self.new.scratch.row.entries)) }
         ensures place { IsWorkplace self.new.program.now (length self.new.scratch.row.entries) self.new.pool.columns }
         ensures frame { self.new ≡ record self.old {
           solver = self.new.solver;
@@ -38,7 +38,7 @@ impl<'a> Core<'a> {
             self.program,
             &self.pool,
             &self.cutoff,
-            self.domain.bounds(),
+            self.tree.bounds(),
             self.starts.given(),
             &mut self.solver,
             &mut self.scratch,
@@ -139,8 +139,8 @@ impl<'a> Core<'a> {
             (shown self.old.tree node.old ∷ []) }
         requires taken { IsTaken self.old.tree node.old }
         requires holding { IsHolding self.old.program.now self.old.incumbent }
-        requires box_in_work { self.old.domain.box ≡ box_of self.old.tree node.old }
-        requires columns { length self.old.domain.box ≡ columns self.old.program.now }
+        requires box_in_work { self.old.tree.work.box ≡ box_of self.old.tree node.old }
+        requires columns { length self.old.tree.work.box ≡ columns self.old.program.now }
         requires place { IsWorkplace self.old.program.now (length self.old.scratch.row.entries) self.old.pool.columns }
         requires pool { IsPoolOf self.old.program.now (cost_held self.old.incumbent) self.old.pool.rows }
         requires cutoff { self.old.cutoff ≡ None }
@@ -153,11 +153,11 @@ impl<'a> Core<'a> {
         ensures own { NoMore node.old.bound node.new.bound }
         ensures same { region_of self.new.tree node.new ≡ region_of self.old.tree node.old }
         ensures bounded { IfOk result (IsBounded self.new.program.now (cost_held self.new.incumbent)
-            (record { own = self.new.program.now.rows; pool = self.new.pool.rows; cutoff = None }) self.new.domain.box
-            (length self.new.scratch.row.entries) node.new.bound) }
+            (record { own = self.new.program.now.rows; pool = self.new.pool.rows; cutoff = None })
+            self.new.tree.work.box (length self.new.scratch.row.entries) node.new.bound) }
         ensures tried { IfOk result (GoesOnTried self.new.program.now (cost_held self.new.incumbent)
             (record { own = self.new.program.now.rows; pool = self.new.pool.rows; cutoff = None })
-            self.new.domain.box) }
+            self.new.tree.work.box) }
         ensures place { IsWorkplace self.new.program.now (length self.new.scratch.row.entries) self.new.pool.columns }
         ensures no_dearer { IsNoDearer (cost_held self.new.incumbent) (cost_held self.old.incumbent) }
         ensures tree { self.new.tree ≡ record self.old.tree {

@@ -2,7 +2,6 @@
 ghost use Rattle.std.specs.Prelude.{◌≡◌, ◌<◌, ◌^◌, ◌∷◌, [], length, option_map, Option, IfSome, MatchOption, MatchResult};
 ghost use Rattle.cip_problem.specs.Wholes.{AllHaveWholes};
 ghost use Rattle.cip_problem.specs.WellFormed.{columns};
-ghost use Rattle.cip_domain.specs.Domain.{region_of};
 ghost use Rattle.cip_tree.specs.Nodes.{IsTaken, region_of as node_region, box_of, shown};
 ghost use Rattle.cip_node_bounds.specs.declared.relaxed.Mark.{Mark};
 ghost use Rattle.cip_node_rules.specs.OpenChoices.{IsSettledBox, IsOpenBox};
@@ -24,16 +23,16 @@ impl<'a> Core<'a> {
     /// values, if a linear program had a point. `None` exactly where no whole column has two whole values and no choice
     /// is open.
     fn place_by(&self, point: &Option<Vec<Frac>>) -> Option<SplitPlace>
-        requires columns { length self.now.domain.box ≡ columns self.now.program.now }
-        requires values { IfSome point.now (λ values. length values.items ≡ length self.now.domain.box) }
+        requires columns { length self.now.tree.work.box ≡ columns self.now.program.now }
+        requires values { IfSome point.now (λ values. length values.items ≡ length self.now.tree.work.box) }
         ensures { MatchOption result
-            (IsSettledBox self.now.program.now.integral self.now.domain.box self.now.domain.choices)
-            (λ place. IsSplitBy self.now.program.now.integral (region_of self.now.domain)
+            (IsSettledBox self.now.program.now.integral self.now.tree.work.box self.now.tree.work.choices)
+            (λ place. IsSplitBy self.now.program.now.integral self.now.tree.work
             (option_map (λ values. values.items) point.now) place.col place.at) }
     {
         let columns = self.program.columns();
-        let (whole, bounds) = (self.program.whole(), self.domain.bounds());
-        let choices = self.domain.choices();
+        let (whole, bounds) = (self.program.whole(), self.tree.bounds());
+        let choices = self.tree.choices();
         match point {
             Some(own) => chosen_place(whole, bounds, choices, Some(own.as_slice())),
             None => chosen_place(whole, bounds, choices, self.starts.last_values(columns)),
@@ -54,11 +53,11 @@ impl<'a> Core<'a> {
             (shown self.old.tree node ∷ []) }
         requires taken { IsTaken self.old.tree node }
         requires few { self.old.tree.ids < 2 ^ 63 }
-        requires region_in_work { region_of self.old.domain ≡ node_region self.old.tree node }
-        requires columns { length self.old.domain.box ≡ columns self.old.program.now }
+        requires region_in_work { self.old.tree.work ≡ node_region self.old.tree node }
+        requires columns { length self.old.tree.work.box ≡ columns self.old.program.now }
         requires wholes { AllHaveWholes self.old.program.now.integral (box_of self.old.tree node) }
-        requires open_ { IsOpenBox self.old.program.now.integral self.old.domain.box self.old.domain.choices }
-        requires values { IfSome point.now (λ values. length values.items ≡ length self.old.domain.box) }
+        requires open_ { IsOpenBox self.old.program.now.integral self.old.tree.work.box self.old.tree.work.choices }
+        requires values { IfSome point.now (λ values. length values.items ≡ length self.old.tree.work.box) }
         ensures end { (mark : Option Mark)
             → IsAsGood self.old.program.now (rows_lent self.old.program.now self.old.pool) (box_of self.old.tree node)
             (length self.old.scratch.row.entries) node.bound mark

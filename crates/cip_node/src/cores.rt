@@ -1,7 +1,6 @@
 //! What a search works with.
 use crate::starts::Starts;
 use cip_cert::Scratch;
-use cip_domain::{Checkpoint, DomainStore};
 use cip_incumbent::Incumbent;
 use cip_lin::Row;
 use cip_model::Program;
@@ -20,17 +19,13 @@ pub struct Core<'a> {
     pub pool: RowPool,
     /// The cutoff row; no combination names it yet.
     pub cutoff: Option<Row>,
-    /// The region in work: the box of a node and its choices.
-    pub domain: DomainStore,
-    /// The moment at which the region in work is the program's.
-    pub start: Checkpoint,
     /// What solves the linear programs of nodes.
     pub solver: Solver,
     /// What checks work in.
     pub scratch: Scratch,
     /// Where the linear programs of nodes start.
     pub starts: Starts,
-    /// The nodes, with the log.
+    /// The nodes, with the log, and the region in work.
     pub tree: Tree,
     /// The point held.
     pub incumbent: Incumbent,

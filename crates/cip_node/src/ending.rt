@@ -2,7 +2,6 @@
 ghost use Rattle.std.specs.Prelude.{◌≡◌, ◌<◌, ◌^◌, ◌∷◌, [], length, None, IfOk, IfSome, MatchResult};
 ghost use Rattle.cip_problem.specs.WellFormed.{columns};
 ghost use Rattle.cip_cuts.specs.Improving.{IsNoDearer};
-ghost use Rattle.cip_domain.specs.Domain.{region_of};
 ghost use Rattle.cip_tree.specs.Nodes.{IsTaken, region_of as node_region, box_of, choices_of, shown};
 ghost use Rattle.cip_node_bounds.specs.Relaxing.{IsMark};
 ghost use Rattle.cip_node_rules.specs.OpenChoices.{IsSettledBox, IsOpenBox};
@@ -26,11 +25,11 @@ impl<'a> Core<'a> {
             (shown self.old.tree node ∷ []) }
         requires taken { IsTaken self.old.tree node }
         requires ready { IsReady self.old }
-        requires full { IsFull self.old.program.now.integral (region_of self.old.domain)
+        requires full { IsFull self.old.program.now.integral self.old.tree.work
             (node_region self.old.tree node) }
         requires settled { IsSettledBox self.old.program.now.integral (box_of self.old.tree node)
             (choices_of self.old.tree node) }
-        requires columns { length self.old.domain.box ≡ columns self.old.program.now }
+        requires columns { length self.old.tree.work.box ≡ columns self.old.program.now }
         ensures end { MatchResult result
             (IsEnd self.new.program.now (cost_held self.new.incumbent)
             (rows_lent self.new.program.now self.new.pool) (length self.new.scratch.row.entries) self.old.tree
@@ -41,7 +40,7 @@ impl<'a> Core<'a> {
         ensures tree { StaysRooted self.old.tree self.new.tree }
         ensures frame { self.new ≡ record self.old { tree = self.new.tree; incumbent = self.new.incumbent } }
     {
-        let (bounds, choices) = (self.domain.bounds(), self.domain.choices());
+        let (bounds, choices) = (self.tree.bounds(), self.tree.choices());
         match solve_leaf(alloc, self.program, bounds, choices) {
             Err(error) => {
                 self.go_back(node);
@@ -62,11 +61,11 @@ impl<'a> Core<'a> {
             (shown self.old.tree node ∷ []) }
         requires taken { IsTaken self.old.tree node }
         requires ready { IsReady self.old }
-        requires full { IsFull self.old.program.now.integral (region_of self.old.domain)
+        requires full { IsFull self.old.program.now.integral self.old.tree.work
             (node_region self.old.tree node) }
         requires open_ { IsOpenBox self.old.program.now.integral (box_of self.old.tree node)
             (choices_of self.old.tree node) }
-        requires columns { length self.old.domain.box ≡ columns self.old.program.now }
+        requires columns { length self.old.tree.work.box ≡ columns self.old.program.now }
         requires few { self.old.tree.ids < 2 ^ 63 }
         ensures end { MatchResult result
             (λ done. IsEnd self.new.program.now (cost_held self.new.incumbent)

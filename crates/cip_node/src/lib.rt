@@ -7,7 +7,6 @@ mod branching;
 mod cores;
 mod ending;
 mod ends;
-mod entering;
 mod leaves;
 mod looks;
 mod process;

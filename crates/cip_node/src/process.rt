@@ -1,7 +1,6 @@
 //! The work on a node.
 ghost use Rattle.std.specs.Prelude.{◌≡◌, ◌<◌, ◌^◌, ◌∷◌, [], length, IfOk, IfSome, MatchResult};
 ghost use Rattle.cip_cuts.specs.Improving.{IsNoDearer};
-ghost use Rattle.cip_domain.specs.Domain.{region_of};
 ghost use Rattle.cip_tree.specs.Nodes.{IsTaken, region_of as node_region, box_of, shown};
 ghost use Rattle.cip_node_bounds.specs.Relaxing.{IsMark};
 ghost use Rattle.cip_node.specs.Cores.{IsReady, aged, rows_lent, StaysRooted};
@@ -34,12 +33,16 @@ impl<'a> Core<'a> {
         requires taken { IsTaken self.old.tree node.now }
         requires ready { IsReady self.old }
         ensures look { IfOk result
-            (IsLook self.new.program.now.integral (region_of self.new.domain) (node_region self.new.tree node.now)) }
+            (IsLook self.new.program.now.integral self.new.tree.work (node_region self.new.tree node.now)) }
+        ensures kept { IsKept self.new.program.now self.new.tree (cost_held self.new.incumbent)
+            (shown self.new.tree node.now ∷ []) }
+        ensures taken { IsTaken self.new.tree node.now }
         ensures ready { IsReady self.new }
-        ensures frame { self.new ≡ record self.old { domain = self.new.domain } }
+        ensures tree { self.new.tree ≡ record self.old.tree { work = self.new.tree.work } }
+        ensures frame { self.new ≡ record self.old { tree = self.new.tree } }
     {
         let _columns = self.program.columns();
-        look(&mut self.domain, self.start, self.program, &self.tree, node)
+        look(&mut self.tree, self.program, node)
     }
 
     /// Ends a node by the look of its region, which is the region in work. `Err` comes where memory was refused; the
@@ -55,7 +58,7 @@ impl<'a> Core<'a> {
         requires taken { IsTaken self.old.tree node }
         requires ready { IsReady self.old }
         requires few { self.old.tree.ids < 2 ^ 63 }
-        requires look { IsLook self.old.program.now.integral (region_of self.old.domain)
+        requires look { IsLook self.old.program.now.integral self.old.tree.work
             (node_region self.old.tree node) looked }
         ensures end { MatchResult result
             (λ done. IsEnd self.new.program.now (cost_held self.new.incumbent)
@@ -116,7 +119,6 @@ impl<'a> Core<'a> {
         ensures tree { StaysRooted self.old.tree self.new.tree }
         ensures frame { self.new ≡ record self.old {
           pool = aged self.old.pool;
-          domain = self.new.domain;
           solver = self.new.solver;
           scratch = self.new.scratch;
           starts = self.new.starts;

@@ -306,6 +306,7 @@ impl<'a> Core<'a> {
         requires kept { IsKept self.old.program.now self.old.tree (cost_held self.old.incumbent)
             (shown self.old.tree node ∷ []) }
         requires taken { IsTaken self.old.tree node }
+        requires region_in_work { self.old.tree.work ≡ node_region self.old.tree node }
         requires few { self.old.tree.ids < 2 ^ 63 }
         requires wholes { AllHaveWholes self.old.program.now.integral (box_of self.old.tree node) }
         requires column { col < length self.old.program.now.integral }

@@ -223,7 +223,7 @@ module _ (program : Program) (old mid new : Nodes) (before after : Holding) (wor
 
 -- ---- all that is worked with
 
-module _ (old mid new : Core) (taken : mid ≡ record old { tree = mid.tree }) (framed : new ≡ record mid { pool = aged mid.pool; domain = new.domain; solver = new.solver; scratch = new.scratch; starts = new.starts; tree = new.tree; incumbent = new.incumbent }) (is_mid : mid.tree ≡ taken_up old.tree mid.tree.open_ mid.tree.taken) (worst : Option Worst) (node : TakenNode) (k : IsStill old.program.now old.tree.root.bound old.tree old.incumbent worst) (held : IsHolding new.program.now new.incumbent) where
+module _ (old mid new : Core) (taken : mid ≡ record old { tree = mid.tree }) (framed : new ≡ record mid { pool = aged mid.pool; solver = new.solver; scratch = new.scratch; starts = new.starts; tree = new.tree; incumbent = new.incumbent }) (is_mid : mid.tree ≡ taken_up old.tree mid.tree.open_ mid.tree.taken) (worst : Option Worst) (node : TakenNode) (k : IsStill old.program.now old.tree.root.bound old.tree old.incumbent worst) (held : IsHolding new.program.now new.incumbent) where
   pub same_program : new.program ≡ old.program
   same_program = ap (λ (c : Core). c.program) framed ∙ ap (λ (c : Core). c.program) taken
 

@@ -12,4 +12,6 @@ pub mod Restaged
 pub mod SplitColumns
 pub mod Starts
 pub mod Tracking
+pub mod WalkedOn
+pub mod Walking
 pub mod Within

@@ -408,5 +408,5 @@ least_shown region slots nodes (Some bound) h = record {
 }
 
 -- trees of equal parts are equal
-pub nodes_equal : (root : Node) (integral : List Bool) (a b p r : List Node) (t : List (Option Base)) (ids : ℕ) (k l : List Entry) → a ≡ b → p ≡ r → k ≡ l → let x : Nodes = record { root = root; integral = integral; open_ = a; parked = p; taken = t; ids = ids; log = k } in let y : Nodes = record { root = root; integral = integral; open_ = b; parked = r; taken = t; ids = ids; log = l } in x ≡ y
-nodes_equal root integral a b p r t ids k l e f g = cc
+pub nodes_equal : (root : Node) (integral : List Bool) (a b p r : List Node) (t : List (Option Base)) (ids : ℕ) (k l : List Entry) (w : Region) → a ≡ b → p ≡ r → k ≡ l → let x : Nodes = record { root = root; integral = integral; open_ = a; parked = p; taken = t; ids = ids; log = k; work = w } in let y : Nodes = record { root = root; integral = integral; open_ = b; parked = r; taken = t; ids = ids; log = l; work = w } in x ≡ y
+nodes_equal root integral a b p r t ids k l w e f g = cc

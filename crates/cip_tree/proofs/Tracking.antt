@@ -131,10 +131,10 @@ none_parked : (node : Option Node) (bound : Option ℚ) → halves node bound Pa
 none_parked None bound = refl
 none_parked (Some node) bound = refl
 
-live_taken : (stage : Stage) → stage ≡ Taken → is_live stage ≡ true
+pub live_taken : (stage : Stage) → stage ≡ Taken → is_live stage ≡ true
 live_taken stage e = ap is_live e
 
-live_open : (stage : Stage) → stage ≡ Open → is_live stage ≡ true
+pub live_open : (stage : Stage) → stage ≡ Open → is_live stage ≡ true
 live_open stage e = ap is_live e
 
 live_stays : (stage : Stage) → is_live stage ≡ true → stage ≢ Ended
@@ -164,7 +164,7 @@ module _ (root : Node) (integral : List Bool) (slots : Slots) (ids : ℕ) (log :
 -- ---- a node has another stage
 
 module _ (old new : Slots) (n : ℕ) (had notes : List Note) (stage : Stage) (h : IsRestaged old new n had notes stage) (kept : AreSoundSlots old) (live : is_live h.slot.stage ≡ true) (still : stage ≢ Ended) where
-  restaged_kept : AllWereKept old new
+  pub restaged_kept : AllWereKept old new
   restaged_kept k s e = elim (cases_eq k n) [
     | inl same ↦
         let t : record h.slot { notes = notes; stage = stage } ≡ s = same_Some _ _ (sym h.now ∙ ap (slot_at new) (sym same) ∙ e) in
@@ -185,7 +185,7 @@ module _ (old new : Slots) (n : ℕ) (had notes : List Note) (stage : Stage) (h 
     }
   ]
 
-released_kept : (old new : Slots) (n : ℕ) (r : IsReleased old new n) (kept : AreSoundSlots new) → AllWereKept old new
+pub released_kept : (old new : Slots) (n : ℕ) (r : IsReleased old new n) (kept : AreSoundSlots new) → AllWereKept old new
 released_kept old new n r kept k s e = record {
   before = record s { below = (r.left k s e).0 };
   found = (r.left k s e).1;
@@ -194,7 +194,7 @@ released_kept old new n r kept k s e = record {
   live = λ l. l;
 }
 
-freed_kept : (old new : Slots) (gone : List OpenNode) (r : AreReleased old new gone) (kept : AreSoundSlots new) → AllWereKept old new
+pub freed_kept : (old new : Slots) (gone : List OpenNode) (r : AreReleased old new gone) (kept : AreSoundSlots new) → AllWereKept old new
 freed_kept old new gone r kept k s e = record {
   before = record s { below = (r.left k s e).1.0 };
   found = (r.left k s e).1.1;
@@ -264,7 +264,7 @@ module _ (root_bound : Option ℚ) (integral : List Bool) (region : Region) (old
   Half k s = (k ≡ lp) × (open_slot ids (Some (let x : Origin = record { parent = n; change = cl } in x)) ≡ s) ⊎ (k ≡ hp) × (open_slot (ids + 1) (Some (let x : Origin = record { parent = n; change = ch } in x)) ≡ s)
 
   -- each slot was there, with other places live alone, or is of one of the halves
-  part_was : (k : ℕ) (s : Slot) → slot_at new k ≡ Some s → WasKept old new k s × (is_live s.stage ≡ true → k ≢ n) ⊎ Half k s
+  pub part_was : (k : ℕ) (s : Slot) → slot_at new k ≡ Some s → WasKept old new k s × (is_live s.stage ≡ true → k ≢ n) ⊎ Half k s
   part_was k s e = elim (cases_eq k n) [
     | inl same ↦
         let t : record h.slot { notes = notes; below = 2; stage = Ended } ≡ s = same_Some _ _ (sym h.now ∙ ap (slot_at new) (sym same) ∙ e) in

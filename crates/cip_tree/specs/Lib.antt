@@ -10,3 +10,4 @@ pub mod Searched
 pub mod Slots
 pub mod Splitting
 pub mod Tracked
+pub mod Walks

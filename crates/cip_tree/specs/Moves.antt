@@ -14,7 +14,8 @@ pub record IsBefore (node other : Node) : Type 0 where
   pub bounds : IsBoundAtMost node.bound other.bound
   pub numbers : node.bound ≡ other.bound → node.number ≤ other.number
 
--- a tree of one open node, the root, with this region and this bound, over so many columns of which these are whole
+-- a tree of one open node, the root, with this region, which is in work, and this bound, over so many columns of which
+-- these are whole
 pub record IsNew (tree : Nodes) (region : Region) (integral : List Bool) (bound : Option ℚ) : Type 0 where
   pub open_ : tree.open_ ≡ tree.root ∷ []
   pub root : tree.root ≡ node_in region 0 bound
@@ -23,6 +24,7 @@ pub record IsNew (tree : Nodes) (region : Region) (integral : List Bool) (bound 
   pub taken : (place : ℕ) → base_at tree place ≡ None
   pub ids : tree.ids ≡ 1
   pub log : tree.log ≡ []
+  pub work : tree.work ≡ region
 
 -- the first open node was taken, which has no entry in the log, and no other one changed
 pub record TakesFirst (old new : Nodes) (node : TakenNode) : Type 0 where

@@ -5,7 +5,7 @@ use Rattle.cip_rational.specs.Rational.{ℚ, coded_ℚ}
 use Rattle.cip_problem.specs.Program.{Sides, Choice}
 use Rattle.cip_problem.specs.Codes.{box_code, choices_code}
 use Rattle.cip_problem.specs.Log.{Node, Entry, End, Split, Closed, Parked}
-use Rattle.cip_domain.specs.Changes.{Region, Change, change_code, narrowed}
+use Rattle.cip_domain.specs.Changes.{Region, Change, region_code, change_code, narrowed}
 use Rattle.cip_tree.specs.declared.notes.Note.{Note}
 use Rattle.cip_tree.specs.Notes.{noted, note_code}
 
@@ -24,7 +24,7 @@ pub record Base : Type 0 where
   pub changes : List Change
 
 -- a tree: its root; which columns are whole; the open nodes, in no order; the parked ones, by the time of parking; by
--- place what is kept of nodes in work; how many numbers were given; and the log
+-- place what is kept of nodes in work; how many numbers were given; the log; and the region in work
 pub record Nodes : Type 0 where
   pub root : Node
   pub integral : List Bool
@@ -33,6 +33,7 @@ pub record Nodes : Type 0 where
   pub taken : List (Option Base)
   pub ids : ℕ
   pub log : List Entry
+  pub work : Region
 
 -- what is kept of a node in work
 abbrev pub base_at : Nodes → ℕ → Option Base
@@ -129,11 +130,11 @@ entry_code =
 abbrev pub nodes_code : Coded Nodes
 nodes_code =
     code_by
-    ((Node × List Bool) × ((List Node × List Node) × (List (Option Base) × (ℕ × List Entry))))
+    ((Node × List Bool) × ((List Node × List Node) × (List (Option Base) × (ℕ × (List Entry × Region)))))
     (coded× (coded× node_code (coded_list coded_bool))
     (coded× (coded× (coded_list node_code) (coded_list node_code))
-    (coded× (coded_list (coded_option base_code)) (coded× coded_ℕ (coded_list entry_code)))))
-    (λ t. ((t.root, t.integral), ((t.open_, t.parked), (t.taken, (t.ids, t.log)))))
+    (coded× (coded_list (coded_option base_code)) (coded× coded_ℕ (coded× (coded_list entry_code) region_code)))))
+    (λ t. ((t.root, t.integral), ((t.open_, t.parked), (t.taken, (t.ids, (t.log, t.work))))))
     (λ p. record {
       root = p.0.0;
       integral = p.0.1;
@@ -141,6 +142,7 @@ nodes_code =
       parked = p.1.0.1;
       taken = p.1.1.0;
       ids = p.1.1.1.0;
-      log = p.1.1.1.1;
+      log = p.1.1.1.1.0;
+      work = p.1.1.1.1.1;
     })
     (λ _. refl)

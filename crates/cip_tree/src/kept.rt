@@ -1,7 +1,7 @@
 //! What is kept of nodes: each has the change that made it and what its own work noted; the rest is its parent's.
 ghost use Rattle.std.specs.Prelude.{◌≡◌, ◌+◌, IfSome, Some};
 ghost use Rattle.slab.specs.Slab.{ContainsKey, HasRoomFor, slab_len};
-ghost use Rattle.cip_tree.specs.Slots.{Slot, slot_at, IsRestaged, IsParted, IsLowered, IsReleased, IsUsed, IsIdle, IsUnused, IsKeptBut, AreSoundSlots, open_slot};
+ghost use Rattle.cip_tree.specs.Slots.{IsRestaged, IsParted, IsLowered, IsReleased, IsUsed, IsIdle, IsUnused, IsKeptBut, AreSoundSlots, open_slot};
 
 use crate::notes::Note;
 use cip_domain::Change;
@@ -185,14 +185,4 @@ pub(crate) fn part(
     let low_place = kept.insert_reserved(low);
     let high_place = kept.insert_reserved(high);
     (low_place, high_place)
-}
-
-/// How a split gave the node at a place, `None` for the root.
-pub(crate) fn origin_at(kept: &Slab<Kept>, place: usize) -> Option<Origin>
-    ensures { (slot : Slot) → slot_at kept.now.slots place ≡ Some slot → result ≡ slot.origin }
-{
-    match kept.get(place) {
-        None => None,
-        Some(slot) => slot.origin,
-    }
 }

@@ -1,8 +1,7 @@
-//! The nodes of a search: those that are open, by bound; those that are parked; and what is kept of their boxes, which
-//! is what differs from node to node.
+//! The nodes of a search: those that are open, by bound; those that are parked; what is kept of their boxes, which is
+//! what differs from node to node; and the region of the node in work, which is reached from that of the one before.
 #![tactic(auto)]
 
-mod changes;
 mod closed;
 mod kept;
 mod logs;
@@ -11,8 +10,8 @@ mod notes;
 mod queue;
 mod splits;
 mod trees;
+mod walks;
 
-pub use changes::Changes;
 pub use logs::{End, Logged, searched_logs_are_logs};
 pub use nodes::Node;
 pub use splits::SplitFault;

@@ -1,14 +1,13 @@
 //! Splits of one column.
-ghost use Rattle.std.specs.Prelude.{◌≡◌, ◌<◌, length, slice_get, ◌==◌, ◌+ℤ◌, pos, Some, MatchResult, if◌then◌else◌};
+ghost use Rattle.std.specs.Prelude.{◌≡◌, ◌<◌, length, slice_get, ◌+ℤ◌, pos, Some, MatchResult};
 ghost use Rattle.cip_rational.specs.Rational.{integer};
-ghost use Rattle.cip_problem.specs.Choices.{met};
 ghost use Rattle.cip_lin.specs.declared.sides.Side.TheVariants.{Low, High};
-ghost use Rattle.cip_domain.specs.Changes.{choice_after, side_change};
+ghost use Rattle.cip_domain.specs.Changes.{side_change};
 ghost use Rattle.cip_domain.specs.Halves.{CanHalve};
 ghost use Rattle.cip_tree.specs.declared.splits.SplitFault.TheVariants.{Outside};
 
 use cip_domain::{Change, can_halve, high_change, low_change};
-use cip_lin::{Choice, Sides};
+use cip_lin::Sides;
 use std::alloc::AllocError;
 
 /// Why a node was not split.
@@ -43,28 +42,6 @@ pub(crate) fn whole_halves(sides: Sides, col: u32, at: i128) -> Result<(Change, 
         Ok((low_change(col, at), high_change(col, at)))
     } else {
         Err(SplitFault::Outside)
-    }
-}
-
-/// The sides of a column after a change, which may be of another one.
-pub(crate) fn sides_past(sides: Sides, change: Change, col: u32) -> Sides
-    ensures { result ≡ (if change.column == col then met sides change.sides else sides) }
-{
-    if change.col == col {
-        change.narrow(sides)
-    } else {
-        sides
-    }
-}
-
-/// The choice of a column after a change, which may be of another one.
-pub(crate) fn choice_past(choice: Choice, change: Change, col: u32) -> Choice
-    ensures { result ≡ (if change.column == col then choice_after choice change.made else choice) }
-{
-    if change.col == col {
-        change.choose(choice)
-    } else {
-        choice
     }
 }
 

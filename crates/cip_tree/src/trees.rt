@@ -3,32 +3,32 @@ ghost use Rattle.std.specs.Prelude.{MatchResult, OnOk, vec_len, vec_capacity, �
 ghost use Rattle.std.specs.List.Sorted.{IsPermutation};
 ghost use Rattle.slab.specs.Slab.{HasRoomFor};
 ghost use Rattle.cip_problem.specs.Log.{Closed, Parked, Split};
-ghost use Rattle.cip_problem.specs.Box.{sides_at};
 ghost use Rattle.cip_problem.specs.Wholes.{AllHaveWholes};
 ghost use Rattle.cip_tree.specs.Searched.{IsSearched, IsOpenIn};
-ghost use Rattle.cip_problem.specs.Choices.{choice_at};
+ghost use Rattle.cip_domain.specs.Narrowing.{ArePlainPast};
 ghost use Rattle.cip_tree.specs.Splitting.{AreHalves, IsSplitFault};
 ghost use Rattle.cip_tree.specs.Slots.{slot_at, open_slot};
 ghost use Rattle.cip_tree.specs.Entries.{entry_of, entries_of};
-ghost use Rattle.cip_tree.specs.Nodes.{IsTaken, base_at, node_changes, box_of, choices_of, shown};
+ghost use Rattle.cip_tree.specs.Nodes.{TakenNode, IsTaken, base_at, region_of, box_of, shown};
+ghost use Rattle.cip_tree.specs.Walks.{IsEntered};
 ghost use Rattle.cip_tree.specs.Moves.{IsNew, IsSplit, TakesFirst, LetsGo, IsLeastBound, is_cheaper};
 
-use crate::changes::Changes;
 use crate::closed::release_from;
-use crate::kept::{Kept, Stage, half_kept, new_kept, origin_at, part, release, restage};
+use crate::kept::{Kept, Stage, half_kept, new_kept, part, release, restage};
 use crate::logs::{End, Logged};
 use crate::nodes::Node;
 use crate::queue::{OpenNode, Queue};
-use crate::splits::{SplitFault, choice_past, flag_at, sides_past, whole_halves};
+use crate::splits::{SplitFault, flag_at, whole_halves};
+use crate::walks::Walk;
 use cip_domain::{Change, Region, choice_change};
 use cip_frac::Frac;
-use cip_lin::{Choice, Sides};
+use cip_lin::{Bounds, Choices};
 use slab::Slab;
 use std::alloc::{AllocError, Global};
 use std::marker::Model;
 
-/// The nodes of a search. Contracts see the root, the open and the parked nodes with their boxes, what is kept of nodes
-/// in work, how many numbers were given, and the log.
+/// The nodes of a search, and the region in work. Contracts see the root, the open and the parked nodes with their
+/// boxes, what is kept of nodes in work, how many numbers were given, the log, and the region in work.
 #[derive(Drop)]
 pub struct Tree {
     alloc: Global,
@@ -41,6 +41,7 @@ pub struct Tree {
     log: Vec<Logged>,
     ids: u64,
     in_work: usize,
+    walk: Walk,
 }
 
 impl Model for Tree {
@@ -49,6 +50,8 @@ impl Model for Tree {
     ghost use Rattle.cip_tree.specs.Entries.{entries_of};
     ghost use Rattle.cip_tree.specs.Inside.{nodes_at, bases, IsInOrder, HasRoom};
     ghost use Rattle.cip_tree.specs.Tracked.{IsTracked};
+    ghost use Rattle.cip_tree.specs.Walks.{IsWalked};
+    ghost use Rattle.cip_domain.specs.Domain.{region_of as region_in_work};
 
     ghost Value = { Nodes };
 
@@ -62,6 +65,7 @@ impl Model for Tree {
       taken = bases t.kept.slots;
       ids = t.ids;
       log = entries_of t.log.items;
+      work = region_in_work t.walk.domain;
     } };
 
     ghost invariant = { λ t.
@@ -69,7 +73,8 @@ impl Model for Tree {
         × HasRoom (length t.queue.nodes) t.in_work t.queue.spare
         (vec_capacity t.parked - vec_len t.parked) (vec_capacity t.log - vec_len t.log)
         × IsTracked (node_in t.root 0 t.root_bound) t.whole.items t.kept.slots t.ids
-        (entries_of t.log.items) };
+        (entries_of t.log.items)
+        × IsWalked t.root t.kept.slots t.ids t.walk };
 }
 
 /// What is kept of a root, and where.
@@ -161,22 +166,26 @@ fn split_entry(node: &Node, col: u32, at: i128, low: u64) -> Logged
 }
 
 impl Tree {
-    /// The tree of one open node, number 0, with this region and this bound, `None` where none is known; `whole` says
-    /// of each column whether it wants whole values. `Err` comes where the memory for it was refused.
+    /// The tree of one open node, number 0, with this region, which is in work, and this bound, `None` where none is
+    /// known; `whole` says of each column whether it wants whole values. `Err` comes where the memory for it was
+    /// refused.
     pub fn new(
         alloc: Global,
         root: Region,
         whole: &[bool],
         bound: Option<Frac>,
     ) -> Result<Tree, AllocError>
-        requires { length whole.now ≡ length root.box }
+        requires columns { length whole.now ≡ length root.box }
+        requires past { ArePlainPast root }
         ensures { IfOk result (λ tree. IsNew tree root whole.now bound) }
     {
         let whole = whole.to_vec(alloc)?;
+        let work = root.copied(alloc)?;
         let parked = Vec::with_capacity(alloc, 1)?;
         let log = Vec::with_capacity(alloc, 1)?;
         let Rooted { kept, place } = kept_root(alloc)?;
         let queue = Queue::new(alloc, first_node(&bound, place))?;
+        let walk = Walk::new(alloc, work);
         Ok(Tree {
             alloc,
             root,
@@ -188,6 +197,7 @@ impl Tree {
             log,
             ids: 1,
             in_work: 0,
+            walk,
         })
     }
 
@@ -231,61 +241,47 @@ impl Tree {
         self.queue.least()
     }
 
-    /// The changes of a node in work and of those above it, the newest first: the root's box with the strongest change
-    /// of each side is the node's.
-    pub fn changes<'a>(&'a self, node: &'a Node) -> Changes<'a>
-        requires { IsTaken self.now node.now }
-        ensures { result ≡ node_changes self.now node.now }
+    /// Makes the region of a node in work the region in work; whether its box may have a point. It goes back to the
+    /// nearest node that its way shares with the node entered last, and takes the changes from there on. `Err` comes
+    /// where memory was refused.
+    pub fn enter(&mut self, node: &Node) -> Result<bool, AllocError>
+        requires { IsTaken self.old node.now }
+        ensures entered { IfOk result (IsEntered self.new.work (region_of self.old node.now)) }
+        ensures rest { self.new ≡ record self.old { work = self.new.work } }
     {
-        Changes {
-            notes: node.notes.as_slice(),
-            number: node.id,
-            origin: origin_at(&self.kept, node.place),
-            kept: &self.kept,
-        }
+        self.walk
+            .enter(self.alloc, &self.kept, node.place, node.notes.as_slice())
     }
 
-    /// The sides of a column in the box of a node in work.
-    pub fn sides(&self, node: &Node, col: u32) -> Sides
-        requires taken { IsTaken self.now node.now }
-        requires column { col < length self.now.root.box }
-        ensures { result ≡ sides_at (box_of self.now node.now) col }
+    /// The box of the region in work.
+    pub fn bounds(&self) -> &Bounds
+        ensures { result.now ≡ self.now.work.box }
     {
-        let mut sides = self.root.sides(col);
-        for change in self.changes(node) {
-            sides = sides_past(sides, change, col);
-        }
-        sides
+        self.walk.domain().bounds()
     }
 
-    /// The choice of a column in a node in work.
-    pub fn choice(&self, node: &Node, col: u32) -> Choice
-        requires { IsTaken self.now node.now }
-        ensures { result ≡ choice_at (choices_of self.now node.now) col }
+    /// The choices of the region in work.
+    pub fn choices(&self) -> &Choices
+        ensures { result.now ≡ self.now.work.choices }
     {
-        let mut choice = self.root.choice(col);
-        if choice.is_plain() {
-            return choice;
-        }
-        for change in self.changes(node) {
-            choice = choice_past(choice, change, col);
-        }
-        choice
+        self.walk.domain().choices()
     }
 
-    /// The changes that give the halves of a node in work at a column, or why it can't be split there.
-    fn halves(&self, node: &Node, col: u32, at: i128) -> Result<(Change, Change), SplitFault>
-        requires taken { IsTaken self.now node.now }
+    /// The changes that give the halves of the node whose region is in work at a column, or why it can't be split
+    /// there.
+    fn halves(&self, col: u32, at: i128) -> Result<(Change, Change), SplitFault>
         requires column { col < length self.now.integral }
-        requires wholes { AllHaveWholes self.now.integral (box_of self.now node.now) }
-        ensures { MatchResult result
-            (λ halves. AreHalves self.now node.now col at halves.0 halves.1)
-            (λ fault. IsSplitFault self.now node.now col at fault) }
+        requires wholes { AllHaveWholes self.now.integral self.now.work.box }
+        ensures { (node : TakenNode)
+            → self.now.work ≡ region_of self.now node
+            → MatchResult result
+            (λ halves. AreHalves self.now node col at halves.0 halves.1)
+            (λ fault. IsSplitFault self.now node col at fault) }
     {
         let whole = flag_at(self.whole.as_slice(), col);
-        let choice = self.choice(node, col);
+        let choice = self.choices().at(col);
         if whole && choice.is_plain() {
-            return whole_halves(self.sides(node, col), col, at);
+            return whole_halves(self.bounds().sides(col), col, at);
         }
         match choice.own() {
             Some(own) if !whole => Ok((
@@ -296,14 +292,15 @@ impl Tree {
         }
     }
 
-    /// Splits a node in work at a column: it has ended, and its halves are open, with the two numbers that are
-    /// answered. A whole column is at most `at` in the low half, and at least `at + 1` in the high one. Where the
-    /// choice of the column is open it is off in the low half and on in the high one, whatever `at`. `NotWhole` comes
-    /// exactly where the column is neither a whole one that is plain nor one that isn't whole and whose choice is open;
-    /// `Outside` exactly where it is whole and plain, and `at` has a size above 2^101 or a half has no whole value in
-    /// it; `NoMemory` where a growth was refused. After an `Err` the tree is as it was.
+    /// Splits a node whose region is in work at a column: it has ended, and its halves are open, with the two numbers
+    /// that are answered. A whole column is at most `at` in the low half, and at least `at + 1` in the high one. Where
+    /// the choice of the column is open it is off in the low half and on in the high one, whatever `at`. `NotWhole`
+    /// comes exactly where the column is neither a whole one that is plain nor one that isn't whole and whose choice is
+    /// open; `Outside` exactly where it is whole and plain, and `at` has a size above 2^101 or a half has no whole
+    /// value in it; `NoMemory` where a growth was refused. After an `Err` the tree is as it was.
     pub fn split(&mut self, node: &Node, col: u32, at: i128) -> Result<(u64, u64), SplitFault>
         requires taken { IsTaken self.old node.now }
+        requires work { self.old.work ≡ region_of self.old node.now }
         requires column { col < length self.old.integral }
         requires few { self.old.ids < 2 ^ 63 }
         requires wholes { AllHaveWholes self.old.integral (box_of self.old node.now) }
@@ -315,7 +312,7 @@ impl Tree {
         // has none holds no point and is closed, the halves of a split keep such values (`CanSplit`), and between a
         // take and a split only the caller's own notes could take the last one. The tree would have to look at every
         // column.
-        let (low_change, high_change) = self.halves(node, col, at)?;
+        let (low_change, high_change) = self.halves(col, at)?;
         let notes = node.notes.as_slice().to_vec(self.alloc)?;
         make_room(
             &mut self.kept,

@@ -64,7 +64,7 @@ const CHOICES: [(i64, bool, Tightened, (i64, i64), bool); 4] = [
 
 /// Makes the open choice of the one column, if it is open.
 fn chosen(store: &mut DomainStore, on: bool) -> Option<Tightened> {
-    if store.reserve(1).is_err() || store.bounds().len() != 1 || !store.choices().at(0).is_open() {
+    if store.reserve(4).is_err() || store.bounds().len() != 1 || !store.choices().at(0).is_open() {
         return None;
     }
     Some(store.choose(0, on))

@@ -4,7 +4,6 @@ ghost use Rattle.cip_tree.specs.Nodes.{IsTaken};
 
 use crate::boxes::between;
 use crate::splits::{is_node, split, two_columns};
-use cip_domain::Change;
 use cip_frac::Frac;
 use cip_lin::{Choice, Choices, Side, Sides};
 use cip_tree::{End, Logged, Node, SplitFault, Tree};
@@ -22,7 +21,7 @@ fn halves_end_and_begin(tree: &mut Tree) -> bool
         return false;
     };
     is_node(tree, &low, 1, between(0, 1))
-        && tree.sides(&low, 1) == between(0, 3)
+        && tree.bounds().as_slice() == [between(0, 1), between(0, 3)].as_slice()
         && is_node(tree, &high, 2, between(2, 3))
         && tree.next().is_none()
 }
@@ -72,13 +71,16 @@ fn splits_of_other_columns_and_at_the_ends_are_refused(rt: HostRuntime) -> Resul
 }
 
 /// A node has this number, and its second column these sides and a choice that is made so.
-fn has_made(tree: &Tree, node: &Node, number: u64, sides: Sides, on: bool) -> bool
-    requires taken { IsTaken tree.now node.now }
-    requires columns { length tree.now.root.box ≡ 2 }
+fn has_made(tree: &mut Tree, node: &Node, number: u64, sides: Sides, on: bool) -> bool
+    requires taken { IsTaken tree.old node.now }
+    requires columns { length tree.old.root.box ≡ 2 }
+    ensures { tree.new ≡ record tree.old { work = tree.new.work } }
 {
-    let choice = tree.choice(node, 1);
-    is_node(tree, node, number, between(0, 3))
-        && tree.sides(node, 1) == sides
+    if !is_node(tree, node, number, between(0, 3)) {
+        return false;
+    }
+    let choice = tree.choices().at(1);
+    tree.bounds().as_slice() == [between(0, 3), sides].as_slice()
         && !choice.is_open()
         && !choice.is_plain()
         && choice.is_on() == on
@@ -159,24 +161,19 @@ fn the_stronger_change_counts(rt: HostRuntime) -> Result<(), Fail> {
     Ok(())
 }
 
-/// A change of the first column.
-fn change(side: Side, value: i64) -> Option<Change> {
-    Some(Change::of_side(0, side, Frac::from(value)))
-}
-
-/// The changes of node 3, which is at least 2 and at most 2.
-fn has_two_changes(tree: &Tree, node: &Node) -> bool
-    requires taken { IsTaken tree.now node.now }
-    requires columns { length tree.now.root.box ≡ 2 }
+/// Nodes 3 and 4, which are 2 and 3, are taken, and entered in turn.
+fn are_entered(tree: &mut Tree) -> bool
+    requires columns { length tree.old.root.box ≡ 2 }
 {
-    let mut changes = tree.changes(node);
-    changes.next() == change(Side::High, 2)
-        && changes.next() == change(Side::Low, 2)
-        && changes.next().is_none()
-        && is_node(tree, node, 3, between(2, 2))
+    let (Some(two), Some(three)) = (tree.next(), tree.next()) else {
+        return false;
+    };
+    is_node(tree, &two, 3, between(2, 2))
+        && is_node(tree, &three, 4, between(3, 3))
+        && is_node(tree, &two, 3, between(2, 2))
 }
 
-/// The root is split at 1, its high half at 2, and the low half of that is taken.
+/// The root is split at 1, its high half at 2, and the halves of that have their sides.
 fn is_split_twice(tree: &mut Tree) -> bool
     requires flags { tree.old.integral ≡ true ∷ false ∷ [] }
     requires columns { length tree.old.root.box ≡ 2 }
@@ -187,17 +184,11 @@ fn is_split_twice(tree: &mut Tree) -> bool
     let (Some(_), Some(high)) = (tree.next(), tree.next()) else {
         return false;
     };
-    if split(tree, &high, 2, 0, 2) != Some(Ok((3, 4))) {
-        return false;
-    }
-    match tree.next() {
-        Some(node) => has_two_changes(tree, &node),
-        None => false,
-    }
+    split(tree, &high, 2, 0, 2) == Some(Ok((3, 4))) && are_entered(tree)
 }
 
 #[test]
-fn changes_go_from_the_node_up(rt: HostRuntime) -> Result<(), Fail> {
+fn each_node_is_entered_from_the_one_before(rt: HostRuntime) -> Result<(), Fail> {
     let mut tree = two_columns(rt.alloc(), Choices::new(rt.alloc()))?;
     assert!(rt; is_split_twice(&mut tree));
     Ok(())

@@ -1,8 +1,13 @@
-use Rattle.std.proofs.Common.{[], None, subst}
+use Rattle.std.proofs.Common.{[], None, sym, subst}
+use Rattle.cip_domain.specs.Narrowing.{ArePlainPast}
 use Rattle.cip_tree.specs.Moves.{IsNew}
 use Rattle.cip_node.specs.KeptNodes.{IsKept}
 use Rattle.cip_node.proofs.Begun.{begun, if_ok}
+use Rattle.cip_node.proofs.MadeChoices.{own_past}
 use Rattle.cip_node.proofs.beginning.rooted_tree.Goals as goal
+
+pub new-requires-clause-past : goal.new-requires-clause-past
+new-requires-clause-past c = subst ArePlainPast (sym c.in_ok-root.ensures) (own_past c.args.program.now c.columns-columns.ensures.formed)
 
 pub returns-clause-kept : goal.returns-clause-kept
 returns-clause-kept c =

@@ -1,4 +1,8 @@
-use Rattle.std.proofs.Common.{◌≡◌, true, ◌∙◌, sym, ap}
+use Rattle.std.proofs.Common.{◌≡◌, ◌<◌, true, ◌∙◌, sym, ap, length, arith}
+use Rattle.cip_problem.specs.Program.{Sides}
+use Rattle.cip_lin.specs.declared.sides.Side.TheVariants.{Low, High}
+use Rattle.cip_domain.specs.Changes.{Change, tightened, one_side, one_choice}
+use Rattle.cip_domain.proofs.Steps.{three_steps}
 use Rattle.cip_problem.specs.Box.{sides_at, sides_inside}
 use Rattle.cip_problem.specs.Choices.{choice_at}
 use Rattle.cip_domain.specs.Domain.{region_of, is_settled}
@@ -12,3 +16,13 @@ returns-then-is_settled-clause-narrows c = λ _.
     let inside : sides_inside (sides_at c.args.self.now.box c.change.inside.col) c.change.inside.sides ≡ true = ap (λ s. sides_inside s c.change.inside.sides) (sym at) ∙ sym c.is_inside.ensures ∙ c.if-is_inside.true in
     let settled : is_settled (choice_at c.args.self.now.choices c.change.inside.col) c.change.inside.made ≡ true = ap (λ h. is_settled h c.change.inside.made) (sym choice) ∙ sym c.is_settled.ensures ∙ c.if-is_settled.true in
     rw (← c.change.view_is) (settled_stays (region_of c.args.self.now) (record { column = c.change.inside.col; sides = c.change.inside.sides; made = c.change.inside.made }) inside settled)
+
+pub returns-clause-narrows : goal.returns-clause-narrows
+returns-clause-narrows c = λ _.
+    let change : Change = record { column = c.change.inside.col; sides = c.change.inside.sides; made = c.change.inside.made } in
+    let within : change.column < length c.args.self.now.box = omega (arith, c.requires.column, ap (λ (t : Change). t.column) c.change.view_is) in
+    let low : c.sides.inside.low ≡ change.sides.low = ap (λ (t : Sides). t.low) c.sides.view_is in
+    let high : c.sides.inside.high ≡ change.sides.high = ap (λ (t : Sides). t.high) c.sides.view_is in
+    c.settle.ensures.region ∙ ap (λ r. tightened r (one_choice change.column change.made)) (c.meet-2.ensures.region ∙ ap (λ v. tightened (region_of c.meet.new.self) (one_side change.column High v)) high)
+    ∙ ap (λ r. tightened (tightened r (one_side change.column High change.sides.high)) (one_choice change.column change.made)) (c.meet.ensures.region ∙ ap (λ v. tightened (region_of c.args.self.now) (one_side change.column Low v)) low)
+    ∙ three_steps (region_of c.args.self.now) change within ∙ ap (tightened (region_of c.args.self.now)) c.change.view_is

@@ -1,7 +1,7 @@
 use Rattle.std.proofs.Common.{◌≡◌, length, sym, ap, ◌∙◌, subst}
 use Rattle.cip_cuts.specs.Improving.{HasNoImproving}
 use Rattle.cip_domain.specs.Changes.{Region}
-use Rattle.cip_tree.specs.Nodes.{box_of}
+use Rattle.cip_tree.specs.Nodes.{Nodes, box_of}
 use Rattle.std.specs.Prelude.{option_map}
 use Rattle.cip_node.specs.Bounding.{IsAsGood, HasTried, GoesOnTried, IsBounded}
 use Rattle.cip_node.specs.Cores.{rows_lent}
@@ -13,9 +13,9 @@ use Rattle.cip_node.proofs.cores.Core.end_open.Goals as goal
 
 pub close_empty-requires-clause-empty : goal.close_empty-requires-clause-empty
 close_empty-requires-clause-empty c =
-    let e = subst (λ s. s.domain.box ≡ box_of c.bound.new.self.tree c.bound.new.node) (sym c.bound.ensures.frame) (ap (λ (r : Region). r.box) (c.requires.full.same ∙ sym c.bound.ensures.same)) in
+    let e : c.bound.new.self.tree.work.box ≡ box_of c.bound.new.self.tree c.bound.new.node = ap (λ (t : Nodes). t.work.box) c.bound.ensures.tree ∙ ap (λ (r : Region). r.box) (c.requires.full.same ∙ sym c.bound.ensures.same) in
     subst (HasNoImproving c.bound.new.self.program.now (cost_held c.bound.new.self.incumbent)) e
-    (subst (IsBounded c.bound.new.self.program.now (cost_held c.bound.new.self.incumbent) (rows_lent c.bound.new.self.program.now c.bound.new.self.pool) c.bound.new.self.domain.box (length c.bound.new.self.scratch.row.entries) c.bound.new.node.bound) c.in-Ok-Empty.field-0-is c.in-Ok-Empty.ensures.bounded)
+    (subst (IsBounded c.bound.new.self.program.now (cost_held c.bound.new.self.incumbent) (rows_lent c.bound.new.self.program.now c.bound.new.self.pool) c.bound.new.self.tree.work.box (length c.bound.new.self.scratch.row.entries) c.bound.new.node.bound) c.in-Ok-Empty.field-0-is c.in-Ok-Empty.ensures.bounded)
 
 pub returns-in-Err-clause-end : goal.returns-in-Err-clause-end
 returns-in-Err-clause-end c =
@@ -35,11 +35,11 @@ returns-in-Ok-Empty-clause-ready c =
 pub returns-in_Err-ended-in-Ok-Open-clause-end : goal.returns-in_Err-ended-in-Ok-Open-clause-end
 returns-in_Err-ended-in-Ok-Open-clause-end c =
     let w = raised_work c.args.self.now.tree c.bound.new.self.tree c.args.node c.bound.new.node c.bound.new.self.tree.open_ c.bound.new.self.tree.taken c.bound.new.node.bound c.bound.ensures.tree c.bound.ensures.node c.bound.ensures.own c.bound.ensures.same in
-    let bounded = subst (IsBounded c.bound.new.self.program.now (cost_held c.bound.new.self.incumbent) (rows_lent c.bound.new.self.program.now c.bound.new.self.pool) c.bound.new.self.domain.box (length c.bound.new.self.scratch.row.entries) c.bound.new.node.bound) c.in-Ok-Open.field-0-is c.in-Ok-Open.ensures.bounded in
-    let e = subst (λ s. s.domain.box ≡ box_of c.bound.new.self.tree c.bound.new.node) (sym c.bound.ensures.frame) (ap (λ (r : Region). r.box) (c.requires.full.same ∙ sym c.bound.ensures.same)) in
+    let bounded = subst (IsBounded c.bound.new.self.program.now (cost_held c.bound.new.self.incumbent) (rows_lent c.bound.new.self.program.now c.bound.new.self.pool) c.bound.new.self.tree.work.box (length c.bound.new.self.scratch.row.entries) c.bound.new.node.bound) c.in-Ok-Open.field-0-is c.in-Ok-Open.ensures.bounded in
+    let e : c.bound.new.self.tree.work.box ≡ box_of c.bound.new.self.tree c.bound.new.node = ap (λ (t : Nodes). t.work.box) c.bound.ensures.tree ∙ ap (λ (r : Region). r.box) (c.requires.full.same ∙ sym c.bound.ensures.same) in
     let good = subst (λ b. IsAsGood c.bound.new.self.program.now (rows_lent c.bound.new.self.program.now c.bound.new.self.pool) b (length c.bound.new.self.scratch.row.entries) c.bound.new.node.bound c.in-Ok-Open.mark) e bounded.1 in
     let tried = subst (λ b. HasTried c.bound.new.self.program.now (cost_held c.bound.new.self.incumbent) (rows_lent c.bound.new.self.program.now c.bound.new.self.pool) b (option_map (λ v. v.items) c.in-Ok-Open.point) c.in-Ok-Open.mark) e
-    (subst (GoesOnTried c.bound.new.self.program.now (cost_held c.bound.new.self.incumbent) (rows_lent c.bound.new.self.program.now c.bound.new.self.pool) c.bound.new.self.domain.box) c.in-Ok-Open.field-0-is c.in-Ok-Open.ensures.tried) in
+    (subst (GoesOnTried c.bound.new.self.program.now (cost_held c.bound.new.self.incumbent) (rows_lent c.bound.new.self.program.now c.bound.new.self.pool) c.bound.new.self.tree.work.box) c.in-Ok-Open.field-0-is c.in-Ok-Open.ensures.tried) in
     open_from c.args.self.now.tree c.bound.new.self.tree c.args.node c.bound.new.node w c.branch-ended.new.self.program.now (cost_held c.branch-ended.new.self.incumbent) c.branch-ended.new.self.tree (c.in_Err-ended-in-Ok-Open.ensures.end c.in-Ok-Open.mark good tried)
 
 pub returns-in_Err-ended-in-Ok-Open-clause-ready : goal.returns-in_Err-ended-in-Ok-Open-clause-ready
@@ -50,11 +50,11 @@ returns-in_Err-ended-in-Ok-Open-clause-ready c =
 pub returns-in_Ok-ended-in-Ok-Open-clause-end : goal.returns-in_Ok-ended-in-Ok-Open-clause-end
 returns-in_Ok-ended-in-Ok-Open-clause-end c =
     let w = raised_work c.args.self.now.tree c.bound.new.self.tree c.args.node c.bound.new.node c.bound.new.self.tree.open_ c.bound.new.self.tree.taken c.bound.new.node.bound c.bound.ensures.tree c.bound.ensures.node c.bound.ensures.own c.bound.ensures.same in
-    let bounded = subst (IsBounded c.bound.new.self.program.now (cost_held c.bound.new.self.incumbent) (rows_lent c.bound.new.self.program.now c.bound.new.self.pool) c.bound.new.self.domain.box (length c.bound.new.self.scratch.row.entries) c.bound.new.node.bound) c.in-Ok-Open.field-0-is c.in-Ok-Open.ensures.bounded in
-    let e = subst (λ s. s.domain.box ≡ box_of c.bound.new.self.tree c.bound.new.node) (sym c.bound.ensures.frame) (ap (λ (r : Region). r.box) (c.requires.full.same ∙ sym c.bound.ensures.same)) in
+    let bounded = subst (IsBounded c.bound.new.self.program.now (cost_held c.bound.new.self.incumbent) (rows_lent c.bound.new.self.program.now c.bound.new.self.pool) c.bound.new.self.tree.work.box (length c.bound.new.self.scratch.row.entries) c.bound.new.node.bound) c.in-Ok-Open.field-0-is c.in-Ok-Open.ensures.bounded in
+    let e : c.bound.new.self.tree.work.box ≡ box_of c.bound.new.self.tree c.bound.new.node = ap (λ (t : Nodes). t.work.box) c.bound.ensures.tree ∙ ap (λ (r : Region). r.box) (c.requires.full.same ∙ sym c.bound.ensures.same) in
     let good = subst (λ b. IsAsGood c.bound.new.self.program.now (rows_lent c.bound.new.self.program.now c.bound.new.self.pool) b (length c.bound.new.self.scratch.row.entries) c.bound.new.node.bound c.in-Ok-Open.mark) e bounded.1 in
     let tried = subst (λ b. HasTried c.bound.new.self.program.now (cost_held c.bound.new.self.incumbent) (rows_lent c.bound.new.self.program.now c.bound.new.self.pool) b (option_map (λ v. v.items) c.in-Ok-Open.point) c.in-Ok-Open.mark) e
-    (subst (GoesOnTried c.bound.new.self.program.now (cost_held c.bound.new.self.incumbent) (rows_lent c.bound.new.self.program.now c.bound.new.self.pool) c.bound.new.self.domain.box) c.in-Ok-Open.field-0-is c.in-Ok-Open.ensures.tried) in
+    (subst (GoesOnTried c.bound.new.self.program.now (cost_held c.bound.new.self.incumbent) (rows_lent c.bound.new.self.program.now c.bound.new.self.pool) c.bound.new.self.tree.work.box) c.in-Ok-Open.field-0-is c.in-Ok-Open.ensures.tried) in
     end_from c.args.self.now.tree c.bound.new.self.tree c.args.node c.bound.new.node w c.branch-ended.new.self.program.now (cost_held c.branch-ended.new.self.incumbent) (rows_lent c.branch-ended.new.self.program.now c.branch-ended.new.self.pool) (length c.branch-ended.new.self.scratch.row.entries) c.branch-ended.new.self.tree c.in-Ok-Open.mark c.in_Ok-ended-in-Ok-Open.end
     (c.in_Ok-ended-in-Ok-Open.ensures.end c.in-Ok-Open.mark good tried)
 

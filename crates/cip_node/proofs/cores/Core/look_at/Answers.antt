@@ -1,11 +1,9 @@
-use Rattle.std.proofs.Common.{sym, ap, ◌∙◌, subst}
-use Rattle.cip_tree.specs.Nodes.{region_in}
-use Rattle.cip_node.specs.Entering.{ArePlainPast}
-use Rattle.cip_node.proofs.MadeChoices.{own_past}
+use Rattle.cip_node.specs.KeptNodes.{cost_held}
+use Rattle.cip_node.proofs.InWork.{kept_in_work, taken_in_work}
 use Rattle.cip_node.proofs.cores.Core.look_at.Goals as goal
 
-pub look-requires-clause-first : goal.look-requires-clause-first
-look-requires-clause-first c = c.requires.ready.first ∙ sym (ap region_in c.requires.kept.root)
+pub returns-clause-kept : goal.returns-clause-kept
+returns-clause-kept c = kept_in_work c.args.self.now.tree c.look.new.tree c.look.ensures.tree c.args.self.now.program.now (cost_held c.args.self.now.incumbent) c.args.node.now c.requires.kept
 
-pub look-requires-clause-past : goal.look-requires-clause-past
-look-requires-clause-past c = subst ArePlainPast (sym (ap region_in c.requires.kept.root)) (own_past c.args.self.now.program.now c.columns-columns.ensures.formed)
+pub returns-clause-taken : goal.returns-clause-taken
+returns-clause-taken c = taken_in_work c.args.self.now.tree c.look.new.tree c.look.ensures.tree c.args.node.now c.requires.taken

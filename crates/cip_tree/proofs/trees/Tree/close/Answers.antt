@@ -7,6 +7,7 @@ use Rattle.cip_tree.specs.Inside.{bases}
 use Rattle.cip_tree.proofs.Orders.{taken_is_idle, taken_some, closed_order, closed_open, closed_parked, released_gone, released_others, nodes_equal}
 use Rattle.cip_tree.specs.Tracked.{IsTracked}
 use Rattle.cip_tree.proofs.Tracking.{tracked_closed}
+use Rattle.cip_tree.proofs.WalkedOn.{walked_closed}
 use Rattle.cip_tree.proofs.trees.Tree.close.Goals as goal
 
 pub release-requires-clause-idle : goal.release-requires-clause-idle
@@ -40,6 +41,7 @@ invariant_of-self c =
       },
       subst (IsTracked (node_in c.self.inside.root 0 c.self.inside.root_bound) c.self.inside.whole.items c.release.new.kept.slots c.self.inside.ids) (sym log)
           (tracked_closed (node_in c.self.inside.root 0 c.self.inside.root_bound) c.self.inside.whole.items c.self.inside.kept.slots c.release.new.kept.slots c.self.inside.ids (map entry_of c.self.inside.log.items) c.self.invariant.2 c.self.invariant.0.kept c.node.inside.place c.requires.base w c.node.inside.id c.node.inside.bound number c.release.ensures.slots c.release.ensures.kept),
+      walked_closed c.self.inside.root c.self.inside.kept.slots c.release.new.kept.slots c.self.inside.ids c.self.inside.walk c.self.invariant.0.kept c.self.invariant.3 c.node.inside.place c.release.ensures.slots c.release.ensures.kept,
     )
 
 pub returns-clause-taken : goal.returns-clause-taken
@@ -53,4 +55,4 @@ returns-clause-rest c =
     let w : get_or (bases c.self.inside.kept.slots) c.node.inside.place None ≡ Some c.requires.base = ap (λ (t : Nodes). base_at t c.node.inside.place) c.self.view_is ∙ ap (λ (x : TakenNode). base_at c.args.self.now x.place) c.node.view_is ∙ c.requires.found in
     let log = ap (λ l. map entry_of l) c.push_reserved.ensures.items ∙ map-append entry_of c.self.inside.log.items _ in
     rw (← c.self.view_is, ← c.node.view_is)
-    (nodes_equal _ _ _ _ _ _ _ _ _ _ (closed_open c.self.inside.root c.self.inside.kept.slots c.release.new.kept.slots c.node.inside.place c.self.inside.queue.nodes c.self.inside.parked.items c.self.inside.ids c.self.inside.in_work c.requires.base c.self.invariant.0 w c.release.ensures.slots c.release.ensures.kept) (closed_parked c.self.inside.root c.self.inside.kept.slots c.release.new.kept.slots c.node.inside.place c.self.inside.queue.nodes c.self.inside.parked.items c.self.inside.ids c.self.inside.in_work c.requires.base c.self.invariant.0 w c.release.ensures.slots c.release.ensures.kept) log)
+    (nodes_equal _ _ _ _ _ _ _ _ _ _ _ (closed_open c.self.inside.root c.self.inside.kept.slots c.release.new.kept.slots c.node.inside.place c.self.inside.queue.nodes c.self.inside.parked.items c.self.inside.ids c.self.inside.in_work c.requires.base c.self.invariant.0 w c.release.ensures.slots c.release.ensures.kept) (closed_parked c.self.inside.root c.self.inside.kept.slots c.release.new.kept.slots c.node.inside.place c.self.inside.queue.nodes c.self.inside.parked.items c.self.inside.ids c.self.inside.in_work c.requires.base c.self.invariant.0 w c.release.ensures.slots c.release.ensures.kept) log)

@@ -10,6 +10,7 @@ use Rattle.cip_tree.proofs.Orders.{nodes_equal}
 use Rattle.cip_tree.proofs.Closing.{closed_nodes, none_closed, closed_length}
 use Rattle.cip_tree.proofs.Freeing.{freed_order, freed_nodes, freed_parked, freed_places}
 use Rattle.cip_tree.proofs.Tracking.{tracked_freed}
+use Rattle.cip_tree.proofs.WalkedOn.{walked_freed}
 use Rattle.cip_tree.proofs.trees.Tree.close_from.Goals as goal
 
 pub release_from-requires-clause-once : goal.release_from-requires-clause-once
@@ -27,6 +28,7 @@ invariant_of-self c =
         log = omega (arith, room.log, shorter);
       },
       tracked_freed (node_in c.self.inside.root 0 c.self.inside.root_bound) c.self.inside.whole.items c.self.inside.kept.slots c.release_from.new.kept.slots c.self.inside.ids (entries_of c.self.inside.log.items) c.self.invariant.2 c.self.invariant.0.kept _ freed c.release_from.ensures.kept,
+      walked_freed c.self.inside.root c.self.inside.kept.slots c.release_from.new.kept.slots c.self.inside.ids c.self.inside.walk c.self.invariant.0.kept c.self.invariant.3 _ freed c.release_from.ensures.kept,
     )
 
 pub returns-then-reaches-clause-nodes : goal.returns-then-reaches-clause-nodes
@@ -43,7 +45,7 @@ returns-then-reaches-clause-taken c =
 pub returns-then-reaches-clause-rest : goal.returns-then-reaches-clause-rest
 returns-then-reaches-clause-rest c =
     let freed = subst (λ l. AreReleased c.self.inside.kept.slots c.release_from.new.kept.slots (dearer c.args.cost l)) c.as_slice.ensures c.release_from.ensures.slots in
-    rw (← c.self.view_is) (nodes_equal _ _ _ _ _ _ _ _ _ _ refl (freed_parked c.self.inside.root c.self.inside.kept.slots c.release_from.new.kept.slots c.args.cost c.self.inside.queue.nodes c.keep_below.new.self.nodes c.self.inside.parked.items c.self.inside.ids c.self.inside.in_work c.self.invariant.0 freed c.release_from.ensures.kept c.keep_below.ensures.nodes) refl)
+    rw (← c.self.view_is) (nodes_equal _ _ _ _ _ _ _ _ _ _ _ refl (freed_parked c.self.inside.root c.self.inside.kept.slots c.release_from.new.kept.slots c.args.cost c.self.inside.queue.nodes c.keep_below.new.self.nodes c.self.inside.parked.items c.self.inside.ids c.self.inside.in_work c.self.invariant.0 freed c.release_from.ensures.kept c.keep_below.ensures.nodes) refl)
 
 pub returns-else-reaches-clause-nodes : goal.returns-else-reaches-clause-nodes
 returns-else-reaches-clause-nodes c =

@@ -1,3 +1,4 @@
+use Rattle.cip_domain.specs.Domain.{region_of}
 use Rattle.cip_tree.specs.Nodes.{node_in}
 use Rattle.std.proofs.Common.{◌≡◌, ◌∷◌, [], List, rules, ap, sym, ◌∙◌, subst, refl, arith, length}
 use Rattle.cip_tree.specs.declared.queue.OpenNode.{OpenNode}
@@ -6,6 +7,8 @@ use Rattle.cip_tree.proofs.Starts.{root_order, root_nodes, root_bases}
 use Rattle.cip_tree.specs.Entries.{entries_of}
 use Rattle.cip_tree.specs.Tracked.{IsTracked}
 use Rattle.cip_tree.proofs.Tracking.{tracked_root}
+use Rattle.cip_tree.specs.Walks.{Way, IsWalked}
+use Rattle.cip_tree.proofs.WalkedOn.{walked_new}
 use Rattle.cip_tree.proofs.trees.Tree.new.Goals as goal
 
 pub invariant_of-result : goal.invariant_of-result
@@ -23,6 +26,7 @@ invariant_of-result c =
       },
       subst (λ l. IsTracked (node_in c.args.root 0 c.args.bound) c.in_ok-whole.whole.items c.in_ok-kept.field-0.kept.slots 1 (entries_of l)) (sym c.in_ok-log.ensures.items)
           (tracked_root c.args.root c.in_ok-whole.whole.items c.args.bound c.in_ok-kept.field-0.kept.slots c.in_ok-kept.field-0.place c.in_ok-kept.ensures.0 c.in_ok-kept.ensures.1),
+      subst (IsWalked c.args.root c.in_ok-kept.field-0.kept.slots 1) (sym c.new-walk.ensures) (walked_new c.args.root c.in_ok-work.work c.in_ok-kept.field-0.kept.slots 1 c.in_ok-work.ensures c.requires.past (root_order c.in_ok-kept.field-0.kept.slots c.in_ok-kept.field-0.place c.in_ok-kept.ensures.0 c.in_ok-kept.ensures.1 c.first_node.result id place).given),
     )
 
 pub returns : goal.returns
@@ -38,4 +42,5 @@ returns c =
       taken = root_bases c.in_ok-kept.field-0.kept.slots c.in_ok-kept.field-0.place c.in_ok-kept.ensures.0 c.in_ok-kept.ensures.1;
       ids = refl;
       log = search rules;
+      work = ap (λ (w : Way). region_of w.domain) c.new-walk.ensures ∙ c.in_ok-work.ensures;
     }

@@ -9,6 +9,7 @@ use Rattle.cip_tree.specs.Nodes.{base_changes}
 use Rattle.cip_tree.specs.Inside.{nodes_at}
 use Rattle.cip_tree.proofs.Orders.{first_kept, first_stands, first_order, first_parked, first_found, first_number, first_fresh, first_others, first_nodes, first_before, nodes_equal}
 use Rattle.cip_tree.proofs.Tracking.{tracked_first, first_unended}
+use Rattle.cip_tree.proofs.WalkedOn.{walked_first}
 use Rattle.cip_tree.proofs.trees.Tree.next.Goals as goal
 
 pub restage-notes-requires : goal.restage-notes-requires
@@ -29,6 +30,9 @@ invariant_of-self-2 c =
       tracked_first (node_in c.self.inside.root 0 c.self.inside.root_bound) c.self.inside.whole.items c.self.inside.kept.slots c.restage-notes.new.kept.slots c.self.inside.ids (entries_of c.self.inside.log.items) c.self.invariant.2 c.self.invariant.0.kept c.in_ok-first.first c.restage-notes.result.items _
           (first_stands c.self.inside.root c.self.inside.kept.slots c.restage-notes.new.kept.slots c.in_ok-first.first [] [] c.self.inside.queue.nodes c.pop.new.self.nodes c.self.inside.parked.items c.self.inside.ids c.self.inside.in_work c.self.invariant.0 c.in_ok-first.ensures.0)
           c.restage-notes.ensures.slots,
+      walked_first c.self.inside.root c.self.inside.kept.slots c.restage-notes.new.kept.slots c.self.inside.ids c.self.inside.walk c.self.invariant.0.kept c.self.invariant.3 c.in_ok-first.first c.restage-notes.result.items _
+          (first_stands c.self.inside.root c.self.inside.kept.slots c.restage-notes.new.kept.slots c.in_ok-first.first [] [] c.self.inside.queue.nodes c.pop.new.self.nodes c.self.inside.parked.items c.self.inside.ids c.self.inside.in_work c.self.invariant.0 c.in_ok-first.ensures.0)
+          c.restage-notes.ensures.slots,
     )
 
 pub returns : goal.returns
@@ -46,5 +50,5 @@ returns c =
       unended = first_unended (node_in c.self.inside.root 0 c.self.inside.root_bound) c.self.inside.whole.items c.self.inside.kept.slots c.restage-notes.new.kept.slots c.self.inside.ids (entries_of c.self.inside.log.items) c.self.invariant.2 c.self.invariant.0.kept c.in_ok-first.first stands;
       fresh = first_fresh c.self.inside.root c.self.inside.kept.slots c.restage-notes.new.kept.slots c.in_ok-first.first c.restage-notes.result.items c.new-none.result.items c.self.inside.queue.nodes c.pop.new.self.nodes c.self.inside.parked.items c.self.inside.ids c.self.inside.in_work c.self.invariant.0 c.in_ok-first.ensures.0 c.restage-notes.ensures.slots c.new-none.ensures.items;
       others = first_others c.self.inside.root c.self.inside.kept.slots c.restage-notes.new.kept.slots c.in_ok-first.first c.restage-notes.result.items c.new-none.result.items c.self.inside.queue.nodes c.pop.new.self.nodes c.self.inside.parked.items c.self.inside.ids c.self.inside.in_work c.self.invariant.0 c.in_ok-first.ensures.0 c.restage-notes.ensures.slots c.new-none.ensures.items;
-      rest = nodes_equal _ _ _ _ _ _ _ _ _ _ refl (first_parked c.self.inside.root c.self.inside.kept.slots c.restage-notes.new.kept.slots c.in_ok-first.first c.restage-notes.result.items c.new-none.result.items c.self.inside.queue.nodes c.pop.new.self.nodes c.self.inside.parked.items c.self.inside.ids c.self.inside.in_work c.self.invariant.0 c.in_ok-first.ensures.0 c.restage-notes.ensures.slots c.new-none.ensures.items) refl;
+      rest = nodes_equal _ _ _ _ _ _ _ _ _ _ _ refl (first_parked c.self.inside.root c.self.inside.kept.slots c.restage-notes.new.kept.slots c.in_ok-first.first c.restage-notes.result.items c.new-none.result.items c.self.inside.queue.nodes c.pop.new.self.nodes c.self.inside.parked.items c.self.inside.ids c.self.inside.in_work c.self.invariant.0 c.in_ok-first.ensures.0 c.restage-notes.ensures.slots c.new-none.ensures.items) refl;
     })

@@ -8,10 +8,17 @@ use Rattle.cip_tree.specs.declared.queue.OpenNode.{OpenNode}
 use Rattle.cip_tree.specs.Entries.{entry_of}
 use Rattle.cip_tree.specs.Nodes.{Nodes, TakenNode, base_at, base_changes}
 use Rattle.cip_tree.specs.Inside.{bases, nodes_at, IsInOrder}
-use Rattle.cip_tree.proofs.Orders.{aside_order, aside_some, aside_open, aside_parked, aside_gone, aside_others, nodes_equal}
+use Rattle.cip_tree.proofs.Orders.{taken_some, aside_order, aside_some, aside_open, aside_parked, aside_gone, aside_others, nodes_equal}
 use Rattle.cip_tree.specs.Tracked.{IsTracked}
 use Rattle.cip_tree.proofs.Tracking.{tracked_aside}
+use Rattle.cip_tree.proofs.WalkedOn.{walked_stage}
 use Rattle.cip_tree.proofs.trees.Tree.park.Goals as goal
+
+pub push_reserved-requires : goal.push_reserved-requires
+push_reserved-requires c =
+    let w : get_or (bases c.self.inside.kept.slots) c.node.inside.place None ≡ Some c.requires.base = ap (λ (t : Nodes). base_at t c.node.inside.place) c.self.view_is ∙ ap (λ (x : TakenNode). base_at c.args.self.now x.place) c.node.view_is ∙ c.requires.found in
+    let some = taken_some c.self.inside.root c.self.inside.kept.slots c.self.inside.kept.slots c.node.inside.place c.self.inside.queue.nodes c.self.inside.parked.items c.self.inside.ids c.self.inside.in_work c.requires.base c.self.invariant.0 w in
+    omega (arith, some, c.self.invariant.1.parked)
 
 pub invariant_of-self : goal.invariant_of-self
 invariant_of-self c =
@@ -31,6 +38,7 @@ invariant_of-self c =
       },
       subst (IsTracked (node_in c.self.inside.root 0 c.self.inside.root_bound) c.self.inside.whole.items c.restage.new.kept.slots c.self.inside.ids) (sym log)
           (tracked_aside (node_in c.self.inside.root 0 c.self.inside.root_bound) c.self.inside.whole.items c.self.inside.kept.slots c.restage.new.kept.slots c.self.inside.ids (map entry_of c.self.inside.log.items) c.self.invariant.2 c.self.invariant.0.kept c.node.inside.place c.requires.base w _ _ c.node.inside.id c.node.inside.bound number c.restage.ensures.slots),
+      walked_stage c.self.inside.root c.self.inside.kept.slots c.restage.new.kept.slots c.self.inside.ids c.self.inside.walk c.self.invariant.0.kept c.self.invariant.3 c.node.inside.place c.requires.base w _ _ _ (λ e. cc) c.restage.ensures.slots,
     )
 
 pub returns-clause-taken : goal.returns-clause-taken
@@ -52,4 +60,4 @@ returns-clause-rest c =
     let parked = ap (nodes_at c.self.inside.root c.restage.new.kept.slots) items ∙ aside_parked c.self.inside.root c.self.inside.kept.slots c.restage.new.kept.slots c.node.inside.place _ _ c.self.inside.queue.nodes c.self.inside.queue.nodes c.self.inside.parked.items c.self.inside.ids c.self.inside.in_work c.node.inside.id c.node.inside.bound c.requires.base c.self.invariant.0 w number c.restage.ensures.slots
     ∙ ap (λ b. nodes_at c.self.inside.root c.self.inside.kept.slots c.self.inside.parked.items ++ (node_in (narrowed c.self.inside.root (noted c.node.inside.notes.items ++ base_changes b)) c.node.inside.id c.node.inside.bound) ∷ []) (sym w) in
     rw (← c.self.view_is, ← c.node.view_is)
-    (nodes_equal _ _ _ _ _ _ _ _ _ _ (aside_open c.self.inside.root c.self.inside.kept.slots c.restage.new.kept.slots c.node.inside.place _ _ c.self.inside.queue.nodes c.self.inside.queue.nodes c.self.inside.parked.items c.self.inside.ids c.self.inside.in_work c.node.inside.id c.node.inside.bound c.requires.base c.self.invariant.0 w number c.restage.ensures.slots) parked log)
+    (nodes_equal _ _ _ _ _ _ _ _ _ _ _ (aside_open c.self.inside.root c.self.inside.kept.slots c.restage.new.kept.slots c.node.inside.place _ _ c.self.inside.queue.nodes c.self.inside.queue.nodes c.self.inside.parked.items c.self.inside.ids c.self.inside.in_work c.node.inside.id c.node.inside.bound c.requires.base c.self.invariant.0 w number c.restage.ensures.slots) parked log)

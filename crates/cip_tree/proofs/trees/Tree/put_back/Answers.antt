@@ -9,6 +9,7 @@ use Rattle.cip_tree.specs.Inside.{bases, nodes_at}
 use Rattle.cip_tree.proofs.Orders.{back_order, back_some, back_parked, back_nodes, back_gone, back_others, nodes_equal}
 use Rattle.cip_tree.specs.Entries.{entries_of}
 use Rattle.cip_tree.proofs.Tracking.{tracked_back}
+use Rattle.cip_tree.proofs.WalkedOn.{walked_stage}
 use Rattle.cip_tree.proofs.trees.Tree.put_back.Goals as goal
 
 pub invariant_of-self : goal.invariant_of-self
@@ -25,6 +26,7 @@ invariant_of-self c =
         log = omega (arith, room.log, some, longer);
       },
       tracked_back (node_in c.self.inside.root 0 c.self.inside.root_bound) c.self.inside.whole.items c.self.inside.kept.slots c.restage.new.kept.slots c.self.inside.ids (entries_of c.self.inside.log.items) c.self.invariant.2 c.self.invariant.0.kept c.node.inside.place c.requires.base w _ _ c.restage.ensures.slots,
+      walked_stage c.self.inside.root c.self.inside.kept.slots c.restage.new.kept.slots c.self.inside.ids c.self.inside.walk c.self.invariant.0.kept c.self.invariant.3 c.node.inside.place c.requires.base w _ _ _ (λ e. cc) c.restage.ensures.slots,
     )
 
 pub returns-clause-nodes : goal.returns-clause-nodes
@@ -48,4 +50,4 @@ returns-clause-rest c =
     let w : get_or (bases c.self.inside.kept.slots) c.node.inside.place None ≡ Some c.requires.base = ap (λ (t : Nodes). base_at t c.node.inside.place) c.self.view_is ∙ ap (λ (x : TakenNode). base_at c.args.self.now x.place) c.node.view_is ∙ c.requires.found in
     let number = c.requires.same ∙ sym (ap (λ (x : TakenNode). x.number) c.node.view_is) in
     let parked = back_parked c.self.inside.root c.self.inside.kept.slots c.restage.new.kept.slots c.node.inside.place _ _ c.self.inside.queue.nodes c.push.new.self.nodes c.self.inside.parked.items c.self.inside.ids c.self.inside.in_work c.node.inside.id c.node.inside.bound c.requires.base c.self.invariant.0 w number c.restage.ensures.slots c.push.ensures.nodes in
-    rw (← c.self.view_is) (nodes_equal _ _ _ _ _ _ _ _ _ _ refl parked refl)
+    rw (← c.self.view_is) (nodes_equal _ _ _ _ _ _ _ _ _ _ _ refl parked refl)

@@ -19,6 +19,7 @@ use Rattle.cip_tree.proofs.Parted.{part_order, part_parked, part_nodes, part_gon
 use Rattle.cip_tree.specs.Tracked.{IsTracked}
 use Rattle.cip_tree.proofs.Within.{halves_hold}
 use Rattle.cip_tree.proofs.Tracking.{tracked_split}
+use Rattle.cip_tree.proofs.WalkedOn.{walked_split}
 use Rattle.cip_tree.proofs.trees.Tree.split.Goals as goal
 
 pub part-low_place-requires-clause-slot : goal.part-low_place-requires-clause-slot
@@ -42,7 +43,7 @@ pub invariant_of-self-2 : goal.invariant_of-self-2
 invariant_of-self-2 c =
     let w : get_or (bases c.self.inside.kept.slots) c.node.inside.place None ≡ Some c.requires.taken.base = ap (λ (t : Nodes). base_at t c.node.inside.place) c.self.view_is ∙ ap (λ (x : TakenNode). base_at c.args.self.now x.place) c.node.view_is ∙ c.requires.taken.found in
     let at_is : to_z w128 (of_z w128 c.args.at) ≡ c.args.at = search (rules, to_z-of_z) in
-    let halves : AreHalves c.args.self.now c.args.node.now c.args.col c.args.at c.in_ok-low_change.low_change c.in_ok-low_change.high_change = subst (λ z. AreHalves c.args.self.now c.args.node.now c.args.col z c.in_ok-low_change.low_change c.in_ok-low_change.high_change) at_is c.in_ok-low_change.ensures in
+    let halves : AreHalves c.args.self.now c.args.node.now c.args.col c.args.at c.in_ok-low_change.low_change c.in_ok-low_change.high_change = subst (λ z. AreHalves c.args.self.now c.args.node.now c.args.col z c.in_ok-low_change.low_change c.in_ok-low_change.high_change) at_is (c.in_ok-low_change.ensures c.args.node.now c.requires.work) in
     let notes : c.in_ok-notes.notes.items ≡ c.node.inside.notes.items = search rules in
     let low = c.half_kept-low_kept.ensures in
     let high = c.half_kept-high_kept.ensures in
@@ -84,13 +85,14 @@ invariant_of-self-2 c =
       },
       subst (IsTracked (node_in c.self.inside.root 0 c.self.inside.root_bound) c.self.inside.whole.items c.part-low_place.new.kept.slots (c.self.inside.ids + 2)) (sym log)
           (tracked_split c.self.inside.root_bound c.self.inside.whole.items c.self.inside.root c.self.inside.kept.slots c.part-low_place.new.kept.slots c.node.inside.place c.node.inside.notes.items c.part-low_place.result.0 c.part-low_place.result.1 c.in_ok-low_change.low_change c.in_ok-low_change.high_change c.self.inside.queue.nodes c.self.inside.parked.items c.self.inside.ids c.self.inside.in_work c.requires.taken.base c.self.invariant.0 w parted (map entry_of c.self.inside.log.items) c.self.invariant.2 c.args.col c.args.at c.node.inside.id c.node.inside.bound number can low_is high_is),
+      walked_split c.self.inside.root c.self.inside.kept.slots c.part-low_place.new.kept.slots c.node.inside.place c.node.inside.notes.items c.part-low_place.result.0 c.part-low_place.result.1 c.in_ok-low_change.low_change c.in_ok-low_change.high_change c.self.inside.queue.nodes c.self.inside.parked.items c.self.inside.ids c.self.inside.in_work c.requires.taken.base c.self.invariant.0 w parted c.self.inside.walk c.self.invariant.3,
     )
 
 pub returns : goal.returns
 returns c =
     let w : get_or (bases c.self.inside.kept.slots) c.node.inside.place None ≡ Some c.requires.taken.base = ap (λ (t : Nodes). base_at t c.node.inside.place) c.self.view_is ∙ ap (λ (x : TakenNode). base_at c.args.self.now x.place) c.node.view_is ∙ c.requires.taken.found in
     let at_is : to_z w128 (of_z w128 c.args.at) ≡ c.args.at = search (rules, to_z-of_z) in
-    let halves : AreHalves c.args.self.now c.args.node.now c.args.col c.args.at c.in_ok-low_change.low_change c.in_ok-low_change.high_change = subst (λ z. AreHalves c.args.self.now c.args.node.now c.args.col z c.in_ok-low_change.low_change c.in_ok-low_change.high_change) at_is c.in_ok-low_change.ensures in
+    let halves : AreHalves c.args.self.now c.args.node.now c.args.col c.args.at c.in_ok-low_change.low_change c.in_ok-low_change.high_change = subst (λ z. AreHalves c.args.self.now c.args.node.now c.args.col z c.in_ok-low_change.low_change c.in_ok-low_change.high_change) at_is (c.in_ok-low_change.ensures c.args.node.now c.requires.work) in
     let notes : c.in_ok-notes.notes.items ≡ c.node.inside.notes.items = search rules in
     let low = c.half_kept-low_kept.ensures in
     let high = c.half_kept-high_kept.ensures in
@@ -130,5 +132,5 @@ returns c =
           (subst (λ r. IsPermutation (node_in r c.self.inside.ids c.node.inside.bound ∷ node_in high_half (c.self.inside.ids + 1) c.node.inside.bound ∷ nodes_at c.self.inside.root c.self.inside.kept.slots c.self.inside.queue.nodes) now) low_after
           (subst (λ r. IsPermutation (node_in (tightened region c.in_ok-low_change.low_change) c.self.inside.ids c.node.inside.bound ∷ node_in r (c.self.inside.ids + 1) c.node.inside.bound ∷ nodes_at c.self.inside.root c.self.inside.kept.slots c.self.inside.queue.nodes) now) high_after nodes)));
       taken = rw (← c.self.view_is, ← c.node.view_is) (record { gone = gone; others = others });
-      rest = rw (← c.self.view_is) (nodes_equal _ _ _ _ _ _ _ _ _ _ refl parked log);
+      rest = rw (← c.self.view_is) (nodes_equal _ _ _ _ _ _ _ _ _ _ _ refl parked log);
     }

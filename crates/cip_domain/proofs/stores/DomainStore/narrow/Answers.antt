@@ -1,0 +1,13 @@
+use Rattle.std.proofs.Common.{◌∙◌, ap, sym, length, arith}
+use Rattle.cip_problem.specs.Box.{sides_at}
+use Rattle.cip_problem.specs.Choices.{choice_at}
+use Rattle.cip_domain.specs.Changes.{Change}
+use Rattle.cip_domain.specs.Domain.{Domain, region_of, making}
+use Rattle.cip_domain.proofs.Marks.{no_point}
+use Rattle.cip_domain.proofs.stores.DomainStore.narrow.Goals as goal
+
+pub returns-in-Empty-clause-narrowed : goal.returns-in-Empty-clause-narrowed
+returns-in-Empty-clause-narrowed c = λ _.
+    no_point (region_of c.args.self.now) c.args.change (omega (arith, ap (λ (t : Change). t.column) c.change.view_is, c.len.ensures, ap length c.bounds.ensures, ap (λ (d : Domain). length d.box) c.self.view_is, c.if-change-len.false))
+    (ap (λ (d : Domain). making (sides_at d.box c.args.change.column) (choice_at d.choices c.args.change.column) c.args.change) (sym c.in_ok-reserve.ensures.same)
+    ∙ sym c.in-Empty.ensures.outcome)

@@ -1,0 +1,3 @@
+pub mod LpKinds
+pub mod LpLines
+pub mod LpPieces

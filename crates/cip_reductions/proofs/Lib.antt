@@ -1,0 +1,10 @@
+pub mod CompactPairs
+pub mod Equalities
+pub mod Inside
+pub mod Moving
+pub mod Pairing
+pub mod Replacing
+pub mod Returning
+pub mod RowSteps
+pub mod Spreading
+pub mod Tried

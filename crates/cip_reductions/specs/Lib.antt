@@ -1,0 +1,10 @@
+pub mod Compacting
+pub mod Equalities
+pub mod Examples
+pub mod Forms
+pub mod Moving
+pub mod NarrowedPrograms
+pub mod Pairs
+pub mod RowSteps
+pub mod Statements
+pub mod WholeParts

@@ -1,0 +1,36 @@
+use Rattle.std.proofs.Common.{◌≡◌, ◌∙◌, [], ◌∷◌, Some, None, ap, refl, sym}
+use Rattle.cip_tree.specs.declared.walks.Stop.{Stop}
+use Rattle.cip_tree.specs.Slots.{Slot}
+use Rattle.cip_tree.specs.Walks.{last_stop}
+use Rattle.cip_tree.proofs.Walking.{walked_root}
+use Rattle.cip_tree.proofs.walks.Walk.parent_past.Goals as goal
+
+pub returns-then-turn_back-clause-walked : goal.returns-then-turn_back-clause-walked
+returns-then-turn_back-clause-walked c = c.turn_back.ensures.walked c.args.kept.now.slots
+
+pub returns-in_ok-start_over-in-None-clause-walked : goal.returns-in_ok-start_over-in-None-clause-walked
+returns-in_ok-start_over-in-None-clause-walked c = λ root ids w.
+    walked_root root c.args.kept.now.slots ids c.args.place c.in-Some.slot.now c.turn_back.new.self c.start_over.new.self c.requires.kept (sym c.in-Some.ensures) (sym (ap (λ (t : Slot). t.origin) c.slot.view_is) ∙ c.in-None.is) c.start_over.ensures.domain
+    (c.in_ok-start_over-in-None.ensures.ok ∙ ap (λ (t : Slot). (let stop : Stop = record { number = t.number; mark = 0 } in stop) ∷ []) c.slot.view_is) (c.turn_back.ensures.walked c.args.kept.now.slots root ids w)
+
+pub returns-in_ok-start_over-in-None-clause-next : goal.returns-in_ok-start_over-in-None-clause-next
+returns-in_ok-start_over-in-None-clause-next c = record {
+  slot = c.in-Some.slot.now;
+  found = sym c.in-Some.ensures;
+  ends = record {
+    stop = record { number = c.slot.inside.number; mark = 0 };
+    last = ap last_stop c.in_ok-start_over-in-None.ensures.ok;
+    number_is = ap (λ (t : Slot). t.number) c.slot.view_is;
+  };
+}
+
+pub returns-in-Some-origin-clause-walked : goal.returns-in-Some-origin-clause-walked
+returns-in-Some-origin-clause-walked c = c.turn_back.ensures.walked c.args.kept.now.slots
+
+pub returns-in-Some-origin-clause-next : goal.returns-in-Some-origin-clause-next
+returns-in-Some-origin-clause-next c = record {
+  slot = c.in-Some.slot.now;
+  found = sym c.in-Some.ensures;
+  change = c.in-Some-origin.origin.change;
+  origin = sym (ap (λ (t : Slot). t.origin) c.slot.view_is) ∙ c.in-Some-origin.is;
+}

@@ -1,0 +1,9 @@
+use Rattle.std.proofs.Common.{◌-◌, ◌∙◌, length, length-take, ap, arith}
+use Rattle.cip_tree.proofs.Walking.{walked_take}
+use Rattle.cip_tree.proofs.walks.Walk.turn_back.Goals as goal
+
+pub loop-self-preserved : goal.loop-self-preserved
+loop-self-preserved c = record {
+  domain = c.forget_last.ensures.domain ∙ c.loop-self.invariant.domain;
+  walked = λ slots root ids w. walked_take root slots ids (length c.loop-self.self.stops - 1) c.loop-self.self c.forget_last.new.self c.forget_last.ensures.domain c.forget_last.ensures.stops (c.loop-self.invariant.walked slots root ids w);
+}

@@ -1,0 +1,28 @@
+use Rattle.std.proofs.Common.{◌≡◌, ◌∙◌, take, ap, sym, subst, arith}
+use Rattle.std.specs.Prelude.{List}
+use Rattle.cip_rational.specs.Rational.{ℚ}
+use Rattle.cip_problem.specs.Box.{IsInBox}
+use Rattle.cip_domain.specs.Changes.{Change, tightened}
+use Rattle.cip_domain.specs.Domain.{region_of}
+use Rattle.cip_domain.specs.Narrowing.{ArePlainPast, IsNarrowed}
+use Rattle.cip_domain.proofs.Marks.{keeps_trans}
+use Rattle.cip_tree.specs.Notes.{noted, noted_change}
+use Rattle.cip_tree.proofs.Walking.{one_note_more, none_by_notes, past_stays}
+use Rattle.cip_tree.proofs.walks.narrow_by.Goals as goal
+
+pub loop-note-preserved : goal.loop-note-preserved
+loop-note-preserved c = record {
+  region = λ p.
+      let past : ArePlainPast (region_of c.loop-note.domain) = subst ArePlainPast (sym (c.loop-note.invariant.region p)) (past_stays (region_of c.args.domain.now) (noted (take c.loop-note.note-index c.args.notes.now)) p) in
+      let step = subst (IsNarrowed (region_of c.loop-note.domain) (region_of c.narrow.new.self) c.change_of.result) c.if-not-branch.false (c.in_ok-narrow.ensures.narrowed past) in
+      one_note_more (region_of c.args.domain.now) (region_of c.loop-note.domain) (region_of c.narrow.new.self) c.args.notes.now c.loop-note.note-index c.note-item.result c.loop-note-test.true c.note-item.is (c.loop-note.invariant.region p)
+      (step ∙ ap (tightened (region_of c.loop-note.domain)) c.change_of.ensures);
+  marks = keeps_trans c.args.domain.now c.loop-note.domain c.narrow.new.self c.loop-note.invariant.marks c.in_ok-narrow.ensures.marks;
+}
+
+pub returns-then-not-branch-clause-narrowed : goal.returns-then-not-branch-clause-narrowed
+returns-then-not-branch-clause-narrowed c = λ p.
+    let past : ArePlainPast (region_of c.loop-note.domain) = subst ArePlainPast (sym (c.loop-note.invariant.region p)) (past_stays (region_of c.args.domain.now) (noted (take c.loop-note.note-index c.args.notes.now)) p) in
+    let step = subst (IsNarrowed (region_of c.loop-note.domain) (region_of c.narrow.new.self) c.change_of.result) c.if-not-branch.true (c.in_ok-narrow.ensures.narrowed past) in
+    none_by_notes (region_of c.args.domain.now) (region_of c.loop-note.domain) c.args.notes.now c.loop-note.note-index c.note-item.result c.loop-note-test.true c.note-item.is (c.loop-note.invariant.region p)
+    (subst (λ (t : Change). (point : List ℚ) → ¬ IsInBox (tightened (region_of c.loop-note.domain) t).box point) c.change_of.ensures step)

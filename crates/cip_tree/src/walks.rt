@@ -1,0 +1,266 @@
+//! The region in work, and the way to it: the nodes from the root down to the one that was entered last. The next node
+//! is reached from the nearest node that its way shares with this one.
+ghost use Rattle.std.specs.Prelude.{◌≡◌, ◌-◌, ◌<◌, [], ◌∷◌, length, take, true, IfOk, OnOk, OnErr, MatchOption};
+ghost use Rattle.slab.specs.Slab.{ContainsKey};
+ghost use Rattle.cip_domain.specs.Domain.{region_of, KeepsMarks};
+ghost use Rattle.cip_domain.specs.Narrowing.{ArePlainPast};
+ghost use Rattle.cip_tree.specs.Notes.{noted};
+ghost use Rattle.cip_tree.specs.Slots.{Slots, AreSoundSlots};
+ghost use Rattle.cip_tree.specs.Walks.{last_stop, AreNarrowed, EndsAt, EndsThere, IsParent, Climbs, StaysWalked, GoesBack, StepsDown, Descends, Enters};
+
+use crate::kept::Kept;
+use crate::notes::{Note, change_of};
+use cip_domain::{Checkpoint, DomainStore, Region};
+use slab::Slab;
+use std::alloc::{AllocError, Global};
+use std::marker::Model;
+
+/// A node on the way, and the mark at which the region in work is that of the node before its own work.
+#[derive(Clone, Copy)]
+pub(crate) struct Stop {
+    pub(crate) number: u64,
+    pub(crate) mark: Checkpoint,
+}
+
+/// The region in work with its earlier states, and the way to it.
+#[derive(Drop)]
+pub(crate) struct Walk {
+    domain: DomainStore,
+    stops: Vec<Stop>,
+}
+
+impl Model for Walk {
+    ghost use Rattle.cip_tree.specs.Walks.{Way, way_code, AreRising, AreHeld};
+
+    ghost Value = { Way };
+
+    ghost coded = { way_code };
+
+    ghost view = { λ w. record { domain = w.domain; stops = w.stops.items } };
+
+    ghost invariant = { λ w. AreRising w.stops.items × AreHeld w.domain w.stops.items };
+}
+
+/// The places from a node up to one, that one left out, and where that is kept.
+#[derive(Drop)]
+struct Climb {
+    places: Vec<usize>,
+    top: usize,
+}
+
+/// Makes the changes of notes, the oldest first; whether a point can meet them. The region at each mark so far stays.
+/// `Err` comes where memory was refused.
+fn narrow_by(domain: &mut DomainStore, notes: &[Note]) -> Result<bool, AllocError>
+    ensures narrowed { ArePlainPast (region_of domain.old)
+        → IfOk result (AreNarrowed (region_of domain.old) (region_of domain.new) (noted notes.now)) }
+    ensures marks { KeepsMarks domain.old domain.new }
+{
+    for note in notes {
+        if !domain.narrow(change_of(*note))? {
+            return Ok(false);
+        }
+    }
+    Ok(true)
+}
+
+impl Walk {
+    /// No way yet: the region in work is this one.
+    pub(crate) fn new(alloc: Global, root: Region) -> Walk
+        ensures { result ≡ record {
+          domain = record { box = root.box; choices = root.choices; before = []; spare = 0 };
+          stops = [];
+        } }
+    {
+        Walk {
+            domain: DomainStore::new(alloc, root),
+            stops: Vec::new(alloc),
+        }
+    }
+
+    /// The region in work with its earlier states.
+    pub(crate) fn domain(&self) -> &DomainStore
+        ensures { result.now ≡ self.now.domain }
+    {
+        &self.domain
+    }
+
+    /// The last node on the way.
+    fn last(&self) -> Option<Stop>
+        ensures { result ≡ last_stop self.now.stops }
+    {
+        self.stops.last().copied()
+    }
+
+    /// Whether the last node on the way has a greater number.
+    fn ends_past(&self, number: u64) -> bool
+        ensures { result ≡ true → 0 < length self.now.stops }
+    {
+        match self.last() {
+            None => false,
+            Some(stop) => stop.number > number,
+        }
+    }
+
+    /// Whether the last node on the way has this number.
+    fn ends_at(&self, number: u64) -> bool
+        ensures { result ≡ true → EndsAt self.now.stops number }
+    {
+        match self.last() {
+            None => false,
+            Some(stop) => stop.number == number,
+        }
+    }
+
+    /// Forgets the last node on the way.
+    fn forget_last(&mut self)
+        requires { 0 < length self.old.stops }
+        ensures domain { self.new.domain ≡ self.old.domain }
+        ensures stops { self.new.stops ≡ take (length self.old.stops - 1) self.old.stops }
+    {
+        let count = self.stops.len();
+        self.stops.truncate(count - 1);
+    }
+
+    /// Forgets the nodes on the way with greater numbers than this; whether the last of those that are left has it.
+    fn turn_back(&mut self, number: u64) -> bool
+        ensures domain { self.new.domain ≡ self.old.domain }
+        ensures walked { (slots : Slots) → StaysWalked slots self.old self.new }
+        ensures ends { result ≡ true → EndsAt self.new.stops number }
+    {
+        while self.ends_past(number) {
+            self.forget_last();
+        }
+        self.ends_at(number)
+    }
+
+    /// Begins the way anew, at a root of this number. `Err` comes where a growth was refused; there is no way then.
+    fn start_over(&mut self, number: u64) -> Result<(), AllocError>
+        ensures domain { self.new.domain ≡ self.old.domain }
+        ensures ok { OnOk result (self.new.stops ≡ record { number = number; mark = 0 } ∷ []) }
+        ensures err { OnErr result (self.new.stops ≡ []) }
+    {
+        self.stops.clear();
+        let mark = Checkpoint::start();
+        self.stops.push(Stop { number, mark })?;
+        Ok(())
+    }
+
+    /// The place of a node's parent, where the way doesn't pass the node itself; later nodes on the way are forgotten.
+    /// The way begins anew at a root that it doesn't pass. `Err` comes where a growth was refused.
+    fn parent_past(&mut self, kept: &Slab<Kept>, place: usize) -> Result<Option<usize>, AllocError>
+        requires kept { AreSoundSlots kept.now.slots }
+        requires slot { ContainsKey kept.now place }
+        ensures domain { self.new.domain ≡ self.old.domain }
+        ensures walked { StaysWalked kept.now.slots self.old self.new }
+        ensures next { IfOk result (λ next. MatchOption next (EndsThere kept.now.slots self.new.stops place)
+            (IsParent kept.now.slots place)) }
+    {
+        let Some(slot) = kept.get(place) else {
+            return Ok(None);
+        };
+        if self.turn_back(slot.number) {
+            return Ok(None);
+        }
+        match slot.origin {
+            None => {
+                self.start_over(slot.number)?;
+                Ok(None)
+            }
+            Some(origin) => Ok(Some(origin.parent)),
+        }
+    }
+
+    /// Climbs from a node to the nearest one on the way, and forgets the nodes on the way below that. `Err` comes where
+    /// memory was refused.
+    fn climb(&mut self, alloc: Global, kept: &Slab<Kept>, place: usize) -> Result<Climb, AllocError>
+        requires kept { AreSoundSlots kept.now.slots }
+        requires slot { ContainsKey kept.now place }
+        ensures domain { self.new.domain ≡ self.old.domain }
+        ensures walked { StaysWalked kept.now.slots self.old self.new }
+        ensures climbs { IfOk result (λ climb. Climbs kept.now.slots place climb.places.items climb.top) }
+        ensures ends { IfOk result (λ climb. EndsThere kept.now.slots self.new.stops climb.top) }
+    {
+        let mut places = Vec::new(alloc);
+        let mut top = place;
+        while let Some(parent) = self.parent_past(kept, top)? {
+            places.push(top)?;
+            top = parent;
+        }
+        Ok(Climb { places, top })
+    }
+
+    /// Makes the region in work that of the last node on the way.
+    fn go_back(&mut self)
+        ensures { GoesBack self.old self.new }
+    {
+        if let Some(stop) = self.last() {
+            self.domain.undo_to(stop.mark);
+        }
+    }
+
+    /// Goes from a node's parent to the node: makes the parent's own changes, and the one that gave the node; whether a
+    /// point can meet them. `Err` comes where memory was refused.
+    fn step_down(&mut self, kept: &Slab<Kept>, place: usize) -> Result<bool, AllocError>
+        requires kept { AreSoundSlots kept.now.slots }
+        ensures { StepsDown kept.now.slots self.old self.new place result }
+    {
+        let Some(slot) = kept.get(place) else {
+            return Ok(true);
+        };
+        let Some(origin) = slot.origin else {
+            return Ok(true);
+        };
+        let Some(above) = kept.get(origin.parent) else {
+            return Ok(true);
+        };
+        if !narrow_by(&mut self.domain, above.notes.as_slice())? {
+            return Ok(false);
+        }
+        if !self.domain.narrow(origin.change)? {
+            return Ok(false);
+        }
+        let mark = self.domain.mark();
+        self.stops.push(Stop {
+            number: slot.number,
+            mark,
+        })?;
+        Ok(true)
+    }
+
+    /// Goes down to a node by these places, the last one first; whether its box may have a point. `Err` comes where
+    /// memory was refused.
+    fn descend(&mut self, kept: &Slab<Kept>, places: Vec<usize>) -> Result<bool, AllocError>
+        requires kept { AreSoundSlots kept.now.slots }
+        ensures { Descends kept.now.slots self.old self.new places.items result }
+    {
+        let mut places = places;
+        while let Some(place) = places.pop() {
+            if !self.step_down(kept, place)? {
+                return Ok(false);
+            }
+        }
+        Ok(true)
+    }
+
+    /// Goes to a node, and makes the changes of its own work; whether its box may have a point. `Err` comes where
+    /// memory was refused.
+    pub(crate) fn enter(
+        &mut self,
+        alloc: Global,
+        kept: &Slab<Kept>,
+        place: usize,
+        notes: &[Note],
+    ) -> Result<bool, AllocError>
+        requires kept { AreSoundSlots kept.now.slots }
+        requires slot { ContainsKey kept.now place }
+        ensures walked { StaysWalked kept.now.slots self.old self.new }
+        ensures entered { Enters kept.now.slots self.old place notes.now self.new result }
+    {
+        let Climb { places, top: _ } = self.climb(alloc, kept, place)?;
+        self.go_back();
+        if !self.descend(kept, places)? {
+            return Ok(false);
+        }
+        narrow_by(&mut self.domain, notes)
+    }
+}
