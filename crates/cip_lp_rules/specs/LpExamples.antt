@@ -1,9 +1,10 @@
 -- LP texts with what they come to, for the laws of examples.
 use lib.Chars.{codes}
 use Rattle.std.specs.Prelude.{◌≡◌, ℕ, true, false, pos, List, [], ◌∷◌, ◌++◌, None, Some, replicate}
-use Rattle.cip_rational.specs.Rational.{ℚ, ratio, zeroℚ, oneℚ, negate}
-use Rattle.cip_problem.specs.Program.{Term, Sides, Row, Program}
+use Rattle.cip_rational.specs.Rational.{ratio, zeroℚ, oneℚ, negate}
+use Rattle.cip_problem.specs.Program.{Sides, Program}
 use Rattle.cip_line_texts.specs.LineTexts.{Outcome, Means, Faulty, too_long, outcome_of}
+use Rattle.cip_mps_rules.specs.MpsExamples.{integral, term, row_to}
 use Rattle.cip_lp_rules.specs.LpWords.{Constraints, Generals, AtMost, EqualTo, AtLeast}
 use Rattle.cip_lp_rules.specs.LpTokens.{Opening, OutsideSection, Reserved, Free, Infinite, Number, Name, Sign, Colon, Relates, BadToken, line_tokens}
 use Rattle.cip_lp_rules.specs.LpPlaces.{Begins, Adds, Amount}
@@ -18,18 +19,6 @@ three_columns_lp =
     codes "Maximize\n COST: 5 a + 4 b + 3 c\n"
     ++ codes "Subject To\n R1: 2 a + 3 b + 1 c <= 5\n R2: 4 a + 1 b + 2 c <= 11\n R3: 3 a + 4 b + 2 c <= 8\n"
     ++ codes "Bounds\n 0 <= a <= 10\n 0 <= b <= 10\n 0 <= c <= 10\nGenerals\n a\n b\n c\nEnd\n"
-
--- a whole number
-abbrev pub integral : ℕ → ℚ
-integral n = ratio (pos n) 1
-
--- a term of a row
-abbrev pub term : (coefficient column : ℕ) → Term
-term coefficient column = record { column = column; coefficient = integral coefficient }
-
--- a row at most a number
-abbrev pub row_to : ℕ → List Term → Row
-row_to high terms = record { terms = terms; low = None; high = Some (integral high) }
 
 -- from 0 to a high side
 abbrev pub up_to : ℕ → Sides

@@ -23,10 +23,6 @@ IsBelow box terms least = (point : List ℚ) → IsInBox box point → least ≤
 abbrev pub IsAbove : List Sides → List Term → ℚ → Type 0
 IsAbove box terms greatest = (point : List ℚ) → IsInBox box point → activity terms point ≤ℚ greatest
 
--- a row that says nothing
-abbrev pub no_row : Row
-no_row = record { terms = []; low = None; high = None }
-
 -- the sides of the value of a column whose product with a number other than 0 lies between two sides
 abbrev pub divided_sides : ℚ → Option ℚ → Option ℚ → Sides
 divided_sides coefficient low high =

@@ -9,11 +9,12 @@ use Rattle.cip_problem.specs.Points.{IsSatisfied, IsFeasible}
 use Rattle.cip_cuts.specs.Cuts.{IsCrossed}
 use Rattle.cip_cuts.specs.Reduced.{IsRelaxed, IsReduction}
 use Rattle.cip_search.specs.SearchState.{IsWayBack}
+use Rattle.cip_parts.specs.BlockMeaning.{no_row}
 use Rattle.cip_reductions.specs.NarrowedPrograms.{AllSatisfied, IsStep, IsExactStep, IsInfeasible, with_row, with_sides, with_cost}
 use Rattle.cip_reductions.specs.Forms.{Form, form_value, spread, gathered, kept_at, kept_from}
 use Rattle.cip_reductions.specs.Pairs.{IsWholeIn, IsPair, IsExactPair}
 use Rattle.cip_reductions.specs.Compacting.{IsCompacted, AreLeft, rows_left}
-use Rattle.cip_reductions.specs.RowSteps.{HoldsInAll, HoldsNowhere, no_row, divided_sides, IsShifted, merged_row}
+use Rattle.cip_reductions.specs.RowSteps.{HoldsInAll, HoldsNowhere, divided_sides, IsShifted, merged_row}
 use Rattle.cip_reductions.specs.Moving.{fixed_sides, CanFallTo, CanRiseTo}
 use Rattle.cip_reductions.specs.Equalities.{two_terms, equality_form, IsEquality, IsLessMultiple, EndsKeep, EndsAssign}
 use Rattle.cip_reductions.specs.WholeParts.{way_of}
