@@ -24,7 +24,7 @@ use Rattle.cip_report.specs.declared.figures.Answer.{Answer}
 use Rattle.cip_report.specs.Answers.{status_of, overflow_of, printed_held, figures_of}
 use Rattle.cip_leaf.specs.LeafAnswers.{shown_as}
 use Rattle.cip_endings.specs.AnswerOf.{ended_of, held_of, answer_of}
-use Rattle.cip_node.specs.Beginning.{root_value}
+use Rattle.cip_core.specs.Beginning.{root_value}
 use Rattle.cip_solve.specs.Solved.{IsSolved}
 
 overflow_same : (rows : List (List ℕ)) (shown : Shown) → overflow_at rows (shown_as shown) ≡ overflow_of rows shown

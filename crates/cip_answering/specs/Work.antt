@@ -16,7 +16,7 @@ use Rattle.cip_search.specs.Printed.{figures_of}
 use Rattle.cip_report.specs.declared.figures.Ended.TheVariants.{NoMemory as LacksMemory}
 use Rattle.cip_report.specs.declared.figures.Answer.{Answer}
 use Rattle.cip_endings.specs.AnswerOf.{answer_of}
-use Rattle.cip_node.specs.Beginning.{root_value}
+use Rattle.cip_core.specs.Beginning.{root_value}
 use Rattle.cip_solve.specs.Solved.{IsShownBeside, IsSolved}
 use Rattle.cip_solve.specs.declared.logs.Log.{Log}
 use Rattle.cip_words.specs.Jobs.{Limits}

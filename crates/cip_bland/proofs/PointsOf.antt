@@ -7,7 +7,7 @@ use Rattle.std.proofs.lemmas.Bool.{le-ltb}
 use Rattle.cip_rational.specs.Rational.{ℚ, ◌+ℚ◌, ◌*ℚ◌, zeroℚ, ◌<ℚ◌}
 use Rattle.cip_rational.specs.Sums.{dot}
 use Rattle.cip_rational.proofs.Rational.Ring.{+ℚ-zero, zero-+ℚ, +ℚ_assoc}
-use Rattle.cip_problem.specs.Program.{Sides, Row}
+use Rattle.cip_problem.specs.Program.{Sides, Row, no_row}
 use Rattle.cip_problem.specs.Activity.{activity, value_at}
 use Rattle.cip_problem.specs.Box.{Between, sides_at, no_sides}
 use Rattle.cip_problem.specs.Points.{IsSatisfied}
@@ -16,7 +16,7 @@ use Rattle.cip_linear.specs.Multipliers.{row_sides}
 use Rattle.cip_dictionary.specs.Tables.{table, total, form}
 use Rattle.cip_dictionary.specs.Dictionary.{size, cost_entry, Solves}
 use Rattle.cip_dictionary.specs.FirstState.{first, is_column, row_number, extended}
-use Rattle.cip_dictionary.specs.ProgramState.{no_row, system_of, first_of_program, TellsProgram}
+use Rattle.cip_dictionary.specs.ProgramState.{system_of, first_of_program, TellsProgram}
 use Rattle.cip_dictionary.proofs.Tables.{length-table, at_table, form_at_same}
 use Rattle.cip_dictionary.proofs.First.{first_states_tell, first-size}
 use Rattle.cip_dictionary.proofs.Programs.{programs_are_told}

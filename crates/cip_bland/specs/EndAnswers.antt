@@ -2,7 +2,7 @@
 -- ray and the cost.
 use Rattle.std.specs.Prelude.{ℕ, ◌+◌, ◌-◌, ◌==◌, nat_lt, List, [], ◌∷◌, ◌++◌, length, map, unwrap_or, slice_index_or, if◌then◌else◌}
 use Rattle.cip_rational.specs.Rational.{ℚ, negate, zeroℚ, oneℚ, lt_test, is_zero}
-use Rattle.cip_problem.specs.Program.{Row}
+use Rattle.cip_problem.specs.Program.{Row, no_row}
 use Rattle.cip_problem.specs.Box.{sides_at}
 use Rattle.cip_linear.specs.LinearProgram.{LinearProgram}
 use Rattle.cip_linear.specs.Aggregate.{Part, used_side}
@@ -10,7 +10,7 @@ use Rattle.cip_linear.specs.Multipliers.{column_part}
 use Rattle.cip_dictionary.specs.Tables.{table, each}
 use Rattle.cip_dictionary.specs.Dictionary.{Dictionary, is_basic, entry, cost_entry, value}
 use Rattle.cip_dictionary.specs.FirstState.{first_operations}
-use Rattle.cip_dictionary.specs.ProgramState.{no_row, system_of, first_of_program}
+use Rattle.cip_dictionary.specs.ProgramState.{system_of, first_of_program}
 use Rattle.cip_dictionary.specs.declared.moves.Move.{Move}
 use Rattle.cip_bland.specs.Headings.{back_of, along}
 use Rattle.cip_bland.specs.Rule.{outside_heading, falling_heading}

@@ -3,10 +3,9 @@ use Rattle.std.proofs.Common.{◌≡◌, ℕ, zero, suc, ◌+◌, ◌<◌, ◌==
 use Rattle.std.specs.Prelude.{nat_lt}
 use Rattle.std.specs.List.{filter, list_any}
 use Rattle.std.proofs.lemmas.Bool.{eq-eqb, eqb-true, false_from_ne_true, lt-ltb}
-use Rattle.cip_problem.specs.Program.{Row}
+use Rattle.cip_problem.specs.Program.{Row, no_row}
 use Rattle.cip_mps_rules.proofs.Quiet.{left_false, right_false, or_false}
 use Rattle.cip_parts.specs.BlockParts.{numbers_from, has_number, rows_where, is_block, stands_on, has_entry}
-use Rattle.cip_parts.specs.BlockMeaning.{no_row}
 
 -- ---- one of so many
 

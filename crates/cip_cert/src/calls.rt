@@ -64,6 +64,26 @@ pub fn derive(
     derive_row(rows, bounds, combo, round, &mut scratch.row)
 }
 
+/// `lower_bound` over a row of coefficients alone, for a box that stands beside it in a scratch; the row holds anything
+/// then.
+pub fn lower_bound_over(
+    rows: &Rows<'_>,
+    bounds: &Bounds,
+    costs: &[Frac],
+    combo: &Combo,
+    row: &mut SparseRow,
+) -> Result<Frac, CutFault>
+    requires fits { Fits (length bounds.now) (lent_of rows.now) }
+    requires room { length bounds.now ≤ length row.old.entries }
+    requires costs { length costs.now ≡ length bounds.now }
+    ensures steps { result ≡ lower_bound_of (lent_of rows.entry.now) bounds.now (length row.old.entries)
+        costs.now (multiples_of combo.now) }
+    ensures follows { IfOk result (BoundFollows (lent_of rows.entry.now) bounds.now costs.now) }
+    ensures columns { length row.new.entries ≡ length row.old.entries }
+{
+    lower_bound_row(rows, bounds, costs, combo, row)
+}
+
 /// What costs come to at least at each point of the box at which the rows hold, by a combination. Each fault comes
 /// exactly where the entry or the column that it names is the first to break the rule that it names. Unlike the other
 /// checks this one passes over all columns, once: each may have a cost, and then adds its least product in the box.
@@ -83,7 +103,30 @@ pub fn lower_bound(
     ensures columns { length scratch.new.row.entries ≡ length scratch.old.row.entries }
     ensures bounds { scratch.new.bounds ≡ scratch.old.bounds }
 {
-    lower_bound_row(rows, bounds, costs, combo, &mut scratch.row)
+    lower_bound_over(rows, bounds, costs, combo, &mut scratch.row)
+}
+
+/// `empties` over a row of coefficients alone, for a box that stands beside it in a scratch; the row holds anything
+/// then.
+pub fn empties_over(
+    rows: &Rows<'_>,
+    bounds: &Bounds,
+    combo: &Combo,
+    row: &mut SparseRow,
+) -> Result<(), CutFault>
+    requires fits { Fits (length bounds.now) (lent_of rows.now) }
+    requires room { length bounds.now ≤ length row.old.entries }
+    ensures steps { MatchResult result
+        (λ _. IsOk (emptied (lent_of rows.entry.now) bounds.now (length row.old.entries) (multiples_of combo.now)))
+        (λ fault. emptied (lent_of rows.entry.now) bounds.now (length row.old.entries) (multiples_of combo.now)
+        ≡ Err fault) }
+    ensures follows { OnOk result (EmptinessFollows (lent_of rows.entry.now) bounds.now) }
+    ensures columns { length row.new.entries ≡ length row.old.entries }
+{
+    match empties_row(rows, bounds, combo, row) {
+        Ok(_) => Ok(()),
+        Err(fault) => Err(fault),
+    }
 }
 
 /// That no point of the box is one at which the rows hold, by a combination. Each fault comes exactly where the entry
@@ -106,10 +149,7 @@ pub fn empties(
     ensures columns { length scratch.new.row.entries ≡ length scratch.old.row.entries }
     ensures bounds { scratch.new.bounds ≡ scratch.old.bounds }
 {
-    match empties_row(rows, bounds, combo, &mut scratch.row) {
-        Ok(_) => Ok(()),
-        Err(fault) => Err(fault),
-    }
+    empties_over(rows, bounds, combo, &mut scratch.row)
 }
 
 /// A side of a column, if a combination implies it at each point of the box at which the rows hold and the column, if

@@ -14,6 +14,7 @@ mod laws;
 mod limits;
 mod lookup;
 mod parts;
+mod pricing;
 mod reductions;
 mod resting;
 mod rows;
@@ -22,13 +23,16 @@ mod sparse;
 mod splits;
 mod walks;
 
-pub use calls::{aggregate_row, derive, empties, lower_bound, reduction};
+pub use calls::{
+    aggregate_row, derive, empties, empties_over, lower_bound, lower_bound_over, reduction,
+};
 pub use faults::{CutFault, FaultPlace};
 pub use laws::{
     aggregates_are_sums, bounds_are_those, rows_are_rounded_where_they_can, sides_are_those,
     what_does_not_rest_is_valid,
 };
 pub use limits::{MOST_MULTIPLES, limit_agrees};
+pub use pricing::{BlockPoint, BoundTree, Priced};
 pub use resting::rests_on_cutoff;
 pub use rows::{PoolRow, Rows};
 pub use scratch::Scratch;

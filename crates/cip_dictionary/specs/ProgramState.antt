@@ -2,7 +2,7 @@
 use Rattle.std.specs.Prelude.{◌≡◌, ℕ, List, [], length, map, None, Some, slice_get, slice_index_or}
 use Rattle.cip_rational.specs.Rational.{ℚ}
 use Rattle.cip_rational.specs.Sums.{dot}
-use Rattle.cip_problem.specs.Program.{Term, Row}
+use Rattle.cip_problem.specs.Program.{Term, Row, no_row}
 use Rattle.cip_problem.specs.Activity.{activity, value_at}
 use Rattle.cip_linear.specs.LinearProgram.{LinearProgram}
 use Rattle.cip_linear.specs.Aggregate.{coefficient_on}
@@ -10,10 +10,6 @@ use Rattle.cip_linear.specs.Multipliers.{row_sides}
 use Rattle.cip_dictionary.specs.Tables.{form}
 use Rattle.cip_dictionary.specs.Dictionary.{Dictionary}
 use Rattle.cip_dictionary.specs.FirstState.{System, first}
-
--- what stands past the last row: one without terms and sides
-abbrev pub no_row : Row
-no_row = record { terms = []; low = None; high = None }
 
 -- the terms of a row, by its number
 abbrev pub terms_at : List Row → ℕ → List Term

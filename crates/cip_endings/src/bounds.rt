@@ -1,6 +1,6 @@
 //! The least of bounds.
 ghost use Rattle.std.specs.Prelude.{◌≡◌};
-ghost use Rattle.cip_endings.specs.LeastBounds.{is_no_more, lesser, least_of, bound_held, flat, capped};
+ghost use Rattle.cip_endings.specs.LeastBounds.{is_no_more, less_of, least_of, bound_held, flat, capped};
 
 use cip_frac::Frac;
 
@@ -16,8 +16,8 @@ pub fn is_no_more(bound: &Option<Frac>, other: &Option<Frac>) -> bool
 }
 
 /// The less of two bounds.
-pub fn lesser(bound: Option<Frac>, other: Option<Frac>) -> Option<Frac>
-    ensures { result ≡ lesser bound other }
+pub fn less_of(bound: Option<Frac>, other: Option<Frac>) -> Option<Frac>
+    ensures { result ≡ less_of bound other }
 {
     if is_no_more(&bound, &other) {
         bound
@@ -33,7 +33,7 @@ pub fn least_of(bound: Option<Option<Frac>>, other: Option<Option<Frac>>) -> Opt
     match (bound, other) {
         (None, other) => other,
         (Some(bound), None) => Some(bound),
-        (Some(bound), Some(other)) => Some(lesser(bound, other)),
+        (Some(bound), Some(other)) => Some(less_of(bound, other)),
     }
 }
 
@@ -63,6 +63,6 @@ pub fn capped(held: Option<Frac>, bound: Option<Frac>) -> Option<Frac>
 {
     match held {
         None => bound,
-        Some(cost) => lesser(bound, Some(cost)),
+        Some(cost) => less_of(bound, Some(cost)),
     }
 }

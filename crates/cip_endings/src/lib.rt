@@ -7,7 +7,7 @@ mod ends;
 mod gaps;
 mod worst;
 
-pub use bounds::{bound_held, capped, flat, is_no_more, least_of, lesser};
+pub use bounds::{bound_held, capped, flat, is_no_more, least_of, less_of};
 pub use ends::ended_at;
 pub use gaps::reaches_gap;
 pub use worst::{Worst, least_left, worse, worst_bound};

@@ -19,7 +19,7 @@ const FEW_MOVES: u32 = 2_000;
 
 /// The answer where these values are optimal in the leaf's program; none where a sum of the test of the point is out of
 /// range. `Err` where memory was refused.
-fn best_of(
+pub(crate) fn best_of(
     alloc: Global,
     program: &Decided,
     leaf: &[Frac],

@@ -12,6 +12,7 @@ ghost use Rattle.cip_leaf.specs.LeafAnswers.{IsFirstAlong};
 ghost use Rattle.cip_leaf.specs.Parts.{IsProgramOf};
 
 use crate::answers::{LeafAnswer, Shown};
+use crate::by_basis::shown_by_basis;
 use crate::decided::Decided;
 use crate::few_moves::shown_by_few;
 use crate::first_values::first_wide;
@@ -154,8 +155,8 @@ fn out_of_range(alloc: Global, parts: &Parts, moves: usize) -> Result<LeafAnswer
     })
 }
 
-/// The answer on a leaf with this program: what few moves show of it, and else how Bland's list ends. `Err` where
-/// memory was refused.
+/// The answer on a leaf with this program: what a basis that is guessed shows of it, else what few moves do, and else
+/// how Bland's list ends. `Err` where memory was refused.
 fn answer_on(
     alloc: Global,
     program: &Decided,
@@ -167,6 +168,9 @@ fn answer_on(
     requires parts { IsProgramOf program.now wholes.now parts.now }
     ensures { IfOk result (IsValuesAnswer program.now wholes.now) }
 {
+    if let Some(found) = shown_by_basis(alloc, program, wholes, parts)? {
+        return Ok(found);
+    }
     let lp = Lp::new(parts.rows.as_slice(), &parts.bounds, parts.costs.as_slice());
     let mut solver = Solver::new(alloc);
     if let Some(found) = shown_by_few(alloc, &mut solver, program, wholes, &lp)? {

@@ -2,6 +2,7 @@
 #![tactic(auto)]
 
 mod answers;
+mod by_basis;
 mod decided;
 mod few_moves;
 mod first_values;

@@ -1,236 +1,237 @@
--- What the steps of the work on a node leave of it, put together.
-use Rattle.std.proofs.Common.{◌≡◌, ℕ, ◌+◌, ◌≤◌, ℤ, false, List, [], ◌∷◌, ◌++◌, Option, None, Some, Contains, MatchOption, refl, sym, ap, ◌∙◌, subst, arith}
-use Rattle.std.specs.List.Sorted.{IsPermutation}
-use Rattle.std.proofs.lemmas.List.Sorted.{Contains-permutation}
+-- How a node ends, from what its last step left, and seen from before the steps of its work.
+use Rattle.std.proofs.Common.{◌≡◌, ℕ, ℤ, ◌+◌, ◌≤◌, true, false, List, [], ◌∷◌, ◌++◌, Option, None, Some, IfSome, Result, Ok, Err, refl, sym, ap, ◌∙◌, subst, arith}
+use Rattle.std.specs.Prelude.{MatchResult}
 use Rattle.cip_rational.specs.Rational.{ℚ}
-use Rattle.cip_problem.specs.Program.{Program}
-use Rattle.cip_problem.specs.Log.{End, Split, Closed, Parked, Entry, Node, AllFollow, matters}
-use Rattle.cip_cuts.specs.Improving.{HasNoImproving}
-use Rattle.cip_cert.specs.Lent.{Lent}
-use Rattle.cip_problem.specs.Choices.{AreMade, decided, made_on}
-use Rattle.cip_domain.specs.Changes.{Region}
-use Rattle.cip_leaves.specs.Leaf.{IsOnlyLeaf, Leaf, IsLeafOf, IsPointOfLeaf, IsOnlyLeafOf}
-use Rattle.cip_leaves.specs.Searched.{first_node, NoMore}
-use Rattle.cip_leaves.specs.WideLeaf.{Shown, IsWideBy}
-use Rattle.cip_model.specs.Rays.{IsShownRay}
+use Rattle.cip_problem.specs.Program.{Sides}
 use Rattle.cip_problem.specs.Points.{IsFeasible}
+use Rattle.cip_problem.specs.Log.{End, Split, Closed, Parked, Node, AllFollow, matters}
+use Rattle.cip_cuts.specs.Improving.{HasNoImproving, IsImproving}
+use Rattle.cip_cuts.proofs.Improving.{fewer}
+use Rattle.cip_domain.specs.Changes.{Region}
+use Rattle.cip_leaves.specs.Leaf.{Leaf, IsPointOfLeaf, IsOnlyLeafOf}
+use Rattle.cip_leaves.specs.Searched.{first_node}
+use Rattle.cip_leaves.specs.WideNodes.{IsWideAs}
+use Rattle.cip_leaf.specs.LeafAnswers.{shown_as}
+use Rattle.cip_leaf.specs.declared.answers.Shown.{Shown}
+use Rattle.cip_model.specs.Rays.{IsShownRay}
 use Rattle.cip_node_bounds.specs.declared.relaxed.Mark.{Mark}
-use Rattle.cip_search.proofs.Bounds.{no_more_itself}
-use Rattle.cip_search.proofs.Members.{here}
-use Rattle.cip_search.proofs.Relaxed.{no_more_trans}
-use Rattle.cip_tree.specs.Nodes.{TakenNode, Nodes, Base, region_in, node_in, region_of, box_of, shown}
-use Rattle.cip_tree.specs.Moves.{TakesFirst}
-use Rattle.cip_tree.specs.Searched.{IsSearched}
-use Rattle.cip_node.specs.Bounding.{IsAsGood, HasTried, IsSplitBy}
-use Rattle.cip_node.specs.Cores.{StaysRooted}
-use Rattle.cip_node.specs.KeptNodes.{IsSearchOf, IsKept}
-use Rattle.cip_node.specs.NodeEnds.{with_bound, parked_after, LeavesEntry, IsPruned, IsEmptied, IsSolvedLeaf, IsHalved, IsAside, IsEndless, IsEnd, IsOpenAgain}
+use Rattle.cip_tree.specs.Nodes.{TakenNode, Nodes, region_of, box_of, shown}
+use Rattle.cip_core.specs.CoreStates.{CoreState, reduced_of, held_of, IsTakenUp}
+use Rattle.cip_core.specs.Later.{IsLater, IsNarrower, IsLaterAt}
+use Rattle.cip_core.specs.Steps.{parked_after, LeavesEntry, HasLeft, IsBack, IsTried}
+use Rattle.cip_core.proofs.CoreSteps.{with_tree}
+use Rattle.cip_core.proofs.HeldAfter.{itself}
+use Rattle.cip_rows.specs.RowPools.{Pool}
+use Rattle.cip_core.proofs.Relations.{later_further, narrower_itself, narrower_further}
+use Rattle.cip_node.specs.Bounding.{IsMarkOf, IsAsGood, HasTried, point_of, IsFound, IsSplitBy}
+use Rattle.cip_node.specs.NodeEnds.{IsAside, IsEnd, HasEnded}
+use Rattle.cip_node.specs.declared.bounding.Found.{Found}
 use Rattle.cip_node.specs.declared.ends.NodeEnd.{NodeEnd}
+use Rattle.cip_node.specs.declared.ends.NodeRecord.{NodeRecord}
+use Rattle.cip_node.specs.Looking.{CanWorkOn}
 use Rattle.cip_node.specs.declared.ends.NodeEnd.TheVariants as by
 
--- ---- the entry of a node
-
-pub closed_entry : (old new : Nodes) (node : TakenNode) (taken : List (Option Base)) → new ≡ record old { taken = taken; log = old.log ++ record { node = node.number; bound = node.bound; end = Closed } ∷ [] } → LeavesEntry old new node node.bound Closed
-closed_entry old new node taken e = record { own = no_more_itself node.bound; logged = ap (λ (t : Nodes). t.log) e; parked = ap (λ (t : Nodes). t.parked) e }
-
-pub parked_entry : (old new : Nodes) (node : TakenNode) (taken : List (Option Base)) → new ≡ record old { parked = old.parked ++ shown old node ∷ []; taken = taken; log = old.log ++ record { node = node.number; bound = node.bound; end = Parked } ∷ [] } → LeavesEntry old new node node.bound Parked
-parked_entry old new node taken e = record { own = no_more_itself node.bound; logged = ap (λ (t : Nodes). t.log) e; parked = ap (λ (t : Nodes). t.parked) e }
-
-pub split_entry : (old new : Nodes) (node : TakenNode) (column : ℕ) (at : ℤ) (low high : ℕ) → new.log ≡ old.log ++ record { node = node.number; bound = node.bound; end = Split column at low high } ∷ [] → new.parked ≡ old.parked → LeavesEntry old new node node.bound (Split column at low high)
-split_entry old new node column at low high e f = record { own = no_more_itself node.bound; logged = e; parked = f }
-
--- ---- a node that was worked on before it ended
-
--- the log, the parked nodes and the root are as they were, and the node has its box and a bound that is no less
-pub record IsSameWork (old mid : Nodes) (node other : TakenNode) : Type 0 where
-  pub log : mid.log ≡ old.log
-  pub parked : mid.parked ≡ old.parked
-  pub root : mid.root ≡ old.root
-  pub number : other.number ≡ node.number
-  pub region : region_of mid other ≡ region_of old node
-  pub own : NoMore node.bound other.bound
-
-pub same_work : (old mid : Nodes) (node : TakenNode) (open_ : List Node) (taken : List (Option Base)) → mid ≡ record old { open_ = open_; taken = taken } → shown mid node ≡ shown old node → IsSameWork old mid node node
-same_work old mid node open_ taken e f = record {
-  log = ap (λ (t : Nodes). t.log) e;
-  parked = ap (λ (t : Nodes). t.parked) e;
-  root = ap (λ (t : Nodes). t.root) e;
-  number = refl;
-  region = ap region_in f;
-  own = no_more_itself node.bound;
+-- a node ends as it was taken up
+pub ended_here : (core new : CoreState) (node : TakenNode) (mark : Option Mark) (end : NodeEnd) → IsLater core new → new.tree.ids ≤ core.tree.ids + 2 → IsEnd core new node (shown core.tree node) mark end → IfSome mark (IsMarkOf new (box_of core.tree node)) → HasEnded core new node mark end
+ended_here core new node mark end later few e met = record {
+  ended = shown core.tree node;
+  narrower = narrower_itself new (shown core.tree node);
+  same = λ u. refl;
+  later = later;
+  few = few;
+  end_ = e;
+  met = met;
 }
 
-pub raised_work : (old mid : Nodes) (node other : TakenNode) (open_ : List Node) (taken : List (Option Base)) (bound : Option ℚ) → mid ≡ record old { open_ = open_; taken = taken } → other ≡ record node { bound = bound } → NoMore node.bound other.bound → region_of mid other ≡ region_of old node → IsSameWork old mid node other
-raised_work old mid node other open_ taken bound e f own region = record {
-  log = ap (λ (t : Nodes). t.log) e;
-  parked = ap (λ (t : Nodes). t.parked) e;
-  root = ap (λ (t : Nodes). t.root) e;
-  number = ap (λ (n : TakenNode). n.number) f;
-  region = region;
-  own = own;
+-- steps of a node, which may be in work or not yet
+record Leads (old : CoreState) (had : TakenNode) (new : CoreState) (has : TakenNode) : Type 0 where
+  later : IsLater old new
+  narrower : IsNarrower new (shown old.tree had) (shown new.tree has)
+  log : new.tree.log ≡ old.tree.log
+  parked : new.tree.parked ≡ old.tree.parked
+  ids : new.tree.ids ≡ old.tree.ids
+  same : new.touched ≡ false → region_of new.tree has ≡ region_of old.tree had
+
+leads_of : (old mid : CoreState) (node has : TakenNode) → IsLaterAt old node mid has → Leads old node mid has
+leads_of old mid node has l = record { later = l.later; narrower = l.narrower; log = l.log; parked = l.parked; ids = l.ids; same = l.same }
+
+-- rows of the pool went, and another region is in work
+abbrev pub looked_core : CoreState → Pool → Region → CoreState
+looked_core core pool work = record core { pool = pool; tree = record core.tree { work = work } }
+
+leads_looked : (core : CoreState) (pool : Pool) (work : Region) (node : TakenNode) → Leads core node (looked_core core pool work) node
+leads_looked core pool work node = record {
+  later = record { program = refl; root = refl; integral = refl; ids = omega arith; no_dearer = itself (held_of core); untouched = λ u. u };
+  narrower = narrower_itself (looked_core core pool work) (shown core.tree node);
+  log = refl;
+  parked = refl;
+  ids = refl;
+  same = λ u. refl;
 }
 
-module _ (old mid : Nodes) (node other : TakenNode) (w : IsSameWork old mid node other) where
-  bound_same : (bound : Option ℚ) → with_bound mid other bound ≡ with_bound old node bound
-  bound_same bound =
-      ap (λ (n : ℕ). node_in (region_of mid other) n bound) w.number ∙ ap (λ (r : Region). node_in r node.number bound) w.region
+-- no improving point is in a box, seen from before the work on the node
+module _ (old mid new : CoreState) (node has : TakenNode) (l : Leads old node mid has) (later : IsLater mid new) where
+  none_before : HasNoImproving (reduced_of new) (held_of new) (box_of mid.tree has) → HasNoImproving (reduced_of new) (held_of new) (box_of old.tree node)
+  none_before h point i w =
+      let i' : IsImproving (reduced_of mid) (held_of mid) point = fewer (reduced_of mid) (held_of new) (held_of mid) point later.no_dearer (subst (λ p. IsImproving p (held_of new) point) later.program i) in
+      h point i (l.narrower.keeps point i' w)
 
-  -- the only leaf of the node is that of the other
-  only_of : (b c : Option ℚ) (program : Program) (leaf : Leaf) → IsOnlyLeafOf program (node_in (region_of mid other) other.number b) leaf → IsOnlyLeafOf program (node_in (region_of old node) node.number c) leaf
-  only_of b c program leaf h = record {
-    made = subst (λ (r : Region). AreMade r.choices) w.region h.made;
-    on = h.on ∙ ap (λ (r : Region). made_on program.choices r.choices) w.region;
-    values = subst (λ (r : Region). IsOnlyLeaf program.integral r.box leaf.values) w.region h.values;
+  entry_before : (ended : Node) (end : End) → LeavesEntry mid.tree new.tree ended end → LeavesEntry old.tree new.tree ended end
+  entry_before ended end e = record {
+    logged = subst (λ l. new.tree.log ≡ l ++ record { node = ended.number; bound = ended.bound; end = end } ∷ []) l.log e.logged;
+    parked = subst (λ p. new.tree.parked ≡ parked_after p ended end) l.parked e.parked;
   }
 
-  pub entry_from : (new : Nodes) (bound : Option ℚ) (end : End) → LeavesEntry mid new other bound end → LeavesEntry old new node bound end
-  entry_from new bound end e = record {
-    own = no_more_trans node.bound other.bound bound w.own e.own;
-    logged =
-        subst (λ l. new.log ≡ l ++ record { node = node.number; bound = bound; end = end } ∷ []) w.log
-        (subst (λ n. new.log ≡ mid.log ++ record { node = n; bound = bound; end = end } ∷ []) w.number e.logged);
-    parked =
-        subst (λ l. new.parked ≡ parked_after l (with_bound old node bound) end) w.parked
-        (subst (λ n. new.parked ≡ parked_after mid.parked n end) (bound_same bound) e.parked);
-  }
-
-  pub open_from : (program : Program) (held : Option ℚ) (new : Nodes) → IsOpenAgain program held mid new other → IsOpenAgain program held old new node
-  open_from program held new h = record {
-    searched = h.searched;
-    log = h.log ∙ w.log;
-    parked = h.parked ∙ w.parked;
-    bound = h.bound;
-    own = no_more_trans node.bound other.bound h.bound w.own h.own;
-    open_ = subst (Contains new.open_) (bound_same h.bound) h.open_;
-  }
-
-  pub end_from : (program : Program) (held : Option ℚ) (lent : Lent) (room : ℕ) (new : Nodes) (mark : Option Mark) (end : NodeEnd) → IsEnd program held lent room mid new other mark end → IsEnd program held lent room old new node mark end
-  end_from program held lent room new mark by.Pruned h = record { bound = h.bound; entry = entry_from new h.bound Closed h.entry; kept = h.kept; passed = h.passed }
-  end_from program held lent room new mark by.Empty h = record { bound = h.bound; entry = entry_from new h.bound Closed h.entry; kept = h.kept; empty = subst (λ (r : Region). HasNoImproving program held r.box) w.region h.empty }
-  end_from program held lent room new mark by.Solved h = record {
-    bound = h.bound;
-    entry = entry_from new h.bound Closed h.entry;
+  end_before : (ended : Node) (mark : Option Mark) (end : NodeEnd) → IsEnd mid new has ended mark end → IsEnd old new node ended mark end
+  end_before ended mark by.Pruned h = record { entry = entry_before ended Closed h.entry; kept = h.kept; passed = h.passed }
+  end_before ended mark by.Empty h = record { entry = entry_before ended Closed h.entry; kept = h.kept; empty = none_before h.empty }
+  end_before ended mark by.Solved h = record {
+    entry = entry_before ended Closed h.entry;
     kept = h.kept;
     leaf = h.leaf;
-    only = only_of other.bound node.bound program h.leaf h.only;
+    only = h.only;
     point = h.point;
     is_point = h.is_point;
-    settled = subst (λ (r : Region). HasNoImproving program held r.box) w.region h.settled;
+    settled = none_before h.settled;
   }
-  end_from program held lent room new mark (by.Split low high) h = record {
-    bound = h.bound;
+  end_before ended mark (by.Split low high) h = record {
     column = h.column;
     at = h.at;
-    entry = entry_from new h.bound (Split h.column h.at low high) h.entry;
+    entry = entry_before ended (Split h.column h.at low high) h.entry;
     kept = h.kept;
+    matter = h.matter;
     point = h.point;
-    rule = subst (λ r. IsSplitBy program.integral r h.point h.column h.at) w.region h.rule;
-    good = subst (λ (r : Region). IsAsGood program lent r.box room h.bound mark) w.region h.good;
-    tried = subst (λ (r : Region). HasTried program held lent r.box h.point mark) w.region h.tried;
+    rule = h.rule;
+    good = h.good;
+    tried = h.tried;
   }
-  end_from program held lent room new mark (by.Parked leaf on bound by_this) h = record {
-    entry = entry_from new bound Parked h.entry;
+  end_before ended mark (by.Parked leaf on bound by_this) h = record {
+    entry = entry_before ended Parked h.entry;
     kept = h.kept;
-    wide_as = record {
-      only = only_of bound bound program (record { values = leaf.items; on = on.items }) h.wide_as.only;
-      is_leaf = h.wide_as.is_leaf;
-      wide = h.wide_as.wide;
-    };
+    bound_is = h.bound_is;
+    wide_as = h.wide_as;
   }
-  end_from program held lent room new mark (by.Ray point ray) h = record {
-    bound = h.bound;
-    entry = entry_from new h.bound Parked h.entry;
-    logged = subst (λ (r : Node). AllFollow program.integral (first_node program r.bound ∷ []) [] new.log) w.root h.logged;
+  end_before ended mark (by.Ray point ray) h = record {
+    entry = entry_before ended Parked h.entry;
+    logged = h.logged;
     feasible = h.feasible;
-    shown = h.shown;
+    shown_ray = h.shown_ray;
+    tried = h.tried;
   }
 
--- ---- nodes that are open again
-
-pub open_again : (program : Program) (held : Option ℚ) (old new : Nodes) (node : TakenNode) (open_ : List Node) (taken : List (Option Base)) → IsSearchOf program new held [] → new ≡ record old { open_ = open_; taken = taken } → IsPermutation (shown old node ∷ old.open_) new.open_ → IsOpenAgain program held old new node
-open_again program held old new node open_ taken s e p = record {
-  searched = s;
-  log = ap (λ (t : Nodes). t.log) e;
-  parked = ap (λ (t : Nodes). t.parked) e;
-  bound = node.bound;
-  own = no_more_itself node.bound;
-  open_ = Contains-permutation (shown old node ∷ old.open_) new.open_ (shown old node) p (here (shown old node) old.open_);
+-- a node has ended after steps of its work
+ended_led : (old mid new : CoreState) (node has : TakenNode) (mark : Option Mark) (end : NodeEnd) → Leads old node mid has → HasEnded mid new has mark end → HasEnded old new node mark end
+ended_led old mid new node has mark end l h = record {
+  ended = h.ended;
+  narrower = narrower_further mid new (shown old.tree node) (shown mid.tree has) h.ended h.later l.narrower h.narrower;
+  same = λ u. h.same u ∙ ap (λ (r : Region). r.box) (l.same (h.later.untouched u));
+  later = later_further old mid new l.later h.later;
+  few = subst (λ n. new.tree.ids ≤ n + 2) l.ids h.few;
+  end_ = end_before old mid new node has l h.later h.ended mark end h.end_;
+  met = h.met;
 }
 
--- ---- the log where a node was put aside
-
-pub still_follows : (program : Program) (old new : Nodes) (held : Option ℚ) (node : Node) → IsKept program old held (node ∷ []) → new.root ≡ old.root → new.integral ≡ old.integral → IsSearched new.integral new.root new.log → AllFollow program.integral (first_node program old.root.bound ∷ []) [] new.log
-still_follows program old new held node k e f h =
-    subst (λ r. IsSearched program.integral r new.log) k.root
-    (subst (λ i. IsSearched i old.root new.log) k.integral
-    (subst (λ r. IsSearched old.integral r new.log) e
-    (subst (λ i. IsSearched i new.root new.log) f h)))
-
--- ---- roots
-
-pub rooted : (old new : Nodes) (parked open_ : List Node) (taken : List (Option Base)) (log : List Entry) → new ≡ record old { open_ = open_; parked = parked; taken = taken; log = log } → StaysRooted old new
-rooted old new parked open_ taken log e = record {
-  root = ap (λ (t : Nodes). t.root) e;
-  integral = ap (λ (t : Nodes). t.integral) e;
-  ids = subst (λ (n : ℕ). n ≤ old.ids + 2) (sym (ap (λ (t : Nodes). t.ids) e)) (omega arith);
+-- so it is where it goes back
+back_led : (old mid new : CoreState) (node has : TakenNode) (number : ℕ) (bound : Option ℚ) → Leads old node mid has → IsBack mid new number bound → IsBack old new number bound
+back_led old mid new node has number bound l h = record {
+  kept = h.kept;
+  log = h.log ∙ l.log;
+  parked = h.parked ∙ l.parked;
+  ids = h.ids ∙ l.ids;
+  later = later_further old mid new l.later h.later;
+  open_ = h.open_;
 }
 
-pub rooted_later : (old mid new : Nodes) → mid.root ≡ old.root → mid.integral ≡ old.integral → mid.ids ≡ old.ids → StaysRooted mid new → StaysRooted old new
-rooted_later old mid new e f g r = record {
-  root = r.root ∙ e;
-  integral = r.integral ∙ f;
-  ids = subst (λ (n : ℕ). new.ids ≤ n + 2) g r.ids;
-}
+pub ended_after : (old mid new : CoreState) (node has : TakenNode) (mark : Option Mark) (end : NodeEnd) → IsLaterAt old node mid has → HasEnded mid new has mark end → HasEnded old new node mark end
+ended_after old mid new node has mark end l h = ended_led old mid new node has mark end (leads_of old mid node has l) h
 
--- ---- ends
+pub back_after : (old mid new : CoreState) (node has : TakenNode) (number : ℕ) (bound : Option ℚ) → IsLaterAt old node mid has → IsBack mid new number bound → IsBack old new number bound
+back_after old mid new node has number bound l h = back_led old mid new node has number bound (leads_of old mid node has l) h
 
-pub pruned_end : (program : Program) (held : Option ℚ) (old new : Nodes) (node : TakenNode) (taken : List (Option Base)) → new ≡ record old { taken = taken; log = old.log ++ record { node = node.number; bound = node.bound; end = Closed } ∷ [] } → IsKept program new held [] → matters held node.bound ≡ false → IsPruned program held old new node
-pruned_end program held old new node taken e k m = record { bound = node.bound; entry = closed_entry old new node taken e; kept = k; passed = m }
+-- and from before the look
+pub ended_looked : (core new : CoreState) (pool : Pool) (work : Region) (node : TakenNode) (mark : Option Mark) (end : NodeEnd) → HasEnded (looked_core core pool work) new node mark end → HasEnded core new node mark end
+ended_looked core new pool work node mark end h = ended_led core (looked_core core pool work) new node node mark end (leads_looked core pool work node) h
 
-pub emptied_end : (program : Program) (held : Option ℚ) (old new : Nodes) (node : TakenNode) (taken : List (Option Base)) → new ≡ record old { taken = taken; log = old.log ++ record { node = node.number; bound = node.bound; end = Closed } ∷ [] } → IsKept program new held [] → HasNoImproving program held (box_of old node) → IsEmptied program held old new node
-emptied_end program held old new node taken e k h = record { bound = node.bound; entry = closed_entry old new node taken e; kept = k; empty = h }
+pub back_looked : (core new : CoreState) (pool : Pool) (work : Region) (node : TakenNode) (number : ℕ) (bound : Option ℚ) → IsBack (looked_core core pool work) new number bound → IsBack core new number bound
+back_looked core new pool work node number bound h = back_led core (looked_core core pool work) new node node number bound (leads_looked core pool work node) h
 
-pub solved_end : (program : Program) (held : Option ℚ) (old mid new : Nodes) (node : TakenNode) (taken : List (Option Base)) (leaf : Leaf) (point : List ℚ) → IsSameWork old mid node node → new ≡ record mid { taken = taken; log = mid.log ++ record { node = node.number; bound = node.bound; end = Closed } ∷ [] } → IsKept program new held [] → IsOnlyLeafOf program (shown old node) leaf → IsPointOfLeaf program leaf point → HasNoImproving program held (box_of old node) → IsSolvedLeaf program held old new node
-solved_end program held old mid new node taken leaf point w e k only is h = record {
-  bound = node.bound;
-  entry = entry_from old mid node node w new node.bound Closed (closed_entry mid new node taken e);
-  kept = k;
-  leaf = leaf;
-  only = only;
-  point = point;
-  is_point = is;
-  settled = h;
-}
+-- ---- nodes that are closed
 
-pub endless_end : (program : Program) (old mid new : Nodes) (node : TakenNode) (taken : List (Option Base)) (point ray : List ℚ) → IsSameWork old mid node node → new ≡ record mid { parked = mid.parked ++ shown mid node ∷ []; taken = taken; log = mid.log ++ record { node = node.number; bound = node.bound; end = Parked } ∷ [] } → AllFollow program.integral (first_node program mid.root.bound ∷ []) [] new.log → IsFeasible program point → IsShownRay program point ray → IsEndless program old new node point ray
-endless_end program old mid new node taken point ray w e l f s = record {
-  bound = node.bound;
-  entry = entry_from old mid node node w new node.bound Parked (parked_entry mid new node taken e);
-  logged = subst (λ (r : Node). AllFollow program.integral (first_node program r.bound ∷ []) [] new.log) w.root l;
-  feasible = f;
-  shown = s;
-}
+pub emptied : (core new : CoreState) (node : TakenNode) → HasLeft core new node Closed → HasNoImproving (reduced_of new) (held_of new) (box_of core.tree node) → HasEnded core new node None by.Empty
+emptied core new node h e = ended_here core new node None by.Empty h.later h.few (record { entry = h.entry; kept = h.kept; empty = e }) tt
 
-pub aside_end : (program : Program) (held : Option ℚ) (old new : Nodes) (node : TakenNode) (taken : List (Option Base)) (leaf : Leaf) (bound : Option ℚ) (by_this : Shown) → new ≡ record old { parked = old.parked ++ shown old node ∷ []; taken = taken; log = old.log ++ record { node = node.number; bound = node.bound; end = Parked } ∷ [] } → IsKept program new held [] → bound ≡ node.bound → IsOnlyLeafOf program (shown old node) leaf → IsLeafOf program leaf → IsWideBy (decided program leaf.on) leaf.values by_this → IsAside program held old new node leaf bound by_this
-aside_end program held old new node taken leaf bound by_this e k b only is wide =
-    subst (λ b. IsAside program held old new node leaf b by_this) (sym b)
-    (record { entry = parked_entry old new node taken e; kept = k; wide_as = record { only = only; is_leaf = is; wide = wide } })
+-- what has no improving point has none later
+pub none_kept : (mid new : CoreState) (box : List Sides) → IsLater mid new → HasNoImproving (reduced_of mid) (held_of mid) box → HasNoImproving (reduced_of new) (held_of new) box
+none_kept mid new box later h = λ point i w.
+    h point (fewer (reduced_of mid) (held_of new) (held_of mid) point later.no_dearer (subst (λ p. IsImproving p (held_of new) point) later.program i)) w
 
-pub halved_end : (program : Program) (held : Option ℚ) (lent : Lent) (room : ℕ) (old new : Nodes) (node : TakenNode) (mark : Option Mark) (column : ℕ) (at : ℤ) (low high : ℕ) (point : Option (List ℚ)) → new.log ≡ old.log ++ record { node = node.number; bound = node.bound; end = Split column at low high } ∷ [] → new.parked ≡ old.parked → IsKept program new held [] → IsSplitBy program.integral (region_of old node) point column at → IsAsGood program lent (box_of old node) room node.bound mark → HasTried program held lent (box_of old node) point mark → IsHalved program held lent room old new node mark low high
-halved_end program held lent room old new node mark column at low high point e f k r g t = record {
-  bound = node.bound;
-  column = column;
-  at = at;
-  entry = split_entry old new node column at low high e f;
-  kept = k;
-  point = point;
-  rule = r;
-  good = g;
-  tried = t;
-}
+-- nor has the box that it is narrowed to
+pub none_now : (old mid : CoreState) (node has : TakenNode) → IsLaterAt old node mid has → HasNoImproving (reduced_of mid) (held_of mid) (box_of old.tree node) → HasNoImproving (reduced_of mid) (held_of mid) (box_of mid.tree has)
+none_now old mid node has l h = λ point i w. h point i (l.narrower.inside point w)
 
--- ---- the tree after a node was taken up
+-- a node has ended whose work found no improving point in its box
+pub emptied_after : (old mid new : CoreState) (node has : TakenNode) → IsLaterAt old node mid has → HasLeft mid new has Closed → HasNoImproving (reduced_of mid) (held_of mid) (box_of mid.tree has) → HasEnded old new node None by.Empty
+emptied_after old mid new node has l h e = ended_after old mid new node has None by.Empty l (emptied mid new has h (none_kept mid new (box_of mid.tree has) h.later e))
 
-pub taken_tree : (old new : Nodes) (o : Option TakenNode) → MatchOption o ((old.open_ ≡ []) × (new ≡ old)) (TakesFirst old new) → new ≡ record old { open_ = new.open_; taken = new.taken }
-taken_tree old new None h = subst (λ (t : Nodes). t ≡ record old { open_ = t.open_; taken = t.taken }) (sym h.1) refl
-taken_tree old new (Some node) h = h.rest
+-- ---- nodes that are open
+
+met_of : (core : CoreState) (box : List Sides) (bound : Option ℚ) (mark : Option Mark) → IsAsGood core box bound mark → IfSome mark (IsMarkOf core box)
+met_of core box bound None h = tt
+met_of core box bound (Some mark) h = h
+
+module _ (core : CoreState) (tree : Nodes) (node : TakenNode) (found : Found) (is_found : IsFound core (box_of core.tree node) node.bound found) where
+  met : IfSome found.mark (IsMarkOf core (box_of core.tree node))
+  met = met_of core (box_of core.tree node) node.bound found.mark is_found.good
+
+  pub pruned_ended : HasLeft core (with_tree core tree) node Closed → matters (held_of core) node.bound ≡ false → HasEnded core (with_tree core tree) node found.mark by.Pruned
+  pruned_ended h passed = ended_here core (with_tree core tree) node found.mark by.Pruned h.later h.few (record { entry = h.entry; kept = h.kept; passed = passed }) met
+
+  pub halved_ended : (column : ℕ) (at : ℤ) (low high : ℕ) → HasLeft core (with_tree core tree) node (Split column at low high) → matters (held_of core) node.bound ≡ true → IsSplitBy (reduced_of core).integral (region_of core.tree node) (point_of found) column at → HasEnded core (with_tree core tree) node found.mark (by.Split low high)
+  halved_ended column at low high h matter rule = ended_here core (with_tree core tree) node found.mark (by.Split low high) h.later h.few (record {
+    column = column;
+    at = at;
+    entry = h.entry;
+    kept = h.kept;
+    matter = matter;
+    point = point_of found;
+    rule = rule;
+    good = is_found.good;
+    tried = is_found.tried;
+  }) met
+
+-- ---- leaves
+
+-- a leaf was closed after its best point was offered
+pub solved_ended : (core mid new : CoreState) (node : TakenNode) (leaf : Leaf) (point : List ℚ) → IsLaterAt core node mid node → HasLeft mid new node Closed → IsOnlyLeafOf core.program (shown core.tree node) leaf → IsPointOfLeaf core.program leaf point → HasNoImproving (reduced_of mid) (held_of mid) (box_of core.tree node) → HasEnded core new node None by.Solved
+solved_ended core mid new node leaf point l h only is none =
+    let program : new.program ≡ core.program = h.later.program ∙ l.later.program in
+    ended_here core new node None by.Solved (later_further core mid new l.later h.later) (subst (λ n. new.tree.ids ≤ n + 2) l.ids h.few) (record {
+      entry = record {
+        logged = subst (λ log. new.tree.log ≡ log ++ record { node = node.number; bound = node.bound; end = Closed } ∷ []) l.log h.entry.logged;
+        parked = subst (λ p. new.tree.parked ≡ p) l.parked h.entry.parked;
+      };
+      kept = h.kept;
+      leaf = leaf;
+      only = subst (λ p. IsOnlyLeafOf p (shown core.tree node) leaf) (sym program) only;
+      point = point;
+      is_point = subst (λ p. IsPointOfLeaf p leaf point) (sym program) is;
+      settled = none_kept mid new (box_of core.tree node) h.later none;
+    }) tt
+
+-- a leaf was put aside as a wide one
+pub aside_ended : (core : CoreState) (tree : Nodes) (node : TakenNode) (leaf : Leaf) (bound : Option ℚ) (by_this : Shown) → HasLeft core (with_tree core tree) node Parked → bound ≡ node.bound → IsWideAs core.program (shown core.tree node) leaf (shown_as by_this) → IsAside core (with_tree core tree) (shown core.tree node) leaf bound (shown_as by_this)
+aside_ended core tree node leaf bound by_this h b w = record { entry = h.entry; kept = h.kept; bound_is = sym b; wide_as = w }
+
+-- it was put aside, as the cost falls from a point of it that was offered
+pub endless_ended : (core mid new : CoreState) (node : TakenNode) (end : NodeEnd) → IsLaterAt core node mid node → IsLater mid new → new.tree.ids ≡ mid.tree.ids → IsEnd mid new node (shown mid.tree node) None end → HasEnded core new node None end
+endless_ended core mid new node end l later ids e =
+    ended_after core mid new node node None end l (ended_here mid new node None end later (omega (arith, ids)) e tt)
+
+-- ---- the work on a node as a whole
+
+pub ended_or_back : {E : Type 0} (core new : CoreState) (pool : Pool) (work : Region) (node : TakenNode) (r : Result (NodeEnd × NodeRecord) E) → MatchResult r (λ done. HasEnded (looked_core core pool work) new node done.1.mark done.0) (λ _. IsBack (looked_core core pool work) new node.number node.bound) → MatchResult r (λ done. HasEnded core new node done.1.mark done.0) (λ _. IsBack core new node.number node.bound)
+ended_or_back core new pool work node (Ok done) h = ended_looked core new pool work node done.1.mark done.0 h
+ended_or_back core new pool work node (Err error) h = back_looked core new pool work node node.number node.bound h
+
+pub can_looked : (core : CoreState) (pool : Pool) (work : Region) (node : TakenNode) → IsTakenUp (looked_core core pool work) node → CanWorkOn core node → CanWorkOn (looked_core core pool work) node
+can_looked core pool work node up h = record { up = up; given = h.given; few = h.few }

@@ -1,5 +1,5 @@
 -- What is known of a leaf, and what that says of its node.
-use Rattle.std.proofs.Common.{◌≡◌, ℕ, Bool, true, false, List, [], ◌∷◌, ◌++◌, length, Option, None, Some, IfSome, refl, ap, ◌∙◌, subst}
+use Rattle.std.proofs.Common.{◌≡◌, ℕ, Bool, true, false, List, [], ◌∷◌, ◌++◌, length, Option, None, Some, IfSome, refl, sym, ap, ◌∙◌, subst}
 use Rattle.cip_rational.specs.Rational.{ℚ, ◌≤ℚ◌, ◌<ℚ◌}
 use Rattle.cip_rational.proofs.Rational.Order.{≤ℚ_trans, not_le_of_lt, le_of_lt_test}
 use Rattle.cip_problem.specs.Program.{Program}
@@ -23,8 +23,13 @@ use Rattle.cip_incumbent.specs.declared.offers.Offered.{Offered}
 use Rattle.cip_search.specs.SearchState.{stay, IsStuck}
 use Rattle.cip_search.proofs.Members.{here}
 use Rattle.cip_search.proofs.Told.{given_node_of}
-use Rattle.cip_tree.specs.Nodes.{Nodes}
-use Rattle.cip_node.specs.KeptNodes.{cost_held, state_of, IsKept}
+use Rattle.cip_tree.specs.Nodes.{TakenNode, Nodes, region_in, node_changes, box_of, shown}
+use Rattle.cip_tree.specs.Tracked.{IsWithin}
+use Rattle.cip_tree.proofs.Within.{within_changes}
+use Rattle.cip_core.specs.CoreStates.{CoreState, reduced_of, held_of, IsTakenUp}
+use Rattle.cip_core.specs.Later.{IsLater}
+use Rattle.cip_core.specs.Steps.{IsOffered}
+use Rattle.cip_core.specs.KeptNodes.{cost_held, state_of}
 
 -- an improving point in the box is one of the leaf
 there : (program : Program) (held : Option ℚ) (node : Node) (leaf : Leaf) (point : List ℚ) → IsNodeOf program node → IsOnlyLeafOf program node leaf → IsImproving program held point → IsInBox node.box point → IsPointOfLeaf program leaf point
@@ -60,9 +65,21 @@ pub long_point : (program : Program) (leaf : Leaf) (point : List ℚ) → IsWell
 long_point program leaf point formed is h =
     IsInBox-long program.bounds point (feasible_back program leaf point formed is h).within ∙ formed.bounds
 
--- a node of a search is one of the program
-pub kept_node_of : (program : Program) (tree : Nodes) (held : Option ℚ) (node : Node) → IsKept program tree held (node ∷ []) → IsNodeOf program node
-kept_node_of program tree held node k =
-    let state = state_of tree held (node ∷ []) in
-    given_node_of program tree.root.bound state.log state.held node k.searched.logged
-    (k.searched.given node (here node (tree.open_ ++ tree.parked)))
+-- a node in work is one of the program
+pub work_node_of : (core : CoreState) (node : TakenNode) → IsTakenUp core node → IsNodeOf (reduced_of core) (shown core.tree node)
+work_node_of core node up =
+    let state = state_of core.tree (held_of core) (shown core.tree node ∷ []) in
+    given_node_of (reduced_of core) core.tree.root.bound state.log state.held (shown core.tree node) up.nodes.kept.searched.logged
+    (up.nodes.kept.searched.given (shown core.tree node) (here (shown core.tree node) (core.tree.open_ ++ core.tree.parked)))
+
+-- its box lies within the program's
+pub work_within : (core : CoreState) (node : TakenNode) → IsTakenUp core node → IsWithin (box_of core.tree node) (reduced_of core).bounds
+work_within core node up =
+    subst (IsWithin (box_of core.tree node)) (ap (λ (n : Node). n.box) up.nodes.kept.root)
+    (within_changes (region_in core.tree.root) (node_changes core.tree node))
+
+-- after the best point of its leaf was offered, none is better
+pub best_after : (core mid : CoreState) (node : TakenNode) (leaf : Leaf) (point : List ℚ) (cost : ℚ) (answer : Offered) → IsTakenUp core node → IsOnlyLeafOf core.program (shown core.tree node) leaf → IsBest core.program leaf point cost → IsOffered core mid point answer → IsLater core mid → HasNoImproving (reduced_of mid) (held_of mid) (box_of core.tree node)
+best_after core mid node leaf point cost answer up only best offered_ later =
+    subst (λ p. HasNoImproving p (held_of mid) (box_of core.tree node)) (sym later.program)
+    (best_settles core.program (shown core.tree node) leaf point cost core.incumbent mid.incumbent answer (work_node_of core node up) only best offered_.is_answer offered_.after)

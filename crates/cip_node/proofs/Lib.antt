@@ -1,15 +1,9 @@
-pub mod Begun
-pub mod BoxInWork
 pub mod EndLaws
-pub mod InWork
-pub mod Inside
-pub mod KeptSteps
+pub mod GivenLater
 pub mod LeafSettled
 pub mod Looked
 pub mod MadeChoices
 pub mod NodeBound
-pub mod Offering
 pub mod OneLeaf
-pub mod ReadyLaws
-pub mod Rounded
 pub mod Ruled
+pub mod Fractional

@@ -12,8 +12,6 @@ use Rattle.std.specs.List.{AllZip}
 use Rattle.cip_leaves.specs.Leaf.{at_wholes, IsWholeBetween, IsLeaf, IsOnlyLeaf, Leaf, IsLeafOf, IsOnlyLeafOf}
 use Rattle.cip_node_rules.specs.OpenColumns.{PassesNowhere}
 use Rattle.cip_node_rules.specs.OpenChoices.{is_choice_open}
-use Rattle.cip_domain.specs.Narrowing.{ArePlainPast}
-use Rattle.cip_node.specs.Entering.{own_region}
 
 -- ---- one more column
 
@@ -72,18 +70,6 @@ whole_plain Plain whole sides h e = refl
 whole_plain (Open own) whole sides h e = absurd (true≢false (same_Some true false (sym e ∙ h.continuous)))
 whole_plain Off whole sides h e = absurd h
 whole_plain On whole sides h e = absurd h
-
--- choices past the last column are plain
-pub plain_past : (choice : Choice) (whole : Option Bool) (sides : Sides) → IsChoice choice whole sides → whole ≡ None → choice ≡ Plain
-plain_past Plain whole sides h e = refl
-plain_past (Open own) whole sides h e = absurd (none-some false (sym e ∙ h.continuous))
-plain_past Off whole sides h e = absurd h
-plain_past On whole sides h e = absurd h
-
-pub own_past : (program : Program) → IsWellFormed program → ArePlainPast (own_region program)
-own_past program formed column l =
-    let past : length program.integral ≤ column = subst (λ n. n ≤ column) (formed.bounds ∙ sym formed.integral) l in
-    plain_past (choice_at program.choices column) (slice_get program.integral column) (sides_at program.bounds column) (formed.choices column) (slice_get_past program.integral column past)
 
 -- where a choice of a region is open, its column is continuous
 pub still_continuous : (program : Program) (now : List Choice) (column : ℕ) → IsWellFormed program → AreStillOpen program.choices now → is_open (choice_at now column) ≡ true → slice_get program.integral column ≡ Some false

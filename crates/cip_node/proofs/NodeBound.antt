@@ -1,51 +1,114 @@
 -- What the linear program of a node says of its bound.
-use Rattle.std.proofs.Common.{◌≡◌, ℕ, List, length, Option, None, Some, IfSome, option_map, refl, sym, ◌∙◌, subst}
+use Rattle.std.proofs.Common.{◌≡◌, ℕ, Bool, true, false, List, length, Contains, Option, None, Some, IfSome, option_map, refl, sym, ap, ◌∙◌, subst}
+use Rattle.std.proofs.lemmas.List.Elements.{All-contains}
 use Rattle.cip_rational.specs.Rational.{ℚ}
-use Rattle.cip_problem.specs.Program.{Sides, Program}
-use Rattle.cip_problem.specs.WellFormed.{columns}
+use Rattle.cip_problem.specs.Program.{Sides, Row, Program}
+use Rattle.cip_problem.specs.WellFormed.{columns, IsWellFormed}
 use Rattle.cip_problem.proofs.Points.AtPlaces.{IsInBox-long}
 use Rattle.cip_linear.specs.LinearProgram.{IsPoint}
+use Rattle.cip_cuts.specs.Improving.{IsValidRow}
+use Rattle.cip_cuts.proofs.Improving.{fewer}
 use Rattle.cip_leaves.specs.Searched.{NoMore}
-use Rattle.cip_search.specs.Relaxation.{IsRelaxedBound}
 use Rattle.cip_search.proofs.Relaxed.{greater}
 use Rattle.cip_cert.specs.declared.rows.PoolRow.{PoolRow}
-use Rattle.cip_cert.specs.Lent.{Lent}
+use Rattle.cip_cert.specs.Lent.{KeptFits}
+use Rattle.cip_cert.specs.Resting.{valid_below, ArePoolRowsValid}
 use Rattle.cip_rows.specs.RowPools.{Pool, IsSoundPool}
+use Rattle.cip_incumbent.specs.HeldPoint.{Holding}
+use Rattle.cip_domain.specs.Changes.{Region}
+use Rattle.cip_tree.specs.Nodes.{TakenNode, Nodes, region_of, box_of}
 use Rattle.cip_node_bounds.specs.NodeRows.{usable_rows}
-use Rattle.cip_node_bounds.specs.Relaxing.{node_program, ShowsLeast}
+use Rattle.cip_node_bounds.specs.Relaxing.{node_program, ShowsLeast, ShowsFalling}
 use Rattle.cip_node_bounds.specs.Telling.{IsValidPool, NodeProgramsTell}
 use Rattle.cip_node_bounds.proofs.Told.{told}
 use Rattle.cip_node_bounds.specs.declared.relaxed.Mark.{Mark}
-use Rattle.cip_node.specs.Bounding.{IsTried, HasTried}
-use Rattle.cip_node.specs.KeptNodes.{IsPoolOf}
+use Rattle.cip_core.specs.CoreStates.{CoreState, reduced_of, held_of, rows_lent, IsSound, IsAtWork}
+use Rattle.cip_core.proofs.CoreSteps.{work_long}
+use Rattle.cip_core.specs.KeptNodes.{cost_held}
+use Rattle.cip_core.specs.Steps.{IsTried}
+use Rattle.cip_node.specs.Bounding.{IsMarkOf, IsAsGood, HasTried, point_of, IsFound}
+use Rattle.cip_node.specs.declared.bounding.Found.{Found}
 
-valid_pool : (program : Program) (held : Option ℚ) (box : List Sides) (pool : Pool) → IsSoundPool pool → pool.columns ≡ columns program → length box ≡ columns program → IsPoolOf program held pool.rows → IsValidPool program held box pool.rows
-valid_pool program held box pool kept wide long valid = record {
-  valid = valid;
-  long = λ row c. subst (λ (r : PoolRow). length box ≡ length r.scope) c.2 (long ∙ sym wide ∙ sym (kept.fits c.0 row c.1).scope);
+-- a row that is valid below the cost that it needs is valid below the cost held
+below_held : (program : Program) (held : Option ℚ) (box : List Sides) (row : Row) (rests : Bool) → IsValidRow program (valid_below held rests) box row → IsValidRow program held box row
+below_held program held box row true h = h
+below_held program held box row false h = λ point i w. h point (fewer program held None point tt i) w
+
+member_valid : (program : Program) (held : Option ℚ) (pool : List PoolRow) (kept : PoolRow) → ArePoolRowsValid program held pool → Contains pool kept → IsValidRow program held kept.scope kept.row
+member_valid program held pool kept h c =
+    below_held program held kept.scope kept.row kept.rests (All-contains (λ k. IsValidRow program (valid_below held k.rests) k.scope k.row) pool kept h c)
+
+valid_pool : (core : CoreState) (node : TakenNode) → IsAtWork core node → IsSound core → IsSoundPool core.pool → IsWellFormed (reduced_of core) → IsValidPool (reduced_of core) (held_of core) core.tree.work.box core.pool.rows
+valid_pool core node w s kept formed = record {
+  valid = λ row c. member_valid (reduced_of core) (held_of core) core.pool.rows row s.valid c;
+  long = λ row c. work_long core node formed w ∙ sym s.same ∙ sym (All-contains (KeptFits core.pool.columns) core.pool.rows row kept.fits c).scope;
 }
 
-abbrev pub lent_of : Program → Pool → Lent
-lent_of program pool = record { own = program.rows; pool = pool.rows; cutoff = None }
+-- over the rows of the program and the valid ones of the pool
+pub tells : (core : CoreState) {node : TakenNode} → IsAtWork core node → IsSound core → IsSoundPool core.pool → IsWellFormed (reduced_of core) → NodeProgramsTell (reduced_of core) (held_of core) (rows_lent core) core.tree.work.box
+tells core {node} w s kept formed = told (reduced_of core) (held_of core) (rows_lent core) core.tree.work.box refl (valid_pool core node w s kept formed)
 
-pub tells : (program : Program) (held : Option ℚ) (box : List Sides) (pool : Pool) → IsSoundPool pool → pool.columns ≡ columns program → length box ≡ columns program → IsPoolOf program held pool.rows → NodeProgramsTell program held (lent_of program pool) box
-tells program held box pool kept wide long valid = told program held (lent_of program pool) box refl (valid_pool program held box pool kept wide long valid)
+pub point_long : (core : CoreState) (box : List Sides) (point : List ℚ) → IsPoint (node_program (reduced_of core) (rows_lent core) box) point → length point ≡ length box
+point_long core box point h = IsInBox-long box point h.within
 
-pub long_point : (program : Program) (lent : Lent) (box : List Sides) (point : List ℚ) → IsPoint (node_program program lent box) point → length point ≡ length box
-long_point program lent box point h = IsInBox-long box point h.within
+pub long_if : {X : Type 0} (f : X → List ℚ) (core : CoreState) (box : List Sides) (point : Option X) → IfSome point (λ v. IsPoint (node_program (reduced_of core) (rows_lent core) box) (f v)) → IfSome (option_map f point) (λ v. length v ≡ length box)
+long_if f core box None h = tt
+long_if f core box (Some v) h = point_long core box (f v) h
 
-pub long_if : {X : Type 0} (f : X → List ℚ) (program : Program) (lent : Lent) (box : List Sides) (point : Option X) → IfSome point (λ v. IsPoint (node_program program lent box) (f v)) → IfSome point (λ v. length (f v) ≡ length box)
-long_if f program lent box None h = tt
-long_if f program lent box (Some v) h = long_point program lent box (f v) h
-
-pub as_long : {X : Type 0} (f : X → List ℚ) (box : List Sides) (n : ℕ) (point : Option X) → length box ≡ n → IfSome point (λ v. length (f v) ≡ length box) → IfSome point (λ v. length (f v) ≡ n)
-as_long f box n None e h = tt
-as_long f box n (Some v) e h = h ∙ e
-
-pub good_least : (program : Program) (held : Option ℚ) (pool : Pool) (box : List Sides) (point : List ℚ) (b : ℚ) (bound : Option ℚ) → NodeProgramsTell program held (lent_of program pool) box → ShowsLeast program (lent_of program pool) box point b → NoMore (Some b) bound → IsRelaxedBound program (usable_rows box pool.rows) box bound
-good_least program held pool box point b bound t s l = greater program (usable_rows box pool.rows) box (Some b) bound l (t.relaxed point b s)
+pub as_long : {X : Type 0} (f : X → List ℚ) (n m : ℕ) (point : Option X) → n ≡ m → IfSome (option_map f point) (λ v. length v ≡ n) → IfSome point (λ v. length (f v) ≡ m)
+as_long f n m None e h = tt
+as_long f n m (Some v) e h = h ∙ e
 
 -- a point that was offered beside a mark, if there is one
-pub tried_if : {X : Type 0} (f : X → List ℚ) (program : Program) (held : Option ℚ) (lent : Lent) (box : List Sides) (point : Option X) (mark : Mark) → IfSome point (λ v. IsPoint (node_program program lent box) (f v)) → IfSome point (λ v. IsTried program held (f v)) → HasTried program held lent box (option_map f point) (Some mark)
-tried_if f program held lent box None mark h k = λ e. cc
-tried_if f program held lent box (Some v) mark h k = (h, k)
+pub tried_if : {X : Type 0} (f : X → List ℚ) (core : CoreState) (box : List Sides) (point : Option X) (mark : Mark) → IfSome point (λ v. IsPoint (node_program (reduced_of core) (rows_lent core) box) (f v)) → IfSome point (λ v. IsTried core.program (held_of core) (f v)) → HasTried core box (option_map f point) (Some mark)
+tried_if f core box None mark h k = λ e. cc
+tried_if f core box (Some v) mark h k = (h, k)
+
+-- what was found by a point of least cost, beside a bound that is no less
+found_least : (core : CoreState) (held : Option ℚ) (box : List Sides) (bound : Option ℚ) (point : List ℚ) (b : ℚ) (found : Found) → point_of found ≡ Some point → found.mark ≡ None → NodeProgramsTell (reduced_of core) held (rows_lent core) box → ShowsLeast (reduced_of core) (rows_lent core) box point b → NoMore (Some b) bound → IsTried core.program (held_of core) point → IsFound core box bound found
+found_least core held box bound point b found p m t s l tried = record {
+  long = subst (λ o. IfSome o (λ v. length v ≡ length box)) (sym p) (point_long core box point s.optimal.is_point);
+  good = subst (IsAsGood core box bound) (sym m) (greater (reduced_of core) (usable_rows box core.pool.rows) box (Some b) bound l (t.relaxed point b s));
+  tried = subst (λ o. HasTried core box o found.mark) (sym p) (s.optimal.is_point, tried);
+}
+
+-- and by one from which the cost falls
+found_falling : (core : CoreState) (held : Option ℚ) (box : List Sides) (bound : Option ℚ) (point : List ℚ) (found : Found) → point_of found ≡ Some point → found.mark ≡ None → NodeProgramsTell (reduced_of core) held (rows_lent core) box → ShowsFalling (reduced_of core) (rows_lent core) box point → IsTried core.program (held_of core) point → IsFound core box bound found
+found_falling core held box bound point found p m t s tried = record {
+  long = subst (λ o. IfSome o (λ v. length v ≡ length box)) (sym p) (point_long core box point s.is_point);
+  good = subst (IsAsGood core box bound) (sym m) (t.falling point bound s);
+  tried = subst (λ o. HasTried core box o found.mark) (sym p) (s.is_point, tried);
+}
+
+-- ---- what was found in the region in work, seen after its point was offered
+
+abbrev pub offered_core : CoreState → Nodes → Holding → CoreState
+offered_core core tree holding = record core { tree = tree; incumbent = holding }
+
+module _ (core : CoreState) (tree : Nodes) (holding : Holding) (node now : TakenNode) (w : IsAtWork core node) (sound : IsSound core) (kept : IsSoundPool core.pool) (formed : IsWellFormed (reduced_of core)) (same : region_of tree now ≡ region_of core.tree node) where
+  own_box : core.tree.work.box ≡ box_of tree now
+  own_box = ap (λ (r : Region). r.box) (w.region ∙ sym same)
+
+  own_tells : NodeProgramsTell (reduced_of core) (held_of core) (rows_lent core) (box_of tree now)
+  own_tells = subst (NodeProgramsTell (reduced_of core) (held_of core) (rows_lent core)) own_box (tells core w sound kept formed)
+
+  pub least_found : (point : List ℚ) (b : ℚ) (found : Found) → point_of found ≡ Some point → found.mark ≡ None → ShowsLeast (reduced_of core) (rows_lent core) core.tree.work.box point b → NoMore (Some b) now.bound → IsTried core.program (cost_held holding) point → IsFound (offered_core core tree holding) (box_of tree now) now.bound found
+  least_found point b found p m s l tried =
+      found_least (offered_core core tree holding) (held_of core) (box_of tree now) now.bound point b found p m own_tells
+      (subst (λ box. ShowsLeast (reduced_of core) (rows_lent core) box point b) own_box s) l tried
+
+  pub falling_found : (point : List ℚ) (found : Found) → point_of found ≡ Some point → found.mark ≡ None → ShowsFalling (reduced_of core) (rows_lent core) core.tree.work.box point → IsTried core.program (cost_held holding) point → IsFound (offered_core core tree holding) (box_of tree now) now.bound found
+  falling_found point found p m s tried =
+      found_falling (offered_core core tree holding) (held_of core) (box_of tree now) now.bound point found p m own_tells
+      (subst (λ box. ShowsFalling (reduced_of core) (rows_lent core) box point) own_box s) tried
+
+  pub unsolved_found : {X : Type 0} (f : X → List ℚ) (point : Option X) (mark : Mark) (found : Found) → point_of found ≡ option_map f point → found.mark ≡ Some mark → IsMarkOf core core.tree.work.box mark → IfSome point (λ v. IsPoint (node_program (reduced_of core) (rows_lent core) core.tree.work.box) (f v)) → IfSome point (λ v. IsTried core.program (cost_held holding) (f v)) → IsFound (offered_core core tree holding) (box_of tree now) now.bound found
+  unsolved_found f point mark found p m marked is_point tried =
+      let new = offered_core core tree holding in
+      let box = box_of tree now in
+      let points = subst (λ b. IfSome point (λ v. IsPoint (node_program (reduced_of core) (rows_lent core) b) (f v))) own_box is_point in
+      record {
+        long = subst (λ o. IfSome o (λ v. length v ≡ length box)) (sym p) (long_if f new box point points);
+        good = subst (IsAsGood new box now.bound) (sym m) (subst (λ b. IsMarkOf core b mark) own_box marked);
+        tried = subst (λ o. HasTried new box o found.mark) (sym p) (subst (HasTried new box (option_map f point)) (sym m) (tried_if f new box point mark points tried));
+      }

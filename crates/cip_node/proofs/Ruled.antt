@@ -13,7 +13,10 @@ use Rattle.cip_problem.specs.WellFormed.{IsWellFormed}
 use Rattle.cip_lin.specs.ChoiceParts.{is_allowed}
 use Rattle.cip_domain.specs.Changes.{Region}
 use Rattle.cip_domain.specs.Halves.{CanHalve}
-use Rattle.cip_tree.specs.Nodes.{TakenNode, Nodes, region_of}
+use Rattle.cip_problem.specs.Log.{Node}
+use Rattle.cip_search.proofs.Members.{here}
+use Rattle.cip_tree.specs.Nodes.{TakenNode, Nodes, region_in, region_of, node_changes, shown}
+use Rattle.cip_tree.proofs.Halving.{plain_stays}
 use Rattle.cip_tree.specs.Splitting.{IsSplitFault}
 use Rattle.cip_tree.specs.declared.splits.SplitFault.{SplitFault}
 use Rattle.cip_tree.specs.declared.splits.SplitFault.TheVariants.{NotWhole, Outside, NoMemory}
@@ -22,8 +25,10 @@ use Rattle.cip_node_rules.specs.OpenColumns.{is_whole_at, is_open_at, is_fractio
 use Rattle.cip_node_rules.specs.SplitRules.{IsSplitRule, IsChoiceRule, IsNodeRule, LeavesBoth}
 use Rattle.cip_node_rules.proofs.BothSides.{leave_both}
 use Rattle.cip_node.specs.Bounding.{IsSplitBy}
-use Rattle.cip_node.specs.KeptNodes.{farthest, IsNearBox}
-use Rattle.cip_node.specs.SplitPlaces.{IsWholePlace, IsChoicePlace, IsSplitPlace}
+use Rattle.cip_core.specs.KeptNodes.{farthest, IsNearBox}
+use Rattle.cip_core.specs.CoreStates.{CoreState, reduced_of, IsTakenUp}
+use Rattle.cip_core.specs.SplitPlaces.{IsWholePlace, IsChoicePlace, IsSplitPlace}
+use Rattle.cip_node.proofs.LeafSettled.{work_node_of}
 use Rattle.cip_node.proofs.MadeChoices.{whole_plain, still_continuous}
 
 open_whole : (integral : List Bool) (box : List Sides) (column : ℕ) → is_open_at integral box column ≡ true → is_whole_at integral column ≡ true
@@ -83,29 +88,14 @@ pub place_within : (integral : List Bool) (own : Region) (far column : ℕ) (at 
 place_within integral own far column at (inl p) = slice_get_within integral column true p.whole
 place_within integral own far column at (inr p) = slice_get_within integral column false p.continuous
 
--- ---- where a column can be split the tree finds no fault but want of memory
-
-halved : (sides : Sides) (far : ℕ) (at : ℤ) → far ≤ 2 ^ 101 → LeavesBoth sides far at → CanHalve sides at
-halved sides far at l b = record { near = omega (arith, b.near, l); low = b.low; high = b.high }
-
-open_splits : (choice : Choice) (whole : Option Bool) → is_open choice ≡ true → whole ≡ Some false → CanSplitAt choice whole
-open_splits Plain whole e f = absurd (true≢false (sym e))
-open_splits (Open own) whole e f = f
-open_splits Off whole e f = absurd (true≢false (sym e))
-open_splits On whole e f = absurd (true≢false (sym e))
-
-can_split : (integral : List Bool) (own : Region) (far column : ℕ) (at : ℤ) → IsSplitPlace integral own far column at → CanSplitAt (choice_at own.choices column) (slice_get integral column)
-can_split integral own far column at (inl p) = subst (λ c. CanSplitAt c (slice_get integral column)) (sym p.plain) p.whole
-can_split integral own far column at (inr p) = open_splits (choice_at own.choices column) (slice_get integral column) p.open_ p.continuous
-
-can_halve : (integral : List Bool) (own : Region) (far column : ℕ) (at : ℤ) → far ≤ 2 ^ 101 → slice_get integral column ≡ Some true → IsSplitPlace integral own far column at → CanHalve (sides_at own.box column) at
-can_halve integral own far column at l w (inl p) = halved (sides_at own.box column) far at l p.both
-can_halve integral own far column at l w (inr p) = absurd (true≢false (same_Some true false (sym w ∙ p.continuous)))
-
-pub no_fault : (tree : Nodes) (node : TakenNode) (far column : ℕ) (at : ℤ) (fault : SplitFault) → far ≤ 2 ^ 101 → IsSplitPlace tree.integral (region_of tree node) far column at → IsSplitFault tree node column at fault → fault ≡ NoMemory
-no_fault tree node far column at NotWhole l p h = absurd (h (can_split tree.integral (region_of tree node) far column at p))
-no_fault tree node far column at Outside l p h = absurd (h.2 (can_halve tree.integral (region_of tree node) far column at l h.1 p))
-no_fault tree node far column at NoMemory l p h = refl
+-- the region in work, which is a node's, can be split by the rules
+pub core_place : (core : CoreState) (node : TakenNode) (point : Option (List ℚ)) (column : ℕ) (at : ℤ) → IsWellFormed (reduced_of core) → IsTakenUp core node → core.tree.work ≡ region_of core.tree node → IsSplitBy (reduced_of core).integral core.tree.work point column at → IsSplitPlace (reduced_of core).integral (region_of core.tree node) (farthest core.tree.ids + 1) column at
+core_place core node point column at formed up e r =
+    rule_place (reduced_of core) core.tree.ids (region_of core.tree node) formed
+    (λ k h. plain_stays (region_in core.tree.root) (node_changes core.tree node) k (ap (λ (n : Node). choice_at n.choices k) up.nodes.kept.root ∙ h))
+    (work_node_of core node up).still_open
+    (up.nodes.kept.near (shown core.tree node) (here (shown core.tree node) core.tree.open_))
+    point column at (subst (λ (r : Region). IsSplitBy (reduced_of core).integral r point column at) e r)
 
 -- ---- a box that is open isn't settled
 

@@ -1,47 +1,59 @@
--- What the linear program of a node leaves of it.
-use Rattle.std.specs.Prelude.{◌≡◌, ⊤, ℕ, ℤ, Bool, List, length, Option, None, Some, IfSome, option_map}
+-- What the last linear program of a node leaves of it: that of its box over the rows of the program and those of the
+-- pool that may be used there.
+use Rattle.std.specs.Prelude.{◌≡◌, ℕ, ℤ, Bool, List, length, Option, None, Some, IfSome, option_map}
 use Rattle.cip_rational.specs.Rational.{ℚ}
-use Rattle.cip_problem.specs.Program.{Sides, Program}
+use Rattle.cip_problem.specs.Program.{Sides}
+use Rattle.cip_problem.specs.WellFormed.{columns}
 use Rattle.cip_linear.specs.LinearProgram.{IsPoint}
-use Rattle.cip_cuts.specs.Improving.{HasNoImproving, IsNoDearer}
-use Rattle.cip_cert.specs.Lent.{Lent}
-use Rattle.cip_model.specs.Verdicts.{verdict_of}
-use Rattle.cip_model.specs.declared.verdicts.Verdict.TheVariants.{Feasible}
+use Rattle.cip_cuts.specs.Improving.{HasNoImproving}
 use Rattle.cip_search.specs.Relaxation.{IsRelaxedBound}
 use Rattle.cip_domain.specs.Changes.{Region}
+use Rattle.cip_tree.specs.Nodes.{TakenNode, box_of}
 use Rattle.cip_node_rules.specs.SplitRules.{IsNodeRule}
 use Rattle.cip_node_bounds.specs.NodeRows.{usable_rows}
-use Rattle.cip_node_bounds.specs.Relaxing.{node_program, IsMark}
+use Rattle.cip_node_bounds.specs.Relaxing.{node_program, IsMark, IsRelaxed}
 use Rattle.cip_node_bounds.specs.declared.relaxed.Mark.{Mark}
+use Rattle.cip_node_bounds.specs.declared.relaxed.Relaxed.{Relaxed}
+use Rattle.cip_core.specs.CoreStates.{CoreState, reduced_of, held_of, rows_lent}
+use Rattle.cip_core.specs.Steps.{IsTried}
+use Rattle.cip_node.specs.declared.bounding.Found.{Found}
 use Rattle.cip_node.specs.declared.bounding.Bounded.{Bounded}
 use Rattle.cip_node.specs.declared.bounding.Bounded.TheVariants.{Empty, Open}
 
+-- what the linear program of the region in work came to
+abbrev pub IsRelaxedOf : CoreState → Relaxed → Type 0
+IsRelaxedOf core relaxed =
+    IsRelaxed (reduced_of core) (rows_lent core) core.tree.work.box (columns (reduced_of core)) relaxed
+
+-- a mark says what the linear program of a box met
+abbrev pub IsMarkOf : CoreState → List Sides → Mark → Type 0
+IsMarkOf core box mark = IsMark (reduced_of core) (rows_lent core) box (columns (reduced_of core)) mark
+
 -- without a mark the bound is as good as that of the linear program, which has a point; else the mark says what it met
-abbrev pub IsAsGood : Program → Lent → List Sides → ℕ → Option ℚ → Option Mark → Type 0
-IsAsGood program lent box columns bound None = IsRelaxedBound program (usable_rows box lent.pool) box bound
-IsAsGood program lent box columns bound (Some mark) = IsMark program lent box columns mark
+abbrev pub IsAsGood : CoreState → List Sides → Option ℚ → Option Mark → Type 0
+IsAsGood core box bound None = IsRelaxedBound (reduced_of core) (usable_rows box core.pool.rows) box bound
+IsAsGood core box bound (Some mark) = IsMarkOf core box mark
 
--- no improving point is in the box; or the node goes on with this bound
-abbrev pub IsBounded : Program → Option ℚ → Lent → List Sides → ℕ → Option ℚ → Bounded → Type 0
-IsBounded program held lent box columns bound Empty = HasNoImproving program held box
-IsBounded program held lent box columns bound (Open point mark) =
-    IfSome point (λ values. length values.items ≡ length box) × IsAsGood program lent box columns bound mark
+-- a point of the linear program of a box, which was offered; there is one, unless a mark says what was met
+abbrev pub HasTried : CoreState → List Sides → Option (List ℚ) → Option Mark → Type 0
+HasTried core box None mark = ¬ (mark ≡ None)
+HasTried core box (Some point) mark =
+    IsPoint (node_program (reduced_of core) (rows_lent core) box) point × IsTried core.program (held_of core) point
 
--- where the test of a point finds it feasible, what is held costs no more
-abbrev pub IsTried : Program → Option ℚ → List ℚ → Type 0
-IsTried program held point = (cost : ℚ) → verdict_of program point ≡ Feasible cost → IsNoDearer held (Some cost)
+-- the point that was found, if one was
+abbrev pub point_of : Found → Option (List ℚ)
+point_of found = option_map (λ values. values.items) found.point
 
--- a point of the linear program of a node, which was offered; there is one, unless a mark says what was met
-abbrev pub HasTried : Program → Option ℚ → Lent → List Sides → Option (List ℚ) → Option Mark → Type 0
-HasTried program held lent box None mark = ¬ (mark ≡ None)
-HasTried program held lent box (Some point) mark =
-    IsPoint (node_program program lent box) point × IsTried program held point
+-- what was found by the linear program of a box, beside this bound
+pub record IsFound (core : CoreState) (box : List Sides) (bound : Option ℚ) (found : Found) : Type 0 where
+  pub long : IfSome (point_of found) (λ values. length values ≡ length box)
+  pub good : IsAsGood core box bound found.mark
+  pub tried : HasTried core box (point_of found) found.mark
 
--- so it is where the node goes on
-abbrev pub GoesOnTried : Program → Option ℚ → Lent → List Sides → Bounded → Type 0
-GoesOnTried program held lent box Empty = ⊤
-GoesOnTried program held lent box (Open point mark) =
-    HasTried program held lent box (option_map (λ values. values.items) point) mark
+-- no improving point is in a node's box; or the node goes on with what was found
+abbrev pub IsBounded : CoreState → TakenNode → Bounded → Type 0
+IsBounded core node Empty = HasNoImproving (reduced_of core) (held_of core) (box_of core.tree node)
+IsBounded core node (Open found) = IsFound core (box_of core.tree node) node.bound found
 
 -- the split of a region by the point of its linear program; where that has none, by the values of another, if there is
 -- one

@@ -107,8 +107,12 @@ impl Starts {
         }
     }
 
-    /// The start of the node in work, if there is one.
+    /// Where the linear program of the node in work starts: where its last one ended, else the start that was handed on
+    /// to it, if there is one.
     pub(crate) fn given(&self) -> Option<&Start> {
+        if self.last.is_some() {
+            return self.last.as_ref();
+        }
         match self.splits.get(self.place()?) {
             Some(Some(shared)) => Some(&shared.start),
             _ => None,

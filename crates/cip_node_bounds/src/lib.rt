@@ -2,10 +2,13 @@
 #![tactic(auto)]
 
 mod asking;
+mod guessing;
 mod laws;
 mod names;
 mod relaxed;
 mod rows;
+mod solvers;
 
 pub use laws::node_programs_tell;
 pub use relaxed::{Mark, Relaxed, relax_from};
+pub use solvers::NodeSolver;

@@ -10,8 +10,10 @@ ghost use Rattle.cip_node_bounds.specs.Solving.{SaysRight};
 ghost use Rattle.cip_node_bounds.specs.Relaxing.{node_program, IsCostFault, IsOptimumFound, IsEmptinessFound, IsRelaxed};
 
 use crate::asking::asked;
+use crate::guessing::{shown_by_guess, start_at};
 use crate::names::name_combo;
 use crate::rows::UsableRows;
+use crate::solvers::NodeSolver;
 use cip_cert::{CutFault, FaultPlace, Rows, Scratch, empties, lower_bound};
 use cip_dictionary::Move;
 use cip_frac::Frac;
@@ -202,9 +204,10 @@ fn judged(
 }
 
 /// Solves the linear program of a node over the rows of the program and those of the pool that may be used in its
-/// box, from a start: that of a node above, as its last one, or the first state. It makes at most 2,000 moves and two
-/// for each of its columns and rows by a rule that makes few; where that has no answer, as many from the first state;
-/// and where that has none, at most 10,000 by Bland's rule. What that shows is checked. `Bound` comes with a point of
+/// box. A basis that is guessed, from that of the node before, answers where what it shows is checked. Else there is a
+/// start: that of a node above, as its last one, or the first state. It makes at most 2,000 moves and two for each of
+/// its columns and rows by a rule that makes few; where that has no answer, as many from the first state; and where
+/// that has none, at most 10,000 by Bland's rule. What that shows is checked. `Bound` comes with a point of
 /// least cost and that cost with the constant, where the check accepts its combination; `Empty` where there is no
 /// point, and the check accepts that; `Falls` where the cost falls without end from a point; and `Unsolved` with its
 /// mark in all other cases. Rows behind those that a start knows are basic, and of one that knows more the others are
@@ -217,7 +220,7 @@ pub fn relax_from(
     cutoff: &Option<Row>,
     bounds: &Bounds,
     start: Option<&Start>,
-    solver: &mut Solver,
+    solver: &mut NodeSolver,
     scratch: &mut Scratch,
 ) -> Result<(Relaxed, Start), AllocError>
     requires columns { length bounds.now ≡ columns program.now }
@@ -229,10 +232,18 @@ pub fn relax_from(
         (length scratch.old.row.entries) solved.0) }
     ensures room { length scratch.new.row.entries ≡ length scratch.old.row.entries }
 {
-    let _columns = program.columns();
+    let columns = program.columns();
     let usable = UsableRows::gather(alloc, pool, bounds)?;
+    let basis = &mut solver.basis;
+    let guessed = shown_by_guess(alloc, basis, program, pool, &usable, bounds, scratch)?;
+    if let Some(relaxed) = guessed {
+        let variables = columns + program.rows().len() + usable.rows.len();
+        let last = start_at(alloc, &solver.basis, variables)?;
+        return Ok((relaxed, last));
+    }
     let others = usable.rows.as_slice();
-    let (found, last) = solved(alloc, solver, program, pool, others, bounds, start)?;
+    let list = &mut solver.solver;
+    let (found, last) = solved(alloc, list, program, pool, others, bounds, start)?;
     let lent = Rows {
         own: program.rows(),
         pool: pool.rows(),

@@ -1,17 +1,14 @@
 -- What the blocks of a program keep.
 --     AreBlocks program blocks      the rows and columns of a program fall into these blocks
 use Rattle.std.specs.Prelude.{◌≡◌, ◌⊎◌, ◌↔◌, ℕ, ◌<◌, ◌≤◌, true, false, [], None, length, slice_index_or, is_some}
-use Rattle.cip_problem.specs.Program.{Row, Program}
+use Rattle.cip_problem.specs.Program.{Row, Program, no_row}
 use Rattle.cip_problem.specs.Box.{sides_at}
 use Rattle.cip_problem.specs.WellFormed.{columns}
 use Rattle.cip_parts.specs.BlockParts.{most_blocks, BlockPart, Blocks, has_number, stands_on}
 
--- what stands past the last block, and past the last row
+-- what stands past the last block
 abbrev pub no_part : BlockPart
 no_part = record { rows = []; columns = [] }
-
-abbrev pub no_row : Row
-no_row = record { terms = []; low = None; high = None }
 
 -- the block of a number
 abbrev pub part_at : Blocks → ℕ → BlockPart

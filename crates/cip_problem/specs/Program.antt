@@ -1,5 +1,5 @@
 -- Programs with linear rows (constraint integer programs; Achterberg 2007), over the rational numbers.
-use Rattle.std.specs.Prelude.{ℕ, Bool, List, Option}
+use Rattle.std.specs.Prelude.{ℕ, Bool, List, [], Option, None}
 use Rattle.cip_rational.specs.Rational.{ℚ}
 
 -- One product of a linear sum: a coefficient, and the number of the column that it stands on.
@@ -17,6 +17,10 @@ pub record Row : Type 0 where
   pub terms : List Term
   pub low : Option ℚ
   pub high : Option ℚ
+
+-- what stands past the last row: one without terms and sides
+abbrev pub no_row : Row
+no_row = record { terms = []; low = None; high = None }
 
 -- What is chosen of a column. A semi-continuous column has the value 0, or one between its own sides: while that is
 -- open, the choice holds these sides; then the column is off, at 0, or on, between them. A plain column has no choice.

@@ -33,7 +33,8 @@ pub gcd-mul : (k a b : ℕ) → 0 < k → gcd (k * a) (k * b) ≡ k * gcd a b
 gcd-mul k a b h =
     let whole : IsGcd (k * a) (k * b) (gcd (k * a) (k * b)) = gcd_lem (k * a) (k * b) in
     let part : IsGcd a b (gcd a b) = gcd_lem a b in
-    let e : k * (gcd (k * a) (k * b) / k) ≡ gcd (k * a) (k * b) = mul-div_cancel' k (whole.2 k (dvd-mul_right k a) (dvd-mul_right k b)) in
+    let e : k * (gcd (k * a) (k * b) / k) ≡ gcd (k * a) (k * b) =
+    mul-div_cancel' k (whole.2 k (dvd-mul_right k a) (dvd-mul_right k b)) in
     let left : gcd (k * a) (k * b) / k ∣ a = dvd_of_mul-dvd-mul_left _ h (subst (λ n. n ∣ k * a) (sym e) whole.0) in
     let right : gcd (k * a) (k * b) / k ∣ b = dvd_of_mul-dvd-mul_left _ h (subst (λ n. n ∣ k * b) (sym e) whole.1) in
     dvd_antisymm
@@ -45,4 +46,5 @@ pub quotients_same : (a b d e g h : ℕ) → 0 < g * e → g * e ≡ h * d → a
 quotients_same a b d e g h p r s i j =
     let x : g * (a / g) ≡ a = mul-div_cancel' g i in
     let y : h * (b / h) ≡ b = mul-div_cancel' h j in
-    eq_of_mul-eq-mul_left (g * e) p (a / g) (b / h) (omega (arith, ap (λ t. t * e) x, ap (λ t. t * d) y, ap (λ t. t * (b / h)) r))
+    eq_of_mul-eq-mul_left (g * e) p (a / g) (b / h)
+    (omega (arith, ap (λ t. t * e) x, ap (λ t. t * d) y, ap (λ t. t * (b / h)) r))

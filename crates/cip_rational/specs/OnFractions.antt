@@ -44,10 +44,16 @@ pub add_right : (z x y : Fraction) → Same x y → of (add z x) ≡ of (add z y
 add_right z x y r = same_equal _ _ (record { cross = omega (arith, ap (λ t. t * (z.den * z.den)) r.cross) })
 
 pub multiply_left : (x y z : Fraction) → Same x y → of (multiply x z) ≡ of (multiply y z)
-multiply_left x y z r = same_equal _ _ (record { cross = omega (arith, ap (λ t. t * (z.up * z.den)) r.cross, ap (λ t. t * (z.down * z.den)) r.cross) })
+multiply_left x y z r =
+    same_equal _ _ (record {
+      cross = omega (arith, ap (λ t. t * (z.up * z.den)) r.cross, ap (λ t. t * (z.down * z.den)) r.cross);
+    })
 
 pub multiply_right : (z x y : Fraction) → Same x y → of (multiply z x) ≡ of (multiply z y)
-multiply_right z x y r = same_equal _ _ (record { cross = omega (arith, ap (λ t. t * (z.up * z.den)) r.cross, ap (λ t. t * (z.down * z.den)) r.cross) })
+multiply_right z x y r =
+    same_equal _ _ (record {
+      cross = omega (arith, ap (λ t. t * (z.up * z.den)) r.cross, ap (λ t. t * (z.down * z.den)) r.cross);
+    })
 
 pub opposite_same : (x y : Fraction) → Same x y → of (opposite x) ≡ of (opposite y)
 opposite_same x y r = same_equal _ _ (record { cross = omega (arith, r.cross) })
@@ -65,14 +71,18 @@ same_test a b c d f g = go (leb a b) (leb c d) refl refl
 pub at_most_left : (x y z : Fraction) → Same x y → fraction_at_most x z ≡ fraction_at_most y z
 at_most_left x y z r =
     same_test _ _ _ _
-    (λ h. le_of_mul-le-mul_right {k = x.den} (omega (arith, mul-le-mul_right y.den h, ap (λ t. t * z.den) r.cross)) x.positive)
-    (λ h. le_of_mul-le-mul_right {k = y.den} (omega (arith, mul-le-mul_right x.den h, ap (λ t. t * z.den) r.cross)) y.positive)
+    (λ h. le_of_mul-le-mul_right {k = x.den}
+    (omega (arith, mul-le-mul_right y.den h, ap (λ t. t * z.den) r.cross)) x.positive)
+    (λ h. le_of_mul-le-mul_right {k = y.den}
+    (omega (arith, mul-le-mul_right x.den h, ap (λ t. t * z.den) r.cross)) y.positive)
 
 pub at_most_right : (z x y : Fraction) → Same x y → fraction_at_most z x ≡ fraction_at_most z y
 at_most_right z x y r =
     same_test _ _ _ _
-    (λ h. le_of_mul-le-mul_right {k = x.den} (omega (arith, mul-le-mul_right y.den h, ap (λ t. t * z.den) r.cross)) x.positive)
-    (λ h. le_of_mul-le-mul_right {k = y.den} (omega (arith, mul-le-mul_right x.den h, ap (λ t. t * z.den) r.cross)) y.positive)
+    (λ h. le_of_mul-le-mul_right {k = x.den}
+    (omega (arith, mul-le-mul_right y.den h, ap (λ t. t * z.den) r.cross)) x.positive)
+    (λ h. le_of_mul-le-mul_right {k = y.den}
+    (omega (arith, mul-le-mul_right x.den h, ap (λ t. t * z.den) r.cross)) y.positive)
 
 -- ---- lowest terms
 
@@ -131,8 +141,10 @@ module _ (x y : Fraction) (r : Same x y) where
 
   sizes : y.den * unsigned_abs (over x) ≡ x.den * unsigned_abs (over y)
   sizes =
-      let a : unsigned_abs (over x) ≡ up (over x) + down (over x) = omega (arith, abs_is (over x), parts_apart (over x)) in
-      let b : unsigned_abs (over y) ≡ up (over y) + down (over y) = omega (arith, abs_is (over y), parts_apart (over y)) in
+      let a : unsigned_abs (over x) ≡ up (over x) + down (over x) =
+      omega (arith, abs_is (over x), parts_apart (over x)) in
+      let b : unsigned_abs (over y) ≡ up (over y) + down (over y) =
+      omega (arith, abs_is (over y), parts_apart (over y)) in
       rw (a, b) (omega (arith, ups, downs))
 
   -- the common divisors are in the ratio of the denominators
@@ -142,11 +154,14 @@ module _ (x y : Fraction) (r : Same x y) where
       let b = gcd-mul x.den (unsigned_abs (over y)) y.den x.positive in
       let e : y.den * x.den ≡ x.den * y.den = omega arith in
       let s = sizes in
-      let t : y.den * common x ≡ x.den * common y = sym a ∙ ap (λ n. gcd n (y.den * x.den)) s ∙ ap (gcd (x.den * unsigned_abs (over y))) e ∙ b in
+      let t : y.den * common x ≡ x.den * common y =
+      sym a ∙ ap (λ n. gcd n (y.den * x.den)) s ∙ ap (gcd (x.den * unsigned_abs (over y))) e ∙ b in
       omega arith
 
   pub denominator_same : lowest_denominator x ≡ lowest_denominator y
-  denominator_same = quotients_same _ _ x.den y.den _ _ (mul-pos (common-pos x) y.positive) commons (omega arith) (common-divides x).2 (common-divides y).2
+  denominator_same =
+      quotients_same _ _ x.den y.den _ _ (mul-pos (common-pos x) y.positive) commons (omega arith)
+      (common-divides x).2 (common-divides y).2
 
   pub numerator_same : lowest_numerator x ≡ lowest_numerator y
   numerator_same =
@@ -156,7 +171,9 @@ module _ (x y : Fraction) (r : Same x y) where
       same_in _ _ (omega (arith, a, b, quot_is (over x) (common x), quot_is (over y) (common y)))
 
 -- a fraction's parts are those of its lowest terms, times what they have in common
-pub lowest-exact : (x : Fraction) → (common x * up (lowest_numerator x) ≡ up (over x)) × (common x * down (lowest_numerator x) ≡ down (over x)) × (common x * lowest_denominator x ≡ x.den)
+pub lowest-exact : (x : Fraction)
+    → (common x * up (lowest_numerator x) ≡ up (over x)) × (common x * down (lowest_numerator x) ≡ down (over x))
+    × (common x * lowest_denominator x ≡ x.den)
 lowest-exact x =
     let q = quot_is (over x) (common x) in
     let d = common-divides x in
@@ -169,8 +186,23 @@ lowest-pos x = elim (eq-zero-or-pos (lowest_denominator x)) [
 ]
 
 -- the lowest terms have the fraction's value
-pub lowest-same : (x : Fraction) → Same (record { up = up (lowest_numerator x); down = down (lowest_numerator x); den = lowest_denominator x; positive = lowest-pos x }) x
+pub lowest-same : (x : Fraction)
+    → Same (record {
+      up = up (lowest_numerator x);
+      down = down (lowest_numerator x);
+      den = lowest_denominator x;
+      positive = lowest-pos x;
+    }) x
 lowest-same x =
     let e = lowest-exact x in
     let p : x.up + down (over x) ≡ x.down + up (over x) = omega (arith, over_is x) in
-    record { cross = omega (arith, ap (λ t. lowest_denominator x * t) p, ap (λ t. t * lowest_denominator x) e.0, ap (λ t. t * lowest_denominator x) e.1, ap (λ t. up (lowest_numerator x) * t) e.2, ap (λ t. down (lowest_numerator x) * t) e.2) }
+    record {
+      cross = omega (
+        arith,
+        ap (λ t. lowest_denominator x * t) p,
+        ap (λ t. t * lowest_denominator x) e.0,
+        ap (λ t. t * lowest_denominator x) e.1,
+        ap (λ t. up (lowest_numerator x) * t) e.2,
+        ap (λ t. down (lowest_numerator x) * t) e.2,
+      );
+    }

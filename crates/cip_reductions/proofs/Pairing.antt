@@ -11,14 +11,14 @@ use Rattle.cip_problem.specs.Points.{IsFeasible, cost_of}
 use Rattle.cip_problem.specs.Wholes.{assignments, AtMost}
 use Rattle.cip_problem.proofs.Box.SideTests.{sides_inside_holds}
 use Rattle.cip_cuts.specs.Reduced.{IsRelaxed, HasNoDearer}
-use Rattle.cip_reductions.specs.NarrowedPrograms.{IsNarrowed, IsStep, IsExactStep, IsInfeasible}
+use Rattle.cip_reductions.specs.NarrowedPrograms.{IsTightened, IsStep, IsExactStep, IsInfeasible}
 use Rattle.cip_reductions.specs.Forms.{Form}
 use Rattle.cip_reductions.specs.Pairs.{HasSource, IsKept, HasForm, IsWholeIn, own_sides, semi_values, IsPair, IsBack, IsExactPair}
 use Rattle.cip_reductions.proofs.Inside.{inside_chain, all_self, all_chain, all_long, all_at, all_hold, at_most_chain, fewer_assignments}
 
 -- ---- steps
 
-pub step_self : (program : Program) → IsNarrowed program program
+pub step_self : (program : Program) → IsTightened program program
 step_self program = record {
   integral = refl;
   choices = refl;
@@ -28,13 +28,13 @@ step_self program = record {
 }
 
 -- a point that keeps the bounds and rows of a narrowed program keeps the program's
-pub narrowed_relaxed : (program narrowed : Program) (point : List ℚ) → IsNarrowed program narrowed → IsRelaxed narrowed point → IsRelaxed program point
+pub narrowed_relaxed : (program narrowed : Program) (point : List ℚ) → IsTightened program narrowed → IsRelaxed narrowed point → IsRelaxed program point
 narrowed_relaxed program narrowed point n h = record {
   within = all_hold narrowed.bounds program.bounds point n.inside h.within;
   rows = n.rows point h;
 }
 
-pub narrowed_after : (first second third : Program) → IsNarrowed first second → IsNarrowed second third → IsNarrowed first third
+pub narrowed_after : (first second third : Program) → IsTightened first second → IsTightened second third → IsTightened first third
 narrowed_after first second third a b = record {
   integral = b.integral ∙ a.integral;
   choices = b.choices ∙ a.choices;
@@ -92,7 +92,7 @@ self_form program narrowed column e h = record {
   value = λ point k. sym (zero-+ℚ _ ∙ one-*ℚ _);
 }
 
-narrowed_value : (program narrowed : Program) (point : List ℚ) (column : ℕ) → IsNarrowed program narrowed → IsWholeIn (sides_at narrowed.bounds column) (value_at point column) → IsWholeIn (sides_at program.bounds column) (value_at point column)
+narrowed_value : (program narrowed : Program) (point : List ℚ) (column : ℕ) → IsTightened program narrowed → IsWholeIn (sides_at narrowed.bounds column) (value_at point column) → IsWholeIn (sides_at program.bounds column) (value_at point column)
 narrowed_value program narrowed point column n h = record {
   whole = h.whole;
   in_range = h.in_range;

@@ -9,7 +9,7 @@ use Rattle.cip_problem.specs.Box.{Between, sides_at, sides_inside}
 use Rattle.cip_problem.specs.Points.{IsSatisfied, IsFeasible, cost_of}
 use Rattle.cip_problem.proofs.Choices.Meeting.{set_in_box}
 use Rattle.cip_cuts.specs.Reduced.{IsRelaxed, HasNoDearer}
-use Rattle.cip_reductions.specs.NarrowedPrograms.{AllSatisfied, IsNarrowed, IsStep, IsExactStep, with_row, with_sides, with_cost}
+use Rattle.cip_reductions.specs.NarrowedPrograms.{AllSatisfied, IsTightened, IsStep, IsExactStep, with_row, with_sides, with_cost}
 use Rattle.cip_reductions.proofs.Inside.{all_self, set_inside}
 
 -- where the new row's program is satisfied and the old row is, all old rows are
@@ -41,7 +41,7 @@ row_replaced program number old new e back onward = record {
   };
 }
 
-pub sides_narrowed : (program : Program) (column : ℕ) (sides : Sides) → sides_inside sides (sides_at program.bounds column) ≡ true → IsNarrowed program (with_sides program column sides)
+pub sides_narrowed : (program : Program) (column : ℕ) (sides : Sides) → sides_inside sides (sides_at program.bounds column) ≡ true → IsTightened program (with_sides program column sides)
 sides_narrowed program column sides i = record {
   integral = refl;
   choices = refl;

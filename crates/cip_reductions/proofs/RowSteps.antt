@@ -9,7 +9,7 @@ use Rattle.cip_rational.proofs.Rational.Ring.{*ℚ-zero, *ℚ_comm, *ℚ_assoc, 
 use Rattle.cip_rational.proofs.Rational.Monotone.{*ℚ_mono, negate_mono}
 use Rattle.cip_rational.proofs.Rational.Inverse.{*ℚ-inverse, inverse-negate, le_divide, divide_le, *ℚ_antitone}
 use Rattle.cip_rational.proofs.Linear.{linear_le, linear_lt, linear_same}
-use Rattle.cip_problem.specs.Program.{Term, Sides, Row, Program}
+use Rattle.cip_problem.specs.Program.{Term, Sides, Row, Program, no_row}
 use Rattle.cip_problem.specs.Activity.{value_at, activity}
 use Rattle.cip_problem.specs.Box.{Between, IsInBox, sides_at, sides_inside}
 use Rattle.cip_problem.specs.Points.{IsSatisfied, IsFeasible, cost_of}
@@ -18,7 +18,6 @@ use Rattle.cip_problem.proofs.Choices.Meeting.{between_both, between_met}
 use Rattle.cip_linear.specs.Aggregate.{quotient_of}
 use Rattle.cip_linear.proofs.Bounds.{divide_negative}
 use Rattle.cip_cuts.specs.Cuts.{IsCrossed}
-use Rattle.cip_parts.specs.BlockMeaning.{no_row}
 use Rattle.cip_reductions.specs.NarrowedPrograms.{IsExactStep, IsInfeasible, with_row, with_sides, with_cost}
 use Rattle.cip_reductions.specs.RowSteps.{HoldsInAll, HoldsNowhere, divided_sides, side_less, IsShifted, merged_row}
 use Rattle.cip_reductions.proofs.Pairing.{exact_after}

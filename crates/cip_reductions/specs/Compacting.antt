@@ -20,7 +20,7 @@ Stays forms column = slice_get forms column ≡ Some None
 
 -- a whole column that is gone has a whole form of a whole column; where that has a value in range and within bounds, so
 -- has the form; and some whole number lies within the column's bounds
-pub record IsWholeForm
+pub record HasWholeForm
     (program reduced : Program) (forms : List (Option Form)) (column : ℕ) (form : Form) : Type 0 where
   pub constant : IsWhole form.constant
   pub factor : IsWhole form.factor
@@ -39,7 +39,7 @@ pub record IsGone (program reduced : Program) (forms : List (Option Form)) (colu
       → Between (sides_at program.bounds column).low (sides_at program.bounds column).high
       (form_value form (placed forms point))
   pub forced : (point : List ℚ) → IsRelaxed program point → value_at point column ≡ form_value form point
-  pub whole : slice_get program.integral column ≡ Some true → IsWholeForm program reduced forms column form
+  pub whole : slice_get program.integral column ≡ Some true → HasWholeForm program reduced forms column form
 
 -- a program is compacted: the columns that have a form are gone, those that stay are numbered anew, and rows hold at a
 -- point of the reduced program exactly where they hold at the point that it comes back as

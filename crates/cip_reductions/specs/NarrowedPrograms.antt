@@ -13,7 +13,7 @@ AllSatisfied rows point = AllByRecursion (λ row. IsSatisfied row point) rows
 
 -- a program is narrowed: it has the same columns, with bounds at least as strong, and a point that keeps its bounds and
 -- rows keeps the other's rows, at equal cost
-pub record IsNarrowed (program tightened : Program) : Type 0 where
+pub record IsTightened (program tightened : Program) : Type 0 where
   pub integral : tightened.integral ≡ program.integral
   pub choices : tightened.choices ≡ program.choices
   pub inside : AllZip (λ own outer. sides_inside own outer ≡ true) tightened.bounds program.bounds
@@ -22,12 +22,12 @@ pub record IsNarrowed (program tightened : Program) : Type 0 where
 
 -- a step: for each feasible point of the program the narrowed one has a feasible point that costs no more
 pub record IsStep (program tightened : Program) : Type 0 where
-  pub narrowed : IsNarrowed program tightened
+  pub narrowed : IsTightened program tightened
   pub none_lost : (point : List ℚ) → IsFeasible program point → HasNoDearer tightened (cost_of program point)
 
 -- an exact step: each feasible point of the program stays one
 pub record IsExactStep (program tightened : Program) : Type 0 where
-  pub narrowed : IsNarrowed program tightened
+  pub narrowed : IsTightened program tightened
   pub keeps : (point : List ℚ) → IsFeasible program point → IsFeasible tightened point
 
 -- no point is feasible

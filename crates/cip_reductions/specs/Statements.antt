@@ -1,7 +1,7 @@
 -- The main laws, each as one statement: the functions of `src/lib.rt` have them as contracts.
 use Rattle.std.specs.Prelude.{◌≡◌, ◌≢◌, ℕ, ◌<◌, Bool, true, List, length, Option, Some, slice_get}
 use Rattle.cip_rational.specs.Rational.{ℚ, ◌+ℚ◌, ◌*ℚ◌, zeroℚ, IsWhole}
-use Rattle.cip_problem.specs.Program.{Sides, Row, Program}
+use Rattle.cip_problem.specs.Program.{Sides, Row, Program, no_row}
 use Rattle.cip_problem.specs.WellFormed.{IsWellFormed}
 use Rattle.cip_problem.specs.Activity.{value_at}
 use Rattle.cip_problem.specs.Box.{Between, sides_at, sides_inside}
@@ -9,7 +9,6 @@ use Rattle.cip_problem.specs.Points.{IsSatisfied, IsFeasible}
 use Rattle.cip_cuts.specs.Cuts.{IsCrossed}
 use Rattle.cip_cuts.specs.Reduced.{IsRelaxed, IsReduction}
 use Rattle.cip_search.specs.SearchState.{IsWayBack}
-use Rattle.cip_parts.specs.BlockMeaning.{no_row}
 use Rattle.cip_reductions.specs.NarrowedPrograms.{AllSatisfied, IsStep, IsExactStep, IsInfeasible, with_row, with_sides, with_cost}
 use Rattle.cip_reductions.specs.Forms.{Form, form_value, spread, gathered, kept_at, kept_from}
 use Rattle.cip_reductions.specs.Pairs.{IsWholeIn, IsPair, IsExactPair}

@@ -16,7 +16,7 @@ use Rattle.cip_cuts.proofs.Improving.{fewer}
 use Rattle.cip_leaves.specs.Searched.{first_node, nodes_given, NoMore}
 use Rattle.cip_search.specs.SearchState.{State, WayBack, IsWayBack, unended, all_nodes, IsGiven, IsAttained, IsSearch, IsAsGiven}
 use Rattle.cip_search.proofs.Members.{none_in, here, later, here_or_later, only_one, kept_was_there, is_kept, hits, same_hits, fewer_hits}
-use Rattle.cip_search.proofs.Bounds.{no_more_itself, there_inside, there_later, at_point, matters_at, matters_before}
+use Rattle.cip_search.proofs.Bounds.{HoldsThere, no_more_itself, there_inside, there_later, at_point, matters_at, matters_before}
 use Rattle.cip_search.proofs.Relaxed.{no_more_trans}
 use Rattle.cip_search.proofs.OneMore.{node_of_among}
 
@@ -129,6 +129,16 @@ module _ (program reduced : Program) (way : WayBack) (Wide : Program → List �
       changed state node (record node { bound = Some b }) work w refl
       (covers.changed reduced state.held node (record node { bound = Some b }) (λ point i k. k) (λ k. h))
       (λ g. record { given = g.given; found = g.found; holds = g.holds; keeps = g.keeps; choices = g.choices; bound = no_more_trans g.given.bound node.bound (Some b) g.bound l }) s
+
+  -- the bound that the log gave holds in the node's box, too
+  pub lowered : (state : State) (node : Node) (work : List Node) (bound : Option ℚ) → state.work ≡ node ∷ work → ((given : Node) → node_of (nodes_given reduced start state.log) node.number ≡ Some given → bound ≡ given.bound) → IsSearch program reduced way Wide start state → IsSearch program reduced way Wide start (record state { work = record node { bound = bound } ∷ work })
+  lowered state node work bound w f s =
+      let g = s.given node (subst (λ t. Contains ((t ++ state.open_) ++ state.parked) node) (sym w) (here node ((work ++ state.open_) ++ state.parked))) in
+      let same : bound ≡ g.given.bound = f g.given g.found in
+      let there : HoldsThere reduced state.held bound node.box = subst (λ b. HoldsThere reduced state.held b node.box) (sym same) (there_inside reduced state.held g.given.bound g.given.box node.box (λ point i c. g.holds point c) (s.bounds node.number g.given g.found)) in
+      changed state node (record node { bound = bound }) work w refl
+      (covers.changed reduced state.held node (record node { bound = bound }) (λ point i k. k) (λ k. there))
+      (λ h. record { given = h.given; found = h.found; holds = h.holds; keeps = h.keeps; choices = h.choices; bound = subst (NoMore h.given.bound) (sym (f h.given h.found)) (no_more_itself h.given.bound) }) s
 
   pub tightened : (state : State) (node : Node) (work : List Node) (box : List Sides) → state.work ≡ node ∷ work → ((point : List ℚ) → IsInBox box point → IsInBox node.box point) → HoldsInBox reduced state.held node.box (IsInBox box) → IsSearch program reduced way Wide start state → IsSearch program reduced way Wide start (record state { work = record node { box = box } ∷ work })
   tightened state node work box w f h s =

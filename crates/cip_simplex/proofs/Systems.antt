@@ -5,14 +5,14 @@ use Rattle.std.proofs.lemmas.List.{get_or_past}
 use Rattle.std.proofs.lemmas.List.Elements.{All-append, All-map, All-nil}
 use Rattle.cip_rational.specs.Rational.{ℚ, ◌+ℚ◌, zeroℚ}
 use Rattle.cip_rational.proofs.Rational.Ring.{+ℚ-zero, zero-+ℚ}
-use Rattle.cip_problem.specs.Program.{Term, Row}
+use Rattle.cip_problem.specs.Program.{Term, Row, no_row}
 use Rattle.cip_problem.specs.Activity.{value_at, StandsBelow}
 use Rattle.cip_problem.specs.RowTerms.{column_at, AreTerms}
 use Rattle.cip_linear.specs.LinearProgram.{LinearProgram, IsProper}
 use Rattle.cip_linear.specs.Aggregate.{coefficient_on}
 use Rattle.cip_linear.specs.Multipliers.{row_sides}
 use Rattle.cip_dictionary.specs.Tables.{each}
-use Rattle.cip_dictionary.specs.ProgramState.{no_row, terms_at, system_of}
+use Rattle.cip_dictionary.specs.ProgramState.{terms_at, system_of}
 use Rattle.cip_dict.specs.Entries.{Entry, entry_from, AreWithin, system_in}
 use Rattle.cip_simplex.specs.LpEntries.{entry_of, row_entries, entries_in}
 

@@ -2,7 +2,7 @@
 ghost use Rattle.std.specs.Prelude.{◌≡◌, ◌<◌, ◌↔◌, IsTrue, All, length, slice_index_or};
 ghost use Rattle.cip_problem.specs.Activity.{StandsBelow};
 ghost use Rattle.cip_linear.specs.LinearProgram.{LinearProgram};
-ghost use Rattle.cip_dictionary.specs.ProgramState.{no_row};
+ghost use Rattle.cip_problem.specs.Program.{no_row};
 ghost use Rattle.cip_simplex.specs.LpShape as shape;
 
 use cip_frac::Frac;

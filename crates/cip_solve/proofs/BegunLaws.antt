@@ -3,6 +3,7 @@ use Rattle.std.proofs.Common.{◌≡◌, inr, ℕ, List, [], ◌∷◌, Option, 
 use Rattle.cip_rational.specs.Rational.{ℚ}
 use Rattle.cip_problem.specs.Program.{Program}
 use Rattle.cip_problem.specs.Points.{IsLowerBound}
+use Rattle.cip_problem.specs.WellFormed.{columns}
 use Rattle.cip_problem.specs.Log.{Entry, Node, node_of}
 use Rattle.cip_cuts.specs.Improving.{IsBoundIn}
 use Rattle.cip_cuts.proofs.Reductions.{reduction_itself}
@@ -20,10 +21,10 @@ use Rattle.cip_search.specs.SearchEnds as ends
 use Rattle.cip_search.specs.SearchAnswers.{IsSearchAnswer}
 use Rattle.cip_search.proofs.Logs.{true_entries}
 use Rattle.cip_search.proofs.WorkLogs.{none_relaxed, none_marked}
-use Rattle.cip_tree.specs.Moves.{IsNew}
 use Rattle.cip_tree.specs.Nodes.{Nodes}
-use Rattle.cip_node.specs.Entering.{own_region}
-use Rattle.cip_node.specs.KeptNodes.{cost_held, IsKept, IsHolding}
+use Rattle.cip_core.specs.Beginning.{HasNotBegun}
+use Rattle.cip_core.specs.CoreStates.{CoreState}
+use Rattle.cip_core.specs.KeptNodes.{cost_held, IsKept, IsHolding}
 use Rattle.cip_solve.specs.Solved.{AreMet}
 use Rattle.cip_solve.specs.Searching.{IsStill, IsTold}
 use Rattle.cip_solve.specs.Stopping.{WasLeast}
@@ -35,27 +36,34 @@ bound_lower : (program : Program) (bound : Option ℚ) → IfSome bound (IsBound
 bound_lower program None h = tt
 bound_lower program (Some b) h = λ point f. h point (record { feasible = f; cheaper = tt }) f.within
 
-root_holds : (program : Program) (tree : Nodes) → tree.log ≡ [] → IsKept program tree None [] → IfSome tree.root.bound (IsBoundIn program None program.bounds)
+root_holds : (program : Program) (tree : Nodes) → tree.log ≡ [] → IsKept program program stay tree None [] → IfSome tree.root.bound (IsBoundIn program None program.bounds)
 root_holds program tree e k =
     let first = first_node program tree.root.bound in
     let P : List Entry → Type 0 = λ l. node_of (nodes_given program tree.root.bound l) 0 ≡ Some first in
     k.searched.bounds 0 first (subst P (sym e) refl)
 
-pub start_lower : (program : Program) (tree : Nodes) (holding : Holding) (columns : ℕ) → holding ≡ nothing_held columns → tree.log ≡ [] → IsKept program tree (cost_held holding) [] → IfSome tree.root.bound (IsLowerBound program)
+pub start_lower : (program : Program) (tree : Nodes) (holding : Holding) (columns : ℕ) → holding ≡ nothing_held columns → tree.log ≡ [] → IsKept program program stay tree (cost_held holding) [] → IfSome tree.root.bound (IsLowerBound program)
 start_lower program tree holding columns h e k =
-    bound_lower program tree.root.bound (root_holds program tree e (subst (λ t. IsKept program tree (cost_held t) []) h k))
+    bound_lower program tree.root.bound (root_holds program tree e (subst (λ t. IsKept program program stay tree (cost_held t) []) h k))
 
 -- ---- the search
 
-pub still_begun : (program : Program) (tree : Nodes) (holding : Holding) → IsNew tree (own_region program) program.integral tree.root.bound → IsKept program tree (cost_held holding) [] → IsHolding program holding → IsStill program tree.root.bound tree holding None
-still_begun program tree holding new k h = record {
-  kept = k;
+pub still_begun : (program : Program) (core : CoreState) → HasNotBegun program core → IsHolding core.program core.incumbent → IsStill core.program core.tree.root.bound core.tree core.incumbent None
+still_begun program core b h = record {
+  kept = b.kept.kept;
+  matter = b.kept.matter;
+  boxes = b.kept.boxes b.untouched;
   start_is = refl;
   is_held = h;
-  is_worst = new.parked;
-  counted = omega (arith, new.ids);
-  begun = λ e f. absurd (let g : tree.root ∷ [] ≡ [] = sym new.open_ ∙ f in cc);
+  is_worst = b.new.parked;
+  counted = omega (arith, b.new.ids);
+  begun = λ e f. absurd (let g : core.tree.root ∷ [] ≡ [] = sym b.new.open_ ∙ f in cc);
 }
+
+-- the root's bound holds
+pub lower_begun : (program : Program) (core : CoreState) → HasNotBegun program core → IfSome core.tree.root.bound (IsLowerBound core.program)
+lower_begun program core b =
+    start_lower core.program core.tree core.incumbent (columns program) b.nothing b.new.log b.kept.kept
 
 pub none_met : (program : Program) (start : Option ℚ) (log : List Entry) → AreMet program start log []
 none_met program start log marked c = absurd (none_in marked c)

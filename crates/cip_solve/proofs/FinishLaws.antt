@@ -20,7 +20,7 @@ use Rattle.cip_search.proofs.StartBounds.{answer_above}
 use Rattle.cip_tree.specs.Moves as tree
 use Rattle.cip_tree.specs.Nodes.{Nodes}
 use Rattle.cip_node_bounds.specs.declared.relaxed.Mark.{Mark}
-use Rattle.cip_node.specs.KeptNodes.{cost_held, state_of, IsHolding}
+use Rattle.cip_core.specs.KeptNodes.{cost_held, state_of, IsHolding}
 use Rattle.cip_report.specs.declared.figures.Ended.{Ended}
 use Rattle.cip_report.specs.declared.figures.Ended.TheVariants.{Optimal, Infeasible, Unbounded, NodeLimit, Gap, Wide, NoMemory}
 use Rattle.cip_report.specs.declared.figures.Held.{Held}

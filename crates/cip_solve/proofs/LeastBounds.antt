@@ -16,15 +16,15 @@ abbrev pub IsLeastAmong : (Option ℚ → Type 0) → Option (Option ℚ) → Ty
 IsLeastAmong Among None = (other : Option ℚ) → ¬ Among other
 IsLeastAmong Among (Some bound) = Among bound × ((other : Option ℚ) → Among other → NoMore bound other)
 
-lesser_by : (P Q : Option ℚ → Type 0) (bound other : Option ℚ) (test : Bool) → is_no_more bound other ≡ test → IsLeastAmong P (Some bound) → IsLeastAmong Q (Some other) → IsLeastAmong (λ o. P o ⊎ Q o) (Some (if test then bound else other))
-lesser_by P Q bound other true e p q = (
+less_by : (P Q : Option ℚ → Type 0) (bound other : Option ℚ) (test : Bool) → is_no_more bound other ≡ test → IsLeastAmong P (Some bound) → IsLeastAmong Q (Some other) → IsLeastAmong (λ o. P o ⊎ Q o) (Some (if test then bound else other))
+less_by P Q bound other true e p q = (
   inl p.0,
   λ o c. elim c [
     | inl a ↦ p.1 o a
     | inr b ↦ no_more_trans bound other o (no_more_tells bound other e) (q.1 o b)
   ],
 )
-lesser_by P Q bound other false e p q = (
+less_by P Q bound other false e p q = (
   inr q.0,
   λ o c. elim c [
     | inl a ↦ no_more_trans other bound o (more_below bound other e) (p.1 o a)
@@ -51,7 +51,7 @@ least_both P Q (Some bound) None p q = (
     | inr b ↦ absurd (q o b)
   ],
 )
-least_both P Q (Some bound) (Some other) p q = lesser_by P Q bound other (is_no_more bound other) refl p q
+least_both P Q (Some bound) (Some other) p q = less_by P Q bound other (is_no_more bound other) refl p q
 
 -- the cost held
 pub least_held : (held : Option ℚ) → IsLeastAmong (IsCostHeld held) (bound_held held)

@@ -1,12 +1,9 @@
 -- A search from one node to the next.
 use Rattle.std.proofs.Common.{◌≡◌, ◌≢◌, ℕ, ◌+◌, ◌-◌, ◌≤◌, drop, IfSome, Bool, true, false, not, is_some, IsSome, true≢false, List, [], ◌∷◌, ◌++◌, length, Option, None, Some, MatchOption, refl, sym, ap, ◌∙◌, subst, arith}
-use Rattle.std.proofs.Math.Seq.{drop-nil}
 use Rattle.cip_rational.specs.Rational.{ℚ}
 use Rattle.cip_rational.proofs.Rational.Order.{≤ℚ_refl}
 use Rattle.cip_problem.specs.Program.{Program}
-use Rattle.cip_problem.specs.WellFormed.{columns}
 use Rattle.cip_problem.specs.Log.{End, Split, Closed, Parked, Entry, Node}
-use Rattle.cip_cert.specs.Lent.{Lent}
 use Rattle.cip_cuts.specs.Improving.{IsNoDearer}
 use Rattle.cip_leaf.specs.LeafAnswers.{shown_as}
 use Rattle.cip_leaves.specs.WideLeaf.{IsWideLeaf}
@@ -18,19 +15,18 @@ use Rattle.cip_search.proofs.Logs as logs
 use Rattle.cip_search.proofs.Logs.{true_entries}
 use Rattle.cip_tree.specs.Moves as tree
 use Rattle.cip_tree.specs.Nodes.{Base, Nodes, TakenNode, box_of, shown}
-use Rattle.cip_rows.specs.RowPools.{Pool, kept_pool_rows}
-use Rattle.cip_node_bounds.specs.Relaxing.{IsMark}
 use Rattle.cip_node_bounds.specs.declared.relaxed.Mark.{Mark}
-use Rattle.cip_node.specs.Cores.{aged, StaysRooted}
-use Rattle.cip_node.specs.KeptNodes.{cost_held, state_of, IsKept, IsHolding}
-use Rattle.cip_node.specs.NodeEnds.{LeavesEntry, IsEndless as EndsEndless, IsEnd, IsOpenAgain}
-use Rattle.cip_node.specs.declared.cores.Core.{Core}
+use Rattle.cip_core.specs.CoreStates.{CoreState, held_of, IsKeptIn, IsTakenUp}
+use Rattle.cip_core.specs.KeptNodes.{cost_held, state_of, IsHolding}
+use Rattle.cip_core.specs.Later.{IsLater}
+use Rattle.cip_core.specs.Steps.{LeavesEntry, IsBack}
+use Rattle.cip_tree.specs.Moves.{TakesFirst}
+use Rattle.cip_node.specs.NodeEnds.{IsEndless as EndsEndless, IsEnd, HasEnded}
 use Rattle.cip_node.specs.declared.ends.NodeEnd.{NodeEnd}
 use Rattle.cip_node.specs.declared.ends.NodeEnd.TheVariants as by
 use Rattle.cip_endings.specs.LeastBounds.{least_of, bound_held, flat}
 use Rattle.cip_endings.specs.Gaps.{reaches_gap}
 use Rattle.cip_solve.specs.Logs.{marks_by}
-use Rattle.cip_solve.specs.Solved.{own_rows}
 use Rattle.cip_solve.specs.Searching.{IsStill, IsTold, HasReachedGap, StopsEndless, StopsRefused, StopsAs, IsKeptAs}
 use Rattle.cip_solve.specs.Stopping.{WasLeast}
 use Rattle.cip_endings.specs.Worst.{IsWorst, worst_bound}
@@ -109,6 +105,11 @@ pub some_there : (waiting : Option (Option ℚ)) (none : Bool) → is_some waiti
 some_there None none e f n = absurd (true≢false (sym (e ∙ ap not f)))
 some_there (Some bound) none e f n = cc
 
+-- none waits
+pub none_there : (waiting : Option (Option ℚ)) (none : Bool) (Empty : Type 0) (Least : Option ℚ → Type 0) → is_some waiting ≡ not none → none ≡ true → MatchOption waiting Empty Least → Empty
+none_there None none Empty Least e f m = m
+none_there (Some bound) none Empty Least e f m = absurd (true≢false (e ∙ ap not f))
+
 no_dearer_itself : (held : Option ℚ) → IsNoDearer held held
 no_dearer_itself None = tt
 no_dearer_itself (Some cost) = ≤ℚ_refl cost
@@ -123,154 +124,108 @@ refused_before program old holding worst waiting bound k m n e = record {
 
 -- ---- a node was taken up, and ended
 
--- the tree before and after the work on a node, and the point held then
-pub record IsWorked
-    (program : Program) (lent : Lent) (room : ℕ) (mid new : Nodes) (before after : Holding) (node : TakenNode)
-    (mark : Option Mark) (end : NodeEnd) : Type 0 where
-  pub kept : IsKept program mid (cost_held before) (shown mid node ∷ [])
-  pub rooted : StaysRooted mid new
-  pub ended : IsEnd program (cost_held after) lent room mid new node mark end
-
--- the tree after a node was taken up
-abbrev pub taken_up : Nodes → List Node → List (Option Base) → Nodes
-taken_up old open_ taken = record old { open_ = open_; taken = taken }
-
 pub not_empty : (log : List Entry) (entry : Entry) → log ++ entry ∷ [] ≢ []
 not_empty [] entry e = absurd (cc)
 not_empty (x ∷ log) entry e = absurd (cc)
 
-module _ (program : Program) (old : Nodes) (open_ : List Node) (taken : List (Option Base)) (new : Nodes) (before after : Holding) (worst : Option Worst) (node : TakenNode) (k : IsStill program old.root.bound old before worst) (held : IsHolding program after) (rooted : StaysRooted (taken_up old open_ taken) new) where
-  still_after : (next : Option Worst) (bound : Option ℚ) (end : End) → LeavesEntry (taken_up old open_ taken) new node bound end → IsKept program new (cost_held after) [] → IsWorst program new.parked next → IsStill program new.root.bound new after next × (length new.log ≡ length old.log + 1)
-  still_after next bound end e s w =
-      let longer : length new.log ≡ length old.log + 1 = one_longer (taken_up old open_ taken) new node bound end e in (
-        record {
-          kept = s;
-          start_is = refl;
-          is_held = held;
-          is_worst = w;
-          counted = omega (arith, longer, rooted.ids, k.counted);
-          begun = λ f. absurd (not_empty old.log (record { node = node.number; bound = bound; end = end }) (sym e.logged ∙ f));
-        },
-        longer,
-      )
-
-  -- a node that wasn't put aside
-  quiet_after : (next : Option Worst) (bound : Option ℚ) (end : End) → LeavesEntry (taken_up old open_ taken) new node bound end → new.parked ≡ old.parked → next ≡ worst → IsKept program new (cost_held after) [] → IsStill program new.root.bound new after next × (length new.log ≡ length old.log + 1)
-  quiet_after next bound end e p n s =
-      still_after next bound end e s (subst (λ l. IsWorst program l next) (sym p) (subst (IsWorst program old.parked) (sym n) k.is_worst))
-
-  abbrev Turned : ℕ → Option ℚ → Option Worst → Option Stop → Type 0
-  Turned nodes asked next stop =
-      MatchOption stop (IsStill program new.root.bound new after next × (length new.log ≡ length old.log + 1)) (StopsAs program new.root.bound nodes asked new after next)
-
-  endless_after : (point ray : List ℚ) → EndsEndless program (taken_up old open_ taken) new node point ray → StopsEndless program new.log point ray
-  endless_after point ray e = record {
-    logged = alike.is_log program old.root.bound new.log e.logged;
-    last = record { before = old.log; entry = record { node = node.number; bound = e.bound; end = Parked }; placed = e.entry.logged; parked = refl };
-    falls = record { feasible = e.feasible; shown = e.shown };
-  }
-
-  turned_by : (nodes : ℕ) (asked : Option ℚ) (lent : Lent) (room : ℕ) (mark : Option Mark) (next : Option Worst) (stop : Option Stop) (end : NodeEnd) → IsKeptAs worst next end stop → IsEnd program (cost_held after) lent room (taken_up old open_ taken) new node mark end → Turned nodes asked next stop
-  turned_by nodes asked lent room mark next stop by.Pruned a h = subst (Turned nodes asked next) (sym a.1) (quiet_after next h.bound Closed h.entry h.entry.parked a.0 h.kept)
-  turned_by nodes asked lent room mark next stop by.Empty a h = subst (Turned nodes asked next) (sym a.1) (quiet_after next h.bound Closed h.entry h.entry.parked a.0 h.kept)
-  turned_by nodes asked lent room mark next stop by.Solved a h = subst (Turned nodes asked next) (sym a.1) (quiet_after next h.bound Closed h.entry h.entry.parked a.0 h.kept)
-  turned_by nodes asked lent room mark next stop (by.Split low high) a h =
-      subst (Turned nodes asked next) (sym a.1) (quiet_after next h.bound (Split h.column h.at low high) h.entry h.entry.parked a.0 h.kept)
-  turned_by nodes asked lent room mark next stop (by.Parked leaf on bound shown) a h =
-      subst (Turned nodes asked next) (sym a.1)
-      (still_after next bound Parked h.entry h.kept (worst_more program (cost_held after) (taken_up old open_ taken) new node (record { values = leaf.items; on = on.items }) bound (shown_as shown) worst next h k.is_worst a.0))
-  turned_by nodes asked lent room mark next stop (by.Ray point ray) a h = subst (Turned nodes asked next) (sym a) (endless_after point.items ray.items h)
-
--- ---- a turn
-
-module _ (program : Program) (old mid new : Nodes) (before after : Holding) (worst : Option Worst) (node : TakenNode) (k : IsStill program old.root.bound old before worst) (held : IsHolding program after) (is_mid : mid ≡ taken_up old mid.open_ mid.taken) where
-  -- it ended
-  pub worked_turn : (lent : Lent) (room : ℕ) (mark : Option Mark) (next : Option Worst) (stop : Option Stop) (end : NodeEnd) → IsWorked program lent room mid new before after node mark end → IsKeptAs worst next end stop → (nodes : ℕ) (asked : Option ℚ) → MatchOption stop (IsStill program new.root.bound new after next × (length new.log ≡ length old.log + 1)) (StopsAs program new.root.bound nodes asked new after next)
-  worked_turn lent room mark next stop end w a nodes asked =
-      let h = subst (λ m. IsWorked program lent room m new before after node mark end) is_mid w in
-      turned_by program old mid.open_ mid.taken new before after worst node k held h.rooted nodes asked lent room mark next stop end a h.ended
-
-  pub worked_told : (lent : Lent) (room : ℕ) (mark : Option Mark) (end : NodeEnd) (marks : List (ℕ × Mark)) → columns program ≤ room → IsWorked program lent room mid new before after node mark end → IfSome mark (IsMark program (own_rows program) (box_of mid node) room) → IsTold program old.root.bound old.log marks → IsTold program new.root.bound new.log (marks ++ marks_by node.number mark)
-  worked_told lent room mark end marks r w m t =
-      let up = taken_up old mid.open_ mid.taken in
-      let h = subst (λ m. IsWorked program lent room m new before after node mark end) is_mid w in
-      subst (λ (n : Node). IsTold program n.bound new.log (marks ++ marks_by node.number mark)) (sym h.rooted.root)
-      (told_more program lent room up new (cost_held before) node mark marks r h.kept (entry_of_end program (cost_held after) lent room up new node mark end h.ended)
-      (subst (λ m. IfSome mark (IsMark program (own_rows program) (box_of m node) room)) is_mid m) t)
-
-  pub worked_longer : (lent : Lent) (room : ℕ) (mark : Option Mark) (end : NodeEnd) → IsWorked program lent room mid new before after node mark end → length new.log ≡ length old.log + 1
-  worked_longer lent room mark end w =
-      let up = taken_up old mid.open_ mid.taken in
-      let h = subst (λ m. IsWorked program lent room m new before after node mark end) is_mid w in
-      let e = entry_of_end program (cost_held after) lent room up new node mark end h.ended in
-      one_longer up new node e.bound e.end e.entry
-
-  -- the root is the one before
-  pub turn_root : StaysRooted mid new → new.root ≡ old.root
-  turn_root r = r.root ∙ ap (λ (n : Nodes). n.root) is_mid
-
-  -- memory was refused
-  pub refused_log : IsOpenAgain program (cost_held after) mid new node → new.log ≡ old.log
-  refused_log a = a.log ∙ ap (λ (n : Nodes). n.log) is_mid
-
-  pub refused_turn : (waiting : Option (Option ℚ)) (bound : Option ℚ) → MatchOption waiting (old.open_ ≡ []) (λ b. tree.IsLeastBound b old.open_) → waiting ≢ None → bound ≡ flat (least_of (bound_held (cost_held before)) (least_of waiting (worst_bound worst))) → IsNoDearer (cost_held after) (cost_held before) → StaysRooted mid new → IsOpenAgain program (cost_held after) mid new node → StopsRefused program new.root.bound new after bound
-  refused_turn waiting bound m n e d r a = record {
-    searched = a.searched;
-    start_is = refl;
-    was_least = subst (λ (x : Node). WasLeast program x.bound new.log (cost_held after) bound) (sym (turn_root r))
-        (was_least program old before after worst waiting bound new.log k m n e (refused_log a) d);
-  }
-
--- ---- all that is worked with
-
-module _ (old mid new : Core) (taken : mid ≡ record old { tree = mid.tree }) (framed : new ≡ record mid { pool = aged mid.pool; solver = new.solver; scratch = new.scratch; starts = new.starts; tree = new.tree; incumbent = new.incumbent }) (is_mid : mid.tree ≡ taken_up old.tree mid.tree.open_ mid.tree.taken) (worst : Option Worst) (node : TakenNode) (k : IsStill old.program.now old.tree.root.bound old.tree old.incumbent worst) (held : IsHolding new.program.now new.incumbent) where
+-- from before the node was taken up to its end
+module _ (old mid new : CoreState) (node : TakenNode) (worst : Option Worst) (taken : mid ≡ record old { tree = mid.tree }) (first : TakesFirst old.tree mid.tree node) (k : IsStill old.program old.tree.root.bound old.tree old.incumbent worst) (later : IsLater mid new) (is_held : IsHolding new.program new.incumbent) where
   pub same_program : new.program ≡ old.program
-  same_program = ap (λ (c : Core). c.program) framed ∙ ap (λ (c : Core). c.program) taken
+  same_program = later.program ∙ ap (λ (c : CoreState). c.program) taken
 
-  same_held : mid.incumbent ≡ old.incumbent
-  same_held = ap (λ (c : Core). c.incumbent) taken
+  pub same_root : new.tree.root ≡ old.tree.root
+  same_root = later.root ∙ ap (λ (t : Nodes). t.root) first.rest
 
-  still_there : IsStill new.program.now old.tree.root.bound old.tree old.incumbent worst
-  still_there = subst (λ p. IsStill p.now old.tree.root.bound old.tree old.incumbent worst) (sym same_program) k
+  same_log : mid.tree.log ≡ old.tree.log
+  same_log = ap (λ (t : Nodes). t.log) first.rest
 
-  told_there : (marks : List (ℕ × Mark)) → IsTold old.program.now old.tree.root.bound old.tree.log marks → IsTold new.program.now old.tree.root.bound old.tree.log marks
-  told_there marks t = subst (λ p. IsTold p.now old.tree.root.bound old.tree.log marks) (sym same_program) t
+  same_parked : mid.tree.parked ≡ old.tree.parked
+  same_parked = ap (λ (t : Nodes). t.parked) first.rest
 
-  same_pool : new.pool ≡ aged mid.pool
-  same_pool = ap (λ (c : Core). c.pool) framed
+  was_worst : IsWorst new.program mid.tree.parked worst
+  was_worst = subst (λ p. IsWorst p mid.tree.parked worst) (sym same_program) (subst (λ l. IsWorst old.program l worst) (sym same_parked) k.is_worst)
 
-  pub still_bare : old.pool.rows ≡ [] → new.pool.rows ≡ []
-  still_bare e =
-      let f : mid.pool.rows ≡ [] = ap (λ (c : Core). c.pool.rows) taken ∙ e in
-      ap (λ (p : Pool). p.rows) same_pool ∙ (ap (drop (length mid.pool.rows - kept_pool_rows)) f ∙ drop-nil (length mid.pool.rows - kept_pool_rows))
+  pub cheaper_still : IsNoDearer (held_of new) (cost_held old.incumbent)
+  cheaper_still = subst (λ (i : Holding). IsNoDearer (held_of new) (cost_held i)) (ap (λ (c : CoreState). c.incumbent) taken) later.no_dearer
 
-  kept_there : IsKept mid.program.now mid.tree (cost_held mid.incumbent) (shown mid.tree node ∷ []) → IsKept new.program.now mid.tree (cost_held old.incumbent) (shown mid.tree node ∷ [])
-  kept_there h =
-      subst (λ p. IsKept p.now mid.tree (cost_held old.incumbent) (shown mid.tree node ∷ [])) (sym (ap (λ (c : Core). c.program) framed))
-      (subst (λ i. IsKept mid.program.now mid.tree (cost_held i) (shown mid.tree node ∷ [])) same_held h)
+  -- nothing was logged
+  pub told_still : (marks : List (ℕ × Mark)) → new.tree.log ≡ mid.tree.log → IsTold old.program old.tree.root.bound old.tree.log marks → IsTold new.program new.tree.root.bound new.tree.log marks
+  told_still marks l t =
+      subst (λ (p : Program). IsTold p new.tree.root.bound new.tree.log marks) (sym same_program)
+      (subst (λ (x : Node). IsTold old.program x.bound new.tree.log marks) (sym same_root)
+      (subst (λ log. IsTold old.program old.tree.root.bound log marks) (sym (l ∙ same_log)) t))
+
+  pub no_longer : new.tree.log ≡ mid.tree.log → length new.tree.log ≤ length old.tree.log + 1
+  no_longer l = omega (arith, ap length (l ∙ same_log))
+
+  -- one entry was logged
+  pub longer_by : (ended : Node) (mark : Option Mark) (end : NodeEnd) → IsEnd mid new node ended mark end → length new.tree.log ≤ length old.tree.log + 1
+  longer_by ended mark end h =
+      let e = entry_of_end mid new node ended mark end h in
+      omega (arith, one_longer mid new ended e.end e.entry, ap length same_log)
 
   -- memory was refused
-  module _ (rooted : StaysRooted mid.tree new.tree) (again : IsOpenAgain new.program.now (cost_held new.incumbent) mid.tree new.tree node) where
-    pub core_refused : (waiting : Option (Option ℚ)) (bound : Option ℚ) → MatchOption waiting (old.tree.open_ ≡ []) (λ b. tree.IsLeastBound b old.tree.open_) → waiting ≢ None → bound ≡ flat (least_of (bound_held (cost_held old.incumbent)) (least_of waiting (worst_bound worst))) → IsNoDearer (cost_held new.incumbent) (cost_held mid.incumbent) → StopsRefused new.program.now new.tree.root.bound new.tree new.incumbent bound
-    core_refused waiting bound m n e d =
-        refused_turn new.program.now old.tree mid.tree new.tree old.incumbent new.incumbent worst node still_there held is_mid waiting bound m n e
-        (subst (λ i. IsNoDearer (cost_held new.incumbent) (cost_held i)) same_held d) rooted again
+  pub refused_turn : (number : ℕ) (given bound : Option ℚ) (waiting : Option (Option ℚ)) → IsBack mid new number given → MatchOption waiting (old.tree.open_ ≡ []) (λ b. tree.IsLeastBound b old.tree.open_) → waiting ≢ None → bound ≡ flat (least_of (bound_held (cost_held old.incumbent)) (least_of waiting (worst_bound worst))) → StopsRefused new.program new.tree.root.bound new.tree new.incumbent bound
+  refused_turn number given bound waiting b m n e = record {
+    searched = b.kept.kept.searched;
+    start_is = refl;
+    was_least = subst (λ (p : Program). WasLeast p new.tree.root.bound new.tree.log (held_of new) bound) (sym same_program)
+        (subst (λ (x : Node). WasLeast old.program x.bound new.tree.log (held_of new) bound) (sym same_root)
+        (was_least old.program old.tree old.incumbent new.incumbent worst waiting bound new.tree.log k m n e (b.log ∙ same_log) cheaper_still));
+  }
 
   -- it ended
-  module _ (kept : IsKept mid.program.now mid.tree (cost_held mid.incumbent) (shown mid.tree node ∷ [])) (rooted : StaysRooted mid.tree new.tree) (lent : Lent) (room : ℕ) (mark : Option Mark) (end : NodeEnd) (ended : IsEnd new.program.now (cost_held new.incumbent) lent room mid.tree new.tree node mark end) where
-    worked : IsWorked new.program.now lent room mid.tree new.tree old.incumbent new.incumbent node mark end
-    worked = record { kept = kept_there kept; rooted = rooted; ended = ended }
+  module _ (u : new.touched ≡ false) (ended : Node) (few : new.tree.ids ≤ mid.tree.ids + 2) where
+    still_after : (next : Option Worst) (end : End) → LeavesEntry mid.tree new.tree ended end → IsKeptIn new [] → IsWorst new.program new.tree.parked next → IsStill new.program new.tree.root.bound new.tree new.incumbent next × (length new.tree.log ≡ length old.tree.log + 1)
+    still_after next end e s w =
+        let longer : length new.tree.log ≡ length old.tree.log + 1 = one_longer mid new ended end e ∙ ap (λ l. length l + 1) same_log in (
+          record {
+            kept = s.kept;
+            matter = s.matter;
+            boxes = s.boxes u;
+            start_is = refl;
+            is_held = is_held;
+            is_worst = w;
+            counted = omega (arith, longer, few, ap (λ (t : Nodes). t.ids) first.rest, k.counted);
+            begun = λ f. absurd (not_empty mid.tree.log (record { node = ended.number; bound = ended.bound; end = end }) (sym e.logged ∙ f));
+          },
+          longer,
+        )
 
-    pub core_turn : (next : Option Worst) (stop : Option Stop) → IsKeptAs worst next end stop → (nodes : ℕ) (asked : Option ℚ) → MatchOption stop (IsStill new.program.now new.tree.root.bound new.tree new.incumbent next × (length new.tree.log ≡ length old.tree.log + 1)) (StopsAs new.program.now new.tree.root.bound nodes asked new.tree new.incumbent next)
-    core_turn next stop a nodes asked =
-        worked_turn new.program.now old.tree mid.tree new.tree old.incumbent new.incumbent worst node still_there held is_mid lent room mark next stop end worked a nodes asked
+    -- a node that wasn't put aside
+    quiet_after : (next : Option Worst) (end : End) → LeavesEntry mid.tree new.tree ended end → new.tree.parked ≡ mid.tree.parked → next ≡ worst → IsKeptIn new [] → IsStill new.program new.tree.root.bound new.tree new.incumbent next × (length new.tree.log ≡ length old.tree.log + 1)
+    quiet_after next end e p n s =
+        still_after next end e s (subst (λ l. IsWorst new.program l next) (sym p) (subst (IsWorst new.program mid.tree.parked) (sym n) was_worst))
 
-    pub core_told : (marks : List (ℕ × Mark)) → columns new.program.now ≤ room → IfSome mark (IsMark new.program.now (own_rows new.program.now) (box_of mid.tree node) room) → IsTold old.program.now old.tree.root.bound old.tree.log marks → IsTold new.program.now new.tree.root.bound new.tree.log (marks ++ marks_by node.number mark)
-    core_told marks r m t =
-        worked_told new.program.now old.tree mid.tree new.tree old.incumbent new.incumbent worst node still_there held is_mid lent room mark end marks r worked m (told_there marks t)
+    abbrev Turned : ℕ → Option ℚ → Option Worst → Option Stop → Type 0
+    Turned nodes asked next stop =
+        MatchOption stop (IsStill new.program new.tree.root.bound new.tree new.incumbent next × (length new.tree.log ≡ length old.tree.log + 1)) (StopsAs new.program new.tree.root.bound nodes asked new.tree new.incumbent next)
 
-    pub core_longer : length new.tree.log ≡ length old.tree.log + 1
-    core_longer = worked_longer new.program.now old.tree mid.tree new.tree old.incumbent new.incumbent worst node still_there held is_mid lent room mark end worked
+    endless_after : (point ray : List ℚ) → EndsEndless mid new ended point ray → StopsEndless new.program new.tree.log point ray
+    endless_after point ray e = record {
+      logged = alike.is_log new.program new.tree.root.bound new.tree.log e.logged;
+      last = record { before = mid.tree.log; entry = record { node = ended.number; bound = ended.bound; end = Parked }; placed = e.entry.logged; parked = refl };
+      falls = record { feasible = e.feasible; shown = e.shown_ray };
+    }
+
+    pub turned_by : (nodes : ℕ) (asked : Option ℚ) (mark : Option Mark) (next : Option Worst) (stop : Option Stop) (end : NodeEnd) → IsKeptAs worst next end stop → IsEnd mid new node ended mark end → Turned nodes asked next stop
+    turned_by nodes asked mark next stop by.Pruned a h = subst (Turned nodes asked next) (sym a.1) (quiet_after next Closed h.entry h.entry.parked a.0 h.kept)
+    turned_by nodes asked mark next stop by.Empty a h = subst (Turned nodes asked next) (sym a.1) (quiet_after next Closed h.entry h.entry.parked a.0 h.kept)
+    turned_by nodes asked mark next stop by.Solved a h = subst (Turned nodes asked next) (sym a.1) (quiet_after next Closed h.entry h.entry.parked a.0 h.kept)
+    turned_by nodes asked mark next stop (by.Split low high) a h = subst (Turned nodes asked next) (sym a.1) (quiet_after next (Split h.column h.at low high) h.entry h.entry.parked a.0 h.kept)
+    turned_by nodes asked mark next stop (by.Parked leaf on bound shown) a h =
+        subst (Turned nodes asked next) (sym a.1)
+        (still_after next Parked h.entry h.kept (worst_more new.program mid.tree.parked new.tree.parked ended (record { values = leaf.items; on = on.items }) bound (shown_as shown) worst next h.entry.parked h.bound_is h.wide_as was_worst a.0))
+    turned_by nodes asked mark next stop (by.Ray point ray) a h = subst (Turned nodes asked next) (sym a) (endless_after point.items ray.items h)
+
+  -- the marks are told
+  pub told_turn : (mark : Option Mark) (end : NodeEnd) (marks : List (ℕ × Mark)) → IsTakenUp mid node → HasEnded mid new node mark end → new.pool.rows ≡ [] → new.touched ≡ false → IsTold old.program old.tree.root.bound old.tree.log marks → IsTold new.program new.tree.root.bound new.tree.log (marks ++ marks_by node.number mark)
+  told_turn mark end marks up h bare u t =
+      let t' = subst (λ (c : CoreState). IsTold c.program mid.tree.root.bound mid.tree.log marks) (sym taken)
+      (subst (λ (n : Nodes). IsTold old.program n.root.bound n.log marks) (sym first.rest) t) in
+      subst (λ (p : Program). IsTold p new.tree.root.bound new.tree.log (marks ++ marks_by node.number mark)) (sym later.program)
+      (subst (λ (x : Node). IsTold mid.program x.bound new.tree.log (marks ++ marks_by node.number mark)) (sym later.root)
+      (told_more mid new node mark end marks up h bare u t'))
 
 -- no node is open
 pub nothing_open : (program : Program) (start : Option ℚ) (nodes : ℕ) (asked : Option ℚ) (old : Nodes) (holding : Holding) (worst : Option Worst) → old.open_ ≡ [] → IsStill program start old holding worst → StopsAs program start nodes asked old holding worst Still

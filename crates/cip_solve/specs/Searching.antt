@@ -14,7 +14,8 @@ use Rattle.cip_search.specs.Endings.{IsLeastBound}
 use Rattle.cip_search.specs.SearchAnswers.{AreRelaxed, AreOfEntries, IsParkedLast}
 use Rattle.cip_tree.specs.Nodes.{Nodes}
 use Rattle.cip_node_bounds.specs.declared.relaxed.Mark.{Mark}
-use Rattle.cip_node.specs.KeptNodes.{cost_held, IsSearchOf, IsKept, IsHolding}
+use Rattle.cip_search.specs.SearchState.{stay, HasGivenBoxes}
+use Rattle.cip_core.specs.KeptNodes.{cost_held, state_of, IsSearchOf, IsKept, AllMatter, IsHolding}
 use Rattle.cip_node.specs.declared.ends.NodeEnd.{NodeEnd}
 use Rattle.cip_node.specs.declared.ends.NodeEnd.TheVariants as by
 use Rattle.cip_endings.specs.Gaps.{reaches_gap}
@@ -28,11 +29,14 @@ use Rattle.cip_solve.specs.declared.turns.Stop.TheVariants as kinds
 
 -- ---- between two nodes
 
--- with no node in work: the nodes are those of a search whose root had this bound, the point held is one of the
--- program, the worst parked leaf is known, the numbers given are few, and the root is open before a node was taken
+-- with no node in work: the nodes are those of a search whose root had this bound, each open one matters, and boxes are
+-- those of the log; the point held is one of the program, the worst parked leaf is known, the numbers given are few, and
+-- the root is open before a node was taken
 pub record IsStill
     (program : Program) (start : Option ℚ) (tree : Nodes) (holding : Holding) (worst : Option Worst) : Type 0 where
-  pub kept : IsKept program tree (cost_held holding) []
+  pub kept : IsKept program program stay tree (cost_held holding) []
+  pub matter : AllMatter (cost_held holding) tree.open_
+  pub boxes : HasGivenBoxes program tree.root.bound (state_of tree (cost_held holding) [])
   pub start_is : tree.root.bound ≡ start
   pub is_held : IsHolding program holding
   pub is_worst : IsWorst program tree.parked worst
@@ -75,7 +79,7 @@ pub record StopsEndless (program : Program) (log : List Entry) (point ray : List
 -- memory was refused, and this was the least bound before
 pub record StopsRefused
     (program : Program) (start : Option ℚ) (tree : Nodes) (holding : Holding) (bound : Option ℚ) : Type 0 where
-  pub searched : IsSearchOf program tree (cost_held holding) []
+  pub searched : IsSearchOf program program stay tree (cost_held holding) []
   pub start_is : tree.root.bound ≡ start
   pub was_least : WasLeast program start tree.log (cost_held holding) bound
 

@@ -12,7 +12,7 @@ use Rattle.cip_search.specs.SearchEnds.{Unbounded, Answer}
 use Rattle.cip_search.specs.SearchAnswers.{IsSearchAnswer}
 use Rattle.cip_node_bounds.specs.Relaxing.{IsMark}
 use Rattle.cip_node_bounds.specs.declared.relaxed.Mark.{Mark}
-use Rattle.cip_node.specs.Beginning.{IsRootBound}
+use Rattle.cip_core.specs.Beginning.{IsRootBound}
 use Rattle.cip_solve.specs.Logs.{numbers_of}
 
 -- the program's rows, and no others

@@ -1,5 +1,5 @@
 //! The answer of a search that has stopped.
-ghost use Rattle.std.specs.Prelude.{◌≡◌, ℕ, List, Option, [], ◌<◌, length, None, IfSome};
+ghost use Rattle.std.specs.Prelude.{◌≡◌, ℕ, List, Option, [], ◌<◌, length, false, None, IfSome};
 ghost use Rattle.cip_rational.specs.Rational.{ℚ};
 ghost use Rattle.cip_problem.specs.Points.{IsLowerBound};
 ghost use Rattle.cip_problem.specs.Log.{Entry};
@@ -7,8 +7,7 @@ ghost use Rattle.cip_problem.specs.WellFormed.{columns};
 ghost use Rattle.cip_search.specs.SearchAnswers.{IsSearchAnswer};
 ghost use Rattle.cip_tree.specs.Nodes.{Nodes};
 ghost use Rattle.cip_node_bounds.specs.declared.relaxed.Mark.{Mark};
-ghost use Rattle.cip_node.specs.Cores.{IsReady};
-ghost use Rattle.cip_node.specs.KeptNodes.{IsHolding};
+ghost use Rattle.cip_core.specs.KeptNodes.{IsHolding};
 ghost use Rattle.cip_endings.specs.AnswerOf.{answer_of};
 ghost use Rattle.cip_solve.specs.Logs.{entries_of, marked_in, numbers_of};
 ghost use Rattle.cip_solve.specs.Searching.{IsStill, IsTold, IsEndless, StopsStill, StopsEndless, StopsRefused, StopsAs, IsWithin};
@@ -18,11 +17,12 @@ ghost use Rattle.cip_solve.specs.Stopping.{BestIs};
 use crate::logs::Log;
 use crate::solving::Options;
 use crate::turns::{Search, Stop};
+use cip_core::{Core, cost_of};
 use cip_endings::{Worst, capped, ended_at, flat, least_left};
 use cip_frac::Frac;
 use cip_incumbent::Incumbent;
 use cip_model::{Program, Verdict};
-use cip_node::{Core, held_cost};
+use cip_node::NodeWork;
 use cip_report::{Answer, Ended, Held};
 use cip_tree::Tree;
 use std::alloc::Global;
@@ -64,7 +64,7 @@ fn still_answer(
         (answer_of result) × RayIsShown program (answer_of result) }
     ensures nodes { result.nodes ≡ length tree.now.log }
 {
-    let held = held_cost(incumbent);
+    let held = cost_of(incumbent);
     let waiting = tree.bound();
     let bound = flat(least_left(held, waiting, &worst));
     let ended = ended_at(asked, &bound, &held, &waiting, worst);
@@ -115,7 +115,7 @@ fn refused_answer(
         × RayIsShown program (answer_of result) }
     ensures nodes { result.nodes ≡ nodes }
 {
-    let bound = capped(held_cost(incumbent), bound);
+    let bound = capped(cost_of(incumbent), bound);
     let best = held_of(incumbent, point);
     Answer {
         ended: Ended::NoMemory,
@@ -133,22 +133,23 @@ fn answer_at(
     options: &Options,
     point: Vec<Frac>,
 ) -> Answer
-    requires stop { StopsAs core.now.program.now core.now.tree.root.bound options.now.nodes options.now.gap
+    requires stop { StopsAs core.now.program core.now.tree.root.bound options.now.nodes options.now.gap
         core.now.tree core.now.incumbent worst stop }
-    requires holding { IsHolding core.now.program.now core.now.incumbent }
-    requires point { length point.items ≡ columns core.now.program.now }
+    requires point { length point.items ≡ columns core.now.program }
     ensures right { (marks : List (ℕ × Mark))
-        → IsWithin core.now.program.now core.now.tree.root.bound options.now.nodes core.now.tree.log marks
-        → IsSearchAnswer core.now.program.now core.now.tree.root.bound options.now.nodes options.now.gap
-        core.now.tree.log (numbers_of marks) (answer_of result) × RayIsShown core.now.program.now (answer_of result) }
+        → IsWithin core.now.program core.now.tree.root.bound options.now.nodes core.now.tree.log marks
+        → IsSearchAnswer core.now.program core.now.tree.root.bound options.now.nodes options.now.gap
+        core.now.tree.log (numbers_of marks) (answer_of result) × RayIsShown core.now.program (answer_of result) }
     ensures nodes { result.nodes ≡ length core.now.tree.log }
 {
-    let _columns = core.program.columns();
-    let nodes = taken_of(&core.tree);
+    core.is_sound();
+    let tree = core.tree();
+    let incumbent = core.incumbent();
+    let nodes = taken_of(tree);
     match stop {
-        Stop::Still => still_answer(&core.tree, &core.incumbent, worst, &options.gap, point),
-        Stop::Endless { point, ray } => endless_answer(core.program, point, ray, nodes),
-        Stop::NoMemory { bound } => refused_answer(&core.incumbent, bound, point, nodes),
+        Stop::Still => still_answer(tree, incumbent, worst, &options.gap, point),
+        Stop::Endless { point, ray } => endless_answer(core.program(), point, ray, nodes),
+        Stop::NoMemory { bound } => refused_answer(incumbent, bound, point, nodes),
     }
 }
 
@@ -156,52 +157,51 @@ impl<'a> Search<'a> {
     /// The answer of a search that stopped so, its point written to a list of as many values; what it did is left in
     /// the log.
     fn finish(self, stop: Stop, options: &Options, point: Vec<Frac>, log: &mut Log) -> Answer
-        requires stop { StopsAs self.core.program.now self.core.tree.root.bound options.now.nodes options.now.gap
-            self.core.tree self.core.incumbent self.worst stop }
-        requires within { IsWithin self.core.program.now self.core.tree.root.bound options.now.nodes
-            self.core.tree.log self.marks.items }
-        requires holding { IsHolding self.core.program.now self.core.incumbent }
-        requires point { length point.items ≡ columns self.core.program.now }
-        ensures right { IsSearchAnswer self.entry.core.program.now self.entry.core.tree.root.bound options.now.nodes
-            options.now.gap (entries_of log.new) (marked_in log.new) (answer_of result) }
-        ensures shown { RayIsShown self.entry.core.program.now (answer_of result) }
+        requires stop { StopsAs self.work.core.program self.work.core.tree.root.bound options.now.nodes options.now.gap
+            self.work.core.tree self.work.core.incumbent self.worst stop }
+        requires within { IsWithin self.work.core.program self.work.core.tree.root.bound options.now.nodes
+            self.work.core.tree.log self.marks.items }
+        requires point { length point.items ≡ columns self.work.core.program }
+        ensures right { IsSearchAnswer self.entry.work.core.program self.entry.work.core.tree.root.bound
+            options.now.nodes options.now.gap (entries_of log.new) (marked_in log.new) (answer_of result) }
+        ensures shown { RayIsShown self.entry.work.core.program (answer_of result) }
         ensures nodes { result.nodes ≡ length (entries_of log.new) }
-        ensures met { AreMet self.entry.core.program.now self.entry.core.tree.root.bound (entries_of log.new)
+        ensures met { AreMet self.entry.work.core.program self.entry.work.core.tree.root.bound (entries_of log.new)
             log.new.marks.items }
     {
-        let Search { core, worst, marks } = self;
+        let Search { work, worst, marks } = self;
+        let NodeWork { core, .. } = work;
         let answer = answer_at(&core, worst, stop, options, point);
-        let Core { tree, .. } = core;
-        log.taken = tree.take_log();
+        log.taken = core.take_log();
         log.marks = marks;
         answer
     }
 }
 
-/// Searches from a core on that has taken no node, as its options say; the point that is found is written to a
+/// Searches from what has taken no node, as its options say; the point that is found is written to a
 /// list of as many values, and what was done is left in the log.
 pub(crate) fn search_from(
-    core: Core<'_>,
+    work: NodeWork<'_>,
     alloc: Global,
     options: &Options,
     point: Vec<Frac>,
     log: &mut Log,
 ) -> Answer
-    requires still { IsStill core.program.now core.tree.root.bound core.tree core.incumbent None }
-    requires empty { core.tree.log ≡ [] }
-    requires ready { IsReady core }
-    requires bare { core.pool.rows ≡ [] }
-    requires lower { IfSome core.tree.root.bound (IsLowerBound core.program.now) }
+    requires still { IsStill work.core.program work.core.tree.root.bound work.core.tree work.core.incumbent None }
+    requires empty { work.core.tree.log ≡ [] }
+    requires plain { work.core.touched ≡ false }
+    requires lower { IfSome work.core.tree.root.bound (IsLowerBound work.core.program) }
     requires some { 0 < options.now.nodes }
-    requires point { length point.items ≡ columns core.program.now }
-    ensures right { IsSearchAnswer core.entry.program.now core.entry.tree.root.bound options.now.nodes
+    requires point { length point.items ≡ columns work.core.program }
+    ensures right { IsSearchAnswer work.entry.core.program work.entry.core.tree.root.bound options.now.nodes
         options.now.gap (entries_of log.new) (marked_in log.new) (answer_of result) }
-    ensures shown { RayIsShown core.entry.program.now (answer_of result) }
+    ensures shown { RayIsShown work.entry.core.program (answer_of result) }
     ensures nodes { result.nodes ≡ length (entries_of log.new) }
-    ensures met { AreMet core.entry.program.now core.entry.tree.root.bound (entries_of log.new) log.new.marks.items }
+    ensures met { AreMet work.entry.core.program work.entry.core.tree.root.bound (entries_of log.new)
+        log.new.marks.items }
 {
     let mut search = Search {
-        core,
+        work,
         worst: None,
         marks: Vec::new(alloc),
     };

@@ -1,16 +1,17 @@
 //! Solving a program.
 ghost use Rattle.std.specs.Prelude.{◌≡◌, ℕ, Option, [], ◌<◌, length};
 ghost use Rattle.cip_rational.specs.Rational.{ℚ};
-ghost use Rattle.cip_node.specs.Beginning.{AreNearColumns};
+ghost use Rattle.cip_core.specs.Beginning.{AreNearColumns};
 ghost use Rattle.cip_endings.specs.AnswerOf.{answer_of};
 ghost use Rattle.cip_solve.specs.Logs.{entries_of};
 ghost use Rattle.cip_solve.specs.Solved.{IsSolved};
 
 use crate::finish::search_from;
 use crate::logs::Log;
+use cip_core::root_bound;
 use cip_frac::Frac;
 use cip_model::Program;
-use cip_node::{Core, root_bound};
+use cip_node::NodeWork;
 use cip_report::{Answer, Ended};
 use std::alloc::Global;
 
@@ -54,8 +55,11 @@ pub fn solve(alloc: Global, program: &Program, options: &Options, log: &mut Log)
     let Ok(point) = vec![in alloc; Frac::zero(); columns] else {
         return unsearched(program);
     };
-    match Core::new(alloc, program) {
+    match NodeWork::new(alloc, program) {
         Err(_) => unsearched(program),
-        Ok(core) => search_from(core, alloc, options, point, log),
+        Ok(work) => {
+            work.core.is_sound();
+            search_from(work, alloc, options, point, log)
+        }
     }
 }

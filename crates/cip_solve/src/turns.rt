@@ -1,14 +1,13 @@
 //! A search over the nodes, from one to the next.
-ghost use Rattle.std.specs.Prelude.{◌≡◌, ℕ, ◌+◌, ◌<◌, ◌≤◌, true, Option, [], ◌++◌, length, MatchOption};
+ghost use Rattle.std.specs.Prelude.{◌≡◌, ℕ, ◌+◌, ◌<◌, ◌≤◌, true, false, Option, [], ◌++◌, length, MatchOption};
 ghost use Rattle.std.specs.Prelude.{vec_len, vec_capacity};
 ghost use Rattle.cip_rational.specs.Rational.{ℚ};
-ghost use Rattle.cip_node.specs.Cores.{IsReady};
 ghost use Rattle.cip_solve.specs.Logs.{marks_by};
 ghost use Rattle.cip_solve.specs.Searching.{IsStill, IsTold, IsKeptAs, HasReachedGap, StopsAs};
 
 use cip_endings::{Worst, flat, least_left, reaches_gap, worse};
 use cip_frac::Frac;
-use cip_node::{Core, NodeEnd, NodeRecord, held_cost};
+use cip_node::{NodeEnd, NodeRecord, NodeWork};
 use cip_node_bounds::Mark;
 use std::alloc::Global;
 
@@ -23,10 +22,10 @@ pub(crate) enum Stop {
     NoMemory { bound: Option<Frac> },
 }
 
-/// A search: what it works with, the worst parked leaf, and the marks so far.
+/// A search: what works on its nodes, the worst parked leaf, and the marks so far.
 #[derive(Drop)]
 pub(crate) struct Search<'a> {
-    pub(crate) core: Core<'a>,
+    pub(crate) work: NodeWork<'a>,
     pub(crate) worst: Option<Worst>,
     pub(crate) marks: Vec<(u64, Mark)>,
 }
@@ -35,7 +34,7 @@ impl<'a> Search<'a> {
     /// Keeps the mark of a node, for which there is room.
     fn note(&mut self, number: u64, mark: Option<Mark>)
         requires { vec_len self.old.marks < vec_capacity self.old.marks }
-        ensures core { self.new.core ≡ self.old.core }
+        ensures work { self.new.work ≡ self.old.work }
         ensures worst { self.new.worst ≡ self.old.worst }
         ensures marked { self.new.marks.items ≡ self.old.marks.items ++ marks_by number mark }
     {
@@ -46,7 +45,7 @@ impl<'a> Search<'a> {
 
     /// Keeps what the end of a node comes to; how the search stops by it.
     fn keep(&mut self, end: NodeEnd) -> Option<Stop>
-        ensures core { self.new.core ≡ self.old.core }
+        ensures work { self.new.work ≡ self.old.work }
         ensures marks { self.new.marks ≡ self.old.marks }
         ensures kept { IsKeptAs self.old.worst self.new.worst end result }
     {
@@ -76,7 +75,7 @@ impl<'a> Search<'a> {
     /// stops by it.
     fn settle(&mut self, number: u64, done: (NodeEnd, NodeRecord)) -> Option<Stop>
         requires { vec_len self.old.marks < vec_capacity self.old.marks }
-        ensures core { self.new.core ≡ self.old.core }
+        ensures work { self.new.work ≡ self.old.work }
         ensures marked { self.new.marks.items ≡ self.old.marks.items ++ marks_by number done.1.mark }
         ensures kept { IsKeptAs self.old.worst self.new.worst done.0 result }
     {
@@ -88,40 +87,40 @@ impl<'a> Search<'a> {
 
     /// Takes up a node and works on it; how the search stops, if it does.
     fn turn(&mut self, alloc: Global) -> Option<Stop>
-        requires still { IsStill self.old.core.program.now self.old.core.tree.root.bound self.old.core.tree
-            self.old.core.incumbent self.old.worst }
-        requires told { IsTold self.old.core.program.now self.old.core.tree.root.bound self.old.core.tree.log
+        requires still { IsStill self.old.work.core.program self.old.work.core.tree.root.bound self.old.work.core.tree
+            self.old.work.core.incumbent self.old.worst }
+        requires told { IsTold self.old.work.core.program self.old.work.core.tree.root.bound self.old.work.core.tree.log
             self.old.marks.items }
-        requires ready { IsReady self.old.core }
-        requires bare { self.old.core.pool.rows ≡ [] }
-        ensures ready { IsReady self.new.core }
-        ensures bare { self.new.core.pool.rows ≡ [] }
-        ensures program { self.new.core.program ≡ self.old.core.program }
-        ensures root { self.new.core.tree.root ≡ self.old.core.tree.root }
-        ensures longer { length self.new.core.tree.log ≤ length self.old.core.tree.log + 1 }
-        ensures told { IsTold self.new.core.program.now self.new.core.tree.root.bound self.new.core.tree.log
+        requires plain { self.old.work.core.touched ≡ false }
+        ensures plain { self.new.work.core.touched ≡ false }
+        ensures program { self.new.work.core.program ≡ self.old.work.core.program }
+        ensures root { self.new.work.core.tree.root ≡ self.old.work.core.tree.root }
+        ensures longer { length self.new.work.core.tree.log ≤ length self.old.work.core.tree.log + 1 }
+        ensures told { IsTold self.new.work.core.program self.new.work.core.tree.root.bound self.new.work.core.tree.log
             self.new.marks.items }
         ensures turned { (nodes : ℕ) (asked : Option ℚ) → MatchOption result
-            (IsStill self.new.core.program.now self.new.core.tree.root.bound self.new.core.tree
-            self.new.core.incumbent self.new.worst
-            × (length self.new.core.tree.log ≡ length self.old.core.tree.log + 1))
-            (StopsAs self.new.core.program.now self.new.core.tree.root.bound nodes asked self.new.core.tree
-            self.new.core.incumbent self.new.worst) }
+            (IsStill self.new.work.core.program self.new.work.core.tree.root.bound self.new.work.core.tree
+            self.new.work.core.incumbent self.new.worst
+            × (length self.new.work.core.tree.log ≡ length self.old.work.core.tree.log + 1))
+            (StopsAs self.new.work.core.program self.new.work.core.tree.root.bound nodes asked self.new.work.core.tree
+            self.new.work.core.incumbent self.new.worst) }
     {
-        let waiting = self.core.tree.bound();
+        let waiting = self.work.core.tree().bound();
         if waiting.is_none() {
             return Some(Stop::Still);
         }
-        let bound = flat(least_left(held_cost(&self.core.incumbent), waiting, &self.worst));
+        let bound = flat(least_left(self.work.core.held_cost(), waiting, &self.worst));
         if self.marks.reserve(1).is_err() {
             return Some(Stop::NoMemory { bound });
         }
-        let _entries = self.core.tree.log().len();
-        let Some(node) = self.core.take() else {
+        let _entries = self.work.core.tree().log().len();
+        let Some(node) = self.work.core.take() else {
             return Some(Stop::Still);
         };
         let number = node.id();
-        match self.core.process(alloc, node) {
+        let ended = self.work.process(alloc, node);
+        self.work.core.is_sound();
+        match ended {
             Err(_) => Some(Stop::NoMemory { bound }),
             Ok(done) => self.settle(number, done),
         }
@@ -129,36 +128,34 @@ impl<'a> Search<'a> {
 
     /// Whether the gap that was asked for is reached.
     fn has_reached_gap(&self, asked: &Option<Frac>) -> bool
-        requires { IsStill self.now.core.program.now self.now.core.tree.root.bound self.now.core.tree
-            self.now.core.incumbent self.now.worst }
-        ensures { result ≡ true → HasReachedGap asked.now self.now.core.tree self.now.core.incumbent }
+        requires { IsStill self.now.work.core.program self.now.work.core.tree.root.bound self.now.work.core.tree
+            self.now.work.core.incumbent self.now.worst }
+        ensures { result ≡ true → HasReachedGap asked.now self.now.work.core.tree self.now.work.core.incumbent }
     {
         if asked.is_none() {
             return false;
         }
-        let held = held_cost(&self.core.incumbent);
-        let bound = flat(least_left(held, self.core.tree.bound(), &self.worst));
+        let held = self.work.core.held_cost();
+        let bound = flat(least_left(held, self.work.core.tree().bound(), &self.worst));
         reaches_gap(asked, &held, &bound)
     }
 
     /// Takes up open nodes, at most so many, until the gap that was asked for is reached; how the search stops.
     pub(crate) fn explore(&mut self, alloc: Global, nodes: u64, asked: &Option<Frac>) -> Stop
-        requires still { IsStill self.old.core.program.now self.old.core.tree.root.bound self.old.core.tree
-            self.old.core.incumbent self.old.worst }
-        requires told { IsTold self.old.core.program.now self.old.core.tree.root.bound self.old.core.tree.log
+        requires still { IsStill self.old.work.core.program self.old.work.core.tree.root.bound self.old.work.core.tree
+            self.old.work.core.incumbent self.old.worst }
+        requires told { IsTold self.old.work.core.program self.old.work.core.tree.root.bound self.old.work.core.tree.log
             self.old.marks.items }
-        requires empty { self.old.core.tree.log ≡ [] }
-        requires ready { IsReady self.old.core }
-        requires bare { self.old.core.pool.rows ≡ [] }
-        ensures ready { IsReady self.new.core }
-        ensures bare { self.new.core.pool.rows ≡ [] }
-        ensures program { self.new.core.program ≡ self.old.core.program }
-        ensures root { self.new.core.tree.root ≡ self.old.core.tree.root }
-        ensures most { length self.new.core.tree.log ≤ nodes }
-        ensures told { IsTold self.new.core.program.now self.new.core.tree.root.bound self.new.core.tree.log
+        requires empty { self.old.work.core.tree.log ≡ [] }
+        requires plain { self.old.work.core.touched ≡ false }
+        ensures plain { self.new.work.core.touched ≡ false }
+        ensures program { self.new.work.core.program ≡ self.old.work.core.program }
+        ensures root { self.new.work.core.tree.root ≡ self.old.work.core.tree.root }
+        ensures most { length self.new.work.core.tree.log ≤ nodes }
+        ensures told { IsTold self.new.work.core.program self.new.work.core.tree.root.bound self.new.work.core.tree.log
             self.new.marks.items }
-        ensures stopped { StopsAs self.new.core.program.now self.new.core.tree.root.bound nodes asked.now
-            self.new.core.tree self.new.core.incumbent self.new.worst result }
+        ensures stopped { StopsAs self.new.work.core.program self.new.work.core.tree.root.bound nodes asked.now
+            self.new.work.core.tree self.new.work.core.incumbent self.new.worst result }
     {
         for _ in 0..nodes {
             if let Some(stop) = self.turn(alloc) {

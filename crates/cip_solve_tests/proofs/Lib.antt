@@ -1,1 +1,2 @@
+pub mod AddedRows
 pub mod PlainLeaves

@@ -1,5 +1,5 @@
-//! Tests of the points held, of leaves, of the work on single nodes, and of searches over it, on programs worked out
-//! by hand.
+//! Tests of the points held, of leaves, of the work on single nodes and its steps, and of searches over it, on programs
+//! worked out by hand.
 #![tactic(auto)]
 
 #[cfg(test)]
@@ -14,3 +14,5 @@ mod random;
 mod roots;
 #[cfg(test)]
 mod searches;
+#[cfg(test)]
+mod steps;

@@ -1,7 +1,8 @@
 //! Programs of texts of free MPS.
 ghost use Rattle.std.specs.Prelude.{IsTrue};
+ghost use Rattle.std.specs.List.{All};
 ghost use Rattle.cip_problem.specs.NearSides.{IsNear, HasNearSides};
-ghost use Rattle.cip_node.specs.Beginning.{AreNearColumns};
+ghost use Rattle.cip_core.specs.Beginning.{AreNearColumns};
 
 use cip_frac::Frac;
 use cip_lin::Sides;
@@ -44,12 +45,19 @@ fn are_near(sides: Sides) -> bool
 }
 
 /// Whether the sides of all columns do.
-pub(crate) fn has_near_columns(program: &Program) -> bool
-    ensures { IsTrue result → AreNearColumns program.now }
+fn has_near_sides(program: &Program) -> bool
+    ensures { IsTrue result → All HasNearSides program.now.bounds }
 {
     program
         .bounds()
         .as_slice()
         .iter()
         .all(|sides| are_near(*sides))
+}
+
+/// Whether a search can begin with these sides.
+pub(crate) fn has_near_columns(program: &Program) -> bool
+    ensures { IsTrue result → AreNearColumns program.now }
+{
+    has_near_sides(program)
 }

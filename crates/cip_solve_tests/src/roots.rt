@@ -1,13 +1,13 @@
 //! How roots end.
 ghost use Rattle.std.specs.Prelude.{[]};
-ghost use Rattle.cip_node.specs.Cores.{IsReady};
-ghost use Rattle.cip_node.specs.KeptNodes.{cost_held, IsKept};
+ghost use Rattle.cip_core.specs.CoreStates.{IsKeptIn};
 
 use crate::programs::{FREE_COLUMN, has_near_columns, program_of};
+use cip_core::Core;
 use cip_frac::Frac;
 use cip_leaf::Shown;
 use cip_model::{Place, Program};
-use cip_node::{Core, NodeEnd, NodeRecord};
+use cip_node::{NodeEnd, NodeRecord, NodeWork};
 use cip_tree::End;
 use std::alloc::{AllocError, Global};
 
@@ -191,17 +191,9 @@ fn has_ended(ended: Result<(NodeEnd, NodeRecord), AllocError>, kind: Kind) -> bo
     }
 }
 
-/// The cost held.
-fn held(core: &Core<'_>) -> Option<Frac> {
-    match core.incumbent.held() {
-        Some((cost, _)) => Some(cost),
-        None => None,
-    }
-}
-
 /// The log has one entry, of this end and this bound.
 fn is_logged(core: &Core<'_>, case: &Case) -> bool {
-    match core.tree.log() {
+    match core.tree().log() {
         [entry] => entry.end == case.end && entry.bound == whole_number(case.bound),
         _ => false,
     }
@@ -210,20 +202,19 @@ fn is_logged(core: &Core<'_>, case: &Case) -> bool {
 /// What is left when a root has ended.
 fn is_left(core: &Core<'_>, case: &Case) -> bool {
     is_logged(core, case)
-        && held(core) == whole_number(case.held)
-        && core.tree.open_count() == case.waiting
+        && core.held_cost() == whole_number(case.held)
+        && core.tree().open_count() == case.waiting
 }
 
 /// Takes up the root, and works on it.
-fn is_worked(alloc: Global, core: &mut Core<'_>, case: &Case) -> bool
-    requires kept { IsKept core.old.program.now core.old.tree (cost_held core.old.incumbent) [] }
-    requires ready { IsReady core.old }
+fn is_worked(alloc: Global, work: &mut NodeWork<'_>, case: &Case) -> bool
+    requires { IsKeptIn work.old.core [] }
 {
-    if core.tree.ids() != 1 {
+    if work.core.tree().ids() != 1 {
         return false;
     }
-    match core.take() {
-        Some(node) => has_ended(core.process(alloc, node), case.kind) && is_left(core, case),
+    match work.core.take() {
+        Some(node) => has_ended(work.process(alloc, node), case.kind) && is_left(&work.core, case),
         None => false,
     }
 }
@@ -233,8 +224,8 @@ fn is_begun(alloc: Global, program: &Program, case: &Case) -> bool {
     if !has_near_columns(program) {
         return false;
     }
-    match Core::new(alloc, program) {
-        Ok(mut core) => is_worked(alloc, &mut core, case),
+    match NodeWork::new(alloc, program) {
+        Ok(mut work) => is_worked(alloc, &mut work, case),
         Err(_) => false,
     }
 }

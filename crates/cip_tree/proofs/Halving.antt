@@ -1,9 +1,9 @@
 -- The halves of a node, as changes of a column, and the sides and the choice of a column, change after change.
-use Rattle.std.proofs.Common.{inl, inr, ◌≡◌, ◌≢◌, ℕ, zero, suc, ◌<◌, ℤ, pos, ◌+ℤ◌, Bool, true, false, cond, List, [], ◌∷◌, reverse, ◌++◌, Option, None, Some, refl, sym, ap, ◌∙◌, arith, set, subst, true≢false}
-use Rattle.std.proofs.lemmas.List.{get_or-set_same, get_or-set_other, get_or_past, set_past, set-get_or, reverse-append}
+use Rattle.std.proofs.Common.{inl, inr, ◌≡◌, ◌≢◌, ℕ, zero, suc, ◌<◌, ℤ, pos, ◌+ℤ◌, Bool, true, false, cond, List, [], ◌∷◌, Option, None, Some, refl, sym, ap, ◌∙◌, arith, set, subst, true≢false}
+use Rattle.std.proofs.lemmas.List.{get_or-set_same, get_or-set_other, get_or_past, set_past, set-get_or}
 use Rattle.std.proofs.lemmas.Bool.{cases_eq, cases_lt}
-use Rattle.std.proofs.lemmas.Option.{none-some, same_Some}
-use Rattle.cip_lin.specs.ChoiceParts.{own_if_open, is_plain}
+use Rattle.std.proofs.lemmas.Option.{same_Some}
+use Rattle.cip_lin.specs.ChoiceParts.{is_plain}
 use Rattle.std.specs.Prelude.{slice_get}
 use Rattle.cip_rational.specs.Rational.{ℚ, integer, ◌<ℚ◌}
 use Rattle.std.proofs.lemmas.Int.{ints}
@@ -13,8 +13,8 @@ use Rattle.cip_domain.proofs.OneSide.{weak_changes}
 use Rattle.cip_rational.proofs.Rational.Order.{≤ℚ_trans, <ℚ_of_lt_of_le, <ℚ_of_le_of_lt, le_test_of_lt}
 use Rattle.cip_rational.proofs.Rational.Rounding.{integer_lt}
 use Rattle.cip_problem.specs.Program.{Sides, Choice, Plain, Open, Off, On}
-use Rattle.cip_problem.specs.Box.{no_sides, sides_at, low_inside, high_inside}
-use Rattle.cip_problem.specs.Choices.{choice_at, met, zero_sides}
+use Rattle.cip_problem.specs.Box.{sides_at, low_inside, high_inside}
+use Rattle.cip_problem.specs.Choices.{choice_at, is_open, met, zero_sides}
 use Rattle.cip_problem.specs.Wholes.{HasWhole, AllHaveWholes}
 use Rattle.cip_problem.specs.Log.{Node, low_of, high_of, low_node, high_node, CanSplitAt, CanSplit}
 use Rattle.cip_lin.specs.declared.sides.Side.TheVariants.{Low, High}
@@ -98,36 +98,13 @@ module _ (integral : List Bool) (node : Node) (column : ℕ) (at : ℤ) (wholes 
     high = subst (λ c. AllHaveWholes integral (high_of c node column at).box) (sym open_) (wholes_past integral node.box column _ whole wholes);
   }
 
--- ---- the sides of one column, change after change
+-- ---- the choice of one column, change after change
 
 alike : (a b : ℕ) → a ≡ b → (a == b) ≡ true
 alike a b e = grind arith
 
 unlike : (a b : ℕ) → a ≢ b → (a == b) ≡ false
 unlike a b d = grind arith
-
--- the sides of a column after a change, which may be of another one
-abbrev pub changed_sides : ℕ → Sides → Change → Sides
-changed_sides column sides change = cond (change.column == column) (met sides change.sides) sides
-
-pub sides_after : (region : Region) (column : ℕ) (change : Change) → column < length region.box → sides_at (tightened region change).box column ≡ changed_sides column (sides_at region.box column) change
-sides_after region column change l = elim (cases_eq change.column column) [
-  | inl same ↦
-      ap (λ k. sides_at (set region.box k (met (sides_at region.box k) change.sides)) column) same
-      ∙ get_or-set_same region.box column (met (sides_at region.box column) change.sides) no_sides l
-      ∙ sym (ap (λ b. cond b (met (sides_at region.box column) change.sides) (sides_at region.box column)) (alike change.column column same))
-  | inr apart ↦
-      get_or-set_other region.box change.column column (met (sides_at region.box change.column) change.sides) no_sides (λ e. apart (sym e))
-      ∙ sym (ap (λ b. cond b (met (sides_at region.box column) change.sides) (sides_at region.box column)) (unlike change.column column apart))
-]
-
-pub one_more : (region : Region) (column : ℕ) (told : List Change) (change : Change) (sides next : Sides) → column < length region.box → sides ≡ sides_at (narrowed region (reverse told)).box column → next ≡ changed_sides column sides change → next ≡ sides_at (narrowed region (reverse (told ++ change ∷ []))).box column
-one_more region column told change sides next l e f =
-    f ∙ ap (λ s. changed_sides column s change) e
-    ∙ sym (sides_after (narrowed region (reverse told)) column change (omega (arith, l, length-narrowed region (reverse told))))
-    ∙ ap (λ t. sides_at (narrowed region t).box column) (sym (reverse-append told (change ∷ [])))
-
--- ---- the choice of one column, change after change
 
 -- the choice of a column after a change, which may be of another one
 abbrev pub changed_choice : ℕ → Choice → Change → Choice
@@ -147,7 +124,7 @@ choice_here choices column made = elim (cases_lt column (length choices)) [
       ∙ sym (ap (λ c. choice_after c made) (get_or_past choices column Plain l) ∙ plain_after made)
 ]
 
-choice_after_change : (region : Region) (column : ℕ) (change : Change) → choice_at (tightened region change).choices column ≡ changed_choice column (choice_at region.choices column) change
+pub choice_after_change : (region : Region) (column : ℕ) (change : Change) → choice_at (tightened region change).choices column ≡ changed_choice column (choice_at region.choices column) change
 choice_after_change region column change = elim (cases_eq change.column column) [
   | inl same ↦
       ap (λ k. choice_at (set region.choices k (choice_after (choice_at region.choices k) change.made)) column) same
@@ -157,12 +134,6 @@ choice_after_change region column change = elim (cases_eq change.column column) 
       get_or-set_other region.choices change.column column (choice_after (choice_at region.choices change.column) change.made) Plain (λ e. apart (sym e))
       ∙ sym (ap (λ b. cond b (choice_after (choice_at region.choices column) change.made) (choice_at region.choices column)) (unlike change.column column apart))
 ]
-
-pub one_choice_more : (region : Region) (column : ℕ) (told : List Change) (change : Change) (choice next : Choice) → choice ≡ choice_at (narrowed region (reverse told)).choices column → next ≡ changed_choice column choice change → next ≡ choice_at (narrowed region (reverse (told ++ change ∷ []))).choices column
-one_choice_more region column told change choice next e f =
-    f ∙ ap (λ s. changed_choice column s change) e
-    ∙ sym (choice_after_change (narrowed region (reverse told)) column change)
-    ∙ ap (λ t. choice_at (narrowed region t).choices column) (sym (reverse-append told (change ∷ [])))
 
 still_plain : (same : Bool) (made : Option Bool) → cond same (choice_after Plain made) Plain ≡ Plain
 still_plain true made = plain_after made
@@ -181,11 +152,11 @@ plain_of (Open own) e = absurd (true≢false (sym e))
 plain_of Off e = absurd (true≢false (sym e))
 plain_of On e = absurd (true≢false (sym e))
 
-pub open_of : (choice : Choice) (own : Sides) → own_if_open choice ≡ Some own → choice ≡ Open own
-open_of Plain own e = absurd (none-some own e)
-open_of (Open sides) own e = ap Open (same_Some sides own e)
-open_of Off own e = absurd (none-some own e)
-open_of On own e = absurd (none-some own e)
+pub open_own : (choice : Choice) → is_open choice ≡ true → (own : Sides) × (choice ≡ Open own)
+open_own Plain e = absurd (true≢false (sym e))
+open_own (Open own) e = (own, refl)
+open_own Off e = absurd (true≢false (sym e))
+open_own On e = absurd (true≢false (sym e))
 
 zip_length : (integral : List Bool) (box : List Sides) → AllHaveWholes integral box → length integral ≡ length box
 zip_length [] [] h = refl

@@ -6,7 +6,7 @@ use Rattle.std.proofs.lemmas.Option.{none-some, same_Some}
 use Rattle.std.proofs.lemmas.List.{get_or_past}
 use Rattle.std.proofs.lemmas.List.Sums.{sum_by-cons, get_or-le-sum_by}
 use Rattle.cip_tree.specs.declared.kept.Stage.TheVariants.{Ended}
-use Rattle.cip_tree.specs.declared.kept.Origin.{Origin}
+use Rattle.cip_tree.specs.Origins.{Origin}
 use Rattle.cip_tree.specs.Slots.{Slot, Slots, slot_at, origin_is, comes_from, HasParent, IsKeptBut, IsUsed, IsIdle, IsUnused, IsLowered, IsReleased}
 
 -- ---- sums over lists that differ at one place

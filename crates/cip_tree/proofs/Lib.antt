@@ -1,5 +1,6 @@
 pub mod Closing
 pub mod Entering
+pub mod Filled
 pub mod Freeing
 pub mod Halving
 pub mod Keeping
@@ -11,6 +12,7 @@ pub mod Queues
 pub mod Restaged
 pub mod SplitColumns
 pub mod Starts
+pub mod Tightening
 pub mod Tracking
 pub mod WalkedOn
 pub mod Walking

@@ -13,11 +13,11 @@ use Rattle.std.specs.Prelude.{MatchOption, Contains, ◌==◌}
 use Rattle.std.proofs.lemmas.List.Sorted.{All-permutation, IsPermutation-map, length_permutation}
 use Rattle.cip_rational.specs.Rational.{ℚ}
 use Rattle.cip_problem.specs.Log.{Node, Entry}
-use Rattle.cip_tree.specs.declared.kept.Origin.{Origin}
+use Rattle.cip_tree.specs.Origins.{Origin}
 use Rattle.cip_tree.specs.Bounds.{IsBoundAtMost}
 use Rattle.cip_tree.specs.Queue.{IsFirst, IsLeast}
 use Rattle.cip_tree.specs.Moves.{IsBefore, IsLeastBound}
-use Rattle.cip_domain.specs.Changes.{narrowed}
+use Rattle.cip_tree.specs.Origins.{after}
 use Rattle.cip_tree.specs.declared.kept.Stage.{Stage}
 use Rattle.cip_tree.specs.declared.kept.Stage.TheVariants.{Open, Taken, Parked, Ended}
 use Rattle.cip_tree.specs.declared.queue.OpenNode.{OpenNode}
@@ -110,11 +110,11 @@ module _ (region : Region) (old new : Slots) (n : ℕ) (had notes : List Note) (
         ∙ ap (λ (s : Slot). noted notes ++ above s.number old s.origin) (same_slot old n h.slot slot_here.slot h.was slot_here.found)
         ∙ ap (λ r. noted notes ++ r) slot_here.changes
 
-    pub back_nodes : let node : Node = node_in (narrowed region (noted notes ++ base.changes)) id bound in IsPermutation (node ∷ nodes_at region old q) (nodes_at region new more)
+    pub back_nodes : let node : Node = node_in (after region (noted notes ++ base.changes)) id bound in IsPermutation (node ∷ nodes_at region old q) (nodes_at region new more)
     back_nodes =
         let e : OpenNode = record { bound = bound; id = id; place = n } in
         let mapped : IsPermutation (node_at region new e ∷ nodes_at region new q) (nodes_at region new more) = IsPermutation-map (node_at region new) (e ∷ q) more perm in
-        subst (λ t. IsPermutation ((node_in (narrowed region t) id bound) ∷ nodes_at region old q) (nodes_at region new more)) back_changes
+        subst (λ t. IsPermutation ((node_in (after region t) id bound) ∷ nodes_at region old q) (nodes_at region new more)) back_changes
         (subst (λ t. IsPermutation (node_at region new e ∷ t) (nodes_at region new more)) (nodes_same region old new q (changes_still Open old new (λ k. k ≢ n) q keeps_here q_apart q_stands)) mapped)
 
     pub back_gone : get_or (bases new) n None ≡ None
@@ -180,11 +180,11 @@ module _ (region : Region) (old new : Slots) (n : ℕ) (had notes : List Note) (
         ∙ ap (λ (s : Slot). noted notes ++ above s.number old s.origin) (same_slot old n h.slot slot_here.slot h.was slot_here.found)
         ∙ ap (λ r. noted notes ++ r) slot_here.changes
 
-    pub aside_parked : let node : Node = node_in (narrowed region (noted notes ++ base.changes)) id bound in nodes_at region new (p ++ node_here ∷ []) ≡ nodes_at region old p ++ node ∷ []
+    pub aside_parked : let node : Node = node_in (after region (noted notes ++ base.changes)) id bound in nodes_at region new (p ++ node_here ∷ []) ≡ nodes_at region old p ++ node ∷ []
     aside_parked =
         map-append (node_at region new) p (node_here ∷ [])
         ∙ ap (λ t. t ++ node_at region new node_here ∷ []) (nodes_same region old new p (changes_still Parked old new (λ k. k ≢ n) p aside_keeps ap_apart ap_stands))
-        ∙ ap (λ t. nodes_at region old p ++ (node_in (narrowed region t) id bound) ∷ []) aside_changes
+        ∙ ap (λ t. nodes_at region old p ++ (node_in (after region t) id bound) ∷ []) aside_changes
 
     pub aside_gone : get_or (bases new) n None ≡ None
     aside_gone = bases_at new n ∙ ap (base_of new) h.now
@@ -384,10 +384,10 @@ module _ (region : Region) (old new : Slots) (e : OpenNode) (had none : List Not
         ∙ ap (λ t. noted t ++ above h.slot.number old h.slot.origin) (sym h.had_is)
         ∙ ap (λ t. noted had ++ t) (sym (above_here old new e.place had none Taken h o.kept first_live taken_is_not h.slot.number))
 
-    pub first_nodes : let node : Node = node_in (narrowed region (noted had ++ above h.slot.number new h.slot.origin)) e.id e.bound in IsPermutation (nodes_at region old q) (node ∷ nodes_at region new rest)
+    pub first_nodes : let node : Node = node_in (after region (noted had ++ above h.slot.number new h.slot.origin)) e.id e.bound in IsPermutation (nodes_at region old q) (node ∷ nodes_at region new rest)
     first_nodes =
         let mapped : IsPermutation (nodes_at region old q) (node_at region old e ∷ nodes_at region old rest) = IsPermutation-map (node_at region old) q (e ∷ rest) perm in
-        subst (λ t. IsPermutation (nodes_at region old q) ((node_in (narrowed region t) e.id e.bound) ∷ nodes_at region new rest)) first_changes
+        subst (λ t. IsPermutation (nodes_at region old q) ((node_in (after region t) e.id e.bound) ∷ nodes_at region new rest)) first_changes
         (subst (λ t. IsPermutation (nodes_at region old q) (node_at region old e ∷ t)) (sym (nodes_same region old new rest (changes_still Open old new (λ k. k ≢ e.place) rest first_keeps rest_apart rest_stands))) mapped)
 
     pub first_before : IsFirst e rest → (b : Region) → let node : Node = node_in b e.id e.bound in All (IsBefore node) (nodes_at region new rest)

@@ -13,10 +13,11 @@ use Rattle.std.proofs.lemmas.List.Elements.{All-cons}
 use Rattle.std.proofs.lemmas.List.Sorted.{All-permutation, IsPermutation-map, IsPermutation-trans, IsPermutation-cons, length_permutation}
 use Rattle.cip_rational.specs.Rational.{ℚ}
 use Rattle.cip_problem.specs.Log.{Node}
-use Rattle.cip_domain.specs.Changes.{Change, narrowed}
+use Rattle.cip_domain.specs.Changes.{Change}
+use Rattle.cip_tree.specs.Origins.{after}
 use Rattle.cip_tree.specs.declared.kept.Stage.{Stage}
 use Rattle.cip_tree.specs.declared.kept.Stage.TheVariants.{Open, Taken, Parked, Ended}
-use Rattle.cip_tree.specs.declared.kept.Origin.{Origin}
+use Rattle.cip_tree.specs.Origins.{Origin}
 use Rattle.cip_tree.specs.declared.queue.OpenNode.{OpenNode}
 use Rattle.cip_tree.specs.Nodes.{Base}
 use Rattle.cip_tree.specs.Slots.{Slot, Slots, slot_at, open_slot, origin_is, comes_from, above, slot_changes, changes_at, HasParent, AreSoundSlots, IsParted}
@@ -294,14 +295,14 @@ module _ (region : Region) (old new : Slots) (n : ℕ) (notes : List Note) (lp h
       pub part_parked : nodes_at region new p ≡ nodes_at region old p
       part_parked = nodes_same region old new p (changes_still Parked old new Old p part_keeps p_old p_stands)
 
-      pub part_nodes : let low : Node = node_in (narrowed region (cl ∷ (noted notes ++ base.changes))) ids bound in let high : Node = node_in (narrowed region (ch ∷ (noted notes ++ base.changes))) (ids + 1) bound in IsPermutation (low ∷ high ∷ nodes_at region old q) (nodes_at region new q2)
+      pub part_nodes : let low : Node = node_in (after region (cl ∷ (noted notes ++ base.changes))) ids bound in let high : Node = node_in (after region (ch ∷ (noted notes ++ base.changes))) (ids + 1) bound in IsPermutation (low ∷ high ∷ nodes_at region old q) (nodes_at region new q2)
       part_nodes =
           let mapped : IsPermutation (node_at region new low_node ∷ node_at region new high_node ∷ nodes_at region new q) (nodes_at region new q2) = IsPermutation-map (node_at region new) (low_node ∷ high_node ∷ q) q2 (IsPermutation-trans (low_node ∷ high_node ∷ q) (low_node ∷ q1) q2 (IsPermutation-cons low_node (high_node ∷ q) q1 p1) p2) in
           let low_is : changes_at new lp ≡ cl ∷ (noted notes ++ base.changes) = ap (slot_changes new) h.low_now ∙ half_changes ids cl (omega arith) in
           let high_is : changes_at new hp ≡ ch ∷ (noted notes ++ base.changes) = ap (slot_changes new) h.high_now ∙ half_changes (ids + 1) ch (omega arith) in
           let rest : nodes_at region new q ≡ nodes_at region old q = nodes_same region old new q (changes_still Open old new Old q part_keeps q_old q_stands) in
-          subst (λ t. IsPermutation ((node_in (narrowed region t) ids bound) ∷ (node_in (narrowed region (ch ∷ (noted notes ++ base.changes))) (ids + 1) bound) ∷ nodes_at region old q) (nodes_at region new q2)) low_is
-          (subst (λ t. IsPermutation (node_at region new low_node ∷ (node_in (narrowed region t) (ids + 1) bound) ∷ nodes_at region old q) (nodes_at region new q2)) high_is
+          subst (λ t. IsPermutation ((node_in (after region t) ids bound) ∷ (node_in (after region (ch ∷ (noted notes ++ base.changes))) (ids + 1) bound) ∷ nodes_at region old q) (nodes_at region new q2)) low_is
+          (subst (λ t. IsPermutation (node_at region new low_node ∷ (node_in (after region t) (ids + 1) bound) ∷ nodes_at region old q) (nodes_at region new q2)) high_is
           (subst (λ t. IsPermutation (node_at region new low_node ∷ node_at region new high_node ∷ t) (nodes_at region new q2)) rest mapped))
 
       pub part_gone : get_or (bases new) n None ≡ None

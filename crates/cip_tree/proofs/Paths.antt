@@ -9,10 +9,10 @@ use Rattle.std.proofs.lemmas.Option.{none-some, same_Some}
 use Rattle.std.proofs.lemmas.List.Elements.{All-tail, All-head}
 use Rattle.std.proofs.lemmas.List.Sums.{sum_by-cons, get_or-le-sum_by}
 use Rattle.std.proofs.lemmas.List.Sorted.{sum_by-IsPermutation}
-use Rattle.cip_domain.specs.Changes.{narrowed}
+use Rattle.cip_tree.specs.Origins.{after}
 use Rattle.cip_tree.specs.declared.kept.Stage.{Stage}
 use Rattle.cip_tree.specs.declared.kept.Stage.TheVariants.{Open, Taken, Parked, Ended}
-use Rattle.cip_tree.specs.declared.kept.Origin.{Origin}
+use Rattle.cip_tree.specs.Origins.{Origin}
 use Rattle.cip_tree.specs.declared.queue.OpenNode.{OpenNode}
 use Rattle.cip_tree.specs.Nodes.{Base}
 use Rattle.cip_tree.specs.Slots.{Slot, Slots, slot_at, changes_of, above, slot_changes, changes_at}
@@ -100,7 +100,7 @@ map_same f g (x ∷ xs) h =
 
 pub nodes_same : (region : Region) (old new : Slots) (nodes : List OpenNode) → All (λ e. changes_at new e.place ≡ changes_at old e.place) nodes → nodes_at region new nodes ≡ nodes_at region old nodes
 nodes_same region old new nodes h =
-    map_same (node_at region new) (node_at region old) nodes (λ k d l. ap (λ t. (node_in (narrowed region t) ((get_or nodes k d).id) ((get_or nodes k d).bound))) (h k d l))
+    map_same (node_at region new) (node_at region old) nodes (λ k d l. ap (λ t. (node_in (after region t) ((get_or nodes k d).id) ((get_or nodes k d).bound))) (h k d l))
 
 -- nodes at one stage are not at the place of a node at another
 pub stage_apart : (stage : Stage) (slots : Slots) (place : ℕ) (slot : Slot) (nodes : List OpenNode) → slot_at slots place ≡ Some slot → slot.stage ≢ stage → All (StandsAs stage slots) nodes → All (λ e. e.place ≢ place) nodes

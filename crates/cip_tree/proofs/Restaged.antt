@@ -6,7 +6,7 @@ use Rattle.std.proofs.lemmas.Bool.{cases_eq}
 use Rattle.std.proofs.lemmas.Option.{same_Some}
 use Rattle.cip_tree.specs.declared.kept.Stage.{Stage}
 use Rattle.cip_tree.specs.declared.kept.Stage.TheVariants.{Ended}
-use Rattle.cip_tree.specs.declared.kept.Origin.{Origin}
+use Rattle.cip_tree.specs.Origins.{Origin}
 use Rattle.cip_tree.specs.Slots.{Slot, Slots, slot_at, comes_from, above, slot_changes, changes_at, HasParent, AreSoundSlots, IsRestaged}
 use Rattle.cip_tree.specs.Inside.{base_of, has_stage}
 use Rattle.cip_tree.proofs.Keeping.{one_if, count_changed, none_or_slot, same_slot}

@@ -1,5 +1,5 @@
 -- The halves of a node that a split is told to give.
-use Rattle.std.proofs.Common.{◌≡◌, ℕ, ℤ, pos, ◌+ℤ◌, true, false, Some, Result, Ok, Err, MatchResult, sym, ap, ◌∙◌, subst}
+use Rattle.std.proofs.Common.{◌≡◌, ℕ, ℤ, pos, ◌+ℤ◌, true, false, Some, Result, Ok, Err, MatchResult, refl, sym, ap, ◌∙◌, subst}
 use Rattle.std.specs.Prelude.{slice_get}
 use Rattle.cip_rational.specs.Rational.{integer}
 use Rattle.cip_problem.specs.Program.{Sides, Plain, Open}
@@ -12,8 +12,11 @@ use Rattle.cip_domain.specs.Domain.{left_sides}
 use Rattle.cip_domain.specs.Halves.{CanHalve}
 use Rattle.cip_tree.specs.declared.splits.SplitFault.{SplitFault}
 use Rattle.cip_tree.specs.declared.splits.SplitFault.TheVariants.{Outside}
-use Rattle.cip_tree.specs.Nodes.{TakenNode, Nodes, region_of, box_of, choices_of, shown}
-use Rattle.cip_tree.specs.Splitting.{AreHalves, IsSplitFault}
+use Rattle.cip_tree.specs.Nodes.{TakenNode, Nodes, region_in, node_changes, region_of, box_of, choices_of, shown}
+use Rattle.cip_tree.specs.declared.origins.Parting.{Parting}
+use Rattle.cip_tree.specs.declared.origins.Parting.TheVariants.{Whole, Chosen}
+use Rattle.cip_tree.specs.Splitting.{AreHalves, IsParting, IsSplitFault}
+use Rattle.cip_tree.proofs.Filled.{was_open}
 use Rattle.cip_tree.proofs.Halving.{low_is_half, high_is_half, off_is_half, on_is_half, can_split, can_choose}
 
 module _ (tree : Nodes) (node : TakenNode) (column : ℕ) (at : ℤ) (wholes : AllHaveWholes tree.integral (box_of tree node)) where
@@ -27,15 +30,25 @@ module _ (tree : Nodes) (node : TakenNode) (column : ℕ) (at : ℤ) (wholes : A
     }
 
     -- what the halves of a whole column come to
-    pub whole_come : (r : Result (Change × Change) SplitFault) → MatchResult r (λ halves. CanHalve (sides_at (box_of tree node) column) at × (halves.0 ≡ side_change column High (integer at)) × (halves.1 ≡ side_change column Low (integer (at +ℤ pos 1)))) (λ fault. (fault ≡ Outside) × (¬ CanHalve (sides_at (box_of tree node) column) at)) → MatchResult r (λ halves. AreHalves tree node column at halves.0 halves.1) (λ fault. IsSplitFault tree node column at fault)
-    whole_come (Ok halves) h = whole_are halves.0 halves.1 h.0 h.1 h.2
+    pub whole_come : (r : Result Parting SplitFault) → MatchResult r (λ parting. (parting ≡ Whole) × CanHalve (sides_at (box_of tree node) column) at) (λ fault. (fault ≡ Outside) × (¬ CanHalve (sides_at (box_of tree node) column) at)) → MatchResult r (λ parting. IsParting tree node column at parting) (λ fault. IsSplitFault tree node column at fault)
+    whole_come (Ok parting) h = subst (IsParting tree node column at) (sym h.0) (record { near = λ _. h.1.near; halves = whole_are _ _ h.1 refl refl })
     whole_come (Err fault) h = subst (λ f. IsSplitFault tree node column at f) (sym h.0) (plain, whole, h.1)
 
-  -- the halves of a column whose choice is open
-  pub open_are : (own : Sides) (low high : Change) → slice_get tree.integral column ≡ Some false → choice_at (choices_of tree node) column ≡ Open own → low ≡ (let c : Change = record { column = column; sides = left_sides (Open own) false; made = Some false } in c) → high ≡ (let c : Change = record { column = column; sides = left_sides (Open own) true; made = Some true } in c) → AreHalves tree node column at low high
+  open_are : (own : Sides) (low high : Change) → slice_get tree.integral column ≡ Some false → choice_at (choices_of tree node) column ≡ Open own → low ≡ (let c : Change = record { column = column; sides = left_sides (Open own) false; made = Some false } in c) → high ≡ (let c : Change = record { column = column; sides = left_sides (Open own) true; made = Some true } in c) → AreHalves tree node column at low high
   open_are own low high whole open_ l h = record {
     near = λ e. absurd (let f : Some true ≡ Some false = sym e ∙ whole in cc);
     can = can_choose tree.integral (shown tree node) column at wholes own whole open_;
     low_is = ap (tightened (region_of tree node)) l ∙ off_is_half (shown tree node) column at own open_;
     high_is = ap (tightened (region_of tree node)) h ∙ on_is_half (shown tree node) column at own open_;
   }
+
+  -- the halves of a column whose choice is open
+  pub chosen_are : (own : Sides) → slice_get tree.integral column ≡ Some false → choice_at (choices_of tree node) column ≡ Open own → IsParting tree node column at Chosen
+  chosen_are own whole open_ =
+      let at_root : choice_at tree.root.choices column ≡ Open own = was_open (region_in tree.root) (node_changes tree node) column own open_ in
+      record {
+        near = λ e. absurd (let f : Chosen ≡ Whole = e in cc);
+        halves = open_are own _ _ whole open_
+            (ap (λ c. let t : Change = record { column = column; sides = left_sides c false; made = Some false } in t) at_root)
+            (ap (λ c. let t : Change = record { column = column; sides = left_sides c true; made = Some true } in t) at_root);
+      }

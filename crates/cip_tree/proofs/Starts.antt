@@ -9,7 +9,7 @@ use Rattle.std.proofs.lemmas.List.Sums.{sum_by-cons}
 use Rattle.cip_tree.specs.declared.kept.Stage.TheVariants.{Open, Parked, Ended}
 use Rattle.cip_tree.specs.declared.queue.OpenNode.{OpenNode}
 use Rattle.cip_tree.specs.Slots.{Slot, Slots, slot_at, open_slot, comes_from, changes_at, slot_changes, HasParent, AreSoundSlots}
-use Rattle.cip_domain.specs.Changes.{narrowed}
+use Rattle.cip_tree.specs.Origins.{after}
 use Rattle.cip_tree.specs.Inside.{nodes_at, base_of, bases, is_waiting, is_taken, is_aside, has_stage, is_at, StandsAs, IsInOrder}
 use Rattle.cip_tree.proofs.Keeping.{one_if, sum_same, sum_changed}
 use Rattle.cip_tree.proofs.Paths.{bases_at}
@@ -73,4 +73,4 @@ module _ (slots : Slots) (place : ℕ) (here : slot_at slots place ≡ Some (ope
 
   pub root_nodes : (region : Region) (node : OpenNode) → node.place ≡ place → nodes_at region slots (node ∷ []) ≡ (node_in region node.id node.bound) ∷ []
   root_nodes region node f =
-      ap (λ t. (node_in (narrowed region t) node.id node.bound) ∷ []) (ap (changes_at slots) f ∙ root_changes)
+      ap (λ t. (node_in (after region t) node.id node.bound) ∷ []) (ap (changes_at slots) f ∙ root_changes)

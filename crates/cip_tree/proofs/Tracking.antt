@@ -10,10 +10,11 @@ use Rattle.std.proofs.lemmas.List.{append-nil}
 use Rattle.std.proofs.lemmas.Option.{none-some, same_Some}
 use Rattle.cip_rational.specs.Rational.{ℚ}
 use Rattle.cip_problem.specs.Log.{Entry, Node, Split, Closed, Parked, low_node, high_node, node_of, halves, nodes_of, CanSplit, IsRightEnd}
-use Rattle.cip_domain.specs.Changes.{Change, tightened, narrowed}
+use Rattle.cip_domain.specs.Changes.{Change, tightened}
 use Rattle.cip_tree.specs.declared.kept.Stage.{Stage}
 use Rattle.cip_tree.specs.declared.kept.Stage.TheVariants.{Open, Taken, Parked, Ended}
-use Rattle.cip_tree.specs.declared.kept.Origin.{Origin}
+use Rattle.cip_tree.specs.Origins.{Origin, filled, after}
+use Rattle.cip_tree.proofs.Filled.{after_within, after_choices}
 use Rattle.cip_tree.specs.declared.queue.OpenNode.{OpenNode}
 use Rattle.cip_tree.specs.Slots.{Slot, Slots, slot_at, open_slot, above, AreSoundSlots, IsRestaged, IsReleased, IsParted, slot_changes, changes_at}
 use Rattle.cip_tree.specs.Nodes.{Base}
@@ -27,7 +28,7 @@ use Rattle.cip_tree.proofs.Restaged as restaged
 use Rattle.cip_tree.proofs.Orders.{released_keeps}
 use Rattle.cip_tree.proofs.Freeing.{Anywhere, freed_keeps}
 use Rattle.cip_tree.proofs.Parted as parted
-use Rattle.cip_tree.proofs.Within.{within_itself, within_later, noted_choices, within_low, within_high, low_choices, high_choices, split_within, in_wider}
+use Rattle.cip_tree.proofs.Within.{within_itself, within_low, within_high, low_choices, high_choices, split_within, in_wider}
 use Rattle.cip_tree.proofs.Entering.{node_of_kept, node_of_new, node_of_here, node_of_later, given_more, follow_more, taken_more, taken_given, node_of_number}
 
 -- ---- the first log
@@ -63,8 +64,8 @@ given_still : (root : Region) (old new : Slots) (given : List Node) (place : ℕ
 given_still root old new given place slot w g = record {
   node = g.node;
   found = ap (node_of given) (sym w.number) ∙ g.found;
-  within = subst (λ c. IsWithin (narrowed root c).box g.node.box) (sym w.above_is) g.within;
-  choices_are = ap (λ c. (narrowed root c).choices) w.above_is ∙ g.choices_are;
+  within = subst (λ c. IsWithin (after root c).box g.node.box) (sym w.above_is) g.within;
+  choices_are = ap (λ c. (after root c).choices) w.above_is ∙ g.choices_are;
 }
 
 -- more nodes are given
@@ -147,14 +148,14 @@ module _ (root : Node) (integral : List Bool) (slots : Slots) (ids : ℕ) (log :
   open_in e s =
       let g = t.given e.place s.slot s.found in
       let changes = sym (ap (slot_changes slots) s.found) in
-      let within : IsWithin (narrowed (region_in root) (changes_at slots e.place)).box g.node.box =
-      subst (λ c. IsWithin (narrowed (region_in root) c).box g.node.box) changes (within_later (region_in root) g.node.box (noted s.slot.notes) (above s.slot.number slots s.slot.origin) g.within) in
+      let within : IsWithin (after (region_in root) (changes_at slots e.place)).box g.node.box =
+      subst (λ c. IsWithin (after (region_in root) c).box g.node.box) changes (after_within (region_in root) g.node.box (noted s.slot.notes) (above s.slot.number slots s.slot.origin) g.within) in
       record {
         given = g.node;
         number = node_of_number (given_by root log) s.slot.number g.node g.found ∙ s.number;
         found = ap (node_of (given_by root log)) (sym s.number) ∙ g.found;
-        choices_are = sym (sym (ap (λ c. (narrowed (region_in root) c).choices) changes) ∙ noted_choices (region_in root) s.slot.notes (above s.slot.number slots s.slot.origin) ∙ g.choices_are);
-        holds = λ point h. in_wider (narrowed (region_in root) (changes_at slots e.place)).box g.node.box point within h;
+        choices_are = sym (sym (ap (λ c. (after (region_in root) c).choices) changes) ∙ after_choices (region_in root) s.slot.notes (above s.slot.number slots s.slot.origin) ∙ g.choices_are);
+        holds = λ point h. in_wider (after (region_in root) (changes_at slots e.place)).box g.node.box point within h;
         unended = subst (HasNotEnded log) s.number (t.live e.place s.slot s.found (live_open s.slot.stage s.stage_is));
       }
 
@@ -300,9 +301,9 @@ module _ (root_bound : Option ℚ) (integral : List Bool) (region : Region) (old
 
   -- the region of the node, and the node as it is shown
   abbrev part_region : Region
-  part_region = narrowed region (noted notes ++ base.changes)
+  part_region = after region (noted notes ++ base.changes)
 
-  module _ (log : List Entry) (t : IsTracked root integral old ids log) (column : ℕ) (at : ℤ) (number : ℕ) (bound : Option ℚ) (same : base.number ≡ number) (can : CanSplit integral (node_in part_region number bound) column at) (low_is : tightened part_region cl ≡ region_in (low_node (node_in part_region number bound) column at)) (high_is : tightened part_region ch ≡ region_in (high_node (node_in part_region number bound) column at)) where
+  module _ (log : List Entry) (t : IsTracked root integral old ids log) (column : ℕ) (at : ℤ) (number : ℕ) (bound : Option ℚ) (same : base.number ≡ number) (can : CanSplit integral (node_in part_region number bound) column at) (low_is : tightened part_region (filled region.choices cl) ≡ region_in (low_node (node_in part_region number bound) column at)) (high_is : tightened part_region (filled region.choices ch) ≡ region_in (high_node (node_in part_region number bound) column at)) where
     abbrev part_node : Node
     part_node = node_in part_region number bound
 
@@ -319,11 +320,11 @@ module _ (root_bound : Option ℚ) (integral : List Bool) (region : Region) (old
     split_is = ap (node_of given) (sym (split_slot.number ∙ same)) ∙ split_given.found
 
     split_inside : IsWithin part_region.box split_given.node.box
-    split_inside = within_later region split_given.node.box (noted notes) base.changes (subst (λ c. IsWithin (narrowed region c).box split_given.node.box) split_slot.changes split_given.within)
+    split_inside = after_within region split_given.node.box (noted notes) base.changes (subst (λ c. IsWithin (after region c).box split_given.node.box) split_slot.changes split_given.within)
 
     split_choices : part_region.choices ≡ split_given.node.choices
     split_choices =
-        noted_choices region notes base.changes ∙ sym (ap (λ c. (narrowed region c).choices) split_slot.changes) ∙ split_given.choices_are
+        after_choices region notes base.changes ∙ sym (ap (λ c. (after region c).choices) split_slot.changes) ∙ split_given.choices_are
 
     abbrev low_given : Node
     low_given = record (low_node split_given.node column at) { number = ids; bound = bound }
@@ -356,11 +357,11 @@ module _ (root_bound : Option ℚ) (integral : List Bool) (region : Region) (old
         still_not root integral old new ids log t entry n split_slot.slot o.kept split_slot.found split_live (split_slot.number ∙ same) m (none_ended m l) (λ e. omega (arith, l, below_ids, e))
 
     -- the regions of the halves
-    low_after : narrowed region (above ids new (Some (let x : Origin = record { parent = n; change = cl } in x))) ≡ region_in (low_node part_node column at)
-    low_after = ap (narrowed region) (parted.half_changes region old new n notes lp hp cl ch q p ids work base o w h ids cl (omega arith)) ∙ low_is
+    low_after : after region (above ids new (Some (let x : Origin = record { parent = n; change = cl } in x))) ≡ region_in (low_node part_node column at)
+    low_after = ap (after region) (parted.half_changes region old new n notes lp hp cl ch q p ids work base o w h ids cl (omega arith)) ∙ low_is
 
-    high_after : narrowed region (above (ids + 1) new (Some (let x : Origin = record { parent = n; change = ch } in x))) ≡ region_in (high_node part_node column at)
-    high_after = ap (narrowed region) (parted.half_changes region old new n notes lp hp cl ch q p ids work base o w h (ids + 1) ch (omega arith)) ∙ high_is
+    high_after : after region (above (ids + 1) new (Some (let x : Origin = record { parent = n; change = ch } in x))) ≡ region_in (high_node part_node column at)
+    high_after = ap (after region) (parted.half_changes region old new n notes lp hp cl ch q p ids work base o w h (ids + 1) ch (omega arith)) ∙ high_is
 
     low_is_given : IsGiven region new (given ++ (low_given ∷ high_given ∷ [])) (open_slot ids (Some (record { parent = n; change = cl })))
     low_is_given = record {

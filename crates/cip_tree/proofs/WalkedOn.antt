@@ -1,8 +1,8 @@
 -- The way to the region in work stays one where the nodes of the tree change.
-use Rattle.std.proofs.Common.{◌≡◌, ◌≢◌, inl, inr, ℕ, ◌+◌, ◌<◌, ◌≤◌, true, List, [], get_or, Option, None, Some, All, refl, sym, ap, ◌∙◌, subst, arith}
+use Rattle.std.proofs.Common.{◌≡◌, ◌≢◌, inl, inr, ℕ, ◌+◌, ◌<◌, true, List, [], get_or, None, Some, sym, ap, ◌∙◌, subst, arith}
 use Rattle.cip_domain.specs.Changes.{Region, Change}
 use Rattle.cip_domain.specs.Narrowing.{ArePlainPast}
-use Rattle.cip_tree.specs.declared.kept.Origin.{Origin}
+use Rattle.cip_tree.specs.Origins.{Origin}
 use Rattle.cip_tree.specs.declared.kept.Stage.{Stage}
 use Rattle.cip_tree.specs.declared.kept.Stage.TheVariants.{Open, Taken, Ended}
 use Rattle.cip_tree.specs.declared.notes.Note.{Note}
@@ -10,12 +10,12 @@ use Rattle.cip_tree.specs.declared.queue.OpenNode.{OpenNode}
 use Rattle.cip_tree.specs.Freed.{AreReleased}
 use Rattle.cip_tree.specs.Inside.{bases, StandsAs, IsInOrder}
 use Rattle.cip_tree.specs.Nodes.{Base}
-use Rattle.cip_tree.specs.Slots.{Slot, Slots, slot_at, open_slot, above, AreSoundSlots, IsRestaged, IsReleased, IsParted}
+use Rattle.cip_tree.specs.Slots.{Slot, Slots, slot_at, open_slot, AreSoundSlots, IsRestaged, IsReleased, IsParted}
 use Rattle.cip_tree.specs.Tracked.{is_live}
-use Rattle.cip_tree.specs.Walks.{Way, IsStop, IsWalked}
+use Rattle.cip_tree.specs.Walks.{Way, IsWalked}
 use Rattle.cip_tree.proofs.Keeping.{same_slot}
 use Rattle.cip_tree.proofs.Paths.{in_work}
-use Rattle.cip_tree.proofs.Tracking.{WasKept, AllWereKept, restaged_kept, released_kept, freed_kept, live_open, live_taken, part_was}
+use Rattle.cip_tree.proofs.Tracking.{AllWereKept, restaged_kept, released_kept, freed_kept, live_open, live_taken, part_was}
 use Rattle.cip_tree.proofs.Walking.{walked_slots}
 
 -- the region of a new tree is in work

@@ -1,31 +1,30 @@
 -- The way to the region in work: shorter, longer, and from node to node.
-use Rattle.std.proofs.Common.{◌≡◌, ◌≢◌, ◌⊎◌, inl, inr, ℕ, zero, suc, ◌+◌, ◌-◌, ◌<◌, ◌≤◌, Bool, true, false, List, [], ◌∷◌, ◌++◌, length, map, take, drop, reverse, get_or, Option, None, Some, IfSome, All, refl, sym, ap, ◌∙◌, subst, arith}
-use Rattle.std.specs.Prelude.{slice_get, Result, Ok, Err, IsErr, IfOk}
+use Rattle.std.proofs.Common.{◌≡◌, ◌⊎◌, inl, inr, ℕ, zero, suc, ◌+◌, ◌-◌, ◌<◌, ◌≤◌, Bool, true, false, List, [], ◌∷◌, ◌++◌, length, map, take, drop, reverse, get_or, Option, None, Some, IfSome, All, refl, sym, ap, ◌∙◌, subst, arith}
+use Rattle.std.specs.Prelude.{Result, Ok, Err, IsErr, IfOk}
 use Rattle.std.proofs.lemmas.Bool.{cases_lt}
 use Rattle.std.proofs.lemmas.Option.{none-some, same_Some, slice_get-get_or}
-use Rattle.std.proofs.lemmas.List.{map-append, reverse-append, take_more, take-append-drop, take_all, length-take, get_or-take, length_push, get_or_append_left, get_or_push, get_or_default}
+use Rattle.std.proofs.lemmas.List.{map-append, reverse-append, take_more, take-append-drop, length-take, get_or-take, length_push, get_or_append_left, get_or_push}
 use Rattle.std.proofs.lemmas.List.Elements.{All-push, All-take}
 use Rattle.cip_rational.specs.Rational.{ℚ}
-use Rattle.cip_problem.specs.Program.{Plain}
 use Rattle.cip_problem.specs.Box.{IsInBox}
 use Rattle.cip_domain.specs.Changes.{Region, Change, tightened, narrowed}
 use Rattle.cip_domain.specs.Domain.{Domain, region_of, region_at, KeepsMarks}
 use Rattle.cip_domain.specs.Narrowing.{ArePlainPast, IsNarrowed}
-use Rattle.cip_domain.proofs.Boxes.{length-narrowed, narrowed-append}
 use Rattle.cip_tree.specs.declared.notes.Note.{Note}
-use Rattle.cip_tree.specs.declared.kept.Origin.{Origin}
+use Rattle.cip_tree.specs.Origins.{Origin}
 use Rattle.cip_tree.specs.declared.walks.Stop.{Stop}
 use Rattle.cip_tree.specs.Notes.{noted_change, noted}
-use Rattle.cip_tree.specs.Slots.{Slot, Slots, slot_at, above, HasParent, AreSoundSlots, IsBelow, IsLinked}
-use Rattle.cip_tree.specs.Walks.{Way, last_stop, AreRising, AreHeld, IsEntered, AreNarrowed, Arrives, EndsAt, EndsThere, IsRegionAt, IsStop, IsWalked, IsParent, Climbs, StandsAt, IsReached}
+use Rattle.cip_tree.specs.Slots.{Slot, Slots, slot_at, above, HasParent, AreSoundSlots, IsLinked}
+use Rattle.cip_tree.specs.Walks.{Way, last_stop, AreRising, AreHeld, AreNarrowed, Arrives, EndsThere, IsRegionAt, IsStop, IsWalked, IsParent, Climbs, StandsAt, IsReached}
 use Rattle.cip_tree.proofs.Keeping.{same_slot}
 use Rattle.cip_tree.proofs.Links.{first_above, up_of_kept, step_up}
-use Rattle.cip_tree.proofs.Halving.{plain_stays}
+use Rattle.cip_tree.specs.Origins.{filled, after}
+use Rattle.cip_tree.proofs.Filled.{after_earlier, after_notes, after_plain, past_stays}
 use Rattle.cip_tree.proofs.Within.{within_later, in_wider, within_itself}
 
 -- ---- notes
 
-noted-append : (a b : List Note) → noted (a ++ b) ≡ noted b ++ noted a
+pub noted-append : (a b : List Note) → noted (a ++ b) ≡ noted b ++ noted a
 noted-append a b = ap reverse (map-append noted_change a b) ∙ reverse-append (map noted_change a) (map noted_change b)
 
 noted_more : (notes : List Note) (i : ℕ) (note : Note) → i < length notes → note ≡ get_or notes i note → noted (take (i + 1) notes) ≡ noted_change note ∷ noted (take i notes)
@@ -48,10 +47,6 @@ none_by_notes first now notes i note l e f h point k =
     let apart : noted notes ≡ noted (drop (i + 1) notes) ++ noted (take (i + 1) notes) = ap noted (sym (take-append-drop (i + 1) notes)) ∙ noted-append (take (i + 1) notes) (drop (i + 1) notes) in
     let back = after_first first (noted (drop (i + 1) notes)) (noted (take (i + 1) notes)) point (subst (λ c. IsInBox (narrowed first c).box point) apart k) in
     h point (subst (λ r. IsInBox (tightened r (noted_change note)).box point) (sym f) (subst (λ c. IsInBox (narrowed first c).box point) (noted_more notes i note l e) back))
-
--- choices past the end of the box stay plain
-pub past_stays : (region : Region) (changes : List Change) → ArePlainPast region → ArePlainPast (narrowed region changes)
-past_stays region changes h column l = plain_stays region changes column (h column (subst (λ n. n ≤ column) (length-narrowed region changes) l))
 
 -- ---- the last of the stops
 
@@ -135,7 +130,7 @@ walked_slots root old new ids more way l given was w = record {
     given = omega (arith, l, s.given);
     there = λ place slot e f.
         let b = was place slot e (subst (λ n. n < ids) (sym f) s.given) in
-        s.there b.0 b.1.0 b.1.1.0 (b.1.1.1.0 ∙ f) ∙ ap (narrowed root) (sym b.1.1.1.1);
+        s.there b.0 b.1.0 b.1.1.0 (b.1.1.1.0 ∙ f) ∙ ap (after root) (sym b.1.1.1.1);
   };
 }
 
@@ -182,14 +177,14 @@ climbs_less slots place (first ∷ rest) last top c =
     ((c.0, (c.1.0, (c.1.1.0, r.0))), r.1)
 
 -- where the box of a node has no point, those of the nodes below it have none
-pub empty_below : (root : Region) (slots : Slots) (place parent : ℕ) → AreSoundSlots slots → IsParent slots place parent → ((slot : Slot) → slot_at slots parent ≡ Some slot → (point : List ℚ) → ¬ IsInBox (narrowed root (above slot.number slots slot.origin)).box point) → (slot : Slot) → slot_at slots place ≡ Some slot → (point : List ℚ) → ¬ IsInBox (narrowed root (above slot.number slots slot.origin)).box point
+pub empty_below : (root : Region) (slots : Slots) (place parent : ℕ) → AreSoundSlots slots → IsParent slots place parent → ((slot : Slot) → slot_at slots parent ≡ Some slot → (point : List ℚ) → ¬ IsInBox (after root (above slot.number slots slot.origin)).box point) → (slot : Slot) → slot_at slots place ≡ Some slot → (point : List ℚ) → ¬ IsInBox (after root (above slot.number slots slot.origin)).box point
 empty_below root slots place parent kept p h slot e point k =
     let u = parent_kept slots place parent kept p in
     let same : p.slot ≡ slot = same_slot slots place p.slot slot p.found e in
-    let k' = subst (λ c. IsInBox (narrowed root c).box point) (parent_above slots place parent kept p) (subst (λ (s : Slot). IsInBox (narrowed root (above s.number slots s.origin)).box point) (sym same) k) in
-    h u.parent u.found point (after_first root (p.change ∷ noted u.parent.notes) (above u.parent.number slots u.parent.origin) point k')
+    let k' = subst (λ c. IsInBox (after root c).box point) (parent_above slots place parent kept p) (subst (λ (s : Slot). IsInBox (after root (above s.number slots s.origin)).box point) (sym same) k) in
+    h u.parent u.found point (after_earlier root (p.change ∷ noted u.parent.notes) (above u.parent.number slots u.parent.origin) point k')
 
-pub empty_down : (root : Region) (slots : Slots) (place : ℕ) (places : List ℕ) (top : ℕ) → AreSoundSlots slots → Climbs slots place places top → ((slot : Slot) → slot_at slots top ≡ Some slot → (point : List ℚ) → ¬ IsInBox (narrowed root (above slot.number slots slot.origin)).box point) → (slot : Slot) → slot_at slots place ≡ Some slot → (point : List ℚ) → ¬ IsInBox (narrowed root (above slot.number slots slot.origin)).box point
+pub empty_down : (root : Region) (slots : Slots) (place : ℕ) (places : List ℕ) (top : ℕ) → AreSoundSlots slots → Climbs slots place places top → ((slot : Slot) → slot_at slots top ≡ Some slot → (point : List ℚ) → ¬ IsInBox (after root (above slot.number slots slot.origin)).box point) → (slot : Slot) → slot_at slots place ≡ Some slot → (point : List ℚ) → ¬ IsInBox (after root (above slot.number slots slot.origin)).box point
 empty_down root slots place [] top kept e h slot f = h slot (ap (slot_at slots) (sym e) ∙ f)
 empty_down root slots place (first ∷ rest) top kept c h slot f =
     empty_below root slots place c.1.0 kept c.1.1.0 (empty_down root slots c.1.0 rest top kept c.1.1.1 h) slot f
@@ -219,10 +214,10 @@ module _ (root : Region) (slots : Slots) (place : ℕ) (kept : AreSoundSlots slo
       step_up slots s.number s.origin o u link from up
 
   -- a point in the node's box lies in the parent's after the parent's own work
-  in_parent : (point : List ℚ) → IsInBox (narrowed root (above s.number slots s.origin)).box point → IsInBox (tightened (narrowed (narrowed root (above u.number slots u.origin)) (noted u.notes)) o.change).box point
+  in_parent : (point : List ℚ) → IsInBox (after root (above s.number slots s.origin)).box point → IsInBox (tightened (narrowed (after root (above u.number slots u.origin)) (noted u.notes)) (filled root.choices o.change)).box point
   in_parent point k =
-      subst (λ r. IsInBox (tightened r o.change).box point) (narrowed-append root (noted u.notes) (above u.number slots u.origin))
-      (subst (λ c. IsInBox (narrowed root c).box point) above_read k)
+      subst (λ r. IsInBox (tightened r (filled root.choices o.change)).box point) (after_notes root u.notes (above u.number slots u.origin))
+      (subst (λ c. IsInBox (after root c).box point) above_read k)
 
   module _ (parent : ℕ) (p : IsParent slots place parent) where
     same_parent : parent ≡ o.parent
@@ -230,19 +225,19 @@ module _ (root : Region) (slots : Slots) (place : ℕ) (kept : AreSoundSlots slo
         ap (λ (t : Origin). t.parent) (same_Some (record { parent = parent; change = p.change }) o (sym p.origin ∙ ap (λ (t : Slot). t.origin) (same_slot slots place p.slot s p.found here) ∙ from))
 
     module _ (ids : ℕ) (old : Way) (st : StandsAt root slots ids old parent) where
-      now_is : region_of old.domain ≡ narrowed root (above u.number slots u.origin)
+      now_is : region_of old.domain ≡ after root (above u.number slots u.origin)
       now_is = st.region u (ap (slot_at slots) same_parent ∙ up)
 
       now_plain : ArePlainPast (region_of old.domain)
-      now_plain = subst ArePlainPast (sym now_is) (past_stays root (above u.number slots u.origin) st.walked.plain)
+      now_plain = subst ArePlainPast (sym now_is) (after_plain root (above u.number slots u.origin) st.walked.plain)
 
       mid_plain : (mid : Region) → mid ≡ narrowed (region_of old.domain) (noted u.notes) → ArePlainPast mid
       mid_plain mid e = subst ArePlainPast (sym e) (past_stays (region_of old.domain) (noted u.notes) now_plain)
 
-      not_reached : (new : Way) → ((point : List ℚ) → ¬ IsInBox (tightened (narrowed (region_of old.domain) (noted u.notes)) o.change).box point) → IsReached root slots place (region_of new.domain) false
+      not_reached : (new : Way) → ((point : List ℚ) → ¬ IsInBox (tightened (narrowed (region_of old.domain) (noted u.notes)) (filled root.choices o.change)).box point) → IsReached root slots place (region_of new.domain) false
       not_reached new h slot f point k =
-          h point (subst (λ r. IsInBox (tightened (narrowed r (noted u.notes)) o.change).box point) (sym now_is)
-          (in_parent point (subst (λ (t : Slot). IsInBox (narrowed root (above t.number slots t.origin)).box point) (same_slot slots place slot s f here) k)))
+          h point (subst (λ r. IsInBox (tightened (narrowed r (noted u.notes)) (filled root.choices o.change)).box point) (sym now_is)
+          (in_parent point (subst (λ (t : Slot). IsInBox (after root (above t.number slots t.origin)).box point) (same_slot slots place slot s f here) k)))
 
       module _ (new : Way) (held : AreHeld old.domain old.stops) where
         -- memory was refused
@@ -256,22 +251,22 @@ module _ (root : Region) (slots : Slots) (place : ℕ) (kept : AreSoundSlots slo
         pub step_by_notes : {E : Type 0} → new.stops ≡ old.stops → KeepsMarks old.domain new.domain → (ArePlainPast (region_of old.domain) → AreNarrowed (region_of old.domain) (region_of new.domain) (noted u.notes) false) → Arrives {E = E} root slots ids new place (Ok false)
         step_by_notes e keeps h = record {
           walked = walked_marks root slots ids old new e held keeps st.walked;
-          reached = not_reached new (λ point k. h now_plain point (after_first (region_of old.domain) (o.change ∷ []) (noted u.notes) point k));
+          reached = not_reached new (λ point k. h now_plain point (after_first (region_of old.domain) ((filled root.choices o.change) ∷ []) (noted u.notes) point k));
         }
 
         -- no point meets the change that gave the node
-        pub step_by_change : {E : Type 0} (mid : Region) → new.stops ≡ old.stops → KeepsMarks old.domain new.domain → (ArePlainPast (region_of old.domain) → AreNarrowed (region_of old.domain) mid (noted u.notes) true) → (ArePlainPast mid → IsNarrowed mid (region_of new.domain) o.change false) → Arrives {E = E} root slots ids new place (Ok false)
+        pub step_by_change : {E : Type 0} (mid : Region) → new.stops ≡ old.stops → KeepsMarks old.domain new.domain → (ArePlainPast (region_of old.domain) → AreNarrowed (region_of old.domain) mid (noted u.notes) true) → (ArePlainPast mid → IsNarrowed mid (region_of new.domain) (filled root.choices o.change) false) → Arrives {E = E} root slots ids new place (Ok false)
         step_by_change mid e keeps h g = record {
           walked = walked_marks root slots ids old new e held keeps st.walked;
-          reached = not_reached new (λ point k. g (mid_plain mid (h now_plain)) point (subst (λ r. IsInBox (tightened r o.change).box point) (sym (h now_plain)) k));
+          reached = not_reached new (λ point k. g (mid_plain mid (h now_plain)) point (subst (λ r. IsInBox (tightened r (filled root.choices o.change)).box point) (sym (h now_plain)) k));
         }
 
         -- the node is reached
-        module _ (mid : Region) (h : ArePlainPast (region_of old.domain) → AreNarrowed (region_of old.domain) mid (noted u.notes) true) (g : ArePlainPast mid → IsNarrowed mid (region_of new.domain) o.change true) where
+        module _ (mid : Region) (h : ArePlainPast (region_of old.domain) → AreNarrowed (region_of old.domain) mid (noted u.notes) true) (g : ArePlainPast mid → IsNarrowed mid (region_of new.domain) (filled root.choices o.change) true) where
           arrived : IsRegionAt root slots place (region_of new.domain)
           arrived slot f =
-              g (mid_plain mid (h now_plain)) ∙ ap (λ r. tightened r o.change) (h now_plain ∙ ap (λ r. narrowed r (noted u.notes)) now_is ∙ sym (narrowed-append root (noted u.notes) (above u.number slots u.origin)))
-              ∙ sym (ap (narrowed root) above_read) ∙ ap (λ (t : Slot). narrowed root (above t.number slots t.origin)) (same_slot slots place s slot here f)
+              g (mid_plain mid (h now_plain)) ∙ ap (λ r. tightened r (filled root.choices o.change)) (h now_plain ∙ ap (λ r. narrowed r (noted u.notes)) now_is ∙ sym (after_notes root u.notes (above u.number slots u.origin)))
+              ∙ sym (ap (after root) above_read) ∙ ap (λ (t : Slot). after root (above t.number slots t.origin)) (same_slot slots place s slot here f)
 
           pub step_taken : {E : Type 0} (stop : Stop) → new.stops ≡ old.stops ++ stop ∷ [] → KeepsMarks old.domain new.domain → stop.number ≡ s.number → region_at new.domain stop.mark ≡ region_of new.domain → Arrives {E = E} root slots ids new place (Ok true)
           step_taken stop e keeps n m = record {
@@ -350,6 +345,6 @@ walked_root root slots ids place s old new kept here none e f w =
             given = w.given place s here;
             there = λ q slot g i.
                 let same : s ≡ slot = same_slot slots place s slot here (ap (slot_at slots) (kept.apart place q s slot here g (sym i)) ∙ g) in
-                first ∙ sym (ap (narrowed root) (ap (λ (t : Slot). above t.number slots t.origin) (sym same) ∙ ap (above s.number slots) none ∙ above_none s.number slots));
+                first ∙ sym (ap (after root) (ap (λ (t : Slot). above t.number slots t.origin) (sym same) ∙ ap (above s.number slots) none ∙ above_none s.number slots));
           }));
     }

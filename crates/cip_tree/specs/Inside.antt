@@ -1,16 +1,17 @@
 -- How a tree is kept.
 use Rattle.std.specs.Prelude.{◌≡◌, ℕ, ◌+◌, ◌<◌, ◌≤◌, ◌==◌, Bool, true, false, List, map, length, count_by, Option, None, Some, All}
 use Rattle.cip_problem.specs.Log.{Node}
-use Rattle.cip_domain.specs.Changes.{Region, narrowed}
+use Rattle.cip_domain.specs.Changes.{Region}
 use Rattle.cip_tree.specs.declared.kept.Stage.{Stage}
 use Rattle.cip_tree.specs.declared.kept.Stage.TheVariants.{Open, Taken, Parked, Ended}
 use Rattle.cip_tree.specs.declared.queue.OpenNode.{OpenNode}
 use Rattle.cip_tree.specs.Slots.{Slot, Slots, slot_at, above, changes_at, AreSoundSlots}
 use Rattle.cip_tree.specs.Nodes.{Base, node_in}
+use Rattle.cip_tree.specs.Origins.{after}
 
 -- a node that is kept at a place
 abbrev pub node_at : Region → Slots → OpenNode → Node
-node_at root slots node = node_in (narrowed root (changes_at slots node.place)) node.id node.bound
+node_at root slots node = node_in (after root (changes_at slots node.place)) node.id node.bound
 
 -- the nodes that are kept at places
 abbrev pub nodes_at : Region → Slots → List OpenNode → List Node

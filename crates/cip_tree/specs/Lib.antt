@@ -5,9 +5,11 @@ pub mod Inside
 pub mod Moves
 pub mod Nodes
 pub mod Notes
+pub mod Origins
 pub mod Queue
 pub mod Searched
 pub mod Slots
 pub mod Splitting
+pub mod Tightening
 pub mod Tracked
 pub mod Walks

@@ -1,5 +1,5 @@
 -- What contracts see of a tree: its open and parked nodes with their boxes, and what it keeps of those that are taken.
-use Rattle.std.specs.Prelude.{◌≡◌, ℕ, ℤ, Bool, true, false, List, [], ◌++◌, Option, None, Some, slice_index_or, refl}
+use Rattle.std.specs.Prelude.{◌≡◌, ℕ, ℤ, Bool, true, false, List, [], ◌++◌, map, Option, None, Some, slice_index_or, refl}
 use Rattle.std.specs.Coded.{Coded, code_by, coded×, coded_ℕ, coded_ℤ, coded_bool, coded_list, coded_option}
 use Rattle.cip_rational.specs.Rational.{ℚ, coded_ℚ}
 use Rattle.cip_problem.specs.Program.{Sides, Choice}
@@ -8,6 +8,7 @@ use Rattle.cip_problem.specs.Log.{Node, Entry, End, Split, Closed, Parked}
 use Rattle.cip_domain.specs.Changes.{Region, Change, region_code, change_code, narrowed}
 use Rattle.cip_tree.specs.declared.notes.Note.{Note}
 use Rattle.cip_tree.specs.Notes.{noted, note_code}
+use Rattle.cip_tree.specs.Origins.{filled}
 
 -- a node in work: its number, its bound, where the tree keeps the rest, and the changes of its own work, the oldest
 -- first
@@ -18,7 +19,7 @@ pub record TakenNode : Type 0 where
   pub notes : List Note
 
 -- what a tree keeps of a node in work: its number, and the changes of the splits and of the nodes above it, the newest
--- first
+-- first; those that make a choice without the sides that this leaves
 pub record Base : Type 0 where
   pub number : ℕ
   pub changes : List Change
@@ -35,9 +36,15 @@ pub record Nodes : Type 0 where
   pub log : List Entry
   pub work : Region
 
+-- with the sides that choices leave
+abbrev pub filled_base : List Choice → Option Base → Option Base
+filled_base choices None = None
+filled_base choices (Some base) =
+    Some (record { number = base.number; changes = map (filled choices) base.changes })
+
 -- what is kept of a node in work
 abbrev pub base_at : Nodes → ℕ → Option Base
-base_at tree place = slice_index_or tree.taken place None
+base_at tree place = filled_base tree.root.choices (slice_index_or tree.taken place None)
 
 abbrev pub base_changes : Option Base → List Change
 base_changes None = []

@@ -1,12 +1,12 @@
 -- What is kept of nodes, by place, and how a node's changes are found there.
 use Rattle.std.specs.Prelude.{◌≡◌, ◌≢◌, ℕ, zero, suc, ◌-◌, ◌<◌, ◌==◌, Bool, false, List, [], ◌∷◌, ◌++◌, count_by, Option, None, Some, IfSome, slice_index_or, refl}
 use Rattle.std.specs.Coded.{Coded, code_by, coded×, coded_ℕ, coded_list, coded_option}
-use Rattle.cip_domain.specs.Changes.{Change, change_code}
+use Rattle.cip_domain.specs.Changes.{Change}
 use Rattle.cip_tree.specs.declared.notes.Note.{Note}
 use Rattle.cip_tree.specs.Notes.{noted, note_code}
 use Rattle.cip_tree.specs.declared.kept.Stage.{Stage}
 use Rattle.cip_tree.specs.declared.kept.Stage.TheVariants.{Open, Taken, Parked, Ended}
-use Rattle.cip_tree.specs.declared.kept.Origin.{Origin}
+use Rattle.cip_tree.specs.Origins.{Origin, origin_code}
 
 -- what is kept of a node: its number; the change that gave it, with the place of its parent; the changes of its own
 -- work, the oldest first; how many nodes have it as parent; and where it stands
@@ -176,12 +176,6 @@ stage_back Ended = refl
 
 abbrev pub stage_code : Coded Stage
 stage_code = code_by ℕ coded_ℕ stage_index stage_from stage_back
-
--- parent and change
-abbrev pub origin_code : Coded Origin
-origin_code =
-    code_by (ℕ × Change) (coded× coded_ℕ change_code)
-    (λ o. (o.parent, o.change)) (λ p. record { parent = p.0; change = p.1 }) (λ _. refl)
 
 -- all fields of a slot, in pairs
 abbrev pub slot_code : Coded Slot

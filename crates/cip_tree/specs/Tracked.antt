@@ -4,7 +4,8 @@ use Rattle.std.specs.List.{AllZip}
 use Rattle.cip_rational.specs.Rational.{ℚ, ◌≤ℚ◌}
 use Rattle.cip_problem.specs.Program.{Sides}
 use Rattle.cip_problem.specs.Log.{Entry, Node, node_of, given_after}
-use Rattle.cip_domain.specs.Changes.{Region, narrowed}
+use Rattle.cip_domain.specs.Changes.{Region}
+use Rattle.cip_tree.specs.Origins.{after}
 use Rattle.cip_tree.specs.declared.kept.Stage.{Stage}
 use Rattle.cip_tree.specs.declared.kept.Stage.TheVariants.{Open, Taken, Parked, Ended}
 use Rattle.cip_tree.specs.Nodes.{region_in}
@@ -29,8 +30,8 @@ given_by root log = given_after (root ∷ []) log
 pub record IsGiven (root : Region) (slots : Slots) (given : List Node) (slot : Slot) : Type 0 where
   pub node : Node
   pub found : node_of given slot.number ≡ Some node
-  pub within : IsWithin (narrowed root (above slot.number slots slot.origin)).box node.box
-  pub choices_are : (narrowed root (above slot.number slots slot.origin)).choices ≡ node.choices
+  pub within : IsWithin (after root (above slot.number slots slot.origin)).box node.box
+  pub choices_are : (after root (above slot.number slots slot.origin)).choices ≡ node.choices
 
 -- nodes that wait or are in work have no entry in the log yet
 abbrev pub is_live : Stage → Bool

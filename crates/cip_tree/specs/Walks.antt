@@ -1,5 +1,5 @@
 -- The region in work, and the way to it from the root.
-use Rattle.std.specs.Prelude.{◌≡◌, ℕ, ◌<◌, ◌≤◌, ◌-◌, Bool, true, false, List, [], ◌∷◌, ◌++◌, length, Option, Some, Result, IfOk, MatchOption, All, slice_get, slice_index_or, refl}
+use Rattle.std.specs.Prelude.{◌≡◌, ℕ, ◌<◌, ◌≤◌, ◌-◌, Bool, true, false, List, [], ◌∷◌, ◌++◌, length, Option, Some, Result, IfOk, All, slice_get, slice_index_or, refl}
 use Rattle.std.specs.Coded.{Coded, code_by, coded×, coded_ℕ, coded_list}
 use Rattle.cip_rational.specs.Rational.{ℚ}
 use Rattle.cip_problem.specs.Box.{IsInBox}
@@ -9,6 +9,7 @@ use Rattle.cip_domain.specs.Narrowing.{ArePlainPast}
 use Rattle.cip_tree.specs.declared.walks.Stop.{Stop}
 use Rattle.cip_tree.specs.declared.notes.Note.{Note}
 use Rattle.cip_tree.specs.Notes.{noted}
+use Rattle.cip_tree.specs.Origins.{after}
 use Rattle.cip_tree.specs.Slots.{Slot, Slots, slot_at, above}
 
 -- the region is the node's; or the node's box has no point at all
@@ -52,7 +53,7 @@ AreHeld domain stops = All (λ stop. stop.mark ≤ length domain.before) stops
 -- a region is that of the node at a place, before its own work
 abbrev pub IsRegionAt : Region → Slots → ℕ → Region → Type 0
 IsRegionAt root slots place region =
-    (slot : Slot) → slot_at slots place ≡ Some slot → region ≡ narrowed root (above slot.number slots slot.origin)
+    (slot : Slot) → slot_at slots place ≡ Some slot → region ≡ after root (above slot.number slots slot.origin)
 
 -- the number was given; where a node of it is kept, the region at the mark is that of the node before its own work
 pub record IsStop (root : Region) (slots : Slots) (ids : ℕ) (domain : Domain) (stop : Stop) : Type 0 where
@@ -60,7 +61,7 @@ pub record IsStop (root : Region) (slots : Slots) (ids : ℕ) (domain : Domain) 
   pub there : (place : ℕ) (slot : Slot)
       → slot_at slots place ≡ Some slot
       → slot.number ≡ stop.number
-      → region_at domain stop.mark ≡ narrowed root (above slot.number slots slot.origin)
+      → region_at domain stop.mark ≡ after root (above slot.number slots slot.origin)
 
 -- the way goes from the root, and each node on it is such a one
 pub record IsWalked (root : Region) (slots : Slots) (ids : ℕ) (way : Way) : Type 0 where
@@ -104,7 +105,7 @@ abbrev pub IsReached : Region → Slots → ℕ → Region → Bool → Type 0
 IsReached root slots place region come =
     (slot : Slot)
     → slot_at slots place ≡ Some slot
-    → IsEntered region (narrowed root (above slot.number slots slot.origin)) come
+    → IsEntered region (after root (above slot.number slots slot.origin)) come
 
 -- what going to a node came to
 pub record Arrives
@@ -122,29 +123,29 @@ GoesBack old new =
     → StandsAt root slots ids new place
 
 -- from the parent it goes to a node
-abbrev pub StepsDown : {E : Type 0} → Slots → Way → Way → ℕ → Result Bool E → Type 0
-StepsDown slots old new place result =
-    (root : Region) (ids parent : ℕ)
+abbrev pub StepsDown : {E : Type 0} → Region → Slots → Way → Way → ℕ → Result Bool E → Type 0
+StepsDown root slots old new place result =
+    (ids parent : ℕ)
     → StandsAt root slots ids old parent
     → IsParent slots place parent
     → Arrives root slots ids new place result
 
 -- from a node above it goes down to another
-abbrev pub Descends : {E : Type 0} → Slots → Way → Way → List ℕ → Result Bool E → Type 0
-Descends slots old new places result =
-    (root : Region) (ids place top : ℕ)
+abbrev pub Descends : {E : Type 0} → Region → Slots → Way → Way → List ℕ → Result Bool E → Type 0
+Descends root slots old new places result =
+    (ids place top : ℕ)
     → StandsAt root slots ids old top
     → Climbs slots place places top
     → Arrives root slots ids new place result
 
 -- it goes to a node, whose own work made these notes
-abbrev pub Enters : {E : Type 0} → Slots → Way → ℕ → List Note → Way → Result Bool E → Type 0
-Enters slots old place notes new result =
-    (root : Region) (ids : ℕ) (slot : Slot)
+abbrev pub Enters : {E : Type 0} → Region → Slots → Way → ℕ → List Note → Way → Result Bool E → Type 0
+Enters root slots old place notes new result =
+    (ids : ℕ) (slot : Slot)
     → IsWalked root slots ids old
     → slot_at slots place ≡ Some slot
     → IfOk result (IsEntered (region_of new.domain)
-    (narrowed root (noted notes ++ above slot.number slots slot.origin)))
+    (after root (noted notes ++ above slot.number slots slot.origin)))
 
 -- ---- codes
 

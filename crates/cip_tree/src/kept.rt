@@ -4,7 +4,7 @@ ghost use Rattle.slab.specs.Slab.{ContainsKey, HasRoomFor, slab_len};
 ghost use Rattle.cip_tree.specs.Slots.{IsRestaged, IsParted, IsLowered, IsReleased, IsUsed, IsIdle, IsUnused, IsKeptBut, AreSoundSlots, open_slot};
 
 use crate::notes::Note;
-use cip_domain::Change;
+use crate::origins::Origin;
 use slab::Slab;
 use std::alloc::Global;
 use std::marker::Model;
@@ -22,26 +22,21 @@ pub(crate) enum Stage {
     Ended,
 }
 
-/// How a split gave a node.
-#[derive(Clone, Copy)]
-pub(crate) struct Origin {
-    // the place of the node that was split
-    pub(crate) parent: usize,
-    pub(crate) change: Change,
-}
-
 /// What is kept of a node.
 #[derive(Drop)]
 pub(crate) struct Kept {
-    pub(crate) number: u64,
     // none of the root
     pub(crate) origin: Option<Origin>,
+    pub(crate) number: u64,
     // what its own work changed, the oldest first; empty while the node is taken
     pub(crate) notes: Vec<Note>,
     // how many nodes have this one as parent
     pub(crate) below: usize,
     pub(crate) stage: Stage,
 }
+
+// a search keeps millions of them
+const _: () = prove!(size_of::<Kept>() == 96);
 
 impl Model for Kept {
     ghost use Rattle.cip_tree.specs.Slots.{Slot, slot_code};
@@ -70,13 +65,6 @@ pub(crate) fn new_kept(alloc: Global, number: u64, origin: Option<Origin>) -> Ke
         below: 0,
         stage: Stage::Open,
     }
-}
-
-/// A half of the node at a place, which a change gives.
-pub(crate) fn half_kept(alloc: Global, number: u64, parent: usize, change: Change) -> Kept
-    ensures { result ≡ open_slot number (Some (record { parent = parent; change = change })) }
-{
-    new_kept(alloc, number, Some(Origin { parent, change }))
 }
 
 /// Gives the node at a place other notes and another stage, and answers the notes that it had.
@@ -138,8 +126,9 @@ fn let_go(kept: &mut Slab<Kept>, place: usize) -> Option<usize>
     let Some(origin) = origin else {
         return None;
     };
-    if lower(kept, origin.parent) {
-        Some(origin.parent)
+    let parent = origin.parent();
+    if lower(kept, parent) {
+        Some(parent)
     } else {
         None
     }

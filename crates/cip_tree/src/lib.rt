@@ -7,6 +7,7 @@ mod kept;
 mod logs;
 mod nodes;
 mod notes;
+mod origins;
 mod queue;
 mod splits;
 mod trees;

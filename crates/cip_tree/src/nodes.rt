@@ -50,6 +50,13 @@ impl Node {
         self.bound = Some(bound);
     }
 
+    /// Gives the node a bound, or none.
+    pub fn give_bound(&mut self, bound: Option<Frac>)
+        ensures { self.new ≡ record self.old { bound = bound } }
+    {
+        self.bound = bound;
+    }
+
     /// Notes a change of one side of a column, which counts in the node's box where it is stronger; it makes no choice.
     /// `Err` comes where a growth was refused, and leaves the node as it was.
     pub fn note(&mut self, col: u32, side: Side, value: Frac) -> Result<(), AllocError>

@@ -1,12 +1,11 @@
 //! Splits of one column.
-ghost use Rattle.std.specs.Prelude.{◌≡◌, ◌<◌, length, slice_get, ◌+ℤ◌, pos, Some, MatchResult};
-ghost use Rattle.cip_rational.specs.Rational.{integer};
-ghost use Rattle.cip_lin.specs.declared.sides.Side.TheVariants.{Low, High};
-ghost use Rattle.cip_domain.specs.Changes.{side_change};
+ghost use Rattle.std.specs.Prelude.{◌≡◌, ◌<◌, length, slice_get, Some, MatchResult};
 ghost use Rattle.cip_domain.specs.Halves.{CanHalve};
+ghost use Rattle.cip_tree.specs.declared.origins.Parting.TheVariants.{Whole};
 ghost use Rattle.cip_tree.specs.declared.splits.SplitFault.TheVariants.{Outside};
 
-use cip_domain::{Change, can_halve, high_change, low_change};
+use crate::origins::Parting;
+use cip_domain::can_halve;
 use cip_lin::Sides;
 use std::alloc::AllocError;
 
@@ -31,15 +30,14 @@ impl From<AllocError> for SplitFault {
     }
 }
 
-/// The changes that give the halves of a whole column with these sides.
-pub(crate) fn whole_halves(sides: Sides, col: u32, at: i128) -> Result<(Change, Change), SplitFault>
+/// A whole column with these sides is parted at a whole number, if it can be.
+pub(crate) fn whole_parting(sides: Sides, at: i128) -> Result<Parting, SplitFault>
     ensures { MatchResult result
-        (λ halves. CanHalve sides at × (halves.0 ≡ side_change col High (integer at))
-        × (halves.1 ≡ side_change col Low (integer (at +ℤ pos 1))))
+        (λ parting. (parting ≡ Whole) × CanHalve sides at)
         (λ fault. (fault ≡ Outside) × (¬ CanHalve sides at)) }
 {
     if can_halve(sides, at) {
-        Ok((low_change(col, at), high_change(col, at)))
+        Ok(Parting::Whole)
     } else {
         Err(SplitFault::Outside)
     }

@@ -5,22 +5,27 @@ ghost use Rattle.slab.specs.Slab.{HasRoomFor};
 ghost use Rattle.cip_problem.specs.Log.{Closed, Parked, Split};
 ghost use Rattle.cip_problem.specs.Wholes.{AllHaveWholes};
 ghost use Rattle.cip_tree.specs.Searched.{IsSearched, IsOpenIn};
+ghost use Rattle.cip_problem.specs.Box.{sides_at};
+ghost use Rattle.cip_domain.specs.Domain.{tightening};
 ghost use Rattle.cip_domain.specs.Narrowing.{ArePlainPast};
-ghost use Rattle.cip_tree.specs.Splitting.{AreHalves, IsSplitFault};
+ghost use Rattle.cip_tree.specs.Splitting.{IsParting, IsSplitFault};
 ghost use Rattle.cip_tree.specs.Slots.{slot_at, open_slot};
 ghost use Rattle.cip_tree.specs.Entries.{entry_of, entries_of};
 ghost use Rattle.cip_tree.specs.Nodes.{TakenNode, IsTaken, base_at, region_of, box_of, shown};
+ghost use Rattle.cip_tree.specs.Tightening.{IsTightened};
 ghost use Rattle.cip_tree.specs.Walks.{IsEntered};
 ghost use Rattle.cip_tree.specs.Moves.{IsNew, IsSplit, TakesFirst, LetsGo, IsLeastBound, is_cheaper};
 
 use crate::closed::release_from;
-use crate::kept::{Kept, Stage, half_kept, new_kept, part, release, restage};
+use crate::kept::{Kept, Stage, new_kept, part, release, restage};
 use crate::logs::{End, Logged};
 use crate::nodes::Node;
+use crate::notes::Note;
+use crate::origins::{Origin, Parting};
 use crate::queue::{OpenNode, Queue};
-use crate::splits::{SplitFault, flag_at, whole_halves};
+use crate::splits::{SplitFault, flag_at, whole_parting};
 use crate::walks::Walk;
-use cip_domain::{Change, Region, choice_change};
+use cip_domain::{Region, Side, Tightened};
 use cip_frac::Frac;
 use cip_lin::{Bounds, Choices};
 use slab::Slab;
@@ -249,8 +254,41 @@ impl Tree {
         ensures entered { IfOk result (IsEntered self.new.work (region_of self.old node.now)) }
         ensures rest { self.new ≡ record self.old { work = self.new.work } }
     {
-        self.walk
-            .enter(self.alloc, &self.kept, node.place, node.notes.as_slice())
+        self.walk.enter(
+            self.alloc,
+            &self.kept,
+            &self.root,
+            node.place,
+            node.notes.as_slice(),
+        )
+    }
+
+    /// Makes a value a side of a column of a node, whose region is in work, if that is stronger and leaves the box a
+    /// value there: the node notes it, and the region in work is the node's still. `Same` comes exactly where the side
+    /// is at least as strong already, `Empty` exactly where it isn't and the low side would pass the high one; both
+    /// leave all as it was, and so does `Err`, which comes where memory was refused.
+    pub fn tighten(
+        &mut self,
+        node: &mut Node,
+        col: u32,
+        side: Side,
+        value: Frac,
+    ) -> Result<Tightened, AllocError>
+        requires work { self.old.work ≡ region_of self.old node.old }
+        requires column { col < length self.old.work.box }
+        ensures outcome { IfOk result (λ answer. answer ≡ tightening (sides_at self.old.work.box col) side value) }
+        ensures tightened { MatchResult result
+            (λ answer. IsTightened answer self.old self.new node.old node.new
+            (record { col = col; side = side; value = value }))
+            (λ _. (self.new ≡ self.old) × (node.new ≡ node.old)) }
+    {
+        node.notes.reserve(1)?;
+        let answer = self.walk.tighten(col, side, value)?;
+        match answer {
+            Tightened::Yes => node.notes.push_reserved(Note { col, side, value }),
+            Tightened::Same | Tightened::Empty => {}
+        }
+        Ok(answer)
     }
 
     /// The box of the region in work.
@@ -267,28 +305,25 @@ impl Tree {
         self.walk.domain().choices()
     }
 
-    /// The changes that give the halves of the node whose region is in work at a column, or why it can't be split
-    /// there.
-    fn halves(&self, col: u32, at: i128) -> Result<(Change, Change), SplitFault>
+    /// What parts the values of a column in the node whose region is in work, or why it can't be split there.
+    fn parting(&self, col: u32, at: i128) -> Result<Parting, SplitFault>
         requires column { col < length self.now.integral }
         requires wholes { AllHaveWholes self.now.integral self.now.work.box }
         ensures { (node : TakenNode)
             → self.now.work ≡ region_of self.now node
             → MatchResult result
-            (λ halves. AreHalves self.now node col at halves.0 halves.1)
+            (λ parting. IsParting self.now node col at parting)
             (λ fault. IsSplitFault self.now node col at fault) }
     {
         let whole = flag_at(self.whole.as_slice(), col);
         let choice = self.choices().at(col);
         if whole && choice.is_plain() {
-            return whole_halves(self.bounds().sides(col), col, at);
+            return whole_parting(self.bounds().sides(col), at);
         }
-        match choice.own() {
-            Some(own) if !whole => Ok((
-                choice_change(col, own, false),
-                choice_change(col, own, true),
-            )),
-            _ => Err(SplitFault::NotWhole),
+        if !whole && choice.is_open() {
+            Ok(Parting::Chosen)
+        } else {
+            Err(SplitFault::NotWhole)
         }
     }
 
@@ -312,7 +347,7 @@ impl Tree {
         // has none holds no point and is closed, the halves of a split keep such values (`CanSplit`), and between a
         // take and a split only the caller's own notes could take the last one. The tree would have to look at every
         // column.
-        let (low_change, high_change) = self.halves(col, at)?;
+        let parting = self.parting(col, at)?;
         let notes = node.notes.as_slice().to_vec(self.alloc)?;
         make_room(
             &mut self.kept,
@@ -324,8 +359,10 @@ impl Tree {
         let low = self.ids;
         let high = low + 1;
         let parent = node.place;
-        let low_kept = half_kept(self.alloc, low, parent, low_change);
-        let high_kept = half_kept(self.alloc, high, parent, high_change);
+        let low_origin = Origin::low(parting, parent, col, at);
+        let high_origin = Origin::high(parting, parent, col, at);
+        let low_kept = new_kept(self.alloc, low, Some(low_origin));
+        let high_kept = new_kept(self.alloc, high, Some(high_origin));
         let (low_place, high_place) = part(&mut self.kept, parent, notes, low_kept, high_kept);
         self.queue.push(open_node(node, high, high_place));
         self.queue.push(open_node(node, low, low_place));

@@ -1,16 +1,20 @@
 //! The region in work, and the way to it: the nodes from the root down to the one that was entered last. The next node
 //! is reached from the nearest node that its way shares with this one.
-ghost use Rattle.std.specs.Prelude.{◌≡◌, ◌-◌, ◌<◌, [], ◌∷◌, length, take, true, IfOk, OnOk, OnErr, MatchOption};
+ghost use Rattle.std.specs.Prelude.{ℕ, ◌≡◌, ◌-◌, ◌<◌, [], ◌∷◌, length, take, true, IfOk, OnOk, OnErr, MatchOption, MatchResult};
 ghost use Rattle.slab.specs.Slab.{ContainsKey};
-ghost use Rattle.cip_domain.specs.Domain.{region_of, KeepsMarks};
+ghost use Rattle.cip_problem.specs.Box.{sides_at};
+ghost use Rattle.cip_domain.specs.Changes.{side_change};
+ghost use Rattle.cip_domain.specs.Domain.{region_of, tightening, KeepsMarks};
 ghost use Rattle.cip_domain.specs.Narrowing.{ArePlainPast};
 ghost use Rattle.cip_tree.specs.Notes.{noted};
 ghost use Rattle.cip_tree.specs.Slots.{Slots, AreSoundSlots};
-ghost use Rattle.cip_tree.specs.Walks.{last_stop, AreNarrowed, EndsAt, EndsThere, IsParent, Climbs, StaysWalked, GoesBack, StepsDown, Descends, Enters};
+ghost use Rattle.cip_tree.specs.Tightening.{region_after};
+ghost use Rattle.cip_tree.specs.Walks.{last_stop, AreNarrowed, EndsAt, EndsThere, IsParent, Climbs, IsWalked, StaysWalked, GoesBack, StepsDown, Descends, Enters};
 
 use crate::kept::Kept;
 use crate::notes::{Note, change_of};
-use cip_domain::{Checkpoint, DomainStore, Region};
+use cip_domain::{Checkpoint, DomainStore, Region, Side, Tightened};
+use cip_frac::Frac;
 use slab::Slab;
 use std::alloc::{AllocError, Global};
 use std::marker::Model;
@@ -161,12 +165,12 @@ impl Walk {
         if self.turn_back(slot.number) {
             return Ok(None);
         }
-        match slot.origin {
+        match &slot.origin {
             None => {
                 self.start_over(slot.number)?;
                 Ok(None)
             }
-            Some(origin) => Ok(Some(origin.parent)),
+            Some(origin) => Ok(Some(origin.parent())),
         }
     }
 
@@ -198,25 +202,30 @@ impl Walk {
         }
     }
 
-    /// Goes from a node's parent to the node: makes the parent's own changes, and the one that gave the node; whether a
-    /// point can meet them. `Err` comes where memory was refused.
-    fn step_down(&mut self, kept: &Slab<Kept>, place: usize) -> Result<bool, AllocError>
+    /// Goes from a node's parent to the node below a root: makes the parent's own changes, and the one that gave the
+    /// node; whether a point can meet them. `Err` comes where memory was refused.
+    fn step_down(
+        &mut self,
+        kept: &Slab<Kept>,
+        root: &Region,
+        place: usize,
+    ) -> Result<bool, AllocError>
         requires kept { AreSoundSlots kept.now.slots }
-        ensures { StepsDown kept.now.slots self.old self.new place result }
+        ensures { StepsDown root.now kept.now.slots self.old self.new place result }
     {
         let Some(slot) = kept.get(place) else {
             return Ok(true);
         };
-        let Some(origin) = slot.origin else {
+        let Some(origin) = &slot.origin else {
             return Ok(true);
         };
-        let Some(above) = kept.get(origin.parent) else {
+        let Some(above) = kept.get(origin.parent()) else {
             return Ok(true);
         };
         if !narrow_by(&mut self.domain, above.notes.as_slice())? {
             return Ok(false);
         }
-        if !self.domain.narrow(origin.change)? {
+        if !self.domain.narrow(origin.change(root.choices()))? {
             return Ok(false);
         }
         let mark = self.domain.mark();
@@ -229,17 +238,42 @@ impl Walk {
 
     /// Goes down to a node by these places, the last one first; whether its box may have a point. `Err` comes where
     /// memory was refused.
-    fn descend(&mut self, kept: &Slab<Kept>, places: Vec<usize>) -> Result<bool, AllocError>
+    fn descend(
+        &mut self,
+        kept: &Slab<Kept>,
+        root: &Region,
+        places: Vec<usize>,
+    ) -> Result<bool, AllocError>
         requires kept { AreSoundSlots kept.now.slots }
-        ensures { Descends kept.now.slots self.old self.new places.items result }
+        ensures { Descends root.now kept.now.slots self.old self.new places.items result }
     {
         let mut places = places;
         while let Some(place) = places.pop() {
-            if !self.step_down(kept, place)? {
+            if !self.step_down(kept, root, place)? {
                 return Ok(false);
             }
         }
         Ok(true)
+    }
+
+    /// Makes a value a side of a column of the region in work, with room of its own, if that is stronger and leaves the
+    /// box a value there. `Err` comes where memory was refused.
+    pub(crate) fn tighten(
+        &mut self,
+        col: u32,
+        side: Side,
+        value: Frac,
+    ) -> Result<Tightened, AllocError>
+        requires column { col < length self.old.domain.box }
+        ensures outcome { IfOk result (λ answer. answer ≡ tightening (sides_at self.old.domain.box col) side value) }
+        ensures region { MatchResult result
+            (λ answer. region_of self.new.domain
+            ≡ region_after answer (region_of self.old.domain) (side_change col side value))
+            (λ _. region_of self.new.domain ≡ region_of self.old.domain) }
+        ensures walked { (slots : Slots) → StaysWalked slots self.old self.new }
+    {
+        self.domain.reserve(1)?;
+        Ok(self.domain.tighten(col, side, value))
     }
 
     /// Goes to a node, and makes the changes of its own work; whether its box may have a point. `Err` comes where
@@ -248,17 +282,19 @@ impl Walk {
         &mut self,
         alloc: Global,
         kept: &Slab<Kept>,
+        root: &Region,
         place: usize,
         notes: &[Note],
     ) -> Result<bool, AllocError>
         requires kept { AreSoundSlots kept.now.slots }
         requires slot { ContainsKey kept.now place }
-        ensures walked { StaysWalked kept.now.slots self.old self.new }
-        ensures entered { Enters kept.now.slots self.old place notes.now self.new result }
+        ensures walked { (ids : ℕ) → IsWalked root.now kept.now.slots ids self.old
+            → IsWalked root.now kept.now.slots ids self.new }
+        ensures entered { Enters root.now kept.now.slots self.old place notes.now self.new result }
     {
         let Climb { places, top: _ } = self.climb(alloc, kept, place)?;
         self.go_back();
-        if !self.descend(kept, places)? {
+        if !self.descend(kept, root, places)? {
             return Ok(false);
         }
         narrow_by(&mut self.domain, notes)

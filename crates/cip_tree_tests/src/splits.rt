@@ -6,9 +6,9 @@ ghost use Rattle.cip_domain.specs.Narrowing.{ArePlainPast};
 ghost use Rattle.cip_tree.specs.Nodes.{IsTaken, region_of, box_of};
 
 use crate::boxes::between;
-use cip_domain::Region;
+use cip_domain::{Region, Tightened};
 use cip_frac::Frac;
-use cip_lin::{Bounds, Choices, Sides};
+use cip_lin::{Bounds, Choices, Side, Sides};
 use cip_tree::{Node, SplitFault, Tree};
 use std::alloc::{AllocError, Global};
 
@@ -89,4 +89,25 @@ pub(crate) fn is_node(tree: &mut Tree, node: &Node, number: u64, sides: Sides) -
     ensures { tree.new ≡ record tree.old { work = tree.new.work } }
 {
     node.id() == number && first_sides(tree, node) == Some(sides)
+}
+
+/// Tightens a side of the first column of a node, whose region is in work then; `None` where its box has no point, or
+/// memory was refused.
+pub(crate) fn tighten(
+    tree: &mut Tree,
+    node: &mut Node,
+    side: Side,
+    number: i64,
+) -> Option<Tightened>
+    requires taken { IsTaken tree.old node.old }
+    requires columns { length tree.old.root.box ≡ 2 }
+    ensures tree { tree.new ≡ record tree.old { work = tree.new.work } }
+    ensures node { node.new ≡ record node.old { notes = node.new.notes } }
+{
+    match tree.enter(node) {
+        Ok(true) if tree.bounds().len() == 2 => {
+            tree.tighten(node, 0, side, Frac::from(number)).ok()
+        }
+        _ => None,
+    }
 }

@@ -3,7 +3,8 @@ ghost use Rattle.std.specs.Prelude.{◌≡◌, [], ◌∷◌, true, false, lengt
 ghost use Rattle.cip_tree.specs.Nodes.{IsTaken};
 
 use crate::boxes::between;
-use crate::splits::{is_node, split, two_columns};
+use crate::splits::{is_node, split, tighten, two_columns};
+use cip_domain::Tightened;
 use cip_frac::Frac;
 use cip_lin::{Choice, Choices, Side, Sides};
 use cip_tree::{End, Logged, Node, SplitFault, Tree};
@@ -191,6 +192,68 @@ fn is_split_twice(tree: &mut Tree) -> bool
 fn each_node_is_entered_from_the_one_before(rt: HostRuntime) -> Result<(), Fail> {
     let mut tree = two_columns(rt.alloc(), Choices::new(rt.alloc()))?;
     assert!(rt; is_split_twice(&mut tree));
+    Ok(())
+}
+
+/// The root is at most 3 already, can't be at least 4, and is at least 1 then, also in the low half of its split at 1.
+fn keeps_its_side(tree: &mut Tree) -> bool
+    requires flags { tree.old.integral ≡ true ∷ false ∷ [] }
+    requires columns { length tree.old.root.box ≡ 2 }
+{
+    let Some(mut root) = tree.next() else {
+        return false;
+    };
+    let same = tighten(tree, &mut root, Side::High, 3);
+    let empty = tighten(tree, &mut root, Side::Low, 4);
+    let stays = is_node(tree, &root, 0, between(0, 3));
+    let yes = tighten(tree, &mut root, Side::Low, 1);
+    if (same, empty, yes) != TIGHTENED || !stays {
+        return false;
+    }
+    if split(tree, &root, 1, 0, 1) != Some(Ok((1, 2))) {
+        return false;
+    }
+    match tree.next() {
+        Some(low) => is_node(tree, &low, 1, between(1, 1)),
+        None => false,
+    }
+}
+
+/// What the three come to.
+const TIGHTENED: (Option<Tightened>, Option<Tightened>, Option<Tightened>) = (
+    Some(Tightened::Same),
+    Some(Tightened::Empty),
+    Some(Tightened::Yes),
+);
+
+#[test]
+fn a_tightened_side_outlives_a_split(rt: HostRuntime) -> Result<(), Fail> {
+    let mut tree = two_columns(rt.alloc(), Choices::new(rt.alloc()))?;
+    assert!(rt; keeps_its_side(&mut tree));
+    Ok(())
+}
+
+/// Node 2 is tightened to at most 2; that is so once more as it is entered after node 1, and as it is taken again.
+fn has_its_side_again(tree: &mut Tree) -> bool
+    requires columns { length tree.old.root.box ≡ 2 }
+{
+    let (Some(low), Some(mut high)) = (tree.next(), tree.next()) else {
+        return false;
+    };
+    let is_tighter = tighten(tree, &mut high, Side::High, 2) == Some(Tightened::Yes)
+        && tree.bounds().as_slice() == [between(2, 2), between(0, 3)].as_slice();
+    let is_back = is_node(tree, &low, 1, between(0, 1)) && is_node(tree, &high, 2, between(2, 2));
+    tree.put_back(high);
+    match tree.next() {
+        Some(again) => is_tighter && is_back && is_node(tree, &again, 2, between(2, 2)),
+        None => false,
+    }
+}
+
+#[test]
+fn a_tightened_side_comes_back(rt: HostRuntime) -> Result<(), Fail> {
+    let mut tree = two_columns(rt.alloc(), Choices::new(rt.alloc()))?;
+    assert!(rt; is_halved(&mut tree, None) && has_its_side_again(&mut tree));
     Ok(())
 }
 

@@ -1,4 +1,5 @@
 use Rattle.std.proofs.Common.{◌≡◌, ◌++◌, ◌∷◌, [], refl, sym, subst, inl, rules}
+use Rattle.cip_core.proofs.NearColumns.{near_columns}
 use Rattle.cip_solve.specs.Logs.{entries_of}
 use Rattle.cip_answering.specs.Answering.{limits_of}
 use Rattle.cip_answering.specs.Work.{Searched}
@@ -10,6 +11,9 @@ returns-then-is_err c =
     let same : c.reserve.new.self.items ≡ c.args.logs.now.items = search rules in
     subst (λ items. Searched c.args.program.now (limits_of c.args.options.now) c.args.logs.now.items items c.unsearched.result) (sym same)
     (not_searched c.args.program.now (limits_of c.args.options.now) c.args.logs.now.items c.unsearched.result (c.unsearched.ensures.solved c.args.options.now.nodes c.args.options.now.gap))
+
+pub solve-answer-requires-clause-near : goal.solve-answer-requires-clause-near
+solve-answer-requires-clause-near c = near_columns c.args.program.now c.requires.limited.near
 
 pub returns : goal.returns
 returns c =

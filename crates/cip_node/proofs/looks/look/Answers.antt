@@ -1,21 +1,33 @@
-use Rattle.std.proofs.Common.{length, ap, sym, ◌∙◌, subst}
-use Rattle.cip_domain.specs.Changes.{Region}
-use Rattle.cip_tree.specs.Nodes.{Nodes, node_changes, region_in, region_of as node_region}
+use Rattle.std.proofs.Common.{◌≡◌, ◌∙◌, inl, length, sym, ap, subst}
+use Rattle.cip_problem.specs.Program.{Program}
+use Rattle.cip_tree.specs.Nodes.{region_of}
 use Rattle.cip_tree.specs.Walks.{IsEntered}
 use Rattle.cip_node_rules.specs.BoxLooks.{IsBoxLook}
-use Rattle.cip_node.proofs.BoxInWork.{narrowed_long}
+use Rattle.cip_core.specs.CoreStates.{reduced_of, IsAtWork}
+use Rattle.cip_core.proofs.CoreSteps.{work_long}
 use Rattle.cip_node.proofs.Looked.{look_entered}
 use Rattle.cip_node.proofs.looks.look.Goals as goal
 
 pub look_at-requires-clause-long : goal.look_at-requires-clause-long
 look_at-requires-clause-long c =
-    let e = subst (IsEntered c.enter.new.self.work (node_region c.args.tree.now c.args.node.now)) c.if-not-branch.false c.in_ok-enter.ensures.entered in
-    ap length c.whole.ensures.whole ∙ c.whole.ensures.formed.integral ∙ sym c.requires.columns ∙ sym (narrowed_long (region_in c.args.tree.now.root) (node_changes c.args.tree.now c.args.node.now)) ∙ sym (ap (λ (r : Region). length r.box) e) ∙ sym (ap length c.bounds.ensures)
+    let core = c.enter.new.self in
+    let node = c.args.node.now in
+    let e = subst (IsEntered core.tree.work (region_of core.tree node)) c.if-not-branch.false c.in_ok-enter.ensures.entered in
+    let w : IsAtWork core node = record { up = c.in_ok-enter.ensures.up; region = e } in
+    let formed = c.is_sound.ensures.formed in
+    ap length (c.whole.ensures.whole ∙ ap (λ (p : Program). p.integral) c.program-program.ensures) ∙ formed.integral ∙ sym (work_long core node formed w) ∙ sym (ap length c.bounds.ensures)
+
+pub returns-then-not-branch-clause-look : goal.returns-then-not-branch-clause-look
+returns-then-not-branch-clause-look c =
+    let core = c.enter.new.self in
+    inl (subst (IsEntered core.tree.work (region_of core.tree c.args.node.now)) c.if-not-branch.true c.in_ok-enter.ensures.entered)
 
 pub returns-clause-look : goal.returns-clause-look
 returns-clause-look c =
-    let e = subst (IsEntered c.enter.new.self.work (node_region c.args.tree.now c.args.node.now)) c.if-not-branch.false c.in_ok-enter.ensures.entered in
-    look_entered c.args.program.now.integral c.enter.new.self.work (node_region c.args.tree.now c.args.node.now) c.look_at.result e
-    (subst (λ i. IsBoxLook i c.enter.new.self.work.box c.enter.new.self.work.choices c.look_at.result) c.whole.ensures.whole
-    (subst (λ b. IsBoxLook c.whole.result.now b c.enter.new.self.work.choices c.look_at.result) c.bounds.ensures
+    let core = c.enter.new.self in
+    let node = c.args.node.now in
+    let e = subst (IsEntered core.tree.work (region_of core.tree node)) c.if-not-branch.false c.in_ok-enter.ensures.entered in
+    look_entered core node c.look_at.result e
+    (subst (λ i. IsBoxLook i core.tree.work.box core.tree.work.choices c.look_at.result) (c.whole.ensures.whole ∙ ap (λ (p : Program). p.integral) c.program-program.ensures)
+    (subst (λ b. IsBoxLook c.whole.result.now b core.tree.work.choices c.look_at.result) c.bounds.ensures
     (subst (λ o. IsBoxLook c.whole.result.now c.bounds.result.now o c.look_at.result) c.choices.ensures c.look_at.ensures)))

@@ -1,28 +1,62 @@
-use Rattle.std.proofs.Common.{length, subst}
-use Rattle.cip_solve.specs.Searching.{StopsAs}
+use Rattle.std.proofs.Common.{◌≡◌, ◌∙◌, ℕ, List, IfSome, length, Option, ap, sym, subst}
+use Rattle.cip_rational.specs.Rational.{ℚ}
+use Rattle.cip_problem.specs.Program.{Program}
+use Rattle.cip_problem.specs.Log.{Entry}
+use Rattle.cip_incumbent.specs.HeldPoint.{Holding}
+use Rattle.cip_search.specs.SearchAnswers.{IsSearchAnswer}
+use Rattle.cip_tree.specs.Nodes.{Nodes}
+use Rattle.cip_node_bounds.specs.declared.relaxed.Mark.{Mark}
+use Rattle.cip_core.specs.KeptNodes.{IsHolding}
+use Rattle.cip_endings.specs.AnswerOf.{answer_of}
+use Rattle.cip_solve.specs.Logs.{numbers_of}
+use Rattle.cip_solve.specs.Solved.{RayIsShown}
+use Rattle.cip_solve.specs.Searching.{IsEndless, StopsStill, StopsEndless, StopsRefused, StopsAs, IsWithin}
 use Rattle.cip_solve.proofs.FinishLaws.{held_room}
 use Rattle.cip_solve.proofs.finish.answer_at.Goals as goal
 
 pub returns-in-Still-clause-right : goal.returns-in-Still-clause-right
 returns-in-Still-clause-right c = λ marks within.
     let core = c.args.core.now in
-    c.still_answer.ensures.right core.program.now c.args.options.now.nodes marks
-    (subst (StopsAs core.program.now core.tree.root.bound c.args.options.now.nodes c.args.options.now.gap core.tree core.incumbent c.args.worst) c.in-Still.is c.requires.stop) within
+    let worst = c.args.worst in
+    let asked = c.args.options.now.gap in
+    let result = c.still_answer.result in
+    let right = subst (λ (h : Holding). (program : Program) (nodes : ℕ) (marks : List (ℕ × Mark)) → StopsStill program core.tree.root.bound nodes asked core.tree h worst → IsWithin program core.tree.root.bound nodes core.tree.log marks → IsSearchAnswer program core.tree.root.bound nodes asked core.tree.log (numbers_of marks) (answer_of result) × RayIsShown program (answer_of result)) c.incumbent-incumbent.ensures
+    (subst (λ (t : Nodes). (program : Program) (nodes : ℕ) (marks : List (ℕ × Mark)) → StopsStill program t.root.bound nodes asked t c.incumbent-incumbent.result.now worst → IsWithin program t.root.bound nodes t.log marks → IsSearchAnswer program t.root.bound nodes asked t.log (numbers_of marks) (answer_of result) × RayIsShown program (answer_of result)) c.tree-tree.ensures c.still_answer.ensures.right) in
+    right core.program c.args.options.now.nodes marks
+    (subst (StopsAs core.program core.tree.root.bound c.args.options.now.nodes asked core.tree core.incumbent worst) c.in-Still.is c.requires.stop) within
+
+pub endless_answer-requires : goal.endless_answer-requires
+endless_answer-requires c =
+    let core = c.args.core.now in
+    let stops = subst (StopsAs core.program core.tree.root.bound c.args.options.now.nodes c.args.options.now.gap core.tree core.incumbent c.args.worst) c.in-Endless.is c.requires.stop in
+    subst (λ (p : Program). IsEndless p c.in-Endless.point.items c.in-Endless.ray.items) (sym c.program.ensures) stops.falls
 
 pub returns-in-Endless-clause-right : goal.returns-in-Endless-clause-right
 returns-in-Endless-clause-right c = λ marks within.
     let core = c.args.core.now in
-    c.endless_answer.ensures.right core.tree.root.bound c.args.options.now.nodes c.args.options.now.gap core.tree.log marks
-    (subst (StopsAs core.program.now core.tree.root.bound c.args.options.now.nodes c.args.options.now.gap core.tree core.incumbent c.args.worst) c.in-Endless.is c.requires.stop) within
+    let point = c.in-Endless.point.items in
+    let ray = c.in-Endless.ray.items in
+    let result = c.endless_answer.result in
+    let right = subst (λ (p : Program). (start : Option ℚ) (budget : ℕ) (asked : Option ℚ) (log : List Entry) (marks : List (ℕ × Mark)) → StopsEndless p log point ray → IsWithin p start budget log marks → IsSearchAnswer p start budget asked log (numbers_of marks) (answer_of result) × RayIsShown p (answer_of result)) c.program.ensures c.endless_answer.ensures.right in
+    right core.tree.root.bound c.args.options.now.nodes c.args.options.now.gap core.tree.log marks
+    (subst (StopsAs core.program core.tree.root.bound c.args.options.now.nodes c.args.options.now.gap core.tree core.incumbent c.args.worst) c.in-Endless.is c.requires.stop) within
 
 pub returns-in-NoMemory-clause-right : goal.returns-in-NoMemory-clause-right
 returns-in-NoMemory-clause-right c = λ marks within.
     let core = c.args.core.now in
-    c.refused_answer.ensures.right core.program.now core.tree.root.bound c.args.options.now.nodes c.args.options.now.gap core.tree marks
-    (subst (StopsAs core.program.now core.tree.root.bound c.args.options.now.nodes c.args.options.now.gap core.tree core.incumbent c.args.worst) c.in-NoMemory.is c.requires.stop) c.requires.holding within
+    let result = c.refused_answer.result in
+    let right = subst (λ (h : Holding). (program : Program) (start : Option ℚ) (budget : ℕ) (asked : Option ℚ) (tree : Nodes) (marks : List (ℕ × Mark)) → StopsRefused program start tree h c.in-NoMemory.bound → IsHolding program h → IsWithin program start budget tree.log marks → IsSearchAnswer program start budget asked tree.log (numbers_of marks) (answer_of result) × RayIsShown program (answer_of result)) c.incumbent-incumbent.ensures c.refused_answer.ensures.right in
+    right core.program core.tree.root.bound c.args.options.now.nodes c.args.options.now.gap core.tree marks
+    (subst (StopsAs core.program core.tree.root.bound c.args.options.now.nodes c.args.options.now.gap core.tree core.incumbent c.args.worst) c.in-NoMemory.is c.requires.stop) c.is_sound.ensures.sound.is_held within
 
 pub still_answer-requires : goal.still_answer-requires
-still_answer-requires c = held_room c.args.core.now.program.now c.args.core.now.incumbent (length c.args.point.items) c.columns-columns.ensures.formed c.requires.holding c.requires.point
+still_answer-requires c =
+    let core = c.args.core.now in
+    subst (λ (h : Holding). IfSome h.best (λ held. length held.point ≡ length c.args.point.items)) (sym c.incumbent-incumbent.ensures)
+    (held_room core.program core.incumbent (length c.args.point.items) c.is_sound.ensures.formed c.is_sound.ensures.sound.is_held c.requires.point)
 
 pub refused_answer-requires : goal.refused_answer-requires
-refused_answer-requires c = held_room c.args.core.now.program.now c.args.core.now.incumbent (length c.args.point.items) c.columns-columns.ensures.formed c.requires.holding c.requires.point
+refused_answer-requires c =
+    let core = c.args.core.now in
+    subst (λ (h : Holding). IfSome h.best (λ held. length held.point ≡ length c.args.point.items)) (sym c.incumbent-incumbent.ensures)
+    (held_room core.program core.incumbent (length c.args.point.items) c.is_sound.ensures.formed c.is_sound.ensures.sound.is_held c.requires.point)

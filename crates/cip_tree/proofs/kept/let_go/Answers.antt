@@ -4,7 +4,7 @@ use Rattle.cip_tree.specs.Slots.{Slot}
 use Rattle.cip_tree.proofs.Keeping.{root_kept, child_kept, child_released, child_next, parent_used}
 use Rattle.cip_tree.specs.Slots.{IsKeptBut}
 use Rattle.std.proofs.Common.{subst, IfSome, cond}
-use Rattle.cip_tree.specs.Slots.{IsUnused}
+use Rattle.cip_tree.specs.Slots.{IsUnused, IsUsed, IsLowered}
 use Rattle.cip_tree.proofs.kept.let_go.Goals as goal
 
 pub returns-in_default-clause-kept : goal.returns-in_default-clause-kept
@@ -15,38 +15,46 @@ returns-in_default-clause-kept c =
 
 pub lower-requires : goal.lower-requires
 lower-requires c =
-    parent_used c.args.kept.now.slots c.remove-gone.new.self.slots c.args.place c.remove-gone.result c.requires.kept c.remove-gone.ensures.value c.in-Some.origin
-    (sym (ap (λ (s : Slot). s.origin) c.gone.view_is) ∙ c.in-Some.is) c.remove-gone.ensures.updates.others
+    subst (IsUsed c.remove-gone.new.self.slots) (sym c.parent-parent.ensures)
+    (parent_used c.args.kept.now.slots c.remove-gone.new.self.slots c.args.place c.remove-gone.result c.requires.kept c.remove-gone.ensures.value c.in-Some.origin
+    (sym (ap (λ (s : Slot). s.origin) c.gone.view_is) ∙ c.in-Some.is) c.remove-gone.ensures.updates.others)
 
 pub returns-then-lower-clause-slots : goal.returns-then-lower-clause-slots
 returns-then-lower-clause-slots c =
+    let lowered = subst (λ n. IsLowered c.remove-gone.new.self.slots c.lower.new.kept.slots n c.lower.result) c.parent-parent.ensures c.lower.ensures.slots in
     let empty : c.remove-gone.result.below ≡ 0 = sym (ap (λ (s : Slot). s.below) (same_Some _ _ (sym c.requires.idle.found ∙ c.remove-gone.ensures.value))) ∙ c.requires.idle.none_below in
     child_released c.args.kept.now.slots c.lower.new.kept.slots c.args.place c.remove-gone.result c.requires.kept c.remove-gone.ensures.value empty c.remove-gone.new.self.slots c.in-Some.origin
-    (sym (ap (λ (s : Slot). s.origin) c.gone.view_is) ∙ c.in-Some.is) c.remove-gone.ensures.updates.changed c.remove-gone.ensures.updates.others c.lower.result c.lower.ensures.slots
+    (sym (ap (λ (s : Slot). s.origin) c.gone.view_is) ∙ c.in-Some.is) c.remove-gone.ensures.updates.changed c.remove-gone.ensures.updates.others c.lower.result lowered
 
 pub returns-then-lower-clause-next : goal.returns-then-lower-clause-next
 returns-then-lower-clause-next c =
+    let lowered = subst (λ n. IsLowered c.remove-gone.new.self.slots c.lower.new.kept.slots n c.lower.result) c.parent-parent.ensures c.lower.ensures.slots in
     let empty : c.remove-gone.result.below ≡ 0 = sym (ap (λ (s : Slot). s.below) (same_Some _ _ (sym c.requires.idle.found ∙ c.remove-gone.ensures.value))) ∙ c.requires.idle.none_below in
-    subst (λ b. IfSome (cond b (Some c.in-Some.origin.parent) None) (IsUnused c.lower.new.kept.slots)) c.if-lower.true
+    subst (λ n. IfSome (Some n) (IsUnused c.lower.new.kept.slots)) (sym c.parent-parent.ensures)
+    (subst (λ b. IfSome (cond b (Some c.in-Some.origin.parent) None) (IsUnused c.lower.new.kept.slots)) c.if-lower.true
     (child_next c.args.kept.now.slots c.lower.new.kept.slots c.args.place c.remove-gone.result c.requires.kept c.remove-gone.ensures.value empty c.remove-gone.new.self.slots c.in-Some.origin
-    (sym (ap (λ (s : Slot). s.origin) c.gone.view_is) ∙ c.in-Some.is) c.remove-gone.ensures.updates.changed c.remove-gone.ensures.updates.others c.lower.result c.lower.ensures.slots)
+    (sym (ap (λ (s : Slot). s.origin) c.gone.view_is) ∙ c.in-Some.is) c.remove-gone.ensures.updates.changed c.remove-gone.ensures.updates.others c.lower.result lowered))
 
 pub returns-then-lower-clause-kept : goal.returns-then-lower-clause-kept
 returns-then-lower-clause-kept c =
+    let lowered = subst (λ n. IsLowered c.remove-gone.new.self.slots c.lower.new.kept.slots n c.lower.result) c.parent-parent.ensures c.lower.ensures.slots in
     let empty : c.remove-gone.result.below ≡ 0 = sym (ap (λ (s : Slot). s.below) (same_Some _ _ (sym c.requires.idle.found ∙ c.remove-gone.ensures.value))) ∙ c.requires.idle.none_below in
-    subst (λ b. IsKeptBut (cond b (Some c.in-Some.origin.parent) None) c.lower.new.kept.slots) c.if-lower.true
+    subst (λ n. IsKeptBut (Some n) c.lower.new.kept.slots) (sym c.parent-parent.ensures)
+    (subst (λ b. IsKeptBut (cond b (Some c.in-Some.origin.parent) None) c.lower.new.kept.slots) c.if-lower.true
     (child_kept c.args.kept.now.slots c.lower.new.kept.slots c.args.place c.remove-gone.result c.requires.kept c.remove-gone.ensures.value empty c.remove-gone.new.self.slots c.in-Some.origin
-    (sym (ap (λ (s : Slot). s.origin) c.gone.view_is) ∙ c.in-Some.is) c.remove-gone.ensures.updates.changed c.remove-gone.ensures.updates.others c.lower.result c.lower.ensures.slots)
+    (sym (ap (λ (s : Slot). s.origin) c.gone.view_is) ∙ c.in-Some.is) c.remove-gone.ensures.updates.changed c.remove-gone.ensures.updates.others c.lower.result lowered))
 
 pub returns-clause-slots : goal.returns-clause-slots
 returns-clause-slots c =
+    let lowered = subst (λ n. IsLowered c.remove-gone.new.self.slots c.lower.new.kept.slots n c.lower.result) c.parent-parent.ensures c.lower.ensures.slots in
     let empty : c.remove-gone.result.below ≡ 0 = sym (ap (λ (s : Slot). s.below) (same_Some _ _ (sym c.requires.idle.found ∙ c.remove-gone.ensures.value))) ∙ c.requires.idle.none_below in
     child_released c.args.kept.now.slots c.lower.new.kept.slots c.args.place c.remove-gone.result c.requires.kept c.remove-gone.ensures.value empty c.remove-gone.new.self.slots c.in-Some.origin
-    (sym (ap (λ (s : Slot). s.origin) c.gone.view_is) ∙ c.in-Some.is) c.remove-gone.ensures.updates.changed c.remove-gone.ensures.updates.others c.lower.result c.lower.ensures.slots
+    (sym (ap (λ (s : Slot). s.origin) c.gone.view_is) ∙ c.in-Some.is) c.remove-gone.ensures.updates.changed c.remove-gone.ensures.updates.others c.lower.result lowered
 
 pub returns-clause-kept : goal.returns-clause-kept
 returns-clause-kept c =
+    let lowered = subst (λ n. IsLowered c.remove-gone.new.self.slots c.lower.new.kept.slots n c.lower.result) c.parent-parent.ensures c.lower.ensures.slots in
     let empty : c.remove-gone.result.below ≡ 0 = sym (ap (λ (s : Slot). s.below) (same_Some _ _ (sym c.requires.idle.found ∙ c.remove-gone.ensures.value))) ∙ c.requires.idle.none_below in
     subst (λ b. IsKeptBut (cond b (Some c.in-Some.origin.parent) None) c.lower.new.kept.slots) c.if-lower.false
     (child_kept c.args.kept.now.slots c.lower.new.kept.slots c.args.place c.remove-gone.result c.requires.kept c.remove-gone.ensures.value empty c.remove-gone.new.self.slots c.in-Some.origin
-    (sym (ap (λ (s : Slot). s.origin) c.gone.view_is) ∙ c.in-Some.is) c.remove-gone.ensures.updates.changed c.remove-gone.ensures.updates.others c.lower.result c.lower.ensures.slots)
+    (sym (ap (λ (s : Slot). s.origin) c.gone.view_is) ∙ c.in-Some.is) c.remove-gone.ensures.updates.changed c.remove-gone.ensures.updates.others c.lower.result lowered)

@@ -1,4 +1,4 @@
-use Rattle.std.proofs.Common.{◌≡◌, ◌∙◌, take, ap, sym, subst, arith}
+use Rattle.std.proofs.Common.{◌∙◌, take, ap, sym, subst}
 use Rattle.std.specs.Prelude.{List}
 use Rattle.cip_rational.specs.Rational.{ℚ}
 use Rattle.cip_problem.specs.Box.{IsInBox}
@@ -6,8 +6,9 @@ use Rattle.cip_domain.specs.Changes.{Change, tightened}
 use Rattle.cip_domain.specs.Domain.{region_of}
 use Rattle.cip_domain.specs.Narrowing.{ArePlainPast, IsNarrowed}
 use Rattle.cip_domain.proofs.Marks.{keeps_trans}
-use Rattle.cip_tree.specs.Notes.{noted, noted_change}
-use Rattle.cip_tree.proofs.Walking.{one_note_more, none_by_notes, past_stays}
+use Rattle.cip_tree.specs.Notes.{noted}
+use Rattle.cip_tree.proofs.Filled.{past_stays}
+use Rattle.cip_tree.proofs.Walking.{one_note_more, none_by_notes}
 use Rattle.cip_tree.proofs.walks.narrow_by.Goals as goal
 
 pub loop-note-preserved : goal.loop-note-preserved

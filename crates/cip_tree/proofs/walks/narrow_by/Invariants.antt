@@ -1,5 +1,5 @@
 use Rattle.std.proofs.Common.{◌≡◌, take}
-use Rattle.std.specs.Prelude.{ℕ, List}
+use Rattle.std.specs.Prelude.{List}
 use Rattle.cip_domain.specs.Changes.{narrowed}
 use Rattle.cip_domain.specs.Domain.{Domain, region_of, KeepsMarks}
 use Rattle.cip_domain.specs.Narrowing.{ArePlainPast}

@@ -10,8 +10,7 @@ loop-preserved c =
     record {
       still = next.0;
       told = c.turn.ensures.told;
-      bare = c.turn.ensures.bare;
-      ready = c.turn.ensures.ready;
+      plain = c.turn.ensures.plain;
       program = c.turn.ensures.program ∙ c.loop.invariant.program;
       root = c.turn.ensures.root ∙ c.loop.invariant.root;
       longer = next.1 ∙ ap (λ n. n + 1) c.loop.invariant.longer;

@@ -1,15 +1,13 @@
-use Rattle.std.proofs.Common.{◌≡◌, [], length}
-use Rattle.cip_node.specs.Cores.{IsReady}
+use Rattle.std.proofs.Common.{◌≡◌, false, length}
 use Rattle.cip_solve.specs.Searching.{IsStill, IsTold}
 use Rattle.cip_solve.proofs.turns.Search.explore.Given as goal
 
 abbrev pub invariant-loop : goal.invariant-loop
 invariant-loop l = record {
-  still : IsStill l.self.core.program.now l.self.core.tree.root.bound l.self.core.tree l.self.core.incumbent l.self.worst;
-  told : IsTold l.self.core.program.now l.self.core.tree.root.bound l.self.core.tree.log l.self.marks.items;
-  bare : l.self.core.pool.rows ≡ [];
-  ready : IsReady l.self.core;
-  program : l.self.core.program ≡ l.fn.self.core.program;
-  root : l.self.core.tree.root ≡ l.fn.self.core.tree.root;
-  longer : length l.self.core.tree.log ≡ l.counter;
+  still : IsStill l.self.work.core.program l.self.work.core.tree.root.bound l.self.work.core.tree l.self.work.core.incumbent l.self.worst;
+  told : IsTold l.self.work.core.program l.self.work.core.tree.root.bound l.self.work.core.tree.log l.self.marks.items;
+  plain : l.self.work.core.touched ≡ false;
+  program : l.self.work.core.program ≡ l.fn.self.work.core.program;
+  root : l.self.work.core.tree.root ≡ l.fn.self.work.core.tree.root;
+  longer : length l.self.work.core.tree.log ≡ l.counter;
 }

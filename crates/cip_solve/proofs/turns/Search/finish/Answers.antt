@@ -7,9 +7,9 @@ use Rattle.cip_solve.proofs.turns.Search.finish.Goals as goal
 
 pub returns-clause-right : goal.returns-clause-right
 returns-clause-right c =
-    let core = c.args.self.core in
+    let core = c.args.self.work.core in
     let marks = c.args.self.marks.items in
-    subst (λ log. IsSearchAnswer core.program.now core.tree.root.bound c.args.options.now.nodes c.args.options.now.gap log (numbers_of marks) (answer_of c.answer_at-answer.result)) (sym c.take_log.ensures.entries)
+    subst (λ log. IsSearchAnswer core.program core.tree.root.bound c.args.options.now.nodes c.args.options.now.gap log (numbers_of marks) (answer_of c.answer_at-answer.result)) (sym c.take_log.ensures.entries)
     (c.answer_at-answer.ensures.right marks c.requires.within).0
 
 pub returns-clause-shown : goal.returns-clause-shown
@@ -20,4 +20,4 @@ returns-clause-nodes c = c.answer_at-answer.ensures.nodes ∙ ap length (sym c.t
 
 pub returns-clause-met : goal.returns-clause-met
 returns-clause-met c =
-    subst (λ log. AreMet c.args.self.core.program.now c.args.self.core.tree.root.bound log c.args.self.marks.items) (sym c.take_log.ensures.entries) c.requires.within.told.met
+    subst (λ log. AreMet c.args.self.work.core.program c.args.self.work.core.tree.root.bound log c.args.self.marks.items) (sym c.take_log.ensures.entries) c.requires.within.told.met

@@ -1,46 +1,47 @@
 use Rattle.cip_tree.specs.Nodes.{node_in}
-use Rattle.std.proofs.Common.{◌≡◌, Some, None, map, get_or, sym, ap, ◌∙◌, subst, arith}
+use Rattle.std.proofs.Common.{None, map, get_or, sym, ap, ◌∙◌, subst, arith}
 use Rattle.std.proofs.lemmas.List.{map-append}
 use Rattle.cip_tree.specs.Entries.{entry_of}
-use Rattle.cip_tree.specs.Nodes.{Nodes, TakenNode, base_at}
+use Rattle.cip_tree.specs.Nodes.{filled_base, Nodes, TakenNode, base_at}
 use Rattle.cip_tree.specs.Inside.{bases}
 use Rattle.cip_tree.proofs.Orders.{taken_is_idle, taken_some, closed_order, closed_open, closed_parked, released_gone, released_others, nodes_equal}
 use Rattle.cip_tree.specs.Tracked.{IsTracked}
 use Rattle.cip_tree.proofs.Tracking.{tracked_closed}
 use Rattle.cip_tree.proofs.WalkedOn.{walked_closed}
+use Rattle.cip_tree.proofs.Filled.{unfilled}
 use Rattle.cip_tree.proofs.trees.Tree.close.Goals as goal
 
 pub release-requires-clause-idle : goal.release-requires-clause-idle
 release-requires-clause-idle c =
-    let w : get_or (bases c.self.inside.kept.slots) c.node.inside.place None ≡ Some c.requires.base = ap (λ (t : Nodes). base_at t c.node.inside.place) c.self.view_is ∙ ap (λ (x : TakenNode). base_at c.args.self.now x.place) c.node.view_is ∙ c.requires.found in
-    taken_is_idle c.self.inside.root c.self.inside.kept.slots c.self.inside.kept.slots c.node.inside.place c.self.inside.queue.nodes c.self.inside.parked.items c.self.inside.ids c.self.inside.in_work c.requires.base c.self.invariant.0 w
+    let base = unfilled c.self.inside.root.choices (get_or (bases c.self.inside.kept.slots) c.node.inside.place None) c.requires.base (ap (λ (t : Nodes). base_at t c.node.inside.place) c.self.view_is ∙ ap (λ (x : TakenNode). base_at c.args.self.now x.place) c.node.view_is ∙ c.requires.found) in
+    taken_is_idle c.self.inside.root c.self.inside.kept.slots c.self.inside.kept.slots c.node.inside.place c.self.inside.queue.nodes c.self.inside.parked.items c.self.inside.ids c.self.inside.in_work base.raw c.self.invariant.0 base.found
 
 pub overflow_sub-self : goal.overflow_sub-self
 overflow_sub-self c =
-    let w : get_or (bases c.self.inside.kept.slots) c.node.inside.place None ≡ Some c.requires.base = ap (λ (t : Nodes). base_at t c.node.inside.place) c.self.view_is ∙ ap (λ (x : TakenNode). base_at c.args.self.now x.place) c.node.view_is ∙ c.requires.found in
-    taken_some c.self.inside.root c.self.inside.kept.slots c.self.inside.kept.slots c.node.inside.place c.self.inside.queue.nodes c.self.inside.parked.items c.self.inside.ids c.self.inside.in_work c.requires.base c.self.invariant.0 w
+    let base = unfilled c.self.inside.root.choices (get_or (bases c.self.inside.kept.slots) c.node.inside.place None) c.requires.base (ap (λ (t : Nodes). base_at t c.node.inside.place) c.self.view_is ∙ ap (λ (x : TakenNode). base_at c.args.self.now x.place) c.node.view_is ∙ c.requires.found) in
+    taken_some c.self.inside.root c.self.inside.kept.slots c.self.inside.kept.slots c.node.inside.place c.self.inside.queue.nodes c.self.inside.parked.items c.self.inside.ids c.self.inside.in_work base.raw c.self.invariant.0 base.found
 
 pub push_reserved-requires : goal.push_reserved-requires
 push_reserved-requires c =
-    let w : get_or (bases c.self.inside.kept.slots) c.node.inside.place None ≡ Some c.requires.base = ap (λ (t : Nodes). base_at t c.node.inside.place) c.self.view_is ∙ ap (λ (x : TakenNode). base_at c.args.self.now x.place) c.node.view_is ∙ c.requires.found in
-    let some = taken_some c.self.inside.root c.self.inside.kept.slots c.self.inside.kept.slots c.node.inside.place c.self.inside.queue.nodes c.self.inside.parked.items c.self.inside.ids c.self.inside.in_work c.requires.base c.self.invariant.0 w in
+    let base = unfilled c.self.inside.root.choices (get_or (bases c.self.inside.kept.slots) c.node.inside.place None) c.requires.base (ap (λ (t : Nodes). base_at t c.node.inside.place) c.self.view_is ∙ ap (λ (x : TakenNode). base_at c.args.self.now x.place) c.node.view_is ∙ c.requires.found) in
+    let some = taken_some c.self.inside.root c.self.inside.kept.slots c.self.inside.kept.slots c.node.inside.place c.self.inside.queue.nodes c.self.inside.parked.items c.self.inside.ids c.self.inside.in_work base.raw c.self.invariant.0 base.found in
     omega (arith, some, c.self.invariant.1.log)
 
 pub invariant_of-self : goal.invariant_of-self
 invariant_of-self c =
-    let w : get_or (bases c.self.inside.kept.slots) c.node.inside.place None ≡ Some c.requires.base = ap (λ (t : Nodes). base_at t c.node.inside.place) c.self.view_is ∙ ap (λ (x : TakenNode). base_at c.args.self.now x.place) c.node.view_is ∙ c.requires.found in
-    let some = taken_some c.self.inside.root c.self.inside.kept.slots c.self.inside.kept.slots c.node.inside.place c.self.inside.queue.nodes c.self.inside.parked.items c.self.inside.ids c.self.inside.in_work c.requires.base c.self.invariant.0 w in
-    let number = c.requires.same ∙ sym (ap (λ (x : TakenNode). x.number) c.node.view_is) in
+    let base = unfilled c.self.inside.root.choices (get_or (bases c.self.inside.kept.slots) c.node.inside.place None) c.requires.base (ap (λ (t : Nodes). base_at t c.node.inside.place) c.self.view_is ∙ ap (λ (x : TakenNode). base_at c.args.self.now x.place) c.node.view_is ∙ c.requires.found) in
+    let some = taken_some c.self.inside.root c.self.inside.kept.slots c.self.inside.kept.slots c.node.inside.place c.self.inside.queue.nodes c.self.inside.parked.items c.self.inside.ids c.self.inside.in_work base.raw c.self.invariant.0 base.found in
+    let number = base.number ∙ c.requires.same ∙ sym (ap (λ (x : TakenNode). x.number) c.node.view_is) in
     let log = ap (λ l. map entry_of l) c.push_reserved.ensures.items ∙ map-append entry_of c.self.inside.log.items _ in
     let room = c.self.invariant.1 in (
-      closed_order c.self.inside.root c.self.inside.kept.slots c.release.new.kept.slots c.node.inside.place c.self.inside.queue.nodes c.self.inside.parked.items c.self.inside.ids c.self.inside.in_work c.requires.base c.self.invariant.0 w c.release.ensures.slots c.release.ensures.kept,
+      closed_order c.self.inside.root c.self.inside.kept.slots c.release.new.kept.slots c.node.inside.place c.self.inside.queue.nodes c.self.inside.parked.items c.self.inside.ids c.self.inside.in_work base.raw c.self.invariant.0 base.found c.release.ensures.slots c.release.ensures.kept,
       record {
         queue = omega (arith, room.queue);
         parked = omega (arith, room.parked);
         log = omega (arith, room.log, some, c.push_reserved.ensures.len, c.push_reserved.ensures.capacity);
       },
       subst (IsTracked (node_in c.self.inside.root 0 c.self.inside.root_bound) c.self.inside.whole.items c.release.new.kept.slots c.self.inside.ids) (sym log)
-          (tracked_closed (node_in c.self.inside.root 0 c.self.inside.root_bound) c.self.inside.whole.items c.self.inside.kept.slots c.release.new.kept.slots c.self.inside.ids (map entry_of c.self.inside.log.items) c.self.invariant.2 c.self.invariant.0.kept c.node.inside.place c.requires.base w c.node.inside.id c.node.inside.bound number c.release.ensures.slots c.release.ensures.kept),
+          (tracked_closed (node_in c.self.inside.root 0 c.self.inside.root_bound) c.self.inside.whole.items c.self.inside.kept.slots c.release.new.kept.slots c.self.inside.ids (map entry_of c.self.inside.log.items) c.self.invariant.2 c.self.invariant.0.kept c.node.inside.place base.raw base.found c.node.inside.id c.node.inside.bound number c.release.ensures.slots c.release.ensures.kept),
       walked_closed c.self.inside.root c.self.inside.kept.slots c.release.new.kept.slots c.self.inside.ids c.self.inside.walk c.self.invariant.0.kept c.self.invariant.3 c.node.inside.place c.release.ensures.slots c.release.ensures.kept,
     )
 
@@ -48,11 +49,11 @@ pub returns-clause-taken : goal.returns-clause-taken
 returns-clause-taken c =
     let gone = released_gone c.self.inside.kept.slots c.release.new.kept.slots c.node.inside.place c.release.ensures.slots c.release.ensures.kept in
     let others = released_others c.self.inside.kept.slots c.release.new.kept.slots c.node.inside.place c.release.ensures.slots c.release.ensures.kept in
-    rw (← c.self.view_is, ← c.node.view_is) (record { gone = gone; others = others })
+    rw (← c.self.view_is, ← c.node.view_is) (record { gone = ap (filled_base c.self.inside.root.choices) gone; others = λ k d. ap (filled_base c.self.inside.root.choices) (others k d) })
 
 pub returns-clause-rest : goal.returns-clause-rest
 returns-clause-rest c =
-    let w : get_or (bases c.self.inside.kept.slots) c.node.inside.place None ≡ Some c.requires.base = ap (λ (t : Nodes). base_at t c.node.inside.place) c.self.view_is ∙ ap (λ (x : TakenNode). base_at c.args.self.now x.place) c.node.view_is ∙ c.requires.found in
+    let base = unfilled c.self.inside.root.choices (get_or (bases c.self.inside.kept.slots) c.node.inside.place None) c.requires.base (ap (λ (t : Nodes). base_at t c.node.inside.place) c.self.view_is ∙ ap (λ (x : TakenNode). base_at c.args.self.now x.place) c.node.view_is ∙ c.requires.found) in
     let log = ap (λ l. map entry_of l) c.push_reserved.ensures.items ∙ map-append entry_of c.self.inside.log.items _ in
     rw (← c.self.view_is, ← c.node.view_is)
-    (nodes_equal _ _ _ _ _ _ _ _ _ _ _ (closed_open c.self.inside.root c.self.inside.kept.slots c.release.new.kept.slots c.node.inside.place c.self.inside.queue.nodes c.self.inside.parked.items c.self.inside.ids c.self.inside.in_work c.requires.base c.self.invariant.0 w c.release.ensures.slots c.release.ensures.kept) (closed_parked c.self.inside.root c.self.inside.kept.slots c.release.new.kept.slots c.node.inside.place c.self.inside.queue.nodes c.self.inside.parked.items c.self.inside.ids c.self.inside.in_work c.requires.base c.self.invariant.0 w c.release.ensures.slots c.release.ensures.kept) log)
+    (nodes_equal _ _ _ _ _ _ _ _ _ _ _ (closed_open c.self.inside.root c.self.inside.kept.slots c.release.new.kept.slots c.node.inside.place c.self.inside.queue.nodes c.self.inside.parked.items c.self.inside.ids c.self.inside.in_work base.raw c.self.invariant.0 base.found c.release.ensures.slots c.release.ensures.kept) (closed_parked c.self.inside.root c.self.inside.kept.slots c.release.new.kept.slots c.node.inside.place c.self.inside.queue.nodes c.self.inside.parked.items c.self.inside.ids c.self.inside.in_work base.raw c.self.invariant.0 base.found c.release.ensures.slots c.release.ensures.kept) log)

@@ -1,8 +1,8 @@
 use Rattle.cip_tree.specs.Nodes.{node_in}
-use Rattle.std.proofs.Common.{subst, sym, arith, filter, refl, ◌≤◌, ℕ, count_by}
+use Rattle.std.proofs.Common.{ap, subst, sym, arith, filter, refl, ◌≤◌, ℕ, count_by}
 use Rattle.std.specs.List.Sorted.{IsPermutation}
 use Rattle.cip_tree.specs.Entries.{entries_of}
-use Rattle.cip_tree.specs.Nodes.{Nodes}
+use Rattle.cip_tree.specs.Nodes.{filled_base, Nodes}
 use Rattle.cip_tree.specs.Moves.{is_cheaper}
 use Rattle.cip_tree.specs.Inside.{nodes_at, is_at}
 use Rattle.cip_tree.specs.Freed.{dearer, AreReleased}
@@ -40,7 +40,7 @@ returns-then-reaches-clause-nodes c =
 pub returns-then-reaches-clause-taken : goal.returns-then-reaches-clause-taken
 returns-then-reaches-clause-taken c =
     let freed = subst (λ l. AreReleased c.self.inside.kept.slots c.release_from.new.kept.slots (dearer c.args.cost l)) c.as_slice.ensures c.release_from.ensures.slots in
-    rw (← c.self.view_is) (freed_places c.self.inside.root c.self.inside.kept.slots c.release_from.new.kept.slots c.args.cost c.self.inside.queue.nodes c.keep_below.new.self.nodes c.self.inside.parked.items c.self.inside.ids c.self.inside.in_work c.self.invariant.0 freed c.release_from.ensures.kept c.keep_below.ensures.nodes)
+    rw (← c.self.view_is) (λ k. ap (filled_base c.self.inside.root.choices) (freed_places c.self.inside.root c.self.inside.kept.slots c.release_from.new.kept.slots c.args.cost c.self.inside.queue.nodes c.keep_below.new.self.nodes c.self.inside.parked.items c.self.inside.ids c.self.inside.in_work c.self.invariant.0 freed c.release_from.ensures.kept c.keep_below.ensures.nodes k))
 
 pub returns-then-reaches-clause-rest : goal.returns-then-reaches-clause-rest
 returns-then-reaches-clause-rest c =

@@ -1,5 +1,5 @@
 use Rattle.cip_domain.specs.Domain.{region_of}
-use Rattle.cip_tree.specs.Nodes.{node_in}
+use Rattle.cip_tree.specs.Nodes.{filled_base, node_in}
 use Rattle.std.proofs.Common.{◌≡◌, ◌∷◌, [], List, rules, ap, sym, ◌∙◌, subst, refl, arith, length}
 use Rattle.cip_tree.specs.declared.queue.OpenNode.{OpenNode}
 use Rattle.cip_tree.specs.Inside.{IsInOrder, nodes_at}
@@ -39,7 +39,7 @@ returns c =
       root = refl;
       integral_is = search rules;
       parked = ap (nodes_at c.args.root c.in_ok-kept.field-0.kept.slots) c.in_ok-parked.ensures.items;
-      taken = root_bases c.in_ok-kept.field-0.kept.slots c.in_ok-kept.field-0.place c.in_ok-kept.ensures.0 c.in_ok-kept.ensures.1;
+      taken = λ k. ap (filled_base c.args.root.choices) (root_bases c.in_ok-kept.field-0.kept.slots c.in_ok-kept.field-0.place c.in_ok-kept.ensures.0 c.in_ok-kept.ensures.1 k);
       ids = refl;
       log = search rules;
       work = ap (λ (w : Way). region_of w.domain) c.new-walk.ensures ∙ c.in_ok-work.ensures;

@@ -1,11 +1,10 @@
 use Rattle.cip_tree.specs.Nodes.{node_in}
-use Rattle.cip_tree.specs.Notes.{noted}
-use Rattle.std.proofs.Common.{◌∷◌, ◌++◌, [], sym, subst, refl, arith}
+use Rattle.std.proofs.Common.{◌∷◌, [], ap, subst, refl, arith}
 use Rattle.std.specs.List.Sorted.{IsPermutation}
 use Rattle.std.proofs.lemmas.List.Sorted.{length_permutation}
-use Rattle.cip_domain.specs.Changes.{narrowed}
 use Rattle.cip_tree.specs.Entries.{entries_of}
-use Rattle.cip_tree.specs.Nodes.{base_changes}
+use Rattle.cip_tree.specs.Nodes.{filled_base}
+use Rattle.cip_tree.proofs.Filled.{after_base}
 use Rattle.cip_tree.specs.Inside.{nodes_at}
 use Rattle.cip_tree.proofs.Orders.{first_kept, first_stands, first_order, first_parked, first_found, first_number, first_fresh, first_others, first_nodes, first_before, nodes_equal}
 use Rattle.cip_tree.proofs.Tracking.{tracked_first, first_unended}
@@ -39,16 +38,16 @@ pub returns : goal.returns
 returns c =
     let found = first_found c.self.inside.root c.self.inside.kept.slots c.restage-notes.new.kept.slots c.in_ok-first.first c.restage-notes.result.items c.new-none.result.items c.self.inside.queue.nodes c.pop.new.self.nodes c.self.inside.parked.items c.self.inside.ids c.self.inside.in_work c.self.invariant.0 c.in_ok-first.ensures.0 c.restage-notes.ensures.slots c.new-none.ensures.items in
     let nodes = first_nodes c.self.inside.root c.self.inside.kept.slots c.restage-notes.new.kept.slots c.in_ok-first.first c.restage-notes.result.items c.new-none.result.items c.self.inside.queue.nodes c.pop.new.self.nodes c.self.inside.parked.items c.self.inside.ids c.self.inside.in_work c.self.invariant.0 c.in_ok-first.ensures.0 c.restage-notes.ensures.slots c.new-none.ensures.items in
-    let shown_nodes = subst (λ b. IsPermutation (nodes_at c.self.inside.root c.self.inside.kept.slots c.self.inside.queue.nodes) ((node_in (narrowed c.self.inside.root (noted c.restage-notes.result.items ++ base_changes b)) c.in_ok-first.first.id c.in_ok-first.first.bound) ∷ nodes_at c.self.inside.root c.restage-notes.new.kept.slots c.pop.new.self.nodes)) (sym found) nodes in
+    let shown_nodes = subst (λ r. IsPermutation (nodes_at c.self.inside.root c.self.inside.kept.slots c.self.inside.queue.nodes) ((node_in r c.in_ok-first.first.id c.in_ok-first.first.bound) ∷ nodes_at c.self.inside.root c.restage-notes.new.kept.slots c.pop.new.self.nodes)) (after_base c.self.inside.root c.restage-notes.result.items _ _ found) nodes in
     let stands = first_stands c.self.inside.root c.self.inside.kept.slots c.restage-notes.new.kept.slots c.in_ok-first.first [] [] c.self.inside.queue.nodes c.pop.new.self.nodes c.self.inside.parked.items c.self.inside.ids c.self.inside.in_work c.self.invariant.0 c.in_ok-first.ensures.0 in
     rw (← c.self.view_is)
     (record {
       nodes = shown_nodes;
       first = first_before c.self.inside.root c.self.inside.kept.slots c.restage-notes.new.kept.slots c.in_ok-first.first c.restage-notes.result.items c.new-none.result.items c.self.inside.queue.nodes c.pop.new.self.nodes c.self.inside.parked.items c.self.inside.ids c.self.inside.in_work c.self.invariant.0 c.in_ok-first.ensures.0 c.restage-notes.ensures.slots c.new-none.ensures.items c.in_ok-first.ensures.1 _;
-      taken = record { base = _; found = found; same = first_number c.self.inside.root c.self.inside.kept.slots c.restage-notes.new.kept.slots c.in_ok-first.first c.restage-notes.result.items c.new-none.result.items c.self.inside.queue.nodes c.pop.new.self.nodes c.self.inside.parked.items c.self.inside.ids c.self.inside.in_work c.self.invariant.0 c.in_ok-first.ensures.0 c.restage-notes.ensures.slots c.new-none.ensures.items };
+      taken = record { base = _; found = ap (filled_base c.self.inside.root.choices) found; same = first_number c.self.inside.root c.self.inside.kept.slots c.restage-notes.new.kept.slots c.in_ok-first.first c.restage-notes.result.items c.new-none.result.items c.self.inside.queue.nodes c.pop.new.self.nodes c.self.inside.parked.items c.self.inside.ids c.self.inside.in_work c.self.invariant.0 c.in_ok-first.ensures.0 c.restage-notes.ensures.slots c.new-none.ensures.items };
       given = omega (arith, c.self.invariant.0.given c.in_ok-first.first.place stands.slot stands.found, stands.number);
       unended = first_unended (node_in c.self.inside.root 0 c.self.inside.root_bound) c.self.inside.whole.items c.self.inside.kept.slots c.restage-notes.new.kept.slots c.self.inside.ids (entries_of c.self.inside.log.items) c.self.invariant.2 c.self.invariant.0.kept c.in_ok-first.first stands;
-      fresh = first_fresh c.self.inside.root c.self.inside.kept.slots c.restage-notes.new.kept.slots c.in_ok-first.first c.restage-notes.result.items c.new-none.result.items c.self.inside.queue.nodes c.pop.new.self.nodes c.self.inside.parked.items c.self.inside.ids c.self.inside.in_work c.self.invariant.0 c.in_ok-first.ensures.0 c.restage-notes.ensures.slots c.new-none.ensures.items;
-      others = first_others c.self.inside.root c.self.inside.kept.slots c.restage-notes.new.kept.slots c.in_ok-first.first c.restage-notes.result.items c.new-none.result.items c.self.inside.queue.nodes c.pop.new.self.nodes c.self.inside.parked.items c.self.inside.ids c.self.inside.in_work c.self.invariant.0 c.in_ok-first.ensures.0 c.restage-notes.ensures.slots c.new-none.ensures.items;
+      fresh = ap (filled_base c.self.inside.root.choices) (first_fresh c.self.inside.root c.self.inside.kept.slots c.restage-notes.new.kept.slots c.in_ok-first.first c.restage-notes.result.items c.new-none.result.items c.self.inside.queue.nodes c.pop.new.self.nodes c.self.inside.parked.items c.self.inside.ids c.self.inside.in_work c.self.invariant.0 c.in_ok-first.ensures.0 c.restage-notes.ensures.slots c.new-none.ensures.items);
+      others = λ k d. ap (filled_base c.self.inside.root.choices) (first_others c.self.inside.root c.self.inside.kept.slots c.restage-notes.new.kept.slots c.in_ok-first.first c.restage-notes.result.items c.new-none.result.items c.self.inside.queue.nodes c.pop.new.self.nodes c.self.inside.parked.items c.self.inside.ids c.self.inside.in_work c.self.invariant.0 c.in_ok-first.ensures.0 c.restage-notes.ensures.slots c.new-none.ensures.items k d);
       rest = nodes_equal _ _ _ _ _ _ _ _ _ _ _ refl (first_parked c.self.inside.root c.self.inside.kept.slots c.restage-notes.new.kept.slots c.in_ok-first.first c.restage-notes.result.items c.new-none.result.items c.self.inside.queue.nodes c.pop.new.self.nodes c.self.inside.parked.items c.self.inside.ids c.self.inside.in_work c.self.invariant.0 c.in_ok-first.ensures.0 c.restage-notes.ensures.slots c.new-none.ensures.items) refl;
     })

@@ -4,15 +4,15 @@ use Rattle.std.specs.Int.{w128}
 use Rattle.std.proofs.lemmas.List.{map-append}
 use Rattle.std.proofs.lemmas.List.Sorted.{length_permutation}
 use Rattle.cip_problem.specs.Log.{Entry, Split, low_node, high_node, CanSplit}
-use Rattle.cip_domain.specs.Changes.{narrowed, tightened}
+use Rattle.cip_domain.specs.Changes.{tightened}
 use Rattle.cip_tree.specs.declared.queue.OpenNode.{OpenNode}
 use Rattle.cip_tree.specs.Entries.{entry_of}
 use Rattle.cip_tree.specs.Notes.{noted}
-use Rattle.cip_tree.specs.declared.kept.Origin.{Origin}
+use Rattle.cip_tree.specs.Origins.{Origin, half_change, low_part, high_part, filled, after}
 use Rattle.cip_tree.specs.Slots.{open_slot, IsParted}
-use Rattle.cip_tree.specs.Nodes.{Nodes, TakenNode, base_at, base_changes, node_in, region_in, region_of, shown}
+use Rattle.cip_tree.specs.Nodes.{filled_base, Nodes, TakenNode, base_at, node_in, region_in, region_of, shown}
 use Rattle.cip_tree.specs.Inside.{bases, nodes_at, IsInOrder}
-use Rattle.cip_tree.specs.Splitting.{AreHalves}
+use Rattle.cip_tree.specs.Splitting.{IsParting}
 use Rattle.cip_tree.proofs.Paths.{in_work}
 use Rattle.cip_tree.proofs.Orders.{taken_some, nodes_equal}
 use Rattle.cip_tree.proofs.Parted.{part_order, part_parked, part_nodes, part_gone, part_others}
@@ -20,52 +20,56 @@ use Rattle.cip_tree.specs.Tracked.{IsTracked}
 use Rattle.cip_tree.proofs.Within.{halves_hold}
 use Rattle.cip_tree.proofs.Tracking.{tracked_split}
 use Rattle.cip_tree.proofs.WalkedOn.{walked_split}
+use Rattle.cip_tree.proofs.Filled.{after_base, unfilled}
 use Rattle.cip_tree.proofs.trees.Tree.split.Goals as goal
 
 pub part-low_place-requires-clause-slot : goal.part-low_place-requires-clause-slot
 part-low_place-requires-clause-slot c =
-    let w : get_or (bases c.self.inside.kept.slots) c.node.inside.place None ≡ Some c.requires.taken.base = ap (λ (t : Nodes). base_at t c.node.inside.place) c.self.view_is ∙ ap (λ (x : TakenNode). base_at c.args.self.now x.place) c.node.view_is ∙ c.requires.taken.found in
-    let s = in_work c.self.inside.kept.slots c.node.inside.place c.requires.taken.base w in
+    let base = unfilled c.self.inside.root.choices (get_or (bases c.self.inside.kept.slots) c.node.inside.place None) c.requires.taken.base (ap (λ (t : Nodes). base_at t c.node.inside.place) c.self.view_is ∙ ap (λ (x : TakenNode). base_at c.args.self.now x.place) c.node.view_is ∙ c.requires.taken.found) in
+    let s = in_work c.self.inside.kept.slots c.node.inside.place base.raw base.found in
     rw (c.make_room.ensures.kept, s.found) refl
 
 pub push-requires-2 : goal.push-requires-2
 push-requires-2 c =
-    let w : get_or (bases c.self.inside.kept.slots) c.node.inside.place None ≡ Some c.requires.taken.base = ap (λ (t : Nodes). base_at t c.node.inside.place) c.self.view_is ∙ ap (λ (x : TakenNode). base_at c.args.self.now x.place) c.node.view_is ∙ c.requires.taken.found in
-    let some = taken_some c.self.inside.root c.self.inside.kept.slots c.self.inside.kept.slots c.node.inside.place c.self.inside.queue.nodes c.self.inside.parked.items c.self.inside.ids c.self.inside.in_work c.requires.taken.base c.self.invariant.0 w in
+    let base = unfilled c.self.inside.root.choices (get_or (bases c.self.inside.kept.slots) c.node.inside.place None) c.requires.taken.base (ap (λ (t : Nodes). base_at t c.node.inside.place) c.self.view_is ∙ ap (λ (x : TakenNode). base_at c.args.self.now x.place) c.node.view_is ∙ c.requires.taken.found) in
+    let some = taken_some c.self.inside.root c.self.inside.kept.slots c.self.inside.kept.slots c.node.inside.place c.self.inside.queue.nodes c.self.inside.parked.items c.self.inside.ids c.self.inside.in_work base.raw c.self.invariant.0 base.found in
     omega (arith, some, c.in_ok-make_room.ensures.room.1, c.push.ensures.room)
 
 pub overflow_sub-self : goal.overflow_sub-self
 overflow_sub-self c =
-    let w : get_or (bases c.self.inside.kept.slots) c.node.inside.place None ≡ Some c.requires.taken.base = ap (λ (t : Nodes). base_at t c.node.inside.place) c.self.view_is ∙ ap (λ (x : TakenNode). base_at c.args.self.now x.place) c.node.view_is ∙ c.requires.taken.found in
-    taken_some c.self.inside.root c.self.inside.kept.slots c.self.inside.kept.slots c.node.inside.place c.self.inside.queue.nodes c.self.inside.parked.items c.self.inside.ids c.self.inside.in_work c.requires.taken.base c.self.invariant.0 w
+    let base = unfilled c.self.inside.root.choices (get_or (bases c.self.inside.kept.slots) c.node.inside.place None) c.requires.taken.base (ap (λ (t : Nodes). base_at t c.node.inside.place) c.self.view_is ∙ ap (λ (x : TakenNode). base_at c.args.self.now x.place) c.node.view_is ∙ c.requires.taken.found) in
+    taken_some c.self.inside.root c.self.inside.kept.slots c.self.inside.kept.slots c.node.inside.place c.self.inside.queue.nodes c.self.inside.parked.items c.self.inside.ids c.self.inside.in_work base.raw c.self.invariant.0 base.found
 
 pub invariant_of-self-2 : goal.invariant_of-self-2
 invariant_of-self-2 c =
-    let w : get_or (bases c.self.inside.kept.slots) c.node.inside.place None ≡ Some c.requires.taken.base = ap (λ (t : Nodes). base_at t c.node.inside.place) c.self.view_is ∙ ap (λ (x : TakenNode). base_at c.args.self.now x.place) c.node.view_is ∙ c.requires.taken.found in
+    let base = unfilled c.self.inside.root.choices (get_or (bases c.self.inside.kept.slots) c.node.inside.place None) c.requires.taken.base (ap (λ (t : Nodes). base_at t c.node.inside.place) c.self.view_is ∙ ap (λ (x : TakenNode). base_at c.args.self.now x.place) c.node.view_is ∙ c.requires.taken.found) in
     let at_is : to_z w128 (of_z w128 c.args.at) ≡ c.args.at = search (rules, to_z-of_z) in
-    let halves : AreHalves c.args.self.now c.args.node.now c.args.col c.args.at c.in_ok-low_change.low_change c.in_ok-low_change.high_change = subst (λ z. AreHalves c.args.self.now c.args.node.now c.args.col z c.in_ok-low_change.low_change c.in_ok-low_change.high_change) at_is (c.in_ok-low_change.ensures c.args.node.now c.requires.work) in
+    let parting : IsParting c.args.self.now c.args.node.now c.args.col c.args.at c.in_ok-parting.parting = subst (λ z. IsParting c.args.self.now c.args.node.now c.args.col z c.in_ok-parting.parting) at_is (c.in_ok-parting.ensures c.args.node.now c.requires.work) in
+    let halves = parting.halves in
+    let low_change = half_change (low_part c.in_ok-parting.parting) c.args.col c.args.at in
+    let high_change = half_change (high_part c.in_ok-parting.parting) c.args.col c.args.at in
     let notes : c.in_ok-notes.notes.items ≡ c.node.inside.notes.items = search rules in
-    let low = c.half_kept-low_kept.ensures in
-    let high = c.half_kept-high_kept.ensures in
+    let low = c.new_kept-low_kept.ensures ∙ ap (λ o. open_slot c.self.inside.ids (Some o)) (c.low-low_origin.ensures ∙ ap (λ z. (let o : Origin = record { parent = c.node.inside.place; change = half_change (low_part c.in_ok-parting.parting) c.args.col z } in o)) at_is) in
+    let high = c.new_kept-high_kept.ensures ∙ ap (λ o. open_slot (c.self.inside.ids + 1) (Some o)) (c.high-high_origin.ensures ∙ ap (λ z. (let o : Origin = record { parent = c.node.inside.place; change = half_change (high_part c.in_ok-parting.parting) c.args.col z } in o)) at_is) in
     let parted =
-    subst (λ l. IsParted c.self.inside.kept.slots c.part-low_place.new.kept.slots c.node.inside.place c.node.inside.notes.items l (open_slot (c.self.inside.ids + 1) (Some (let o : Origin = record { parent = c.node.inside.place; change = c.in_ok-low_change.high_change } in o))) c.part-low_place.result.0 c.part-low_place.result.1) low
-    (subst (λ l. IsParted c.self.inside.kept.slots c.part-low_place.new.kept.slots c.node.inside.place c.node.inside.notes.items c.half_kept-low_kept.result l c.part-low_place.result.0 c.part-low_place.result.1) high
-    (subst (λ l. IsParted c.self.inside.kept.slots c.part-low_place.new.kept.slots c.node.inside.place l c.half_kept-low_kept.result c.half_kept-high_kept.result c.part-low_place.result.0 c.part-low_place.result.1) notes
-    (subst (λ l. IsParted l c.part-low_place.new.kept.slots c.node.inside.place c.in_ok-notes.notes.items c.half_kept-low_kept.result c.half_kept-high_kept.result c.part-low_place.result.0 c.part-low_place.result.1) c.make_room.ensures.kept c.part-low_place.ensures.slots))) in
+    subst (λ l. IsParted c.self.inside.kept.slots c.part-low_place.new.kept.slots c.node.inside.place c.node.inside.notes.items l (open_slot (c.self.inside.ids + 1) (Some (let o : Origin = record { parent = c.node.inside.place; change = high_change } in o))) c.part-low_place.result.0 c.part-low_place.result.1) low
+    (subst (λ l. IsParted c.self.inside.kept.slots c.part-low_place.new.kept.slots c.node.inside.place c.node.inside.notes.items c.new_kept-low_kept.result l c.part-low_place.result.0 c.part-low_place.result.1) high
+    (subst (λ l. IsParted c.self.inside.kept.slots c.part-low_place.new.kept.slots c.node.inside.place l c.new_kept-low_kept.result c.new_kept-high_kept.result c.part-low_place.result.0 c.part-low_place.result.1) notes
+    (subst (λ l. IsParted l c.part-low_place.new.kept.slots c.node.inside.place c.in_ok-notes.notes.items c.new_kept-low_kept.result c.new_kept-high_kept.result c.part-low_place.result.0 c.part-low_place.result.1) c.make_room.ensures.kept c.part-low_place.ensures.slots))) in
     let first = subst (λ e. IsPermutation (e ∷ c.self.inside.queue.nodes) c.push.new.self.nodes) (c.open_node.ensures ∙ ap (λ (x : TakenNode). (let e : OpenNode = record { bound = x.bound; id = c.self.inside.ids + 1; place = c.part-low_place.result.1 } in e)) (sym c.node.view_is))
     (subst (λ l. IsPermutation (c.open_node.result ∷ l) c.push.new.self.nodes) c.make_room.ensures.queue c.push.ensures.nodes) in
     let second = subst (λ e. IsPermutation (e ∷ c.push.new.self.nodes) c.push-2.new.self.nodes) (c.open_node-2.ensures ∙ ap (λ (x : TakenNode). (let e : OpenNode = record { bound = x.bound; id = c.self.inside.ids; place = c.part-low_place.result.0 } in e)) (sym c.node.view_is)) c.push-2.ensures.nodes in
-    let region = narrowed c.self.inside.root (noted c.node.inside.notes.items ++ c.requires.taken.base.changes) in
+    let region = after c.self.inside.root (noted c.node.inside.notes.items ++ base.raw.changes) in
     let region_is : region ≡ region_of c.args.self.now c.args.node.now =
-    ap (λ b. narrowed c.self.inside.root (noted c.node.inside.notes.items ++ base_changes b)) (sym w)
+    after_base c.self.inside.root c.node.inside.notes.items (get_or (bases c.self.inside.kept.slots) c.node.inside.place None) base.raw base.found
     ∙ ap (λ (t : Nodes). region_of t (let x : TakenNode = record { number = c.node.inside.id; bound = c.node.inside.bound; place = c.node.inside.place; notes = c.node.inside.notes.items } in x)) c.self.view_is
     ∙ ap (λ (x : TakenNode). region_of c.args.self.now x) c.node.view_is in
-    let low_after = ap (λ r. tightened r c.in_ok-low_change.low_change) region_is ∙ halves.low_is in
-    let high_after = ap (λ r. tightened r c.in_ok-low_change.high_change) region_is ∙ halves.high_is in
-    let some = taken_some c.self.inside.root c.self.inside.kept.slots c.self.inside.kept.slots c.node.inside.place c.self.inside.queue.nodes c.self.inside.parked.items c.self.inside.ids c.self.inside.in_work c.requires.taken.base c.self.invariant.0 w in
+    let low_after = ap (λ r. tightened r (filled c.self.inside.root.choices low_change)) region_is ∙ ap (λ (t : Nodes). tightened (region_of c.args.self.now c.args.node.now) (filled t.root.choices low_change)) c.self.view_is ∙ halves.low_is in
+    let high_after = ap (λ r. tightened r (filled c.self.inside.root.choices high_change)) region_is ∙ ap (λ (t : Nodes). tightened (region_of c.args.self.now c.args.node.now) (filled t.root.choices high_change)) c.self.view_is ∙ halves.high_is in
+    let some = taken_some c.self.inside.root c.self.inside.kept.slots c.self.inside.kept.slots c.node.inside.place c.self.inside.queue.nodes c.self.inside.parked.items c.self.inside.ids c.self.inside.in_work base.raw c.self.invariant.0 base.found in
     let one = length_permutation _ _ first in
     let two = length_permutation _ _ second in
-    let number = c.requires.taken.same ∙ sym (ap (λ (x : TakenNode). x.number) c.node.view_is) in
+    let number = base.number ∙ c.requires.taken.same ∙ sym (ap (λ (x : TakenNode). x.number) c.node.view_is) in
     let entry = c.split_entry.ensures ∙ ap (λ z. (let x : Entry = record { node = c.args.node.now.number; bound = c.args.node.now.bound; end = Split c.args.col z c.self.inside.ids (c.self.inside.ids + 1) } in x)) at_is
     ∙ ap (λ (n : TakenNode). (let x : Entry = record { node = n.number; bound = n.bound; end = Split c.args.col c.args.at c.self.inside.ids (c.self.inside.ids + 1) } in x)) (sym c.node.view_is) in
     let log = ap (λ l. map entry_of l) (c.push_reserved.ensures.items ∙ ap (λ l. l ++ c.split_entry.result ∷ []) c.make_room.ensures.log) ∙ map-append entry_of c.self.inside.log.items (c.split_entry.result ∷ []) ∙ ap (λ e. map entry_of c.self.inside.log.items ++ e ∷ []) entry in
@@ -77,44 +81,47 @@ invariant_of-self-2 c =
     let low_is = low_after ∙ sym (ap (λ n. region_in (low_node n c.args.col c.args.at)) node_is) in
     let high_is = high_after ∙ sym (ap (λ n. region_in (high_node n c.args.col c.args.at)) node_is) in
     let room = c.in_ok-make_room.ensures.room in (
-      subst (λ l. IsInOrder c.part-low_place.new.kept.slots c.push-2.new.self.nodes l (c.self.inside.ids + 2) (c.self.inside.in_work - 1)) (sym c.make_room.ensures.parked) (part_order c.self.inside.root c.self.inside.kept.slots c.part-low_place.new.kept.slots c.node.inside.place c.node.inside.notes.items c.part-low_place.result.0 c.part-low_place.result.1 c.in_ok-low_change.low_change c.in_ok-low_change.high_change c.self.inside.queue.nodes c.self.inside.parked.items c.self.inside.ids c.self.inside.in_work c.requires.taken.base c.self.invariant.0 w parted c.node.inside.bound c.push.new.self.nodes c.push-2.new.self.nodes first second),
+      subst (λ l. IsInOrder c.part-low_place.new.kept.slots c.push-2.new.self.nodes l (c.self.inside.ids + 2) (c.self.inside.in_work - 1)) (sym c.make_room.ensures.parked) (part_order c.self.inside.root c.self.inside.kept.slots c.part-low_place.new.kept.slots c.node.inside.place c.node.inside.notes.items c.part-low_place.result.0 c.part-low_place.result.1 low_change high_change c.self.inside.queue.nodes c.self.inside.parked.items c.self.inside.ids c.self.inside.in_work base.raw c.self.invariant.0 base.found parted c.node.inside.bound c.push.new.self.nodes c.push-2.new.self.nodes first second),
       record {
         queue = omega (arith, some, room.1, c.push.ensures.room, c.push-2.ensures.room);
         parked = omega (arith, some, room.2, one, two);
         log = omega (arith, some, room.3, one, two, c.push_reserved.ensures.len, c.push_reserved.ensures.capacity);
       },
       subst (IsTracked (node_in c.self.inside.root 0 c.self.inside.root_bound) c.self.inside.whole.items c.part-low_place.new.kept.slots (c.self.inside.ids + 2)) (sym log)
-          (tracked_split c.self.inside.root_bound c.self.inside.whole.items c.self.inside.root c.self.inside.kept.slots c.part-low_place.new.kept.slots c.node.inside.place c.node.inside.notes.items c.part-low_place.result.0 c.part-low_place.result.1 c.in_ok-low_change.low_change c.in_ok-low_change.high_change c.self.inside.queue.nodes c.self.inside.parked.items c.self.inside.ids c.self.inside.in_work c.requires.taken.base c.self.invariant.0 w parted (map entry_of c.self.inside.log.items) c.self.invariant.2 c.args.col c.args.at c.node.inside.id c.node.inside.bound number can low_is high_is),
-      walked_split c.self.inside.root c.self.inside.kept.slots c.part-low_place.new.kept.slots c.node.inside.place c.node.inside.notes.items c.part-low_place.result.0 c.part-low_place.result.1 c.in_ok-low_change.low_change c.in_ok-low_change.high_change c.self.inside.queue.nodes c.self.inside.parked.items c.self.inside.ids c.self.inside.in_work c.requires.taken.base c.self.invariant.0 w parted c.self.inside.walk c.self.invariant.3,
+          (tracked_split c.self.inside.root_bound c.self.inside.whole.items c.self.inside.root c.self.inside.kept.slots c.part-low_place.new.kept.slots c.node.inside.place c.node.inside.notes.items c.part-low_place.result.0 c.part-low_place.result.1 low_change high_change c.self.inside.queue.nodes c.self.inside.parked.items c.self.inside.ids c.self.inside.in_work base.raw c.self.invariant.0 base.found parted (map entry_of c.self.inside.log.items) c.self.invariant.2 c.args.col c.args.at c.node.inside.id c.node.inside.bound number can low_is high_is),
+      walked_split c.self.inside.root c.self.inside.kept.slots c.part-low_place.new.kept.slots c.node.inside.place c.node.inside.notes.items c.part-low_place.result.0 c.part-low_place.result.1 low_change high_change c.self.inside.queue.nodes c.self.inside.parked.items c.self.inside.ids c.self.inside.in_work base.raw c.self.invariant.0 base.found parted c.self.inside.walk c.self.invariant.3,
     )
 
 pub returns : goal.returns
 returns c =
-    let w : get_or (bases c.self.inside.kept.slots) c.node.inside.place None ≡ Some c.requires.taken.base = ap (λ (t : Nodes). base_at t c.node.inside.place) c.self.view_is ∙ ap (λ (x : TakenNode). base_at c.args.self.now x.place) c.node.view_is ∙ c.requires.taken.found in
+    let base = unfilled c.self.inside.root.choices (get_or (bases c.self.inside.kept.slots) c.node.inside.place None) c.requires.taken.base (ap (λ (t : Nodes). base_at t c.node.inside.place) c.self.view_is ∙ ap (λ (x : TakenNode). base_at c.args.self.now x.place) c.node.view_is ∙ c.requires.taken.found) in
     let at_is : to_z w128 (of_z w128 c.args.at) ≡ c.args.at = search (rules, to_z-of_z) in
-    let halves : AreHalves c.args.self.now c.args.node.now c.args.col c.args.at c.in_ok-low_change.low_change c.in_ok-low_change.high_change = subst (λ z. AreHalves c.args.self.now c.args.node.now c.args.col z c.in_ok-low_change.low_change c.in_ok-low_change.high_change) at_is (c.in_ok-low_change.ensures c.args.node.now c.requires.work) in
+    let parting : IsParting c.args.self.now c.args.node.now c.args.col c.args.at c.in_ok-parting.parting = subst (λ z. IsParting c.args.self.now c.args.node.now c.args.col z c.in_ok-parting.parting) at_is (c.in_ok-parting.ensures c.args.node.now c.requires.work) in
+    let halves = parting.halves in
+    let low_change = half_change (low_part c.in_ok-parting.parting) c.args.col c.args.at in
+    let high_change = half_change (high_part c.in_ok-parting.parting) c.args.col c.args.at in
     let notes : c.in_ok-notes.notes.items ≡ c.node.inside.notes.items = search rules in
-    let low = c.half_kept-low_kept.ensures in
-    let high = c.half_kept-high_kept.ensures in
+    let low = c.new_kept-low_kept.ensures ∙ ap (λ o. open_slot c.self.inside.ids (Some o)) (c.low-low_origin.ensures ∙ ap (λ z. (let o : Origin = record { parent = c.node.inside.place; change = half_change (low_part c.in_ok-parting.parting) c.args.col z } in o)) at_is) in
+    let high = c.new_kept-high_kept.ensures ∙ ap (λ o. open_slot (c.self.inside.ids + 1) (Some o)) (c.high-high_origin.ensures ∙ ap (λ z. (let o : Origin = record { parent = c.node.inside.place; change = half_change (high_part c.in_ok-parting.parting) c.args.col z } in o)) at_is) in
     let parted =
-    subst (λ l. IsParted c.self.inside.kept.slots c.part-low_place.new.kept.slots c.node.inside.place c.node.inside.notes.items l (open_slot (c.self.inside.ids + 1) (Some (let o : Origin = record { parent = c.node.inside.place; change = c.in_ok-low_change.high_change } in o))) c.part-low_place.result.0 c.part-low_place.result.1) low
-    (subst (λ l. IsParted c.self.inside.kept.slots c.part-low_place.new.kept.slots c.node.inside.place c.node.inside.notes.items c.half_kept-low_kept.result l c.part-low_place.result.0 c.part-low_place.result.1) high
-    (subst (λ l. IsParted c.self.inside.kept.slots c.part-low_place.new.kept.slots c.node.inside.place l c.half_kept-low_kept.result c.half_kept-high_kept.result c.part-low_place.result.0 c.part-low_place.result.1) notes
-    (subst (λ l. IsParted l c.part-low_place.new.kept.slots c.node.inside.place c.in_ok-notes.notes.items c.half_kept-low_kept.result c.half_kept-high_kept.result c.part-low_place.result.0 c.part-low_place.result.1) c.make_room.ensures.kept c.part-low_place.ensures.slots))) in
+    subst (λ l. IsParted c.self.inside.kept.slots c.part-low_place.new.kept.slots c.node.inside.place c.node.inside.notes.items l (open_slot (c.self.inside.ids + 1) (Some (let o : Origin = record { parent = c.node.inside.place; change = high_change } in o))) c.part-low_place.result.0 c.part-low_place.result.1) low
+    (subst (λ l. IsParted c.self.inside.kept.slots c.part-low_place.new.kept.slots c.node.inside.place c.node.inside.notes.items c.new_kept-low_kept.result l c.part-low_place.result.0 c.part-low_place.result.1) high
+    (subst (λ l. IsParted c.self.inside.kept.slots c.part-low_place.new.kept.slots c.node.inside.place l c.new_kept-low_kept.result c.new_kept-high_kept.result c.part-low_place.result.0 c.part-low_place.result.1) notes
+    (subst (λ l. IsParted l c.part-low_place.new.kept.slots c.node.inside.place c.in_ok-notes.notes.items c.new_kept-low_kept.result c.new_kept-high_kept.result c.part-low_place.result.0 c.part-low_place.result.1) c.make_room.ensures.kept c.part-low_place.ensures.slots))) in
     let first = subst (λ e. IsPermutation (e ∷ c.self.inside.queue.nodes) c.push.new.self.nodes) (c.open_node.ensures ∙ ap (λ (x : TakenNode). (let e : OpenNode = record { bound = x.bound; id = c.self.inside.ids + 1; place = c.part-low_place.result.1 } in e)) (sym c.node.view_is))
     (subst (λ l. IsPermutation (c.open_node.result ∷ l) c.push.new.self.nodes) c.make_room.ensures.queue c.push.ensures.nodes) in
     let second = subst (λ e. IsPermutation (e ∷ c.push.new.self.nodes) c.push-2.new.self.nodes) (c.open_node-2.ensures ∙ ap (λ (x : TakenNode). (let e : OpenNode = record { bound = x.bound; id = c.self.inside.ids; place = c.part-low_place.result.0 } in e)) (sym c.node.view_is)) c.push-2.ensures.nodes in
-    let region = narrowed c.self.inside.root (noted c.node.inside.notes.items ++ c.requires.taken.base.changes) in
+    let region = after c.self.inside.root (noted c.node.inside.notes.items ++ base.raw.changes) in
     let region_is : region ≡ region_of c.args.self.now c.args.node.now =
-    ap (λ b. narrowed c.self.inside.root (noted c.node.inside.notes.items ++ base_changes b)) (sym w)
+    after_base c.self.inside.root c.node.inside.notes.items (get_or (bases c.self.inside.kept.slots) c.node.inside.place None) base.raw base.found
     ∙ ap (λ (t : Nodes). region_of t (let x : TakenNode = record { number = c.node.inside.id; bound = c.node.inside.bound; place = c.node.inside.place; notes = c.node.inside.notes.items } in x)) c.self.view_is
     ∙ ap (λ (x : TakenNode). region_of c.args.self.now x) c.node.view_is in
-    let low_after = ap (λ r. tightened r c.in_ok-low_change.low_change) region_is ∙ halves.low_is in
-    let high_after = ap (λ r. tightened r c.in_ok-low_change.high_change) region_is ∙ halves.high_is in
-    let nodes = part_nodes c.self.inside.root c.self.inside.kept.slots c.part-low_place.new.kept.slots c.node.inside.place c.node.inside.notes.items c.part-low_place.result.0 c.part-low_place.result.1 c.in_ok-low_change.low_change c.in_ok-low_change.high_change c.self.inside.queue.nodes c.self.inside.parked.items c.self.inside.ids c.self.inside.in_work c.requires.taken.base c.self.invariant.0 w parted c.node.inside.bound c.push.new.self.nodes c.push-2.new.self.nodes first second in
-    let parked = ap (nodes_at c.self.inside.root c.part-low_place.new.kept.slots) c.make_room.ensures.parked ∙ part_parked c.self.inside.root c.self.inside.kept.slots c.part-low_place.new.kept.slots c.node.inside.place c.node.inside.notes.items c.part-low_place.result.0 c.part-low_place.result.1 c.in_ok-low_change.low_change c.in_ok-low_change.high_change c.self.inside.queue.nodes c.self.inside.parked.items c.self.inside.ids c.self.inside.in_work c.requires.taken.base c.self.invariant.0 w parted c.node.inside.bound c.push.new.self.nodes c.push-2.new.self.nodes first second in
-    let gone = part_gone c.self.inside.root c.self.inside.kept.slots c.part-low_place.new.kept.slots c.node.inside.place c.node.inside.notes.items c.part-low_place.result.0 c.part-low_place.result.1 c.in_ok-low_change.low_change c.in_ok-low_change.high_change c.self.inside.queue.nodes c.self.inside.parked.items c.self.inside.ids c.self.inside.in_work c.requires.taken.base c.self.invariant.0 w parted c.node.inside.bound c.push.new.self.nodes c.push-2.new.self.nodes first second in
-    let others = part_others c.self.inside.root c.self.inside.kept.slots c.part-low_place.new.kept.slots c.node.inside.place c.node.inside.notes.items c.part-low_place.result.0 c.part-low_place.result.1 c.in_ok-low_change.low_change c.in_ok-low_change.high_change c.self.inside.queue.nodes c.self.inside.parked.items c.self.inside.ids c.self.inside.in_work c.requires.taken.base c.self.invariant.0 w parted c.node.inside.bound c.push.new.self.nodes c.push-2.new.self.nodes first second in
+    let low_after = ap (λ r. tightened r (filled c.self.inside.root.choices low_change)) region_is ∙ ap (λ (t : Nodes). tightened (region_of c.args.self.now c.args.node.now) (filled t.root.choices low_change)) c.self.view_is ∙ halves.low_is in
+    let high_after = ap (λ r. tightened r (filled c.self.inside.root.choices high_change)) region_is ∙ ap (λ (t : Nodes). tightened (region_of c.args.self.now c.args.node.now) (filled t.root.choices high_change)) c.self.view_is ∙ halves.high_is in
+    let nodes = part_nodes c.self.inside.root c.self.inside.kept.slots c.part-low_place.new.kept.slots c.node.inside.place c.node.inside.notes.items c.part-low_place.result.0 c.part-low_place.result.1 low_change high_change c.self.inside.queue.nodes c.self.inside.parked.items c.self.inside.ids c.self.inside.in_work base.raw c.self.invariant.0 base.found parted c.node.inside.bound c.push.new.self.nodes c.push-2.new.self.nodes first second in
+    let parked = ap (nodes_at c.self.inside.root c.part-low_place.new.kept.slots) c.make_room.ensures.parked ∙ part_parked c.self.inside.root c.self.inside.kept.slots c.part-low_place.new.kept.slots c.node.inside.place c.node.inside.notes.items c.part-low_place.result.0 c.part-low_place.result.1 low_change high_change c.self.inside.queue.nodes c.self.inside.parked.items c.self.inside.ids c.self.inside.in_work base.raw c.self.invariant.0 base.found parted c.node.inside.bound c.push.new.self.nodes c.push-2.new.self.nodes first second in
+    let gone = part_gone c.self.inside.root c.self.inside.kept.slots c.part-low_place.new.kept.slots c.node.inside.place c.node.inside.notes.items c.part-low_place.result.0 c.part-low_place.result.1 low_change high_change c.self.inside.queue.nodes c.self.inside.parked.items c.self.inside.ids c.self.inside.in_work base.raw c.self.invariant.0 base.found parted c.node.inside.bound c.push.new.self.nodes c.push-2.new.self.nodes first second in
+    let others = part_others c.self.inside.root c.self.inside.kept.slots c.part-low_place.new.kept.slots c.node.inside.place c.node.inside.notes.items c.part-low_place.result.0 c.part-low_place.result.1 low_change high_change c.self.inside.queue.nodes c.self.inside.parked.items c.self.inside.ids c.self.inside.in_work base.raw c.self.invariant.0 base.found parted c.node.inside.bound c.push.new.self.nodes c.push-2.new.self.nodes first second in
     let entry = c.split_entry.ensures ∙ ap (λ z. (let x : Entry = record { node = c.args.node.now.number; bound = c.args.node.now.bound; end = Split c.args.col z c.self.inside.ids (c.self.inside.ids + 1) } in x)) at_is in
     let log = ap (λ l. map entry_of l) (c.push_reserved.ensures.items ∙ ap (λ l. l ++ c.split_entry.result ∷ []) c.make_room.ensures.log) ∙ map-append entry_of c.self.inside.log.items (c.split_entry.result ∷ []) ∙ ap (λ e. map entry_of c.self.inside.log.items ++ e ∷ []) entry in
     let low_half = region_in (low_node (shown c.args.self.now c.args.node.now) c.args.col c.args.at) in
@@ -130,7 +137,7 @@ returns c =
           subst (λ (t : Nodes). IsPermutation (node_in low_half c.self.inside.ids c.args.node.now.bound ∷ node_in high_half (c.self.inside.ids + 1) c.args.node.now.bound ∷ t.open_) now) c.self.view_is
           (subst (λ (n : TakenNode). IsPermutation (node_in low_half c.self.inside.ids n.bound ∷ node_in high_half (c.self.inside.ids + 1) n.bound ∷ nodes_at c.self.inside.root c.self.inside.kept.slots c.self.inside.queue.nodes) now) c.node.view_is
           (subst (λ r. IsPermutation (node_in r c.self.inside.ids c.node.inside.bound ∷ node_in high_half (c.self.inside.ids + 1) c.node.inside.bound ∷ nodes_at c.self.inside.root c.self.inside.kept.slots c.self.inside.queue.nodes) now) low_after
-          (subst (λ r. IsPermutation (node_in (tightened region c.in_ok-low_change.low_change) c.self.inside.ids c.node.inside.bound ∷ node_in r (c.self.inside.ids + 1) c.node.inside.bound ∷ nodes_at c.self.inside.root c.self.inside.kept.slots c.self.inside.queue.nodes) now) high_after nodes)));
-      taken = rw (← c.self.view_is, ← c.node.view_is) (record { gone = gone; others = others });
+          (subst (λ r. IsPermutation (node_in (tightened region (filled c.self.inside.root.choices low_change)) c.self.inside.ids c.node.inside.bound ∷ node_in r (c.self.inside.ids + 1) c.node.inside.bound ∷ nodes_at c.self.inside.root c.self.inside.kept.slots c.self.inside.queue.nodes) now) high_after nodes)));
+      taken = rw (← c.self.view_is, ← c.node.view_is) (record { gone = ap (filled_base c.self.inside.root.choices) gone; others = λ k d. ap (filled_base c.self.inside.root.choices) (others k d) });
       rest = rw (← c.self.view_is) (nodes_equal _ _ _ _ _ _ _ _ _ _ _ refl parked log);
     }

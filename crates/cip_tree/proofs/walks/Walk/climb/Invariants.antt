@@ -1,6 +1,5 @@
-use Rattle.std.proofs.Common.{◌≡◌, Option, None, Some}
+use Rattle.std.proofs.Common.{◌≡◌, Some}
 use Rattle.std.specs.Prelude.{ℕ, List}
-use Rattle.cip_domain.specs.Domain.{Domain}
 use Rattle.cip_tree.specs.Slots.{Slot, Slots, slot_at}
 use Rattle.cip_tree.specs.Walks.{Way, StaysWalked, Climbs}
 use Rattle.cip_tree.proofs.Walking.{number_at}

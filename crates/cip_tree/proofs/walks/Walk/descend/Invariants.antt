@@ -11,15 +11,15 @@ pub record StillAbove (root : Region) (slots : Slots) (ids : ℕ) (now : Way) (p
   pub climbs : Climbs slots place left top
 
 -- so far it went down some of the places
-abbrev pub DescendedSoFar : Slots → Way → Way → List ℕ → List ℕ → Type 0
-DescendedSoFar slots first now places left =
-    (root : Region) (ids place top : ℕ)
+abbrev pub DescendedSoFar : Region → Slots → Way → Way → List ℕ → List ℕ → Type 0
+DescendedSoFar root slots first now places left =
+    (ids place top : ℕ)
     → StandsAt root slots ids first top
     → Climbs slots place places top
     → StillAbove root slots ids now place left
 
 abbrev pub invariant-loop-place : goal.invariant-loop-place
-invariant-loop-place l = DescendedSoFar l.kept.slots l.fn.self l.self l.fn.places.items l.places.items
+invariant-loop-place l = DescendedSoFar l.root l.kept.slots l.fn.self l.self l.fn.places.items l.places.items
 
 abbrev pub decreases-loop-place : goal.decreases-loop-place
 decreases-loop-place l = length l.places.items

@@ -1,4 +1,4 @@
-use Rattle.std.proofs.Common.{◌-◌, ◌≤◌, length, sym, subst}
+use Rattle.std.proofs.Common.{◌≤◌, length, sym, subst}
 use Rattle.std.proofs.lemmas.List.Elements.{All-take}
 use Rattle.cip_tree.specs.declared.walks.Stop.{Stop}
 use Rattle.cip_tree.specs.Walks.{AreRising, AreHeld}

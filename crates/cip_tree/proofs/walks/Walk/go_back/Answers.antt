@@ -1,7 +1,5 @@
-use Rattle.std.proofs.Common.{◌≡◌, ◌≤◌, ◌∙◌, length, ap, refl, sym, subst, arith, All, Some}
+use Rattle.std.proofs.Common.{◌≡◌, ◌∙◌, length, ap, refl, sym, subst, arith, Some}
 use Rattle.std.proofs.lemmas.List.{length-take-le}
-use Rattle.cip_domain.specs.Domain.{region_of, region_at}
-use Rattle.cip_tree.specs.declared.walks.Stop.{Stop}
 use Rattle.cip_tree.specs.Walks.{Way, last_stop, IsWalked, EndsThere, IsRegionAt}
 use Rattle.cip_tree.proofs.Walking.{rising_last, walked_kept, there_at_last, held_at_last}
 use Rattle.cip_tree.proofs.walks.Walk.go_back.Goals as goal

@@ -1,5 +1,6 @@
-use Rattle.std.proofs.Common.{◌≡◌, ◌∙◌, [], ◌∷◌, Some, None, ap, refl, sym}
+use Rattle.std.proofs.Common.{◌∙◌, [], ◌∷◌, Some, ap, sym}
 use Rattle.cip_tree.specs.declared.walks.Stop.{Stop}
+use Rattle.cip_tree.specs.Origins.{Origin}
 use Rattle.cip_tree.specs.Slots.{Slot}
 use Rattle.cip_tree.specs.Walks.{last_stop}
 use Rattle.cip_tree.proofs.Walking.{walked_root}
@@ -32,5 +33,8 @@ returns-in-Some-origin-clause-next c = record {
   slot = c.in-Some.slot.now;
   found = sym c.in-Some.ensures;
   change = c.in-Some-origin.origin.change;
-  origin = sym (ap (λ (t : Slot). t.origin) c.slot.view_is) ∙ c.in-Some-origin.is;
+  origin =
+      sym (ap (λ (t : Slot). t.origin) c.slot.view_is)
+      ∙ c.in-Some-origin.is
+      ∙ ap (λ n. Some (let o : Origin = record { parent = n; change = c.in-Some-origin.origin.change } in o)) (sym c.parent.ensures);
 }

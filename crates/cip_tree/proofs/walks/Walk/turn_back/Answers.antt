@@ -1,4 +1,4 @@
-use Rattle.std.proofs.Common.{◌-◌, ◌∙◌, length, length-take, ap, arith}
+use Rattle.std.proofs.Common.{◌-◌, ◌∙◌, length}
 use Rattle.cip_tree.proofs.Walking.{walked_take}
 use Rattle.cip_tree.proofs.walks.Walk.turn_back.Goals as goal
 

@@ -1,0 +1,2 @@
+pub mod PointTests
+pub mod Shown

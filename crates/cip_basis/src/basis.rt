@@ -1,0 +1,173 @@
+//! A basis that is guessed, and the systems that are solved for it.
+use crate::combos::{empty_combo, put_costs, put_line, put_multiple, put_multiples, row_of};
+use crate::matrix::make_matrix;
+use crate::placement::Placement;
+use crate::values::{put_basic, put_loose, put_right_sides};
+use cip_frac::Frac;
+use cip_guess::{Given, Guess, Outcome, Standing};
+use cip_lifting::{Direction, Length, System};
+use cip_lin::Combo;
+use std::alloc::{AllocError, Global};
+
+/// A basis that is guessed, kept from program to program, and the lists that its systems are solved in.
+#[derive(Drop)]
+pub struct Basis {
+    guess: Guess,
+    system: System,
+    placement: Placement,
+    scales: Vec<u64>,
+    right: Vec<Frac>,
+    solved: Vec<Frac>,
+}
+
+impl Basis {
+    /// No basis yet.
+    pub fn new(alloc: Global) -> Basis {
+        Basis {
+            guess: Guess::new(alloc),
+            system: System::new(alloc),
+            placement: Placement::new(alloc),
+            scales: Vec::new(alloc),
+            right: Vec::new(alloc),
+            solved: Vec::new(alloc),
+        }
+    }
+
+    /// Where a variable stands: columns by number, then rows.
+    pub fn standing(&self, variable: u32) -> Standing {
+        self.guess.standing(variable)
+    }
+
+    /// Makes the matrix of the basis, and eliminates it; whether it can be solved.
+    fn make(&mut self, alloc: Global, given: &Given) -> Result<bool, AllocError> {
+        if !self.placement.list(&self.guess, given)? {
+            return Ok(false);
+        }
+        let made = make_matrix(
+            alloc,
+            given,
+            &self.placement,
+            &mut self.system,
+            &mut self.scales,
+            &mut self.right,
+        )?;
+        if !made {
+            return Ok(false);
+        }
+        self.system.eliminate(alloc)
+    }
+
+    /// Guesses a basis, and readies it to be solved; none where that fails. With `anew` its table is made anew.
+    pub(crate) fn ready(
+        &mut self,
+        alloc: Global,
+        given: &Given,
+        anew: bool,
+    ) -> Result<Option<Outcome>, AllocError> {
+        let Some(outcome) = self.guess.guess(alloc, given, anew)? else {
+            return Ok(None);
+        };
+        if outcome == Outcome::Endless {
+            return Ok(None);
+        }
+        if self.make(alloc, given)? {
+            return Ok(Some(outcome));
+        }
+        self.guess.forget();
+        Ok(None)
+    }
+
+    /// The point of the basis, where parts of its values are at most so long.
+    pub(crate) fn point(
+        &mut self,
+        alloc: Global,
+        given: &Given,
+        size: Length,
+    ) -> Result<Option<Vec<Frac>>, AllocError> {
+        let mut point = Vec::new(alloc);
+        if !put_loose(&self.guess, given, &mut point)? {
+            return Ok(None);
+        }
+        let are_there = put_right_sides(
+            &self.guess,
+            given,
+            &self.placement,
+            self.scales.as_slice(),
+            point.as_slice(),
+            &mut self.right,
+        )?;
+        if !are_there {
+            return Ok(None);
+        }
+        let right = self.right.as_slice();
+        let out = &mut self.solved;
+        if !self.system.solve(right, Direction::Rows, size, out)? {
+            return Ok(None);
+        }
+        let columns = self.placement.columns.as_slice();
+        put_basic(columns, self.solved.as_slice(), point.as_mut_slice());
+        Ok(Some(point))
+    }
+
+    /// Solves for the multipliers of the loose rows at the numbers that are kept for the basic columns.
+    fn multipliers(
+        &mut self,
+        given: &Given,
+        size: Length,
+        is_turned: bool,
+        combo: &mut Combo,
+    ) -> Result<bool, AllocError> {
+        let right = self.right.as_slice();
+        let out = &mut self.solved;
+        if !self.system.solve(right, Direction::Columns, size, out)? {
+            return Ok(false);
+        }
+        put_multiples(
+            given,
+            &self.placement,
+            self.scales.as_slice(),
+            self.solved.as_slice(),
+            is_turned,
+            &mut combo.rows,
+        )
+    }
+
+    /// The multipliers of the costs as a combination, where their parts are at most so long.
+    pub(crate) fn cost_combo(
+        &mut self,
+        alloc: Global,
+        given: &Given,
+        size: Length,
+    ) -> Result<Option<Combo>, AllocError> {
+        put_costs(given, &self.placement, &mut self.right)?;
+        let mut combo = empty_combo(alloc);
+        if self.multipliers(given, size, false, &mut combo)? {
+            Ok(Some(combo))
+        } else {
+            Ok(None)
+        }
+    }
+
+    /// A combination that is to show that a basic variable can't be brought between its sides, being below, or above,
+    /// them, where its parts are at most so long.
+    pub(crate) fn break_combo(
+        &mut self,
+        alloc: Global,
+        given: &Given,
+        variable: u32,
+        below: bool,
+        size: Length,
+    ) -> Result<Option<Combo>, AllocError> {
+        put_line(given, &self.placement, variable, &mut self.right)?;
+        let mut combo = empty_combo(alloc);
+        if !self.multipliers(given, size, below, &mut combo)? {
+            return Ok(None);
+        }
+        if let Some(row) = row_of(given, variable) {
+            let one = Frac::one();
+            let factor = if below { one } else { one.neg() };
+            put_multiple(given, row, factor, &mut combo.rows)?;
+        }
+        Ok(Some(combo))
+    }
+}

@@ -1,0 +1,60 @@
+//! The checks of what a basis shows.
+ghost use Rattle.std.specs.Prelude.{◌≡◌, ◌≤◌, true, length, IfSome};
+ghost use Rattle.cip_linear.specs.LinearProgram.{IsPoint, IsOptimal, HasNoPoint};
+ghost use Rattle.cip_basis.specs.Shown.{IsReady, program_of};
+
+use crate::problem::Problem;
+use crate::tests::cost_at;
+use cip_cert::{Rows, Scratch, empties, lower_bound};
+use cip_frac::Frac;
+use cip_lin::Combo;
+
+/// The cost of a point, where a combination bounds the costs by as much.
+pub(crate) fn least_cost(
+    problem: &Problem<'_>,
+    point: &[Frac],
+    combo: &Combo,
+    scratch: &mut Scratch,
+) -> Option<Frac>
+    requires ready { IsReady problem.now }
+    requires room { length problem.now.bounds.now ≤ length scratch.old.row.entries }
+    requires long { length point.now ≡ length problem.now.bounds.now }
+    requires point { IsPoint (program_of problem.now) point.now }
+    ensures optimal { IfSome result (IsOptimal (program_of problem.entry.now) point.now) }
+    ensures room { length scratch.new.row.entries ≡ length scratch.old.row.entries }
+{
+    let Ok(cost) = cost_at(problem.costs, point) else {
+        return None;
+    };
+    let cutoff = None;
+    let rows = Rows {
+        own: problem.own,
+        pool: problem.pool,
+        cutoff: &cutoff,
+        whole: problem.whole,
+    };
+    let Ok(bound) = lower_bound(&rows, problem.bounds, problem.costs, combo, scratch) else {
+        return None;
+    };
+    if bound == cost { Some(cost) } else { None }
+}
+
+/// Whether a combination empties a linear program.
+pub(crate) fn is_emptied(problem: &Problem<'_>, combo: &Combo, scratch: &mut Scratch) -> bool
+    requires ready { IsReady problem.now }
+    requires room { length problem.now.bounds.now ≤ length scratch.old.row.entries }
+    ensures empty { result ≡ true → HasNoPoint (program_of problem.entry.now) }
+    ensures room { length scratch.new.row.entries ≡ length scratch.old.row.entries }
+{
+    let cutoff = None;
+    let rows = Rows {
+        own: problem.own,
+        pool: problem.pool,
+        cutoff: &cutoff,
+        whole: problem.whole,
+    };
+    match empties(&rows, problem.bounds, combo, scratch) {
+        Ok(()) => true,
+        Err(_) => false,
+    }
+}

@@ -1,0 +1,105 @@
+//! The point of a basis.
+use crate::placement::{Placement, short};
+use cip_frac::Frac;
+use cip_guess::{Given, Guess, Standing};
+use cip_lin::{Row, Sides};
+use std::alloc::AllocError;
+
+/// The value of a variable where it stands; 0 of a basic one, none where the side isn't there.
+fn standing_value(standing: Standing, sides: Sides) -> Option<Frac> {
+    match standing {
+        Standing::Low => sides.low,
+        Standing::High => sides.high,
+        Standing::Zero => Some(Frac::zero()),
+        Standing::Basic => Some(Frac::zero()),
+    }
+}
+
+/// The values of the columns that aren't basic, and 0 of the others; whether all are there.
+pub(crate) fn put_loose(
+    guess: &Guess,
+    given: &Given,
+    point: &mut Vec<Frac>,
+) -> Result<bool, AllocError> {
+    point.clear();
+    for column in 0..given.columns() {
+        let standing = guess.standing(short(column));
+        match standing_value(standing, given.sides(column)) {
+            Some(value) => point.push(value)?,
+            None => return Ok(false),
+        }
+    }
+    Ok(true)
+}
+
+/// The sum of a row at values; none where it is out of range.
+fn sum_at(row: &Row, point: &[Frac]) -> Option<Frac> {
+    let mut sum = Frac::zero();
+    for term in row.terms() {
+        if let Some(value) = point.get(term.col as usize) {
+            if !value.is_zero() && !sum.add_product(&term.coef, value) {
+                return None;
+            }
+        }
+    }
+    Some(sum)
+}
+
+/// A number times a whole one; none where that is out of range.
+pub(crate) fn scaled(value: Frac, scale: u64) -> Option<Frac> {
+    if scale == 1 {
+        return Some(value);
+    }
+    match Frac::whole(i128::from(scale)) {
+        Ok(factor) => value.mul(factor).ok(),
+        Err(_) => None,
+    }
+}
+
+/// What the side at which a row stands leaves for the basic columns, times a number.
+fn right_side(row: &Row, standing: Standing, point: &[Frac], scale: u64) -> Option<Frac> {
+    let sides = Sides {
+        low: row.low(),
+        high: row.high(),
+    };
+    let side = standing_value(standing, sides)?;
+    let sum = sum_at(row, point)?;
+    match side.sub(sum) {
+        Ok(left) => scaled(left, scale),
+        Err(_) => None,
+    }
+}
+
+/// The right sides of the loose rows; whether all are there.
+pub(crate) fn put_right_sides(
+    guess: &Guess,
+    given: &Given,
+    placement: &Placement,
+    scales: &[u64],
+    point: &[Frac],
+    out: &mut Vec<Frac>,
+) -> Result<bool, AllocError> {
+    out.clear();
+    for (number, scale) in placement.rows.iter().zip(scales.iter()) {
+        let place = *number as usize;
+        let standing = guess.standing(short(given.columns().wrapping_add(place)));
+        let right = match given.row(place) {
+            Some(row) => right_side(row, standing, point, *scale),
+            None => None,
+        };
+        match right {
+            Some(value) => out.push(value)?,
+            None => return Ok(false),
+        }
+    }
+    Ok(true)
+}
+
+/// Puts the values of the basic columns into the point.
+pub(crate) fn put_basic(columns: &[u32], values: &[Frac], point: &mut [Frac]) {
+    for (column, value) in columns.iter().zip(values.iter()) {
+        if let Some(place) = point.get_mut(*column as usize) {
+            *place = *value;
+        }
+    }
+}

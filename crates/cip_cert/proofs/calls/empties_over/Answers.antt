@@ -1,0 +1,8 @@
+use Rattle.std.proofs.Common.{length, Ok}
+use Rattle.cip_cert.specs.Lent.{lent_of, multiples_of}
+use Rattle.cip_cert.proofs.Meaning.{empties_follows}
+use Rattle.cip_cert.proofs.calls.empties_over.Goals as goal
+
+pub returns-in-Ok-clause-follows : goal.returns-in-Ok-clause-follows
+returns-in-Ok-clause-follows c =
+    empties_follows (lent_of c.args.rows.now) c.args.bounds.now (length c.args.row.now.entries) (multiples_of c.args.combo.now) c.requires.fits c.requires.room (Ok c.in-Ok.field-0) c.in-Ok.ensures.steps

@@ -1,0 +1,4 @@
+pub mod ColumnPools
+pub mod PointChains
+pub mod PoolPoints
+pub mod PointPrints

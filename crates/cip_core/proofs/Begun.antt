@@ -1,0 +1,102 @@
+-- A search begins with its root.
+use Rattle.std.proofs.Common.{◌≡◌, ℕ, ◌^◌, Bool, true, false, List, [], ◌∷◌, Option, None, Some, IfSome, Result, Ok, Err, IfOk, refl, sym, ap, ◌∙◌, subst, arith}
+use Rattle.std.specs.Prelude.{option_map, MatchBool}
+use Rattle.cip_rational.specs.Rational.{ℚ}
+use Rattle.cip_problem.specs.Program.{Program}
+use Rattle.cip_problem.specs.Box.{sides_at}
+use Rattle.cip_problem.specs.BoxBound.{box_bound}
+use Rattle.cip_problem.specs.WellFormed.{IsWellFormed}
+use Rattle.cip_problem.specs.Log.{Entry, Node}
+use Rattle.cip_problem.proofs.BoxBound.BelowCosts.{root_bound_holds}
+use Rattle.cip_cuts.specs.Cuts.{HasWholeCosts}
+use Rattle.cip_cuts.specs.Improving.{IsBoundIn}
+use Rattle.cip_cuts.proofs.Reductions.{reduction_itself}
+use Rattle.cip_leaves.specs.WideLeaf.{IsWideLeaf}
+use Rattle.cip_lin.specs.declared.outcomes.Least.{Least}
+use Rattle.cip_lin.specs.declared.outcomes.Least.TheVariants.{Value, NoBound, Wide}
+use Rattle.cip_model.specs.Least.{least_cost_from}
+use Rattle.cip_model.specs.Meaning.{BoundHolds}
+use Rattle.cip_leaves.specs.Searched.{first_node}
+use Rattle.cip_search.specs.SearchState.{stay, IsWayBack, HasGivenBoxes}
+use Rattle.cip_search.proofs.Kept as searching
+use Rattle.cip_search.proofs.AsGiven as giving
+use Rattle.cip_search.proofs.GivenBoxes as boxing
+use Rattle.cip_search.proofs.Members.{only_one}
+use Rattle.cip_tree.specs.Nodes.{Nodes}
+use Rattle.cip_tree.specs.Moves.{IsNew}
+use Rattle.cip_node_rules.specs.RootBounds.{least_value, rounded_if}
+use Rattle.cip_core.specs.Beginning.{root_value, IsRootBound, AreNearColumns}
+use Rattle.cip_core.specs.Entering.{own_region}
+use Rattle.cip_core.specs.KeptNodes.{farthest, state_of, IsNearBox, IsKept}
+use Rattle.cip_core.proofs.KeptSteps.{no_farther}
+use Rattle.cip_core.proofs.Rounded.{rounded_holds}
+
+-- ---- sides that are near
+
+near_box : (program : Program) → AreNearColumns program → IsNearBox program 1 program.bounds
+near_box program h = λ column w. no_farther (2 ^ 100) (farthest 1) (sides_at program.bounds column) (omega arith) (h column w)
+
+-- ---- the root's bound
+
+pub value_holds : (program : Program) (least : Least) (whole : Bool) → IsWellFormed program → (whole ≡ true → HasWholeCosts program) → BoundHolds (box_bound program program.bounds) least → IfSome (option_map (rounded_if whole) (least_value least)) (IsBoundIn program None program.bounds)
+value_holds program (Value v) whole formed w h = rounded_holds program None program.bounds v whole w (λ point i b. root_bound_holds program v formed h point i.feasible)
+value_holds program NoBound whole formed w h = tt
+value_holds program Wide whole formed w h = tt
+
+pub when_true : {A : Type 0} (whole : Bool) → MatchBool whole A (¬ A) → whole ≡ true → A
+when_true true m e = m
+when_true false m e = absurd (cc)
+
+unrounded : (o : Option ℚ) → option_map (rounded_if false) o ≡ o
+unrounded None = refl
+unrounded (Some b) = refl
+
+root_case : (program : Program) (whole : Bool) (start : Option ℚ) → MatchBool whole (HasWholeCosts program) (¬ HasWholeCosts program) → start ≡ option_map (rounded_if whole) (root_value program) → IsRootBound program start
+root_case program true start m e = record { whole = λ w. e; plain = λ n. absurd (n m) }
+root_case program false start m e = record { whole = λ w. absurd (m w); plain = λ n. e ∙ unrounded (root_value program) }
+
+pub root_is : (program : Program) (least : Least) (whole : Bool) (start : Option ℚ) → MatchBool whole (HasWholeCosts program) (¬ HasWholeCosts program) → least ≡ least_cost_from program.constant program.costs program.bounds → start ≡ option_map (rounded_if whole) (least_value least) → IsRootBound program start
+root_is program least whole start m l e = root_case program whole start m (e ∙ ap (λ t. option_map (rounded_if whole) (least_value t)) l)
+
+-- ---- the search
+
+-- what is answered as Ok
+pub if_ok : {A E : Type 0} (P Q : A → Type 0) (r : Result A E) → ((a : A) → P a → Q a) → IfOk r P → IfOk r Q
+if_ok P Q (Ok a) f h = f a h
+if_ok P Q (Err e) f h = tt
+
+way : (program : Program) → IsWayBack program program stay
+way program = record { reduction = reduction_itself program; leaves = λ point h. refl; choices = λ on point h. h }
+
+-- a new tree is the root alone
+module _ (program : Program) (tree : Nodes) (start : Option ℚ) (new : IsNew tree (own_region program) program.integral start) where
+  first : Node
+  first = first_node program start
+
+  made : Node → List Bool → List Node → List Node → ℕ → List Entry → Nodes
+  made root integral open_ parked ids log = record { root = root; integral = integral; open_ = open_; parked = parked; taken = tree.taken; ids = ids; log = log; work = tree.work }
+
+  is_tree : tree ≡ made (first_node program start) program.integral (first_node program start ∷ []) [] 1 []
+  unfolding first made
+  is_tree =
+      ap (λ r. made r tree.integral tree.open_ tree.parked tree.ids tree.log) new.root
+      ∙ ap (λ i. made first i tree.open_ tree.parked tree.ids tree.log) new.integral_is
+      ∙ ap (λ o. made first program.integral o tree.parked tree.ids tree.log) (new.open_ ∙ ap (λ r. r ∷ []) new.root)
+      ∙ ap (λ p. made first program.integral (first ∷ []) p tree.ids tree.log) new.parked
+      ∙ ap (λ n. made first program.integral (first ∷ []) [] n tree.log) new.ids
+      ∙ ap (λ l. made first program.integral (first ∷ []) [] 1 l) new.log
+
+  pub begun : AreNearColumns program → IfSome start (IsBoundIn program None program.bounds) → IsKept program program stay tree None []
+  unfolding made
+  begun near holds =
+      subst (λ t. IsKept program program stay t None []) (sym is_tree) (record {
+        searched = searching.begun program program stay IsWideLeaf start None (way program) tt holds;
+        as_given = giving.begun program start None;
+        root = refl;
+        integral = refl;
+        near = λ node c. subst (λ (n : Node). IsNearBox program 1 n.box) (only_one (first_node program start) node c) (near_box program near);
+      })
+
+  pub begun_boxes : HasGivenBoxes program tree.root.bound (state_of tree None [])
+  unfolding made
+  begun_boxes = subst (λ (t : Nodes). HasGivenBoxes program t.root.bound (state_of t None [])) (sym is_tree) (boxing.begun program start None)

@@ -1,0 +1,11 @@
+pub mod Begun
+pub mod KeptSteps
+pub mod HeldAfter
+pub mod Rounded
+pub mod Relations
+pub mod CoreSteps
+pub mod CutoffTerms
+pub mod RowsAdded
+pub mod SidesTightened
+pub mod OwnChoices
+pub mod NearColumns

@@ -1,0 +1,90 @@
+-- A row that a check accepts is valid in the box in work, and the pool may have it.
+use Rattle.std.proofs.Common.{◌≡◌, Bool, true, false, cond, List, All, Option, None, Some, arith, refl, sym, subst, true≢false}
+use Rattle.cip_rational.specs.Rational.{ℚ, zeroℚ, ◌-ℚ◌}
+use Rattle.cip_rational.specs.Range.{difference_overflows}
+use Rattle.cip_rational.proofs.Rational.Order.{≤ℚ_of_lt}
+use Rattle.cip_problem.specs.Program.{Program}
+use Rattle.cip_problem.specs.Points.{IsSatisfied}
+use Rattle.cip_problem.specs.Activity.{StandsBelow}
+use Rattle.cip_problem.specs.WellFormed.{IsWellFormed, columns}
+use Rattle.cip_cuts.specs.Cuts.{terms_from, row_of, cutoff_row}
+use Rattle.cip_cuts.specs.Improving.{IsImproving}
+use Rattle.cip_cuts.proofs.Rows.{row_stands, cutoff_satisfied}
+use Rattle.cip_linear.specs.Aggregate.{Inequality}
+use Rattle.cip_cert.specs.Lent.{KeptFits, Fits}
+use Rattle.cip_cert.specs.Resting.{ArePoolRowsValid, IsLentOf}
+use Rattle.cip_rows.specs.Adding.{IsAdded}
+use Rattle.cip_rows.specs.RowPools.{Pool, IsSoundPool, with_row}
+use Rattle.cip_rows.specs.declared.pools.Added.{Added}
+use Rattle.cip_rows.specs.declared.pools.Added.TheVariants.{New, Known, Full}
+use Rattle.cip_tree.specs.Nodes.{TakenNode, shown}
+use Rattle.cip_core.specs.CoreStates.{CoreState, reduced_of, held_of, all_lent, IsSound, IsAtWork}
+use Rattle.cip_core.specs.CutoffRow.{cutoff_of}
+use Rattle.cip_core.specs.Later.{IsLaterAt}
+use Rattle.cip_core.proofs.HeldAfter.{itself}
+use Rattle.cip_core.proofs.Relations.{narrower_itself}
+
+-- the cutoff row holds at improving points
+cutoff_case : (program : Program) (cost : ℚ) (point : List ℚ) (wide : Bool) → IsSatisfied (cutoff_row program cost) point → IsSatisfied (record { terms = terms_from 0 program.costs; low = None; high = cond wide None (Some (cost -ℚ program.constant)) }) point
+cutoff_case program cost point true h = record { above = tt; below = tt }
+cutoff_case program cost point false h = h
+
+cutoff_there : (program : Program) (held : Option ℚ) (point : List ℚ) → IsImproving program held point → IsSatisfied (cutoff_of program held) point
+cutoff_there program None point i = record { above = tt; below = tt }
+cutoff_there program (Some cost) point i = cutoff_case program cost point (difference_overflows cost program.constant) (cutoff_satisfied program cost point (≤ℚ_of_lt i.cheaper))
+
+-- what is lent to checks is right for the box in work
+pub lent_there : (core : CoreState) → IsSound core → IsLentOf (reduced_of core) (held_of core) core.tree.work.box (all_lent core)
+lent_there core s = record { own = refl; pool = s.valid; cutoff = λ point i w. cutoff_there (reduced_of core) (held_of core) point i }
+
+-- the cutoff row stands on the program's columns
+cutoff_stands : (program : Program) (held : Option ℚ) → StandsBelow (columns program) (cutoff_of program held).terms
+cutoff_stands program held = row_stands (record { coefficients = program.costs; least = zeroℚ })
+
+-- what is lent fits the columns
+pub lent_fits : (core : CoreState) → IsSound core → IsSoundPool core.pool → IsWellFormed (reduced_of core) → Fits (columns (reduced_of core)) (all_lent core)
+lent_fits core s kept formed = record {
+  own = formed.rows;
+  pool = subst (λ n. All (KeptFits n) core.pool.rows) s.same kept.fits;
+  rising = kept.rising;
+  cutoff = cutoff_stands (reduced_of core) (held_of core);
+}
+
+-- a core with another pool
+abbrev pub with_pool : CoreState → Pool → CoreState
+with_pool core pool = record core { pool = pool; touched = true }
+
+same_pool : (core : CoreState) (pool : Pool) → pool ≡ core.pool → IsSound core → IsSound (with_pool core pool)
+same_pool core pool e s = subst (λ p. IsSound (with_pool core p)) (sym e) (record { is_held = s.is_held; valid = s.valid; same = s.same; bare = λ u. absurd (true≢false u) })
+
+pub sound_added : (core : CoreState) (pool : Pool) (row : Inequality) (rests : Bool) (added : Added) → IsAdded core.pool (row_of row) core.tree.work.box rests pool added → ArePoolRowsValid (reduced_of core) (held_of core) (with_row core.pool (row_of row) core.tree.work.box rests).rows → IsSound core → IsSound (with_pool core pool)
+sound_added core pool row rests (New id) a v s =
+    subst (λ p. IsSound (with_pool core p)) (sym a.3) (record {
+      is_held = s.is_held;
+      valid = v;
+      same = s.same;
+      bare = λ u. absurd (true≢false u);
+    })
+sound_added core pool row rests (Known id) a v s = same_pool core pool a.1 s
+sound_added core pool row rests Full a v s = same_pool core pool a.2 s
+
+pub sound_kept : (core : CoreState) (pool : Pool) → pool ≡ core.pool → IsSound core → IsSound (with_pool core pool)
+sound_kept = same_pool
+
+-- a node in work stays so with another pool
+pub later_pooled : (core : CoreState) (pool : Pool) (node : TakenNode) → IsAtWork core node → IsLaterAt core node (with_pool core pool) node
+later_pooled core pool node w = record {
+  later = record { program = refl; root = refl; integral = refl; ids = omega arith; no_dearer = itself (held_of core); untouched = λ u. absurd (true≢false u) };
+  at_work = record {
+    up = record {
+      nodes = record { kept = w.up.nodes.kept; matter = w.up.nodes.matter; boxes = λ u. absurd (true≢false u) };
+      taken = w.up.taken;
+    };
+    region = w.region;
+  };
+  narrower = narrower_itself (with_pool core pool) (shown core.tree node);
+  log = refl;
+  parked = refl;
+  ids = refl;
+  same = λ u. refl;
+}

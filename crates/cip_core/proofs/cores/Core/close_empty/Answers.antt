@@ -1,0 +1,15 @@
+use Rattle.std.proofs.Common.{◌≡◌, ◌++◌, ◌∷◌, [], sym, ap, subst}
+use Rattle.cip_tree.specs.Nodes.{Nodes}
+use Rattle.cip_core.specs.CoreStates.{CoreState}
+use Rattle.cip_problem.specs.Log.{Closed}
+use Rattle.cip_core.specs.Steps.{HasLeft}
+use Rattle.cip_core.proofs.CoreSteps.{with_tree, left_empty}
+use Rattle.cip_core.proofs.cores.Core.close_empty.Goals as goal
+
+pub returns-clause-left : goal.returns-clause-left
+returns-clause-left c =
+    let core = c.args.self.now in
+    let node = c.args.node in
+    let tree = c.close.new.self in
+    let rest = subst (λ (t : Nodes). tree ≡ record t { taken = tree.taken; log = t.log ++ record { node = node.number; bound = node.bound; end = Closed } ∷ [] }) (ap (λ (o : CoreState). o.tree) c.self.view_is) c.close.ensures.rest in
+    subst (λ (o : CoreState). HasLeft core (with_tree o tree) node Closed) (sym c.self.view_is) (left_empty core node tree c.requires.up rest c.requires.empty)

@@ -1,0 +1,15 @@
+use Rattle.std.proofs.Common.{◌≡◌, ◌++◌, ◌∷◌, [], sym, ap, subst}
+use Rattle.cip_tree.specs.Nodes.{Nodes, shown}
+use Rattle.cip_core.specs.CoreStates.{CoreState}
+use Rattle.cip_problem.specs.Log.{Parked}
+use Rattle.cip_core.specs.Later.{IsLater}
+use Rattle.cip_core.proofs.CoreSteps.{with_tree, endless_later}
+use Rattle.cip_core.proofs.cores.Core.park_endless.Goals as goal
+
+pub returns-clause-later : goal.returns-clause-later
+returns-clause-later c =
+    let core = c.args.self.now in
+    let node = c.args.node in
+    let tree = c.park.new.self in
+    let rest = subst (λ (t : Nodes). tree ≡ record t { parked = t.parked ++ shown t node ∷ []; taken = tree.taken; log = t.log ++ record { node = node.number; bound = node.bound; end = Parked } ∷ [] }) (ap (λ (o : CoreState). o.tree) c.self.view_is) c.park.ensures.rest in
+    subst (λ (o : CoreState). IsLater core (with_tree o tree)) (sym c.self.view_is) (endless_later core node tree c.requires rest)

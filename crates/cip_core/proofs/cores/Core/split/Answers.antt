@@ -1,0 +1,29 @@
+use Rattle.std.proofs.Common.{◌≡◌, ◌+◌, sym, subst, arith, to_z, of_z}
+use mir.Syntax.{w128}
+use Rattle.std.proofs.lemmas.Int.{ints}
+use Rattle.cip_problem.specs.Log.{Split}
+use Rattle.cip_tree.specs.Nodes.{region_of as node_region}
+use Rattle.cip_tree.specs.Moves.{IsSplit}
+use Rattle.cip_core.specs.CoreStates.{CoreState, reduced_of, IsTakenUp}
+use Rattle.cip_core.specs.KeptNodes.{farthest}
+use Rattle.cip_core.specs.SplitPlaces.{IsSplitPlace}
+use Rattle.cip_core.specs.Steps.{HasLeft, IsTrimmed}
+use Rattle.cip_core.proofs.CoreSteps.{with_tree, split_off}
+use Rattle.cip_core.proofs.cores.Core.split.Goals as goal
+
+pub returns-in-Ok-clause-split : goal.returns-in-Ok-clause-split
+returns-in-Ok-clause-split c =
+    let core : CoreState = record { program = c.self.inside.program.now; pool = c.self.inside.pool; tree = c.self.inside.tree; incumbent = c.self.inside.incumbent; touched = c.self.inside.touched } in
+    let same : core ≡ c.args.self.now = c.self.view_is in
+    let node = c.args.node in
+    let at = c.args.at in
+    let low = c.in-Ok.halves.0 in
+    let high = c.in-Ok.halves.1 in
+    let e : to_z w128 (of_z w128 at) ≡ at = omega (arith, ints) in
+    let up = subst (λ (o : CoreState). IsTakenUp o node) (sym same) c.requires.at_work.up in
+    let halved = c.split.new.self in
+    let tree = c.let_go.new.tree in
+    let s = subst (λ z. IsSplit core.tree halved node c.args.col z low high) e c.in-Ok.ensures in
+    let place = subst (λ (o : CoreState). IsSplitPlace (reduced_of o).integral (node_region o.tree node) (farthest o.tree.ids + 1) c.args.col at) (sym same) c.requires.place.2 in
+    let trimmed = subst (IsTrimmed halved tree) c.cost_of-held.ensures c.let_go.ensures in
+    subst (λ (o : CoreState). HasLeft o (with_tree core tree) node (Split c.args.col at low high)) same (split_off core node c.args.col at low high halved tree up s place c.log-log.ensures.searched trimmed)

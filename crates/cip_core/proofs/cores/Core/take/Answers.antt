@@ -1,0 +1,20 @@
+use Rattle.std.proofs.Common.{◌≡◌, [], MatchOption, sym, ap, subst}
+use Rattle.cip_tree.specs.Nodes.{Nodes}
+use Rattle.cip_tree.specs.Moves.{TakesFirst}
+use Rattle.cip_core.specs.CoreStates.{CoreState, IsKeptIn, IsTakenUp, IsGivenBound}
+use Rattle.cip_core.proofs.CoreSteps.{with_tree, took, took_given}
+use Rattle.cip_core.proofs.cores.Core.take.Goals as goal
+
+pub returns-clause-up : goal.returns-clause-up
+returns-clause-up c =
+    let core = c.args.self.now in
+    let tree = c.next.new.self in
+    let first = subst (λ (t : Nodes). MatchOption c.next.result ((t.open_ ≡ []) × (tree ≡ t)) (TakesFirst t tree)) (ap (λ (o : CoreState). o.tree) c.self.view_is) c.next.ensures in
+    subst (λ (o : CoreState). MatchOption c.next.result (IsKeptIn (with_tree o tree) []) (IsTakenUp (with_tree o tree))) (sym c.self.view_is) (took core tree c.next.result first c.requires)
+
+pub returns-clause-given : goal.returns-clause-given
+returns-clause-given c =
+    let core = c.args.self.now in
+    let tree = c.next.new.self in
+    let first = subst (λ (t : Nodes). MatchOption c.next.result ((t.open_ ≡ []) × (tree ≡ t)) (TakesFirst t tree)) (ap (λ (o : CoreState). o.tree) c.self.view_is) c.next.ensures in
+    subst (λ (o : CoreState). MatchOption c.next.result (IsKeptIn (with_tree o tree) []) (λ node. IsGivenBound (with_tree o tree) node.number node.bound)) (sym c.self.view_is) (took_given core tree c.next.result first c.requires)

@@ -1,0 +1,10 @@
+pub mod Beginning
+pub mod CoreStates
+pub mod CutoffRow
+pub mod Entering
+pub mod KeptNodes
+pub mod Later
+pub mod RowsAsked
+pub mod SidesTold
+pub mod SplitPlaces
+pub mod Steps

@@ -1,0 +1,131 @@
+//! The core of a search.
+ghost use Rattle.std.specs.Prelude.{◌≡◌, [], MatchOption};
+ghost use Rattle.std.specs.List.{All};
+ghost use Rattle.cip_problem.specs.WellFormed.{IsWellFormed};
+ghost use Rattle.cip_rows.specs.RowPools.{IsSoundPool};
+ghost use Rattle.cip_tree.specs.Entries.{entries_of};
+ghost use Rattle.cip_tree.specs.Moves.{IsLeastBound};
+ghost use Rattle.cip_tree.specs.Searched.{IsSearched};
+ghost use Rattle.cip_core.specs.CoreStates.{IsSound, held_of};
+
+use cip_cert::Scratch;
+use cip_frac::Frac;
+use cip_incumbent::Incumbent;
+use cip_lin::{Bounds, Choices, Row};
+use cip_model::Program;
+use cip_rows::RowPool;
+use cip_tree::{Logged, Tree};
+use std::marker::Model;
+
+/// What a search over a program works with: the nodes with the log, the point held, the pool of rows, and the region in
+/// work, which is the box of a node with its choices. Contracts see these, and whether a row was added or a side
+/// tightened since the search began.
+#[derive(Drop)]
+pub struct Core<'a> {
+    pub(crate) program: &'a Program,
+    // whether costs are whole, so that bounds are rounded up
+    pub(crate) whole_costs: bool,
+    pub(crate) pool: RowPool,
+    // that of the cost held; its side is open where none is held
+    pub(crate) cutoff: Option<Row>,
+    // what checks work in
+    pub(crate) scratch: Scratch,
+    pub(crate) tree: Tree,
+    pub(crate) incumbent: Incumbent,
+    // whether a row was added or a side tightened
+    pub(crate) touched: bool,
+}
+
+impl<'a> Model for Core<'a> {
+    ghost use Rattle.std.specs.Prelude.{length};
+    ghost use Rattle.cip_core.specs.KeptNodes.{cost_held};
+    ghost use Rattle.cip_core.specs.CoreStates.{CoreState, core_code, IsSound, IsFitted};
+
+    ghost Value = { CoreState };
+
+    ghost coded = { core_code };
+
+    ghost view = { λ c. record {
+      program = c.program.now;
+      pool = c.pool;
+      tree = c.tree;
+      incumbent = c.incumbent;
+      touched = c.touched;
+    } };
+
+    ghost invariant = { λ c.
+        IsSound (record {
+          program = c.program.now;
+          pool = c.pool;
+          tree = c.tree;
+          incumbent = c.incumbent;
+          touched = c.touched;
+        })
+        × IsFitted c.program.now (cost_held c.incumbent) c.cutoff c.whole_costs (length c.scratch.row.entries) };
+}
+
+impl<'a> Core<'a> {
+    /// What holds of each core. It does nothing.
+    pub fn is_sound(&self)
+        ensures sound { IsSound self.now }
+        ensures formed { IsWellFormed self.now.program }
+        ensures pool { IsSoundPool self.now.pool }
+    {
+        let _columns = self.program.columns();
+        let _rows = self.pool.rows();
+    }
+
+    /// The program.
+    pub fn program(&self) -> &'a Program
+        ensures { result.now ≡ self.now.program }
+    {
+        self.program
+    }
+
+    /// The box of the region in work.
+    pub fn bounds(&self) -> &Bounds
+        ensures { result.now ≡ self.now.tree.work.box }
+    {
+        self.tree.bounds()
+    }
+
+    /// The choices of the region in work.
+    pub fn choices(&self) -> &Choices
+        ensures { result.now ≡ self.now.tree.work.choices }
+    {
+        self.tree.choices()
+    }
+
+    /// The point held.
+    pub fn incumbent(&self) -> &Incumbent
+        ensures { result.now ≡ self.now.incumbent }
+    {
+        &self.incumbent
+    }
+
+    /// The nodes, with the log.
+    pub fn tree(&self) -> &Tree
+        ensures { result.now ≡ self.now.tree }
+    {
+        &self.tree
+    }
+
+    /// The cost held, if a point is.
+    pub fn held_cost(&self) -> Option<Frac>
+        ensures { result ≡ held_of self.now }
+    {
+        match self.incumbent.held() {
+            None => None,
+            Some((cost, _)) => Some(cost),
+        }
+    }
+
+    /// The log by itself; the nodes are let go.
+    pub fn take_log(self) -> Vec<Logged>
+        ensures entries { entries_of result.items ≡ self.entry.tree.log }
+        ensures searched { IsSearched self.entry.tree.integral self.entry.tree.root self.entry.tree.log }
+    {
+        let Core { tree, .. } = self;
+        tree.take_log()
+    }
+}

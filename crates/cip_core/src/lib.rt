@@ -1,0 +1,23 @@
+//! The core of a search: the nodes, the point held, the pool of rows and the region in work, and the steps that keep
+//! what holds of them.
+#![tactic(auto)]
+
+mod adding;
+mod beginning;
+mod closing;
+mod cores;
+mod costs;
+mod entering;
+mod laws;
+mod offering;
+mod pools;
+mod raising;
+mod relaxing;
+mod splitting;
+mod tightening;
+
+pub use adding::Asked;
+pub use beginning::root_bound;
+pub use cores::Core;
+pub use laws::steps_compose;
+pub use offering::cost_of;

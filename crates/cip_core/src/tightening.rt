@@ -1,0 +1,41 @@
+//! Sides of nodes in work are tightened.
+ghost use Rattle.std.specs.Prelude.{◌≡◌, MatchResult};
+ghost use Rattle.cip_core.specs.CoreStates.{IsAtWork};
+ghost use Rattle.cip_core.specs.Later.{IsLaterAt};
+ghost use Rattle.cip_core.specs.SidesTold.{IsSideTold, IsSideTaken};
+
+use crate::cores::Core;
+use cip_domain::{Side, Tightened};
+use cip_frac::Frac;
+use cip_tree::Node;
+use std::alloc::AllocError;
+
+impl<'a> Core<'a> {
+    /// Tightens a side of a column of a node in work, by its number from 0, to a value that each improving point of
+    /// the node's box keeps to. `Same` comes exactly where the side is at least as strong already, `Empty` exactly
+    /// where it isn't and the low side would pass the high one; both leave all as it was, and so does `Err`, which
+    /// comes where memory was refused.
+    pub fn tighten(
+        &mut self,
+        node: &mut Node,
+        col: u32,
+        side: Side,
+        value: Frac,
+    ) -> Result<Tightened, AllocError>
+        requires at_work { IsAtWork self.old node.old }
+        requires told { IsSideTold self.old node.old col side value }
+        ensures tightened { MatchResult result (IsSideTaken self.old self.new node.old node.new col side value)
+            (λ _. (self.new ≡ self.old) × (node.new ≡ node.old)) }
+        ensures later { IsLaterAt self.old node.old self.new node.new }
+    {
+        let _columns = self.program.columns();
+        match self.tree.tighten(node, col, side, value)? {
+            Tightened::Yes => {
+                self.touched = true;
+                Ok(Tightened::Yes)
+            }
+            Tightened::Same => Ok(Tightened::Same),
+            Tightened::Empty => Ok(Tightened::Empty),
+        }
+    }
+}

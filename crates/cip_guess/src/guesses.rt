@@ -1,0 +1,261 @@
+//! Guesses, kept from program to program.
+use crate::anew::make_anew;
+use crate::dual::{Lists, Tolerances, dual_move, loose_tolerances, tight_tolerances, worst};
+use crate::given::Given;
+use crate::moves::settle;
+use crate::primal::{PrimalMove, primal_move};
+use crate::scaling::{cost_up, make_scaled, row_up};
+use crate::stops::Stop;
+use crate::table::Table;
+use crate::variables::{Standing, Variable, Variables};
+use std::alloc::{AllocError, Global};
+
+/// A table has at most so many entries.
+const MOST_ENTRIES: u64 = 1 << 24;
+
+/// After so many moves the table is made anew.
+const MOST_MOVES_KEPT: u32 = 1_000;
+
+// The most moves of a guess, beside two for each column and row.
+const FEW_MOVES: usize = 2_000;
+
+// The most entries that a guess writes.
+const MOST_WORK: u64 = 1 << 33;
+
+/// How a guess ends. Any of it may be wrong.
+#[derive(Clone, Copy, PartialEq, Eq, Debug)]
+pub enum Outcome {
+    /// The basis is optimal.
+    Optimal,
+    /// This variable, which is basic, can't be brought between its sides, being below, or above, them.
+    Broken { variable: u32, below: bool },
+    /// The cost falls without end.
+    Endless,
+}
+
+/// One step of a guess.
+#[derive(Clone, Copy, PartialEq, Eq)]
+enum Step {
+    Moved,
+    Ended(Outcome),
+}
+
+/// A basis of a linear program and its table, over whole numbers of 64 bits that are rounded. They are kept from
+/// program to program, where only the sides of columns change or rows come at the end. What is said may be wrong: it
+/// names variables, and no value comes from it.
+#[derive(Drop)]
+pub struct Guess {
+    table: Table,
+    variables: Variables,
+    lists: Lists,
+    ids: Vec<u64>,
+    columns: usize,
+    cost_up: i32,
+    moves: u32,
+    is_made: bool,
+}
+
+/// Whether a list begins with another.
+fn begins_with(list: &[u64], start: &[u64]) -> bool {
+    match list.split_at_checked(start.len()) {
+        Some((front, _)) => front == start,
+        None => false,
+    }
+}
+
+impl Guess {
+    /// No guess yet.
+    pub fn new(alloc: Global) -> Guess {
+        Guess {
+            table: Table::new(alloc),
+            variables: Variables::new(alloc),
+            lists: Lists {
+                picks: Vec::new(alloc),
+                ways: Vec::new(alloc),
+                values: Vec::new(alloc),
+            },
+            ids: Vec::new(alloc),
+            columns: 0,
+            cost_up: 0,
+            moves: 0,
+            is_made: false,
+        }
+    }
+
+    /// Where a variable stands: columns by number, then rows.
+    pub fn standing(&self, variable: u32) -> Standing {
+        self.variables.get(variable).standing
+    }
+
+    /// Forgets the basis: the next guess begins with that of the rows.
+    pub fn forget(&mut self) {
+        self.is_made = false;
+    }
+
+    /// Takes the names of the rows behind those that stay.
+    fn take_ids(&mut self, ids: &[u64]) -> Result<(), Stop> {
+        self.ids.clear();
+        self.ids.extend_from_slice(ids)?;
+        Ok(())
+    }
+
+    /// Begins with the basis of the rows.
+    fn begin(&mut self, alloc: Global, given: &Given) -> Result<(), Stop> {
+        make_scaled(alloc, given, &mut self.variables)?;
+        self.columns = given.columns();
+        self.cost_up = cost_up(given.costs, &self.variables);
+        self.take_ids(given.ids)?;
+        self.moves = 0;
+        self.table
+            .fill(alloc, given, &self.variables, self.cost_up)?;
+        self.is_made = true;
+        Ok(())
+    }
+
+    /// Makes the table anew.
+    fn renew(&mut self, alloc: Global, given: &Given) -> Result<(), Stop> {
+        self.moves = 0;
+        let up = self.cost_up;
+        make_anew(alloc, given, &mut self.table, &mut self.variables, up)
+    }
+
+    /// Takes rows that came at the end, which are basic.
+    fn grow(&mut self, alloc: Global, given: &Given) -> Result<(), Stop> {
+        let known = self.variables.len().saturating_sub(self.columns);
+        for number in known..given.rows() {
+            let mut variable = Variable::new(Standing::Basic);
+            if let Some(row) = given.row(number) {
+                variable.up = row_up(row, &self.variables);
+            }
+            self.variables.push(variable)?;
+        }
+        self.take_ids(given.ids)?;
+        self.renew(alloc, given)
+    }
+
+    /// Whether what is kept is of this program, but for rows that came at the end.
+    fn is_of(&self, given: &Given) -> bool {
+        let known = self.columns.saturating_add(given.own.len());
+        self.is_made
+            && self.columns == given.columns()
+            && self.variables.len() == known.saturating_add(self.ids.len())
+            && begins_with(given.ids, self.ids.as_slice())
+    }
+
+    /// Readies the table for a program.
+    fn ready(&mut self, alloc: Global, given: &Given, anew: bool) -> Result<(), Stop> {
+        if !self.is_of(given) {
+            return self.begin(alloc, given);
+        }
+        if self.ids.len() < given.ids.len() {
+            return self.grow(alloc, given);
+        }
+        if anew || self.moves > MOST_MOVES_KEPT {
+            return self.renew(alloc, given);
+        }
+        Ok(())
+    }
+
+    /// One move, or how the guess ends.
+    fn step(&mut self, tolerances: Tolerances) -> Result<Step, Stop> {
+        let Some(leaving) = worst(&self.table, &self.variables, tolerances.outside) else {
+            let made = primal_move(&mut self.table, &mut self.variables, tolerances.rate)?;
+            return Ok(match made {
+                PrimalMove::Made => Step::Moved,
+                PrimalMove::Optimal => Step::Ended(Outcome::Optimal),
+                PrimalMove::Endless => Step::Ended(Outcome::Endless),
+            });
+        };
+        let variable = self.table.basic_at(leaving.line);
+        let below = leaving.standing == Standing::Low;
+        let moved = dual_move(
+            &mut self.table,
+            &mut self.variables,
+            &mut self.lists,
+            leaving,
+            tolerances,
+        )?;
+        if moved {
+            Ok(Step::Moved)
+        } else {
+            Ok(Step::Ended(Outcome::Broken { variable, below }))
+        }
+    }
+
+    /// Forms all values anew.
+    fn settle(&mut self, rate: i64) -> Result<(), Stop> {
+        let entries = self.table.entries();
+        self.table.spend(entries)?;
+        settle(
+            &self.table,
+            &mut self.variables,
+            rate,
+            &mut self.lists.values,
+        )
+    }
+
+    /// Makes moves, at most so many; an end is believed only on values that were formed anew.
+    fn run(&mut self, limit: usize, tolerances: Tolerances) -> Result<Outcome, Stop> {
+        self.settle(tolerances.rate)?;
+        let mut is_fresh = true;
+        for _ in 0..limit {
+            match self.step(tolerances)? {
+                Step::Moved => {
+                    self.moves = self.moves.saturating_add(1);
+                    is_fresh = false;
+                }
+                Step::Ended(outcome) => {
+                    if is_fresh {
+                        return Ok(outcome);
+                    }
+                    self.settle(tolerances.rate)?;
+                    is_fresh = true;
+                }
+            }
+        }
+        Err(Stop::GaveUp)
+    }
+
+    /// The guess on a program.
+    fn guessed(&mut self, alloc: Global, given: &Given, anew: bool) -> Result<Outcome, Stop> {
+        let width = given.columns() as u64;
+        let height = (given.rows() as u64).saturating_add(1);
+        if width.saturating_mul(height) > MOST_ENTRIES {
+            return Err(Stop::GaveUp);
+        }
+        self.table.allow(MOST_WORK);
+        self.ready(alloc, given, anew)?;
+        self.variables.take_sides(given);
+        let tolerances = if anew {
+            tight_tolerances()
+        } else {
+            loose_tolerances()
+        };
+        let size = self.variables.len();
+        let limit = FEW_MOVES.saturating_add(size).saturating_add(size);
+        self.run(limit, tolerances)
+    }
+
+    /// Guesses how a linear program ends, from the basis of the last guess: where the variables stand then is told by
+    /// `standing`. With `anew` the table is made anew, and less is passed over as rounding. It gives up, `None`, where
+    /// the table has over 2^24 entries, a number is too great, over 2,000 moves and two for each column and row are
+    /// made, or over 2^33 entries are written, and then forgets the basis. `Err` where memory was refused.
+    pub fn guess(
+        &mut self,
+        alloc: Global,
+        given: &Given,
+        anew: bool,
+    ) -> Result<Option<Outcome>, AllocError> {
+        match self.guessed(alloc, given, anew) {
+            Ok(outcome) => Ok(Some(outcome)),
+            Err(Stop::GaveUp) => {
+                self.is_made = false;
+                Ok(None)
+            }
+            Err(Stop::NoMemory) => {
+                self.is_made = false;
+                Err(AllocError)
+            }
+        }
+    }
+}

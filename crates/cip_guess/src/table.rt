@@ -1,0 +1,285 @@
+//! The table of a basis: each basic variable as a sum of the loose ones.
+use crate::fixed::{BITS, MOST, UNIT, fixed, long_product, quotient, short_bit_length, step};
+use crate::given::{Given, number_of};
+use crate::stops::Stop;
+use crate::variables::Variables;
+use cip_lin::Row;
+use std::alloc::Global;
+
+/// A basic variable, and what it takes of each loose one.
+#[derive(Drop)]
+pub(crate) struct Line {
+    pub(crate) variable: u32,
+    pub(crate) entries: Vec<i64>,
+}
+
+/// A number of a list, 0 past its end.
+#[inline]
+pub(crate) fn entry_at(entries: &[i64], place: usize) -> i64 {
+    match entries.get(place) {
+        Some(entry) => *entry,
+        None => 0,
+    }
+}
+
+/// The table: a line for each basic variable, what the cost takes of each loose one, and the loose variables.
+#[derive(Drop)]
+pub(crate) struct Table {
+    pub(crate) lines: Vec<Line>,
+    pub(crate) costs: Vec<i64>,
+    pub(crate) loose: Vec<u32>,
+    pivot: Vec<(usize, i64)>,
+    work: u64,
+}
+
+/// Solves a line for the loose variable at a place; leaves what it then takes of each loose one, and answers the bits
+/// of the greatest.
+fn solve_line(
+    entries: &mut [i64],
+    place: usize,
+    pivot: &mut Vec<(usize, i64)>,
+) -> Result<i32, Stop> {
+    pivot.clear();
+    let divisor = entry_at(entries, place);
+    let mut seen = 0u64;
+    for (at, entry) in entries.iter_mut().enumerate() {
+        if *entry == 0 {
+            continue;
+        }
+        let solved = if at == place {
+            quotient(UNIT, divisor)?
+        } else {
+            quotient(*entry, divisor)?.wrapping_neg()
+        };
+        *entry = solved;
+        seen |= solved.unsigned_abs();
+        pivot.push((at, solved))?;
+    }
+    Ok(short_bit_length(seen))
+}
+
+/// Adds a multiple of the solved line to another; answers the union of the bits of the entries.
+#[inline]
+fn add_multiple(entries: &mut [i64], pivot: &[(usize, i64)], factor: i64) -> u64 {
+    let mut seen = 0u64;
+    for item in pivot {
+        let (place, number) = *item;
+        if let Some(entry) = entries.get_mut(place) {
+            let sum = step(*entry, factor, number);
+            *entry = sum;
+            seen |= sum.unsigned_abs();
+        }
+    }
+    seen
+}
+
+/// Puts the solved line in the place of a loose variable in another line; answers how many entries were written.
+fn put_in(
+    entries: &mut [i64],
+    place: usize,
+    pivot: &[(usize, i64)],
+    wide: i32,
+) -> Result<u64, Stop> {
+    let factor = entry_at(entries, place);
+    if factor == 0 {
+        return Ok(1);
+    }
+    let bits = short_bit_length(factor.unsigned_abs()).wrapping_add(wide);
+    if bits.wrapping_sub(BITS as i32) > 59 {
+        return Err(Stop::GaveUp);
+    }
+    if let Some(entry) = entries.get_mut(place) {
+        *entry = 0;
+    }
+    if add_multiple(entries, pivot, factor) >= MOST as u64 {
+        return Err(Stop::GaveUp);
+    }
+    Ok(pivot.len() as u64)
+}
+
+/// Puts the solved line, which has this number, into all others; answers how many entries were written.
+fn put_in_all(
+    lines: &mut [Line],
+    own: usize,
+    place: usize,
+    pivot: &[(usize, i64)],
+    wide: i32,
+) -> Result<u64, Stop> {
+    let mut work = 0u64;
+    for (at, line) in lines.iter_mut().enumerate() {
+        if at != own {
+            let more = put_in(line.entries.as_mut_slice(), place, pivot, wide)?;
+            work = work.wrapping_add(more);
+        }
+    }
+    Ok(work)
+}
+
+/// Fills a line by a row.
+fn fill_line(
+    entries: &mut Vec<i64>,
+    row: &Row,
+    columns: usize,
+    up: i32,
+    variables: &Variables,
+) -> Result<(), Stop> {
+    entries.clear();
+    entries.resize(columns, 0)?;
+    for term in row.terms() {
+        let column = term.col as usize;
+        let number = fixed(term.coef, up.wrapping_sub(variables.up(column)))?;
+        if let Some(entry) = entries.get_mut(column) {
+            *entry = number;
+        }
+    }
+    Ok(())
+}
+
+impl Table {
+    /// A table without lines.
+    pub(crate) fn new(alloc: Global) -> Table {
+        Table {
+            lines: Vec::new(alloc),
+            costs: Vec::new(alloc),
+            loose: Vec::new(alloc),
+            pivot: Vec::new(alloc),
+            work: 0,
+        }
+    }
+
+    /// Gives it so many entries to write.
+    pub(crate) fn allow(&mut self, work: u64) {
+        self.work = work;
+    }
+
+    /// Takes so many entries off what may be written.
+    pub(crate) fn spend(&mut self, work: u64) -> Result<(), Stop> {
+        match self.work.checked_sub(work) {
+            Some(left) => {
+                self.work = left;
+                Ok(())
+            }
+            None => Err(Stop::GaveUp),
+        }
+    }
+
+    /// How many entries there are.
+    pub(crate) fn entries(&self) -> u64 {
+        (self.lines.len() as u64).wrapping_mul(self.loose.len() as u64)
+    }
+
+    /// The variable of a line.
+    pub(crate) fn basic_at(&self, line: usize) -> u32 {
+        match self.lines.get(line) {
+            Some(line) => line.variable,
+            None => u32::MAX,
+        }
+    }
+
+    /// The loose variable at a place.
+    pub(crate) fn loose_at(&self, place: usize) -> u32 {
+        match self.loose.get(place) {
+            Some(number) => *number,
+            None => u32::MAX,
+        }
+    }
+
+    /// An entry.
+    pub(crate) fn entry(&self, line: usize, place: usize) -> i64 {
+        match self.lines.get(line) {
+            Some(line) => entry_at(line.entries.as_slice(), place),
+            None => 0,
+        }
+    }
+
+    /// Fills the lines by the rows.
+    fn fill_lines(
+        &mut self,
+        alloc: Global,
+        given: &Given,
+        variables: &Variables,
+    ) -> Result<(), Stop> {
+        let columns = given.columns();
+        self.lines.truncate(given.rows());
+        for number in 0..given.rows() {
+            let Some(row) = given.row(number) else {
+                return Err(Stop::GaveUp);
+            };
+            if number >= self.lines.len() {
+                self.lines.push(Line {
+                    variable: 0,
+                    entries: Vec::new(alloc),
+                })?;
+            }
+            let variable = columns.wrapping_add(number);
+            if let Some(line) = self.lines.get_mut(number) {
+                line.variable = number_of(variable);
+                let up = variables.up(variable);
+                fill_line(&mut line.entries, row, columns, up, variables)?;
+            }
+        }
+        Ok(())
+    }
+
+    /// Fills the costs.
+    fn fill_costs(&mut self, given: &Given, variables: &Variables, up: i32) -> Result<(), Stop> {
+        self.costs.clear();
+        self.loose.clear();
+        for column in 0..given.columns() {
+            let power = up.wrapping_sub(variables.up(column));
+            let cost = fixed(given.cost(column), power)?;
+            self.costs.push(cost)?;
+            self.loose.push(number_of(column))?;
+        }
+        Ok(())
+    }
+
+    /// The table of the rows, in which no column is basic.
+    pub(crate) fn fill(
+        &mut self,
+        alloc: Global,
+        given: &Given,
+        variables: &Variables,
+        up: i32,
+    ) -> Result<(), Stop> {
+        self.fill_lines(alloc, given, variables)?;
+        self.fill_costs(given, variables, up)
+    }
+
+    /// The variable of a line and the loose one at a place change places.
+    pub(crate) fn swap(&mut self, line: usize, place: usize) -> Result<(), Stop> {
+        let incoming = self.loose_at(place);
+        let outgoing = self.basic_at(line);
+        let Some(own) = self.lines.get_mut(line) else {
+            return Err(Stop::GaveUp);
+        };
+        own.variable = incoming;
+        let wide = solve_line(own.entries.as_mut_slice(), place, &mut self.pivot)?;
+        let pivot = self.pivot.as_slice();
+        let written = put_in_all(self.lines.as_mut_slice(), line, place, pivot, wide)?;
+        let more = put_in(self.costs.as_mut_slice(), place, pivot, wide)?;
+        if let Some(number) = self.loose.get_mut(place) {
+            *number = outgoing;
+        }
+        self.spend(written.wrapping_add(more))
+    }
+}
+
+/// The sum of what a line takes of the loose variables at these values.
+pub(crate) fn sum_at(entries: &[i64], values: &[i64]) -> i128 {
+    let mut sum = 0i128;
+    for (entry, value) in entries.iter().zip(values.iter()) {
+        sum = sum.wrapping_add(long_product(*entry, *value));
+    }
+    sum
+}
+
+/// The sum of what a line takes of some loose variables, each by its place and with a number.
+pub(crate) fn sum_of(entries: &[i64], ways: &[(usize, i64)]) -> i128 {
+    let mut sum = 0i128;
+    for item in ways {
+        let (place, way) = *item;
+        sum = sum.wrapping_add(long_product(entry_at(entries, place), way));
+    }
+    sum
+}

@@ -1,0 +1,4 @@
+pub mod Entered
+pub mod FollowedTrees
+pub mod HalvedSides
+pub mod SplitColumns

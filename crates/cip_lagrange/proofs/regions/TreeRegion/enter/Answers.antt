@@ -1,0 +1,24 @@
+use Rattle.cip_problem.specs.Program.{Plain}
+use Rattle.cip_problem.specs.Box.{no_sides}
+use Rattle.cip_lagrange.proofs.Entered.{back, into_whole}
+use Rattle.cip_lagrange.proofs.regions.TreeRegion.enter.Goals as goal
+
+pub returns-in-Some-clause-bounds : goal.returns-in-Some-clause-bounds
+returns-in-Some-clause-bounds c = back c.args.self.now.bounds c.set.new.self.bounds c.args.half.col
+    c.open_half-sides.result no_sides c.set.ensures.bounds
+
+pub returns-in-Some-clause-choices : goal.returns-in-Some-clause-choices
+returns-in-Some-clause-choices c = back c.args.self.now.choices c.set.new.self.choices c.args.half.col c.made.result
+    Plain c.set.ensures.choices
+
+pub returns-in-None-clause-half : goal.returns-in-None-clause-half
+returns-in-None-clause-half c =
+    into_whole c.args.half.is_high c.args.self.now.bounds c.args.self.now.choices c.args.half.col c.args.half.at
+    c.sides-sides.result c.whole_half-sides.result c.at-choice.result c.own.result c.set-in-None.new.self.bounds
+    c.set-in-None.new.self.choices
+    c.sides-sides.ensures c.at-choice.ensures c.own.ensures c.in-None.is c.whole_half-sides.ensures
+    c.set-in-None.ensures.bounds c.set-in-None.ensures.choices
+
+pub returns-in-None-clause-bounds : goal.returns-in-None-clause-bounds
+returns-in-None-clause-bounds c = back c.args.self.now.bounds c.set-in-None.new.self.bounds c.args.half.col
+    c.whole_half-sides.result no_sides c.set-in-None.ensures.bounds

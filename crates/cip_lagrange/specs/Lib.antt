@@ -1,0 +1,2 @@
+pub mod TreeOutcomes
+pub mod TreeMeaning

@@ -1,0 +1,17 @@
+use Rattle.std.proofs.Common.{sym, subst}
+use Rattle.cip_linear.specs.LinearProgram.{LinearProgram, HasNoPoint}
+use Rattle.cip_simplex.specs.LpShape.{IsSolvable}
+use Rattle.cip_leaves.specs.LeafProgram.{at_continuous, program_of_leaf}
+use Rattle.cip_leaves.proofs.Merged.{point_on}
+use Rattle.cip_leaf.proofs.Answered.{leaf_solvable}
+use Rattle.cip_leaf.proofs.by_basis.shown_by_basis.Goals as goal
+
+pub shown_of-requires : goal.shown_of-requires
+shown_of-requires c = subst IsSolvable (sym c.requires.parts) (leaf_solvable c.args.program.now c.args.leaf.now c.requires.formed)
+
+pub returns-in-Some-Empty : goal.returns-in-Some-Empty
+returns-in-Some-Empty c point k =
+    let found = rw c.in-Some-Empty.is at c.in_ok-point.ensures in
+    let empty = rw c.in-Some-Empty.field-0-is at found in
+    let none : HasNoPoint (program_of_leaf c.args.program.now c.args.leaf.now) = subst (λ (p : LinearProgram). HasNoPoint p) c.requires.parts empty in
+    none (at_continuous c.args.program.now.integral point) (point_on c.args.program.now c.args.leaf.now point c.requires.formed k).is_point

@@ -1,0 +1,4 @@
+pub mod LpCodes
+pub mod LpDrafts
+pub mod LpEvents
+pub mod LpForms

@@ -1,0 +1,79 @@
+//! The first facts, and the program that was said.
+ghost use Rattle.std.specs.Prelude.{◌≡◌, IfOk};
+ghost use Rattle.cip_lp_rules.specs.LpFacts as facts;
+
+use crate::draft::LpDraft;
+use cip_frac::Frac;
+use cip_lin::{Bounds, Choices, Sides};
+use cip_model::{Parts, Program, Sense};
+use cip_name_index::NameIndex;
+use std::alloc::{AllocError, Global};
+
+/// The sides of the columns.
+fn bounds_of(alloc: Global, sides: &[Sides]) -> Result<Bounds, AllocError>
+    ensures { IfOk result (λ bounds. bounds ≡ sides.now) }
+{
+    let mut bounds = Bounds::new(alloc, 0)?;
+    for own in sides {
+        bounds.push(*own)?;
+    }
+    Ok(bounds)
+}
+
+impl LpDraft {
+    /// Before the first token.
+    pub fn new(alloc: Global) -> LpDraft
+        ensures { result ≡ facts.nothing_said }
+    {
+        LpDraft {
+            alloc,
+            maximized: false,
+            objective: None,
+            row_names: NameIndex::new(alloc),
+            rows: Vec::new(alloc),
+            row_name: None,
+            column_names: NameIndex::new(alloc),
+            costs: Vec::new(alloc),
+            sides: Vec::new(alloc),
+            whole: Vec::new(alloc),
+            constant: Frac::zero(),
+            form: Vec::new(alloc),
+            entries: 0,
+            near: 0,
+        }
+    }
+
+    /// The program that was said. `Err` comes where a growth was refused.
+    pub fn into_program(self) -> Result<Program, AllocError>
+        ensures { IfOk result (λ program. program ≡ facts.program_of self) }
+    {
+        let bounds = bounds_of(self.alloc, self.sides.as_slice())?;
+        let LpDraft {
+            alloc,
+            maximized,
+            row_names,
+            rows,
+            column_names,
+            costs,
+            whole,
+            constant,
+            ..
+        } = self;
+        let sense = if maximized {
+            Sense::Maximize
+        } else {
+            Sense::Minimize
+        };
+        Ok(Program::new(Parts {
+            column_names: column_names.into_names(),
+            row_names: row_names.into_names(),
+            rows,
+            costs,
+            constant,
+            sense,
+            whole,
+            bounds,
+            choices: Choices::new(alloc),
+        }))
+    }
+}

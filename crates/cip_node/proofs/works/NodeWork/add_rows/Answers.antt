@@ -1,0 +1,5 @@
+use Rattle.cip_core.proofs.Relations.{later_at_itself}
+use Rattle.cip_node.proofs.works.NodeWork.add_rows.Goals as goal
+
+pub returns-clause-later : goal.returns-clause-later
+returns-clause-later c = later_at_itself c.args.self.now.core c.args.node.now c.requires

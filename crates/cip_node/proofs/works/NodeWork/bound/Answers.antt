@@ -1,0 +1,165 @@
+use Rattle.std.proofs.Common.{◌≡◌, ◌∙◌, None, Some, IfSome, length, refl, sym, ap, subst}
+use Rattle.cip_problem.specs.WellFormed.{IsWellFormed, columns}
+use Rattle.cip_domain.specs.Changes.{Region}
+use Rattle.cip_cuts.specs.Improving.{IsBoundIn, HasNoImproving}
+use Rattle.cip_rows.specs.RowPools.{IsSoundPool}
+use Rattle.cip_tree.specs.Nodes.{region_of, box_of}
+use Rattle.cip_core.specs.CoreStates.{CoreState, reduced_of, held_of, IsSound, IsAtWork}
+use Rattle.cip_core.specs.Later.{IsLaterAt}
+use Rattle.cip_core.proofs.CoreSteps.{work_long}
+use Rattle.cip_core.proofs.Relations.{later_at_itself, later_at_further}
+use Rattle.cip_node.specs.Bounding.{IsRelaxedOf, IsBounded, IsFound}
+use Rattle.cip_core.specs.Steps.{IsTried}
+use Rattle.cip_node.proofs.NodeBound.{tells, point_long, long_if, as_long, least_found, falling_found, unsolved_found}
+use Rattle.cip_node.proofs.works.NodeWork.bound.Goals as goal
+
+pub returns-in_err-relaxed-clause-later : goal.returns-in_err-relaxed-clause-later
+returns-in_err-relaxed-clause-later c =
+    subst (λ (k : CoreState). IsLaterAt c.args.self.now.core c.args.node.now k c.args.node.now) (sym c.relaxed.ensures.core) (later_at_itself c.args.self.now.core c.args.node.now c.requires)
+
+pub raise-requires-clause-at_work : goal.raise-requires-clause-at_work
+raise-requires-clause-at_work c = subst (λ (k : CoreState). IsAtWork k c.args.node.now) (sym c.in_ok-relaxed.ensures.core) c.requires
+
+pub raise-requires-clause-holds : goal.raise-requires-clause-holds
+raise-requires-clause-holds c =
+    let core = c.relaxed.new.self.core in
+    let node = c.args.node.now in
+    let at = subst (λ (k : CoreState). IsAtWork k node) (sym c.in_ok-relaxed.ensures.core) c.requires in
+    let sound = subst IsSound (sym c.in_ok-relaxed.ensures.core) c.is_sound.ensures.sound in
+    let kept = subst (λ (k : CoreState). IsSoundPool k.pool) (sym c.in_ok-relaxed.ensures.core) c.is_sound.ensures.pool in
+    let formed = subst (λ (k : CoreState). IsWellFormed k.program) (sym c.in_ok-relaxed.ensures.core) c.is_sound.ensures.formed in
+    let long = work_long core node formed at in
+    let t = tells core at sound kept formed in
+    let r = subst (IsRelaxedOf core) c.in-Bound.is c.in_ok-relaxed.ensures.relaxed in
+    subst (λ b. IsBoundIn (reduced_of core) (held_of core) b c.in-Bound.bound) (ap (λ (g : Region). g.box) at.region) (t.bound c.in-Bound.point.items c.in-Bound.bound r)
+
+pub returns-in-Empty-clause-later : goal.returns-in-Empty-clause-later
+returns-in-Empty-clause-later c =
+    subst (λ (k : CoreState). IsLaterAt c.args.self.now.core c.args.node.now k c.args.node.now) (sym c.in_ok-relaxed.ensures.core) (later_at_itself c.args.self.now.core c.args.node.now c.requires)
+
+pub returns-in-Empty-clause-bounded : goal.returns-in-Empty-clause-bounded
+returns-in-Empty-clause-bounded c =
+    let core = c.relaxed.new.self.core in
+    let node = c.args.node.now in
+    let at = subst (λ (k : CoreState). IsAtWork k node) (sym c.in_ok-relaxed.ensures.core) c.requires in
+    let sound = subst IsSound (sym c.in_ok-relaxed.ensures.core) c.is_sound.ensures.sound in
+    let kept = subst (λ (k : CoreState). IsSoundPool k.pool) (sym c.in_ok-relaxed.ensures.core) c.is_sound.ensures.pool in
+    let formed = subst (λ (k : CoreState). IsWellFormed k.program) (sym c.in_ok-relaxed.ensures.core) c.is_sound.ensures.formed in
+    let long = work_long core node formed at in
+    let t = tells core at sound kept formed in
+    let r = subst (IsRelaxedOf core) c.in-Empty.is c.in_ok-relaxed.ensures.relaxed in
+    subst (HasNoImproving (reduced_of core) (held_of core)) (ap (λ (g : Region). g.box) at.region) (t.empty r)
+
+pub returns-in-Bound-clause-later : goal.returns-in-Bound-clause-later
+returns-in-Bound-clause-later c =
+    let core = c.relaxed.new.self.core in
+    let node = c.args.node.now in
+    subst (λ (k : CoreState). IsLaterAt k node c.offer_whole.new.core c.raise.new.node) c.in_ok-relaxed.ensures.core (later_at_further core core c.offer_whole.new.core node c.raise.new.node c.raise.new.node c.raise.ensures.later c.offer_whole.ensures.later)
+
+pub returns-in-Bound-clause-region : goal.returns-in-Bound-clause-region
+returns-in-Bound-clause-region c =
+    let core = c.relaxed.new.self.core in
+    let node = c.args.node.now in
+    c.offer_whole.ensures.region ∙ ap (region_of core.tree) c.raise.ensures.node ∙ ap (λ (k : CoreState). region_of k.tree node) c.in_ok-relaxed.ensures.core
+
+pub returns-in-Bound-clause-touched : goal.returns-in-Bound-clause-touched
+returns-in-Bound-clause-touched c = ap (λ (k : CoreState). k.touched) c.offer_whole.ensures.frame ∙ ap (λ (k : CoreState). k.touched) c.in_ok-relaxed.ensures.core
+
+pub returns-in-Bound-clause-bounded : goal.returns-in-Bound-clause-bounded
+returns-in-Bound-clause-bounded c =
+    let core = c.relaxed.new.self.core in
+    let node = c.args.node.now in
+    let at = subst (λ (k : CoreState). IsAtWork k node) (sym c.in_ok-relaxed.ensures.core) c.requires in
+    let sound = subst IsSound (sym c.in_ok-relaxed.ensures.core) c.is_sound.ensures.sound in
+    let kept = subst (λ (k : CoreState). IsSoundPool k.pool) (sym c.in_ok-relaxed.ensures.core) c.is_sound.ensures.pool in
+    let formed = subst (λ (k : CoreState). IsWellFormed k.program) (sym c.in_ok-relaxed.ensures.core) c.is_sound.ensures.formed in
+    let new = c.offer_whole.new.core in
+    let r = subst (IsRelaxedOf core) c.in-Bound.is c.in_ok-relaxed.ensures.relaxed in
+    let tried = subst (IsTried core.program (held_of new)) c.as_slice.ensures.value (subst (λ (k : CoreState). IsTried k.program (held_of new) c.as_slice.result.now) c.offer_whole.ensures.frame c.offer_whole.ensures.tried) in
+    subst (λ (k : CoreState). IsFound k (box_of k.tree c.raise.new.node) c.raise.new.node.bound (record { point = Some c.in-Bound.point; mark = None })) (sym c.offer_whole.ensures.frame)
+    (least_found core new.tree new.incumbent node c.raise.new.node at sound kept formed (c.offer_whole.ensures.region ∙ ap (region_of core.tree) c.raise.ensures.node) c.in-Bound.point.items c.in-Bound.bound (record { point = Some c.in-Bound.point; mark = None }) refl refl r c.raise.ensures.raised.plain tried)
+
+pub returns-in-Falls-clause-later : goal.returns-in-Falls-clause-later
+returns-in-Falls-clause-later c =
+    let core = c.relaxed.new.self.core in
+    let node = c.args.node.now in
+    subst (λ (k : CoreState). IsLaterAt k node c.offer_whole-in-Falls.new.core c.args.node.now) c.in_ok-relaxed.ensures.core c.offer_whole-in-Falls.ensures.later
+
+pub returns-in-Falls-clause-region : goal.returns-in-Falls-clause-region
+returns-in-Falls-clause-region c =
+    let core = c.relaxed.new.self.core in
+    let node = c.args.node.now in
+    c.offer_whole-in-Falls.ensures.region ∙ ap (λ (k : CoreState). region_of k.tree node) c.in_ok-relaxed.ensures.core
+
+pub returns-in-Falls-clause-touched : goal.returns-in-Falls-clause-touched
+returns-in-Falls-clause-touched c = ap (λ (k : CoreState). k.touched) c.offer_whole-in-Falls.ensures.frame ∙ ap (λ (k : CoreState). k.touched) c.in_ok-relaxed.ensures.core
+
+pub returns-in-Falls-clause-bounded : goal.returns-in-Falls-clause-bounded
+returns-in-Falls-clause-bounded c =
+    let core = c.relaxed.new.self.core in
+    let node = c.args.node.now in
+    let at = subst (λ (k : CoreState). IsAtWork k node) (sym c.in_ok-relaxed.ensures.core) c.requires in
+    let sound = subst IsSound (sym c.in_ok-relaxed.ensures.core) c.is_sound.ensures.sound in
+    let kept = subst (λ (k : CoreState). IsSoundPool k.pool) (sym c.in_ok-relaxed.ensures.core) c.is_sound.ensures.pool in
+    let formed = subst (λ (k : CoreState). IsWellFormed k.program) (sym c.in_ok-relaxed.ensures.core) c.is_sound.ensures.formed in
+    let new = c.offer_whole-in-Falls.new.core in
+    let r = subst (IsRelaxedOf core) c.in-Falls.is c.in_ok-relaxed.ensures.relaxed in
+    let tried = subst (IsTried core.program (held_of new)) c.as_slice-in-Falls.ensures.value (subst (λ (k : CoreState). IsTried k.program (held_of new) c.as_slice-in-Falls.result.now) c.offer_whole-in-Falls.ensures.frame c.offer_whole-in-Falls.ensures.tried) in
+    subst (λ (k : CoreState). IsFound k (box_of k.tree c.args.node.now) c.args.node.now.bound (record { point = Some c.in-Falls.point; mark = None })) (sym c.offer_whole-in-Falls.ensures.frame)
+    (falling_found core new.tree new.incumbent node c.args.node.now at sound kept formed (c.offer_whole-in-Falls.ensures.region) c.in-Falls.point.items (record { point = Some c.in-Falls.point; mark = None }) refl refl r tried)
+
+pub returns-in-Unsolved-clause-later : goal.returns-in-Unsolved-clause-later
+returns-in-Unsolved-clause-later c =
+    let core = c.relaxed.new.self.core in
+    let node = c.args.node.now in
+    subst (λ (k : CoreState). IsLaterAt k node c.offer_if.new.core c.args.node.now) c.in_ok-relaxed.ensures.core c.offer_if.ensures.later
+
+pub returns-in-Unsolved-clause-region : goal.returns-in-Unsolved-clause-region
+returns-in-Unsolved-clause-region c =
+    let core = c.relaxed.new.self.core in
+    let node = c.args.node.now in
+    c.offer_if.ensures.region ∙ ap (λ (k : CoreState). region_of k.tree node) c.in_ok-relaxed.ensures.core
+
+pub returns-in-Unsolved-clause-touched : goal.returns-in-Unsolved-clause-touched
+returns-in-Unsolved-clause-touched c = ap (λ (k : CoreState). k.touched) c.offer_if.ensures.frame ∙ ap (λ (k : CoreState). k.touched) c.in_ok-relaxed.ensures.core
+
+pub returns-in-Unsolved-clause-bounded : goal.returns-in-Unsolved-clause-bounded
+returns-in-Unsolved-clause-bounded c =
+    let core = c.relaxed.new.self.core in
+    let node = c.args.node.now in
+    let at = subst (λ (k : CoreState). IsAtWork k node) (sym c.in_ok-relaxed.ensures.core) c.requires in
+    let sound = subst IsSound (sym c.in_ok-relaxed.ensures.core) c.is_sound.ensures.sound in
+    let kept = subst (λ (k : CoreState). IsSoundPool k.pool) (sym c.in_ok-relaxed.ensures.core) c.is_sound.ensures.pool in
+    let formed = subst (λ (k : CoreState). IsWellFormed k.program) (sym c.in_ok-relaxed.ensures.core) c.is_sound.ensures.formed in
+    let new = c.offer_if.new.core in
+    let r = subst (IsRelaxedOf core) c.in-Unsolved.is c.in_ok-relaxed.ensures.relaxed in
+    let tried = subst (λ (k : CoreState). IfSome c.in-Unsolved.point (λ v. IsTried k.program (held_of new) v.items)) c.offer_if.ensures.frame c.offer_if.ensures.tried in
+    subst (λ (k : CoreState). IsFound k (box_of k.tree c.args.node.now) c.args.node.now.bound (record { point = c.in-Unsolved.point; mark = Some c.in-Unsolved.mark })) (sym c.offer_if.ensures.frame)
+    (unsolved_found core new.tree new.incumbent node c.args.node.now at sound kept formed (c.offer_if.ensures.region) (λ v. v.items) c.in-Unsolved.point c.in-Unsolved.mark (record { point = c.in-Unsolved.point; mark = Some c.in-Unsolved.mark }) refl refl r.0 r.1 tried)
+
+pub offer_whole-requires-clause-values : goal.offer_whole-requires-clause-values
+offer_whole-requires-clause-values c =
+    let core = c.relaxed.new.self.core in
+    let node = c.args.node.now in
+    let at = subst (λ (k : CoreState). IsAtWork k node) (sym c.in_ok-relaxed.ensures.core) c.requires in
+    let formed = subst (λ (k : CoreState). IsWellFormed k.program) (sym c.in_ok-relaxed.ensures.core) c.is_sound.ensures.formed in
+    let r = subst (IsRelaxedOf core) c.in-Bound.is c.in_ok-relaxed.ensures.relaxed in
+    ap length c.as_slice.ensures.value ∙ point_long core core.tree.work.box c.in-Bound.point.items r.optimal.is_point ∙ work_long core node formed at
+
+pub offer_whole-requires-in-Falls-clause-values : goal.offer_whole-requires-in-Falls-clause-values
+offer_whole-requires-in-Falls-clause-values c =
+    let core = c.relaxed.new.self.core in
+    let node = c.args.node.now in
+    let at = subst (λ (k : CoreState). IsAtWork k node) (sym c.in_ok-relaxed.ensures.core) c.requires in
+    let formed = subst (λ (k : CoreState). IsWellFormed k.program) (sym c.in_ok-relaxed.ensures.core) c.is_sound.ensures.formed in
+    let r = subst (IsRelaxedOf core) c.in-Falls.is c.in_ok-relaxed.ensures.relaxed in
+    ap length c.as_slice-in-Falls.ensures.value ∙ point_long core core.tree.work.box c.in-Falls.point.items r.is_point ∙ work_long core node formed at
+
+pub offer_if-requires-clause-values : goal.offer_if-requires-clause-values
+offer_if-requires-clause-values c =
+    let core = c.relaxed.new.self.core in
+    let node = c.args.node.now in
+    let at = subst (λ (k : CoreState). IsAtWork k node) (sym c.in_ok-relaxed.ensures.core) c.requires in
+    let formed = subst (λ (k : CoreState). IsWellFormed k.program) (sym c.in_ok-relaxed.ensures.core) c.is_sound.ensures.formed in
+    let r = subst (IsRelaxedOf core) c.in-Unsolved.is c.in_ok-relaxed.ensures.relaxed in
+    as_long (λ v. v.items) (length core.tree.work.box) (columns core.program) c.in-Unsolved.point (work_long core node formed at) (long_if (λ v. v.items) core core.tree.work.box c.in-Unsolved.point r.1)

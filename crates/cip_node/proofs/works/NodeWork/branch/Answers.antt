@@ -1,0 +1,54 @@
+use Rattle.std.proofs.Common.{◌≡◌, ◌+◌, false, true, ◌∙◌, sym, ap, subst, arith, to_z, of_z}
+use mir.Syntax.{w128}
+use Rattle.std.proofs.lemmas.Int.{ints}
+use Rattle.cip_problem.specs.Log.{Split, Closed, matters}
+use Rattle.cip_tree.specs.Nodes.{region_of}
+use Rattle.cip_domain.specs.Changes.{Region}
+use Rattle.cip_core.specs.CoreStates.{CoreState, reduced_of, held_of}
+use Rattle.cip_core.specs.KeptNodes.{farthest}
+use Rattle.cip_core.specs.SplitPlaces.{IsSplitPlace}
+use Rattle.cip_core.specs.Steps.{HasLeft}
+use Rattle.cip_core.proofs.CoreSteps.{work_long}
+use Rattle.cip_node.specs.Bounding.{point_of, IsSplitBy}
+use Rattle.cip_node.specs.NodeEnds.{HasEnded}
+use Rattle.cip_node.specs.declared.ends.NodeEnd.TheVariants as by
+use Rattle.cip_node.proofs.EndLaws.{pruned_ended, halved_ended}
+use Rattle.cip_node.proofs.Ruled.{core_place, place_within}
+use Rattle.cip_node.proofs.works.NodeWork.branch.Goals as goal
+
+pub split-requires-clause-place : goal.split-requires-clause-place
+split-requires-clause-place c =
+    let core = c.args.self.now.core in
+    let node = c.args.node in
+    let at = c.in-Some.field-0.at in
+    let column = c.in-Some.field-0.col in
+    let e : to_z w128 (of_z w128 at) ≡ at = omega (arith, ints) in
+    let place = core_place core node (point_of c.args.found.now) column at c.is_sound.ensures.formed c.requires.up.0 c.requires.open_.full.region c.in-Some.ensures in
+    (c.requires.up.1, place_within (reduced_of core).integral (region_of core.tree node) (farthest core.tree.ids + 1) column at place, subst (IsSplitPlace (reduced_of core).integral (region_of core.tree node) (farthest core.tree.ids + 1) column) (sym e) place)
+
+pub returns-then-not-matters-clause-ended : goal.returns-then-not-matters-clause-ended
+returns-then-not-matters-clause-ended c =
+    let core = c.args.self.now.core in
+    let node = c.args.node in
+    let passed : matters (held_of core) node.bound ≡ false = sym (c.matters.ensures ∙ ap (λ h. matters h c.bound.result) c.held_cost.ensures ∙ ap (matters (held_of core)) c.bound.ensures) ∙ c.if-not-matters.true in
+    subst (λ (k : CoreState). HasEnded core k node c.args.found.now.mark by.Pruned) (sym c.close_pruned.ensures.frame)
+    (pruned_ended core c.close_pruned.new.self.tree node c.args.found.now c.requires.found (subst (λ (k : CoreState). HasLeft core k node Closed) c.close_pruned.ensures.frame c.close_pruned.ensures.left) passed)
+
+pub returns-clause-ended : goal.returns-clause-ended
+returns-clause-ended c =
+    let core = c.args.self.now.core in
+    let node = c.args.node in
+    let at = c.in-Some.field-0.at in
+    let column = c.in-Some.field-0.col in
+    let low = c.in_ok-low-in-Some.low in
+    let high = c.in_ok-low-in-Some.high in
+    let e : to_z w128 (of_z w128 at) ≡ at = omega (arith, ints) in
+    let matter : matters (held_of core) node.bound ≡ true = sym (c.matters.ensures ∙ ap (λ h. matters h c.bound.result) c.held_cost.ensures ∙ ap (matters (held_of core)) c.bound.ensures) ∙ c.if-not-matters.false in
+    let rule = subst (λ (r : Region). IsSplitBy (reduced_of core).integral r (point_of c.args.found.now) column at) c.requires.open_.full.region c.in-Some.ensures in
+    let left = subst (λ z. HasLeft core c.split.new.self node (Split column z low high)) e c.in_ok-low-in-Some.ensures.split in
+    subst (λ (k : CoreState). HasEnded core k node c.args.found.now.mark (by.Split low high)) (sym c.in_ok-low-in-Some.ensures.frame)
+    (halved_ended core c.split.new.self.tree node c.args.found.now c.requires.found column at low high (subst (λ (k : CoreState). HasLeft core k node (Split column at low high)) c.in_ok-low-in-Some.ensures.frame left) matter rule)
+
+pub place_by-requires-clause-columns : goal.place_by-requires-clause-columns
+place_by-requires-clause-columns c =
+    work_long c.args.self.now.core c.args.node c.is_sound.ensures.formed (record { up = c.requires.up.0; region = c.requires.open_.full.region })

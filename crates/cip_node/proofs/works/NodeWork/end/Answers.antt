@@ -1,0 +1,16 @@
+use Rattle.std.proofs.Common.{◌≡◌, subst}
+use Rattle.cip_tree.specs.Nodes.{box_of}
+use Rattle.cip_node.specs.Looking.{IsLook}
+use Rattle.cip_node.proofs.EndLaws.{none_kept, emptied}
+use Rattle.cip_node.proofs.Looked.{look_empty}
+use Rattle.cip_node.proofs.works.NodeWork.end.Goals as goal
+
+pub close_empty-requires-clause-empty : goal.close_empty-requires-clause-empty
+close_empty-requires-clause-empty c = look_empty c.args.self.now.core c.args.node (subst (IsLook c.args.self.now.core c.args.node) c.in-Empty.is c.requires.look)
+
+pub returns-in-Empty-clause-ended : goal.returns-in-Empty-clause-ended
+returns-in-Empty-clause-ended c =
+    let core = c.args.self.now.core in
+    let left = c.close_empty.ensures.left in
+    emptied core c.close_empty.new.self c.args.node left
+    (none_kept core c.close_empty.new.self (box_of core.tree c.args.node) left.later (look_empty core c.args.node (subst (IsLook core c.args.node) c.in-Empty.is c.requires.look)))

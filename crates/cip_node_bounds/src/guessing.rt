@@ -1,0 +1,82 @@
+//! What a basis that is guessed shows of the linear program of a node.
+ghost use Rattle.std.specs.Prelude.{◌≡◌, ◌≤◌, map, length, Option, IfOk, IfSome};
+ghost use Rattle.cip_problem.specs.WellFormed.{columns};
+ghost use Rattle.cip_problem.specs.Program.{Row};
+ghost use Rattle.cip_node_bounds.specs.NodeRows.{usable_rows};
+ghost use Rattle.cip_node_bounds.specs.Relaxing.{IsRelaxed};
+
+use crate::relaxed::Relaxed;
+use crate::rows::UsableRows;
+use cip_basis::{Basis, Problem, Shown, show};
+use cip_cert::Scratch;
+use cip_dictionary::Stand;
+use cip_guess::Standing;
+use cip_lin::Bounds;
+use cip_model::Program;
+use cip_rows::RowPool;
+use cip_simplex::Start;
+use std::alloc::{AllocError, Global};
+
+/// What a basis that is guessed shows of the linear program of a node: a point of least cost and that cost with the
+/// constant, or that there is no point; none where it shows nothing.
+pub(crate) fn shown_by_guess(
+    alloc: Global,
+    basis: &mut Basis,
+    program: &Program,
+    pool: &RowPool,
+    usable: &UsableRows<'_>,
+    bounds: &Bounds,
+    scratch: &mut Scratch,
+) -> Result<Option<Relaxed>, AllocError>
+    requires columns { length bounds.now ≡ columns program.now }
+    requires pool { length bounds.now ≡ pool.now.columns }
+    requires others { map (λ row. row.now) usable.now.rows.items ≡ usable_rows bounds.now pool.now.rows }
+    requires room { length bounds.now ≤ length scratch.old.row.entries }
+    ensures relaxed { (cutoff : Option Row) → IfOk result (λ found. IfSome found (IsRelaxed program.now
+        (record { own = program.now.rows; pool = pool.now.rows; cutoff = cutoff }) bounds.now
+        (length scratch.old.row.entries))) }
+    ensures room { length scratch.new.row.entries ≡ length scratch.old.row.entries }
+{
+    let _columns = program.columns();
+    let problem = Problem {
+        own: program.rows(),
+        others: usable.rows.as_slice(),
+        ids: usable.ids.as_slice(),
+        pool: pool.rows(),
+        whole: program.whole(),
+        bounds,
+        costs: program.costs(),
+    };
+    match show(alloc, basis, &problem, scratch)? {
+        Some(Shown::Optimal { point, cost }) => match program.constant().add(cost) {
+            Ok(bound) => Ok(Some(Relaxed::Bound { point, bound })),
+            Err(_) => Ok(None),
+        },
+        Some(Shown::Empty) => Ok(Some(Relaxed::Empty)),
+        None => Ok(None),
+    }
+}
+
+/// Where a variable is to stand, `None` where it is to be basic.
+fn stand_of(standing: Standing) -> Option<Stand> {
+    match standing {
+        Standing::Basic => None,
+        Standing::Low => Some(Stand::Low),
+        Standing::High => Some(Stand::High),
+        Standing::Zero => Some(Stand::Zero),
+    }
+}
+
+/// The start at the basis, of so many variables. `Err` where memory was refused.
+pub(crate) fn start_at(
+    alloc: Global,
+    basis: &Basis,
+    variables: usize,
+) -> Result<Start, AllocError> {
+    let mut standing = Vec::with_capacity(alloc, variables)?;
+    for number in 0..variables {
+        let variable = u32::try_from(number).unwrap_or(u32::MAX);
+        standing.push(stand_of(basis.standing(variable)))?;
+    }
+    Ok(Start::new(standing))
+}

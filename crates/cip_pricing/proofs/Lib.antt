@@ -1,0 +1,9 @@
+pub mod Closing
+pub mod Masters
+pub mod Mixing
+pub mod Parts
+pub mod Picked
+pub mod Rests
+pub mod Shown
+pub mod Trees
+pub mod Tried

@@ -1,0 +1,2 @@
+pub mod RowReading
+pub mod SingleRows

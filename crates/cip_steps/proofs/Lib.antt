@@ -1,0 +1,4 @@
+pub mod Recosted
+pub mod RowTermsKept
+pub mod Ruled
+pub mod Singled

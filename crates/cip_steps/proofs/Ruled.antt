@@ -1,0 +1,36 @@
+-- Steps of the rules.
+use Rattle.std.proofs.Common.{◌≡◌, ℕ, zero, suc, ◌<◌, List, [], ◌∷◌, length, Some, slice_get, refl, sym, subst, arith}
+use Rattle.cip_problem.specs.Program.{Row, Program}
+use Rattle.cip_reductions.specs.NarrowedPrograms.{IsExactStep, IsInfeasible, with_row}
+use Rattle.cip_reductions.specs.RowSteps.{HoldsInAll, HoldsNowhere}
+use Rattle.cip_problem.specs.Program.{no_row}
+use Rattle.cip_reductions.proofs.Pairing.{exact_self, exact_after}
+use Rattle.cip_reductions.proofs.RowSteps.{dropped, broken, shifted}
+use Rattle.cip_row_reading.specs.RowReading.{IsLeftRow}
+
+some_row : (rows : List Row) (number : ℕ) → number < length rows → (row : Row) × (slice_get rows number ≡ Some row)
+some_row [] number h = absurd (omega (arith, h))
+some_row (r ∷ rs) zero h = (r, refl)
+some_row (r ∷ rs) (suc number) h = some_row rs number (omega (arith, h))
+
+pub dropped_by : (program changed : Program) (number : ℕ) → number < length program.rows → ((row : Row) → slice_get program.rows number ≡ Some row → HoldsInAll program.bounds row) → changed ≡ with_row program number no_row → IsExactStep program changed
+dropped_by program changed number i f e =
+    let r = some_row program.rows number i in
+    subst (λ p. IsExactStep program p) (sym e) (dropped program number r.0 r.1 (f r.0 r.1))
+
+pub broken_by : (program : Program) (number : ℕ) → number < length program.rows → ((row : Row) → slice_get program.rows number ≡ Some row → HoldsNowhere program.bounds row) → IsInfeasible program
+broken_by program number i f = let r = some_row program.rows number i in broken program number r.0 r.1 (f r.0 r.1)
+
+pub stays : (program : Program) → IsExactStep program program
+stays program = exact_self program
+
+pub cleaned_by : (program changed : Program) (number : ℕ) (old new : Row) → slice_get program.rows number ≡ Some old → IsLeftRow program.bounds old new → changed ≡ with_row program number new → IsExactStep program changed
+cleaned_by program changed number old new h l e = subst (λ p. IsExactStep program p) (sym e) (shifted program number old new h l.shifted)
+
+pub follows : (first second third : Program) → IsExactStep first second → IsExactStep second third → IsExactStep first third
+follows first second third a b = exact_after first second third a b
+
+-- what rows come to by their extents, and steps one after another
+pub ruleset by_extent = (dropped_by, broken_by, stays)
+
+pub ruleset chains = (stays, follows)

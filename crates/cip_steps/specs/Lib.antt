@@ -1,0 +1,3 @@
+pub mod DraftInside
+pub mod DraftParts
+pub mod RuleEnds
