@@ -1,9 +1,9 @@
 -- A row that a check accepts is valid in the box in work, and the pool may have it.
-use Rattle.std.proofs.Common.{◌≡◌, Bool, true, false, cond, List, All, Option, None, Some, arith, refl, sym, subst, true≢false}
+use Rattle.std.proofs.Common.{◌≡◌, Bool, true, false, cond, List, length, All, Option, None, Some, arith, refl, sym, subst, true≢false}
 use Rattle.cip_rational.specs.Rational.{ℚ, zeroℚ, ◌-ℚ◌}
 use Rattle.cip_rational.specs.Range.{difference_overflows}
 use Rattle.cip_rational.proofs.Rational.Order.{≤ℚ_of_lt}
-use Rattle.cip_problem.specs.Program.{Program}
+use Rattle.cip_problem.specs.Program.{Sides, Program}
 use Rattle.cip_problem.specs.Points.{IsSatisfied}
 use Rattle.cip_problem.specs.Activity.{StandsBelow}
 use Rattle.cip_problem.specs.WellFormed.{IsWellFormed, columns}
@@ -21,6 +21,8 @@ use Rattle.cip_tree.specs.Nodes.{TakenNode, shown}
 use Rattle.cip_core.specs.CoreStates.{CoreState, reduced_of, held_of, all_lent, IsSound, IsAtWork}
 use Rattle.cip_core.specs.CutoffRow.{cutoff_of}
 use Rattle.cip_core.specs.Later.{IsLaterAt}
+use Rattle.cip_core.specs.RowsAsked.{scope_of}
+use Rattle.cip_core.proofs.CoreSteps.{work_long}
 use Rattle.cip_core.proofs.HeldAfter.{itself}
 use Rattle.cip_core.proofs.Relations.{narrower_itself}
 
@@ -33,9 +35,9 @@ cutoff_there : (program : Program) (held : Option ℚ) (point : List ℚ) → Is
 cutoff_there program None point i = record { above = tt; below = tt }
 cutoff_there program (Some cost) point i = cutoff_case program cost point (difference_overflows cost program.constant) (cutoff_satisfied program cost point (≤ℚ_of_lt i.cheaper))
 
--- what is lent to checks is right for the box in work
-pub lent_there : (core : CoreState) → IsSound core → IsLentOf (reduced_of core) (held_of core) core.tree.work.box (all_lent core)
-lent_there core s = record { own = refl; pool = s.valid; cutoff = λ point i w. cutoff_there (reduced_of core) (held_of core) point i }
+-- what is lent to checks is right for each box
+pub lent_there : (core : CoreState) (box : List Sides) → IsSound core → IsLentOf (reduced_of core) (held_of core) box (all_lent core)
+lent_there core box s = record { own = refl; pool = s.valid; cutoff = λ point i w. cutoff_there (reduced_of core) (held_of core) point i }
 
 -- the cutoff row stands on the program's columns
 cutoff_stands : (program : Program) (held : Option ℚ) → StandsBelow (columns program) (cutoff_of program held).terms
@@ -50,6 +52,11 @@ lent_fits core s kept formed = record {
   cutoff = cutoff_stands (reduced_of core) (held_of core);
 }
 
+-- the box in which a row is derived has the program's columns
+pub scope_long : (core : CoreState) (node : TakenNode) (local : Bool) → IsWellFormed (reduced_of core) → IsAtWork core node → length (scope_of core local) ≡ columns (reduced_of core)
+scope_long core node true formed w = work_long core node formed w
+scope_long core node false formed w = formed.bounds
+
 -- a core with another pool
 abbrev pub with_pool : CoreState → Pool → CoreState
 with_pool core pool = record core { pool = pool; touched = true }
@@ -57,16 +64,16 @@ with_pool core pool = record core { pool = pool; touched = true }
 same_pool : (core : CoreState) (pool : Pool) → pool ≡ core.pool → IsSound core → IsSound (with_pool core pool)
 same_pool core pool e s = subst (λ p. IsSound (with_pool core p)) (sym e) (record { is_held = s.is_held; valid = s.valid; same = s.same; bare = λ u. absurd (true≢false u) })
 
-pub sound_added : (core : CoreState) (pool : Pool) (row : Inequality) (rests : Bool) (added : Added) → IsAdded core.pool (row_of row) core.tree.work.box rests pool added → ArePoolRowsValid (reduced_of core) (held_of core) (with_row core.pool (row_of row) core.tree.work.box rests).rows → IsSound core → IsSound (with_pool core pool)
-sound_added core pool row rests (New id) a v s =
+pub sound_added : (core : CoreState) (pool : Pool) (row : Inequality) (box : List Sides) (rests : Bool) (added : Added) → IsAdded core.pool (row_of row) box rests pool added → ArePoolRowsValid (reduced_of core) (held_of core) (with_row core.pool (row_of row) box rests).rows → IsSound core → IsSound (with_pool core pool)
+sound_added core pool row box rests (New id) a v s =
     subst (λ p. IsSound (with_pool core p)) (sym a.3) (record {
       is_held = s.is_held;
       valid = v;
       same = s.same;
       bare = λ u. absurd (true≢false u);
     })
-sound_added core pool row rests (Known id) a v s = same_pool core pool a.1 s
-sound_added core pool row rests Full a v s = same_pool core pool a.2 s
+sound_added core pool row box rests (Known id) a v s = same_pool core pool a.1 s
+sound_added core pool row box rests Full a v s = same_pool core pool a.2 s
 
 pub sound_kept : (core : CoreState) (pool : Pool) → pool ≡ core.pool → IsSound core → IsSound (with_pool core pool)
 sound_kept = same_pool

@@ -1,5 +1,5 @@
 -- A side of a node in work is told, and taken where it is stronger.
-use Rattle.std.specs.Prelude.{◌≡◌, ℕ, ◌<◌, true, Some}
+use Rattle.std.specs.Prelude.{◌≡◌, ◌≢◌, ℕ, ◌<◌, true, Some}
 use Rattle.cip_rational.specs.Rational.{ℚ}
 use Rattle.cip_problem.specs.Box.{no_sides, sides_at}
 use Rattle.cip_problem.specs.WellFormed.{columns}
@@ -9,6 +9,7 @@ use Rattle.cip_domain.specs.Changes.{with_side, side_change}
 use Rattle.cip_domain.specs.Domain.{tightening}
 use Rattle.cip_domain.specs.Narrowing.{Meets}
 use Rattle.cip_domain.specs.declared.stores.Tightened.{Tightened}
+use Rattle.cip_domain.specs.declared.stores.Tightened.TheVariants.{Yes}
 use Rattle.cip_node_rules.specs.OpenColumns.{is_whole_at}
 use Rattle.cip_node_rules.specs.SplitRules.{AreNear}
 use Rattle.cip_tree.specs.Nodes.{TakenNode, region_of, box_of}
@@ -26,7 +27,7 @@ pub record IsSideTold (core : CoreState) (node : TakenNode) (column : ℕ) (side
       (λ point. Meets point (side_change column side value))
 
 -- what tightening that side came to: the node's region after it, and nothing else but the region in work and what was
--- touched is otherwise
+-- touched is otherwise; nor are these where the side was strong enough, or can't be so
 pub record IsSideTaken
     (old new : CoreState) (had has : TakenNode) (column : ℕ) (side : Side) (value : ℚ) (answer : Tightened) : Type 0
   where
@@ -35,3 +36,4 @@ pub record IsSideTaken
         ≡ region_after answer (region_of old.tree had) (side_change column side value)
     pub node : has ≡ record had { notes = has.notes }
     pub core : new ≡ record old { tree = record old.tree { work = new.tree.work }; touched = new.touched }
+    pub same : answer ≢ Yes → (new ≡ old) × (has ≡ had)

@@ -6,9 +6,10 @@ ghost use Rattle.cip_rows.specs.RowPools.{IsSoundPool};
 ghost use Rattle.cip_tree.specs.Entries.{entries_of};
 ghost use Rattle.cip_tree.specs.Moves.{IsLeastBound};
 ghost use Rattle.cip_tree.specs.Searched.{IsSearched};
-ghost use Rattle.cip_core.specs.CoreStates.{IsSound, held_of};
+ghost use Rattle.cip_cert.specs.Lent.{lent_of};
+ghost use Rattle.cip_core.specs.CoreStates.{IsSound, reduced_of, held_of, all_lent};
 
-use cip_cert::Scratch;
+use cip_cert::{Rows, Scratch};
 use cip_frac::Frac;
 use cip_incumbent::Incumbent;
 use cip_lin::{Bounds, Choices, Row};
@@ -94,6 +95,19 @@ impl<'a> Core<'a> {
         ensures { result.now ≡ self.now.tree.work.choices }
     {
         self.tree.choices()
+    }
+
+    /// What a check may cite: the program's rows, those of the pool, and the cutoff row.
+    pub fn rows(&self) -> Rows<'_>
+        ensures lent { lent_of result ≡ all_lent self.now }
+        ensures whole { result.whole.now ≡ (reduced_of self.now).integral }
+    {
+        Rows {
+            own: self.program.rows(),
+            pool: self.pool.rows(),
+            cutoff: &self.cutoff,
+            whole: self.program.whole(),
+        }
     }
 
     /// The point held.

@@ -3,27 +3,24 @@ use Rattle.std.proofs.Common.{◌≡◌, ℕ, ℤ, ◌+◌, ◌≤◌, true, fal
 use Rattle.std.specs.Prelude.{MatchResult}
 use Rattle.cip_rational.specs.Rational.{ℚ}
 use Rattle.cip_problem.specs.Program.{Sides}
-use Rattle.cip_problem.specs.Points.{IsFeasible}
-use Rattle.cip_problem.specs.Log.{End, Split, Closed, Parked, Node, AllFollow, matters}
+use Rattle.cip_problem.specs.Log.{End, Split, Closed, Parked, Node, matters}
 use Rattle.cip_cuts.specs.Improving.{HasNoImproving, IsImproving}
 use Rattle.cip_cuts.proofs.Improving.{fewer}
 use Rattle.cip_domain.specs.Changes.{Region}
 use Rattle.cip_leaves.specs.Leaf.{Leaf, IsPointOfLeaf, IsOnlyLeafOf}
-use Rattle.cip_leaves.specs.Searched.{first_node}
 use Rattle.cip_leaves.specs.WideNodes.{IsWideAs}
 use Rattle.cip_leaf.specs.LeafAnswers.{shown_as}
 use Rattle.cip_leaf.specs.declared.answers.Shown.{Shown}
-use Rattle.cip_model.specs.Rays.{IsShownRay}
 use Rattle.cip_node_bounds.specs.declared.relaxed.Mark.{Mark}
 use Rattle.cip_tree.specs.Nodes.{TakenNode, Nodes, region_of, box_of, shown}
 use Rattle.cip_core.specs.CoreStates.{CoreState, reduced_of, held_of, IsTakenUp}
 use Rattle.cip_core.specs.Later.{IsLater, IsNarrower, IsLaterAt}
-use Rattle.cip_core.specs.Steps.{parked_after, LeavesEntry, HasLeft, IsBack, IsTried}
+use Rattle.cip_core.specs.Steps.{parked_after, LeavesEntry, HasLeft, IsBack}
 use Rattle.cip_core.proofs.CoreSteps.{with_tree}
 use Rattle.cip_core.proofs.HeldAfter.{itself}
 use Rattle.cip_rows.specs.RowPools.{Pool}
 use Rattle.cip_core.proofs.Relations.{later_further, narrower_itself, narrower_further}
-use Rattle.cip_node.specs.Bounding.{IsMarkOf, IsAsGood, HasTried, point_of, IsFound, IsSplitBy}
+use Rattle.cip_node.specs.Bounding.{IsMarkOf, IsAsGood, point_of, IsFound, IsSplitBy}
 use Rattle.cip_node.specs.NodeEnds.{IsAside, IsEnd, HasEnded}
 use Rattle.cip_node.specs.declared.bounding.Found.{Found}
 use Rattle.cip_node.specs.declared.ends.NodeEnd.{NodeEnd}

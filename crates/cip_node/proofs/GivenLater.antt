@@ -1,5 +1,5 @@
 -- The bound that the log gave a node, after steps of its work.
-use Rattle.std.proofs.Common.{◌≡◌, Option, Some, sym, ap, ◌∙◌, subst}
+use Rattle.std.proofs.Common.{◌≡◌, Option, sym, ap, ◌∙◌}
 use Rattle.cip_rational.specs.Rational.{ℚ}
 use Rattle.cip_problem.specs.Log.{Node, node_of}
 use Rattle.cip_leaves.specs.Searched.{nodes_given}

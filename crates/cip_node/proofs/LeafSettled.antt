@@ -23,7 +23,7 @@ use Rattle.cip_incumbent.specs.declared.offers.Offered.{Offered}
 use Rattle.cip_search.specs.SearchState.{stay, IsStuck}
 use Rattle.cip_search.proofs.Members.{here}
 use Rattle.cip_search.proofs.Told.{given_node_of}
-use Rattle.cip_tree.specs.Nodes.{TakenNode, Nodes, region_in, node_changes, box_of, shown}
+use Rattle.cip_tree.specs.Nodes.{TakenNode, region_in, node_changes, box_of, shown}
 use Rattle.cip_tree.specs.Tracked.{IsWithin}
 use Rattle.cip_tree.proofs.Within.{within_changes}
 use Rattle.cip_core.specs.CoreStates.{CoreState, reduced_of, held_of, IsTakenUp}

@@ -1,7 +1,7 @@
 -- What the look of a node's box tells: a box without a whole value has no improving point.
-use Rattle.std.proofs.Common.{◌≡◌, inl, inr, Bool, false, List, Option, Some, refl, sym, ap, ◌∙◌, subst}
+use Rattle.std.proofs.Common.{◌≡◌, inl, inr, false, Some, sym, ap, ◌∙◌, subst}
 use Rattle.std.proofs.lemmas.Option.{slice_get-get_or}
-use Rattle.cip_rational.specs.Rational.{ℚ, numerator}
+use Rattle.cip_rational.specs.Rational.{numerator}
 use Rattle.cip_rational.proofs.Rational.Whole.{whole_is}
 use Rattle.cip_problem.specs.Program.{Program}
 use Rattle.cip_problem.specs.Box.{Between, sides_at}

@@ -1,5 +1,5 @@
 -- The choices of a leaf: for each semi-continuous column of the program, whether it is on.
-use Rattle.std.proofs.Common.{◌≡◌, inl, inr, ℕ, zero, suc, ◌+◌, ◌<◌, ◌≤◌, Bool, true, false, if◌then◌else◌, List, [], ◌∷◌, ◌++◌, take, get_or, length, Option, None, Some, slice_get, refl, sym, ap, ◌∙◌, subst, arith, true≢false}
+use Rattle.std.proofs.Common.{◌≡◌, inl, inr, ℕ, zero, suc, ◌+◌, ◌<◌, Bool, true, false, if◌then◌else◌, List, [], ◌∷◌, ◌++◌, take, get_or, length, Option, Some, slice_get, refl, sym, ap, ◌∙◌, subst, arith, true≢false}
 use Rattle.std.proofs.lemmas.Option.{same_Some, slice_get_past, none-some}
 use Rattle.std.proofs.lemmas.Bool.{cases_lt}
 use Rattle.cip_problem.specs.Program.{Sides, Choice, Plain, Open, Off, On, Program}

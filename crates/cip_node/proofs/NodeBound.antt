@@ -3,7 +3,7 @@ use Rattle.std.proofs.Common.{◌≡◌, ℕ, Bool, true, false, List, length, C
 use Rattle.std.proofs.lemmas.List.Elements.{All-contains}
 use Rattle.cip_rational.specs.Rational.{ℚ}
 use Rattle.cip_problem.specs.Program.{Sides, Row, Program}
-use Rattle.cip_problem.specs.WellFormed.{columns, IsWellFormed}
+use Rattle.cip_problem.specs.WellFormed.{IsWellFormed}
 use Rattle.cip_problem.proofs.Points.AtPlaces.{IsInBox-long}
 use Rattle.cip_linear.specs.LinearProgram.{IsPoint}
 use Rattle.cip_cuts.specs.Improving.{IsValidRow}
@@ -13,7 +13,7 @@ use Rattle.cip_search.proofs.Relaxed.{greater}
 use Rattle.cip_cert.specs.declared.rows.PoolRow.{PoolRow}
 use Rattle.cip_cert.specs.Lent.{KeptFits}
 use Rattle.cip_cert.specs.Resting.{valid_below, ArePoolRowsValid}
-use Rattle.cip_rows.specs.RowPools.{Pool, IsSoundPool}
+use Rattle.cip_rows.specs.RowPools.{IsSoundPool}
 use Rattle.cip_incumbent.specs.HeldPoint.{Holding}
 use Rattle.cip_domain.specs.Changes.{Region}
 use Rattle.cip_tree.specs.Nodes.{TakenNode, Nodes, region_of, box_of}

@@ -1,28 +1,23 @@
 -- A split by the rules is one that the tree can make: at a whole column it leaves a whole value on both sides of a near
 -- box, and else the column's choice is open.
-use Rattle.std.proofs.Common.{◌≡◌, inl, inr, ℕ, zero, suc, ◌+◌, ◌<◌, ◌≤◌, ◌^◌, ℤ, Bool, true, false, not, List, [], ◌∷◌, length, Option, None, Some, slice_get, refl, sym, ap, ◌∙◌, subst, arith, true≢false}
+use Rattle.std.proofs.Common.{◌≡◌, inl, inr, ℕ, zero, suc, ◌+◌, ◌<◌, ℤ, Bool, true, false, not, List, [], ◌∷◌, length, Option, None, Some, slice_get, refl, sym, ap, ◌∙◌, subst, arith, true≢false}
 use Rattle.std.proofs.lemmas.Bool.{and_parts}
-use Rattle.std.proofs.lemmas.Option.{same_Some, slice_get_within}
+use Rattle.std.proofs.lemmas.Option.{slice_get_within}
 use Rattle.cip_rational.specs.Rational.{ℚ}
 use Rattle.cip_problem.specs.Activity.{value_at}
 use Rattle.cip_problem.specs.Program.{Sides, Choice, Plain, Open, Off, On, Program}
 use Rattle.cip_problem.specs.Box.{sides_at, two_wholes_between}
 use Rattle.cip_problem.specs.Choices.{choice_at, is_open, AreStillOpen}
-use Rattle.cip_problem.specs.Log.{CanSplitAt}
 use Rattle.cip_problem.specs.WellFormed.{IsWellFormed}
 use Rattle.cip_lin.specs.ChoiceParts.{is_allowed}
 use Rattle.cip_domain.specs.Changes.{Region}
-use Rattle.cip_domain.specs.Halves.{CanHalve}
 use Rattle.cip_problem.specs.Log.{Node}
 use Rattle.cip_search.proofs.Members.{here}
-use Rattle.cip_tree.specs.Nodes.{TakenNode, Nodes, region_in, region_of, node_changes, shown}
+use Rattle.cip_tree.specs.Nodes.{TakenNode, region_in, region_of, node_changes, shown}
 use Rattle.cip_tree.proofs.Halving.{plain_stays}
-use Rattle.cip_tree.specs.Splitting.{IsSplitFault}
-use Rattle.cip_tree.specs.declared.splits.SplitFault.{SplitFault}
-use Rattle.cip_tree.specs.declared.splits.SplitFault.TheVariants.{NotWhole, Outside, NoMemory}
 use Rattle.cip_node_rules.specs.OpenChoices.{IsSettledBox, IsOpenBox}
 use Rattle.cip_node_rules.specs.OpenColumns.{is_whole_at, is_open_at, is_fractional}
-use Rattle.cip_node_rules.specs.SplitRules.{IsSplitRule, IsChoiceRule, IsNodeRule, LeavesBoth}
+use Rattle.cip_node_rules.specs.SplitRules.{IsSplitRule, IsChoiceRule, IsNodeRule}
 use Rattle.cip_node_rules.proofs.BothSides.{leave_both}
 use Rattle.cip_node.specs.Bounding.{IsSplitBy}
 use Rattle.cip_core.specs.KeptNodes.{farthest, IsNearBox}

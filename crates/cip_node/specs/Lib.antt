@@ -2,4 +2,5 @@ pub mod Bounding
 pub mod LeafValues
 pub mod Looking
 pub mod NodeEnds
+pub mod SameRows
 pub mod SolvedLeaves

@@ -6,6 +6,7 @@ ghost use Rattle.cip_core.specs.CoreStates.{held_of, IsAtWork};
 ghost use Rattle.cip_core.specs.Later.{IsLaterAt};
 ghost use Rattle.cip_core.specs.Steps.{IsTried};
 ghost use Rattle.cip_node.specs.Bounding.{IsRelaxedOf, IsBounded};
+ghost use Rattle.cip_node.specs.SameRows.{HasSameRows};
 
 use crate::works::NodeWork;
 use cip_core::Core;
@@ -83,7 +84,7 @@ impl<'a> NodeWork<'a> {
         ensures later { IsLaterAt self.old.core node.old self.new.core node.new }
         ensures bounded { IfOk result (IsBounded self.new.core node.new) }
         ensures region { region_of self.new.core.tree node.new ≡ region_of self.old.core.tree node.old }
-        ensures touched { self.new.core.touched ≡ self.old.core.touched }
+        ensures rows { HasSameRows self.old.core self.new.core }
     {
         self.core.is_sound();
         match self.relaxed(alloc, node)? {

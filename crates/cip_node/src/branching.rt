@@ -8,6 +8,7 @@ ghost use Rattle.cip_core.specs.Steps.{IsBack};
 ghost use Rattle.cip_node.specs.Bounding.{point_of, IsFound, IsSplitBy};
 ghost use Rattle.cip_node.specs.Looking.{IsOpenNode};
 ghost use Rattle.cip_node.specs.NodeEnds.{HasEnded};
+ghost use Rattle.cip_node.specs.SameRows.{HasSameRows};
 
 use crate::bounding::Found;
 use crate::ends::NodeEnd;
@@ -55,7 +56,7 @@ impl<'a> NodeWork<'a> {
         requires found { IsFound self.old.core (box_of self.old.core.tree node) node.bound found.now }
         ensures ended { MatchResult result (HasEnded self.old.core self.new.core node found.now.mark)
             (λ _. IsBack self.old.core self.new.core node.number given) }
-        ensures touched { self.new.core.touched ≡ self.old.core.touched }
+        ensures rows { HasSameRows self.old.core self.new.core }
     {
         if !matters(self.core.held_cost(), node.bound()) {
             self.core.close_pruned(node);

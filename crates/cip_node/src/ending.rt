@@ -3,6 +3,7 @@ ghost use Rattle.std.specs.Prelude.{◌≡◌, None, MatchResult};
 ghost use Rattle.cip_core.specs.Steps.{IsBack};
 ghost use Rattle.cip_node.specs.Looking.{CanWorkOn, IsLeafNode, IsOpenNode};
 ghost use Rattle.cip_node.specs.NodeEnds.{HasEnded};
+ghost use Rattle.cip_node.specs.SameRows.{HasSameRows};
 
 use crate::bounding::Bounded;
 use crate::ends::{NodeEnd, NodeRecord};
@@ -24,7 +25,7 @@ pub(crate) fn end_leaf(
     requires leaf { IsLeafNode core.old node }
     ensures ended { MatchResult result (HasEnded core.old core.new node None)
         (λ _. IsBack core.old core.new node.number node.bound) }
-    ensures touched { core.new.touched ≡ core.old.touched }
+    ensures rows { HasSameRows core.old core.new }
 {
     core.is_sound();
     match solve_leaf(alloc, core.program(), core.bounds(), core.choices()) {
@@ -50,7 +51,7 @@ impl<'a> NodeWork<'a> {
         ensures ended { MatchResult result
             (λ done. HasEnded self.old.core self.new.core node done.1.mark done.0)
             (λ _. IsBack self.old.core self.new.core node.number node.bound) }
-        ensures touched { self.new.core.touched ≡ self.old.core.touched }
+        ensures rows { HasSameRows self.old.core self.new.core }
     {
         let given = node.bound();
         let mut node = node;

@@ -1,15 +1,8 @@
 //! The leaf of a box.
 ghost use Rattle.std.specs.Prelude.{◌≡◌, length, IfOk};
-ghost use Rattle.cip_problem.specs.Wholes.{AllHaveWholes};
-ghost use Rattle.cip_problem.specs.WellFormed.{columns};
-ghost use Rattle.cip_problem.specs.Choices.{choice_at, is_on, AreStillOpen, made_on};
-ghost use Rattle.cip_problem.specs.Log.{Node};
-ghost use Rattle.cip_leaves.specs.Leaf.{IsLeafOf, IsOnlyLeafOf};
-ghost use Rattle.cip_leaf.specs.LeafAnswers.{IsLeafAnswer};
-ghost use Rattle.cip_tree.specs.Tracked.{IsWithin};
-ghost use Rattle.cip_node_rules.specs.OpenChoices.{IsSettledBox};
+ghost use Rattle.cip_problem.specs.Choices.{choice_at, is_on, made_on};
 ghost use Rattle.cip_node.specs.LeafValues.{least_above, least_values};
-ghost use Rattle.cip_node.specs.SolvedLeaves.{leaf_of};
+ghost use Rattle.cip_node.specs.SolvedLeaves.{HasOneLeaf, IsLeafThere};
 
 use cip_frac::Frac;
 use cip_leaf::{LeafAnswer, leaf};
@@ -84,15 +77,8 @@ pub(crate) fn solve_leaf(
     bounds: &Bounds,
     choices: &Choices,
 ) -> Result<Solved, AllocError>
-    requires wholes { AllHaveWholes program.now.integral bounds.now }
-    requires settled { IsSettledBox program.now.integral bounds.now choices.now }
-    requires within { IsWithin bounds.now program.now.bounds }
-    requires still_open { AreStillOpen program.now.choices choices.now }
-    requires columns { length bounds.now ≡ columns program.now }
-    ensures only { IfOk result (λ solved. (node : Node) → node.box ≡ bounds.now → node.choices ≡ choices.now
-        → IsOnlyLeafOf program.now node (leaf_of solved)) }
-    ensures leaf { IfOk result (λ solved. IsLeafOf program.now (leaf_of solved)) }
-    ensures answer { IfOk result (λ solved. IsLeafAnswer program.now (leaf_of solved) solved.answer) }
+    requires { HasOneLeaf program.now bounds.now choices.now }
+    ensures { IfOk result (IsLeafThere program.now bounds.now choices.now) }
 {
     let _columns = program.columns();
     let values = values_in(alloc, program.whole(), bounds.as_slice())?;

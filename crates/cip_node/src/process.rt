@@ -1,9 +1,9 @@
 //! The work on a node.
 ghost use Rattle.std.specs.Prelude.{◌≡◌, MatchResult};
-ghost use Rattle.cip_core.specs.Later.{IsLater};
-ghost use Rattle.cip_core.specs.Steps.{IsBack};
+ghost use Rattle.cip_core.specs.Steps.{IsBack, aged};
 ghost use Rattle.cip_node.specs.Looking.{CanWorkOn, IsLook};
 ghost use Rattle.cip_node.specs.NodeEnds.{HasEnded};
+ghost use Rattle.cip_node.specs.SameRows.{HasSameRows};
 
 use crate::ending::end_leaf;
 use crate::ends::{NodeEnd, NodeRecord};
@@ -26,7 +26,7 @@ impl<'a> NodeWork<'a> {
         ensures ended { MatchResult result
             (λ done. HasEnded self.old.core self.new.core node done.1.mark done.0)
             (λ _. IsBack self.old.core self.new.core node.number node.bound) }
-        ensures touched { self.new.core.touched ≡ self.old.core.touched }
+        ensures rows { HasSameRows self.old.core self.new.core }
     {
         match looked {
             Looked::Empty => {
@@ -53,6 +53,7 @@ impl<'a> NodeWork<'a> {
         ensures ended { MatchResult result
             (λ done. HasEnded self.old.core self.new.core node done.1.mark done.0)
             (λ _. IsBack self.old.core self.new.core node.number node.bound) }
+        ensures aged { self.new.core.pool ≡ aged self.old.core.pool }
         ensures touched { self.new.core.touched ≡ self.old.core.touched }
     {
         self.core.age();

@@ -4,6 +4,7 @@ ghost use Rattle.cip_tree.specs.Nodes.{region_of};
 ghost use Rattle.cip_core.specs.CoreStates.{IsAtWork};
 ghost use Rattle.cip_core.specs.Later.{IsLaterAt};
 ghost use Rattle.cip_node.specs.Bounding.{IsBounded};
+ghost use Rattle.cip_node.specs.SameRows.{HasSameRows};
 
 use crate::bounding::Bounded;
 use crate::works::NodeWork;
@@ -21,7 +22,7 @@ impl<'a> NodeWork<'a> {
         ensures later { IsLaterAt self.old.core node.now self.new.core node.now }
         ensures region { region_of self.new.core.tree node.now ≡ region_of self.old.core.tree node.now }
         ensures none { result ≡ false → self.new.core ≡ self.old.core }
-        ensures touched { self.new.core.touched ≡ self.old.core.touched }
+        ensures rows { HasSameRows self.old.core self.new.core }
     {
         let _ = node;
         let _ = bounded;
@@ -39,7 +40,7 @@ impl<'a> NodeWork<'a> {
         ensures later { IsLaterAt self.old.core node.old self.new.core node.new }
         ensures bounded { IfOk result (IsBounded self.new.core node.new) }
         ensures region { region_of self.new.core.tree node.new ≡ region_of self.old.core.tree node.old }
-        ensures touched { self.new.core.touched ≡ self.old.core.touched }
+        ensures rows { HasSameRows self.old.core self.new.core }
     {
         let mut last = self.bound(alloc, node)?;
         for _ in 0..MOST_ROUNDS {

@@ -2,6 +2,7 @@
 ghost use Rattle.std.specs.Prelude.{◌≡◌, None};
 ghost use Rattle.cip_core.specs.CoreStates.{IsAtWork};
 ghost use Rattle.cip_node.specs.NodeEnds.{HasEnded};
+ghost use Rattle.cip_node.specs.SameRows.{HasSameRows};
 ghost use Rattle.cip_node.specs.SolvedLeaves.{IsSolvedOf};
 
 use crate::ends::NodeEnd;
@@ -15,7 +16,7 @@ pub(crate) fn settle(core: &mut Core<'_>, node: Node, solved: Solved) -> NodeEnd
     requires at_work { IsAtWork core.old node }
     requires solved { IsSolvedOf core.old node solved }
     ensures ended { HasEnded core.old core.new node None result }
-    ensures touched { core.new.touched ≡ core.old.touched }
+    ensures rows { HasSameRows core.old core.new }
 {
     core.is_sound();
     let Solved { values, on, answer } = solved;

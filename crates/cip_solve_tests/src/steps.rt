@@ -46,7 +46,7 @@ fn is_added(core: &mut Core<'_>, node: &Node, combo: &Combo) -> bool
 {
     match core.enter(node) {
         Ok(true) => matches!(
-            core.add_row(node, combo, true),
+            core.add_row(node, combo, true, true),
             Ok(Asked::Told(Added::New(0)))
         ),
         _ => false,

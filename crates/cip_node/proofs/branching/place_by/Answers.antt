@@ -1,4 +1,4 @@
-use Rattle.std.proofs.Common.{◌≡◌, ◌∙◌, length, sym, ap, subst}
+use Rattle.std.proofs.Common.{◌∙◌, length, sym, ap}
 use Rattle.cip_problem.specs.Program.{Program}
 use Rattle.cip_node.proofs.branching.place_by.Goals as goal
 

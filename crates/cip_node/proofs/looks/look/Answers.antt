@@ -1,9 +1,9 @@
-use Rattle.std.proofs.Common.{◌≡◌, ◌∙◌, inl, length, sym, ap, subst}
+use Rattle.std.proofs.Common.{◌∙◌, inl, length, sym, ap, subst}
 use Rattle.cip_problem.specs.Program.{Program}
 use Rattle.cip_tree.specs.Nodes.{region_of}
 use Rattle.cip_tree.specs.Walks.{IsEntered}
 use Rattle.cip_node_rules.specs.BoxLooks.{IsBoxLook}
-use Rattle.cip_core.specs.CoreStates.{reduced_of, IsAtWork}
+use Rattle.cip_core.specs.CoreStates.{IsAtWork}
 use Rattle.cip_core.proofs.CoreSteps.{work_long}
 use Rattle.cip_node.proofs.Looked.{look_entered}
 use Rattle.cip_node.proofs.looks.look.Goals as goal

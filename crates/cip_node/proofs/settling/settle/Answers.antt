@@ -1,11 +1,11 @@
 use Rattle.std.proofs.Common.{◌≡◌, None, length, ◌∙◌, sym, ap, subst}
-use Rattle.cip_problem.specs.Log.{Closed, Parked}
+use Rattle.cip_problem.specs.Log.{Parked}
 use Rattle.cip_leaf.specs.LeafAnswers.{IsBest, IsLeafAnswer, shown_as}
 use Rattle.cip_problem.specs.Points.{IsFeasible}
 use Rattle.cip_model.specs.Rays.{IsShownRay}
 use Rattle.cip_model.specs.Verdicts.{verdict_of}
 use Rattle.cip_tree.specs.Nodes.{box_of, shown}
-use Rattle.cip_core.specs.CoreStates.{CoreState, reduced_of, held_of}
+use Rattle.cip_core.specs.CoreStates.{CoreState, held_of}
 use Rattle.cip_core.specs.Steps.{HasLeft, IsTried}
 use Rattle.cip_core.proofs.CoreSteps.{with_tree}
 use Rattle.cip_node.specs.NodeEnds.{HasEnded}

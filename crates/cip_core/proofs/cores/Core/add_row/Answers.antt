@@ -1,4 +1,4 @@
-use Rattle.std.proofs.Common.{◌≡◌, ◌∙◌, List, Option, Some, length, Ok, sym, ap, subst, arith}
+use Rattle.std.proofs.Common.{◌≡◌, ◌∙◌, List, Option, Some, length, Ok, if◌then◌else◌, sym, ap, subst, arith}
 use Rattle.cip_problem.specs.Program.{Row}
 use Rattle.cip_problem.specs.WellFormed.{columns}
 use Rattle.cip_cuts.specs.Cuts.{row_of}
@@ -12,10 +12,9 @@ use Rattle.cip_rows.proofs.ValidPools.{derived_added}
 use Rattle.cip_core.specs.CoreStates.{CoreState, held_of, all_lent, IsFitted, IsAtWork}
 use Rattle.cip_core.specs.CutoffRow.{cutoff_of}
 use Rattle.cip_core.specs.Later.{IsLaterAt}
-use Rattle.cip_core.specs.RowsAsked.{derived_in, rests_in, IsTold}
-use Rattle.cip_core.proofs.CoreSteps.{work_long}
+use Rattle.cip_core.specs.RowsAsked.{scope_of, derived_in, rests_in, IsTold}
 use Rattle.cip_core.proofs.Relations.{later_at_itself}
-use Rattle.cip_core.proofs.RowsAdded.{lent_there, lent_fits, with_pool, sound_added, later_pooled}
+use Rattle.cip_core.proofs.RowsAdded.{scope_long, lent_there, lent_fits, with_pool, sound_added, later_pooled}
 use Rattle.cip_core.proofs.cores.Core.add_row.Goals as goal
 
 pub derive-requires-clause-fits : goal.derive-requires-clause-fits
@@ -25,14 +24,16 @@ derive-requires-clause-fits c =
     let node = c.args.node.now in
     let formed = c.columns-columns.ensures.formed in
     let w = subst (λ (o : CoreState). IsAtWork o node) (sym same) c.requires in
-    let long = work_long core node formed w in
+    let local = c.args.local in
+    let long = scope_long core node local formed w in
+    let boxed_in : c.scope-bounds.result.now ≡ scope_of core local = c.scope-bounds.ensures ∙ ap (λ b. if local then b else c.bounds-2.result.now) c.bounds.ensures ∙ ap (λ b. if local then core.tree.work.box else b) c.bounds-2.ensures.bounds in
     let made : List Row → List PoolRow → Option Row → Lent = λ own pool cutoff. record { own = own; pool = pool; cutoff = cutoff } in
     let fits = lent_fits core c.self.invariant.0 c.rows-2.ensures.kept formed in
-    let at = length c.bounds.result.now in
+    let at = length c.scope-bounds.result.now in
     subst (λ o. Fits at (made o c.rows-2.result.now c.self.inside.cutoff)) (sym c.rows.ensures.rows)
     (subst (λ p. Fits at (made core.program.rows p c.self.inside.cutoff)) (sym c.rows-2.ensures.rows)
     (subst (λ k. Fits at (made core.program.rows core.pool.rows k)) (sym c.self.invariant.1.cutoff_is)
-    (subst (λ n. Fits n (all_lent core)) (sym (ap length c.bounds.ensures ∙ long)) fits)))
+    (subst (λ n. Fits n (all_lent core)) (sym (ap length boxed_in ∙ long)) fits)))
 
 pub derive-requires-clause-room : goal.derive-requires-clause-room
 derive-requires-clause-room c =
@@ -41,8 +42,10 @@ derive-requires-clause-room c =
     let node = c.args.node.now in
     let formed = c.columns-columns.ensures.formed in
     let w = subst (λ (o : CoreState). IsAtWork o node) (sym same) c.requires in
-    let long = work_long core node formed w in
-    omega (arith, ap length c.bounds.ensures, long, c.self.invariant.1.wide)
+    let local = c.args.local in
+    let long = scope_long core node local formed w in
+    let boxed_in : c.scope-bounds.result.now ≡ scope_of core local = c.scope-bounds.ensures ∙ ap (λ b. if local then b else c.bounds-2.result.now) c.bounds.ensures ∙ ap (λ b. if local then core.tree.work.box else b) c.bounds-2.ensures.bounds in
+    omega (arith, ap length boxed_in, long, c.self.invariant.1.wide)
 
 pub derive-requires-clause-flags : goal.derive-requires-clause-flags
 derive-requires-clause-flags c =
@@ -51,8 +54,10 @@ derive-requires-clause-flags c =
     let node = c.args.node.now in
     let formed = c.columns-columns.ensures.formed in
     let w = subst (λ (o : CoreState). IsAtWork o node) (sym same) c.requires in
-    let long = work_long core node formed w in
-    ap length c.whole.ensures.whole ∙ formed.integral ∙ sym long ∙ sym (ap length c.bounds.ensures)
+    let local = c.args.local in
+    let long = scope_long core node local formed w in
+    let boxed_in : c.scope-bounds.result.now ≡ scope_of core local = c.scope-bounds.ensures ∙ ap (λ b. if local then b else c.bounds-2.result.now) c.bounds.ensures ∙ ap (λ b. if local then core.tree.work.box else b) c.bounds-2.ensures.bounds in
+    ap length c.whole.ensures.whole ∙ formed.integral ∙ sym long ∙ sym (ap length boxed_in)
 
 pub add-requires-clause-columns : goal.add-requires-clause-columns
 add-requires-clause-columns c =
@@ -61,8 +66,10 @@ add-requires-clause-columns c =
     let node = c.args.node.now in
     let formed = c.columns-columns.ensures.formed in
     let w = subst (λ (o : CoreState). IsAtWork o node) (sym same) c.requires in
-    let long = work_long core node formed w in
-    ap length c.bounds-in-Ok.ensures ∙ long ∙ sym c.self.invariant.0.same
+    let local = c.args.local in
+    let long = scope_long core node local formed w in
+    let boxed_in : c.scope-bounds.result.now ≡ scope_of core local = c.scope-bounds.ensures ∙ ap (λ b. if local then b else c.bounds-2.result.now) c.bounds.ensures ∙ ap (λ b. if local then core.tree.work.box else b) c.bounds-2.ensures.bounds in
+    ap length boxed_in ∙ long ∙ sym c.self.invariant.0.same
 
 pub returns-in_err-added-in-Ok-clause-later : goal.returns-in_err-added-in-Ok-clause-later
 returns-in_err-added-in-Ok-clause-later c =
@@ -71,7 +78,9 @@ returns-in_err-added-in-Ok-clause-later c =
     let node = c.args.node.now in
     let formed = c.columns-columns.ensures.formed in
     let w = subst (λ (o : CoreState). IsAtWork o node) (sym same) c.requires in
-    let long = work_long core node formed w in
+    let local = c.args.local in
+    let long = scope_long core node local formed w in
+    let boxed_in : c.scope-bounds.result.now ≡ scope_of core local = c.scope-bounds.ensures ∙ ap (λ b. if local then b else c.bounds-2.result.now) c.bounds.ensures ∙ ap (λ b. if local then core.tree.work.box else b) c.bounds-2.ensures.bounds in
     subst (λ (o : CoreState). IsLaterAt o node (with_pool core c.add.new.self) node) same (later_pooled core c.add.new.self node w)
 
 pub returns-in-Err-clause-later : goal.returns-in-Err-clause-later
@@ -81,7 +90,9 @@ returns-in-Err-clause-later c =
     let node = c.args.node.now in
     let formed = c.columns-columns.ensures.formed in
     let w = subst (λ (o : CoreState). IsAtWork o node) (sym same) c.requires in
-    let long = work_long core node formed w in
+    let local = c.args.local in
+    let long = scope_long core node local formed w in
+    let boxed_in : c.scope-bounds.result.now ≡ scope_of core local = c.scope-bounds.ensures ∙ ap (λ b. if local then b else c.bounds-2.result.now) c.bounds.ensures ∙ ap (λ b. if local then core.tree.work.box else b) c.bounds-2.ensures.bounds in
     subst (λ (o : CoreState). IsLaterAt o node core node) same (later_at_itself core node w)
 
 pub returns-in_ok-added-in-Ok-clause-later : goal.returns-in_ok-added-in-Ok-clause-later
@@ -91,7 +102,9 @@ returns-in_ok-added-in-Ok-clause-later c =
     let node = c.args.node.now in
     let formed = c.columns-columns.ensures.formed in
     let w = subst (λ (o : CoreState). IsAtWork o node) (sym same) c.requires in
-    let long = work_long core node formed w in
+    let local = c.args.local in
+    let long = scope_long core node local formed w in
+    let boxed_in : c.scope-bounds.result.now ≡ scope_of core local = c.scope-bounds.ensures ∙ ap (λ b. if local then b else c.bounds-2.result.now) c.bounds.ensures ∙ ap (λ b. if local then core.tree.work.box else b) c.bounds-2.ensures.bounds in
     subst (λ (o : CoreState). IsLaterAt o node (with_pool core c.add.new.self) node) same (later_pooled core c.add.new.self node w)
 
 pub returns-in_ok-added-in-Ok-clause-asked : goal.returns-in_ok-added-in-Ok-clause-asked
@@ -101,7 +114,9 @@ returns-in_ok-added-in-Ok-clause-asked c =
     let node = c.args.node.now in
     let formed = c.columns-columns.ensures.formed in
     let w = subst (λ (o : CoreState). IsAtWork o node) (sym same) c.requires in
-    let long = work_long core node formed w in
+    let local = c.args.local in
+    let long = scope_long core node local formed w in
+    let boxed_in : c.scope-bounds.result.now ≡ scope_of core local = c.scope-bounds.ensures ∙ ap (λ b. if local then b else c.bounds-2.result.now) c.bounds.ensures ∙ ap (λ b. if local then core.tree.work.box else b) c.bounds-2.ensures.bounds in
     let made : List Row → List PoolRow → Option Row → Lent = λ own pool cutoff. record { own = own; pool = pool; cutoff = cutoff } in
     let combo = c.args.combo.now in
     let round = c.args.round in
@@ -109,17 +124,17 @@ returns-in_ok-added-in-Ok-clause-asked c =
     let n = columns core.program in
     let m = multiples_of combo in
     let integral = core.program.integral in
-    let box = core.tree.work.box in
-    let steps = subst (λ r. derived (made c.rows.result.now c.rows-2.result.now c.self.inside.cutoff) c.whole.result.now c.bounds.result.now r m round ≡ Ok row) c.self.invariant.1.wide c.in-Ok.ensures.steps in
-    let boxed = subst (λ b. derived (made c.rows.result.now c.rows-2.result.now c.self.inside.cutoff) c.whole.result.now b n m round ≡ Ok row) c.bounds.ensures steps in
+    let box = scope_of core local in
+    let steps = subst (λ r. derived (made c.rows.result.now c.rows-2.result.now c.self.inside.cutoff) c.whole.result.now c.scope-bounds.result.now r m round ≡ Ok row) c.self.invariant.1.wide c.in-Ok.ensures.steps in
+    let boxed = subst (λ b. derived (made c.rows.result.now c.rows-2.result.now c.self.inside.cutoff) c.whole.result.now b n m round ≡ Ok row) boxed_in steps in
     let flagged = subst (λ i. derived (made c.rows.result.now c.rows-2.result.now c.self.inside.cutoff) i box n m round ≡ Ok row) c.whole.ensures.whole boxed in
     let owned = subst (λ o. derived (made o c.rows-2.result.now c.self.inside.cutoff) integral box n m round ≡ Ok row) c.rows.ensures.rows flagged in
     let pooled = subst (λ p. derived (made core.program.rows p c.self.inside.cutoff) integral box n m round ≡ Ok row) c.rows-2.ensures.rows owned in
-    let accepted : derived_in core combo round ≡ Ok row = subst (λ k. derived (made core.program.rows core.pool.rows k) integral box n m round ≡ Ok row) c.self.invariant.1.cutoff_is pooled in
+    let accepted : derived_in core combo round local ≡ Ok row = subst (λ k. derived (made core.program.rows core.pool.rows k) integral box n m round ≡ Ok row) c.self.invariant.1.cutoff_is pooled in
     let added = c.in_ok-added-in-Ok.added in
     let rests = c.rests_on_cutoff-rests.ensures ∙ ap (λ p. rests_on_cutoff p combo.rows.items) c.rows-in-Ok.ensures.rows in
-    let is_added = subst (λ t. IsAdded core.pool (row_of row) box t c.add.new.self added) rests (subst (λ b. IsAdded core.pool (row_of row) b c.rests_on_cutoff-rests.result c.add.new.self added) c.bounds-in-Ok.ensures c.in_ok-added-in-Ok.ensures.added) in
-    subst (λ (o : CoreState). IsTold o (with_pool core c.add.new.self) combo round added) same (record { row = row; accepted = accepted; is_added = is_added })
+    let is_added = subst (λ t. IsAdded core.pool (row_of row) box t c.add.new.self added) rests (subst (λ b. IsAdded core.pool (row_of row) b c.rests_on_cutoff-rests.result c.add.new.self added) boxed_in c.in_ok-added-in-Ok.ensures.added) in
+    subst (λ (o : CoreState). IsTold o (with_pool core c.add.new.self) combo round local added) same (record { row = row; accepted = accepted; is_added = is_added })
 
 pub invariant_of-self-in-Ok : goal.invariant_of-self-in-Ok
 invariant_of-self-in-Ok c =
@@ -128,7 +143,9 @@ invariant_of-self-in-Ok c =
     let node = c.args.node.now in
     let formed = c.columns-columns.ensures.formed in
     let w = subst (λ (o : CoreState). IsAtWork o node) (sym same) c.requires in
-    let long = work_long core node formed w in
+    let local = c.args.local in
+    let long = scope_long core node local formed w in
+    let boxed_in : c.scope-bounds.result.now ≡ scope_of core local = c.scope-bounds.ensures ∙ ap (λ b. if local then b else c.bounds-2.result.now) c.bounds.ensures ∙ ap (λ b. if local then core.tree.work.box else b) c.bounds-2.ensures.bounds in
     let made : List Row → List PoolRow → Option Row → Lent = λ own pool cutoff. record { own = own; pool = pool; cutoff = cutoff } in
     let fits = lent_fits core c.self.invariant.0 c.rows-2.ensures.kept formed in
     let combo = c.args.combo.now in
@@ -137,18 +154,18 @@ invariant_of-self-in-Ok c =
     let n = columns core.program in
     let m = multiples_of combo in
     let integral = core.program.integral in
-    let box = core.tree.work.box in
-    let steps = subst (λ r. derived (made c.rows.result.now c.rows-2.result.now c.self.inside.cutoff) c.whole.result.now c.bounds.result.now r m round ≡ Ok row) c.self.invariant.1.wide c.in-Ok.ensures.steps in
-    let boxed = subst (λ b. derived (made c.rows.result.now c.rows-2.result.now c.self.inside.cutoff) c.whole.result.now b n m round ≡ Ok row) c.bounds.ensures steps in
+    let box = scope_of core local in
+    let steps = subst (λ r. derived (made c.rows.result.now c.rows-2.result.now c.self.inside.cutoff) c.whole.result.now c.scope-bounds.result.now r m round ≡ Ok row) c.self.invariant.1.wide c.in-Ok.ensures.steps in
+    let boxed = subst (λ b. derived (made c.rows.result.now c.rows-2.result.now c.self.inside.cutoff) c.whole.result.now b n m round ≡ Ok row) boxed_in steps in
     let flagged = subst (λ i. derived (made c.rows.result.now c.rows-2.result.now c.self.inside.cutoff) i box n m round ≡ Ok row) c.whole.ensures.whole boxed in
     let owned = subst (λ o. derived (made o c.rows-2.result.now c.self.inside.cutoff) integral box n m round ≡ Ok row) c.rows.ensures.rows flagged in
     let pooled = subst (λ p. derived (made core.program.rows p c.self.inside.cutoff) integral box n m round ≡ Ok row) c.rows-2.ensures.rows owned in
-    let accepted : derived_in core combo round ≡ Ok row = subst (λ k. derived (made core.program.rows core.pool.rows k) integral box n m round ≡ Ok row) c.self.invariant.1.cutoff_is pooled in
+    let accepted : derived_in core combo round local ≡ Ok row = subst (λ k. derived (made core.program.rows core.pool.rows k) integral box n m round ≡ Ok row) c.self.invariant.1.cutoff_is pooled in
     let added = c.in_ok-added-in-Ok.added in
     let rests = c.rests_on_cutoff-rests.ensures ∙ ap (λ p. rests_on_cutoff p combo.rows.items) c.rows-in-Ok.ensures.rows in
-    let is_added = subst (λ t. IsAdded core.pool (row_of row) box t c.add.new.self added) rests (subst (λ b. IsAdded core.pool (row_of row) b c.rests_on_cutoff-rests.result c.add.new.self added) c.bounds-in-Ok.ensures c.in_ok-added-in-Ok.ensures.added) in
+    let is_added = subst (λ t. IsAdded core.pool (row_of row) box t c.add.new.self added) rests (subst (λ b. IsAdded core.pool (row_of row) b c.rests_on_cutoff-rests.result c.add.new.self added) boxed_in c.in_ok-added-in-Ok.ensures.added) in
     let valid = derived_added core.program (held_of core) core.pool (Some (cutoff_of core.program (held_of core))) box n m round row
-    (subst (λ k. Fits k (all_lent core)) (sym long) fits) (omega (arith, long)) (lent_there core c.self.invariant.0) accepted in (
-      sound_added core c.add.new.self row (rests_in core combo) added is_added valid c.self.invariant.0,
+    (subst (λ k. Fits k (all_lent core)) (sym long) fits) (omega (arith, long)) (lent_there core box c.self.invariant.0) accepted in (
+      sound_added core c.add.new.self row box (rests_in core combo) added is_added valid c.self.invariant.0,
       subst (IsFitted core.program (held_of core) c.self.inside.cutoff c.self.inside.whole_costs) (sym c.in-Ok.ensures.columns) c.self.invariant.1,
     )

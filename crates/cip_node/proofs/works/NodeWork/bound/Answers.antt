@@ -1,4 +1,4 @@
-use Rattle.std.proofs.Common.{◌≡◌, ◌∙◌, None, Some, IfSome, length, refl, sym, ap, subst}
+use Rattle.std.proofs.Common.{◌∙◌, None, Some, IfSome, length, refl, sym, ap, subst}
 use Rattle.cip_problem.specs.WellFormed.{IsWellFormed, columns}
 use Rattle.cip_domain.specs.Changes.{Region}
 use Rattle.cip_cuts.specs.Improving.{IsBoundIn, HasNoImproving}
@@ -8,7 +8,8 @@ use Rattle.cip_core.specs.CoreStates.{CoreState, reduced_of, held_of, IsSound, I
 use Rattle.cip_core.specs.Later.{IsLaterAt}
 use Rattle.cip_core.proofs.CoreSteps.{work_long}
 use Rattle.cip_core.proofs.Relations.{later_at_itself, later_at_further}
-use Rattle.cip_node.specs.Bounding.{IsRelaxedOf, IsBounded, IsFound}
+use Rattle.cip_node.specs.Bounding.{IsRelaxedOf, IsFound}
+use Rattle.cip_node.specs.SameRows.{rows_of}
 use Rattle.cip_core.specs.Steps.{IsTried}
 use Rattle.cip_node.proofs.NodeBound.{tells, point_long, long_if, as_long, least_found, falling_found, unsolved_found}
 use Rattle.cip_node.proofs.works.NodeWork.bound.Goals as goal
@@ -62,8 +63,8 @@ returns-in-Bound-clause-region c =
     let node = c.args.node.now in
     c.offer_whole.ensures.region ∙ ap (region_of core.tree) c.raise.ensures.node ∙ ap (λ (k : CoreState). region_of k.tree node) c.in_ok-relaxed.ensures.core
 
-pub returns-in-Bound-clause-touched : goal.returns-in-Bound-clause-touched
-returns-in-Bound-clause-touched c = ap (λ (k : CoreState). k.touched) c.offer_whole.ensures.frame ∙ ap (λ (k : CoreState). k.touched) c.in_ok-relaxed.ensures.core
+pub returns-in-Bound-clause-rows : goal.returns-in-Bound-clause-rows
+returns-in-Bound-clause-rows c = ap rows_of c.offer_whole.ensures.frame ∙ ap rows_of c.in_ok-relaxed.ensures.core
 
 pub returns-in-Bound-clause-bounded : goal.returns-in-Bound-clause-bounded
 returns-in-Bound-clause-bounded c =
@@ -91,8 +92,8 @@ returns-in-Falls-clause-region c =
     let node = c.args.node.now in
     c.offer_whole-in-Falls.ensures.region ∙ ap (λ (k : CoreState). region_of k.tree node) c.in_ok-relaxed.ensures.core
 
-pub returns-in-Falls-clause-touched : goal.returns-in-Falls-clause-touched
-returns-in-Falls-clause-touched c = ap (λ (k : CoreState). k.touched) c.offer_whole-in-Falls.ensures.frame ∙ ap (λ (k : CoreState). k.touched) c.in_ok-relaxed.ensures.core
+pub returns-in-Falls-clause-rows : goal.returns-in-Falls-clause-rows
+returns-in-Falls-clause-rows c = ap rows_of c.offer_whole-in-Falls.ensures.frame ∙ ap rows_of c.in_ok-relaxed.ensures.core
 
 pub returns-in-Falls-clause-bounded : goal.returns-in-Falls-clause-bounded
 returns-in-Falls-clause-bounded c =
@@ -120,8 +121,8 @@ returns-in-Unsolved-clause-region c =
     let node = c.args.node.now in
     c.offer_if.ensures.region ∙ ap (λ (k : CoreState). region_of k.tree node) c.in_ok-relaxed.ensures.core
 
-pub returns-in-Unsolved-clause-touched : goal.returns-in-Unsolved-clause-touched
-returns-in-Unsolved-clause-touched c = ap (λ (k : CoreState). k.touched) c.offer_if.ensures.frame ∙ ap (λ (k : CoreState). k.touched) c.in_ok-relaxed.ensures.core
+pub returns-in-Unsolved-clause-rows : goal.returns-in-Unsolved-clause-rows
+returns-in-Unsolved-clause-rows c = ap rows_of c.offer_if.ensures.frame ∙ ap rows_of c.in_ok-relaxed.ensures.core
 
 pub returns-in-Unsolved-clause-bounded : goal.returns-in-Unsolved-clause-bounded
 returns-in-Unsolved-clause-bounded c =

@@ -1,4 +1,4 @@
-use Rattle.std.proofs.Common.{◌≡◌, ◌∙◌, refl}
+use Rattle.std.proofs.Common.{◌∙◌}
 use Rattle.cip_core.proofs.Relations.{later_at_further}
 use Rattle.cip_node.proofs.works.NodeWork.bound_in_rounds.Goals as goal
 
@@ -14,5 +14,5 @@ loop-preserved c = record {
   later = later_at_further _ _ _ _ _ _ c.loop.invariant.later (later_at_further _ _ _ _ _ _ c.add_rows.ensures.later c.bound-in-loop.ensures.later);
   bounded = c.in_ok-last-2.ensures.bounded;
   region = c.bound-in-loop.ensures.region ∙ c.add_rows.ensures.region ∙ c.loop.invariant.region;
-  touched = c.bound-in-loop.ensures.touched ∙ c.add_rows.ensures.touched ∙ c.loop.invariant.touched;
+  rows = c.bound-in-loop.ensures.rows ∙ c.add_rows.ensures.rows ∙ c.loop.invariant.rows;
 }

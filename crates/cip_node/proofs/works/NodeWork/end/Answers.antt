@@ -1,4 +1,4 @@
-use Rattle.std.proofs.Common.{◌≡◌, subst}
+use Rattle.std.proofs.Common.{subst}
 use Rattle.cip_tree.specs.Nodes.{box_of}
 use Rattle.cip_node.specs.Looking.{IsLook}
 use Rattle.cip_node.proofs.EndLaws.{none_kept, emptied}

@@ -1,8 +1,7 @@
-use Rattle.std.proofs.Common.{◌≡◌, ◌<◌, ◌^◌, None, sym, ap, ◌∙◌, subst}
+use Rattle.std.proofs.Common.{◌<◌, ◌^◌, sym, subst}
 use Rattle.cip_core.specs.CoreStates.{IsGivenBound}
 use Rattle.cip_core.specs.Steps.{IsBack}
 use Rattle.cip_node.specs.Bounding.{IsBounded}
-use Rattle.cip_node.specs.NodeEnds.{HasEnded}
 use Rattle.cip_node.proofs.EndLaws.{emptied_after, ended_after, back_after}
 use Rattle.cip_node.proofs.GivenLater.{given_later}
 use Rattle.cip_node.proofs.Looked.{open_after}

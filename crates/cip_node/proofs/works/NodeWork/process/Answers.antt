@@ -1,5 +1,6 @@
-use Rattle.std.proofs.Common.{◌≡◌, ◌<◌, ◌^◌, sym, ap, ◌∙◌, subst}
-use Rattle.std.specs.Prelude.{MatchResult}
+use Rattle.std.proofs.Common.{◌≡◌, sym, ap, ◌∙◌, subst}
+use Rattle.std.specs.Prelude.{Bool, MatchResult}
+use Rattle.cip_rows.specs.RowPools.{Pool}
 use Rattle.cip_core.specs.CoreStates.{CoreState, IsTakenUp, IsGivenBound}
 use Rattle.cip_core.specs.Steps.{IsBack, aged}
 use Rattle.cip_node.specs.Looking.{CanWorkOn}
@@ -43,3 +44,11 @@ returns-in-Ok-clause-ended c =
     let frame : looked ≡ looked_core core (aged core.pool) looked.tree.work = c.look.ensures.frame ∙ ap (λ (k : CoreState). looked_core k k.pool looked.tree.work) c.age.ensures.frame in
     ended_or_back core new (aged core.pool) looked.tree.work node c.end.result
     (subst (λ (k : CoreState). MatchResult c.end.result (λ (done : NodeEnd × NodeRecord). HasEnded k new node done.1.mark done.0) (λ _. IsBack k new node.number node.bound)) frame c.end.ensures.ended)
+
+pub returns-in-Ok-clause-aged : goal.returns-in-Ok-clause-aged
+returns-in-Ok-clause-aged c =
+    ap (λ (rows : Pool × Bool). rows.0) c.end.ensures.rows ∙ ap (λ (k : CoreState). k.pool) c.look.ensures.frame ∙ ap (λ (k : CoreState). k.pool) c.age.ensures.frame
+
+pub returns-in-Ok-clause-touched : goal.returns-in-Ok-clause-touched
+returns-in-Ok-clause-touched c =
+    ap (λ (rows : Pool × Bool). rows.1) c.end.ensures.rows ∙ ap (λ (k : CoreState). k.touched) c.look.ensures.frame ∙ ap (λ (k : CoreState). k.touched) c.age.ensures.frame
