@@ -1,0 +1,4 @@
+pub mod CutoffsJudged
+pub mod GuessesJudged
+pub mod ReductionsJudged
+pub mod RowsJudged

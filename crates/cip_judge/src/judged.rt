@@ -1,0 +1,45 @@
+//! What judging a proposal comes to.
+use cip_cert::CutFault;
+use cip_model::Verdict;
+use cip_tree::SplitFault;
+
+/// What a proposal names that isn't there, or is too far away. It is looked at before all else.
+#[derive(Clone, Copy, Debug, PartialEq, Eq)]
+pub enum NodeFault {
+    /// A point hasn't as many values as the program that is searched has columns.
+    BadLength,
+    /// That program has no column of this number.
+    NoSuchColumn,
+    /// A number for a whole column has a size above 2^100.
+    TooFar,
+}
+
+/// Why a proposal is refused.
+#[derive(Clone, Copy, Debug, PartialEq, Eq)]
+pub enum JudgeFault {
+    /// By what it names.
+    Node(NodeFault),
+    /// By the check of its combination.
+    Check(CutFault),
+    /// The pool has no room for its row.
+    Full,
+    /// By the test of its point.
+    Offer(Verdict),
+    /// By where it splits.
+    Split(SplitFault),
+}
+
+/// What a proposal comes to.
+#[derive(Clone, Copy, Debug, PartialEq, Eq)]
+pub enum Judged {
+    /// It was taken.
+    Accepted,
+    /// It shows that the node has no improving point.
+    Emptied,
+    /// Its row is held already.
+    Known,
+    /// Its point is feasible, and no cheaper than the point held.
+    NotBetter,
+    /// It was refused.
+    Refused(JudgeFault),
+}
