@@ -1,5 +1,6 @@
 -- A row that a check accepts is valid in the box in work, and the pool may have it.
 use Rattle.std.proofs.Common.{◌≡◌, Bool, true, false, cond, List, length, All, Option, None, Some, arith, refl, sym, subst, true≢false}
+use Rattle.std.specs.Prelude.{Result, Ok, Err, MatchResult}
 use Rattle.cip_rational.specs.Rational.{ℚ, zeroℚ, ◌-ℚ◌}
 use Rattle.cip_rational.specs.Range.{difference_overflows}
 use Rattle.cip_rational.proofs.Rational.Order.{≤ℚ_of_lt}
@@ -8,11 +9,12 @@ use Rattle.cip_problem.specs.Points.{IsSatisfied}
 use Rattle.cip_problem.specs.Activity.{StandsBelow}
 use Rattle.cip_problem.specs.WellFormed.{IsWellFormed, columns}
 use Rattle.cip_cuts.specs.Cuts.{terms_from, row_of, cutoff_row}
-use Rattle.cip_cuts.specs.Improving.{IsImproving}
-use Rattle.cip_cuts.proofs.Rows.{row_stands, cutoff_satisfied}
+use Rattle.cip_cuts.specs.Improving.{IsImproving, IsValid}
+use Rattle.cip_cuts.proofs.Rows.{row_stands, row_satisfied, cutoff_satisfied}
 use Rattle.cip_linear.specs.Aggregate.{Inequality}
 use Rattle.cip_cert.specs.Lent.{KeptFits, Fits}
-use Rattle.cip_cert.specs.Resting.{ArePoolRowsValid, IsLentOf}
+use Rattle.cip_cert.specs.Resting.{valid_below, ArePoolRowsValid, IsLentOf}
+use Rattle.cip_rows.proofs.ValidPools.{more_valid}
 use Rattle.cip_rows.specs.Adding.{IsAdded}
 use Rattle.cip_rows.specs.RowPools.{Pool, IsSoundPool, with_row}
 use Rattle.cip_rows.specs.declared.pools.Added.{Added}
@@ -77,6 +79,12 @@ sound_added core pool row box rests Full a v s = same_pool core pool a.2 s
 
 pub sound_kept : (core : CoreState) (pool : Pool) → pool ≡ core.pool → IsSound core → IsSound (with_pool core pool)
 sound_kept = same_pool
+
+-- a valid row was added, or memory was refused
+pub sound_given : {E : Type 0} (core : CoreState) (pool : Pool) (row : Inequality) (box : List Sides) (rests : Bool) (r : Result Added E) → MatchResult r (IsAdded core.pool (row_of row) box rests pool) (λ _. pool ≡ core.pool) → IsValid (reduced_of core) (valid_below (held_of core) rests) box row → IsSound core → IsSound (with_pool core pool)
+sound_given core pool row box rests (Ok added) a v s =
+    sound_added core pool row box rests added a (more_valid (reduced_of core) (held_of core) core.pool (row_of row) box rests s.valid (λ point i w. row_satisfied row point (v point i w))) s
+sound_given core pool row box rests (Err e) a v s = same_pool core pool a s
 
 -- a node in work stays so with another pool
 pub later_pooled : (core : CoreState) (pool : Pool) (node : TakenNode) → IsAtWork core node → IsLaterAt core node (with_pool core pool) node

@@ -12,7 +12,8 @@ use std::alloc::{AllocError, Global};
 
 impl<'a> Core<'a> {
     /// Solves the linear program of the box in work, over the rows of the program and those of the pool that may be
-    /// used there, from a start, if one is given; where it ended is answered, too. `Err` comes where memory was refused.
+    /// used there, from a start, if one is given; where it ended is answered, too. `Err` comes where memory was
+    /// refused.
     pub fn relax(
         &mut self,
         alloc: Global,

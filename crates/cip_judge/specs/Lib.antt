@@ -2,3 +2,5 @@ pub mod CutoffsJudged
 pub mod GuessesJudged
 pub mod ReductionsJudged
 pub mod RowsJudged
+pub mod SplitsJudged
+pub mod SplitCutsJudged

@@ -16,6 +16,7 @@ IsRowRefused old new combo round local (fault.Check of) = IsRefused old new comb
 IsRowRefused old new combo round local (fault.Node of) = ⊥
 IsRowRefused old new combo round local (fault.Offer of) = ⊥
 IsRowRefused old new combo round local (fault.Split of) = ⊥
+IsRowRefused old new combo round local (fault.SplitForm of) = ⊥
 
 -- the check accepts the combination and its row is in the pool with its scope; or an equal one was; or it is refused
 abbrev pub IsRowJudged : CoreState → CoreState → Combo → Bool → Bool → Judged → Type 0

@@ -1,5 +1,5 @@
 //! What judging a proposal comes to.
-use cip_cert::CutFault;
+use cip_cert::{CutFault, SplitFormFault};
 use cip_model::Verdict;
 use cip_tree::SplitFault;
 
@@ -27,6 +27,8 @@ pub enum JudgeFault {
     Offer(Verdict),
     /// By where it splits.
     Split(SplitFault),
+    /// By the check of its split cut.
+    SplitForm(SplitFormFault),
 }
 
 /// What a proposal comes to.

@@ -6,9 +6,13 @@ mod guesses;
 mod judged;
 mod reductions;
 mod rows;
+mod split_cuts;
+mod splits;
 
 pub use cutoffs::judge_cutoff;
 pub use guesses::judge_guess;
 pub use judged::{JudgeFault, Judged, NodeFault};
 pub use reductions::judge_reduction;
 pub use rows::judge_row;
+pub use split_cuts::judge_split_cut;
+pub use splits::{Parted, judge_split};

@@ -13,7 +13,6 @@ use cip_dictionary::Stand;
 use cip_guess::Standing;
 use cip_lin::Bounds;
 use cip_model::Program;
-use cip_rows::RowPool;
 use cip_simplex::Start;
 use std::alloc::{AllocError, Global};
 
@@ -23,17 +22,16 @@ pub(crate) fn shown_by_guess(
     alloc: Global,
     basis: &mut Basis,
     program: &Program,
-    pool: &RowPool,
     usable: &UsableRows<'_>,
     bounds: &Bounds,
     scratch: &mut Scratch,
 ) -> Result<Option<Relaxed>, AllocError>
     requires columns { length bounds.now ≡ columns program.now }
-    requires pool { length bounds.now ≡ pool.now.columns }
-    requires others { map (λ row. row.now) usable.now.rows.items ≡ usable_rows bounds.now pool.now.rows }
+    requires pool { length bounds.now ≡ usable.now.pool.now.columns }
+    requires others { map (λ row. row.now) usable.now.rows.items ≡ usable_rows bounds.now usable.now.pool.now.rows }
     requires room { length bounds.now ≤ length scratch.old.row.entries }
     ensures relaxed { (cutoff : Option Row) → IfOk result (λ found. IfSome found (IsRelaxed program.now
-        (record { own = program.now.rows; pool = pool.now.rows; cutoff = cutoff }) bounds.now
+        (record { own = program.now.rows; pool = usable.entry.now.pool.now.rows; cutoff = cutoff }) bounds.now
         (length scratch.old.row.entries))) }
     ensures room { length scratch.new.row.entries ≡ length scratch.old.row.entries }
 {
@@ -42,7 +40,7 @@ pub(crate) fn shown_by_guess(
         own: program.rows(),
         others: usable.rows.as_slice(),
         ids: usable.ids.as_slice(),
-        pool: pool.rows(),
+        pool: usable.pool.rows(),
         whole: program.whole(),
         bounds,
         costs: program.costs(),

@@ -235,8 +235,7 @@ pub fn relax_from(
     let columns = program.columns();
     let usable = UsableRows::gather(alloc, pool, bounds)?;
     let basis = &mut solver.basis;
-    let guessed = shown_by_guess(alloc, basis, program, pool, &usable, bounds, scratch)?;
-    if let Some(relaxed) = guessed {
+    if let Some(relaxed) = shown_by_guess(alloc, basis, program, &usable, bounds, scratch)? {
         let variables = columns + program.rows().len() + usable.rows.len();
         let last = start_at(alloc, &solver.basis, variables)?;
         return Ok((relaxed, last));

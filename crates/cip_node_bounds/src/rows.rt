@@ -6,13 +6,15 @@ use cip_lin::{Bounds, Row};
 use cip_rows::RowPool;
 use std::alloc::{AllocError, Global};
 
-/// The rows of a pool that may be used in a box, which are lent, and their ids.
+/// The rows of a pool that may be used in a box, which are lent, and their ids; beside them the pool.
 #[derive(Drop)]
 pub(crate) struct UsableRows<'a> {
     /// The rows.
     pub(crate) rows: Vec<&'a Row>,
     /// Their ids.
     pub(crate) ids: Vec<u64>,
+    /// The pool.
+    pub(crate) pool: &'a RowPool,
 }
 
 impl<'a> UsableRows<'a> {
@@ -27,6 +29,7 @@ impl<'a> UsableRows<'a> {
         ensures rows { IfOk result
             (λ usable. map (λ row. row.now) usable.rows.items ≡ usable_rows bounds.now pool.now.rows) }
         ensures ids { IfOk result (λ usable. usable.ids.items ≡ usable_ids bounds.now pool.now.rows) }
+        ensures pool { IfOk result (λ usable. usable.pool.now ≡ pool.now) }
     {
         let mut rows = Vec::new(alloc);
         let mut ids = Vec::new(alloc);
@@ -34,6 +37,6 @@ impl<'a> UsableRows<'a> {
             rows.push(&kept.row)?;
             ids.push(kept.id)?;
         }
-        Ok(UsableRows { rows, ids })
+        Ok(UsableRows { rows, ids, pool })
     }
 }

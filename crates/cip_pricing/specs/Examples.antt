@@ -45,9 +45,9 @@ held_in_both =
     record { block = 0; point = point_of oneℚ zeroℚ } ∷ record { block = 1; point = point_of oneℚ zeroℚ } ∷ []
 
 -- each row of a block stands on the block's columns, and the second block numbers them from 0; 1 and 0 are a point of
--- it, and 1 and 1 aren't; halves of 1, 0 and 0, 1 in the first block and 1, 0 in the second are a mixture, though x1 and
--- x2 aren't whole there; at multiplier 0 and the prices -2 each mixture of 1, 0 costs at least -4; and a multiplier
--- above 0 of the last row has no side
+-- it, and 1 and 1 aren't; halves of 1, 0 and 0, 1 in the first block and 1, 0 in the second are a mixture, though x1
+-- and x2 aren't whole there; at multiplier 0 and the prices -2 each mixture of 1, 0 costs at least -4; and a
+-- multiplier above 0 of the last row has no side
 pub record Examples : Type 0 where
   pub decomposed : IsDecomposed example two_blocks
   pub master : master_rows example two_blocks ≡ at_most_three 4 0 oneℚ ∷ []

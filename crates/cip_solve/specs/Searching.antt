@@ -30,8 +30,8 @@ use Rattle.cip_solve.specs.declared.turns.Stop.TheVariants as kinds
 -- ---- between two nodes
 
 -- with no node in work: the nodes are those of a search whose root had this bound, each open one matters, and boxes are
--- those of the log; the point held is one of the program, the worst parked leaf is known, the numbers given are few, and
--- the root is open before a node was taken
+-- those of the log; the point held is one of the program, the worst parked leaf is known, the numbers given are few,
+-- and the root is open before a node was taken
 pub record IsStill
     (program : Program) (start : Option ℚ) (tree : Nodes) (holding : Holding) (worst : Option Worst) : Type 0 where
   pub kept : IsKept program program stay tree (cost_held holding) []

@@ -118,9 +118,9 @@ const CASES: &[Case] = &[
         bound: Some((-18, 1)),
         told: Told::Any,
     },
-    // minimise a + 10^37 b + c with 2a + 10^37 b >= 7 and 10^37 c >= b, a whole from 0 to 5. The root has 7/2, 0, 0, and
-    // goes apart at 3. Where a is at most 3, b is 10^-37 and c is 10^-74 at least, which leaves the range. So 7/2 tells
-    // where the low half is split: at 3, moved to 2, and not at 1, its middle
+    // minimise a + 10^37 b + c with 2a + 10^37 b >= 7 and 10^37 c >= b, a whole from 0 to 5. The root has 7/2, 0, 0,
+    // and goes apart at 3. Where a is at most 3, b is 10^-37 and c is 10^-74 at least, which leaves the range. So 7/2
+    // tells where the low half is split: at 3, moved to 2, and not at 1, its middle
     Case {
         text: "ROWS\n N COST\n G R\n G S\nCOLUMNS\n a COST 1 R 2\n b COST 1e37 R 1e37\n b S -1\n c COST 1 S 1e37\n\
             RHS\n RHS R 7\nBOUNDS\n UI B a 5\nENDATA\n",

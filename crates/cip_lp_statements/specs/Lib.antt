@@ -1,0 +1,3 @@
+pub mod LpNumbers
+pub mod LpStages
+pub mod LpTaken
