@@ -21,13 +21,13 @@ KINDS = ("proof", "tests", "edits")
 
 
 def stat_of(pid):
-    """The parent of a process and the seconds that it used by itself, or None where it is gone."""
+    """The parent of a process, the seconds that it used by itself and when it began, or None where it is gone."""
     try:
         with open(f"/proc/{pid}/stat", encoding="utf-8", errors="replace") as it:
             fields = it.read().rpartition(")")[2].split()
     except OSError:
         return None
-    return int(fields[1]), sum(map(int, fields[11:13])) / TICK
+    return int(fields[1]), sum(map(int, fields[11:13])) / TICK, fields[19]
 
 
 def place_of(pid):
@@ -62,12 +62,15 @@ def watch(run):
         stats = {int(it): stat_of(it) for it in os.listdir("/proc") if it.isdigit()}
         stats = {pid: it for pid, it in stats.items() if it}
         for pid in below(run.pid, {pid: it[0] for pid, it in stats.items()}):
-            # (a process that is just being made has its maker's name)
-            places[pid] = places.get(pid) or place_of(pid)
-            if pid in stats and places[pid]:
-                seconds[pid] = max(seconds.get(pid, 0.0), stats[pid][1])
+            if pid not in stats:
+                continue
+            # (numbers of processes are used again, and one that is just being made has its maker's name)
+            of, used = (pid, stats[pid][2]), stats[pid][1]
+            places[of] = places.get(of) or place_of(pid)
+            if places[of]:
+                seconds[of] = max(seconds.get(of, 0.0), used)
         time.sleep(0.25)
-    return [(*places[pid], used) for pid, used in seconds.items()]
+    return [(*places[of], used) for of, used in seconds.items()]
 
 
 def table(checks, whole):

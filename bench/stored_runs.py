@@ -20,6 +20,7 @@ TOP = os.path.dirname(os.path.dirname(os.path.abspath(__file__)))
 BUILT = f"{TOP}/crates/cip/out/built/cip"
 
 THREE = pathlib.Path(f"{TOP}/examples/three_columns.mps").read_text(encoding="utf-8")
+TWO = pathlib.Path(f"{TOP}/examples/two_products.lp").read_text(encoding="utf-8")
 
 
 def one_column(rhs):
@@ -40,6 +41,7 @@ FILES = {
     "M": THREE,
     " M": one_column(7),
     "M ": one_column(11),
+    "plan.lp": TWO,
     "--odd": ODD,
     "no_objective": "ROWS\n L R1\nCOLUMNS\nENDATA\n",
     "best": "a 2\nb 0\nc 1\n",
@@ -88,6 +90,8 @@ RUNS = [
     (["solve", "M "], 0, optimal_at(5)),
     (["solve", "M  "], 3, NO_FILE),
     (["solve", "P"], 0, THIRTEEN),
+    # An LP text, by its name.
+    (["solve", "plan.lp"], 0, "status optimal\ncost 31\nbound 31\nchair 2\ntable 5\nend\n"),
     # A second file behind the first one.
     (["solve", "M", "--blocks", "blocks"], 0, THIRTEEN),
     (["solve", "M", "--blocks", "no_blocks"], 4, "status refused\ntext blocks\nline 1\nkind 1 BadWord\nend\n"),

@@ -72,7 +72,8 @@ lent_each P (r ∷ rs) h = (h.0, lent_each P rs h.1)
 pub each_lent : (P : Row → Type 0) (rows : List (Bor Row)) → All P (lent_rows rows) → All (λ row. P row.now) rows
 each_lent P rows h = All-from_recursion (λ row. P row.now) rows (lent_each P rows (recursion_from_All P (lent_rows rows) h))
 
-usable_stand : (box : List Sides) (n : ℕ) (pool : List PoolRow) → All (KeptFits n) pool → All (λ row. StandsBelow n row.terms) (usable_rows box pool)
+-- so do the rows of a pool that may be used in a box
+pub usable_stand : (box : List Sides) (n : ℕ) (pool : List PoolRow) → All (KeptFits n) pool → All (λ row. StandsBelow n row.terms) (usable_rows box pool)
 usable_stand box n pool h =
     All-map (λ (row : Row). StandsBelow n row.terms) (λ (kept : PoolRow). kept.row) (usable_in box pool)
     (λ k d l. (All-filter (λ (kept : PoolRow). box_inside box kept.scope) (KeptFits n) pool h k d l).stands)

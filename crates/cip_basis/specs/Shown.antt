@@ -2,13 +2,15 @@
 use Rattle.std.specs.Prelude.{◌≡◌, List, ◌++◌, map, length, None}
 use Rattle.std.specs.Borrow.{Bor}
 use Rattle.cip_problem.specs.Program.{Sides, Row}
-use Rattle.cip_linear.specs.LinearProgram.{LinearProgram, HasNoPoint, IsOptimal}
+use Rattle.cip_linear.specs.LinearProgram.{LinearProgram, HasNoPoint, CostsAtLeast, IsOptimal}
 use Rattle.cip_cert.specs.declared.rows.PoolRow.{PoolRow}
 use Rattle.cip_cert.specs.Lent.{Lent, Fits}
 use Rattle.cip_rows.specs.RowPools.{usable_in}
 use Rattle.cip_basis.specs.declared.problem.Problem.{Problem}
 use Rattle.cip_basis.specs.declared.shown.Shown.{Shown}
 use Rattle.cip_basis.specs.declared.shown.Shown.TheVariants.{Optimal, Empty}
+use Rattle.cip_basis.specs.declared.safe.Safe.{Safe}
+use Rattle.cip_basis.specs.declared.safe.Safe.TheVariants.{Bound, Empty as HasNone}
 
 -- rows that are lent
 abbrev pub lent_rows : List (Bor Row) → List Row
@@ -39,5 +41,10 @@ pub record IsReady (problem : Problem) : Type 0 where
 
 -- a point of least cost, and that cost; or that there is no point
 abbrev pub IsShown : LinearProgram → Shown → Type 0
-IsShown program (Optimal point cost) = IsOptimal program point.items cost
+IsShown program (Optimal point cost combo) = IsOptimal program point.items cost
 IsShown program Empty = HasNoPoint program
+
+-- no point costs less; or there is no point
+abbrev pub IsSafe : LinearProgram → Safe → Type 0
+IsSafe program (Bound cost) = CostsAtLeast program cost
+IsSafe program HasNone = HasNoPoint program

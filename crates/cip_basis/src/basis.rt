@@ -2,6 +2,7 @@
 use crate::combos::{empty_combo, put_costs, put_line, put_multiple, put_multiples, row_of};
 use crate::matrix::make_matrix;
 use crate::placement::Placement;
+use crate::rounded::rounded_combo;
 use crate::values::{put_basic, put_loose, put_right_sides};
 use cip_frac::Frac;
 use cip_guess::{Given, Guess, Outcome, Standing};
@@ -18,6 +19,10 @@ pub struct Basis {
     scales: Vec<u64>,
     right: Vec<Frac>,
     solved: Vec<Frac>,
+    // by which multipliers the last guess may show something, if by any
+    outcome: Option<Outcome>,
+    // whether the last systems had solutions in the range, so that a guess with less rounding may do better
+    is_in_range: bool,
 }
 
 impl Basis {
@@ -30,12 +35,35 @@ impl Basis {
             scales: Vec::new(alloc),
             right: Vec::new(alloc),
             solved: Vec::new(alloc),
+            outcome: None,
+            is_in_range: false,
         }
     }
 
     /// Where a variable stands: columns by number, then rows.
     pub fn standing(&self, variable: u32) -> Standing {
         self.guess.standing(variable)
+    }
+
+    /// Whether what was solved for the last guess was in the range, so that rounding may be why nothing is shown.
+    pub(crate) fn may_be_rounding(&self) -> bool {
+        self.is_in_range
+    }
+
+    /// How the last guess ended, and a combination by its multipliers, which are rounded and mended; none where there
+    /// is no such combination. Where it gave up over a table that stands, it is one of the costs.
+    pub(crate) fn rounded(
+        &self,
+        alloc: Global,
+        given: &Given,
+    ) -> Result<Option<(Outcome, Combo)>, AllocError> {
+        let Some(outcome) = self.outcome else {
+            return Ok(None);
+        };
+        match rounded_combo(alloc, &self.guess, given, outcome)? {
+            Some(combo) => Ok(Some((outcome, combo))),
+            None => Ok(None),
+        }
     }
 
     /// Makes the matrix of the basis, and eliminates it; whether it can be solved.
@@ -64,12 +92,18 @@ impl Basis {
         given: &Given,
         anew: bool,
     ) -> Result<Option<Outcome>, AllocError> {
+        self.outcome = None;
+        self.is_in_range = false;
         let Some(outcome) = self.guess.guess(alloc, given, anew)? else {
+            if self.guess.has_table() {
+                self.outcome = Some(Outcome::Optimal);
+            }
             return Ok(None);
         };
         if outcome == Outcome::Endless {
             return Ok(None);
         }
+        self.outcome = Some(outcome);
         if self.make(alloc, given)? {
             return Ok(Some(outcome));
         }
@@ -85,9 +119,11 @@ impl Basis {
         size: Length,
     ) -> Result<Option<Vec<Frac>>, AllocError> {
         let mut point = Vec::new(alloc);
+        self.is_in_range = true;
         if !put_loose(&self.guess, given, &mut point)? {
             return Ok(None);
         }
+        self.is_in_range = false;
         let are_there = put_right_sides(
             &self.guess,
             given,
@@ -106,6 +142,7 @@ impl Basis {
         }
         let columns = self.placement.columns.as_slice();
         put_basic(columns, self.solved.as_slice(), point.as_mut_slice());
+        self.is_in_range = true;
         Ok(Some(point))
     }
 
@@ -117,19 +154,21 @@ impl Basis {
         is_turned: bool,
         combo: &mut Combo,
     ) -> Result<bool, AllocError> {
+        self.is_in_range = false;
         let right = self.right.as_slice();
         let out = &mut self.solved;
         if !self.system.solve(right, Direction::Columns, size, out)? {
             return Ok(false);
         }
-        put_multiples(
+        self.is_in_range = put_multiples(
             given,
             &self.placement,
             self.scales.as_slice(),
             self.solved.as_slice(),
             is_turned,
             &mut combo.rows,
-        )
+        )?;
+        Ok(self.is_in_range)
     }
 
     /// The multipliers of the costs as a combination, where their parts are at most so long.

@@ -1,6 +1,6 @@
 //! The checks of what a basis shows.
 ghost use Rattle.std.specs.Prelude.{◌≡◌, ◌≤◌, true, length, IfSome};
-ghost use Rattle.cip_linear.specs.LinearProgram.{IsPoint, IsOptimal, HasNoPoint};
+ghost use Rattle.cip_linear.specs.LinearProgram.{IsPoint, IsOptimal, HasNoPoint, CostsAtLeast};
 ghost use Rattle.cip_basis.specs.Shown.{IsReady, program_of};
 
 use crate::problem::Problem;
@@ -37,6 +37,26 @@ pub(crate) fn least_cost(
         return None;
     };
     if bound == cost { Some(cost) } else { None }
+}
+
+/// What a combination bounds the costs by, where it does.
+pub(crate) fn safe_cost(problem: &Problem<'_>, combo: &Combo, scratch: &mut Scratch) -> Option<Frac>
+    requires ready { IsReady problem.now }
+    requires room { length problem.now.bounds.now ≤ length scratch.old.row.entries }
+    ensures least { IfSome result (CostsAtLeast (program_of problem.entry.now)) }
+    ensures room { length scratch.new.row.entries ≡ length scratch.old.row.entries }
+{
+    let cutoff = None;
+    let rows = Rows {
+        own: problem.own,
+        pool: problem.pool,
+        cutoff: &cutoff,
+        whole: problem.whole,
+    };
+    match lower_bound(&rows, problem.bounds, problem.costs, combo, scratch) {
+        Ok(bound) => Some(bound),
+        Err(_) => None,
+    }
 }
 
 /// Whether a combination empties a linear program.

@@ -5,12 +5,16 @@ mod basis;
 mod checks;
 mod combos;
 mod matrix;
+mod mending;
 mod placement;
 mod problem;
+mod rounded;
+mod safe;
 mod shown;
 mod tests;
 mod values;
 
 pub use basis::Basis;
 pub use problem::Problem;
+pub use safe::{Safe, safe_bound};
 pub use shown::{Shown, show};

@@ -10,13 +10,18 @@ use cip_cert::Scratch;
 use cip_frac::Frac;
 use cip_guess::Outcome;
 use cip_lifting::Length;
+use cip_lin::Combo;
 use std::alloc::{AllocError, Global};
 
 /// What is shown of a linear program.
 #[derive(Debug, Drop)]
 pub enum Shown {
-    /// A point of least cost, and that cost.
-    Optimal { point: Vec<Frac>, cost: Frac },
+    /// A point of least cost, that cost, and the combination that bounds the costs by as much.
+    Optimal {
+        point: Vec<Frac>,
+        cost: Frac,
+        combo: Combo,
+    },
     /// There is no point.
     Empty,
 }
@@ -48,7 +53,7 @@ fn optimum(
         return Ok(None);
     };
     match least_cost(problem, point.as_slice(), &combo, scratch) {
-        Some(cost) => Ok(Some(Shown::Optimal { point, cost })),
+        Some(cost) => Ok(Some(Shown::Optimal { point, cost, combo })),
         None => Ok(None),
     }
 }
@@ -128,9 +133,9 @@ fn shown_once(
 }
 
 /// What a basis that is guessed shows of a linear program: a point of least cost and that cost, or that there is no
-/// point; none where it shows nothing. The basis is kept from program to program, where only the box changes or rows
-/// come at the end. A point of the program whose cost is a bound of it, as `lower_bound` checks it, is least. `Err`
-/// where memory was refused.
+/// point; none where it shows nothing. It is guessed once more, with less rounding, where the tests refuse what was
+/// solved. The basis is kept from program to program, where only the box changes or rows come at the end. A point of
+/// the program whose cost is a bound of it, as `lower_bound` checks it, is least. `Err` where memory was refused.
 pub fn show(
     alloc: Global,
     basis: &mut Basis,
@@ -143,7 +148,7 @@ pub fn show(
     ensures room { length scratch.new.row.entries ≡ length scratch.old.row.entries }
 {
     let first = shown_once(alloc, basis, problem, false, scratch)?;
-    if first.is_some() {
+    if first.is_some() || !basis.may_be_rounding() {
         return Ok(first);
     }
     shown_once(alloc, basis, problem, true, scratch)

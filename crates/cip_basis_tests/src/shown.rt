@@ -1,5 +1,5 @@
 //! What is shown of linear programs, one after another from one basis.
-use cip_basis::{Basis, Problem, Shown, show};
+use cip_basis::{Basis, Problem, Safe, Shown, safe_bound, show};
 use cip_cert::Scratch;
 use cip_frac::Frac;
 use cip_lin::{Bounds, Row, Sides, Term};
@@ -13,6 +13,8 @@ enum Expected {
     Cost(i128, i128),
     /// That there is no point.
     Empty,
+    /// Nothing but a bound close to this cost, over a denominator.
+    Near(i128, i128),
     /// Nothing.
     Nothing,
 }
@@ -42,7 +44,14 @@ struct Case {
     expected: Expected,
 }
 
-const CASES: [Case; 6] = [
+/// A column that costs 1 where numbers are over a million, from 0 on.
+const FROM_ZERO: Column = Column {
+    cost: 1_000_000,
+    low: Some(0),
+    high: None,
+};
+
+const CASES: [Case; 7] = [
     // minimise -2a - b with 2a + 2b <= 3, each from 0 to 1: at 1, 1/2
     Case {
         under: 1,
@@ -185,6 +194,52 @@ const CASES: [Case; 6] = [
         ],
         expected: Expected::Cost(0, 1),
     },
+    // minimise the sum of seven columns, each of which is at least one half by a row with a coefficient that is prime
+    // to the others': the least cost has a denominator of 140 bits
+    Case {
+        under: 1_000_000,
+        columns: &[
+            FROM_ZERO, FROM_ZERO, FROM_ZERO, FROM_ZERO, FROM_ZERO, FROM_ZERO, FROM_ZERO,
+        ],
+        rows: &[
+            Line {
+                terms: &[(0, 999_983)],
+                low: Some(500_000),
+                high: None,
+            },
+            Line {
+                terms: &[(1, 999_979)],
+                low: Some(500_000),
+                high: None,
+            },
+            Line {
+                terms: &[(2, 999_961)],
+                low: Some(500_000),
+                high: None,
+            },
+            Line {
+                terms: &[(3, 999_959)],
+                low: Some(500_000),
+                high: None,
+            },
+            Line {
+                terms: &[(4, 999_953)],
+                low: Some(500_000),
+                high: None,
+            },
+            Line {
+                terms: &[(5, 999_931)],
+                low: Some(500_000),
+                high: None,
+            },
+            Line {
+                terms: &[(6, 999_917)],
+                low: Some(500_000),
+                high: None,
+            },
+        ],
+        expected: Expected::Near(35_001, 10_000),
+    },
     // minimise -a with a >= 0: the cost falls without end
     Case {
         under: 1,
@@ -257,16 +312,41 @@ fn fill(alloc: Global, case: &Case, parts: &mut Parts) -> Result<bool, AllocErro
 
 fn is_expected(found: &Option<Shown>, expected: Expected) -> bool {
     match (found, expected) {
-        (Some(Shown::Optimal { point: _, cost }), Expected::Cost(over, under)) => {
+        (Some(Shown::Optimal { cost, .. }), Expected::Cost(over, under)) => {
             cost.numerator() == over && cost.denominator() == under
         }
         (Some(Shown::Empty), Expected::Empty) => true,
+        (None, Expected::Nothing | Expected::Near(_, _)) => true,
+        _ => false,
+    }
+}
+
+/// Whether a number lies within 1/1000 below a fraction, or also above it.
+fn is_close(number: Frac, over: i128, under: i128, above: bool) -> bool {
+    let (Ok(other), Ok(most)) = (Frac::new(over, under), Frac::new(1, 1000)) else {
+        return false;
+    };
+    match other.sub(number) {
+        Ok(gap) => gap.abs() <= most && (above || !gap.is_negative()),
+        Err(_) => false,
+    }
+}
+
+fn is_safe(found: &Option<Safe>, expected: Expected) -> bool {
+    match (found, expected) {
+        (Some(Safe::Bound { cost }), Expected::Cost(over, under)) => {
+            is_close(*cost, over, under, false)
+        }
+        (Some(Safe::Bound { cost }), Expected::Near(over, under)) => {
+            is_close(*cost, over, under, true)
+        }
+        (Some(Safe::Empty), Expected::Empty) => true,
         (None, Expected::Nothing) => true,
         _ => false,
     }
 }
 
-/// What a basis shows of a program twice, the second time from where the first ended.
+/// What a basis shows of a program twice, the second time from where the first ended, and by rounded multipliers.
 fn are_expected(
     alloc: Global,
     basis: &mut Basis,
@@ -284,7 +364,8 @@ fn are_expected(
     let problem = Problem::of_rows(rows, &parts.bounds, costs);
     let first = show(alloc, basis, &problem, scratch)?;
     let second = show(alloc, basis, &problem, scratch)?;
-    Ok(is_expected(&first, expected) && is_expected(&second, expected))
+    let safe = safe_bound(alloc, basis, &problem, scratch)?;
+    Ok(is_expected(&first, expected) && is_expected(&second, expected) && is_safe(&safe, expected))
 }
 
 fn is_shown(alloc: Global, case: &Case) -> Result<bool, AllocError> {

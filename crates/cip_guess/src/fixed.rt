@@ -94,8 +94,8 @@ pub(crate) fn order(value: Frac) -> i32 {
     over.wrapping_sub(under)
 }
 
-// A number times a power of two, where it has so few bits that nothing is lost; divided by it where that is below 1.
-fn raised(number: i128, power: i32) -> i128 {
+/// A number times a power of two, where it has so few bits that nothing is lost; divided by it where that is below 1.
+pub(crate) fn raised(number: i128, power: i32) -> i128 {
     match u32::try_from(power) {
         Ok(up) => number.wrapping_shl(up),
         Err(_) => number.unbounded_shr(u32::try_from(power.wrapping_neg()).unwrap_or(0)),

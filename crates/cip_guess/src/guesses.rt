@@ -3,6 +3,7 @@ use crate::anew::make_anew;
 use crate::dual::{Lists, Tolerances, dual_move, loose_tolerances, tight_tolerances, worst};
 use crate::given::Given;
 use crate::moves::settle;
+use crate::multipliers::{RowMultiplier, list_rounded};
 use crate::primal::{PrimalMove, primal_move};
 use crate::scaling::{cost_up, make_scaled, row_up};
 use crate::stops::Stop;
@@ -53,6 +54,10 @@ pub struct Guess {
     cost_up: i32,
     moves: u32,
     is_made: bool,
+    // whether the table is one of the last program
+    has_table: bool,
+    // whether numbers of the program don't fit, which has as many columns and at least as many rows as are kept
+    is_unfit: bool,
 }
 
 /// Whether a list begins with another.
@@ -79,6 +84,8 @@ impl Guess {
             cost_up: 0,
             moves: 0,
             is_made: false,
+            has_table: false,
+            is_unfit: false,
         }
     }
 
@@ -92,6 +99,38 @@ impl Guess {
         self.is_made = false;
     }
 
+    /// Whether there is a table of the last program, as there may be also where the guess gave up: the multipliers of
+    /// its costs can be listed.
+    pub fn has_table(&self) -> bool {
+        self.has_table
+    }
+
+    /// Lists the rows that are loose with their multipliers where a guess has ended so, rounded to multiples of 2^-20:
+    /// those of the costs where the basis is optimal, and where a variable can't be brought between its sides what that
+    /// takes of them. Answers whether there are such. Any of it may be wrong. `Err` where memory was refused.
+    pub fn list_multipliers(
+        &self,
+        outcome: Outcome,
+        out: &mut Vec<RowMultiplier>,
+    ) -> Result<bool, AllocError> {
+        let loose = self.table.loose.as_slice();
+        let (variables, columns) = (&self.variables, self.columns);
+        match outcome {
+            Outcome::Optimal => {
+                let costs = self.table.costs.as_slice();
+                list_rounded(costs, loose, variables, columns, self.cost_up, out)
+            }
+            Outcome::Broken { variable, below: _ } => match self.table.line_of(variable) {
+                Some(line) => {
+                    let own = variables.up(variable as usize);
+                    list_rounded(line, loose, variables, columns, own, out)
+                }
+                None => Ok(false),
+            },
+            Outcome::Endless => Ok(false),
+        }
+    }
+
     /// Takes the names of the rows behind those that stay.
     fn take_ids(&mut self, ids: &[u64]) -> Result<(), Stop> {
         self.ids.clear();
@@ -99,15 +138,26 @@ impl Guess {
         Ok(())
     }
 
+    /// Whether numbers of a program of as many columns and no more rows didn't fit, so that its don't either.
+    fn was_unfit(&self, given: &Given) -> bool {
+        let known = self.columns.saturating_add(given.rows());
+        self.is_unfit && self.columns == given.columns() && self.variables.len() <= known
+    }
+
     /// Begins with the basis of the rows.
     fn begin(&mut self, alloc: Global, given: &Given) -> Result<(), Stop> {
+        if self.was_unfit(given) {
+            return Err(Stop::GaveUp);
+        }
         make_scaled(alloc, given, &mut self.variables)?;
         self.columns = given.columns();
         self.cost_up = cost_up(given.costs, &self.variables);
         self.take_ids(given.ids)?;
         self.moves = 0;
+        self.is_unfit = true;
         self.table
             .fill(alloc, given, &self.variables, self.cost_up)?;
+        self.is_unfit = false;
         self.is_made = true;
         Ok(())
     }
@@ -218,6 +268,7 @@ impl Guess {
 
     /// The guess on a program.
     fn guessed(&mut self, alloc: Global, given: &Given, anew: bool) -> Result<Outcome, Stop> {
+        self.has_table = false;
         let width = given.columns() as u64;
         let height = (given.rows() as u64).saturating_add(1);
         if width.saturating_mul(height) > MOST_ENTRIES {
@@ -225,6 +276,7 @@ impl Guess {
         }
         self.table.allow(MOST_WORK);
         self.ready(alloc, given, anew)?;
+        self.has_table = true;
         self.variables.take_sides(given);
         let tolerances = if anew {
             tight_tolerances()
@@ -239,7 +291,8 @@ impl Guess {
     /// Guesses how a linear program ends, from the basis of the last guess: where the variables stand then is told by
     /// `standing`. With `anew` the table is made anew, and less is passed over as rounding. It gives up, `None`, where
     /// the table has over 2^24 entries, a number is too great, over 2,000 moves and two for each column and row are
-    /// made, or over 2^33 entries are written, and then forgets the basis. `Err` where memory was refused.
+    /// made, or over 2^33 entries are written, and then forgets the basis. Where numbers of the program themselves are
+    /// too great it doesn't begin again on one of as many columns and no fewer rows. `Err` where memory was refused.
     pub fn guess(
         &mut self,
         alloc: Global,
@@ -254,6 +307,7 @@ impl Guess {
             }
             Err(Stop::NoMemory) => {
                 self.is_made = false;
+                self.is_unfit = false;
                 Err(AllocError)
             }
         }

@@ -7,6 +7,7 @@ mod fixed;
 mod given;
 mod guesses;
 mod moves;
+mod multipliers;
 mod primal;
 mod scaling;
 mod stops;
@@ -15,4 +16,5 @@ mod variables;
 
 pub use given::Given;
 pub use guesses::{Guess, Outcome};
+pub use multipliers::{RowMultiplier, rounded_outward};
 pub use variables::Standing;

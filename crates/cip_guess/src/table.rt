@@ -176,6 +176,16 @@ impl Table {
         }
     }
 
+    /// What a variable that is basic takes of each loose one.
+    pub(crate) fn line_of(&self, variable: u32) -> Option<&[i64]> {
+        for line in &self.lines {
+            if line.variable == variable {
+                return Some(line.entries.as_slice());
+            }
+        }
+        None
+    }
+
     /// The loose variable at a place.
     pub(crate) fn loose_at(&self, place: usize) -> u32 {
         match self.loose.get(place) {

@@ -1,4 +1,5 @@
 pub mod ModelTexts
+pub mod LpNear
 pub mod NearSides
 pub mod Pulled
 pub mod Readings

@@ -14,7 +14,7 @@ use Rattle.cip_number_text.specs.Numeral.{Numeral, Exact, NotANumber, Huge, TooF
 use Rattle.cip_mps_rules.specs.MpsWords.{Part, NoPart, Title, Sense, Rows, Columns, RightSides, Ranges, Bounds, End, BoundKind, Low, High, Fixed, WholeLow, WholeHigh, Unbounded, NoLow, NoHigh, Binary, SemiContinuous, section_of, bound_kind_of, has_value, marker_of, is_infinity, is_negative, near_or_huge, bound_number}
 use Rattle.cip_mps_rules.specs.MpsSayings.{Saying, Skipped, Misplaced, ColumnLine, RightSideLine, RangeLine, BoundLine, LinePlace, opening, section_said, sense_said, row_said, one_value, two_values, is_marker, marker_said, column_said, of_set, right_side_said, range_said, no_value, valued_bound, plain_bound, typed_bound, bound_said, fields_said, said}
 use Rattle.cip_mps_rules.specs.MpsFacts.{GivenColumn, GivenBound, Facts, facts_with, bounds_in}
-use Rattle.cip_mps_rules.specs.MpsBounds.{Bounded, unbounded, with_bound, bounded_by, settled, bounds_of, all_bounds, own_sides, is_semi, column_sides, choice_of, choices_of}
+use Rattle.cip_mps_rules.specs.MpsBounds.{Bounded, unbounded, with_bound, bounded_by, settled, bounds_of, all_bounds, own_sides, is_semi, column_sides, choice_of}
 use Rattle.cip_mps_rules.specs.MpsProgram.{program_of}
 use Rattle.cip_mps_rules.specs.MpsOutcome.{Context, said_in, HasProgram}
 use Rattle.cip_mps_rules.proofs.Quiet.{Keeps}
@@ -25,11 +25,11 @@ use Rattle.cip_input.specs.LimitedModels.{HasNearOwn}
 
 -- ---- 0 and 1
 
-zero_near : absolute zeroℚ <ℚ integer (pos (10 ^ 20))
+pub zero_near : absolute zeroℚ <ℚ integer (pos (10 ^ 20))
 unfolding absolute lt_test le_test integer ratio whole negate zeroℚ
 zero_near = record { lt = tt }
 
-one_near : absolute oneℚ <ℚ integer (pos (10 ^ 20))
+pub one_near : absolute oneℚ <ℚ integer (pos (10 ^ 20))
 unfolding absolute lt_test le_test integer ratio whole negate zeroℚ oneℚ
 one_near = record { lt = tt }
 
@@ -53,7 +53,7 @@ near_of : (v : ValuesAreTested) (text : List ℕ) (o : Option ℚ) → value_of 
 near_of v text None e = none_near (numeral_of text) e
 near_of v text (Some value) e = subst IsNear (sym (v.bound text value e)) (far_or_near (is_far_value value) value refl)
 
-bound_near : (v : ValuesAreTested) (text : List ℕ) → IsNear (value_of (bound_number text))
+pub bound_near : (v : ValuesAreTested) (text : List ℕ) → IsNear (value_of (bound_number text))
 bound_near v text =
     cond_both (is_infinity text) (Huge (is_minus text)) (near_or_huge (numeral_of text)) (λ numeral. IsNear (value_of numeral))
     (λ _. tt) (λ _. near_of v text (value_of (numeral_of text)) refl)

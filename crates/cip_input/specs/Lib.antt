@@ -1,6 +1,7 @@
 pub mod BlocksRead
 pub mod BlocksTaken
 pub mod LimitedModels
+pub mod Models
 pub mod ModelsRead
 pub mod PointsRead
 pub mod PointsTaken

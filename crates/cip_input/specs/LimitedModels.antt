@@ -6,7 +6,7 @@ use Rattle.cip_problem.specs.Program.{Choice, Plain, Open, Off, On, Program}
 use Rattle.cip_problem.specs.Choices.{choice_at}
 use Rattle.cip_problem.specs.NearSides.{HasNearSides}
 use Rattle.cip_problem.specs.WellFormed.{IsWellFormed}
-use Rattle.cip_mps_rules.specs.MpsOutcome.{HasProgram}
+use Rattle.cip_input.specs.Models.{HasModel}
 
 -- the own sides of a column whose choice is open are near
 abbrev pub HasNearOwn : Choice → Type 0
@@ -21,6 +21,7 @@ pub record IsLimited (program : Program) : Type 0 where
   pub near : All HasNearSides program.bounds
   pub own : (column : ℕ) → HasNearOwn (choice_at program.choices column)
 
--- such is the program of each text
+-- such is the program of each text of a model
 abbrev pub ProgramsAreLimited : Type 0
-ProgramsAreLimited = (text : List ℕ) (program : Program) → HasProgram text program → IsLimited program
+ProgramsAreLimited =
+    (name text : List ℕ) (program : Program) → HasModel name text program → IsLimited program

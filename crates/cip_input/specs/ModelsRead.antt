@@ -1,44 +1,47 @@
 -- Reading the program of a text that is pulled from a store.
---     Reads text old new program      the program of the text was read
---     ReadCause text old new cause      why there is none
-use Rattle.std.specs.Prelude.{◌≡◌, ⊤, ℕ, List, Option, IfSome}
+--     Reads name text old new program      the program of the text of this name was read
+--     ReadCause name text old new cause      why there is none
+use Rattle.std.specs.Prelude.{◌≡◌, ⊤, ℕ, Bool, List, Option, IfSome}
 use Rattle.cip_io.specs.Faults.{Rose}
 use Rattle.cip_io.specs.Store.{StoreTells}
 use Rattle.cip_problem.specs.Program.{Program}
-use Rattle.cip_mps_rules.specs.MpsOutcome.{HasProgram, HasFault}
-use Rattle.cip_mps.specs.MpsFaultKinds.{kind_number}
+use Rattle.cip_input.specs.Models.{is_lp_name, HasModel, HasFaultAs, HasModelFault, is_lp_fault, model_line, model_kind}
 use Rattle.cip_input.specs.TextPulls.{IsAllPulled}
+use Rattle.cip_input.specs.declared.model_faults.ModelFault.{ModelFault}
 use Rattle.cip_input.specs.declared.models.Unread.{Unread}
 use Rattle.cip_input.specs.declared.models.Unread.TheVariants.{StoreFailed, Faulty, NoMemory}
 
 -- ---- `old` and `new` are the store before and after the call
 
 -- a program that was read: it is that of a text, and of the text that the store tells
-pub record IsRead (text : Option (List ℕ)) (program : Program) : Type 0 where
+pub record IsRead (name : List ℕ) (text : Option (List ℕ)) (program : Program) : Type 0 where
   pub bytes : List ℕ
-  pub described : HasProgram bytes program
+  pub described : HasModel name bytes program
   pub told : IfSome text (λ told. told ≡ bytes)
 
 -- a program was read, the text was pulled, and no call of the store has failed
-pub record Reads (text : Option (List ℕ)) (old new : StoreTells) (program : Program) : Type 0 where
-  pub is_read : IsRead text program
+pub record Reads (name : List ℕ) (text : Option (List ℕ)) (old new : StoreTells) (program : Program) : Type 0 where
+  pub is_read : IsRead name text program
   pub pulled : IsAllPulled text new
   pub sound : new.faults ≡ old.faults
 
--- the text has its first fault at this line, of this kind; it was pulled, and no call of the store has failed
-pub record Refuses (text : Option (List ℕ)) (old new : StoreTells) (line kind : ℕ) : Type 0 where
-  pub fault : IfSome text (λ bytes. HasFault bytes line kind)
+-- this is the first fault of the text, told as one of its kind of text; it was pulled, and no call of the store has
+-- failed
+pub record Refuses (name : List ℕ) (text : Option (List ℕ)) (old new : StoreTells) (fault : ModelFault) : Type 0 where
+  pub first : IfSome text (λ bytes. HasModelFault name bytes (model_line fault) (model_kind fault))
+  pub own : is_lp_fault fault ≡ is_lp_name name
   pub pulled : IsAllPulled text new
   pub sound : new.faults ≡ old.faults
 
 -- why there is no program: the store failed, or the text is faulty; want of memory says nothing of the text
-abbrev pub ReadCause : (text : Option (List ℕ)) (old new : StoreTells) → Unread → Type 0
-ReadCause text old new StoreFailed = Rose old.faults new.faults
-ReadCause text old new (Faulty fault) = Refuses text old new fault.line (kind_number fault.kind)
-ReadCause text old new NoMemory = new.faults ≡ old.faults
+abbrev pub ReadCause : (name : List ℕ) (text : Option (List ℕ)) (old new : StoreTells) → Unread → Type 0
+ReadCause name text old new StoreFailed = Rose old.faults new.faults
+ReadCause name text old new (Faulty fault) = Refuses name text old new fault
+ReadCause name text old new NoMemory = new.faults ≡ old.faults
 
--- why the bytes that were read give no program
-abbrev pub EndCause : List ℕ → Unread → Type 0
-EndCause bytes StoreFailed = ⊥
-EndCause bytes (Faulty fault) = HasFault bytes fault.line (kind_number fault.kind)
-EndCause bytes NoMemory = ⊤
+-- why the bytes that were read give no program, as an LP text or as one of free MPS
+abbrev pub EndCause : (lp : Bool) → List ℕ → Unread → Type 0
+EndCause lp bytes StoreFailed = ⊥
+EndCause lp bytes (Faulty fault) =
+    HasFaultAs lp bytes (model_line fault) (model_kind fault) × (is_lp_fault fault ≡ lp)
+EndCause lp bytes NoMemory = ⊤

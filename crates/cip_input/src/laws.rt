@@ -1,15 +1,17 @@
-//! The law of the programs that texts have.
+//! The law of the programs that texts of models have.
 // The function does nothing. Its contract is a law of the definitions, so that the check proves it.
 ghost use Rattle.cip_input.specs.LimitedModels.{ProgramsAreLimited};
 
+use cip_lp_rules::lp_texts::lp_programs_are_well_formed;
 use cip_mps_rules::texts::programs_are_well_formed;
 use cip_mps_steps::values_are_tested;
 
-/// The program of a text is well-formed, and each side of a column that is there has a size below 10^20, as have those
-/// that a semi-continuous column has of its own.
+/// The program of a text of a model is well-formed, and each side of a column that is there has a size below 10^20, as
+/// have those that a semi-continuous column has of its own.
 pub fn programs_are_limited()
     ensures { ProgramsAreLimited }
 {
     programs_are_well_formed();
+    lp_programs_are_well_formed();
     values_are_tested();
 }

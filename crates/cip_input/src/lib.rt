@@ -3,11 +3,15 @@
 
 mod block_texts;
 mod laws;
+mod lp_models;
+mod model_faults;
 mod models;
+mod mps_models;
 mod points;
 mod pulling;
 
 pub use block_texts::{UnreadBlocks, read_blocks};
 pub use laws::programs_are_limited;
+pub use model_faults::ModelFault;
 pub use models::{Unread, read_program};
 pub use points::{UnreadPoint, read_point};

@@ -1,14 +1,14 @@
 //! Reading a program from a store.
-ghost use Rattle.std.specs.Prelude.{◌≡◌, ◌++◌, ℕ, List, [], MatchResult, OnOk, length};
-ghost use Rattle.cip_mps_rules.specs.MpsOutcome.{HasProgram};
-ghost use Rattle.cip_mps.specs.MpsReaders.{HasRead};
-ghost use Rattle.cip_input.specs.ModelsRead.{Reads, ReadCause, EndCause};
-ghost use Rattle.cip_input.specs.declared.pulling.TheConstants.{PIECE};
+ghost use Rattle.std.specs.Prelude.{◌≡◌, MatchResult};
+ghost use Rattle.cip_input.specs.Models.{is_lp_name};
+ghost use Rattle.cip_input.specs.ModelsRead.{Reads, ReadCause};
 
-use crate::pulling::{PIECE, TextReader, Unpulled, read_pieces};
+use crate::lp_models::read_lp_text;
+use crate::model_faults::ModelFault;
+use crate::mps_models::read_mps_text;
+use crate::pulling::PIECE;
 use cip_io::{Failed, Store};
 use cip_model::Program;
-use cip_mps::{MpsFault, MpsReader, ReadFault};
 use std::alloc::{AllocError, Global};
 
 /// Why no program was read.
@@ -17,7 +17,7 @@ pub enum Unread {
     /// The store failed.
     StoreFailed,
     /// The text is faulty.
-    Faulty(MpsFault),
+    Faulty(ModelFault),
     /// A growth was refused.
     NoMemory,
 }
@@ -44,59 +44,16 @@ impl From<AllocError> for Unread {
     }
 }
 
-impl TextReader for MpsReader {
-    ghost use Rattle.std.specs.Prelude.{◌≡◌, ◌++◌, ℕ, List, Option, None, OnOk};
-    ghost use Rattle.cip_problem.specs.Program.{Program};
-    ghost use Rattle.cip_mps.specs.MpsReaders.{HasRead};
-
-    ghost has_read = { HasRead };
-
-    ghost subject = { λ _. None };
-
-    /// That a line is faulty is left to the end.
-    fn take_piece(&mut self, piece: &[u8]) -> Result<(), AllocError> {
-        match self.feed(piece) {
-            Ok(()) => Ok(()),
-            Err(ReadFault::Faulty(_)) => Ok(()),
-            Err(ReadFault::NoMemory) => Err(AllocError),
-        }
-    }
-}
-
-/// What the reader answers at the end of a text.
-fn finish(reader: MpsReader) -> Result<Program, Unread>
-    ensures { (bytes : List ℕ) → HasRead reader bytes
-        → MatchResult result (λ program. HasProgram bytes program) (EndCause bytes) }
+/// Whether a text of this name is an LP text: the name ends in `.lp`, in small letters.
+#[tactic(auto, using(std::proofs::lemmas::Str::Pattern::ends_text))]
+fn ends_in_lp(name: &str) -> bool
+    ensures { result ≡ is_lp_name name.now }
 {
-    match reader.finish() {
-        Ok(program) => Ok(program),
-        Err(ReadFault::Faulty(fault)) => Err(Unread::Faulty(fault)),
-        Err(ReadFault::NoMemory) => Err(Unread::NoMemory),
-    }
+    name.ends_with(".lp")
 }
 
-/// Reads the program of the current text, of which nothing was pulled yet.
-fn read_text<S: Store>(
-    store: &mut S,
-    mut reader: MpsReader,
-    buffer: &mut [u8],
-) -> Result<Program, Unread>
-    requires fresh { HasRead reader [] }
-    requires room { length buffer.old ≡ PIECE }
-    ensures answer { MatchResult result
-        (Reads (S.tells store.old).left (S.tells store.old) (S.tells store.new))
-        (ReadCause (S.tells store.old).left (S.tells store.old) (S.tells store.new)) }
-    ensures holds { (S.tells store.new).holds ≡ (S.tells store.old).holds }
-{
-    match read_pieces(store, &mut reader, buffer) {
-        Ok(()) => finish(reader),
-        Err(Unpulled::StoreFailed) => Err(Unread::StoreFailed),
-        Err(Unpulled::NoMemory) => Err(Unread::NoMemory),
-    }
-}
-
-/// Reads the program of the text of this name, as free MPS. The text is pulled in pieces of at most 4,096 bytes to its
-/// end, or to byte 67,108,865, a faulty one too.
+/// Reads the program of the text of this name: an LP text where the name ends in `.lp`, and else one of free MPS. The
+/// text is pulled in pieces of at most 4,096 bytes to its end, or to byte 67,108,865, a faulty one too.
 ///
 /// An `Err` says why there is no program: `Faulty` comes exactly where the text is faulty and all of it could be
 /// pulled, with the first line that breaks a rule and the least kind that is broken there; `StoreFailed` where a call
@@ -105,11 +62,15 @@ fn read_text<S: Store>(
 pub fn read_program<S: Store>(alloc: Global, store: &mut S, name: &str) -> Result<Program, Unread>
     ensures answer { let text = (S.tells store.old).holds name.now in
         MatchResult result
-        (Reads text (S.tells store.old) (S.tells store.new))
-        (ReadCause text (S.tells store.old) (S.tells store.new)) }
+        (Reads name.now text (S.tells store.old) (S.tells store.new))
+        (ReadCause name.now text (S.tells store.old) (S.tells store.new)) }
     ensures holds { (S.tells store.new).holds ≡ (S.tells store.old).holds }
 {
     let mut buffer = vec![in alloc; 0u8; PIECE]?;
     store.choose(name)?;
-    read_text(store, MpsReader::new(alloc), buffer.as_mut_slice())
+    if ends_in_lp(name) {
+        read_lp_text(alloc, store, buffer.as_mut_slice())
+    } else {
+        read_mps_text(alloc, store, buffer.as_mut_slice())
+    }
 }

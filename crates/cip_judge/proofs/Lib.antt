@@ -1,3 +1,4 @@
+pub mod Going
 pub mod LentRows
 pub mod SidesJudged
 pub mod SplitCutsTold

@@ -1,5 +1,6 @@
 pub mod CutoffsJudged
 pub mod GuessesJudged
+pub mod ProposalsJudged
 pub mod ReductionsJudged
 pub mod RowsJudged
 pub mod SplitsJudged

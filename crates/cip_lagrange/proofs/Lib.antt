@@ -1,4 +1,10 @@
+pub mod BlocksAdded
 pub mod Entered
 pub mod FollowedTrees
 pub mod HalvedSides
+pub mod Multiplied
+pub mod Ready
+pub mod RowsAlone
+pub mod Shown
+pub mod Stepped
 pub mod SplitColumns

@@ -23,3 +23,18 @@ pub enum TreeFault {
     /// The check of the leaf at this node.
     At { node: u128, fault: CutFault },
 }
+
+/// Why multipliers with trees show nothing: the first fault, where multipliers come before the columns of no block, and
+/// those before the blocks.
+#[derive(Clone, Copy, Debug, PartialEq, Eq)]
+pub enum LagrangeFault {
+    /// The multiplier of this row, a master row by its number in the program, isn't 0, and the row lacks the side that
+    /// it uses: the low one above 0, the high one below 0.
+    NoSide { row: u32 },
+    /// What is left of the cost of this column, which is of no block, has no least value in the box.
+    NoRest { col: u32 },
+    /// The check of this block's tree.
+    Tree { block: u32, fault: TreeFault },
+    /// An operation overflows.
+    Wide,
+}

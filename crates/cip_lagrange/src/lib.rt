@@ -1,4 +1,4 @@
-//! Lower bounds by trees of combinations.
+//! Lower bounds by trees of combinations, and by multipliers of master rows with a tree for each block.
 //!
 //! A pricer isn't trusted: it brings a tree that bounds its block, and the check of the tree shows the bound. No check
 //! takes memory.
@@ -6,12 +6,18 @@
 
 mod answers;
 mod calls;
+mod free;
+mod lagrangian;
 mod laws;
+mod multipliers;
 mod regions;
+mod scratches;
 mod splits;
 mod trees;
 
-pub use answers::{TreeBound, TreeFault};
+pub use answers::{LagrangeFault, TreeBound, TreeFault};
 pub use calls::tree_bound;
+pub use lagrangian::lagrange;
 pub use laws::{halves_have_wholes, trees_bound_nodes};
 pub use regions::TreeRegion;
+pub use scratches::{BlockScratch, LagrangeScratch};

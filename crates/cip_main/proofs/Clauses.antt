@@ -1,17 +1,19 @@
 -- The clauses of `run`, each from what the call does.
-use Rattle.std.specs.Prelude.{◌≡◌, ◌≢◌, ◌⊎◌, ⊤, refl, ℕ, List, Option, None, Some, IfSome, length, ◌*◌, ◌-◌, ◌≤◌, ◌<◌, max}
+use Rattle.std.specs.Prelude.{◌≡◌, ◌≢◌, ◌⊎◌, ⊤, refl, ℕ, Bool, true, false, List, Option, None, Some, IfSome, length, ◌*◌, ◌-◌, ◌≤◌, ◌<◌, max}
 use Rattle.std.proofs.Common.{sym, ap, ◌∙◌, subst, inl, inr, arith}
 use Rattle.cip_io.specs.Faults.{Rose}
 use Rattle.cip_io.specs.Store.{StoreTells}
 use Rattle.cip_problem.specs.Program.{Program}
 use Rattle.cip_problem.specs.Log.{root, leaf_count}
-use Rattle.cip_mps_rules.specs.MpsOutcome.{mps_reading, HasProgram, HasFault}
+use Rattle.cip_mps_rules.specs.MpsOutcome.{mps_reading}
+use Rattle.cip_lp_rules.specs.LpOutcome.{lp_reading}
 use Rattle.cip_rational.specs.Rational.{ℚ}
 use Rattle.cip_line_texts.specs.LineTexts.{Reading, Outcome, outcome_of, HasResult, HasFault as HasLineFault}
 use Rattle.cip_line_texts.specs.LineTexts as texts
 use Rattle.cip_block_rules.specs.BlockRules.{block_reading}
 use Rattle.cip_point_rules.specs.PointRules.{point_reading}
-use Rattle.cip_mps.specs.MpsFaultKinds.{kind_number}
+use Rattle.cip_input.specs.Models.{is_lp_name, HasProgramAs, HasFaultAs, HasModel, HasModelFault, is_lp_fault, model_line, model_kind}
+use Rattle.cip_input.specs.declared.model_faults.ModelFault.{ModelFault}
 use Rattle.cip_blocks.specs.BlockKinds.{kind_number as block_kind_number}
 use Rattle.cip_blocks.specs.declared.faults.BlockFault.{BlockFault}
 use Rattle.cip_point.specs.PointKinds.{kind_number as point_kind_number}
@@ -30,7 +32,7 @@ use Rattle.cip_main.specs.declared.plain.Plain.TheVariants.{Usage, ReadFault, Re
 use Rattle.cip_answering.specs.Answering.{IsLogged}
 use Rattle.cip_answering.specs.Checking.{checked}
 use Rattle.cip_main.specs.Plain.{plain_status}
-use Rattle.cip_main.specs.Running.{Call, IsStoreSound, IsSinkSound, GivesPlain, IsAnswered, IsChecked, TellsVerdict, ArePulled, BlocksAreRead, Ran, gives_plain, gives_figures, gives_verdict, IsStatus, write_fault, TellsTruth, Asks, AsksOf, AsksWith, AsksToCheck, RefusesBlocks, IsCutShort, Headline, BreaksSome, CheckClause, HasBlocksFault, HasPointFault, IsFirstFault, TellsModelFault, TellsBlockFault, TellsPointFault, UsageClause, behind_up_to, PullsToFault, ReadFaultClause, RefusedClause, WriteFaultClause, SpentLog, FiguresReachGap, GapLog, OverflowClause, MemoryClause, TellsWork, WorkClause, Runs}
+use Rattle.cip_main.specs.Running.{Call, model_in, HasProgram, HasFault, IsStoreSound, IsSinkSound, GivesPlain, IsAnswered, IsChecked, TellsVerdict, ArePulled, BlocksAreRead, Ran, gives_plain, gives_figures, gives_verdict, IsStatus, write_fault, TellsTruth, Asks, AsksOf, AsksWith, AsksToCheck, RefusesBlocks, IsCutShort, Headline, BreaksSome, CheckClause, HasBlocksFault, HasPointFault, IsFirstFault, TellsModelFault, TellsBlockFault, TellsPointFault, UsageClause, behind_up_to, PullsToFault, ReadFaultClause, RefusedClause, WriteFaultClause, SpentLog, FiguresReachGap, GapLog, OverflowClause, MemoryClause, TellsWork, WorkClause, Runs}
 use Rattle.cip_answering.specs.Saying.{Says}
 use Rattle.cip_main.specs.Tasks.{TaskCause, model_of, second_of, FailsBehind, HasFaultyModel, HasFaultyBlocks, HasFaultyPoint}
 use Rattle.cip_main.proofs.Readings.{told, some_job}
@@ -144,20 +146,41 @@ one_value r text x y h e = same_value (sym h.means ∙ e.means)
 no_line_fault : {K I X : Type 0} (r : Reading K I X) (text : List ℕ) (x : X) (line kind : ℕ) → HasResult r text x → HasLineFault r text line kind → ⊥
 no_line_fault r text x line kind h e = apart (sym h.means ∙ e.faulty)
 
-one_program : (text : List ℕ) (program other : Program) → HasProgram text program → HasProgram text other → program ≡ other
-one_program = one_value mps_reading
+one_program_as : (lp : Bool) (text : List ℕ) (program other : Program) → HasProgramAs lp text program → HasProgramAs lp text other → program ≡ other
+one_program_as true = one_value lp_reading
+one_program_as false = one_value mps_reading
 
-no_fault : (text : List ℕ) (program : Program) (line kind : ℕ) → HasProgram text program → HasFault text line kind → ⊥
-no_fault = no_line_fault mps_reading
+no_fault_as : (lp : Bool) (text : List ℕ) (program : Program) (line kind : ℕ) → HasProgramAs lp text program → HasFaultAs lp text line kind → ⊥
+no_fault_as true = no_line_fault lp_reading
+no_fault_as false = no_line_fault mps_reading
+
+-- a text has one first fault
+one_fault : {K I X : Type 0} (r : Reading K I X) (text : List ℕ) (line kind other_line other_kind : ℕ) → HasLineFault r text line kind → HasLineFault r text other_line other_kind → (line ≡ other_line) × (kind ≡ other_kind)
+one_fault r text line kind other_line other_kind h e = let same = sym h.faulty ∙ e.faulty in (same_line_of same, same_kind_of same)
+
+one_fault_as : (lp : Bool) (text : List ℕ) (line kind other_line other_kind : ℕ) → HasFaultAs lp text line kind → HasFaultAs lp text other_line other_kind → (line ≡ other_line) × (kind ≡ other_kind)
+one_fault_as true = one_fault lp_reading
+one_fault_as false = one_fault mps_reading
+
+one_program : (call : Call) (text : List ℕ) (program other : Program) → HasProgram call text program → HasProgram call text other → program ≡ other
+one_program call = one_program_as (is_lp_name (model_in call.job))
+
+no_fault : (call : Call) (text : List ℕ) (program : Program) (line kind : ℕ) → HasProgram call text program → HasFault call text line kind → ⊥
+no_fault call = no_fault_as (is_lp_name (model_in call.job))
 
 -- the program that was read is the one of the text
-asked_program : (call : Call) (asked : Job) (text : List ℕ) (program : Program) → IfSome (call.store.holds (model_of asked)) (λ bytes. HasProgram bytes program) → call.job ≡ Some asked → (asks : AsksOf call text) → HasProgram text program
+asked_program : (call : Call) (asked : Job) (text : List ℕ) (program : Program) → IfSome (call.store.holds (model_of asked)) (λ bytes. HasModel (model_of asked) bytes program) → call.job ≡ Some asked → (asks : AsksOf call text) → HasProgram call text program
 asked_program call asked text program h e asks =
-    of_text (λ bytes. HasProgram bytes program) _ text h (ap (λ job. call.store.holds (model_of job)) (one_job e asks.job) ∙ asks.held)
+    subst (λ (job : Option Job). HasModel (model_in job) text program) (sym e)
+    (of_text (λ bytes. HasModel (model_of asked) bytes program) _ text h (ap (λ job. call.store.holds (model_of job)) (one_job e asks.job) ∙ asks.held))
 
-fault_asked : (call : Call) (text : List ℕ) (line kind : ℕ) → AsksOf call text → HasFaultyModel call.job call.store call.store_after line kind → HasFault text line kind
-fault_asked call text line kind asks f =
-    of_text (λ bytes. HasFault bytes line kind) _ text f.refuses.fault (ap (λ job. call.store.holds (model_of job)) (one_job f.is_asked asks.job) ∙ asks.held)
+fault_asked : (call : Call) (text : List ℕ) (fault : ModelFault) → AsksOf call text → HasFaultyModel call.job call.store call.store_after fault → HasFault call text (model_line fault) (model_kind fault)
+fault_asked call text fault asks f =
+    subst (λ (job : Option Job). HasModelFault (model_in job) text (model_line fault) (model_kind fault)) (sym f.is_asked)
+    (of_text (λ bytes. HasModelFault (model_of f.asked) bytes (model_line fault) (model_kind fault)) _ text f.refuses.first (ap (λ job. call.store.holds (model_of job)) (one_job f.is_asked asks.job) ∙ asks.held))
+
+own_fault : (call : Call) (fault : ModelFault) → HasFaultyModel call.job call.store call.store_after fault → is_lp_fault fault ≡ is_lp_name (model_in call.job)
+own_fault call fault f = subst (λ (job : Option Job). is_lp_fault fault ≡ is_lp_name (model_in job)) (sym f.is_asked) f.refuses.own
 
 of_solve : (call : Call) (text : List ℕ) (limits : Limits) → Asks call text limits → AsksOf call text
 of_solve call text limits asks = record { asked = Solve asks.model asks.blocks limits; job = asks.job; held = asks.held }
@@ -168,33 +191,33 @@ of_blocks call text blocks_text asks = record { asked = Solve asks.model (Some a
 of_check : (call : Call) (text point_text : List ℕ) → AsksToCheck call text point_text → AsksOf call text
 of_check call text point_text asks = record { asked = Check asks.model asks.name; job = asks.job; held = asks.held }
 
-program_asked : (call : Call) (text : List ℕ) → AsksOf call text → (a : IsAnswered call) → HasProgram text a.program
+program_asked : (call : Call) (text : List ℕ) → AsksOf call text → (a : IsAnswered call) → HasProgram call text a.program
 program_asked call text asks a = asked_program call (Solve a.model a.blocks a.limits) text a.program a.is_read a.asked asks
 
-program_checked : (call : Call) (text : List ℕ) → AsksOf call text → (c : IsChecked call) → HasProgram text c.program
+program_checked : (call : Call) (text : List ℕ) → AsksOf call text → (c : IsChecked call) → HasProgram call text c.program
 program_checked call text asks c = asked_program call (Check c.model c.name) text c.program c.is_read c.asked asks
 
 -- the fault of the blocks that were read is one of the text, for the text's program
-blocks_fault_asked : (call : Call) (text blocks_text : List ℕ) (program : Program) (line kind : ℕ) → AsksWith call text blocks_text → HasProgram text program → HasFaultyBlocks call.job call.store call.store_after line kind → HasLineFault (block_reading program) blocks_text line kind
+blocks_fault_asked : (call : Call) (text blocks_text : List ℕ) (program : Program) (line kind : ℕ) → AsksWith call text blocks_text → HasProgram call text program → HasFaultyBlocks call.job call.store call.store_after line kind → HasLineFault (block_reading program) blocks_text line kind
 blocks_fault_asked call text blocks_text program line kind asks h f =
     let named : Some f.name ≡ Some asks.name = same_blocks f.is_asked asks.job in
-    let found : HasProgram text f.program = asked_program call (Solve f.model (Some f.name) f.limits) text f.program (told _ f.program f.reads.is_read) f.is_asked (of_blocks call text blocks_text asks) in
-    subst (λ p. HasLineFault (block_reading p) blocks_text line kind) (one_program text f.program program found h)
+    let found : HasProgram call text f.program = asked_program call (Solve f.model (Some f.name) f.limits) text f.program (told _ _ f.program f.reads.is_read) f.is_asked (of_blocks call text blocks_text asks) in
+    subst (λ p. HasLineFault (block_reading p) blocks_text line kind) (one_program call text f.program program found h)
     (of_text (λ bytes. HasLineFault (block_reading f.program) bytes line kind) _ blocks_text f.refuses.fault (ap call.store.holds (same_name named) ∙ asks.blocks_held))
 
-point_fault_asked : (call : Call) (text point_text : List ℕ) (program : Program) (line kind : ℕ) → AsksToCheck call text point_text → HasProgram text program → HasFaultyPoint call.job call.store call.store_after line kind → HasLineFault (point_reading program) point_text line kind
+point_fault_asked : (call : Call) (text point_text : List ℕ) (program : Program) (line kind : ℕ) → AsksToCheck call text point_text → HasProgram call text program → HasFaultyPoint call.job call.store call.store_after line kind → HasLineFault (point_reading program) point_text line kind
 point_fault_asked call text point_text program line kind asks h f =
-    let found : HasProgram text f.program = asked_program call (Check f.model f.name) text f.program (told _ f.program f.reads.is_read) f.is_asked (of_check call text point_text asks) in
-    subst (λ p. HasLineFault (point_reading p) point_text line kind) (one_program text f.program program found h)
+    let found : HasProgram call text f.program = asked_program call (Check f.model f.name) text f.program (told _ _ f.program f.reads.is_read) f.is_asked (of_check call text point_text asks) in
+    subst (λ p. HasLineFault (point_reading p) point_text line kind) (one_program call text f.program program found h)
     (of_text (λ bytes. HasLineFault (point_reading f.program) bytes line kind) _ point_text f.refuses.fault (ap call.store.holds (same_point f.is_asked asks.job) ∙ asks.point_held))
 
 -- ---- the headline
 
 -- the text of blocks that are refused has its first fault there as blocks of the program of the text
-refuses_blocks : (call : Call) (text : List ℕ) (program : Program) (fault : BlockFault) → AsksOf call text → HasProgram text program → GivesPlain call (Refused (Blocks fault)) → RefusesBlocks call program
+refuses_blocks : (call : Call) (text : List ℕ) (program : Program) (fault : BlockFault) → AsksOf call text → HasProgram call text program → GivesPlain call (Refused (Blocks fault)) → RefusesBlocks call program
 refuses_blocks call text program fault asks h g =
     let f = g.cause in
-    let found : HasProgram text f.program = asked_program call (Solve f.model (Some f.name) f.limits) text f.program (told _ f.program f.reads.is_read) f.is_asked asks in
+    let found : HasProgram call text f.program = asked_program call (Solve f.model (Some f.name) f.limits) text f.program (told _ _ f.program f.reads.is_read) f.is_asked asks in
     record {
       model = f.model;
       name = f.name;
@@ -203,21 +226,21 @@ refuses_blocks call text program fault asks h g =
       fault = fault;
       given = g;
       pulled = record { between = f.between; model_pulled = f.reads.pulled; second_pulled = f.refuses.pulled };
-      first = subst (λ p. IfSome (call.store.holds f.name) (λ bytes. HasLineFault (block_reading p) bytes fault.line (block_kind_number fault.kind))) (one_program text f.program program found h) f.refuses.fault;
+      first = subst (λ p. IfSome (call.store.holds f.name) (λ bytes. HasLineFault (block_reading p) bytes fault.line (block_kind_number fault.kind))) (one_program call text f.program program found h) f.refuses.fault;
     }
 
-headline_plain : (call : Call) (answer : Plain) → GivesPlain call answer → (text : List ℕ) (limits : Limits) (program : Program) → Asks call text limits → HasProgram text program → RefusesBlocks call program ⊎ IsCutShort call
+headline_plain : (call : Call) (answer : Plain) → GivesPlain call answer → (text : List ℕ) (limits : Limits) (program : Program) → Asks call text limits → HasProgram call text program → RefusesBlocks call program ⊎ IsCutShort call
 headline_plain call Usage g text limits program asks h = absurd (some_job asks.job g.cause.0)
 headline_plain call ReadFault g text limits program asks h = inr (inl g)
 headline_plain call (Refused (Model fault)) g text limits program asks h =
-    absurd (no_fault text program fault.line (kind_number fault.kind) h (fault_asked call text fault.line (kind_number fault.kind) (of_solve call text limits asks) g.cause))
+    absurd (no_fault call text program (model_line fault) (model_kind fault) h (fault_asked call text fault (of_solve call text limits asks) g.cause))
 headline_plain call (Refused (Blocks fault)) g text limits program asks h = inl (refuses_blocks call text program fault (of_solve call text limits asks) h g)
 headline_plain call (Refused (Point fault)) g text limits program asks h = absurd (solve_check asks.job g.cause.is_asked)
 headline_plain call NoMemory g text limits program asks h = inr (inr g)
 
-headline_figures : (call : Call) (text : List ℕ) (limits : Limits) (program : Program) → Asks call text limits → HasProgram text program → (a : IsAnswered call) → TellsTruth call program limits
+headline_figures : (call : Call) (text : List ℕ) (limits : Limits) (program : Program) → Asks call text limits → HasProgram call text program → (a : IsAnswered call) → TellsTruth call program limits
 headline_figures call text limits program asks h a =
-    subst (λ p. TellsTruth call p limits) (one_program text a.program program (program_asked call text (of_solve call text limits asks) a) h)
+    subst (λ p. TellsTruth call p limits) (one_program call text a.program program (program_asked call text (of_solve call text limits asks) a) h)
     (subst (λ n. TellsTruth call a.program n) (same_limits a.asked asks.job) a.answers)
 
 headline : (call : Call) → Ran call → Headline call
@@ -233,9 +256,9 @@ WorkOf call (gives_plain answer g) = ⊤
 WorkOf call (gives_figures a) = TellsWork call a.program a.limits
 WorkOf call (gives_verdict c) = ⊤
 
-work_figures : (call : Call) (text : List ℕ) (limits : Limits) (program : Program) → Asks call text limits → HasProgram text program → (a : IsAnswered call) → TellsWork call a.program a.limits → TellsWork call program limits
+work_figures : (call : Call) (text : List ℕ) (limits : Limits) (program : Program) → Asks call text limits → HasProgram call text program → (a : IsAnswered call) → TellsWork call a.program a.limits → TellsWork call program limits
 work_figures call text limits program asks h a w =
-    subst (λ p. TellsWork call p limits) (one_program text a.program program (program_asked call text (of_solve call text limits asks) a) h)
+    subst (λ p. TellsWork call p limits) (one_program call text a.program program (program_asked call text (of_solve call text limits asks) a) h)
     (subst (λ n. TellsWork call a.program n) (same_limits a.asked asks.job) w)
 
 work_clause : (call : Call) (r : Ran call) → WorkOf call r → WorkClause call
@@ -245,24 +268,24 @@ work_clause call (gives_verdict c) w text limits program asks h = absurd (solve_
 
 -- ---- checks
 
-check_plain : (call : Call) (answer : Plain) → GivesPlain call answer → (text point_text : List ℕ) (program : Program) (point : List ℚ) → AsksToCheck call text point_text → HasProgram text program → HasResult (point_reading program) point_text point → IsCutShort call
+check_plain : (call : Call) (answer : Plain) → GivesPlain call answer → (text point_text : List ℕ) (program : Program) (point : List ℚ) → AsksToCheck call text point_text → HasProgram call text program → HasResult (point_reading program) point_text point → IsCutShort call
 check_plain call Usage g text point_text program point asks h p = absurd (some_job asks.job g.cause.0)
 check_plain call ReadFault g text point_text program point asks h p = inl g
 check_plain call (Refused (Model fault)) g text point_text program point asks h p =
-    absurd (no_fault text program fault.line (kind_number fault.kind) h (fault_asked call text fault.line (kind_number fault.kind) (of_check call text point_text asks) g.cause))
+    absurd (no_fault call text program (model_line fault) (model_kind fault) h (fault_asked call text fault (of_check call text point_text asks) g.cause))
 check_plain call (Refused (Blocks fault)) g text point_text program point asks h p = absurd (solve_check g.cause.is_asked asks.job)
 check_plain call (Refused (Point fault)) g text point_text program point asks h p =
     absurd (no_line_fault (point_reading program) point_text point fault.line (point_kind_number fault.kind) p (point_fault_asked call text point_text program fault.line (point_kind_number fault.kind) asks h g.cause))
 check_plain call NoMemory g text point_text program point asks h p = inr g
 
-check_verdict : (call : Call) (c : IsChecked call) (text point_text : List ℕ) (program : Program) (point : List ℚ) → AsksToCheck call text point_text → HasProgram text program → HasResult (point_reading program) point_text point → TellsVerdict call program point
+check_verdict : (call : Call) (c : IsChecked call) (text point_text : List ℕ) (program : Program) (point : List ℚ) → AsksToCheck call text point_text → HasProgram call text program → HasResult (point_reading program) point_text point → TellsVerdict call program point
 check_verdict call c text point_text program point asks h p =
-    let same = one_program text c.program program (program_checked call text (of_check call text point_text asks) c) h in
+    let same = one_program call text c.program program (program_checked call text (of_check call text point_text asks) c) h in
     let found : HasResult (point_reading c.program) point_text c.point = of_text (λ bytes. HasResult (point_reading c.program) bytes c.point) _ point_text c.is_point (ap call.store.holds (same_point c.asked asks.job) ∙ asks.point_held) in
     subst (TellsVerdict call program) (one_value (point_reading program) point_text c.point point (subst (λ q. HasResult (point_reading q) point_text c.point) same found) p)
     (subst (λ q. TellsVerdict call q c.point) same c.verdict)
 
-check_always : (call : Call) → Ran call → (text point_text : List ℕ) (program : Program) (point : List ℚ) → AsksToCheck call text point_text → HasProgram text program → HasResult (point_reading program) point_text point → TellsVerdict call program point ⊎ IsCutShort call
+check_always : (call : Call) → Ran call → (text point_text : List ℕ) (program : Program) (point : List ℚ) → AsksToCheck call text point_text → HasProgram call text program → HasResult (point_reading program) point_text point → TellsVerdict call program point ⊎ IsCutShort call
 check_always call (gives_plain answer g) text point_text program point asks h p = inr (check_plain call answer g text point_text program point asks h p)
 check_always call (gives_figures a) text point_text program point asks h p = absurd (solve_check a.asked asks.job)
 check_always call (gives_verdict c) text point_text program point asks h p = inl (check_verdict call c text point_text program point asks h p)
@@ -379,48 +402,48 @@ read_fault_clause call r = record { rose = rose call r; sound = store_sound call
 
 -- ---- refusals
 
-blocks_first : (call : Call) (fault : BlockFault) → GivesPlain call (Refused (Blocks fault)) → (text blocks_text : List ℕ) → AsksWith call text blocks_text → HasBlocksFault text blocks_text fault.line (block_kind_number fault.kind)
+blocks_first : (call : Call) (fault : BlockFault) → GivesPlain call (Refused (Blocks fault)) → (text blocks_text : List ℕ) → AsksWith call text blocks_text → HasBlocksFault call text blocks_text fault.line (block_kind_number fault.kind)
 blocks_first call fault g text blocks_text asks =
     let f = g.cause in
-    let found : HasProgram text f.program = asked_program call (Solve f.model (Some f.name) f.limits) text f.program (told _ f.program f.reads.is_read) f.is_asked (of_blocks call text blocks_text asks) in
+    let found : HasProgram call text f.program = asked_program call (Solve f.model (Some f.name) f.limits) text f.program (told _ _ f.program f.reads.is_read) f.is_asked (of_blocks call text blocks_text asks) in
     record { program = f.program; is_program = found; first = blocks_fault_asked call text blocks_text f.program fault.line (block_kind_number fault.kind) asks found f }
 
-point_first : (call : Call) (fault : PointFault) → GivesPlain call (Refused (Point fault)) → (text point_text : List ℕ) → AsksToCheck call text point_text → HasPointFault text point_text fault.line (point_kind_number fault.kind)
+point_first : (call : Call) (fault : PointFault) → GivesPlain call (Refused (Point fault)) → (text point_text : List ℕ) → AsksToCheck call text point_text → HasPointFault call text point_text fault.line (point_kind_number fault.kind)
 point_first call fault g text point_text asks =
     let f = g.cause in
-    let found : HasProgram text f.program = asked_program call (Check f.model f.name) text f.program (told _ f.program f.reads.is_read) f.is_asked (of_check call text point_text asks) in
+    let found : HasProgram call text f.program = asked_program call (Check f.model f.name) text f.program (told _ _ f.program f.reads.is_read) f.is_asked (of_check call text point_text asks) in
     record { program = f.program; is_program = found; first = point_fault_asked call text point_text f.program fault.line (point_kind_number fault.kind) asks found f }
 
 first_fault : (call : Call) (fault : TextFault) → GivesPlain call (Refused fault) → IsFirstFault call fault
-first_fault call (Model fault) g = λ text asks. fault_asked call text fault.line (kind_number fault.kind) asks g.cause
+first_fault call (Model fault) g = λ text asks. fault_asked call text fault asks g.cause
 first_fault call (Blocks fault) g = blocks_first call fault g
 first_fault call (Point fault) g = point_first call fault g
 
 refused_only : (call : Call) → Ran call → call.status ≡ 4 → (fault : TextFault) × GivesPlain call (Refused fault) × IsFirstFault call fault
 refused_only call r e = let refuses = refusal call r e in (refuses.0, refuses.1, first_fault call refuses.0 refuses.1)
 
-model_plain : (call : Call) (answer : Plain) → GivesPlain call answer → (text : List ℕ) (line kind : ℕ) → AsksOf call text → HasFault text line kind → TellsModelFault call line kind ⊎ IsCutShort call
+model_plain : (call : Call) (answer : Plain) → GivesPlain call answer → (text : List ℕ) (line kind : ℕ) → AsksOf call text → HasFault call text line kind → TellsModelFault call line kind ⊎ IsCutShort call
 model_plain call Usage g text line kind asks h = absurd (some_job asks.job g.cause.0)
 model_plain call ReadFault g text line kind asks h = inr (inl g)
 model_plain call (Refused (Model fault)) g text line kind asks h =
-    let same : ◌≡◌ {A = Outcome Program} (texts.Faulty fault.line (kind_number fault.kind)) (texts.Faulty line kind) = sym (fault_asked call text fault.line (kind_number fault.kind) asks g.cause).faulty ∙ h.faulty in
-    inl (record { fault = fault; is_line = same_line_of same; is_kind = same_kind_of same; given = g })
+    let same = one_fault_as (is_lp_name (model_in call.job)) text (model_line fault) (model_kind fault) line kind (fault_asked call text fault asks g.cause) h in
+    inl (record { fault = fault; is_line = same.0; is_kind = same.1; own = own_fault call fault g.cause; given = g })
 model_plain call (Refused (Blocks fault)) g text line kind asks h =
-    absurd (no_fault text g.cause.program line kind (asked_program call _ text g.cause.program (told _ g.cause.program g.cause.reads.is_read) g.cause.is_asked asks) h)
+    absurd (no_fault call text g.cause.program line kind (asked_program call _ text g.cause.program (told _ _ g.cause.program g.cause.reads.is_read) g.cause.is_asked asks) h)
 model_plain call (Refused (Point fault)) g text line kind asks h =
-    absurd (no_fault text g.cause.program line kind (asked_program call _ text g.cause.program (told _ g.cause.program g.cause.reads.is_read) g.cause.is_asked asks) h)
+    absurd (no_fault call text g.cause.program line kind (asked_program call _ text g.cause.program (told _ _ g.cause.program g.cause.reads.is_read) g.cause.is_asked asks) h)
 model_plain call NoMemory g text line kind asks h = inr (inr g)
 
-model_always : (call : Call) → Ran call → (text : List ℕ) (line kind : ℕ) → AsksOf call text → HasFault text line kind → TellsModelFault call line kind ⊎ IsCutShort call
+model_always : (call : Call) → Ran call → (text : List ℕ) (line kind : ℕ) → AsksOf call text → HasFault call text line kind → TellsModelFault call line kind ⊎ IsCutShort call
 model_always call (gives_plain answer g) text line kind asks h = model_plain call answer g text line kind asks h
-model_always call (gives_figures a) text line kind asks h = absurd (no_fault text a.program line kind (program_asked call text asks a) h)
-model_always call (gives_verdict c) text line kind asks h = absurd (no_fault text c.program line kind (program_checked call text asks c) h)
+model_always call (gives_figures a) text line kind asks h = absurd (no_fault call text a.program line kind (program_asked call text asks a) h)
+model_always call (gives_verdict c) text line kind asks h = absurd (no_fault call text c.program line kind (program_checked call text asks c) h)
 
-blocks_plain : (call : Call) (answer : Plain) → GivesPlain call answer → (text blocks_text : List ℕ) (program : Program) (line kind : ℕ) → AsksWith call text blocks_text → HasProgram text program → HasLineFault (block_reading program) blocks_text line kind → TellsBlockFault call line kind ⊎ IsCutShort call
+blocks_plain : (call : Call) (answer : Plain) → GivesPlain call answer → (text blocks_text : List ℕ) (program : Program) (line kind : ℕ) → AsksWith call text blocks_text → HasProgram call text program → HasLineFault (block_reading program) blocks_text line kind → TellsBlockFault call line kind ⊎ IsCutShort call
 blocks_plain call Usage g text blocks_text program line kind asks h f = absurd (some_job asks.job g.cause.0)
 blocks_plain call ReadFault g text blocks_text program line kind asks h f = inr (inl g)
 blocks_plain call (Refused (Model fault)) g text blocks_text program line kind asks h f =
-    absurd (no_fault text program fault.line (kind_number fault.kind) h (fault_asked call text fault.line (kind_number fault.kind) (of_blocks call text blocks_text asks) g.cause))
+    absurd (no_fault call text program (model_line fault) (model_kind fault) h (fault_asked call text fault (of_blocks call text blocks_text asks) g.cause))
 blocks_plain call (Refused (Blocks fault)) g text blocks_text program line kind asks h f =
     let same = sym (blocks_fault_asked call text blocks_text program fault.line (block_kind_number fault.kind) asks h g.cause).faulty ∙ f.faulty in
     inl (record { fault = fault; is_line = same_line_of same; is_kind = same_kind_of same; given = g })
@@ -428,23 +451,23 @@ blocks_plain call (Refused (Point fault)) g text blocks_text program line kind a
 blocks_plain call NoMemory g text blocks_text program line kind asks h f = inr (inr g)
 
 -- blocks that were read have no fault
-blocks_answered : (call : Call) (a : IsAnswered call) (text blocks_text : List ℕ) (program : Program) (line kind : ℕ) → AsksWith call text blocks_text → HasProgram text program → HasLineFault (block_reading program) blocks_text line kind → ⊥
+blocks_answered : (call : Call) (a : IsAnswered call) (text blocks_text : List ℕ) (program : Program) (line kind : ℕ) → AsksWith call text blocks_text → HasProgram call text program → HasLineFault (block_reading program) blocks_text line kind → ⊥
 blocks_answered call a text blocks_text program line kind asks h f =
     let named : BlocksAreRead a.program (Some asks.name) call.store = subst (λ b. BlocksAreRead a.program b call.store) (same_blocks a.asked asks.job) a.are_read in
     let found = of_text (λ bytes. (parts : _) × HasResult (block_reading a.program) bytes parts) _ blocks_text named asks.blocks_held in
-    let same = one_program text a.program program (program_asked call text (of_blocks call text blocks_text asks) a) h in
+    let same = one_program call text a.program program (program_asked call text (of_blocks call text blocks_text asks) a) h in
     no_line_fault (block_reading a.program) blocks_text found.0 line kind found.1 (subst (λ q. HasLineFault (block_reading q) blocks_text line kind) (sym same) f)
 
-blocks_always : (call : Call) → Ran call → (text blocks_text : List ℕ) (program : Program) (line kind : ℕ) → AsksWith call text blocks_text → HasProgram text program → HasLineFault (block_reading program) blocks_text line kind → TellsBlockFault call line kind ⊎ IsCutShort call
+blocks_always : (call : Call) → Ran call → (text blocks_text : List ℕ) (program : Program) (line kind : ℕ) → AsksWith call text blocks_text → HasProgram call text program → HasLineFault (block_reading program) blocks_text line kind → TellsBlockFault call line kind ⊎ IsCutShort call
 blocks_always call (gives_plain answer g) text blocks_text program line kind asks h f = blocks_plain call answer g text blocks_text program line kind asks h f
 blocks_always call (gives_figures a) text blocks_text program line kind asks h f = absurd (blocks_answered call a text blocks_text program line kind asks h f)
 blocks_always call (gives_verdict c) text blocks_text program line kind asks h f = absurd (solve_check asks.job c.asked)
 
-point_plain : (call : Call) (answer : Plain) → GivesPlain call answer → (text point_text : List ℕ) (program : Program) (line kind : ℕ) → AsksToCheck call text point_text → HasProgram text program → HasLineFault (point_reading program) point_text line kind → TellsPointFault call line kind ⊎ IsCutShort call
+point_plain : (call : Call) (answer : Plain) → GivesPlain call answer → (text point_text : List ℕ) (program : Program) (line kind : ℕ) → AsksToCheck call text point_text → HasProgram call text program → HasLineFault (point_reading program) point_text line kind → TellsPointFault call line kind ⊎ IsCutShort call
 point_plain call Usage g text point_text program line kind asks h f = absurd (some_job asks.job g.cause.0)
 point_plain call ReadFault g text point_text program line kind asks h f = inr (inl g)
 point_plain call (Refused (Model fault)) g text point_text program line kind asks h f =
-    absurd (no_fault text program fault.line (kind_number fault.kind) h (fault_asked call text fault.line (kind_number fault.kind) (of_check call text point_text asks) g.cause))
+    absurd (no_fault call text program (model_line fault) (model_kind fault) h (fault_asked call text fault (of_check call text point_text asks) g.cause))
 point_plain call (Refused (Blocks fault)) g text point_text program line kind asks h f = absurd (solve_check g.cause.is_asked asks.job)
 point_plain call (Refused (Point fault)) g text point_text program line kind asks h f =
     let same = sym (point_fault_asked call text point_text program fault.line (point_kind_number fault.kind) asks h g.cause).faulty ∙ f.faulty in
@@ -452,13 +475,13 @@ point_plain call (Refused (Point fault)) g text point_text program line kind ask
 point_plain call NoMemory g text point_text program line kind asks h f = inr (inr g)
 
 -- a point that was read has no fault
-point_checked : (call : Call) (c : IsChecked call) (text point_text : List ℕ) (program : Program) (line kind : ℕ) → AsksToCheck call text point_text → HasProgram text program → HasLineFault (point_reading program) point_text line kind → ⊥
+point_checked : (call : Call) (c : IsChecked call) (text point_text : List ℕ) (program : Program) (line kind : ℕ) → AsksToCheck call text point_text → HasProgram call text program → HasLineFault (point_reading program) point_text line kind → ⊥
 point_checked call c text point_text program line kind asks h f =
     let found : HasResult (point_reading c.program) point_text c.point = of_text (λ bytes. HasResult (point_reading c.program) bytes c.point) _ point_text c.is_point (ap call.store.holds (same_point c.asked asks.job) ∙ asks.point_held) in
-    let same = one_program text c.program program (program_checked call text (of_check call text point_text asks) c) h in
+    let same = one_program call text c.program program (program_checked call text (of_check call text point_text asks) c) h in
     no_line_fault (point_reading c.program) point_text c.point line kind found (subst (λ q. HasLineFault (point_reading q) point_text line kind) (sym same) f)
 
-point_always : (call : Call) → Ran call → (text point_text : List ℕ) (program : Program) (line kind : ℕ) → AsksToCheck call text point_text → HasProgram text program → HasLineFault (point_reading program) point_text line kind → TellsPointFault call line kind ⊎ IsCutShort call
+point_always : (call : Call) → Ran call → (text point_text : List ℕ) (program : Program) (line kind : ℕ) → AsksToCheck call text point_text → HasProgram call text program → HasLineFault (point_reading program) point_text line kind → TellsPointFault call line kind ⊎ IsCutShort call
 point_always call (gives_plain answer g) text point_text program line kind asks h f = point_plain call answer g text point_text program line kind asks h f
 point_always call (gives_figures a) text point_text program line kind asks h f = absurd (solve_check a.asked asks.job)
 point_always call (gives_verdict c) text point_text program line kind asks h f = absurd (point_checked call c text point_text program line kind asks h f)
@@ -513,7 +536,7 @@ no_limit call program limits n e l t ten =
     let full : length t.entries ≡ limits.nodes = both.0.full in
     omega (arith, short, full, l)
 
-ample : (call : Call) → Ran call → (text : List ℕ) (limits : Limits) (program : Program) (n : ℕ) → Asks call text limits → HasProgram text program → leaf_count program.integral (root program) ≡ Some n → max 1 (2 * n - 1) ≤ limits.nodes → call.status ≢ 10
+ample : (call : Call) → Ran call → (text : List ℕ) (limits : Limits) (program : Program) (n : ℕ) → Asks call text limits → HasProgram call text program → leaf_count program.integral (root program) ≡ Some n → max 1 (2 * n - 1) ≤ limits.nodes → call.status ≢ 10
 ample call (gives_plain answer g) text limits program n asks h e l ten = plain_not_ten answer (own_answer call _ 10 (said_plain call answer g) ten ten_five)
 ample call (gives_figures a) text limits program n asks h e l ten = no_limit call program limits n e l (headline_figures call text limits program asks h a) ten
 ample call (gives_verdict c) text limits program n asks h e l ten = absurd (solve_check asks.job c.asked)

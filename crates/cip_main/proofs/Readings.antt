@@ -10,12 +10,11 @@ use Rattle.cip_line_texts.specs.LineTexts.{HasResult, HasFault}
 use Rattle.cip_block_rules.specs.BlockRules.{block_reading}
 use Rattle.cip_point_rules.specs.PointRules.{point_reading}
 use Rattle.cip_point_rules.specs.PointStatements.{IsGivenOnce, given_by, PointsAreOfLines}
-use Rattle.cip_mps_rules.specs.MpsOutcome.{HasProgram}
-use Rattle.cip_mps_rules.specs.MpsStatements.{ProgramsAreWellFormed}
 use Rattle.cip_blocks.specs.BlockKinds.{kind_number as block_kind_number}
 use Rattle.cip_point.specs.PointKinds.{kind_number as point_kind_number}
 use Rattle.cip_input.specs.LimitedModels.{ProgramsAreLimited}
 use Rattle.cip_input.specs.TextsRead.{ReadsText, RefusesText}
+use Rattle.cip_input.specs.Models.{HasModel}
 use Rattle.cip_input.specs.ModelsRead.{IsRead, Reads, ReadCause}
 use Rattle.cip_input.specs.BlocksRead.{ReadsBlocks, BlocksCause}
 use Rattle.cip_input.specs.PointsRead.{ReadsPoint, PointCause}
@@ -32,31 +31,31 @@ use Rattle.cip_parts.specs.BlockParts.{Blocks as Parts}
 use Rattle.cip_main.specs.Tasks.{plain_of, plain_of_blocks, plain_of_point, model_of, TakesBlocks, IsSolve, IsCheck, TaskCause}
 
 -- it is that of the text that the store tells
-pub told : (text : Option (List ℕ)) (program : Program) → IsRead text program → IfSome text (λ bytes. HasProgram bytes program)
-told None program r = tt
-told (Some bytes) program r = subst (λ t. HasProgram t program) (sym r.told) r.described
+pub told : (name : List ℕ) (text : Option (List ℕ)) (program : Program) → IsRead name text program → IfSome text (λ bytes. HasModel name bytes program)
+told name None program r = tt
+told name (Some bytes) program r = subst (λ t. HasModel name t program) (sym r.told) r.described
 
 pub value_told : {X : Type 0} (HasValue : List ℕ → X → Type 0) (text : Option (List ℕ)) (old new : StoreTells) (value : X) → ReadsText HasValue text old new value → IfSome text (λ bytes. HasValue bytes value)
 value_told HasValue None old new value r = tt
 value_told HasValue (Some bytes) old new value r = subst (λ t. HasValue t value) (sym r.told) r.described
 
 -- the point of a text has a value for each column
-pub long : (text : Option (List ℕ)) (program : Program) (point_text : Option (List ℕ)) (old new : StoreTells) (point : List ℚ) → ProgramsAreWellFormed → PointsAreOfLines → IsRead text program → ReadsText (HasResult (point_reading program)) point_text old new point → length point ≡ columns program
-long text program point_text old new point formed lines r p =
+pub long : (name : List ℕ) (text : Option (List ℕ)) (program : Program) (point_text : Option (List ℕ)) (old new : StoreTells) (point : List ℚ) → ProgramsAreLimited → PointsAreOfLines → IsRead name text program → ReadsText (HasResult (point_reading program)) point_text old new point → length point ≡ columns program
+long name text program point_text old new point limited lines r p =
     AllZip-long (IsGivenOnce (given_by program p.bytes)) program.column_names point (lines program p.bytes point p.described).values
-    ∙ (formed r.bytes program r.described).column_names
+    ∙ (limited name r.bytes program r.described).well_formed.column_names
 
 pub some_job : {asked : Job} {job : Option Job} → job ≡ Some asked → job ≡ None → ⊥
 some_job h e = cc
 
 -- why there is no task where the text of the model gave no program
-pub unread_cause : (job : Option Job) (asked : Job) (old new : StoreTells) (cause : Unread) → job ≡ Some asked → ReadCause (old.holds (model_of asked)) old new cause → TaskCause job old new (plain_of cause)
+pub unread_cause : (job : Option Job) (asked : Job) (old new : StoreTells) (cause : Unread) → job ≡ Some asked → ReadCause (model_of asked) (old.holds (model_of asked)) old new cause → TaskCause job old new (plain_of cause)
 unread_cause job asked old new StoreFailed e h = record { asked = asked; is_asked = e; fails = inl h }
 unread_cause job asked old new (Faulty fault) e h = record { asked = asked; is_asked = e; refuses = h }
 unread_cause job asked old new NoMemory e h = record { sound = h; untouched = λ none. absurd (some_job e none) }
 
 -- why there is none where the text of the blocks gave none
-pub blocks_cause : (job : Option Job) (model name : List ℕ) (limits : Limits) (old between new : StoreTells) (program : Program) (cause : UnreadBlocks) → job ≡ Some (Solve model (Some name) limits) → Reads (old.holds model) old between program → between.holds ≡ old.holds → BlocksCause program (between.holds name) between new cause → TaskCause job old new (plain_of_blocks cause)
+pub blocks_cause : (job : Option Job) (model name : List ℕ) (limits : Limits) (old between new : StoreTells) (program : Program) (cause : UnreadBlocks) → job ≡ Some (Solve model (Some name) limits) → Reads model (old.holds model) old between program → between.holds ≡ old.holds → BlocksCause program (between.holds name) between new cause → TaskCause job old new (plain_of_blocks cause)
 blocks_cause job model name limits old between new program blocks.StoreFailed e r same h = record {
   asked = Solve model (Some name) limits;
   is_asked = e;
@@ -75,7 +74,7 @@ blocks_cause job model name limits old between new program (blocks.Faulty fault)
 blocks_cause job model name limits old between new program blocks.NoMemory e r same h = record { sound = h ∙ r.sound; untouched = λ none. absurd (some_job e none) }
 
 -- why there is none where the text of the point gave none
-pub point_cause : (job : Option Job) (model name : List ℕ) (old between new : StoreTells) (program : Program) (cause : UnreadPoint) → job ≡ Some (Check model name) → Reads (old.holds model) old between program → between.holds ≡ old.holds → PointCause program (between.holds name) between new cause → TaskCause job old new (plain_of_point cause)
+pub point_cause : (job : Option Job) (model name : List ℕ) (old between new : StoreTells) (program : Program) (cause : UnreadPoint) → job ≡ Some (Check model name) → Reads model (old.holds model) old between program → between.holds ≡ old.holds → PointCause program (between.holds name) between new cause → TaskCause job old new (plain_of_point cause)
 point_cause job model name old between new program point.StoreFailed e r same h = record {
   asked = Check model name;
   is_asked = e;
@@ -102,7 +101,7 @@ pub no_blocks : (program : Program) (blocks : Option (List ℕ)) (old between : 
 no_blocks program blocks old between e = subst (λ b. TakesBlocks program b old between between) (sym e) refl
 
 -- a program to solve was read, with its blocks
-pub is_solve : (job : Option Job) (model : List ℕ) (blocks : Option (List ℕ)) (limits : Limits) (old between new : StoreTells) (program : Program) → ProgramsAreLimited → 0 < limits.nodes → job ≡ Some (Solve model blocks limits) → Reads (old.holds model) old between program → TakesBlocks program blocks old between new → IsSolve job old new program limits
+pub is_solve : (job : Option Job) (model : List ℕ) (blocks : Option (List ℕ)) (limits : Limits) (old between new : StoreTells) (program : Program) → ProgramsAreLimited → 0 < limits.nodes → job ≡ Some (Solve model blocks limits) → Reads model (old.holds model) old between program → TakesBlocks program blocks old between new → IsSolve job old new program limits
 is_solve job model blocks limits old between new program limited some asked r b = record {
   model = model;
   blocks = blocks;
@@ -110,20 +109,20 @@ is_solve job model blocks limits old between new program limited some asked r b 
   between = between;
   reads = r;
   takes_blocks = b;
-  limited = limited r.is_read.bytes program r.is_read.described;
+  limited = limited model r.is_read.bytes program r.is_read.described;
   some = some;
 }
 
 -- a point to check was read, behind its program
-pub is_check : (job : Option Job) (model name : List ℕ) (old between new : StoreTells) (program : Program) (point : List ℚ) → ProgramsAreWellFormed → PointsAreOfLines → job ≡ Some (Check model name) → Reads (old.holds model) old between program → between.holds ≡ old.holds → ReadsPoint program (between.holds name) between new point → IsCheck job old new program point
-is_check job model name old between new program point formed lines asked r same p = record {
+pub is_check : (job : Option Job) (model name : List ℕ) (old between new : StoreTells) (program : Program) (point : List ℚ) → ProgramsAreLimited → PointsAreOfLines → job ≡ Some (Check model name) → Reads model (old.holds model) old between program → between.holds ≡ old.holds → ReadsPoint program (between.holds name) between new point → IsCheck job old new program point
+is_check job model name old between new program point limited lines asked r same p = record {
   model = model;
   name = name;
   asked = asked;
   between = between;
   reads = r;
   reads_point = subst (λ holds. ReadsPoint program (holds name) between new point) same p;
-  long = long _ program _ between new point formed lines r.is_read p;
+  long = long model _ program _ between new point limited lines r.is_read p;
 }
 
 -- a cause over what a call answers

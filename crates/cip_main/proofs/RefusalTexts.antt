@@ -12,6 +12,8 @@ use Rattle.cip_numerals.specs.NumberText.{natural_text, integer_text, denominato
 use Rattle.cip_numerals.proofs.NumberText.{IsFractionByte, fraction_text_plain, natural_text_decimal, natural_text_injective}
 use Rattle.cip_answers.specs.Figures.{end_line, line, refusal_text}
 use Rattle.cip_mps.specs.MpsKindTexts.{kind_texts as mps_texts}
+use Rattle.cip_lp.specs.LpKindTexts.{kind_texts as lp_texts}
+use Rattle.cip_input.specs.declared.model_faults.ModelFault.TheVariants.{Mps, Lp}
 use Rattle.cip_blocks.specs.BlockKindTexts.{kind_texts as block_texts}
 use Rattle.cip_point.specs.PointKindTexts.{kind_texts as point_texts}
 use Rattle.cip_main.specs.declared.refusals.TextFault.{TextFault}
@@ -123,6 +125,10 @@ mps_read : are_read 1 mps_texts ≡ true
 unfolding kind_read are_read
 mps_read = refl
 
+lp_read : are_read 1 lp_texts ≡ true
+unfolding kind_read are_read
+lp_read = refl
+
 blocks_read : are_read 1 block_texts ≡ true
 unfolding kind_read are_read
 blocks_read = refl
@@ -132,7 +138,8 @@ unfolding kind_read are_read
 point_read = refl
 
 read_kind : (fault : TextFault) → kind_read (kind_text fault) ≡ number_of fault
-read_kind (Model fault) = read_of mps_texts fault.kind.number mps_read fault.kind.some fault.kind.few
+read_kind (Model (Mps fault)) = read_of mps_texts fault.kind.number mps_read fault.kind.some fault.kind.few
+read_kind (Model (Lp fault)) = read_of lp_texts fault.kind.number lp_read fault.kind.some fault.kind.few
 read_kind (Blocks fault) = read_of block_texts fault.kind.number blocks_read fault.kind.some fault.kind.few
 read_kind (Point fault) = read_of point_texts fault.kind.number point_read fault.kind.some fault.kind.few
 

@@ -41,7 +41,7 @@ answered call program limits s w = runs call (gives_figures (record {
   limits = limits;
   asked = s.asked;
   program = program;
-  is_read = told _ program s.reads.is_read;
+  is_read = told _ _ program s.reads.is_read;
   are_read = are_read program s.blocks call.store s.between call.store_after s.takes_blocks;
   answers = w.answers;
   pulled = record { between = s.between; model_pulled = s.reads.pulled; second_pulled = behind program s.blocks call.store s.between call.store_after s.takes_blocks };
@@ -55,7 +55,7 @@ verdict_told call program point shown k e t = runs call (gives_verdict (record {
   name = k.name;
   asked = k.asked;
   program = program;
-  is_read = told _ program k.reads.is_read;
+  is_read = told _ _ program k.reads.is_read;
   point = point;
   is_point = value_told (HasResult (point_reading program)) (call.store.holds k.name) k.between call.store_after point k.reads_point;
   verdict = subst (TellsVerdict call program) e t;

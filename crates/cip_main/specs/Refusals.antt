@@ -6,12 +6,11 @@ use lib.Chars.{codes}
 use Rattle.std.specs.Prelude.{◌≡◌, ℕ, List}
 use Rattle.cip_numerals.specs.NumberText.{natural_text}
 use Rattle.cip_answers.specs.Figures.{refusal_text}
-use Rattle.cip_mps.specs.MpsFaultKinds.{kind_number as mps_kind_number}
-use Rattle.cip_mps.specs.MpsKindTexts.{kind_text as mps_kind_text}
 use Rattle.cip_blocks.specs.BlockKinds.{kind_number as block_kind_number}
 use Rattle.cip_blocks.specs.BlockKindTexts.{kind_text as block_kind_text}
 use Rattle.cip_point.specs.PointKinds.{kind_number as point_kind_number}
 use Rattle.cip_point.specs.PointKindTexts.{kind_text as point_kind_text}
+use Rattle.cip_input.specs.Models.{model_line, model_kind, model_kind_text}
 use Rattle.cip_main.specs.declared.refusals.TextFault.{TextFault}
 use Rattle.cip_main.specs.declared.refusals.TextFault.TheVariants.{Model, Blocks, Point}
 
@@ -25,19 +24,19 @@ text_name (Point fault) = codes "point"
 
 -- the line
 abbrev pub line_of : TextFault → ℕ
-line_of (Model fault) = fault.line
+line_of (Model fault) = model_line fault
 line_of (Blocks fault) = fault.line
 line_of (Point fault) = fault.line
 
 -- the number of the kind
 abbrev pub number_of : TextFault → ℕ
-number_of (Model fault) = mps_kind_number fault.kind
+number_of (Model fault) = model_kind fault
 number_of (Blocks fault) = block_kind_number fault.kind
 number_of (Point fault) = point_kind_number fault.kind
 
 -- the number and the name of the kind
 abbrev pub kind_text : TextFault → List ℕ
-kind_text (Model fault) = mps_kind_text (mps_kind_number fault.kind)
+kind_text (Model fault) = model_kind_text fault
 kind_text (Blocks fault) = block_kind_text (block_kind_number fault.kind)
 kind_text (Point fault) = point_kind_text (point_kind_number fault.kind)
 

@@ -8,13 +8,14 @@ use Rattle.cip_rational.specs.Rational.{ℚ}
 use Rattle.cip_problem.specs.Program.{Program}
 use Rattle.cip_problem.specs.Log.{root, leaf_count}
 use Rattle.cip_leaves.specs.Leaf.{Leaf}
-use Rattle.cip_mps_rules.specs.MpsOutcome.{HasProgram, HasFault}
 use Rattle.cip_line_texts.specs.LineTexts.{HasResult, HasFault as HasLineFault}
 use Rattle.cip_parts.specs.BlockParts.{Blocks as Parts}
 use Rattle.cip_block_rules.specs.BlockRules.{block_reading}
 use Rattle.cip_point_rules.specs.PointRules.{point_reading}
 use Rattle.cip_words.specs.Jobs.{Limits, Job, Solve, Check}
+use Rattle.cip_input.specs.Models.{is_lp_name, HasModel, HasModelFault, is_lp_fault, model_line, model_kind}
 use Rattle.cip_input.specs.TextPulls.{IsAllPulled}
+use Rattle.cip_input.specs.declared.model_faults.ModelFault.{ModelFault}
 use Rattle.cip_answers.specs.Figures.{NodeLimit, Gap, Wide, Overflow}
 use Rattle.cip_search.specs.Headline.{ShowsGap, IsSpent, ShowsOverflow, EndsItself}
 use Rattle.cip_answers.specs.Checks.{check_text, check_status}
@@ -25,8 +26,6 @@ use Rattle.cip_model.specs.declared.verdicts.Verdict.{Verdict}
 use Rattle.cip_model.specs.declared.verdicts.Verdict.TheVariants as verdicts
 use Rattle.cip_solve.specs.declared.logs.Log.{Log}
 use Rattle.cip_solve.specs.Logs.{entries_of}
-use Rattle.cip_mps.specs.MpsFaultKinds.{kind_number as mps_kind_number}
-use Rattle.cip_mps.specs.declared.faults.MpsFault.{MpsFault}
 use Rattle.cip_blocks.specs.BlockKinds.{kind_number as block_kind_number}
 use Rattle.cip_blocks.specs.declared.faults.BlockFault.{BlockFault}
 use Rattle.cip_point.specs.PointKinds.{kind_number as point_kind_number}
@@ -66,6 +65,19 @@ call_of job store store_after sink sink_after logs logs_after status = record {
   logs_after = logs_after;
   status = status;
 }
+
+-- the name of the text of the model that the words name
+abbrev pub model_in : Option Job → List ℕ
+model_in None = []
+model_in (Some asked) = model_of asked
+
+-- a text describes a program, or has its first fault at this line, of this kind: as an LP text where the name of the
+-- model's text ends in `.lp`, and else as one of free MPS
+abbrev pub HasProgram : Call → (text : List ℕ) → Program → Type 0
+HasProgram call text program = HasModel (model_in call.job) text program
+
+abbrev pub HasFault : Call → (text : List ℕ) → (line kind : ℕ) → Type 0
+HasFault call text line kind = HasModelFault (model_in call.job) text line kind
 
 -- no call of the store has failed, unless its count of faults stands at its last value
 abbrev pub IsStoreSound : Call → Type 0
@@ -120,7 +132,7 @@ pub record IsAnswered (call : Call) : Type 0 where
   pub limits : Limits
   pub asked : call.job ≡ Some (Solve model blocks limits)
   pub program : Program
-  pub is_read : IfSome (call.store.holds model) (λ text. HasProgram text program)
+  pub is_read : IfSome (call.store.holds model) (λ text. HasModel model text program)
   pub are_read : BlocksAreRead program blocks call.store
   pub answers : TellsTruth call program limits
   pub pulled : ArePulled model blocks call.store call.store_after
@@ -132,7 +144,7 @@ pub record IsChecked (call : Call) : Type 0 where
   pub name : List ℕ
   pub asked : call.job ≡ Some (Check model name)
   pub program : Program
-  pub is_read : IfSome (call.store.holds model) (λ text. HasProgram text program)
+  pub is_read : IfSome (call.store.holds model) (λ text. HasModel model text program)
   pub point : List ℚ
   pub is_point : IfSome (call.store.holds name) (λ text. HasResult (point_reading program) text point)
   pub verdict : TellsVerdict call program point
@@ -211,7 +223,7 @@ pub record RefusesBlocks (call : Call) (program : Program) : Type 0 where
 -- they name is refused; or the store failed, or want of memory is answered without figures
 abbrev pub Headline : Call → Type 0
 Headline call =
-    (text : List ℕ) (limits : Limits) (program : Program) → Asks call text limits → HasProgram text program
+    (text : List ℕ) (limits : Limits) (program : Program) → Asks call text limits → HasProgram call text program
     → TellsTruth call program limits ⊎ (RefusesBlocks call program ⊎ IsCutShort call)
 
 -- the verdict is that something is broken
@@ -238,7 +250,7 @@ pub record PointOverflows (call : Call) : Type 0 where
 -- status 1 comes only where the point that was read breaks something
 pub record CheckClause (call : Call) : Type 0 where
   pub always : (text point_text : List ℕ) (program : Program) (point : List ℚ) → AsksToCheck call text point_text
-      → HasProgram text program → HasResult (point_reading program) point_text point
+      → HasProgram call text program → HasResult (point_reading program) point_text point
       → TellsVerdict call program point ⊎ IsCutShort call
   pub exact : (model name : List ℕ) → call.job ≡ Some (Check model name)
       → call.status ≢ 3 → call.status ≢ 4 → call.status ≢ 5 → call.status ≢ 6
@@ -276,33 +288,34 @@ pub record ReadFaultClause (call : Call) : Type 0 where
   pub up_to_fault : (asked : Job) → call.job ≡ Some asked → call.status ≡ 4 → PullsToFault call asked
 
 -- the text of the model has a program, and that of the blocks its first fault at this line, of this kind
-pub record HasBlocksFault (text blocks_text : List ℕ) (line kind : ℕ) : Type 0 where
+pub record HasBlocksFault (call : Call) (text blocks_text : List ℕ) (line kind : ℕ) : Type 0 where
   pub program : Program
-  pub is_program : HasProgram text program
+  pub is_program : HasProgram call text program
   pub first : HasLineFault (block_reading program) blocks_text line kind
 
 -- the text of the model has a program, and that of the point its first fault at this line, of this kind
-pub record HasPointFault (text point_text : List ℕ) (line kind : ℕ) : Type 0 where
+pub record HasPointFault (call : Call) (text point_text : List ℕ) (line kind : ℕ) : Type 0 where
   pub program : Program
-  pub is_program : HasProgram text program
+  pub is_program : HasProgram call text program
   pub first : HasLineFault (point_reading program) point_text line kind
 
 -- the fault that is told is the first of its text, and the text before it has none
 abbrev pub IsFirstFault : Call → TextFault → Type 0
 IsFirstFault call (Model fault) =
-    (text : List ℕ) → AsksOf call text → HasFault text fault.line (mps_kind_number fault.kind)
+    (text : List ℕ) → AsksOf call text → HasFault call text (model_line fault) (model_kind fault)
 IsFirstFault call (Blocks fault) =
     (text blocks_text : List ℕ) → AsksWith call text blocks_text
-    → HasBlocksFault text blocks_text fault.line (block_kind_number fault.kind)
+    → HasBlocksFault call text blocks_text fault.line (block_kind_number fault.kind)
 IsFirstFault call (Point fault) =
     (text point_text : List ℕ) → AsksToCheck call text point_text
-    → HasPointFault text point_text fault.line (point_kind_number fault.kind)
+    → HasPointFault call text point_text fault.line (point_kind_number fault.kind)
 
--- a fault of this line and of this kind is told
+-- a fault of this line and of this kind is told, and of the model as one of its kind of text
 pub record TellsModelFault (call : Call) (line kind : ℕ) : Type 0 where
-  pub fault : MpsFault
-  pub is_line : fault.line ≡ line
-  pub is_kind : mps_kind_number fault.kind ≡ kind
+  pub fault : ModelFault
+  pub is_line : model_line fault ≡ line
+  pub is_kind : model_kind fault ≡ kind
+  pub own : is_lp_fault fault ≡ is_lp_name (model_in call.job)
   pub given : GivesPlain call (Refused (Model fault))
 
 pub record TellsBlockFault (call : Call) (line kind : ℕ) : Type 0 where
@@ -322,13 +335,13 @@ pub record TellsPointFault (call : Call) (line kind : ℕ) : Type 0 where
 -- answered
 pub record RefusedClause (call : Call) : Type 0 where
   pub only : call.status ≡ 4 → (fault : TextFault) × GivesPlain call (Refused fault) × IsFirstFault call fault
-  pub model : (text : List ℕ) (line kind : ℕ) → AsksOf call text → HasFault text line kind
+  pub model : (text : List ℕ) (line kind : ℕ) → AsksOf call text → HasFault call text line kind
       → TellsModelFault call line kind ⊎ IsCutShort call
   pub blocks : (text blocks_text : List ℕ) (program : Program) (line kind : ℕ) → AsksWith call text blocks_text
-      → HasProgram text program → HasLineFault (block_reading program) blocks_text line kind
+      → HasProgram call text program → HasLineFault (block_reading program) blocks_text line kind
       → TellsBlockFault call line kind ⊎ IsCutShort call
   pub point : (text point_text : List ℕ) (program : Program) (line kind : ℕ) → AsksToCheck call text point_text
-      → HasProgram text program → HasLineFault (point_reading program) point_text line kind
+      → HasProgram call text program → HasLineFault (point_reading program) point_text line kind
       → TellsPointFault call line kind ⊎ IsCutShort call
 
 -- status 5 comes only where the sink's count of faults rose, or stands at its last value; with every other status the
@@ -360,7 +373,7 @@ pub record SpentLog (call : Call) : Type 0 where
 pub record NodeLimitClause (call : Call) : Type 0 where
   pub spent : call.status ≡ 10 → SpentLog call
   pub ample : (text : List ℕ) (limits : Limits) (program : Program) (n : ℕ) → Asks call text limits
-      → HasProgram text program → leaf_count program.integral (root program) ≡ Some n
+      → HasProgram call text program → leaf_count program.integral (root program) ≡ Some n
       → max 1 (2 * n - 1) ≤ limits.nodes → call.status ≢ 10
 
 -- a search has ended by the gap that the words ask for
@@ -406,7 +419,7 @@ TellsWork call program limits =
 -- none are told, that is for what the headline says
 abbrev pub WorkClause : Call → Type 0
 WorkClause call =
-    (text : List ℕ) (limits : Limits) (program : Program) → Asks call text limits → HasProgram text program
+    (text : List ℕ) (limits : Limits) (program : Program) → Asks call text limits → HasProgram call text program
     → TellsWork call program limits ⊎ (RefusesBlocks call program ⊎ IsCutShort call)
 
 -- what holds of every call, part by part

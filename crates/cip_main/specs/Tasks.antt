@@ -10,7 +10,6 @@ use Rattle.cip_line_texts.specs.LineTexts.{HasFault}
 use Rattle.cip_parts.specs.BlockParts.{Blocks as Parts}
 use Rattle.cip_block_rules.specs.BlockRules.{block_reading}
 use Rattle.cip_point_rules.specs.PointRules.{point_reading}
-use Rattle.cip_mps.specs.MpsFaultKinds.{kind_number as mps_kind_number}
 use Rattle.cip_blocks.specs.BlockKinds.{kind_number as block_kind_number}
 use Rattle.cip_point.specs.PointKinds.{kind_number as point_kind_number}
 use Rattle.cip_words.specs.Jobs.{Limits, Job, Solve, Check}
@@ -21,6 +20,7 @@ use Rattle.cip_input.specs.TextsRead.{RefusesText}
 use Rattle.cip_input.specs.ModelsRead.{Reads, Refuses}
 use Rattle.cip_input.specs.BlocksRead.{ReadsBlocks}
 use Rattle.cip_input.specs.PointsRead.{ReadsPoint}
+use Rattle.cip_input.specs.declared.model_faults.ModelFault.{ModelFault}
 use Rattle.cip_input.specs.declared.models.Unread.{Unread}
 use Rattle.cip_input.specs.declared.models.Unread.TheVariants as unread
 use Rattle.cip_input.specs.declared.block_texts.UnreadBlocks.{UnreadBlocks}
@@ -81,7 +81,7 @@ pub record IsSolve (job : Option Job) (old new : StoreTells) (program : Program)
   pub blocks : Option (List ℕ)
   pub asked : job ≡ Some (Solve model blocks limits)
   pub between : StoreTells
-  pub reads : Reads (old.holds model) old between program
+  pub reads : Reads model (old.holds model) old between program
   pub takes_blocks : TakesBlocks program blocks old between new
   pub limited : IsLimited program
   pub some : 0 < limits.nodes
@@ -92,7 +92,7 @@ pub record IsCheck (job : Option Job) (old new : StoreTells) (program : Program)
   pub name : List ℕ
   pub asked : job ≡ Some (Check model name)
   pub between : StoreTells
-  pub reads : Reads (old.holds model) old between program
+  pub reads : Reads model (old.holds model) old between program
   pub reads_point : ReadsPoint program (old.holds name) between new point
   pub long : length point ≡ columns program
 
@@ -107,7 +107,7 @@ pub record FailsBehind (asked : Job) (old new : StoreTells) : Type 0 where
   pub named : second_of asked ≡ Some name
   pub program : Program
   pub between : StoreTells
-  pub reads : Reads (old.holds (model_of asked)) old between program
+  pub reads : Reads (model_of asked) (old.holds (model_of asked)) old between program
   pub rose : Rose between.faults new.faults
 
 -- the words are accepted, and the store failed: at the text of the model, or behind it
@@ -116,11 +116,11 @@ pub record IsUnreadable (job : Option Job) (old new : StoreTells) : Type 0 where
   pub is_asked : job ≡ Some asked
   pub fails : Rose old.faults new.faults ⊎ FailsBehind asked old new
 
--- the text of the model has its first fault at this line, of this kind
-pub record HasFaultyModel (job : Option Job) (old new : StoreTells) (line kind : ℕ) : Type 0 where
+-- this is the first fault of the text of the model
+pub record HasFaultyModel (job : Option Job) (old new : StoreTells) (fault : ModelFault) : Type 0 where
   pub asked : Job
   pub is_asked : job ≡ Some asked
-  pub refuses : Refuses (old.holds (model_of asked)) old new line kind
+  pub refuses : Refuses (model_of asked) (old.holds (model_of asked)) old new fault
 
 -- the text of the model was read, and that of the blocks has its first fault at this line, of this kind
 pub record HasFaultyBlocks (job : Option Job) (old new : StoreTells) (line kind : ℕ) : Type 0 where
@@ -130,7 +130,7 @@ pub record HasFaultyBlocks (job : Option Job) (old new : StoreTells) (line kind 
   pub is_asked : job ≡ Some (Solve model (Some name) limits)
   pub program : Program
   pub between : StoreTells
-  pub reads : Reads (old.holds model) old between program
+  pub reads : Reads model (old.holds model) old between program
   pub refuses : RefusesText (HasFault (block_reading program)) (old.holds name) between new line kind
 
 -- the text of the model was read, and that of the point has its first fault at this line, of this kind
@@ -140,7 +140,7 @@ pub record HasFaultyPoint (job : Option Job) (old new : StoreTells) (line kind :
   pub is_asked : job ≡ Some (Check model name)
   pub program : Program
   pub between : StoreTells
-  pub reads : Reads (old.holds model) old between program
+  pub reads : Reads model (old.holds model) old between program
   pub refuses : RefusesText (HasFault (point_reading program)) (old.holds name) between new line kind
 
 -- want of memory: no call of the store has failed, and for words that are not accepted none was made
@@ -152,7 +152,7 @@ pub record LacksMemory (job : Option Job) (old new : StoreTells) : Type 0 where
 abbrev pub TaskCause : Option Job → (old new : StoreTells) → Plain → Type 0
 TaskCause job old new Usage = (job ≡ None) × (new ≡ old)
 TaskCause job old new ReadFault = IsUnreadable job old new
-TaskCause job old new (Refused (Model fault)) = HasFaultyModel job old new fault.line (mps_kind_number fault.kind)
+TaskCause job old new (Refused (Model fault)) = HasFaultyModel job old new fault
 TaskCause job old new (Refused (Blocks fault)) = HasFaultyBlocks job old new fault.line (block_kind_number fault.kind)
 TaskCause job old new (Refused (Point fault)) = HasFaultyPoint job old new fault.line (point_kind_number fault.kind)
 TaskCause job old new NoMemory = LacksMemory job old new

@@ -3,14 +3,14 @@ ghost use Rattle.std.specs.Prelude.{◌≡◌, ◌≤◌, length};
 ghost use Rattle.cip_main.specs.Refusals.{text_name, line_of, kind_text};
 
 use cip_blocks::BlockFault;
-use cip_mps::MpsFault;
+use cip_input::ModelFault;
 use cip_point::PointFault;
 
 /// A faulty text: which one it is, its first line that breaks a rule, and the least kind that it breaks.
 #[derive(Clone, Copy, Debug, PartialEq, Eq)]
 pub enum TextFault {
     /// The text of the model.
-    Model(MpsFault),
+    Model(ModelFault),
     /// The text of the blocks.
     Blocks(BlockFault),
     /// The text of the point.
@@ -35,7 +35,7 @@ impl TextFault {
         ensures { result ≡ line_of self }
     {
         match self {
-            TextFault::Model(fault) => fault.line,
+            TextFault::Model(fault) => fault.line(),
             TextFault::Blocks(fault) => fault.line,
             TextFault::Point(fault) => fault.line,
         }
@@ -47,7 +47,7 @@ impl TextFault {
         ensures short { length result.now ≤ 20 }
     {
         match self {
-            TextFault::Model(fault) => fault.kind.text().as_bytes(),
+            TextFault::Model(fault) => fault.kind_text().as_bytes(),
             TextFault::Blocks(fault) => fault.kind.text().as_bytes(),
             TextFault::Point(fault) => fault.kind.text().as_bytes(),
         }

@@ -14,7 +14,6 @@ use cip_input::{
 };
 use cip_io::Store;
 use cip_model::Program;
-use cip_mps_rules::texts::programs_are_well_formed;
 use cip_point_rules::points::points_are_of_lines;
 use cip_solve::Options;
 use cip_words::{Job, Words, WordsFault};
@@ -107,7 +106,7 @@ fn take_blocks<S: Store>(
 ) -> Result<(), Plain>
     ensures { (job : Option Asked) (model : List ℕ) (limits : Limits) (old : StoreTells)
         → job ≡ Some (Solve model (option_map (λ text. text.now) blocks.entry) limits)
-        → Reads (old.holds model) old (S.tells store.old) program.now
+        → Reads model (old.holds model) old (S.tells store.old) program.now
         → (S.tells store.old).holds ≡ old.holds
         → MatchResult result
         (λ _. TakesBlocks program.now (option_map (λ text. text.now) blocks.entry) old (S.tells store.old)
@@ -153,7 +152,7 @@ fn read_check<S: Store>(
 {
     let program = read_program(alloc, store, model)?;
     let values = read_point(alloc, store, point, &program)?;
-    programs_are_well_formed();
+    programs_are_limited();
     points_are_of_lines();
     Ok(Task::Check {
         program,

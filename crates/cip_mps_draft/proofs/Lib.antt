@@ -5,5 +5,4 @@ pub mod ListLaws
 pub mod TakenLaws
 pub mod RowTermLaws
 pub mod CostLaws
-pub mod NameLaws
 pub mod ProgramLaws

@@ -5,4 +5,3 @@ pub mod FoundRows
 pub mod DraftLines
 pub mod DraftSteps
 pub mod Costs
-pub mod NamesApart

@@ -6,9 +6,9 @@ ghost use Rattle.cip_mps_steps.specs.MpsState.{is_kept};
 ghost use Rattle.cip_mps_steps.specs.MpsSoundState.{held_below};
 
 use crate::column_draft::ColumnDraft;
-use crate::name_index::NameIndex;
 use crate::row_draft::RowDraft;
 use cip_mps_lines::Part;
+use cip_name_index::NameIndex;
 use std::alloc::Global;
 
 /// A program as far as the lines of a text have said it. Rows of type N are kept like others, and dropped at the end.

@@ -8,7 +8,6 @@ mod column_program;
 mod column_puts;
 mod column_tests;
 mod draft;
-mod name_index;
 mod names;
 mod program;
 mod range_lines;

@@ -12,13 +12,13 @@ ghost use Rattle.cip_mps_draft.specs.DraftStates.{kept};
 
 use crate::column_program::{bounds_of, choices_of, costs_of, minimized, wholes_of};
 use crate::draft::Draft;
-use crate::name_index::NameIndex;
 use crate::row_draft::{Held, RowDraft};
 use crate::row_program::finished_rows;
 use cip_frac::Frac;
 use cip_lin::{Bounds, Choices, Row};
 use cip_model::{Names, Parts, Program, Sense};
 use cip_mps_steps::numbers_are_of_names;
+use cip_name_index::NameIndex;
 use std::alloc::{AllocError, Global};
 
 impl RowDraft {

@@ -11,10 +11,10 @@ ghost use Rattle.cip_mps_draft.specs.DraftStates.{kept};
 ghost use Rattle.cip_mps_draft.specs.DraftSteps.{IsStep, PlacesJoin};
 
 use crate::draft::Draft;
-use crate::name_index::NameIndex;
 use crate::sections::sense_fault;
 use cip_mps_lines::{BoundKind, BoundNumber, Line, Pairs, Part, RowKind, sense_of};
 use cip_mps_steps::lines_have_tests;
+use cip_name_index::NameIndex;
 use cip_text::Fields;
 use std::alloc::{AllocError, Global};
 

@@ -6,7 +6,7 @@ use Rattle.cip_problem.specs.Program.{Sides, Row, Program}
 use Rattle.cip_problem.specs.WellFormed.{IsWellFormed}
 use Rattle.cip_problem.proofs.Points.AtPlaces.{IsInBox-long}
 use Rattle.cip_linear.specs.LinearProgram.{IsPoint}
-use Rattle.cip_cuts.specs.Improving.{IsValidRow}
+use Rattle.cip_cuts.specs.Improving.{IsValidRow, IsBoundIn}
 use Rattle.cip_cuts.proofs.Improving.{fewer}
 use Rattle.cip_leaves.specs.Searched.{NoMore}
 use Rattle.cip_search.proofs.Relaxed.{greater}
@@ -18,7 +18,7 @@ use Rattle.cip_incumbent.specs.HeldPoint.{Holding}
 use Rattle.cip_domain.specs.Changes.{Region}
 use Rattle.cip_tree.specs.Nodes.{TakenNode, Nodes, region_of, box_of}
 use Rattle.cip_node_bounds.specs.NodeRows.{usable_rows}
-use Rattle.cip_node_bounds.specs.Relaxing.{node_program, ShowsLeast, ShowsFalling}
+use Rattle.cip_node_bounds.specs.Relaxing.{node_program, ShowsLeast, ShowsBound, ShowsFalling}
 use Rattle.cip_node_bounds.specs.Telling.{IsValidPool, NodeProgramsTell}
 use Rattle.cip_node_bounds.proofs.Told.{told}
 use Rattle.cip_node_bounds.specs.declared.relaxed.Mark.{Mark}
@@ -58,6 +58,11 @@ long_if f core box (Some v) h = point_long core box (f v) h
 pub as_long : {X : Type 0} (f : X → List ℚ) (n m : ℕ) (point : Option X) → n ≡ m → IfSome (option_map f point) (λ v. length v ≡ n) → IfSome point (λ v. length (f v) ≡ m)
 as_long f n m None e h = tt
 as_long f n m (Some v) e h = h ∙ e
+
+-- a bound that was shown beside a mark, if there is one, holds in a node's box
+pub safe_if : (core : CoreState) (box own : List Sides) (bound : Option ℚ) → box ≡ own → NodeProgramsTell (reduced_of core) (held_of core) (rows_lent core) box → IfSome bound (ShowsBound (reduced_of core) (rows_lent core) box) → IfSome bound (IsBoundIn (reduced_of core) (held_of core) own)
+safe_if core box own None e t h = tt
+safe_if core box own (Some b) e t h = subst (λ x. IsBoundIn (reduced_of core) (held_of core) x b) e (t.safe b h)
 
 -- a point that was offered beside a mark, if there is one
 pub tried_if : {X : Type 0} (f : X → List ℚ) (core : CoreState) (box : List Sides) (point : Option X) (mark : Mark) → IfSome point (λ v. IsPoint (node_program (reduced_of core) (rows_lent core) box) (f v)) → IfSome point (λ v. IsTried core.program (held_of core) (f v)) → HasTried core box (option_map f point) (Some mark)

@@ -1,8 +1,9 @@
 //! The linear program of a node in work.
 ghost use Rattle.std.specs.Prelude.{◌≡◌, length, IfOk, IfSome};
 ghost use Rattle.cip_problem.specs.WellFormed.{columns};
-ghost use Rattle.cip_tree.specs.Nodes.{region_of};
-ghost use Rattle.cip_core.specs.CoreStates.{held_of, IsAtWork};
+ghost use Rattle.cip_cuts.specs.Improving.{IsBoundIn};
+ghost use Rattle.cip_tree.specs.Nodes.{region_of, box_of};
+ghost use Rattle.cip_core.specs.CoreStates.{reduced_of, held_of, IsAtWork};
 ghost use Rattle.cip_core.specs.Later.{IsLaterAt};
 ghost use Rattle.cip_core.specs.Steps.{IsTried};
 ghost use Rattle.cip_node.specs.Bounding.{IsRelaxedOf, IsBounded};
@@ -11,15 +12,18 @@ ghost use Rattle.cip_node.specs.SameRows.{HasSameRows};
 use crate::works::NodeWork;
 use cip_core::Core;
 use cip_frac::Frac;
+use cip_lin::Combo;
 use cip_node_bounds::{Mark, Relaxed};
 use cip_node_rules::are_whole;
 use cip_tree::Node;
 use std::alloc::{AllocError, Global};
 
-/// What a linear program found: a point, if it has one and that was found, and the mark, if nothing was shown.
+/// What a linear program found: a point, if it has one and that was found; the combination that shows its least cost,
+/// if that was shown; and the mark, if it wasn't.
 #[derive(Drop)]
 pub(crate) struct Found {
     pub(crate) point: Option<Vec<Frac>>,
+    pub(crate) combo: Option<Combo>,
     pub(crate) mark: Option<Mark>,
 }
 
@@ -63,6 +67,21 @@ fn offer_if(core: &mut Core<'_>, node: &Node, point: &Option<Vec<Frac>>)
     }
 }
 
+/// Gives a node in work a bound that holds in its box, if there is one, rounded up where costs are whole, if it is
+/// greater than its own.
+fn raise_if(core: &Core<'_>, node: &mut Node, bound: Option<Frac>)
+    requires at_work { IsAtWork core.now node.old }
+    requires holds { IfSome bound
+        (IsBoundIn (reduced_of core.now) (held_of core.now) (box_of core.now.tree node.old)) }
+    ensures later { IsLaterAt core.now node.old core.now node.new }
+    ensures node { node.new ≡ record node.old { bound = node.new.bound } }
+{
+    match bound {
+        None => {}
+        Some(bound) => core.raise(node, bound),
+    }
+}
+
 impl<'a> NodeWork<'a> {
     /// Solves the linear program of the box in work, from where the last one of the node ended, or from the start that
     /// was handed on to it. `Err` comes where memory was refused.
@@ -77,8 +96,8 @@ impl<'a> NodeWork<'a> {
         Ok(relaxed)
     }
 
-    /// Solves the linear program of a node in work: its bound rises to what that shows, and a point that is whole on
-    /// whole columns is offered. `Err` comes where memory was refused; the node is in work then.
+    /// Solves the linear program of a node in work: its bound rises to what that shows, also beside a mark, and a point
+    /// that is whole on whole columns is offered. `Err` comes where memory was refused; the node is in work then.
     pub(crate) fn bound(&mut self, alloc: Global, node: &mut Node) -> Result<Bounded, AllocError>
         requires { IsAtWork self.old.core node.old }
         ensures later { IsLaterAt self.old.core node.old self.new.core node.new }
@@ -89,11 +108,16 @@ impl<'a> NodeWork<'a> {
         self.core.is_sound();
         match self.relaxed(alloc, node)? {
             Relaxed::Empty => Ok(Bounded::Empty),
-            Relaxed::Bound { point, bound } => {
+            Relaxed::Bound {
+                point,
+                bound,
+                combo,
+            } => {
                 self.core.raise(node, bound);
                 offer_whole(&mut self.core, node, point.as_slice());
                 Ok(Bounded::Open(Found {
                     point: Some(point),
+                    combo: Some(combo),
                     mark: None,
                 }))
             }
@@ -101,13 +125,16 @@ impl<'a> NodeWork<'a> {
                 offer_whole(&mut self.core, node, point.as_slice());
                 Ok(Bounded::Open(Found {
                     point: Some(point),
+                    combo: None,
                     mark: None,
                 }))
             }
-            Relaxed::Unsolved { mark, point } => {
+            Relaxed::Unsolved { mark, point, bound } => {
+                raise_if(&self.core, node, bound);
                 offer_if(&mut self.core, node, &point);
                 Ok(Bounded::Open(Found {
                     point,
+                    combo: None,
                     mark: Some(mark),
                 }))
             }

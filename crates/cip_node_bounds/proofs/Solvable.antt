@@ -1,7 +1,7 @@
 -- The linear program of a node can be solved.
 use Rattle.std.proofs.Common.{◌≡◌, ℕ, ◌≤◌, List, ◌++◌, length, All, sym, ap, subst, arith, length-append}
 use Rattle.std.proofs.lemmas.List.{length-map}
-use Rattle.std.proofs.lemmas.List.Elements.{All-append, All-map, All-filter}
+use Rattle.std.proofs.lemmas.List.Elements.{All-append}
 use Rattle.std.proofs.lemmas.List.Sums.{length-filter, count_by-le-length}
 use Rattle.cip_problem.specs.Program.{Sides, Row, Program}
 use Rattle.cip_problem.specs.WellFormed.{IsWellFormed, columns}
@@ -11,12 +11,8 @@ use Rattle.cip_cert.specs.declared.rows.PoolRow.{PoolRow}
 use Rattle.cip_cert.specs.Lent.{KeptFits}
 use Rattle.cip_rows.specs.RowPools.{Pool, IsSoundPool, usable_in}
 use Rattle.cip_simplex.specs.LpShape.{IsSolvable}
+use Rattle.cip_basis.proofs.Points.{usable_stand}
 use Rattle.cip_node_bounds.specs.NodeRows.{usable_rows}
-
-usable_stand : (box : List Sides) (n : ℕ) (rows : List PoolRow) → All (KeptFits n) rows → All (λ row. StandsBelow n row.terms) (usable_rows box rows)
-usable_stand box n rows h =
-    All-map (λ (row : Row). StandsBelow n row.terms) (λ (kept : PoolRow). kept.row) (usable_in box rows)
-    (λ k d l. (All-filter (λ (kept : PoolRow). box_inside box kept.scope) (KeptFits n) rows h k d l).stands)
 
 few_usable : (box : List Sides) (rows : List PoolRow) → length (usable_rows box rows) ≤ length rows
 few_usable box rows = omega (

@@ -18,7 +18,7 @@ use Rattle.cip_rows.specs.RowPools.{usable_in}
 use Rattle.cip_search.specs.Relaxation.{IsRelaxedBound}
 use Rattle.cip_search.proofs.Members.{here, later, kept_was_there, kept_passes, of_mapped}
 use Rattle.cip_node_bounds.specs.NodeRows.{usable_rows}
-use Rattle.cip_node_bounds.specs.Relaxing.{node_program, ShowsLeast, ShowsFalling}
+use Rattle.cip_node_bounds.specs.Relaxing.{node_program, ShowsLeast, ShowsBound, ShowsFalling}
 use Rattle.cip_node_bounds.specs.Telling.{IsValidPool, AllNodeProgramsTell}
 
 all_members : {X : Type 0} (P : X → Type 0) (xs : List X) → ((x : X) → Contains xs x → P x) → AllByRecursion P xs
@@ -49,8 +49,11 @@ module _ (program : Program) (held : Option ℚ) (lent : Lent) (box : List Sides
   with_constant : (a b : ℚ) → a ≤ℚ b → program.constant +ℚ a ≤ℚ program.constant +ℚ b
   with_constant a b l = +ℚ_mono (≤ℚ_refl program.constant) l
 
+  pub safe : (b : ℚ) → ShowsBound program lent box b → IsBoundIn program held box b
+  safe b s = λ other i w. subst (λ t. t ≤ℚ cost_of program other) (sym s.is_bound) (with_constant s.cost (dot program.costs other) (s.least other (is_point other i w)))
+
   pub bound : (point : List ℚ) (b : ℚ) → ShowsLeast program lent box point b → IsBoundIn program held box b
-  bound point b s = λ other i w. subst (λ t. t ≤ℚ cost_of program other) (sym s.is_bound) (with_constant s.cost (dot program.costs other) (s.optimal.least other (is_point other i w)))
+  bound point b s = safe b (record { cost = s.cost; least = s.optimal.least; is_bound = s.is_bound })
 
   pub relaxed : (point : List ℚ) (b : ℚ) → ShowsLeast program lent box point b → IsRelaxedBound program (usable_rows box lent.pool) box (Some b)
   relaxed point b s = record {
@@ -70,6 +73,7 @@ pub told : AllNodeProgramsTell
 told program held lent box e v = record {
   points = is_point program held lent box v;
   empty = empty program held lent box v;
+  safe = safe program held lent box v;
   bound = bound program held lent box v;
   relaxed = relaxed program held lent box v;
   falling = falling program held lent box v;

@@ -1,3 +1,4 @@
+pub mod Guessing
 pub mod NodeRows
 pub mod Relaxing
 pub mod Solving

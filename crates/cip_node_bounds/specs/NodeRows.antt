@@ -1,7 +1,7 @@
 -- The rows of a node's linear program: those of the program, and behind them the rows of the pool that may be used in
 -- the node's box; and how a combination names them.
 use Rattle.std.specs.Prelude.{◌≡◌, ℕ, ◌-◌, nat_lt, List, map, Option, None, Some, slice_get, if◌then◌else◌}
-use Rattle.cip_problem.specs.Program.{Sides, Row}
+use Rattle.cip_problem.specs.Program.{Sides}
 use Rattle.cip_lin.specs.declared.combos.RowId.{RowId}
 use Rattle.cip_lin.specs.declared.combos.RowId.TheVariants.{Own, Pool, Cutoff}
 use Rattle.cip_lin.specs.declared.combos.RowMultiple.{RowMultiple}
@@ -10,11 +10,9 @@ use Rattle.cip_bland.specs.EndAnswers.{Certificate}
 use Rattle.cip_cert.specs.declared.rows.PoolRow.{PoolRow}
 use Rattle.cip_rows.specs.RowPools.{usable_in}
 use Rattle.cip_simplex.specs.LpAnswers.{row_multiple, column_multiple}
+pub use Rattle.cip_basis.specs.Shown.{usable_rows}
 
--- the rows of the pool that may be used in a box, and their ids
-abbrev pub usable_rows : List Sides → List PoolRow → List Row
-usable_rows box pool = map (λ kept. kept.row) (usable_in box pool)
-
+-- the ids of the rows of the pool that may be used in a box
 abbrev pub usable_ids : List Sides → List PoolRow → List ℕ
 usable_ids box pool = map (λ kept. kept.id) (usable_in box pool)
 

@@ -3,7 +3,7 @@ use Rattle.std.specs.Prelude.{◌≡◌, ◌⊎◌, ℕ, true, List, length, IfS
 use Rattle.cip_rational.specs.Rational.{ℚ, ◌+ℚ◌}
 use Rattle.cip_rational.specs.Range.{sum_overflows}
 use Rattle.cip_problem.specs.Program.{Sides, Program}
-use Rattle.cip_linear.specs.LinearProgram.{LinearProgram, IsPoint, HasNoPoint, IsOptimal, IsRay}
+use Rattle.cip_linear.specs.LinearProgram.{LinearProgram, IsPoint, HasNoPoint, CostsAtLeast, IsOptimal, IsRay}
 use Rattle.cip_lin.specs.declared.combos.Combo.{Combo}
 use Rattle.cip_bland.specs.EndAnswers.{Certificate, Optimal, NoPoint, OutOfRange, LimitReached, answer}
 use Rattle.cip_bland.specs.Statements.{IsRight}
@@ -76,6 +76,12 @@ pub record ShowsLeast (program : Program) (lent : Lent) (box : List Sides) (poin
   pub optimal : IsOptimal (node_program program lent box) point cost
   pub is_bound : bound ≡ program.constant +ℚ cost
 
+-- no point costs less than this with the constant taken off
+pub record ShowsBound (program : Program) (lent : Lent) (box : List Sides) (bound : ℚ) : Type 0 where
+  pub cost : ℚ
+  pub least : CostsAtLeast (node_program program lent box) cost
+  pub is_bound : bound ≡ program.constant +ℚ cost
+
 -- a point from which the cost falls without end
 pub record ShowsFalling (program : Program) (lent : Lent) (box : List Sides) (point : List ℚ) : Type 0 where
   pub is_point : IsPoint (node_program program lent box) point
@@ -84,8 +90,10 @@ pub record ShowsFalling (program : Program) (lent : Lent) (box : List Sides) (po
 
 -- what the linear program of a node came to
 abbrev pub IsRelaxed : Program → Lent → List Sides → ℕ → Relaxed → Type 0
-IsRelaxed program lent box columns (Bound point bound) = ShowsLeast program lent box point.items bound
+IsRelaxed program lent box columns (Bound point bound combo) = ShowsLeast program lent box point.items bound
 IsRelaxed program lent box columns (Falls point) = ShowsFalling program lent box point.items
 IsRelaxed program lent box columns Empty = HasNoPoint (node_program program lent box)
-IsRelaxed program lent box columns (Unsolved mark point) =
-    IsMark program lent box columns mark × IfSome point (λ values. IsPoint (node_program program lent box) values.items)
+IsRelaxed program lent box columns (Unsolved mark point bound) =
+    IsMark program lent box columns mark
+    × (IfSome point (λ values. IsPoint (node_program program lent box) values.items)
+    × IfSome bound (ShowsBound program lent box))

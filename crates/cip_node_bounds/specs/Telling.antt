@@ -10,7 +10,7 @@ use Rattle.cip_cert.specs.declared.rows.PoolRow.{PoolRow}
 use Rattle.cip_cert.specs.Lent.{Lent}
 use Rattle.cip_search.specs.Relaxation.{IsRelaxedBound}
 use Rattle.cip_node_bounds.specs.NodeRows.{usable_rows}
-use Rattle.cip_node_bounds.specs.Relaxing.{node_program, ShowsLeast, ShowsFalling}
+use Rattle.cip_node_bounds.specs.Relaxing.{node_program, ShowsLeast, ShowsBound, ShowsFalling}
 
 -- each row of a pool is valid in its scope, which has a column for each of the box
 pub record IsValidPool (program : Program) (held : Option ℚ) (box : List Sides) (pool : List PoolRow) : Type 0 where
@@ -24,6 +24,8 @@ pub record NodeProgramsTell (program : Program) (held : Option ℚ) (lent : Lent
       → IsPoint (node_program program lent box) point
   -- where that has no point, none is there
   pub empty : HasNoPoint (node_program program lent box) → HasNoImproving program held box
+  -- what bounds it holds as a bound
+  pub safe : (b : ℚ) → ShowsBound program lent box b → IsBoundIn program held box b
   -- what its optimum comes to holds as a bound, and is one of the linear program
   pub bound : (point : List ℚ) (b : ℚ) → ShowsLeast program lent box point b → IsBoundIn program held box b
   pub relaxed : (point : List ℚ) (b : ℚ)

@@ -1,38 +1,59 @@
 //! What a basis that is guessed shows of the linear program of a node.
 ghost use Rattle.std.specs.Prelude.{◌≡◌, ◌≤◌, map, length, Option, IfOk, IfSome};
+ghost use Rattle.cip_rational.specs.Rational.{◌+ℚ◌};
 ghost use Rattle.cip_problem.specs.WellFormed.{columns};
 ghost use Rattle.cip_problem.specs.Program.{Row};
 ghost use Rattle.cip_node_bounds.specs.NodeRows.{usable_rows};
-ghost use Rattle.cip_node_bounds.specs.Relaxing.{IsRelaxed};
+ghost use Rattle.cip_node_bounds.specs.Guessing.{IsGuessed};
 
 use crate::relaxed::Relaxed;
 use crate::rows::UsableRows;
-use cip_basis::{Basis, Problem, Shown, show};
+use cip_basis::{Basis, Problem, Safe, Shown, safe_bound, show};
 use cip_cert::Scratch;
 use cip_dictionary::Stand;
+use cip_frac::Frac;
 use cip_guess::Standing;
 use cip_lin::Bounds;
 use cip_model::Program;
 use cip_simplex::Start;
 use std::alloc::{AllocError, Global};
 
+/// What a basis that is guessed shows of the linear program of a node.
+#[derive(Drop)]
+pub(crate) enum Guessed {
+    /// What it comes to.
+    Shown(Relaxed),
+    /// A bound of it with the constant, if there is one.
+    Safe(Option<Frac>),
+}
+
+/// A number with the constant of a program; none where the sum is out of range.
+fn with_constant(program: &Program, cost: Frac) -> Option<Frac>
+    ensures { IfSome result (λ bound. bound ≡ program.now.constant +ℚ cost) }
+{
+    match program.constant().add(cost) {
+        Ok(bound) => Some(bound),
+        Err(_) => None,
+    }
+}
+
 /// What a basis that is guessed shows of the linear program of a node: a point of least cost and that cost with the
-/// constant, or that there is no point; none where it shows nothing.
-pub(crate) fn shown_by_guess(
+/// constant, or that there is no point; else a bound, if there is one, by its multipliers, which are rounded.
+pub(crate) fn by_guess(
     alloc: Global,
     basis: &mut Basis,
     program: &Program,
     usable: &UsableRows<'_>,
     bounds: &Bounds,
     scratch: &mut Scratch,
-) -> Result<Option<Relaxed>, AllocError>
+) -> Result<Guessed, AllocError>
     requires columns { length bounds.now ≡ columns program.now }
     requires pool { length bounds.now ≡ usable.now.pool.now.columns }
     requires others { map (λ row. row.now) usable.now.rows.items ≡ usable_rows bounds.now usable.now.pool.now.rows }
     requires room { length bounds.now ≤ length scratch.old.row.entries }
-    ensures relaxed { (cutoff : Option Row) → IfOk result (λ found. IfSome found (IsRelaxed program.now
+    ensures guessed { (cutoff : Option Row) → IfOk result (IsGuessed program.now
         (record { own = program.now.rows; pool = usable.entry.now.pool.now.rows; cutoff = cutoff }) bounds.now
-        (length scratch.old.row.entries))) }
+        (length scratch.old.row.entries)) }
     ensures room { length scratch.new.row.entries ≡ length scratch.old.row.entries }
 {
     let _columns = program.columns();
@@ -46,12 +67,25 @@ pub(crate) fn shown_by_guess(
         costs: program.costs(),
     };
     match show(alloc, basis, &problem, scratch)? {
-        Some(Shown::Optimal { point, cost }) => match program.constant().add(cost) {
-            Ok(bound) => Ok(Some(Relaxed::Bound { point, bound })),
-            Err(_) => Ok(None),
+        Some(Shown::Optimal { point, cost, combo }) => match with_constant(program, cost) {
+            Some(bound) => Ok(Guessed::Shown(Relaxed::Bound {
+                point,
+                bound,
+                combo,
+            })),
+            None => Ok(Guessed::Safe(None)),
         },
-        Some(Shown::Empty) => Ok(Some(Relaxed::Empty)),
-        None => Ok(None),
+        Some(Shown::Empty) => Ok(Guessed::Shown(Relaxed::Empty)),
+        None => match safe_bound(alloc, basis, &problem, scratch)? {
+            Some(safe) => match safe {
+                Safe::Bound { cost } => match with_constant(program, cost) {
+                    Some(bound) => Ok(Guessed::Safe(Some(bound))),
+                    None => Ok(Guessed::Safe(None)),
+                },
+                Safe::Empty => Ok(Guessed::Shown(Relaxed::Empty)),
+            },
+            None => Ok(Guessed::Safe(None)),
+        },
     }
 }
 

@@ -1,16 +1,17 @@
 //! The linear program of a node, solved and checked.
-ghost use Rattle.std.specs.Prelude.{◌≡◌, ◌≤◌, map, length, IfOk, IfSome, MatchResult};
+ghost use Rattle.std.specs.Prelude.{◌≡◌, ◌≤◌, ℕ, List, map, length, IfOk, IfSome, MatchResult};
 ghost use Rattle.cip_rational.specs.Rational.{◌+ℚ◌};
+ghost use Rattle.cip_problem.specs.Program.{Sides, Program};
 ghost use Rattle.cip_problem.specs.WellFormed.{columns};
 ghost use Rattle.cip_problem.specs.Activity.{StandsBelow};
-ghost use Rattle.cip_cert.specs.Lent.{lent_of, multiples_of, Fits};
+ghost use Rattle.cip_cert.specs.Lent.{Lent, lent_of, multiples_of, Fits};
 ghost use Rattle.cip_search.specs.Relaxation.{relaxation};
 ghost use Rattle.cip_node_bounds.specs.NodeRows.{usable_rows, usable_ids};
 ghost use Rattle.cip_node_bounds.specs.Solving.{SaysRight};
-ghost use Rattle.cip_node_bounds.specs.Relaxing.{node_program, IsCostFault, IsOptimumFound, IsEmptinessFound, IsRelaxed};
+ghost use Rattle.cip_node_bounds.specs.Relaxing.{node_program, IsCostFault, IsOptimumFound, IsEmptinessFound, ShowsBound, IsRelaxed};
 
 use crate::asking::asked;
-use crate::guessing::{shown_by_guess, start_at};
+use crate::guessing::{Guessed, by_guess, start_at};
 use crate::names::name_combo;
 use crate::rows::UsableRows;
 use crate::solvers::NodeSolver;
@@ -38,10 +39,11 @@ pub enum Mark {
 /// What the linear program of a node came to.
 #[derive(Debug, Drop)]
 pub enum Relaxed {
-    /// A point of least cost, and that cost with the constant.
+    /// A point of least cost, that cost with the constant, and the combination that shows it.
     Bound {
         point: Vec<Frac>,
         bound: Frac,
+        combo: Combo,
     },
     /// A point from which the cost falls without end.
     Falls {
@@ -49,10 +51,12 @@ pub enum Relaxed {
     },
     /// There is no point.
     Empty,
-    /// Nothing is shown, for this reason; with a point, if one was found.
+    /// The least cost isn't shown, for this reason; with a point, if one was found, and a bound with the constant, if
+    /// one was.
     Unsolved {
         mark: Mark,
         point: Option<Vec<Frac>>,
+        bound: Option<Frac>,
     },
 }
 
@@ -126,10 +130,15 @@ fn of_optimum(
     ensures room { length scratch.new.row.entries ≡ length scratch.old.row.entries }
 {
     match checked_cost(rows, program, bounds, &combo, cost, scratch) {
-        Ok(bound) => Relaxed::Bound { point, bound },
+        Ok(bound) => Relaxed::Bound {
+            point,
+            bound,
+            combo,
+        },
         Err(fault) => Relaxed::Unsolved {
             mark: Mark::Refused { combo, fault },
             point: Some(point),
+            bound: None,
         },
     }
 }
@@ -155,6 +164,7 @@ fn of_no_point(
         Err(fault) => Relaxed::Unsolved {
             mark: Mark::Refused { combo, fault },
             point: None,
+            bound: None,
         },
     }
 }
@@ -195,11 +205,35 @@ fn judged(
         LpAnswer::Wide { moves } => Relaxed::Unsolved {
             mark: Mark::Wide { moves },
             point: None,
+            bound: None,
         },
         LpAnswer::Limit => Relaxed::Unsolved {
             mark: Mark::Limit,
             point: None,
+            bound: None,
         },
+    }
+}
+
+/// Puts a bound beside a mark; what has none stays as it is.
+fn with_bound(relaxed: Relaxed, bound: Option<Frac>) -> Relaxed
+    ensures { (program : Program) → (lent : Lent) → (box : List Sides) → (columns : ℕ)
+        → IsRelaxed program lent box columns relaxed → IfSome bound (ShowsBound program lent box)
+        → IsRelaxed program lent box columns result }
+{
+    match relaxed {
+        Relaxed::Bound {
+            point,
+            bound,
+            combo,
+        } => Relaxed::Bound {
+            point,
+            bound,
+            combo,
+        },
+        Relaxed::Falls { point } => Relaxed::Falls { point },
+        Relaxed::Empty => Relaxed::Empty,
+        Relaxed::Unsolved { mark, point, .. } => Relaxed::Unsolved { mark, point, bound },
     }
 }
 
@@ -210,9 +244,9 @@ fn judged(
 /// that has none, at most 10,000 by Bland's rule. What that shows is checked. `Bound` comes with a point of
 /// least cost and that cost with the constant, where the check accepts its combination; `Empty` where there is no
 /// point, and the check accepts that; `Falls` where the cost falls without end from a point; and `Unsolved` with its
-/// mark in all other cases. Rows behind those that a start knows are basic, and of one that knows more the others are
-/// passed over. Beside what it came to stands where the variables are then, to be the start of the nodes below. `Err`
-/// comes where memory was refused.
+/// mark in all other cases, with what the basis that was guessed bounds the cost by, if it does. Rows behind those that
+/// a start knows are basic, and of one that knows more the others are passed over. Beside what it came to stands where
+/// the variables are then, to be the start of the nodes below. `Err` comes where memory was refused.
 pub fn relax_from(
     alloc: Global,
     program: &Program,
@@ -235,11 +269,14 @@ pub fn relax_from(
     let columns = program.columns();
     let usable = UsableRows::gather(alloc, pool, bounds)?;
     let basis = &mut solver.basis;
-    if let Some(relaxed) = shown_by_guess(alloc, basis, program, &usable, bounds, scratch)? {
-        let variables = columns + program.rows().len() + usable.rows.len();
-        let last = start_at(alloc, &solver.basis, variables)?;
-        return Ok((relaxed, last));
-    }
+    let bound = match by_guess(alloc, basis, program, &usable, bounds, scratch)? {
+        Guessed::Shown(relaxed) => {
+            let variables = columns + program.rows().len() + usable.rows.len();
+            let last = start_at(alloc, &solver.basis, variables)?;
+            return Ok((relaxed, last));
+        }
+        Guessed::Safe(bound) => bound,
+    };
     let others = usable.rows.as_slice();
     let list = &mut solver.solver;
     let (found, last) = solved(alloc, list, program, pool, others, bounds, start)?;
@@ -251,5 +288,5 @@ pub fn relax_from(
     };
     let ids = usable.ids.as_slice();
     let relaxed = judged(&lent, program, ids, bounds, found, scratch);
-    Ok((relaxed, last))
+    Ok((with_bound(relaxed, bound), last))
 }

@@ -60,9 +60,10 @@ fn greatest_activity(row: &Row, bounds: &Bounds) -> Option<Frac>
     }
 }
 
-/// Two sides between which the activity of a row lies in a box.
+/// Two sides between which the activity of a row lies in a box: the least and the greatest activity, where they are in
+/// range.
 #[tactic(auto, using(crate::proofs::Enclosing::enclosed))]
-fn extent(row: &Row, bounds: &Bounds) -> Sides
+pub fn extent(row: &Row, bounds: &Bounds) -> Sides
     requires { StandsBelow (length bounds.now) row.now.terms }
     ensures { Encloses bounds.now row.now.terms result }
 {

@@ -6,6 +6,6 @@ mod extents;
 mod fixed_columns;
 mod single_rows;
 
-pub use extents::{RowSays, row_says};
+pub use extents::{RowSays, extent, row_says};
 pub use fixed_columns::{only_value, without_fixed};
 pub use single_rows::{one_term, single_sides};

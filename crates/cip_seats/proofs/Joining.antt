@@ -40,25 +40,25 @@ stepped step a b took = (b, took, refl)
 
 -- being disabled or enabled
 pub turned_once : (a b : State) (id : ℕ) (on : Bool) → Sat id (IsTurned on) a.seats b.seats
-    → b.places ≡ a.places → b.kept ≡ a.kept
+    → b.places ≡ a.places → b.names ≡ a.names → b.kept ≡ a.kept
     → b.lines ≡ cond a.kept (a.lines ++ line id (switch_word on) ∷ []) a.lines
     → Runs a (Turns id on ∷ []) b
-turned_once a b id on sat places kept lines =
-    stepped (Turns id on) a b (record { moves = (sat, places); kept = kept; lines = lines })
+turned_once a b id on sat places names kept lines =
+    stepped (Turns id on) a b (record { moves = (sat, places, names); kept = kept; lines = lines })
 
 -- a new priority
 pub ranked_once : (a b : State) (id : ℕ) (priority : ℤ)
     → Sat id (λ s t. t ≡ record s { priority = priority }) a.seats b.seats
-    → b.places ≡ a.places → b.kept ≡ a.kept → b.lines ≡ a.lines → Runs a (Ranks id priority ∷ []) b
-ranked_once a b id priority sat places kept lines =
+    → b.places ≡ a.places → b.names ≡ a.names → b.kept ≡ a.kept → b.lines ≡ a.lines → Runs a (Ranks id priority ∷ []) b
+ranked_once a b id priority sat places names kept lines =
     stepped (Ranks id priority) a b
-    (record { moves = (sat, places); kept = kept; lines = lines ∙ unwritten_lines a.kept a.lines })
+    (record { moves = (sat, places, names); kept = kept; lines = lines ∙ unwritten_lines a.kept a.lines })
 
 -- a note
 pub noted_once : (a b : State) (id : ℕ) (seat : Seat) (word : Word) → is_note word ≡ true
-    → slice_get a.seats id ≡ Some seat → b.seats ≡ a.seats → b.places ≡ a.places → b.kept ≡ a.kept
+    → slice_get a.seats id ≡ Some seat → b.seats ≡ a.seats → b.places ≡ a.places → b.names ≡ a.names → b.kept ≡ a.kept
     → b.lines ≡ cond a.kept (a.lines ++ line id word ∷ []) a.lines → Runs a (Notes id word ∷ []) b
-noted_once a b id seat word note at seats places kept lines =
+noted_once a b id seat word note at seats places names kept lines =
     let sat : Sat id (λ s t. (t ≡ s) × (is_note word ≡ true)) a.seats b.seats = record {
       old = seat;
       new = seat;
@@ -66,25 +66,26 @@ noted_once a b id seat word note at seats places kept lines =
       is = seats ∙ sym (set_self a.seats id seat at);
       how = (refl, note);
     } in
-    stepped (Notes id word) a b (record { moves = (sat, places); kept = kept; lines = lines })
+    stepped (Notes id word) a b (record { moves = (sat, places, names); kept = kept; lines = lines })
 
 -- one call
 pub called_once : (a b : State) (id : ℕ) (call : Call) → Sat id (IsCalled call) a.seats b.seats
-    → b.places ≡ a.places → b.kept ≡ a.kept
+    → b.places ≡ a.places → b.names ≡ a.names → b.kept ≡ a.kept
     → b.lines ≡ cond a.kept (a.lines ++ line id (word_of call) ∷ []) a.lines
     → Runs a (Calls id call ∷ []) b
-called_once a b id call sat places kept lines =
-    (b, record { moves = (sat, places); kept = kept; lines = lines }, refl)
+called_once a b id call sat places names kept lines =
+    (b, record { moves = (sat, places, names); kept = kept; lines = lines }, refl)
 
 -- one call, and a note
 pub called_noted : (a b : State) (id : ℕ) (call : Call) (word : Word) → is_note word ≡ true
-    → Sat id (IsCalled call) a.seats b.seats → b.places ≡ a.places → b.kept ≡ a.kept
+    → Sat id (IsCalled call) a.seats b.seats → b.places ≡ a.places → b.names ≡ a.names → b.kept ≡ a.kept
     → b.lines ≡ cond a.kept ((a.lines ++ line id (word_of call) ∷ []) ++ line id word ∷ []) a.lines
     → Runs a (Calls id call ∷ Notes id word ∷ []) b
-called_noted a b id call word note sat places kept lines =
+called_noted a b id call word note sat places names kept lines =
     let between : State = record {
       seats = b.seats;
       places = b.places;
+      names = b.names;
       lines = cond a.kept (a.lines ++ line id (word_of call) ∷ []) a.lines;
       kept = b.kept;
     } in
@@ -99,8 +100,9 @@ called_noted a b id call word note sat places kept lines =
           how = (refl, note);
         },
         refl,
+        refl,
       );
       kept = refl;
       lines = lines ∙ noted_lines a.kept b.kept a.lines (line id (word_of call)) (line id word) kept;
     } in
-    (between, record { moves = (sat, places); kept = kept; lines = refl }, (b, noted, refl))
+    (between, record { moves = (sat, places, names); kept = kept; lines = refl }, (b, noted, refl))

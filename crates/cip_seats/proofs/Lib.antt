@@ -6,3 +6,4 @@ pub mod Living
 pub mod Onward
 pub mod Running
 pub mod Telling
+pub mod Tracing

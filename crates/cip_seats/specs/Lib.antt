@@ -1,5 +1,8 @@
 pub mod Calling
+pub mod Delivering
+pub mod FaultNames
 pub mod Lives
+pub mod Ranks
 pub mod Seats
 pub mod Statements
 pub mod Steps

@@ -97,3 +97,17 @@ pub record LivesAreTold (state : State) : Type 0 where
   pub each : (id : ℕ) (seat : Seat) → slice_get state.seats id ≡ Some seat
       → life seat.who.kind (Some newborn) (words_of id state.lines) ≡ Some seat.standing
   pub others : (id : ℕ) → length state.seats ≤ id → words_of id state.lines ≡ []
+
+-- the word of a call, and no note, nor that of being disabled or enabled
+abbrev pub is_callback : Word → Bool
+is_callback say.Disabled = false
+is_callback say.Enabled = false
+is_callback say.NoMemory = false
+is_callback (say.Dropped count) = false
+is_callback (say.Refused fault) = false
+is_callback word = true
+
+-- the words of calls among some
+abbrev pub callbacks : List Word → List Word
+callbacks [] = []
+callbacks (word ∷ words) = if is_callback word then word ∷ callbacks words else callbacks words

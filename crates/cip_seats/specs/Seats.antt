@@ -20,11 +20,12 @@ pub record Seat : Type 0 where
   pub standing : Standing
   pub offs : ℕ
 
--- the seats by number, the shelf, from which what was included is gone, the lines written so far, and whether lines
--- are kept
+-- the seats by number, the shelf, from which what was included is gone, the names of those that were included, as a
+-- trace shows them, the lines written so far, and whether lines are kept
 pub record State : Type 0 where
   pub seats : List Seat
   pub places : List (Option Who)
+  pub names : List (List ℕ)
   pub lines : List TraceLine
   pub kept : Bool
 

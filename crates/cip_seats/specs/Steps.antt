@@ -3,6 +3,7 @@ use Rattle.std.specs.Prelude.{◌≡◌, ℕ, ◌+◌, ◌-◌, ◌^◌, ◌==�
 use Rattle.cip_events.specs.declared.words.Word.{Word}
 use Rattle.cip_events.specs.declared.words.Word.TheVariants as say
 use Rattle.cip_events.specs.declared.traces.TraceLine.{TraceLine}
+use Rattle.cip_events.specs.Names.{shown_name}
 use Rattle.cip_plugin.specs.Calls.{Ask, Call, Asked}
 use Rattle.cip_plugin.specs.Telling.{Heard}
 use Rattle.cip_plugin.specs.Who.{Who}
@@ -75,7 +76,7 @@ pub record IsSeated (who : Who) (seat : Seat) : Type 0 where
   pub standing : seat.standing ≡ newborn
   pub offs : seat.offs ≡ 0
 
--- a plugin came from a place of the shelf to the next seat
+-- a plugin came from a place of the shelf to the next seat, and its name was kept
 pub record Taken (place : ℕ) (before after : State) : Type 0 where
   pub who : Who
   pub seat : Seat
@@ -83,17 +84,20 @@ pub record Taken (place : ℕ) (before after : State) : Type 0 where
   pub place_now : after.places ≡ slice_set before.places place None
   pub seated : IsSeated who seat
   pub seats : after.seats ≡ before.seats ++ seat ∷ []
+  pub names : after.names ≡ before.names ++ shown_name who.label ∷ []
 
--- the seats and the shelf behind a step
+-- the seats, the shelf and the names behind a step
 abbrev pub Moves : Step → State → State → Type 0
 Moves (Calls id call) before after =
-    Sat id (IsCalled call) before.seats after.seats × (after.places ≡ before.places)
+    Sat id (IsCalled call) before.seats after.seats × (after.places ≡ before.places) × (after.names ≡ before.names)
 Moves (Notes id word) before after =
     Sat id (λ s t. (t ≡ s) × (is_note word ≡ true)) before.seats after.seats × (after.places ≡ before.places)
+    × (after.names ≡ before.names)
 Moves (Turns id on) before after =
-    Sat id (IsTurned on) before.seats after.seats × (after.places ≡ before.places)
+    Sat id (IsTurned on) before.seats after.seats × (after.places ≡ before.places) × (after.names ≡ before.names)
 Moves (Ranks id priority) before after =
     Sat id (λ s t. t ≡ record s { priority = priority }) before.seats after.seats × (after.places ≡ before.places)
+    × (after.names ≡ before.names)
 Moves (Takes place) before after = Taken place before after
 
 -- one step: what it moves, and its lines, where lines are kept

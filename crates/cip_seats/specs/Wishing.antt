@@ -12,7 +12,7 @@ use Rattle.cip_plugin.specs.declared.proposals.Wish.TheVariants.{Include, Disabl
 use Rattle.cip_seats.specs.declared.faults.WishFault.{WishFault}
 use Rattle.cip_seats.specs.declared.faults.WishFault.TheVariants.{NoSuchPlace, TakenPlace, NoSuchPlugin, Gone}
 use Rattle.cip_seats.specs.Seats.{Seat, State, is_live, is_on}
-use Rattle.cip_seats.specs.Steps.{Step, Calls, Notes, Turns, Ranks, Takes, Runs, calls_of, asks_in}
+use Rattle.cip_seats.specs.Steps.{Step, Calls, Notes, Turns, Ranks, Takes, Runs}
 use Rattle.cip_seats.specs.Calling.{same_kind, is_ready}
 
 -- what is wrong with a place of the shelf
@@ -100,12 +100,3 @@ raised_in node [] = []
 raised_in node (Takes place ∷ steps) = event_at node PluginIncluded ∷ raised_in node steps
 raised_in node (Calls id Exit ∷ steps) = event_at node PluginFreed ∷ raised_in node steps
 raised_in node (step ∷ steps) = raised_in node steps
-
--- all events were told at a node: each handler that is on throughout was told those that it wants of those that waited,
--- in order, and then of those that were raised meanwhile
-pub record Delivered (node : ℕ) (events : List Event) (before after : State) : Type 0 where
-  pub steps : List Step
-  pub run : Runs before steps after
-  pub each : (id : ℕ) (seat later : Seat) → slice_get before.seats id ≡ Some seat
-      → slice_get after.seats id ≡ Some later → IsOnThroughout seat later
-      → asks_in (calls_of id steps) ≡ to_each seat (events ++ raised_in node steps)

@@ -1,4 +1,7 @@
 //! Why a wish isn't granted.
+ghost use Rattle.std.specs.Prelude.{◌≡◌};
+ghost use Rattle.cip_seats.specs.FaultNames.{name_of};
+
 use std::alloc::AllocError;
 
 /// What is wrong with a wish.
@@ -18,7 +21,9 @@ pub enum WishFault {
 
 impl WishFault {
     /// The name of the fault, as a trace shows it.
-    pub fn name(self) -> &'static str {
+    pub fn name(self) -> &'static str
+        ensures { result.now ≡ name_of self }
+    {
         match self {
             WishFault::NoSuchPlace => "NoSuchPlace",
             WishFault::TakenPlace => "TakenPlace",

@@ -8,5 +8,5 @@ mod stages;
 
 pub use faults::WishFault;
 pub use keys::Key;
-pub use laws::{each_is_asked_once, lives_stay_told, runs_are_told};
+pub use laws::{each_is_asked_once, keys_are_ranked, lives_stay_told, runs_are_told, traces_tell};
 pub use stages::Stage;

@@ -3,6 +3,7 @@ pub mod BegunLaws
 pub mod ComesTo
 pub mod FinishLaws
 pub mod FirstRows
+pub mod FirstLaws
 pub mod Fits
 pub mod LeastBounds
 pub mod TurnLaws

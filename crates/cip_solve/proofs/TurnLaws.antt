@@ -1,5 +1,6 @@
 -- A search from one node to the next.
-use Rattle.std.proofs.Common.{◌≡◌, ◌≢◌, ℕ, ◌+◌, ◌-◌, ◌≤◌, drop, IfSome, Bool, true, false, not, is_some, IsSome, true≢false, List, [], ◌∷◌, ◌++◌, length, Option, None, Some, MatchOption, refl, sym, ap, ◌∙◌, subst, arith}
+use Rattle.std.proofs.Common.{◌≡◌, ◌≢◌, ℕ, ◌+◌, ◌-◌, ◌≤◌, drop, IfSome, Bool, true, false, not, is_some, IsSome, true≢false, List, [], ◌∷◌, ◌++◌, length, take, Option, None, Some, MatchOption, refl, sym, ap, ◌∙◌, subst, arith}
+use Rattle.std.proofs.lemmas.List.{take-append-le}
 use Rattle.cip_rational.specs.Rational.{ℚ}
 use Rattle.cip_rational.proofs.Rational.Order.{≤ℚ_refl}
 use Rattle.cip_problem.specs.Program.{Program}
@@ -26,6 +27,7 @@ use Rattle.cip_node.specs.declared.ends.NodeEnd.{NodeEnd}
 use Rattle.cip_node.specs.declared.ends.NodeEnd.TheVariants as by
 use Rattle.cip_endings.specs.LeastBounds.{least_of, bound_held, flat}
 use Rattle.cip_endings.specs.Gaps.{reaches_gap}
+use Rattle.cip_solve.specs.FirstStops.{IsLongerLog}
 use Rattle.cip_solve.specs.Logs.{marks_by}
 use Rattle.cip_solve.specs.Searching.{IsStill, IsTold, HasReachedGap, StopsEndless, StopsRefused, StopsAs, IsKeptAs}
 use Rattle.cip_solve.specs.Stopping.{WasLeast}
@@ -136,7 +138,7 @@ module _ (old mid new : CoreState) (node : TakenNode) (worst : Option Worst) (ta
   pub same_root : new.tree.root ≡ old.tree.root
   same_root = later.root ∙ ap (λ (t : Nodes). t.root) first.rest
 
-  same_log : mid.tree.log ≡ old.tree.log
+  pub same_log : mid.tree.log ≡ old.tree.log
   same_log = ap (λ (t : Nodes). t.log) first.rest
 
   same_parked : mid.tree.parked ≡ old.tree.parked
@@ -163,6 +165,12 @@ module _ (old mid new : CoreState) (node : TakenNode) (worst : Option Worst) (ta
   longer_by ended mark end h =
       let e = entry_of_end mid new node ended mark end h in
       omega (arith, one_longer mid new ended e.end e.entry, ap length same_log)
+
+  pub longer_log : (ended : Node) (mark : Option Mark) (end : NodeEnd) → IsEnd mid new node ended mark end → IsLongerLog old.tree.log new.tree.log
+  longer_log ended mark end h =
+      let e = entry_of_end mid new node ended mark end h in
+      let last : Entry = record { node = ended.number; bound = ended.bound; end = e.end } in
+      λ n s. ap (take n) (e.entry.logged ∙ ap (λ l. l ++ last ∷ []) same_log) ∙ take-append-le n old.tree.log (last ∷ []) s
 
   -- memory was refused
   pub refused_turn : (number : ℕ) (given bound : Option ℚ) (waiting : Option (Option ℚ)) → IsBack mid new number given → MatchOption waiting (old.tree.open_ ≡ []) (λ b. tree.IsLeastBound b old.tree.open_) → waiting ≢ None → bound ≡ flat (least_of (bound_held (cost_held old.incumbent)) (least_of waiting (worst_bound worst))) → StopsRefused new.program new.tree.root.bound new.tree new.incumbent bound

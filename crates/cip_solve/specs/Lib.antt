@@ -1,3 +1,4 @@
+pub mod FirstStops
 pub mod Logs
 pub mod Searching
 pub mod Solved

@@ -9,8 +9,10 @@ ghost use Rattle.cip_tree.specs.Nodes.{Nodes};
 ghost use Rattle.cip_node_bounds.specs.declared.relaxed.Mark.{Mark};
 ghost use Rattle.cip_core.specs.KeptNodes.{IsHolding};
 ghost use Rattle.cip_endings.specs.AnswerOf.{answer_of};
+ghost use Rattle.cip_solve.specs.FirstStops.{IsFirstStop};
 ghost use Rattle.cip_solve.specs.Logs.{entries_of, marked_in, numbers_of};
-ghost use Rattle.cip_solve.specs.Searching.{IsStill, IsTold, IsEndless, StopsStill, StopsEndless, StopsRefused, StopsAs, IsWithin};
+ghost use Rattle.cip_solve.specs.Searching.{IsStill, IsTold, IsEndless};
+ghost use Rattle.cip_solve.specs.Searching.{StopsStill, StopsEndless, StopsRefused, StopsAs, IsWithin};
 ghost use Rattle.cip_solve.specs.Solved.{AreMet, RayIsShown};
 ghost use Rattle.cip_solve.specs.Stopping.{BestIs};
 
@@ -168,6 +170,7 @@ impl<'a> Search<'a> {
         ensures nodes { result.nodes ≡ length (entries_of log.new) }
         ensures met { AreMet self.entry.work.core.program self.entry.work.core.tree.root.bound (entries_of log.new)
             log.new.marks.items }
+        ensures logged { entries_of log.new ≡ self.entry.work.core.tree.log }
     {
         let Search { work, worst, marks } = self;
         let NodeWork { core, .. } = work;
@@ -199,6 +202,8 @@ pub(crate) fn search_from(
     ensures nodes { result.nodes ≡ length (entries_of log.new) }
     ensures met { AreMet work.entry.core.program work.entry.core.tree.root.bound (entries_of log.new)
         log.new.marks.items }
+    ensures first { IsFirstStop work.entry.core.program work.entry.core.tree.root.bound options.now.gap
+        (entries_of log.new) }
 {
     let mut search = Search {
         work,

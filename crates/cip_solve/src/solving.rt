@@ -3,6 +3,7 @@ ghost use Rattle.std.specs.Prelude.{◌≡◌, ℕ, Option, [], ◌<◌, length}
 ghost use Rattle.cip_rational.specs.Rational.{ℚ};
 ghost use Rattle.cip_core.specs.Beginning.{AreNearColumns};
 ghost use Rattle.cip_endings.specs.AnswerOf.{answer_of};
+ghost use Rattle.cip_solve.specs.FirstStops.{StopsFirst};
 ghost use Rattle.cip_solve.specs.Logs.{entries_of};
 ghost use Rattle.cip_solve.specs.Solved.{IsSolved};
 
@@ -29,6 +30,7 @@ pub struct Options {
 pub fn unsearched(program: &Program) -> Answer
     ensures solved { (nodes : ℕ) (asked : Option ℚ) → IsSolved program.now nodes asked [] [] (answer_of result) }
     ensures nodes { result.nodes ≡ 0 }
+    ensures first { (asked : Option ℚ) → StopsFirst program.now asked [] }
 {
     Answer {
         ended: Ended::NoMemory,
@@ -40,14 +42,16 @@ pub fn unsearched(program: &Program) -> Answer
 
 /// Searches for a feasible point of least cost, over at most so many nodes; what was done is left in the log, in place
 /// of what it held. After each node has ended, and before the next is taken, it is seen whether the gap that was asked
-/// for is reached, and then the answer is `Gap`. Else it is `NodeLimit` exactly where as many nodes were taken and an
-/// open one matters; and `NoMemory` where memory was refused, with the point that was found by then.
+/// for is reached, and then the answer is `Gap`: so the last node is the first at whose end it is reached. Else it is
+/// `NodeLimit` exactly where as many nodes were taken and an open one matters; and `NoMemory` where memory was refused,
+/// with the point that was found by then.
 pub fn solve(alloc: Global, program: &Program, options: &Options, log: &mut Log) -> Answer
     requires near { AreNearColumns program.now }
     requires some { 0 < options.now.nodes }
     ensures solved { IsSolved program.now options.now.nodes options.now.gap (entries_of log.new) log.new.marks.items
         (answer_of result) }
     ensures nodes { result.nodes ≡ length (entries_of log.new) }
+    ensures first { StopsFirst program.now options.now.gap (entries_of log.new) }
 {
     log.taken.clear();
     log.marks.clear();

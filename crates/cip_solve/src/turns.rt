@@ -2,6 +2,7 @@
 ghost use Rattle.std.specs.Prelude.{◌≡◌, ℕ, ◌+◌, ◌<◌, ◌≤◌, true, false, Option, [], ◌++◌, length, MatchOption};
 ghost use Rattle.std.specs.Prelude.{vec_len, vec_capacity};
 ghost use Rattle.cip_rational.specs.Rational.{ℚ};
+ghost use Rattle.cip_solve.specs.FirstStops.{IsLongerLog, IsFirstStop};
 ghost use Rattle.cip_solve.specs.Logs.{marks_by};
 ghost use Rattle.cip_solve.specs.Searching.{IsStill, IsTold, IsKeptAs, HasReachedGap, StopsAs};
 
@@ -96,6 +97,7 @@ impl<'a> Search<'a> {
         ensures program { self.new.work.core.program ≡ self.old.work.core.program }
         ensures root { self.new.work.core.tree.root ≡ self.old.work.core.tree.root }
         ensures longer { length self.new.work.core.tree.log ≤ length self.old.work.core.tree.log + 1 }
+        ensures grown { IsLongerLog self.old.work.core.tree.log self.new.work.core.tree.log }
         ensures told { IsTold self.new.work.core.program self.new.work.core.tree.root.bound self.new.work.core.tree.log
             self.new.marks.items }
         ensures turned { (nodes : ℕ) (asked : Option ℚ) → MatchOption result
@@ -130,7 +132,9 @@ impl<'a> Search<'a> {
     fn has_reached_gap(&self, asked: &Option<Frac>) -> bool
         requires { IsStill self.now.work.core.program self.now.work.core.tree.root.bound self.now.work.core.tree
             self.now.work.core.incumbent self.now.worst }
-        ensures { result ≡ true → HasReachedGap asked.now self.now.work.core.tree self.now.work.core.incumbent }
+        ensures reached { result ≡ true → HasReachedGap asked.now self.now.work.core.tree self.now.work.core.incumbent }
+        ensures short { result ≡ false → HasReachedGap asked.now self.now.work.core.tree self.now.work.core.incumbent
+            → ⊥ }
     {
         if asked.is_none() {
             return false;
@@ -140,7 +144,8 @@ impl<'a> Search<'a> {
         reaches_gap(asked, &held, &bound)
     }
 
-    /// Takes up open nodes, at most so many, until the gap that was asked for is reached; how the search stops.
+    /// Takes up open nodes, at most so many, until the gap that was asked for is reached, behind the first at whose end
+    /// it is; how the search stops.
     pub(crate) fn explore(&mut self, alloc: Global, nodes: u64, asked: &Option<Frac>) -> Stop
         requires still { IsStill self.old.work.core.program self.old.work.core.tree.root.bound self.old.work.core.tree
             self.old.work.core.incumbent self.old.worst }
@@ -156,6 +161,8 @@ impl<'a> Search<'a> {
             self.new.marks.items }
         ensures stopped { StopsAs self.new.work.core.program self.new.work.core.tree.root.bound nodes asked.now
             self.new.work.core.tree self.new.work.core.incumbent self.new.worst result }
+        ensures first { IsFirstStop self.old.work.core.program self.old.work.core.tree.root.bound asked.now
+            self.new.work.core.tree.log }
     {
         for _ in 0..nodes {
             if let Some(stop) = self.turn(alloc) {

@@ -1,7 +1,13 @@
+use Rattle.std.proofs.Common.{sym, ◌∙◌}
 use Rattle.cip_input.proofs.ModelTexts.{read_later}
 use Rattle.cip_input.proofs.models.read_program.Goals as goal
 
+pub returns-then-ends_in_lp-clause-answer : goal.returns-then-ends_in_lp-clause-answer
+returns-then-ends_in_lp-clause-answer g c =
+    read_later c.args.name.now _ (g.S.Store.tells c.args.store.now) (g.S.Store.tells c.choose.new.self) (g.S.Store.tells c.read_lp_text.new.store) c.read_lp_text.result
+    c.in_ok-choose.ensures.left c.in_ok-choose.ensures.faults.0 (c.read_lp_text.ensures.answer c.args.name.now (sym c.ends_in_lp.ensures ∙ c.if-ends_in_lp.true))
+
 pub returns-clause-answer : goal.returns-clause-answer
 returns-clause-answer g c =
-    read_later _ (g.S.Store.tells c.args.store.now) (g.S.Store.tells c.choose.new.self) (g.S.Store.tells c.read_text.new.store) c.read_text.result
-    c.in_ok-choose.ensures.left c.in_ok-choose.ensures.faults.0 c.read_text.ensures.answer
+    read_later c.args.name.now _ (g.S.Store.tells c.args.store.now) (g.S.Store.tells c.choose.new.self) (g.S.Store.tells c.read_mps_text.new.store) c.read_mps_text.result
+    c.in_ok-choose.ensures.left c.in_ok-choose.ensures.faults.0 (c.read_mps_text.ensures.answer c.args.name.now (sym c.ends_in_lp.ensures ∙ c.if-ends_in_lp.false))

@@ -12,4 +12,4 @@ returns-in_err-values g c = λ job asked.
 
 pub returns : goal.returns
 returns g c = λ job asked.
-    is_check job c.args.model.now c.args.point.now _ _ _ _ _ c.programs_are_well_formed.ensures c.points_are_of_lines.ensures asked c.in_ok-program.ensures.answer c.in_ok-program.ensures.holds c.in_ok-values.ensures.answer
+    is_check job c.args.model.now c.args.point.now _ _ _ _ _ c.programs_are_limited.ensures c.points_are_of_lines.ensures asked c.in_ok-program.ensures.answer c.in_ok-program.ensures.holds c.in_ok-values.ensures.answer

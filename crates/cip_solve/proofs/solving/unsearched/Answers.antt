@@ -1,5 +1,6 @@
 use Rattle.std.proofs.Common.{[]}
 use Rattle.cip_solve.proofs.BegunLaws.{nothing_searched, none_met}
+use Rattle.cip_solve.proofs.FirstLaws.{first_of_none}
 use Rattle.cip_solve.proofs.solving.unsearched.Goals as goal
 
 pub returns-clause-solved : goal.returns-clause-solved
@@ -9,4 +10,11 @@ returns-clause-solved c = λ nodes asked. record {
   right = nothing_searched c.args.program.now c.root_bound.result c.root_bound.ensures.holds nodes asked;
   shown = λ ray e. absurd (cc);
   met = none_met c.args.program.now c.root_bound.result [];
+}
+
+pub returns-clause-first : goal.returns-clause-first
+returns-clause-first c = λ asked. record {
+  start = c.root_bound.result;
+  root = c.root_bound.ensures.root;
+  first = first_of_none c.args.program.now c.root_bound.result asked;
 }

@@ -6,8 +6,10 @@ use Rattle.cip_tree.specs.Nodes.{Nodes}
 use Rattle.cip_core.specs.CoreStates.{CoreState}
 use Rattle.cip_node.specs.declared.works.NodeWork.{NodeWork}
 use Rattle.cip_solve.specs.Logs.{marks_by}
+use Rattle.cip_solve.specs.FirstStops.{IsLongerLog}
 use Rattle.cip_solve.specs.Searching.{IsTold}
-use Rattle.cip_solve.proofs.TurnLaws.{some_there, none_there, nothing_open, refused_before, same_program, same_root, told_still, no_longer, longer_by, refused_turn, turned_by, told_turn}
+use Rattle.cip_solve.proofs.FirstLaws.{same_log_longer}
+use Rattle.cip_solve.proofs.TurnLaws.{longer_log, some_there, none_there, nothing_open, refused_before, same_program, same_root, told_still, no_longer, longer_by, same_log, refused_turn, turned_by, told_turn}
 use Rattle.cip_solve.proofs.turns.Search.turn.Goals as goal
 
 -- ---- before a node is taken up
@@ -52,6 +54,11 @@ returns-in-Err-clause-root c = same_root c.args.self.now.work.core c.take.new.se
 pub returns-in-Err-clause-longer : goal.returns-in-Err-clause-longer
 returns-in-Err-clause-longer c = no_longer c.args.self.now.work.core c.take.new.self c.process-ended.new.self.core c.in-Some.node c.args.self.now.worst c.take.ensures.frame c.in-Some.ensures.first c.requires.still c.in-Err.ensures.ended.later c.is_sound.ensures.sound.is_held c.in-Err.ensures.ended.log
 
+pub returns-in-Err-clause-grown : goal.returns-in-Err-clause-grown
+returns-in-Err-clause-grown c =
+    same_log_longer c.args.self.now.work.core.tree.log c.process-ended.new.self.core.tree.log
+    (c.in-Err.ensures.ended.log ∙ same_log c.args.self.now.work.core c.take.new.self c.process-ended.new.self.core c.in-Some.node c.args.self.now.worst c.take.ensures.frame c.in-Some.ensures.first c.requires.still c.in-Err.ensures.ended.later c.is_sound.ensures.sound.is_held)
+
 pub returns-in-Err-clause-told : goal.returns-in-Err-clause-told
 returns-in-Err-clause-told c =
     let core = c.process-ended.new.self.core in
@@ -75,6 +82,12 @@ returns-in-Ok-clause-longer c =
     let h = c.in-Ok.ensures.ended in
     let l = longer_by c.args.self.now.work.core c.take.new.self c.process-ended.new.self.core c.in-Some.node c.args.self.now.worst c.take.ensures.frame c.in-Some.ensures.first c.requires.still h.later c.is_sound.ensures.sound.is_held h.ended c.in-Ok.done.1.mark c.in-Ok.done.0 h.end_ in
     omega (arith, l, ap (λ (w : NodeWork). length w.core.tree.log) c.settle.ensures.work)
+
+pub returns-in-Ok-clause-grown : goal.returns-in-Ok-clause-grown
+returns-in-Ok-clause-grown c =
+    let h = c.in-Ok.ensures.ended in
+    subst (λ (w : NodeWork). IsLongerLog c.args.self.now.work.core.tree.log w.core.tree.log) (sym c.settle.ensures.work)
+    (longer_log c.args.self.now.work.core c.take.new.self c.process-ended.new.self.core c.in-Some.node c.args.self.now.worst c.take.ensures.frame c.in-Some.ensures.first c.requires.still h.later c.is_sound.ensures.sound.is_held h.ended c.in-Ok.done.1.mark c.in-Ok.done.0 h.end_)
 
 pub returns-in-Ok-clause-turned : goal.returns-in-Ok-clause-turned
 returns-in-Ok-clause-turned c = λ nodes asked.

@@ -1,0 +1,13 @@
+use Rattle.std.proofs.Common.{refl}
+use Rattle.cip_generator.specs.Generated.{next_state}
+use Rattle.cip_generator.proofs.laws.generated_are_as_by_hand.Goals as goal
+
+pub returns : goal.returns
+unfolding next_state
+returns c = record {
+  first_draw = refl;
+  seed_zero = refl;
+  seed_one = refl;
+  whole_program = refl;
+  entries = refl;
+}

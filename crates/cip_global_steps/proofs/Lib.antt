@@ -1,0 +1,3 @@
+pub mod Free
+pub mod Merged
+pub mod Moved

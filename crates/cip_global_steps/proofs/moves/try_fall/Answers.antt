@@ -1,0 +1,29 @@
+use Rattle.std.proofs.Common.{◌≡◌, List, Some, sym, ap, ◌∙◌, subst, true≢false}
+use Rattle.cip_rational.specs.Rational.{zeroℚ, ◌<ℚ◌}
+use Rattle.cip_problem.specs.Program.{Sides}
+use Rattle.cip_problem.specs.Activity.{value_at}
+use Rattle.cip_problem.specs.Box.{sides_at}
+use Rattle.cip_global_steps.specs.FreeColumns.{least_value}
+use Rattle.cip_global_steps.proofs.Moved.{stays, fallen}
+use Rattle.cip_global_steps.proofs.moves.try_fall.Goals as goal
+
+pub returns-clause-step : goal.returns-clause-step
+returns-clause-step c =
+    let value : least_value c.is_whole.result (sides_at c.args.draft.now.bounds c.args.column).low ≡ Some c.in-Some.value =
+    ap (λ (box : List Sides). least_value c.is_whole.result (sides_at box c.args.column).low) (sym c.bounds.ensures.bounds)
+    ∙ ap (λ (s : Sides). least_value c.is_whole.result s.low) (sym c.sides.ensures) ∙ ap (least_value c.is_whole.result) (sym (ap (λ (s : Sides). s.low) c.least_value.view_is)) ∙ sym c.least_value-2.ensures ∙ c.in-Some.is in
+    fallen c.args.draft.now c.set_sides.new.self c.args.column c.is_whole.result c.in-Some.value c.args.free.now c.requires.inside c.is_whole.ensures c.if-not-can_take.ensures value
+    (λ w. true≢false (sym (c.is_negative.ensures.1 (subst (λ q. q <ℚ zeroℚ) (sym c.cost.ensures) w)) ∙ c.if-is_negative.false))
+    c.if-not-is_free.ensures c.requires.free c.set_sides.ensures
+
+pub returns-then-not-is_free-clause-step : goal.returns-then-not-is_free-clause-step
+returns-then-not-is_free-clause-step c = stays c.args.draft.now
+
+pub returns-then-is_negative-clause-step : goal.returns-then-is_negative-clause-step
+returns-then-is_negative-clause-step c = stays c.args.draft.now
+
+pub returns-in_default-clause-step : goal.returns-in_default-clause-step
+returns-in_default-clause-step c = stays c.args.draft.now
+
+pub returns-then-not-can_take-clause-step : goal.returns-then-not-can_take-clause-step
+returns-then-not-can_take-clause-step c = stays c.args.draft.now

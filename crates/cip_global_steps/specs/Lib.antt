@@ -1,0 +1,2 @@
+pub mod FreeColumns
+pub mod RowsMet

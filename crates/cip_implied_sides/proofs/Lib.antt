@@ -1,0 +1,2 @@
+pub mod ImpliedSides
+pub mod RestSums

@@ -1,0 +1,96 @@
+use Rattle.std.proofs.Common.{◌≡◌, ◌<◌, ℕ, List, length, Some, slice_get, refl, sym, ap, ◌∙◌, arith}
+use Rattle.std.proofs.lemmas.Option.{same_Some, slice_get_read}
+use Rattle.cip_rational.specs.Rational.{ℚ}
+use Rattle.cip_parts.specs.BlockMeaning.{part_at}
+use Rattle.cip_decomposition.specs.Numbers.{found}
+use Rattle.cip_decomposition.specs.declared.parts.Subproblem.{Subproblem}
+use Rattle.cip_lagrange.specs.LagrangeOutcomes.{block_outcome, block_added}
+use Rattle.cip_lagrange.proofs.Ready.{filled_fits, filled_outcome, fitting_set}
+use Rattle.cip_lagrange.proofs.lagrangian.add_block.Goals as goal
+
+pub bound_block-requires-clause-fits : goal.bound_block-requires-clause-fits
+bound_block-requires-clause-fits c =
+    let parts = c.args.blocks.now.subproblems.items in
+    let works = c.args.scratch.now.blocks.items in
+    let part_is : slice_get parts c.args.at ≡ Some c.index-part.result.now =
+    slice_get_read parts (length parts) c.args.at c.index-part.result.now refl c.requires.inside c.index-part.ensures in
+    let inside : c.args.at < length works = omega (arith, c.requires.inside, c.requires.fits.long) in
+    let work_is : slice_get works c.args.at ≡ Some c.index_mut-work.result.now =
+    slice_get_read works (length works) c.args.at c.index_mut-work.result.now refl inside c.index_mut-work.ensures.value
+    in
+    let numbers : List ℕ = (part_at c.args.blocks.now.blocks c.args.at).columns in
+    filled_fits (length c.args.bounds.now) (length c.args.scratch.now.row.entries) c.index-part.result.now
+    c.args.scratch.now.rests.items c.args.bounds.now numbers c.index_mut-work.result.now c.fill.new.self
+    c.requires.rests refl (c.requires.ready.each c.args.at c.index-part.result.now part_is)
+    (c.requires.fits.each c.args.at c.index-part.result.now c.index_mut-work.result.now part_is work_is)
+    (c.fill.ensures.costs ∙ ap (λ (xs : List ℚ). found xs c.columns-numbers.result.now) c.as_slice.ensures.value
+    ∙ ap (found c.args.scratch.now.rests.items) c.columns-numbers.ensures)
+    (c.fill.ensures.box_ ∙ ap (found c.args.bounds.now) c.columns-numbers.ensures)
+    c.fill.ensures.choices
+
+pub returns-in-Ok-clause-fits : goal.returns-in-Ok-clause-fits
+returns-in-Ok-clause-fits c =
+    let parts = c.args.blocks.now.subproblems.items in
+    fitting_set parts c.args.scratch.now.blocks.items c.args.at c.index-part.result.now c.bound_block.new.work
+    c.requires.fits
+    (slice_get_read parts (length parts) c.args.at c.index-part.result.now refl c.requires.inside c.index-part.ensures)
+    c.in-Ok.ensures.fits
+
+pub returns-in-Err-clause-fits : goal.returns-in-Err-clause-fits
+returns-in-Err-clause-fits c =
+    let parts = c.args.blocks.now.subproblems.items in
+    fitting_set parts c.args.scratch.now.blocks.items c.args.at c.index-part.result.now c.bound_block.new.work
+    c.requires.fits
+    (slice_get_read parts (length parts) c.args.at c.index-part.result.now refl c.requires.inside c.index-part.ensures)
+    c.in-Err.ensures.fits
+
+pub returns-in-Ok-clause-steps : goal.returns-in-Ok-clause-steps
+returns-in-Ok-clause-steps c = λ part e.
+    let parts = c.args.blocks.now.subproblems.items in
+    let works = c.args.scratch.now.blocks.items in
+    let room : ℕ = length c.args.scratch.now.row.entries in
+    let part_is : slice_get parts c.args.at ≡ Some c.index-part.result.now =
+    slice_get_read parts (length parts) c.args.at c.index-part.result.now refl c.requires.inside c.index-part.ensures in
+    let inside : c.args.at < length works = omega (arith, c.requires.inside, c.requires.fits.long) in
+    let work_is : slice_get works c.args.at ≡ Some c.index_mut-work.result.now =
+    slice_get_read works (length works) c.args.at c.index_mut-work.result.now refl inside c.index_mut-work.ensures.value
+    in
+    let before = c.requires.fits.each c.args.at c.index-part.result.now c.index_mut-work.result.now part_is work_is in
+    let numbers : List ℕ = (part_at c.args.blocks.now.blocks c.args.at).columns in
+    let same : c.index-part.result.now ≡ part = same_Some c.index-part.result.now part (sym part_is ∙ e) in
+    c.sum_of.ensures
+    ∙ ap (λ o. block_added c.args.at o c.args.bound)
+    (c.in-Ok.ensures.steps
+    ∙ filled_outcome room numbers c.index-part.result.now c.args.scratch.now.rests.items c.args.bounds.now
+    c.args.tree.now c.fill.new.self
+    (c.fill.ensures.costs ∙ ap (λ (xs : List ℚ). found xs c.columns-numbers.result.now) c.as_slice.ensures.value
+    ∙ ap (found c.args.scratch.now.rests.items) c.columns-numbers.ensures)
+    (c.fill.ensures.box_ ∙ ap (found c.args.bounds.now) c.columns-numbers.ensures)
+    (c.fill.ensures.choices ∙ before.choices)
+    ∙ ap (λ (p : Subproblem). block_outcome room numbers p c.args.scratch.now.rests.items c.args.bounds.now
+    c.args.tree.now) same)
+
+pub returns-in-Err-clause-steps : goal.returns-in-Err-clause-steps
+returns-in-Err-clause-steps c = λ part e.
+    let parts = c.args.blocks.now.subproblems.items in
+    let works = c.args.scratch.now.blocks.items in
+    let room : ℕ = length c.args.scratch.now.row.entries in
+    let part_is : slice_get parts c.args.at ≡ Some c.index-part.result.now =
+    slice_get_read parts (length parts) c.args.at c.index-part.result.now refl c.requires.inside c.index-part.ensures in
+    let inside : c.args.at < length works = omega (arith, c.requires.inside, c.requires.fits.long) in
+    let work_is : slice_get works c.args.at ≡ Some c.index_mut-work.result.now =
+    slice_get_read works (length works) c.args.at c.index_mut-work.result.now refl inside c.index_mut-work.ensures.value
+    in
+    let before = c.requires.fits.each c.args.at c.index-part.result.now c.index_mut-work.result.now part_is work_is in
+    let numbers : List ℕ = (part_at c.args.blocks.now.blocks c.args.at).columns in
+    let same : c.index-part.result.now ≡ part = same_Some c.index-part.result.now part (sym part_is ∙ e) in
+    ap (λ o. block_added c.args.at o c.args.bound)
+    (c.in-Err.ensures.steps
+    ∙ filled_outcome room numbers c.index-part.result.now c.args.scratch.now.rests.items c.args.bounds.now
+    c.args.tree.now c.fill.new.self
+    (c.fill.ensures.costs ∙ ap (λ (xs : List ℚ). found xs c.columns-numbers.result.now) c.as_slice.ensures.value
+    ∙ ap (found c.args.scratch.now.rests.items) c.columns-numbers.ensures)
+    (c.fill.ensures.box_ ∙ ap (found c.args.bounds.now) c.columns-numbers.ensures)
+    (c.fill.ensures.choices ∙ before.choices)
+    ∙ ap (λ (p : Subproblem). block_outcome room numbers p c.args.scratch.now.rests.items c.args.bounds.now
+    c.args.tree.now) same)

@@ -1,0 +1,14 @@
+use Rattle.std.proofs.Common.{◌+◌, ◌∙◌, sym}
+use Rattle.cip_line_stream.proofs.Streams.{line_ended_with}
+use Rattle.cip_lp_rules.specs.LpOutcome.{lp_reading}
+use Rattle.cip_lp.specs.LpTexts.{kept_of, stage_of}
+use Rattle.cip_lp.proofs.lp_text.LpText.end_line.Goals as goal
+
+pub returns-clause-reads : goal.returns-clause-reads
+returns-clause-reads c = λ s h.
+    let text = c.args.self.now in
+    let after = c.let_go.new.self in
+    let kind = c.in_ok-kind.kind in
+    line_ended_with lp_reading (kept_of text) (kept_of after) (stage_of text) (stage_of after) kind s c.args.tail.now c.requires.no_feed h
+    (λ none. c.in_ok-kind.ensures.read none ∙ sym (c.let_go.ensures.stage ((kept_of text).ended + 1)))
+    (c.let_go.ensures.kept ∙ c.end_line_with.ensures ∙ c.in_ok-kind.ensures.kept kind)

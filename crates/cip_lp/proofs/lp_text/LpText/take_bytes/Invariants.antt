@@ -1,0 +1,19 @@
+use Rattle.std.proofs.Common.{◌≡◌, ◌+◌, ◌≤◌, length}
+use Rattle.std.specs.Prelude.{fold}
+use Rattle.cip_problem.specs.Limits.{longest_text}
+use Rattle.cip_line_texts.specs.LineEnds.{Stage}
+use Rattle.cip_line_texts.specs.LineStream.{Stream, byte_read}
+use Rattle.cip_lp_rules.specs.LpOutcome.{LpContext, lp_reading}
+use Rattle.cip_lp.specs.LpTexts.{kept_of, StandsFor}
+use Rattle.cip_lp.proofs.lp_text.LpText.take_bytes.Given as goal
+
+abbrev pub invariant-loop-tail : goal.invariant-loop-tail
+invariant-loop-tail l = record {
+  reads : (s : Stream (Stage LpContext)) → StandsFor l.fn.self s
+      → (t : Stream (Stage LpContext)) × (StandsFor l.self t
+      × (fold (byte_read lp_reading) t l.rest ≡ fold (byte_read lp_reading) s l.bytes));
+  few : (kept_of l.self).size + length l.rest ≤ longest_text + 1;
+}
+
+abbrev pub decreases-loop-tail : goal.decreases-loop-tail
+decreases-loop-tail l = length l.rest

@@ -1,0 +1,16 @@
+//! Programs from LP texts, in whatever pieces the text comes.
+#![tactic(auto)]
+
+mod faults;
+mod kinds;
+mod laws;
+mod line_reader;
+mod lp_text;
+mod reader;
+mod whole_text;
+
+pub use faults::{LpFault, ReadFault};
+pub use kinds::FaultKind;
+pub use laws::known_lp_faults_stay;
+pub use reader::LpReader;
+pub use whole_text::read_lp;

@@ -1,0 +1,93 @@
+//! Reading the lines of a text, one after another.
+ghost use Rattle.std.specs.Prelude.{◌≡◌, ◌∷◌, ℕ, false, IfOk, MatchOption};
+ghost use Rattle.cip_line_texts.specs.LineStream.{Going, line_read};
+ghost use Rattle.cip_line_stream.specs.PieceStands.{progress_after};
+ghost use Rattle.cip_lp_rules.specs.LpOutcome as text;
+ghost use Rattle.cip_lp_rules.specs.LpOutcome.{LpContext, lp_reading};
+ghost use Rattle.cip_lp_tokens.specs.LpLines.{token_shown, tokens_left};
+ghost use Rattle.cip_lp_draft.specs.LpEvents.{IsLpKind};
+ghost use Rattle.cip_lp_statements.specs.LpStages.{context_of};
+ghost use Rattle.cip_lp.specs.LinesRead.{stage_of, AreOver, IsTaken};
+
+use cip_lp_statements::Statements;
+use cip_lp_tokens::{LineTokens, LpPart, Token};
+use cip_model::Program;
+use std::alloc::{AllocError, Global};
+
+/// What was read of the lines that have ended. Behind End no token is looked at.
+#[derive(Debug, Drop)]
+pub(crate) struct LineReader {
+    pub(crate) statements: Statements,
+    pub(crate) ended: bool,
+}
+
+/// Whether a token is End.
+fn is_end(token: Token<'_>) -> bool
+    ensures { (context : LpContext) → result ≡ text.is_end context (token_shown token.entry) }
+{
+    match token {
+        Token::Opening(LpPart::End) => true,
+        _ => false,
+    }
+}
+
+impl LineReader {
+    /// Before the first line.
+    pub(crate) fn new(alloc: Global) -> LineReader
+        ensures { stage_of result ≡ lp_reading.start }
+    {
+        LineReader {
+            statements: Statements::new(alloc),
+            ended: false,
+        }
+    }
+
+    /// Takes one token more, where none before has ended the text.
+    fn take(&mut self, token: Token<'_>) -> Result<Option<u32>, AllocError>
+        requires { self.old.ended ≡ false }
+        ensures { IfOk result (IsTaken (context_of self.old.statements) (stage_of self.new) (token_shown token.entry)) }
+    {
+        let kind = self.statements.take(token)?;
+        if kind.is_none() {
+            self.ended = is_end(token);
+        }
+        Ok(kind)
+    }
+
+    /// The next token of a line, unless the text has ended.
+    fn next_of<'a>(&self, tokens: &mut LineTokens<'a>) -> Option<Token<'a>>
+        ensures { MatchOption result (AreOver (stage_of self.now) (tokens_left tokens.old))
+            (λ token. (self.now.ended ≡ false)
+            × (tokens_left tokens.old ≡ token_shown token ∷ tokens_left tokens.new)) }
+    {
+        if self.ended {
+            return None;
+        }
+        tokens.next_token()
+    }
+
+    /// Reads one line more, and says the kind of its first fault, if it has one.
+    pub(crate) fn take_line(&mut self, line: &[u8]) -> Result<Option<u32>, AllocError>
+        ensures read { IfOk result (λ kind. (number : ℕ)
+            → line_read lp_reading (Going (stage_of self.old)) number line.now
+            ≡ progress_after number kind (stage_of self.new)) }
+        ensures kinds { IfOk result IsLpKind }
+    {
+        let mut tokens = LineTokens::of(line);
+        while let Some(token) = self.next_of(&mut tokens) {
+            let kind = self.take(token)?;
+            if kind.is_some() {
+                return Ok(kind);
+            }
+        }
+        Ok(None)
+    }
+
+    /// The program of the lines.
+    pub(crate) fn into_program(self) -> Result<Program, AllocError>
+        ensures { IfOk result (λ program. program ≡ lp_reading.result (stage_of self)) }
+    {
+        let LineReader { statements, .. } = self;
+        statements.into_program()
+    }
+}

@@ -1,0 +1,181 @@
+//! An LP text, in whatever pieces it comes.
+ghost use Rattle.std.specs.Prelude.{◌≡◌, ◌+◌, ◌<◌, ◌≤◌, ◌∷◌, ◌++◌, [], ℕ, List, Option, length, true, false, IfSome, OnOk, IfOk, fold};
+ghost use Rattle.std.specs.List.{list_any};
+ghost use Rattle.cip_problem.specs.Limits.{longest_text};
+ghost use Rattle.cip_syntax.specs.Lines.{is_line_feed};
+ghost use Rattle.cip_line_texts.specs.LineTexts.{outcome_of};
+ghost use Rattle.cip_line_texts.specs.LineEnds.{Stage};
+ghost use Rattle.cip_line_texts.specs.LineStream.{Stream, byte_read, stream_of};
+ghost use Rattle.cip_line_stream.specs.PieceFaults.{has_kind_to};
+ghost use Rattle.cip_line_stream.specs.PieceCuts.{no_bytes, cut_of, with_bytes, with_feed, known_fault};
+ghost use Rattle.cip_line_stream.specs.PieceStands.{progress_after, IsRead, IsLastRead, outcome_with};
+ghost use Rattle.cip_lp_rules.specs.LpOutcome.{LpContext, lp_reading};
+
+use crate::line_reader::LineReader;
+use cip_line_stream::{KnownFault, Pieces, cut_line};
+use cip_lp_rules::lp_pieces::lp_texts_are_read;
+use cip_model::Program;
+use std::alloc::{AllocError, Global};
+
+/// The number of the kind of a text that is too long.
+const TOO_MANY: u32 = 9;
+
+/// The number of the kind of a text without End.
+const NO_END: u32 = 8;
+
+/// An LP text as far as it came.
+#[derive(Debug, Drop)]
+pub(crate) struct LpText {
+    pub(crate) alloc: Global,
+    pub(crate) pieces: Pieces,
+    pub(crate) lines: LineReader,
+    ghost kinds: { has_kind_to 11 (cut_of pieces).fault ≡ true },
+}
+
+impl LpText {
+    ghost use Rattle.cip_lp.specs.LpTexts.{kept_of, stage_of, StandsFor};
+
+    /// Before the first byte.
+    pub(crate) fn new(alloc: Global) -> LpText
+        ensures kept { kept_of result ≡ no_bytes }
+        ensures stage { stage_of result ≡ lp_reading.start }
+    {
+        LpText {
+            alloc,
+            pieces: Pieces::new(alloc),
+            lines: LineReader::new(alloc),
+        }
+    }
+
+    /// Reads the line that has not ended, all of which is kept, and says the kind of its fault, if it has one.
+    fn read_unread(&mut self) -> Result<Option<u32>, AllocError>
+        ensures read { IfOk result (IsRead lp_reading (kept_of self.old) (stage_of self.old) (stage_of self.new)) }
+        ensures kept { kept_of self.new ≡ kept_of self.old }
+        ensures kinds { IfOk result (λ kind. IfSome kind (λ k. (0 < k) × (k ≤ 11))) }
+    {
+        match self.pieces.unread() {
+            None => Ok(None),
+            Some(line) => self.lines.take_line(line),
+        }
+    }
+
+    /// Reads the line that these bytes end, and says the kind of its fault, if it has one. Where nothing of the line
+    /// was kept, nothing is copied.
+    fn read_line(&mut self, tail: &[u8]) -> Result<Option<u32>, AllocError>
+        requires no_feed { list_any is_line_feed tail.now ≡ false }
+        ensures read { IfOk result (IsRead lp_reading (with_bytes (kept_of self.old) tail.now)
+            (stage_of self.old) (stage_of self.new)) }
+        ensures kept { OnOk result ((kind : Option ℕ) → with_feed (with_bytes (kept_of self.new) tail.now) kind
+            ≡ with_feed (with_bytes (kept_of self.old) tail.now) kind) }
+        ensures size { OnOk result ((kept_of self.new).size ≡ (kept_of self.old).size) }
+        ensures kinds { IfOk result (λ kind. IfSome kind (λ k. (0 < k) × (k ≤ 11))) }
+    {
+        if self.pieces.has_bytes() {
+            self.pieces.join(tail)?;
+            return self.read_unread();
+        }
+        match self.pieces.unread() {
+            None => Ok(None),
+            Some(_) => self.lines.take_line(tail),
+        }
+    }
+
+    /// Lets go of what the lines have left, where one has a fault of this kind.
+    fn let_go(&mut self, kind: Option<u32>)
+        ensures kept { kept_of self.new ≡ kept_of self.old }
+        ensures stage { (number : ℕ) → progress_after number kind (stage_of self.new)
+            ≡ progress_after number kind (stage_of self.old) }
+    {
+        if let Some(_) = kind {
+            self.lines = LineReader::new(self.alloc);
+        }
+    }
+
+    /// Takes the last bytes of a line, and the line feed behind them. What the lines have left is let go where this one
+    /// is faulty.
+    fn end_line(&mut self, tail: &[u8]) -> Result<(), AllocError>
+        requires no_feed { list_any is_line_feed tail.now ≡ false }
+        requires few { (kept_of self.old).size + length tail.now ≤ longest_text }
+        ensures reads { (s : Stream (Stage LpContext)) → StandsFor self.old s
+            → OnOk result (StandsFor self.new (fold (byte_read lp_reading) s (tail.now ++ 10 ∷ []))) }
+        ensures size { OnOk result ((kept_of self.new).size ≡ (kept_of self.old).size + length tail.now + 1) }
+    {
+        let kind = self.read_line(tail)?;
+        self.pieces.end_line_with(tail, kind);
+        self.let_go(kind);
+        Ok(())
+    }
+
+    /// Takes bytes of the text that are looked at.
+    fn take_bytes(&mut self, bytes: &[u8]) -> Result<(), AllocError>
+        requires { (kept_of self.old).size + length bytes.now ≤ longest_text + 1 }
+        ensures { (s : Stream (Stage LpContext)) → StandsFor self.old s
+            → OnOk result (StandsFor self.new (fold (byte_read lp_reading) s bytes.now)) }
+    {
+        let mut rest = bytes;
+        while let Some((tail, behind)) = cut_line(rest) {
+            self.end_line(tail)?;
+            rest = behind;
+        }
+        self.pieces.keep(rest)
+    }
+
+    /// Takes one more piece of the text.
+    pub(crate) fn take(&mut self, piece: &[u8]) -> Result<(), AllocError>
+        ensures { (text : List ℕ) → StandsFor self.old (stream_of lp_reading text)
+            → OnOk result (StandsFor self.new (stream_of lp_reading (text ++ piece.now))) }
+    {
+        let looked = self.pieces.looked_at(piece);
+        self.take_bytes(looked)
+    }
+
+    /// The fault at a line that has ended.
+    pub(crate) fn known_fault(&self) -> Option<KnownFault>
+        ensures fault { result ≡ known_fault 9 (kept_of self.now) }
+        ensures kinds { has_kind_to 11 result ≡ true }
+    {
+        self.pieces.known_fault(TOO_MANY)
+    }
+
+    /// Reads the last line where it has no line feed, and says the kind of its fault, if it has one.
+    fn read_last(&mut self) -> Result<Option<u32>, AllocError>
+        ensures read { IfOk result (IsLastRead lp_reading (kept_of self.old) (stage_of self.old) (stage_of self.new)) }
+        ensures kept { kept_of self.new ≡ kept_of self.old }
+        ensures kinds { IfOk result (λ kind. IfSome kind (λ k. (0 < k) × (k ≤ 11))) }
+    {
+        if self.pieces.is_filled() {
+            self.read_unread()
+        } else {
+            Ok(None)
+        }
+    }
+
+    /// The kind of the fault behind the last line, if there is one: End is missing.
+    fn end_kind(&self) -> Option<u32>
+        ensures fault { result ≡ lp_reading.end_fault (stage_of self.now) }
+        ensures kinds { IfSome result (λ k. (0 < k) × (k ≤ 11)) }
+    {
+        if self.lines.ended { None } else { Some(NO_END) }
+    }
+
+    /// The fault of the text that ends here, if it has one.
+    pub(crate) fn close(&mut self) -> Result<Option<KnownFault>, AllocError>
+        ensures outcome { (text : List ℕ) → StandsFor self.old (stream_of lp_reading text)
+            → IfOk result (λ fault. outcome_of lp_reading text
+            ≡ outcome_with fault (lp_reading.result (stage_of self.new))) }
+        ensures kinds { IfOk result (λ fault. has_kind_to 11 fault ≡ true) }
+    {
+        lp_texts_are_read();
+        let last_kind = self.read_last()?;
+        let end_kind = self.end_kind();
+        Ok(self.pieces.fault_at_end(last_kind, end_kind, TOO_MANY))
+    }
+
+    /// The program that the lines have said.
+    pub(crate) fn into_program(self) -> Result<Program, AllocError>
+        ensures { IfOk result (λ program. program ≡ lp_reading.result (stage_of self)) }
+    {
+        let LpText { lines, .. } = self;
+        lines.into_program()
+    }
+}

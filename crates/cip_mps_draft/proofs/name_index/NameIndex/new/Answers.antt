@@ -1,5 +1,0 @@
-use Rattle.cip_mps_draft.proofs.NameLaws.{none_apart}
-use Rattle.cip_mps_draft.proofs.name_index.NameIndex.new.Goals as goal
-
-pub invariant_of-result : goal.invariant_of-result
-invariant_of-result c = rw c.new.ensures none_apart

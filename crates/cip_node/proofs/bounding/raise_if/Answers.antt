@@ -1,0 +1,5 @@
+use Rattle.cip_core.proofs.Relations.{later_at_itself}
+use Rattle.cip_node.proofs.bounding.raise_if.Goals as goal
+
+pub returns-in-None-clause-later : goal.returns-in-None-clause-later
+returns-in-None-clause-later c = later_at_itself c.args.core.now c.args.node.now c.requires.at_work

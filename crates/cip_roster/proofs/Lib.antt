@@ -1,0 +1,16 @@
+pub mod Beginning
+pub mod Calm
+pub mod Coming
+pub mod Delivery
+pub mod Ending
+pub mod Giving
+pub mod Granting
+pub mod Keeping
+pub mod OneEvent
+pub mod Ranking
+pub mod Sitting
+pub mod Sounding
+pub mod Throughout
+pub mod Trying
+pub mod Turning
+pub mod Wishes

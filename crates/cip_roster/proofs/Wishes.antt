@@ -1,0 +1,161 @@
+-- What grants a wish, and what is wrong with one.
+use Rattle.std.proofs.Common.{◌≡◌, ℕ, ◌≤◌, List, [], ◌∷◌, length, Option, None, Some, Bool, true, false, cond, sym, ◌∙◌, ap, subst, refl, arith}
+use Rattle.std.specs.Prelude.{slice_get, option_map, is_some, ℤ}
+use Rattle.std.proofs.lemmas.Option.{same_Some}
+use Rattle.cip_plugin.specs.Who.{Who}
+use Rattle.cip_plugin.specs.Calls.{Init, InitSolve}
+use Rattle.cip_plugin.specs.declared.proposals.Wish.{Wish}
+use Rattle.cip_plugin.specs.declared.proposals.Wish.TheVariants.{Include, Disable, Enable, Free, Priority}
+use Rattle.cip_seats.specs.declared.faults.WishFault.TheVariants as faults
+use Rattle.cip_seats.specs.declared.stages.Stage.TheVariants.{Fresh, Begun, Playing, Left, Gone}
+use Rattle.cip_seats.specs.declared.stages.Stage.{Stage}
+use Rattle.cip_seats.specs.Seats.{Seat, State, held_count, is_live, is_playing, is_settled}
+use Rattle.cip_seats.specs.Steps.{Turns, Ranks, Takes, Runs}
+use Rattle.cip_seats.specs.Wishing.{Granted, begins, begun_with, ends, fault_of, is_enabled, place_fault, seat_fault}
+use Rattle.cip_seats.proofs.Counting.{count_set}
+use Rattle.cip_seats.proofs.Running.{Runs-append}
+use Rattle.cip_roster.specs.Closed.{lives_there}
+use Rattle.cip_roster.specs.Turns.{IsLiveAt, IsSound, StandsAt}
+use Rattle.cip_roster.specs.Wished.{WasGranted}
+use Rattle.cip_roster.proofs.Keeping.{at_place}
+use Rattle.cip_roster.proofs.Throughout.{settled_plays}
+
+-- nothing is wrong with a live plugin's number
+pub fine_live : (state : State) (id : ℕ) → IsLiveAt state id → seat_fault (slice_get state.seats id) ≡ None
+fine_live state id live =
+    ap seat_fault live.at ∙ ap (λ (b : Bool). cond b None (Some faults.Gone)) live.lives
+
+-- a stage that is one in which a plugin may be asked
+plays_at : (stage : Stage) → is_playing stage ≡ true → stage ≡ Playing
+plays_at Fresh is = cc
+plays_at Begun is = cc
+plays_at Playing is = refl
+plays_at Left is = cc
+plays_at Gone is = cc
+
+-- a live plugin of a sound state plays
+pub live_plays : (state : State) (id room : ℕ) → IsSound state room → IsLiveAt state id → StandsAt Playing state id
+live_plays state id room sound live = record {
+  seat = live.seat;
+  at = live.at;
+  stands = plays_at live.seat.standing.stage
+      (settled_plays (is_playing live.seat.standing.stage) (is_live live.seat)
+      (at_place (λ seat. is_settled seat ≡ true) state.seats id live.seat live.at sound.settled) live.lives);
+}
+
+-- a plugin was disabled
+pub disabled_once : (a b : State) (id : ℕ) → is_enabled (slice_get a.seats id) ≡ true
+    → Runs a (Turns id false ∷ []) b → Granted (Disable id) a b
+disabled_once a b id on run = record {
+  steps = Turns id false ∷ [];
+  run = run;
+  grants = sym (ap (λ (b : Bool). cond b (Turns id false ∷ []) []) on);
+}
+
+-- one that is disabled already
+pub disabled_none : (a : State) (id : ℕ) → is_enabled (slice_get a.seats id) ≡ false → Granted (Disable id) a a
+disabled_none a id off = record {
+  steps = [];
+  run = refl;
+  grants = sym (ap (λ (b : Bool). cond b (Turns id false ∷ []) []) off);
+}
+
+-- a plugin was enabled
+pub enabled_once : (a b : State) (id : ℕ) → is_enabled (slice_get a.seats id) ≡ false
+    → Runs a (Turns id true ∷ []) b → Granted (Enable id) a b
+enabled_once a b id off run = record {
+  steps = Turns id true ∷ [];
+  run = run;
+  grants = sym (ap (λ (b : Bool). cond b [] (Turns id true ∷ [])) off);
+}
+
+-- one that is enabled already
+pub enabled_none : (a : State) (id : ℕ) → is_enabled (slice_get a.seats id) ≡ true → Granted (Enable id) a a
+enabled_none a id on = record {
+  steps = [];
+  run = refl;
+  grants = sym (ap (λ (b : Bool). cond b [] (Turns id true ∷ [])) on);
+}
+
+-- a plugin was freed
+pub freed_once : (a b : State) (id : ℕ) → Runs a (ends id) b → Granted (Free id) a b
+freed_once a b id run = record { steps = ends id; run = run; grants = refl }
+
+-- a plugin got a priority
+pub ranked_granted : (a b : State) (id : ℕ) (priority : ℤ) → Runs a (Ranks id priority ∷ []) b
+    → Granted (Priority id priority) a b
+ranked_granted a b id priority run = record { steps = Ranks id priority ∷ []; run = run; grants = refl }
+
+-- a plugin was included
+pub included_once : (a b c : State) (place : ℕ) (first second : Bool) → Runs a (Takes place ∷ []) b
+    → Runs b (begins (length a.seats) first second) c → Granted (Include place) a c
+included_once a b c place first second came run = record {
+  steps = Takes place ∷ begins (length a.seats) first second;
+  run = Runs-append (Takes place ∷ []) (begins (length a.seats) first second) a b c came run;
+  grants = (first, second, refl);
+}
+
+-- no plugin was given a number
+pub live_none : (o : Option Seat) → None ≡ option_map is_live o → seat_fault o ≡ Some faults.NoSuchPlugin
+live_none None is = refl
+live_none (Some s) is = cc
+
+-- the plugin of a number is gone
+pub live_gone : (o : Option Seat) → Some false ≡ option_map is_live o → seat_fault o ≡ Some faults.Gone
+live_gone None is = cc
+live_gone (Some s) is =
+    ap (λ (b : Bool). cond b None (Some faults.Gone)) (sym (same_Some false (is_live s) is))
+
+-- it is live
+live_by : (state : State) (id : ℕ) (o : Option Seat) → slice_get state.seats id ≡ o → Some true ≡ option_map is_live o
+    → IsLiveAt state id
+live_by state id None at is = cc
+live_by state id (Some s) at is = record { seat = s; at = at; lives = sym (same_Some true (is_live s) is) }
+
+pub live_some : (state : State) (id : ℕ) → Some true ≡ option_map is_live (slice_get state.seats id)
+    → IsLiveAt state id
+live_some state id is = live_by state id (slice_get state.seats id) refl is
+
+-- what a place holds with which nothing is wrong
+pub held_by : (o : Option (Option Who)) → place_fault o ≡ None → (who : Who) × (o ≡ Some (Some who))
+held_by None fine = cc
+held_by (Some None) fine = cc
+held_by (Some (Some who)) fine = (who, refl)
+
+-- a place that holds a plugin counts
+pub held_some : (places : List (Option Who)) (place : ℕ) → place_fault (slice_get places place) ≡ None
+    → 1 ≤ held_count places
+held_some places place fine =
+    let at = held_by (slice_get places place) fine in
+    let fewer = count_set is_some places place (Some at.0) None at.1 in
+    omega arith
+
+-- a granted wish with which nothing is wrong
+pub was_granted : (wish : Wish) (a b : State) → Granted wish a b → fault_of a wish ≡ None → WasGranted wish a b
+was_granted wish a b granted fine = record { granted = granted; fine = fine }
+
+-- the two first calls of a plugin that came
+pub welcomed : (id : ℕ) (a b s c : State) (first second : Bool) → id ≡ length a.seats
+    → Runs b (begun_with id (Init first) first) s → Runs s (begun_with id (InitSolve second) second) c
+    → Runs b (begins (length a.seats) first second) c
+welcomed id a b s c first second is set_up begun =
+    subst (λ (n : ℕ). Runs b (begins n first second) c) is
+    (Runs-append (begun_with id (Init first) first) (begun_with id (InitSolve second) second) b s c set_up begun)
+
+-- a live plugin has room for its last lines
+pub live_room : (state : State) (id room : ℕ) → IsSound state room → IsLiveAt state id → 2 ≤ room
+live_room state id room sound live =
+    let gone : Seat = record live.seat { standing = record { stage = Gone; on = true } } in
+    let fewer = count_set is_live state.seats id live.seat gone live.at in
+    let one : cond {A = ℕ} (is_live live.seat) 1 0 ≡ 1 = ap (λ (b : Bool). cond b 1 0) live.lives in
+    let lasts = sound.lasts in
+    omega arith
+
+-- a plugin that is live where it is looked up
+there_by : (state : State) (id : ℕ) (o : Option Seat) → slice_get state.seats id ≡ o → true ≡ lives_there o
+    → IsLiveAt state id
+there_by state id None at is = cc
+there_by state id (Some s) at is = record { seat = s; at = at; lives = sym is }
+
+pub live_there : (state : State) (id : ℕ) → true ≡ lives_there (slice_get state.seats id) → IsLiveAt state id
+live_there state id is = there_by state id (slice_get state.seats id) refl is

@@ -1,0 +1,36 @@
+use Rattle.std.proofs.Common.{[], ◌∷◌, ◌++◌, subst, arith}
+use Rattle.cip_roster.proofs.Delivery.{ran_more, told_less}
+use Rattle.cip_roster.proofs.OneEvent.{on_err_any}
+use Rattle.cip_roster.proofs.Throughout.{ToldSoFar, told_more}
+use Rattle.cip_roster.proofs.delivering.deliver.Goals as goal
+
+pub loop-event-smaller : goal.loop-event-smaller
+loop-event-smaller g c =
+    omega (
+      arith,
+      told_less c.args.view.now.node c.in-Some.event (g.R.Seated.state c.loop-event.roster)
+          (g.R.Seated.state c.tell.new.roster) c.loop-event.queue c.pop.new.self c.tell.new.queue c.in-Some.ensures
+          c.in_ok-tell.ensures.told,
+    )
+
+pub loop-event-preserved : goal.loop-event-preserved
+loop-event-preserved g c = record {
+  told = (
+    c.loop-event.invariant.told.0 ++ c.in-Some.event ∷ [],
+    told_more c.args.view.now.node c.args.queue.now c.loop-event.invariant.told.0 c.in-Some.event
+        (g.R.Seated.state c.args.roster.now) (g.R.Seated.state c.loop-event.roster) (g.R.Seated.state c.tell.new.roster)
+        c.pop.new.self c.tell.new.queue c.loop-event.invariant.sound.settled
+        (subst (ToldSoFar c.args.view.now.node c.args.queue.now c.loop-event.invariant.told.0
+        (g.R.Seated.state c.args.roster.now) (g.R.Seated.state c.loop-event.roster)) c.in-Some.ensures
+        c.loop-event.invariant.told.1)
+        c.in_ok-tell.ensures.told,
+  );
+  sound = c.tell.ensures.sound;
+}
+
+pub returns-in_err-tell-clause-err : goal.returns-in_err-tell-clause-err
+returns-in_err-tell-clause-err g c =
+    on_err_any _ c.from_residual.result (ran_more (g.R.Seated.state c.args.roster.now) (g.R.Seated.state
+    c.loop-event.roster)
+    (g.R.Seated.state c.tell.new.roster) c.loop-event.invariant.told.1.steps c.loop-event.invariant.told.1.run
+    c.in_err-tell.ensures.err)

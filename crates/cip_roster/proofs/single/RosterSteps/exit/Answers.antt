@@ -1,0 +1,21 @@
+use Rattle.cip_plugin.specs.Calls.{Exit}
+use Rattle.cip_seats.specs.declared.stages.Stage.TheVariants as stages
+use Rattle.cip_seats.specs.Steps.{IsCalled}
+use Rattle.cip_seats.proofs.Joining.{called_once}
+use Rattle.cip_roster.proofs.Sitting.{sat_there, stands_there}
+use Rattle.cip_roster.proofs.single.RosterSteps.exit.Goals as goal
+
+pub returns-clause-run : goal.returns-clause-run
+returns-clause-run g c =
+    called_once _ _ c.args.id Exit
+    (sat_there _ (IsCalled Exit) _ c.args.id c.index_mut.result.now c.exit.new.self c.requires.at.seat _
+    c.requires.at.at
+    c.index_mut.ensures.value c.note.ensures.seats
+    c.exit.ensures.called)
+    c.note.ensures.places c.note.ensures.names c.note.ensures.kept c.note.ensures.lines
+
+pub returns-clause-at : goal.returns-clause-at
+returns-clause-at g c =
+    stands_there _ c.args.self.now.slots.items c.args.id c.exit.new.self c.requires.at.seat _ stages.Gone
+    c.requires.at.at
+    c.note.ensures.seats c.exit.ensures.stage

@@ -1,0 +1,21 @@
+use Rattle.cip_plugin.specs.Calls.{InitSolve}
+use Rattle.cip_seats.specs.declared.stages.Stage.TheVariants as stages
+use Rattle.cip_seats.specs.Steps.{IsCalled}
+use Rattle.cip_seats.proofs.Joining.{called_once}
+use Rattle.cip_roster.proofs.Sitting.{called_as, sat_there, stands_there}
+use Rattle.cip_roster.proofs.single.RosterSteps.init_solve.Goals as goal
+
+pub returns-clause-run : goal.returns-clause-run
+returns-clause-run g c =
+    called_once _ _ c.args.id (InitSolve c.is_ok-answered.result)
+    (sat_there _ (IsCalled (InitSolve c.is_ok-answered.result)) _ c.args.id c.index_mut.result.now
+    c.init_solve.new.self c.requires.at.seat _ c.requires.at.at
+    c.index_mut.ensures.value c.note.ensures.seats
+    (called_as InitSolve _ _ _ _ c.is_ok-answered.ensures.value c.init_solve.ensures.called))
+    c.note.ensures.places c.note.ensures.names c.note.ensures.kept c.note.ensures.lines
+
+pub returns-clause-at : goal.returns-clause-at
+returns-clause-at g c =
+    stands_there _ c.args.self.now.slots.items c.args.id c.init_solve.new.self c.requires.at.seat _ stages.Playing
+    c.requires.at.at
+    c.note.ensures.seats c.init_solve.ensures.stage

@@ -1,0 +1,8 @@
+use Rattle.std.proofs.Common.{rules}
+use Rattle.cip_roster.proofs.Coming.{turns_room}
+use Rattle.cip_roster.proofs.single.RosterSteps.reserve_turns.Goals as goal
+
+pub returns-in-Some-clause-room : goal.returns-in-Some-clause-room
+returns-in-Some-clause-room g c =
+    turns_room _ c.args.self.now.slots.items c.reserve.result c.args.turns c.len-seats.result c.in-Some.sum _ _
+    c.reserve.ensures.room c.in-Some.ensures.1 (search (rules, c.len-seats.ensures))

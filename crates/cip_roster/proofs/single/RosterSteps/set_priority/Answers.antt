@@ -1,0 +1,20 @@
+use Rattle.std.proofs.Common.{◌≡◌, refl}
+use Rattle.std.proofs.Math.Facts.{to_z-of_z}
+use Rattle.cip_seats.specs.declared.stages.Stage.TheVariants as stages
+use Rattle.cip_seats.specs.Seats.{Seat}
+use Rattle.cip_seats.proofs.Joining.{ranked_once}
+use Rattle.cip_roster.proofs.Sitting.{sat_there, stage_there, stands_there}
+use Rattle.cip_roster.proofs.single.RosterSteps.set_priority.Goals as goal
+
+pub returns-clause-run : goal.returns-clause-run
+returns-clause-run g c =
+    ranked_once _ _ c.args.id c.args.priority
+    (sat_there _ (λ (s t : Seat). t ≡ record s { priority = c.args.priority }) _ c.args.id c.index_mut.result.now _
+    c.requires.at.seat _ c.requires.at.at c.index_mut.ensures.value refl (rw (to_z-of_z c.ranges.priority) refl))
+    refl refl refl refl
+
+pub returns-clause-at : goal.returns-clause-at
+returns-clause-at g c =
+    stands_there _ c.args.self.now.slots.items c.args.id _ c.requires.at.seat _ stages.Playing c.requires.at.at refl
+    (stage_there _ c.args.self.now.slots.items c.args.id c.index_mut.result.now c.requires.at.seat stages.Playing
+    c.requires.at.at c.index_mut.ensures.value c.requires.at.stands)

@@ -1,0 +1,21 @@
+use Rattle.std.proofs.Common.{◌∙◌, [], ◌∷◌, ◌++◌, cond, ap}
+use Rattle.cip_events.specs.declared.words.Word.{Word}
+use Rattle.cip_seats.specs.declared.stages.Stage.TheVariants as stages
+use Rattle.cip_seats.specs.Steps.{IsTurned, line}
+use Rattle.cip_seats.proofs.Joining.{turned_once}
+use Rattle.cip_roster.proofs.Sitting.{sat_there, stands_there}
+use Rattle.cip_roster.proofs.single.RosterSteps.switch.Goals as goal
+
+pub returns-clause-run : goal.returns-clause-run
+returns-clause-run g c =
+    turned_once _ _ c.args.id c.args.on
+    (sat_there _ (IsTurned c.args.on) _ c.args.id c.index_mut.result.now c.turn.new.self c.requires.at.seat _
+    c.requires.at.at c.index_mut.ensures.value c.note.ensures.seats c.turn.ensures.turned)
+    c.note.ensures.places c.note.ensures.names c.note.ensures.kept (c.note.ensures.lines ∙ ap (λ (w : Word).
+    cond c.args.self.now.journal.kept (c.args.self.now.journal.lines.items ++ line c.args.id w ∷ [])
+    c.args.self.now.journal.lines.items) c.word_of_switch.ensures)
+
+pub returns-clause-at : goal.returns-clause-at
+returns-clause-at g c =
+    stands_there _ c.args.self.now.slots.items c.args.id c.turn.new.self c.requires.at.seat _ stages.Playing
+    c.requires.at.at c.note.ensures.seats c.turn.ensures.stage

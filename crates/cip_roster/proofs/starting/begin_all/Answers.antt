@@ -1,0 +1,19 @@
+use Rattle.std.proofs.Common.{ℕ, add-one, arith, subst, sym}
+use Rattle.cip_roster.proofs.Beginning.{BegunSoFar, begun_all, begun_more}
+use Rattle.cip_roster.proofs.starting.begin_all.Goals as goal
+
+pub loop-id-preserved : goal.loop-id-preserved
+loop-id-preserved g c = record {
+  so_far = subst (λ (n : ℕ). BegunSoFar n (g.R.Seated.state c.args.roster.now) (g.R.Seated.state c.begin.new.roster))
+      (sym (add-one c.loop-id.id))
+      (begun_more c.loop-id.id (g.R.Seated.state c.args.roster.now) (g.R.Seated.state c.loop-id.roster)
+      (g.R.Seated.state c.set_up.new.roster) (g.R.Seated.state c.begin.new.roster) c.set_up.ensures.run.0
+      c.begin.ensures.run.0 c.loop-id.invariant.so_far c.set_up.ensures.run.1 c.begin.ensures.run.1
+      c.begin.ensures.at);
+  room = omega (arith, c.loop-id.invariant.room, c.set_up.ensures.room, c.begin.ensures.room);
+}
+
+pub returns-clause-playing : goal.returns-clause-playing
+returns-clause-playing g c =
+    begun_all c.loop-id.id (g.R.Seated.state c.args.roster.now) (g.R.Seated.state c.loop-id.roster)
+    (omega (arith, c.loop-id-test.false, c.count-id-end.ensures)) c.loop-id.invariant.so_far

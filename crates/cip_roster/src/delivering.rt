@@ -1,0 +1,155 @@
+//! Delivery of events.
+ghost use Rattle.std.specs.Prelude.{◌≡◌, [], ◌∷◌, OnOk, OnErr, IsSome, slice_get};
+ghost use Rattle.cip_plugin.specs.Asking.{answer_of};
+ghost use Rattle.cip_seats.specs.Delivering.{Delivered, wishes_in};
+ghost use Rattle.cip_roster.specs.Turns.{IsSound};
+ghost use Rattle.cip_roster.specs.Wished.{IsNoted, Ran, TookQuietly, WasTold, WasToldOne};
+
+use crate::calling::ranking;
+use crate::rosters::Seated;
+use crate::steps::Steps;
+use crate::turns::turn;
+use crate::wishing::{refused, wish as try_wish};
+use cip_events::{Event, EventQueue};
+use cip_plugin::{Given, Kind, Question, View, Wish};
+use cip_seats::WishFault;
+use std::alloc::{AllocError, Global};
+
+/// The wishes of what was given.
+fn wishes_of(given: &Given) -> &[Wish]
+    ensures { result.now ≡ wishes_in (answer_of given.now) }
+{
+    match given {
+        Given::Wishes(wishes) => wishes.as_slice(),
+        _ => &[],
+    }
+}
+
+/// Writes which fault a wish of a plugin had. `Err` comes where a growth was refused, then or now, and leaves the state
+/// as it was.
+fn note_fault<R: Steps>(roster: &mut R, id: u32, fault: WishFault) -> Result<(), AllocError>
+    requires sound { IsSound (R.state roster.old) (R.room roster.old) }
+    requires seat { IsSome (slice_get (R.state roster.old).seats id) }
+    ensures sound { IsSound (R.state roster.new) (R.room roster.new) }
+    ensures noted { OnOk result (IsNoted id fault (R.state roster.old) (R.state roster.new)) }
+    ensures err { OnErr result (R.state roster.new ≡ R.state roster.old) }
+{
+    match fault {
+        WishFault::NoMemory => Err(AllocError),
+        other => refused(roster, id, other.name()),
+    }
+}
+
+/// Tries a wish of a plugin, and writes which fault it had. `Err` comes where a growth was refused, and leaves the
+/// state as it was.
+fn grant_one<R: Steps>(
+    roster: &mut R,
+    alloc: Global,
+    id: u32,
+    wish: Wish,
+    queue: &mut EventQueue,
+    view: &View<'_>,
+) -> Result<(), AllocError>
+    requires sound { IsSound (R.state roster.old) (R.room roster.old) }
+    requires seat { IsSome (slice_get (R.state roster.old).seats id) }
+    ensures sound { IsSound (R.state roster.new) (R.room roster.new) }
+    ensures took { OnOk result (TookQuietly id view.now.node (wish ∷ []) (R.state roster.old) (R.state roster.new)
+        queue.old queue.new) }
+    ensures err { OnErr result (R.state roster.new ≡ R.state roster.old) }
+{
+    match try_wish(roster, alloc, wish, queue, view) {
+        Ok(()) => Ok(()),
+        Err(fault) => note_fault(roster, id, fault),
+    }
+}
+
+/// Tries the wishes of a plugin, in their order, and writes which faults they had. `Err` comes where a growth was
+/// refused: the wishes before it stand.
+fn grant<R: Steps>(
+    roster: &mut R,
+    alloc: Global,
+    id: u32,
+    wishes: &[Wish],
+    queue: &mut EventQueue,
+    view: &View<'_>,
+) -> Result<(), AllocError>
+    requires sound { IsSound (R.state roster.old) (R.room roster.old) }
+    requires seat { IsSome (slice_get (R.state roster.old).seats id) }
+    ensures sound { IsSound (R.state roster.new) (R.room roster.new) }
+    ensures took { OnOk result (TookQuietly id view.now.node wishes.now (R.state roster.old) (R.state roster.new)
+        queue.old queue.new) }
+    ensures err { OnErr result (Ran (R.state roster.old) (R.state roster.new)) }
+{
+    for wish in wishes {
+        grant_one(roster, alloc, id, *wish, queue, view)?;
+    }
+    Ok(())
+}
+
+/// Tells an event to a plugin, if it is live and enabled and wants it, and grants its wishes.
+fn tell_one<R: Steps>(
+    roster: &mut R,
+    alloc: Global,
+    id: u32,
+    event: Event,
+    queue: &mut EventQueue,
+    view: &View<'_>,
+) -> Result<(), AllocError>
+    requires sound { IsSound (R.state roster.old) (R.room roster.old) }
+    requires seat { IsSome (slice_get (R.state roster.old).seats id) }
+    ensures sound { IsSound (R.state roster.new) (R.room roster.new) }
+    ensures told { OnOk result (WasToldOne view.now.node event id (R.state roster.old)
+        (R.state roster.new) queue.old queue.new) }
+    ensures err { OnErr result (Ran (R.state roster.old) (R.state roster.new)) }
+{
+    if !roster.is_to_hear(id, &event) {
+        return Ok(());
+    }
+    roster.reserve_turns(1)?;
+    match turn(roster, alloc, id, Question::OnEvent(event), view) {
+        None => Ok(()),
+        Some(given) => grant(roster, alloc, id, wishes_of(&given), queue, view),
+    }
+}
+
+/// Tells an event to those that want it and are live and enabled at their turn, and grants their wishes.
+fn tell<R: Steps>(
+    roster: &mut R,
+    alloc: Global,
+    event: Event,
+    queue: &mut EventQueue,
+    view: &View<'_>,
+) -> Result<(), AllocError>
+    requires sound { IsSound (R.state roster.old) (R.room roster.old) }
+    ensures sound { IsSound (R.state roster.new) (R.room roster.new) }
+    ensures told { OnOk result (WasTold view.now.node event (R.state roster.old)
+        (R.state roster.new) queue.old queue.new) }
+    ensures err { OnErr result (Ran (R.state roster.old) (R.state roster.new)) }
+{
+    let keys = ranking(roster, alloc, Kind::EventHandler)?;
+    for key in &keys {
+        tell_one(roster, alloc, key.id, event, queue, view)?;
+    }
+    Ok(())
+}
+
+/// Tells all events that wait, and those that inclusions and frees raise meanwhile. `Err` comes where a growth was
+/// refused: what was called and granted before it stands.
+pub(crate) fn deliver<R: Steps>(
+    roster: &mut R,
+    alloc: Global,
+    queue: &mut EventQueue,
+    view: &View<'_>,
+) -> Result<(), AllocError>
+    requires sound { IsSound (R.state roster.old) (R.room roster.old) }
+    ensures sound { IsSound (R.state roster.new) (R.room roster.new) }
+    ensures empty { OnOk result (queue.new ≡ []) }
+    ensures told { OnOk result (Delivered view.now.node queue.old (R.state roster.old)
+        (R.state roster.new)) }
+    ensures err { OnErr result (Ran (R.state roster.old) (R.state roster.new)) }
+{
+    while let Some(event) = queue.pop() {
+        tell(roster, alloc, event, queue, view)?;
+    }
+    Ok(())
+}

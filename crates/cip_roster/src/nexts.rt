@@ -1,0 +1,80 @@
+//! Calls of one plugin at a time: the next behind one that was called before.
+ghost use Rattle.std.specs.Prelude.{◌≡◌, ◌<◌, ◌^◌, IfOk, OnErr, length, true};
+ghost use Rattle.std.specs.List.{find};
+ghost use Rattle.cip_plugin.specs.Asking.{asks, ask_of};
+ghost use Rattle.cip_roster.specs.Turns.{IsSound};
+ghost use Rattle.cip_roster.specs.Nexts.{CalledNext, IsNext, is_behind, key_at};
+
+use crate::calling::ranking;
+use crate::rosters::Seated;
+use crate::steps::Steps;
+use crate::turns::turn;
+use cip_plugin::{Given, Kind, Question, View};
+use cip_seats::Key;
+use std::alloc::{AllocError, Global};
+
+/// Whether a key comes behind another one; each does where no other is named.
+fn is_behind(after: Option<Key>, key: Key) -> bool
+    ensures { result ≡ is_behind after key }
+{
+    match after {
+        None => true,
+        Some(other) => other < key,
+    }
+}
+
+/// The first of some keys that comes behind another one.
+fn first_behind(keys: &[Key], after: Option<Key>) -> Option<Key>
+    ensures { result ≡ find (is_behind after) keys.now }
+{
+    keys.iter().copied().find(|key| is_behind(after, *key))
+}
+
+/// The key of a plugin, as its priority is now, if one is named.
+fn key_at<R: Steps>(roster: &R, after: Option<u32>) -> Option<Key>
+    ensures { result ≡ key_at (R.state roster.now).seats after }
+{
+    match after {
+        None => None,
+        Some(id) => roster.key(id),
+    }
+}
+
+/// The next plugin of a kind. `Err` comes where a growth was refused.
+fn next<R: Steps>(
+    roster: &R,
+    alloc: Global,
+    kind: Kind,
+    after: Option<u32>,
+) -> Result<Option<Key>, AllocError>
+    requires { length (R.state roster.now).seats < 2 ^ 32 }
+    ensures { IfOk result (λ found. IsNext kind (R.state roster.now).seats after found) }
+{
+    let keys = ranking(roster, alloc, kind)?;
+    Ok(first_behind(keys.as_slice(), key_at(roster, after)))
+}
+
+/// Asks the next plugin of a kind. `Err` comes where a growth was refused, and then nobody was called.
+pub(crate) fn call_next<R: Steps>(
+    roster: &mut R,
+    alloc: Global,
+    kind: Kind,
+    question: Question<'_>,
+    after: Option<u32>,
+    view: &View<'_>,
+) -> Result<Option<(u32, Option<Given>)>, AllocError>
+    requires sound { IsSound (R.state roster.old) (R.room roster.old) }
+    requires fits { asks kind (ask_of question) ≡ true }
+    ensures sound { IsSound (R.state roster.new) (R.room roster.new) }
+    ensures called { IfOk result (λ gave. CalledNext kind (ask_of question.entry) after
+        (R.state roster.old) (R.state roster.new) gave) }
+    ensures err { OnErr result (R.state roster.new ≡ R.state roster.old) }
+{
+    match next(roster, alloc, kind, after)? {
+        None => Ok(None),
+        Some(key) => {
+            roster.reserve_turns(1)?;
+            Ok(Some((key.id, turn(roster, alloc, key.id, question, view))))
+        }
+    }
+}

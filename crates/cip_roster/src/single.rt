@@ -1,0 +1,195 @@
+//! The single steps of a roster of boxed plugins.
+ghost use Rattle.std.specs.Prelude.{◌≡◌, ◌+◌, ◌-◌, ◌++◌, ◌<◌, [], ◌∷◌, min, vec_len, vec_capacity};
+ghost use Rattle.cip_events.specs.Names.{shown_name};
+ghost use Rattle.cip_plugin.specs.Asking.{ask_of};
+ghost use Rattle.cip_seats.specs.Lives.{word_of_ask};
+ghost use Rattle.cip_seats.specs.Seats.{Seat};
+ghost use Rattle.cip_seats.specs.Steps.{IsSeated, switch_word};
+
+use crate::rosters::{Roster, Seated};
+use crate::slots::{Sits, Slot};
+use crate::steps::{Seats, Steps};
+use cip_events::{Event, Name, Word};
+use cip_plugin::{AnyPlugin, Given, Kind, Question, Tells, View};
+use cip_seats::{Key, WishFault};
+use std::alloc::{AllocError, Global};
+use std::cmp::Reverse;
+use std::mem;
+
+/// The most turns for whose lines room can be asked for at once.
+const MOST_TURNS: usize = usize::MAX / 2;
+
+/// The word of a question.
+fn word_for(question: &Question<'_>) -> Word
+    ensures { result ≡ word_of_ask (ask_of question.now) }
+{
+    match question {
+        Question::Separate => Word::Separate,
+        Question::Propagate => Word::Propagate,
+        Question::Price { .. } => Word::Price,
+        Question::Search => Word::Search,
+        Question::Branch => Word::Branch,
+        Question::Enforce => Word::Enforce,
+        Question::OnEvent(_) => Word::OnEvent,
+    }
+}
+
+/// The word of being enabled or disabled.
+fn word_of_switch(on: bool) -> Word
+    ensures { result ≡ switch_word on }
+{
+    if on { Word::Enabled } else { Word::Disabled }
+}
+
+impl Roster {
+    /// A plugin gets the next seat, uncalled; there is room for it.
+    pub(crate) fn take_seat(&mut self, plugin: AnyPlugin)
+        requires slots { vec_len self.old.slots < vec_capacity self.old.slots }
+        requires names { vec_len self.old.names < vec_capacity self.old.names }
+        ensures seats { (fresh : Seat) × IsSeated (⟦<AnyPlugin as Tells>⟧.who plugin) fresh
+            × ((⟦<Roster as Seated>⟧.state self.new).seats
+            ≡ (⟦<Roster as Seated>⟧.state self.old).seats ++ fresh ∷ []) }
+        ensures named { (⟦<Roster as Seated>⟧.state self.new).names ≡ (⟦<Roster as Seated>⟧.state self.old).names
+            ++ shown_name (⟦<AnyPlugin as Tells>⟧.who plugin).label ∷ [] }
+        ensures places { (⟦<Roster as Seated>⟧.state self.new).places ≡ (⟦<Roster as Seated>⟧.state self.old).places }
+        ensures lines { (⟦<Roster as Seated>⟧.state self.new).lines ≡ (⟦<Roster as Seated>⟧.state self.old).lines }
+        ensures kept { (⟦<Roster as Seated>⟧.state self.new).kept ≡ (⟦<Roster as Seated>⟧.state self.old).kept }
+        ensures room { ⟦<Roster as Seated>⟧.room self.new ≡ ⟦<Roster as Seated>⟧.room self.old }
+        ensures slots { (vec_len self.new.slots ≡ vec_len self.old.slots + 1)
+            × (vec_capacity self.new.slots ≡ vec_capacity self.old.slots) }
+        ensures names { (vec_len self.new.names ≡ vec_len self.old.names + 1)
+            × (vec_capacity self.new.names ≡ vec_capacity self.old.names) }
+    {
+        self.names.push_reserved(Name::of(plugin.name()));
+        self.slots.push_reserved(Slot::new(plugin));
+    }
+}
+
+impl Steps for Roster {
+    ghost has_seat = { λ r. (vec_len r.slots < vec_capacity r.slots) × (vec_len r.names < vec_capacity r.names) };
+
+    fn count(&self) -> usize {
+        self.slots.len()
+    }
+
+    fn liveness(&self, id: u32) -> Option<bool> {
+        match self.slots.get(id as usize) {
+            None => None,
+            Some(slot) => Some(slot.is_live()),
+        }
+    }
+
+    fn readiness(&self, id: u32, kind: Kind) -> Option<bool> {
+        match self.slots.get(id as usize) {
+            None => None,
+            Some(slot) => Some(slot.is_ready(kind)),
+        }
+    }
+
+    fn is_to_hear(&self, id: u32, event: &Event) -> bool {
+        match self.slots.get(id as usize) {
+            None => false,
+            Some(slot) => slot.is_to_hear(event),
+        }
+    }
+
+    fn is_enabled(&self, id: u32) -> bool {
+        match self.slots.get(id as usize) {
+            None => false,
+            Some(slot) => slot.enabled,
+        }
+    }
+
+    fn key(&self, id: u32) -> Option<Key> {
+        let slot = self.slots.get(id as usize)?;
+        Some(Key {
+            rank: Reverse(slot.priority),
+            id,
+        })
+    }
+
+    fn holds(&self, place: u32) -> Result<(), WishFault> {
+        match self.shelf.get(place as usize) {
+            None => Err(WishFault::NoSuchPlace),
+            Some(None) => Err(WishFault::TakenPlace),
+            Some(Some(_)) => Ok(()),
+        }
+    }
+
+    fn reserve_turns(&mut self, turns: usize) -> Result<(), AllocError> {
+        let seats = self.slots.len();
+        match turns.checked_add(seats) {
+            Some(sum) if sum <= MOST_TURNS => self.journal.reserve(2 * sum),
+            _ => Err(AllocError),
+        }
+    }
+
+    fn reserve_seat(&mut self) -> Result<(), AllocError> {
+        self.reserve_turns(3)?;
+        self.slots.reserve(1)?;
+        self.names.reserve(1)
+    }
+
+    fn note(&mut self, id: u32, word: Word) {
+        self.journal.write(id, word);
+    }
+
+    fn init(&mut self, alloc: Global, id: u32) -> bool {
+        let answered = self.slots[id as usize].init(alloc).is_ok();
+        self.note(id, Word::Init);
+        answered
+    }
+
+    fn init_solve(&mut self, alloc: Global, id: u32, view: &View<'_>) -> bool {
+        let answered = self.slots[id as usize].init_solve(alloc, view).is_ok();
+        self.note(id, Word::InitSolve);
+        answered
+    }
+
+    fn exit_solve(&mut self, id: u32) {
+        self.slots[id as usize].exit_solve();
+        self.note(id, Word::ExitSolve);
+    }
+
+    fn exit(&mut self, id: u32) {
+        self.slots[id as usize].exit();
+        self.note(id, Word::Exit);
+    }
+
+    fn ask(
+        &mut self,
+        alloc: Global,
+        id: u32,
+        question: Question<'_>,
+        view: &View<'_>,
+    ) -> Result<Given, AllocError> {
+        let word = word_for(&question);
+        let given = self.slots[id as usize].ask(alloc, question, view);
+        self.note(id, word);
+        given
+    }
+
+    fn switch(&mut self, id: u32, on: bool) {
+        self.slots[id as usize].turn(on);
+        self.note(id, word_of_switch(on));
+    }
+
+    fn set_priority(&mut self, id: u32, priority: i32) {
+        self.slots[id as usize].priority = priority;
+    }
+
+    fn come(&mut self, place: u32) {
+        match mem::replace(&mut self.shelf[place as usize], None) {
+            None => unreachable!(),
+            Some(plugin) => self.take_seat(plugin),
+        }
+    }
+}
+
+impl Seats<AnyPlugin> for Roster {
+    ghost spare = { λ r. min (vec_capacity r.slots - vec_len r.slots) (vec_capacity r.names - vec_len r.names) };
+
+    fn seat(&mut self, plugin: AnyPlugin) {
+        self.take_seat(plugin);
+    }
+}

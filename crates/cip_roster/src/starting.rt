@@ -1,0 +1,135 @@
+//! How a roster begins.
+ghost use Rattle.std.specs.Prelude.{◌≡◌, ◌+◌, ◌++◌, ◌^◌, ◌<◌, ◌≤◌, ◌*◌, List, [], Bool, Some, All, length, map, IfOk, OnOk, OnErr, vec_len, vec_capacity};
+ghost use Rattle.cip_events.specs.Names.{shown_name};
+ghost use Rattle.cip_plugin.specs.Who.{Who};
+ghost use Rattle.cip_seats.specs.Seats.{held_count};
+ghost use Rattle.cip_seats.specs.Steps.{Runs};
+ghost use Rattle.cip_roster.specs.Turns.{IsSound};
+ghost use Rattle.cip_roster.specs.Begun.{AreSeated, IsBegun, IsFresh, IsPlaying, all_begin};
+
+use crate::journals::Journal;
+use crate::moves::shelve;
+use crate::rosters::{Roster, Seated};
+use crate::steps::{Seats, Steps};
+use crate::turns::{begin, set_up};
+use cip_plugin::{AnyPlugin, Kit, Tells, View};
+use std::alloc::{AllocError, Global};
+use std::marker::PhantomData;
+
+/// Calls each plugin for the first two times, by number.
+fn begin_all<R: Steps>(roster: &mut R, alloc: Global, view: &View<'_>)
+    requires fresh { All IsFresh (R.state roster.old).seats }
+    requires numbers { length (R.state roster.old).seats < 2 ^ 32 }
+    requires room { 6 * length (R.state roster.old).seats ≤ R.room roster.old }
+    ensures run { (answered : List (Bool × Bool)) × Runs (R.state roster.old)
+        (all_begin 0 answered) (R.state roster.new) }
+    ensures playing { All IsPlaying (R.state roster.new).seats }
+    ensures seats { length (R.state roster.new).seats ≡ length (R.state roster.old).seats }
+    ensures places { (R.state roster.new).places ≡ (R.state roster.old).places }
+    ensures room { 2 * length (R.state roster.old).seats ≤ R.room roster.new }
+{
+    for id in 0..roster.count() {
+        set_up(roster, alloc, id as u32);
+        begin(roster, alloc, id as u32, view);
+    }
+}
+
+/// Gives plugins seats, in their order, without calling them; there is room for all.
+fn seat_all<P: Tells + Drop, R: Seats<P>>(roster: &mut R, plugins: &mut Vec<P>)
+    requires spare { length plugins.old.items ≤ R.spare roster.old }
+    requires first { (R.state roster.old).seats ≡ [] }
+    requires unnamed { (R.state roster.old).names ≡ [] }
+    ensures seats { AreSeated (map P.who plugins.old.items) (R.state roster.new).seats }
+    ensures names { (R.state roster.new).names ≡ map (λ who. shown_name who.label) (map P.who plugins.old.items) }
+    ensures places { (R.state roster.new).places ≡ (R.state roster.old).places }
+    ensures lines { (R.state roster.new).lines ≡ (R.state roster.old).lines }
+    ensures kept { (R.state roster.new).kept ≡ (R.state roster.old).kept }
+    ensures room { R.room roster.new ≡ R.room roster.old }
+    ensures none { plugins.new.items ≡ [] }
+{
+    for plugin in plugins.drain(..) {
+        roster.seat(plugin);
+    }
+}
+
+/// Gives plugins seats, in their order, and calls each of them for the first two times.
+fn admit<P: Tells + Drop, R: Seats<P>>(
+    roster: &mut R,
+    alloc: Global,
+    plugins: &mut Vec<P>,
+    view: &View<'_>,
+)
+    requires spare { length plugins.old.items ≤ R.spare roster.old }
+    requires first { (R.state roster.old).seats ≡ [] }
+    requires unnamed { (R.state roster.old).names ≡ [] }
+    requires unwritten { (R.state roster.old).lines ≡ [] }
+    requires numbers { length plugins.old.items + held_count (R.state roster.old).places < 2 ^ 32 }
+    requires room { 6 * length plugins.old.items ≤ R.room roster.old }
+    ensures begun { (shelf : List Who) → (R.state roster.old).places ≡ map (λ who. Some who) shelf
+        → IsBegun (map P.who plugins.old.items) shelf (R.state roster.old).kept (R.state roster.new) }
+    ensures sound { IsSound (R.state roster.new) (R.room roster.new) }
+    ensures seats { length (R.state roster.new).seats ≡ length plugins.old.items }
+    ensures places { (R.state roster.new).places ≡ (R.state roster.old).places }
+    ensures none { plugins.new.items ≡ [] }
+{
+    seat_all(roster, plugins);
+    begin_all(roster, alloc, view);
+}
+
+impl Roster {
+    /// A roster without plugins, with room for those of a kit and for their first and last lines.
+    fn empty(alloc: Global, start: usize, shelf: usize, kept: bool) -> Result<Roster, AllocError>
+        requires { start < 2 ^ 32 }
+        ensures seats { IfOk result (λ roster. (⟦<Roster as Seated>⟧.state roster).seats ≡ []) }
+        ensures places { IfOk result (λ roster. (⟦<Roster as Seated>⟧.state roster).places ≡ []) }
+        ensures unnamed { IfOk result (λ roster. (⟦<Roster as Seated>⟧.state roster).names ≡ []) }
+        ensures lines { IfOk result (λ roster. (⟦<Roster as Seated>⟧.state roster).lines ≡ []) }
+        ensures kept { IfOk result (λ roster. (⟦<Roster as Seated>⟧.state roster).kept ≡ kept) }
+        ensures spare { IfOk result (λ roster. start ≤ ⟦<Roster as Seats<AnyPlugin>>⟧.spare roster) }
+        ensures shelf { IfOk result (λ roster. vec_len roster.shelf + shelf ≤ vec_capacity roster.shelf) }
+        ensures bare { IfOk result (λ roster. roster.shelf.items ≡ []) }
+        ensures room { IfOk result (λ roster. 6 * start ≤ ⟦<Roster as Seated>⟧.room roster) }
+    {
+        let mut journal = Journal::new(alloc, kept);
+        journal.reserve(6 * start)?;
+        Ok(Roster {
+            slots: Vec::with_capacity(alloc, start)?,
+            shelf: Vec::with_capacity(alloc, shelf)?,
+            names: Vec::with_capacity(alloc, start)?,
+            journal,
+            boxes: PhantomData,
+        })
+    }
+
+    /// Moves the plugins of a kit in: those of its start are included, in their order, and set up. All room is taken
+    /// first, in the kit for `close` too; where it is refused, nobody was called and the kit has its plugins.
+    pub fn start(
+        alloc: Global,
+        kit: &mut Kit,
+        kept: bool,
+        view: &View<'_>,
+    ) -> Result<Roster, AllocError>
+        requires { length kit.old.start.items + length kit.old.shelf.items < 2 ^ 32 }
+        ensures begun { IfOk result (λ roster. IsBegun (map ⟦<AnyPlugin as Tells>⟧.who kit.old.start.items)
+            (map ⟦<AnyPlugin as Tells>⟧.who kit.old.shelf.items) kept (⟦<Roster as Seated>⟧.state roster)) }
+        ensures sound { IfOk result (λ roster. IsSound (⟦<Roster as Seated>⟧.state roster)
+            (⟦<Roster as Seated>⟧.room roster)) }
+        ensures room { OnOk result (vec_len kit.new.spent + (length kit.old.start.items + length kit.old.shelf.items)
+            ≤ vec_capacity kit.new.spent) }
+        ensures plugins { IfOk result (λ roster. length (⟦<Roster as Seated>⟧.state roster).seats
+            + held_count (⟦<Roster as Seated>⟧.state roster).places
+            ≡ length kit.old.start.items + length kit.old.shelf.items) }
+        ensures moved { OnOk result ((kit.new.start.items ≡ []) × (kit.new.shelf.items ≡ [])) }
+        ensures spent { kit.new.spent.items ≡ kit.old.spent.items }
+        ensures err { OnErr result ((kit.new.start.items ≡ kit.old.start.items)
+            × (kit.new.shelf.items ≡ kit.old.shelf.items)) }
+    {
+        let start = kit.start.len();
+        let shelf = kit.shelf.len();
+        kit.spent.reserve(start + shelf)?;
+        let mut roster = Roster::empty(alloc, start, shelf, kept)?;
+        shelve(&mut kit.shelf, &mut roster.shelf);
+        admit(&mut roster, alloc, &mut kit.start, view);
+        Ok(roster)
+    }
+}

@@ -1,0 +1,135 @@
+//! What begins a life and ends it, and a plugin's turn.
+ghost use Rattle.std.specs.Prelude.{◌≡◌, ◌++◌, [], ◌∷◌, ◌+◌, ◌≤◌, ◌<◌, Bool, Option, IsSome, slice_get, vec_len, vec_capacity};
+ghost use Rattle.cip_events.specs.declared.words.Word.TheVariants as say;
+ghost use Rattle.cip_plugin.specs.Asking.{ask_of};
+ghost use Rattle.cip_plugin.specs.Calls.{Init, InitSolve};
+ghost use Rattle.cip_plugin.specs.declared.asking.Given.{Given as Brought};
+ghost use Rattle.cip_seats.specs.Calling.{dropped};
+ghost use Rattle.cip_seats.specs.Steps.{Runs, Notes};
+ghost use Rattle.cip_seats.specs.Wishing.{begun_with, ends};
+ghost use Rattle.cip_seats.specs.declared.stages.Stage.TheVariants as stages;
+ghost use Rattle.cip_roster.specs.Turns.{CanBeAsked, HadTurn, StandsAt, entries};
+
+use crate::rosters::Seated;
+use crate::steps::Steps;
+use cip_events::Word;
+use cip_plugin::{Given, Question, View};
+use std::alloc::Global;
+
+/// That a plugin wanted memory is written.
+fn note_memory<R: Steps>(roster: &mut R, id: u32)
+    requires seat { IsSome (slice_get (R.state roster.old).seats id) }
+    requires room { 1 ≤ R.room roster.old }
+    ensures run { Runs (R.state roster.old) (Notes id say.NoMemory ∷ []) (R.state roster.new) }
+    ensures room { R.room roster.old ≤ R.room roster.new + 1 }
+    ensures seats { (R.state roster.new).seats ≡ (R.state roster.old).seats }
+{
+    roster.note(id, Word::NoMemory);
+}
+
+/// How many proposals were dropped is written, if any were.
+fn note_dropped<R: Steps>(roster: &mut R, id: u32, past: usize)
+    requires seat { IsSome (slice_get (R.state roster.old).seats id) }
+    requires room { 1 ≤ R.room roster.old }
+    ensures run { Runs (R.state roster.old) (dropped id past) (R.state roster.new) }
+    ensures room { R.room roster.old ≤ R.room roster.new + 1 }
+{
+    if past == 0 {
+        return;
+    }
+    roster.note(id, Word::Dropped(past as u64));
+}
+
+/// A plugin at a seat is set up, and want of memory is written.
+pub(crate) fn set_up<R: Steps>(roster: &mut R, alloc: Global, id: u32)
+    requires at { StandsAt stages.Fresh (R.state roster.old) id }
+    requires room { 2 ≤ R.room roster.old }
+    ensures run { (answered : Bool) × Runs (R.state roster.old) (begun_with id (Init answered) answered)
+        (R.state roster.new) }
+    ensures at { StandsAt stages.Begun (R.state roster.new) id }
+    ensures room { R.room roster.old ≤ R.room roster.new + 2 }
+{
+    if roster.init(alloc, id) {
+        return;
+    }
+    note_memory(roster, id);
+}
+
+/// It hears that the search is on, and want of memory is written.
+pub(crate) fn begin<R: Steps>(roster: &mut R, alloc: Global, id: u32, view: &View<'_>)
+    requires at { StandsAt stages.Begun (R.state roster.old) id }
+    requires room { 2 ≤ R.room roster.old }
+    ensures run { (answered : Bool) × Runs (R.state roster.old) (begun_with id (InitSolve answered) answered)
+        (R.state roster.new) }
+    ensures at { StandsAt stages.Playing (R.state roster.new) id }
+    ensures room { R.room roster.old ≤ R.room roster.new + 2 }
+{
+    if roster.init_solve(alloc, id, view) {
+        return;
+    }
+    note_memory(roster, id);
+}
+
+/// It hears that the search ends, and is closed.
+pub(crate) fn end<R: Steps>(roster: &mut R, id: u32)
+    requires at { StandsAt stages.Playing (R.state roster.old) id }
+    requires room { 2 ≤ R.room roster.old }
+    ensures run { Runs (R.state roster.old) (ends id) (R.state roster.new) }
+    ensures at { StandsAt stages.Gone (R.state roster.new) id }
+    ensures room { R.room roster.old ≤ R.room roster.new + 2 }
+{
+    roster.exit_solve(id);
+    roster.exit(id);
+}
+
+/// Asks a plugin that is live and enabled, and writes what is to be written; what it gives is cut short after 64
+/// proposals. `None`: it wanted memory that was refused.
+pub(crate) fn turn<R: Steps>(
+    roster: &mut R,
+    alloc: Global,
+    id: u32,
+    question: Question<'_>,
+    view: &View<'_>,
+) -> Option<Given>
+    requires ready { CanBeAsked (R.state roster.old) (ask_of question) id }
+    requires room { 2 ≤ R.room roster.old }
+    ensures turn { HadTurn id (ask_of question.entry) (R.state roster.old) (R.state roster.new) result }
+    ensures room { R.room roster.old ≤ R.room roster.new + 2 }
+{
+    match roster.ask(alloc, id, question, view) {
+        Ok(mut given) => {
+            let past = given.cut_short();
+            note_dropped(roster, id, past);
+            Some(given)
+        }
+        Err(_) => {
+            note_memory(roster, id);
+            None
+        }
+    }
+}
+
+/// Asks a plugin, and puts what it gives behind what is there, where there is room.
+pub(crate) fn turn_into<R: Steps>(
+    roster: &mut R,
+    alloc: Global,
+    id: u32,
+    question: Question<'_>,
+    view: &View<'_>,
+    given: &mut Vec<(u32, Given)>,
+)
+    requires ready { CanBeAsked (R.state roster.old) (ask_of question) id }
+    requires lines { 2 ≤ R.room roster.old }
+    requires room { vec_len given.old < vec_capacity given.old }
+    ensures turn { (brought : Option Brought)
+        × HadTurn id (ask_of question.entry) (R.state roster.old) (R.state roster.new) brought
+        × (given.new.items ≡ given.old.items ++ entries id brought) }
+    ensures lines { R.room roster.old ≤ R.room roster.new + 2 }
+    ensures length { vec_len given.new ≤ vec_len given.old + 1 }
+    ensures capacity { vec_capacity given.new ≡ vec_capacity given.old }
+{
+    match turn(roster, alloc, id, question, view) {
+        None => {}
+        Some(brought) => given.push_reserved((id, brought)),
+    }
+}

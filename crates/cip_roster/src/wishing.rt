@@ -1,0 +1,201 @@
+//! Wishes: plugins come, are disabled and enabled, get priorities, and are freed.
+ghost use Rattle.std.specs.Prelude.{◌≡◌, ◌++◌, ◌+◌, ◌*◌, ◌≤◌, ◌⊎◌, [], ◌∷◌, OnOk, OnErr, MatchResult, None, Some, IsSome, is_ok, slice_get, if◌then◌else◌};
+ghost use Rattle.cip_events.specs.declared.words.Word.TheVariants as say;
+ghost use Rattle.cip_plugin.specs.declared.proposals.Wish.TheVariants.{Include, Disable, Enable, Free, Priority};
+ghost use Rattle.cip_seats.specs.declared.faults.WishFault.TheVariants as faults;
+ghost use Rattle.cip_seats.specs.Seats.{live_count};
+ghost use Rattle.cip_seats.specs.Steps.{Runs, Notes};
+ghost use Rattle.cip_seats.specs.Wishing.{Granted, place_fault, seat_fault, raised_by};
+ghost use Rattle.cip_roster.specs.Turns.{IsSound, IsLiveAt};
+ghost use Rattle.cip_roster.specs.Wished.{WasGranted, WasRefused};
+
+use crate::rosters::Seated;
+use crate::steps::Steps;
+use crate::turns::{begin, end, set_up};
+use cip_events::{Event, EventKind, EventQueue, Word};
+use cip_plugin::{View, Wish};
+use cip_seats::WishFault;
+use std::alloc::{AllocError, Global};
+
+/// Whether a plugin is live; else why not.
+fn live<R: Steps>(roster: &R, id: u32) -> Result<(), WishFault>
+    ensures { MatchResult result (λ _. IsLiveAt (R.state roster.now) id)
+        (λ fault. seat_fault (slice_get (R.state roster.now).seats id) ≡ Some fault) }
+{
+    match roster.liveness(id) {
+        None => Err(WishFault::NoSuchPlugin),
+        Some(true) => Ok(()),
+        Some(false) => Err(WishFault::Gone),
+    }
+}
+
+/// Makes room for a line of a live plugin; else why not. Neither changes the state.
+fn ready<R: Steps>(roster: &mut R, id: u32) -> Result<(), WishFault>
+    ensures state { R.state roster.new ≡ R.state roster.old }
+    ensures grows { R.room roster.old ≤ R.room roster.new }
+    ensures room { OnOk result (2 + 2 * live_count (R.state roster.old).seats
+        ≤ R.room roster.new) }
+    ensures came { MatchResult result (λ _. IsLiveAt (R.state roster.old) id)
+        (λ fault. (fault ≡ faults.NoMemory)
+        ⊎ (seat_fault (slice_get (R.state roster.old).seats id) ≡ Some fault)) }
+{
+    live(roster, id)?;
+    roster.reserve_turns(1)?;
+    Ok(())
+}
+
+/// The plugin of a place of the shelf is included; there is room for it.
+fn welcome<R: Steps>(roster: &mut R, alloc: Global, place: u32, view: &View<'_>)
+    requires sound { IsSound (R.state roster.old) (R.room roster.old) }
+    requires held { place_fault (slice_get (R.state roster.old).places place) ≡ None }
+    requires seat { R.has_seat roster.old }
+    requires room { 6 + 2 * live_count (R.state roster.old).seats
+        ≤ R.room roster.old }
+    ensures sound { IsSound (R.state roster.new) (R.room roster.new) }
+    ensures granted { Granted (Include place) (R.state roster.old)
+        (R.state roster.new) }
+{
+    let id = roster.count() as u32;
+    roster.come(place);
+    set_up(roster, alloc, id);
+    begin(roster, alloc, id, view);
+}
+
+/// Includes the plugin of a place of the shelf.
+fn include<R: Steps>(
+    roster: &mut R,
+    alloc: Global,
+    place: u32,
+    queue: &mut EventQueue,
+    view: &View<'_>,
+) -> Result<(), WishFault>
+    requires sound { IsSound (R.state roster.old) (R.room roster.old) }
+    ensures sound { IsSound (R.state roster.new) (R.room roster.new) }
+    ensures came { MatchResult result
+        (λ _. WasGranted (Include place) (R.state roster.old)
+        (R.state roster.new))
+        (λ fault. WasRefused (Include place) fault (R.state roster.old)
+        (R.state roster.new)) }
+    ensures queue { queue.new
+        ≡ queue.old ++ (if is_ok result then raised_by view.now.node (Include place) else []) }
+{
+    roster.holds(place)?;
+    roster.reserve_seat()?;
+    queue.push(Event::at(view.node, EventKind::PluginIncluded))?;
+    welcome(roster, alloc, place, view);
+    Ok(())
+}
+
+/// Disables a plugin; nothing changes where it is so already.
+fn disable<R: Steps>(roster: &mut R, id: u32) -> Result<(), WishFault>
+    requires sound { IsSound (R.state roster.old) (R.room roster.old) }
+    ensures sound { IsSound (R.state roster.new) (R.room roster.new) }
+    ensures came { MatchResult result
+        (λ _. WasGranted (Disable id) (R.state roster.old) (R.state roster.new))
+        (λ fault. WasRefused (Disable id) fault (R.state roster.old)
+        (R.state roster.new)) }
+{
+    ready(roster, id)?;
+    if !roster.is_enabled(id) {
+        return Ok(());
+    }
+    roster.switch(id, false);
+    Ok(())
+}
+
+/// Enables a plugin; nothing changes where it is so already.
+fn enable<R: Steps>(roster: &mut R, id: u32) -> Result<(), WishFault>
+    requires sound { IsSound (R.state roster.old) (R.room roster.old) }
+    ensures sound { IsSound (R.state roster.new) (R.room roster.new) }
+    ensures came { MatchResult result
+        (λ _. WasGranted (Enable id) (R.state roster.old) (R.state roster.new))
+        (λ fault. WasRefused (Enable id) fault (R.state roster.old)
+        (R.state roster.new)) }
+{
+    ready(roster, id)?;
+    if roster.is_enabled(id) {
+        return Ok(());
+    }
+    roster.switch(id, true);
+    Ok(())
+}
+
+/// Gives a plugin a priority.
+fn rank<R: Steps>(roster: &mut R, id: u32, priority: i32) -> Result<(), WishFault>
+    requires sound { IsSound (R.state roster.old) (R.room roster.old) }
+    ensures sound { IsSound (R.state roster.new) (R.room roster.new) }
+    ensures came { MatchResult result
+        (λ _. WasGranted (Priority id priority) (R.state roster.old)
+        (R.state roster.new))
+        (λ fault. WasRefused (Priority id priority) fault (R.state roster.old)
+        (R.state roster.new)) }
+{
+    live(roster, id)?;
+    roster.set_priority(id, priority);
+    Ok(())
+}
+
+/// Frees a plugin: it hears that the search ends, and is closed.
+fn free<R: Steps>(
+    roster: &mut R,
+    id: u32,
+    queue: &mut EventQueue,
+    node: u64,
+) -> Result<(), WishFault>
+    requires sound { IsSound (R.state roster.old) (R.room roster.old) }
+    ensures sound { IsSound (R.state roster.new) (R.room roster.new) }
+    ensures came { MatchResult result
+        (λ _. WasGranted (Free id) (R.state roster.old) (R.state roster.new))
+        (λ fault. WasRefused (Free id) fault (R.state roster.old)
+        (R.state roster.new)) }
+    ensures queue { queue.new ≡ queue.old ++ (if is_ok result then raised_by node (Free id) else []) }
+{
+    live(roster, id)?;
+    queue.push(Event::at(node, EventKind::PluginFreed))?;
+    end(roster, id);
+    Ok(())
+}
+
+/// Grants a wish, or says why not: then nothing has changed. An event is raised at an inclusion and at a free.
+pub(crate) fn wish<R: Steps>(
+    roster: &mut R,
+    alloc: Global,
+    wish: Wish,
+    queue: &mut EventQueue,
+    view: &View<'_>,
+) -> Result<(), WishFault>
+    requires sound { IsSound (R.state roster.old) (R.room roster.old) }
+    ensures sound { IsSound (R.state roster.new) (R.room roster.new) }
+    ensures came { MatchResult result
+        (λ _. WasGranted wish (R.state roster.old) (R.state roster.new))
+        (λ fault. WasRefused wish fault (R.state roster.old)
+        (R.state roster.new)) }
+    ensures queue { queue.new ≡ queue.old ++ (if is_ok result then raised_by view.now.node wish else []) }
+{
+    match wish {
+        Wish::Include(place) => include(roster, alloc, place, queue, view),
+        Wish::Disable(id) => disable(roster, id),
+        Wish::Enable(id) => enable(roster, id),
+        Wish::Free(id) => free(roster, id, queue, view.node),
+        Wish::Priority(id, priority) => rank(roster, id, priority),
+    }
+}
+
+/// Writes that a proposal of a plugin was refused, for the fault of this name. `Err` comes where a growth was
+/// refused, and leaves the roster as it was.
+pub(crate) fn refused<R: Steps>(
+    roster: &mut R,
+    id: u32,
+    fault: &'static str,
+) -> Result<(), AllocError>
+    requires sound { IsSound (R.state roster.old) (R.room roster.old) }
+    requires seat { IsSome (slice_get (R.state roster.old).seats id) }
+    ensures sound { IsSound (R.state roster.new) (R.room roster.new) }
+    ensures noted { OnOk result (Runs (R.state roster.old)
+        (Notes id (say.Refused fault.entry) ∷ []) (R.state roster.new)) }
+    ensures same { OnErr result (R.state roster.new ≡ R.state roster.old) }
+{
+    roster.reserve_turns(1)?;
+    roster.note(id, Word::Refused(fault));
+    Ok(())
+}

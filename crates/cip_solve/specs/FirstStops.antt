@@ -1,0 +1,34 @@
+-- When a search stops by the gap that was asked for: behind the first node at whose end it is reached.
+use Rattle.std.specs.Prelude.{◌≡◌, ℕ, ◌<◌, ◌≤◌, List, length, take, Option}
+use Rattle.cip_rational.specs.Rational.{ℚ}
+use Rattle.cip_problem.specs.Program.{Program}
+use Rattle.cip_problem.specs.Log.{Entry}
+use Rattle.cip_incumbent.specs.HeldPoint.{Holding}
+use Rattle.cip_tree.specs.Nodes.{Nodes}
+use Rattle.cip_core.specs.Beginning.{IsRootBound}
+use Rattle.cip_endings.specs.declared.worst.Worst.{Worst}
+use Rattle.cip_solve.specs.Searching.{IsStill, HasReachedGap}
+
+-- entries were only added behind those of a log
+abbrev pub IsLongerLog : List Entry → List Entry → Type 0
+IsLongerLog old new = (entries : ℕ) → entries ≤ length old → take entries new ≡ take entries old
+
+-- the search stood so behind the first entries of a log, as many as are said, and there the gap wasn't reached
+pub record IsShortAt (program : Program) (start asked : Option ℚ) (log : List Entry) (entries : ℕ) : Type 0 where
+  pub tree : Nodes
+  pub holding : Holding
+  pub worst : Option Worst
+  pub still : IsStill program start tree holding worst
+  pub logged : tree.log ≡ take entries log
+  pub short : HasReachedGap asked tree holding → ⊥
+
+-- it wasn't reached behind any node but the last
+abbrev pub IsFirstStop : Program → Option ℚ → Option ℚ → List Entry → Type 0
+IsFirstStop program start asked log =
+    (entries : ℕ) → 0 < entries → entries < length log → IsShortAt program start asked log entries
+
+-- so it is of a search from the bound of the root on
+pub record StopsFirst (program : Program) (asked : Option ℚ) (log : List Entry) : Type 0 where
+  pub start : Option ℚ
+  pub root : IsRootBound program start
+  pub first : IsFirstStop program start asked log
