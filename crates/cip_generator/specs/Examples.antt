@@ -1,4 +1,4 @@
--- The definitions tried: programs whose draws were worked out by hand.
+-- The definitions tried: programs whose draws another program has worked out.
 use Rattle.std.specs.Prelude.{◌≡◌, true, [], ◌∷◌, None, Some}
 use Rattle.cip_rational.specs.Rational.{zeroℚ, negate}
 use Rattle.cip_problem.specs.Program.{Program}

@@ -20,8 +20,8 @@ pub fn leaves_are_counted()
     ensures { LeavesAreCounted }
 {}
 
-/// A first draw, two costs and a program of two columns and two rows are as worked out by hand.
-pub fn generated_are_as_by_hand()
+/// A first draw, two costs and a program of two columns and two rows are as another program works them out.
+pub fn generated_examples()
     ensures { GeneratedExamples }
 {}
 

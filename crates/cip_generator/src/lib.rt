@@ -10,7 +10,6 @@ mod rows;
 
 pub use counts::entries;
 pub use laws::{
-    generated_are_as_by_hand, generated_are_formed, leaves_are_counted, limit_agrees,
-    ones_are_feasible,
+    generated_are_formed, generated_examples, leaves_are_counted, limit_agrees, ones_are_feasible,
 };
 pub use programs::{MOST_DRAWN, generate};

@@ -7,8 +7,7 @@ use std::alloc::Global;
 /// The seed, with how many columns and rows.
 type Drawn = (u64, usize, usize);
 
-/// What is drawn, the sum of the costs in the text, and the number of entries: the draws were made by another program,
-/// and those of seed 0 by hand.
+/// What is drawn, the sum of the costs in the text, and the number of entries, as another program works them out.
 const CASES: [(Drawn, i64, usize); 7] = [
     ((0, 0, 0), 0, 0),
     ((0, 1, 0), 15, 0),

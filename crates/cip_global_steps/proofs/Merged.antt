@@ -1,5 +1,5 @@
 -- Rows with equal terms.
-use Rattle.std.proofs.Common.{◌≡◌, ◌≢◌, ℕ, zero, suc, ◌+◌, ◌<◌, ◌≤◌, true, false, List, [], ◌∷◌, length, take, Option, None, Some, IfSome, slice_get, refl, sym, ap, ◌∙◌, subst, arith, add-one}
+use Rattle.std.proofs.Common.{◌≡◌, ◌≢◌, ℕ, zero, suc, ◌+◌, ◌<◌, ◌≤◌, true, List, [], ◌∷◌, length, take, Option, Some, slice_get, refl, sym, ap, ◌∙◌, subst, arith, add-one}
 use Rattle.std.specs.Prelude.{slice_set}
 use Rattle.std.proofs.lemmas.Option.{none-some, same_Some, slice_get_read}
 use Rattle.std.proofs.Math.ListN.{get_or}
@@ -8,7 +8,6 @@ use Rattle.cip_problem.specs.Program.{Term, Sides, Row, Program, no_row}
 use Rattle.cip_problem.specs.Activity.{activity, StandsBelow}
 use Rattle.cip_problem.specs.Box.{Between}
 use Rattle.cip_problem.specs.Choices.{met}
-use Rattle.cip_problem.specs.Points.{IsSatisfied, IsFeasible}
 use Rattle.cip_problem.proofs.Points.AtPlaces.{satisfied_at}
 use Rattle.cip_problem.proofs.Choices.Meeting.{between_met}
 use Rattle.cip_lin.specs.MetSides.{is_past}

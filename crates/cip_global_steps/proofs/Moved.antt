@@ -16,10 +16,10 @@ use Rattle.cip_cuts.specs.Cuts.{rounded_low, rounded_high}
 use Rattle.cip_cuts.proofs.Rounding.{sides_rounded}
 use Rattle.std.specs.List.{AllByRecursion}
 use Rattle.cip_reductions.specs.NarrowedPrograms.{IsStep, with_sides}
-use Rattle.cip_reductions.specs.Moving.{LetsFall, LetsRise, RowLetsFall, RowLetsRise, CanTake, CanFallTo, CanRiseTo, fixed_sides}
+use Rattle.cip_reductions.specs.Moving.{LetsFall, LetsRise, RowLetsFall, RowLetsRise, CanFallTo, CanRiseTo, fixed_sides}
 use Rattle.cip_reductions.proofs.Moving.{falls, rises}
 use Rattle.cip_reductions.proofs.Pairing.{exact_self, exact_step}
-use Rattle.cip_global_steps.specs.FreeColumns.{turned, TermsFree, RowsFree, MayTake, least_value, greatest_value}
+use Rattle.cip_global_steps.specs.FreeColumns.{TermsFree, RowsFree, MayTake, least_value, greatest_value}
 
 -- ---- rows
 

@@ -64,7 +64,8 @@ fn turned(rising: bool, coef: Frac) -> Frac
     if rising { coef.neg() } else { coef }
 }
 
-/// The column of a term of a row with these sides is free no more, where the term keeps it from falling, or from rising.
+/// The column of a term of a row with these sides is free no more, where the term keeps it from falling, or from
+/// rising.
 #[tactic(auto, using(crate::proofs::Free::locked_term))]
 fn lock_term(
     free: &mut Vec<bool>,

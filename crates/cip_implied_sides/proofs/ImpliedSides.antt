@@ -1,25 +1,23 @@
 -- Sides that a row implies for one of its columns.
-use Rattle.std.proofs.Common.{◌≡◌, ℕ, zero, suc, ◌+◌, ◌<◌, Bool, true, false, List, [], ◌∷◌, length, Option, None, Some, IfSome, slice_get, refl, sym, ap, ◌∙◌, subst, arith}
-use Rattle.std.specs.Prelude.{◌&&◌, slice_index_or, slice_set, All}
-use Rattle.std.proofs.lemmas.Option.{none-some, same_Some, slice_get_within, get_or_from_slice_get}
-use Rattle.cip_rational.specs.Rational.{ℚ, ◌+ℚ◌, ◌-ℚ◌, ◌*ℚ◌, zeroℚ, ◌≤ℚ◌, IsWhole}
+use Rattle.std.proofs.Common.{◌≡◌, ℕ, zero, suc, ◌<◌, Bool, true, false, List, [], ◌∷◌, length, Option, None, Some, IfSome, slice_get, refl, sym, ap, ◌∙◌, subst, arith}
+use Rattle.std.specs.Prelude.{slice_index_or, slice_set}
+use Rattle.std.proofs.lemmas.Option.{same_Some, slice_get_within, get_or_from_slice_get}
+use Rattle.cip_rational.specs.Rational.{ℚ, ◌+ℚ◌, ◌*ℚ◌, zeroℚ, ◌≤ℚ◌, IsWhole}
 use Rattle.cip_rational.proofs.Linear.{linear_le}
 use Rattle.cip_problem.specs.Program.{Term, Sides, Row, Program}
 use Rattle.cip_problem.specs.Activity.{activity, value_at, StandsBelow}
 use Rattle.cip_problem.specs.Box.{Between, IsInBox, sides_at, sides_inside}
 use Rattle.cip_problem.specs.Choices.{met, choice_at, is_open}
-use Rattle.cip_problem.specs.RowTerms.{column_at, coefficient_at, no_term, AreTerms}
+use Rattle.cip_problem.specs.RowTerms.{column_at, no_term}
 use Rattle.cip_problem.specs.Points.{IsSatisfied, IsFeasible}
 use Rattle.cip_problem.proofs.Points.AtPlaces.{in_box_at, satisfied_at, whole_at}
 use Rattle.cip_problem.proofs.Choices.Meeting.{between_met}
-use Rattle.cip_cuts.proofs.Rounding.{sides_rounded}
-use Rattle.cip_lin.specs.MetSides.{is_past}
-use Rattle.cip_reductions.specs.NarrowedPrograms.{IsExactStep, IsInfeasible, with_sides}
+use Rattle.cip_reductions.specs.NarrowedPrograms.{IsExactStep, with_sides}
 use Rattle.cip_reductions.specs.RowSteps.{divided_sides}
 use Rattle.cip_reductions.proofs.RowSteps.{divided}
 use Rattle.cip_reductions.proofs.Replacing.{sides_replaced}
 use Rattle.cip_reductions.proofs.Pairing.{exact_self}
-use Rattle.cip_row_reading.specs.SingleRows.{inward_if, single_sides}
+use Rattle.cip_row_reading.specs.SingleRows.{single_sides}
 use Rattle.cip_row_reading.proofs.Enclosing.{past_below}
 use Rattle.cip_steps.proofs.Singled.{met_inside, inward_onward}
 use Rattle.cip_implied_sides.specs.Rests.{product_at, IsRestBelow, IsRestAbove, IsDifference, Implies}

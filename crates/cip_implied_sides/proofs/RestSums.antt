@@ -7,7 +7,7 @@ use Rattle.cip_rational.specs.Rational.{ℚ, ◌+ℚ◌, ◌-ℚ◌, ◌*ℚ◌,
 use Rattle.cip_rational.proofs.Rational.Order.{≤ℚ_refl, ≤ℚ_trans}
 use Rattle.cip_rational.proofs.Rational.Ring.{zero-+ℚ, negate-*ℚ, negate_negate}
 use Rattle.cip_rational.proofs.Linear.{linear_le, linear_same}
-use Rattle.cip_problem.specs.Program.{Term, Sides, Row}
+use Rattle.cip_problem.specs.Program.{Term, Sides}
 use Rattle.cip_problem.specs.Activity.{activity, value_at, StandsBelow}
 use Rattle.cip_problem.specs.Box.{Between, IsInBox, sides_at}
 use Rattle.cip_problem.specs.RowTerms.{column_at, coefficient_at, no_term, AreTerms}
@@ -15,8 +15,7 @@ use Rattle.cip_problem.proofs.Points.AtPlaces.{in_box_at, IsInBox-long}
 use Rattle.cip_frac.specs.Outcomes.{product_added}
 use Rattle.cip_frac.specs.declared.operations.Wide.{Wide}
 use Rattle.cip_frac.proofs.Outcomes.{product_added-value}
-use Rattle.cip_lin.specs.declared.outcomes.Least.{Least}
-use Rattle.cip_lin.specs.declared.outcomes.Least.TheVariants.{Value, NoBound, Wide as TooWide}
+use Rattle.cip_lin.specs.declared.outcomes.Least.TheVariants.{Value}
 use Rattle.cip_lin.specs.RowSums.{least_side, least_of, least_at, least_added}
 use Rattle.cip_row_reading.specs.RowReading.{Encloses}
 use Rattle.cip_implied_sides.specs.Rests.{IsLeastProduct, IsGreatestProduct, product_at, IsDifference, IsRestBelow, IsRestAbove}

@@ -40,8 +40,8 @@ pub record IsDifference (side rest : Option ℚ) (difference : ℚ) : Type 0 whe
   pub is_rest : rest ≡ Some subtrahend
   pub value : difference ≡ minuend -ℚ subtrahend
 
--- a row implies sides for the column of the term at a place: each point of the box that satisfies it, with a whole value
--- where the column is whole, has its value between them
+-- a row implies sides for the column of the term at a place: each point of the box that satisfies it, with a whole
+-- value where the column is whole, has its value between them
 abbrev pub Implies : List Sides → Row → ℕ → Bool → Sides → Type 0
 Implies box row at whole sides =
     (point : List ℚ) → IsInBox box point → IsSatisfied row point

@@ -10,8 +10,8 @@ use cip_row_reading::single_sides;
 use std::alloc::Global;
 
 /// The sides that a row and the sides of its other columns imply for the column of the term at a place, rounded inward
-/// where that is whole; `None` where a number isn't in range. The activity of the row lies between the sides `extent` in
-/// the box.
+/// where that is whole; `None` where a number isn't in range. The activity of the row lies between the sides `extent`
+/// in the box.
 pub fn implied_sides(
     alloc: Global,
     row: &Row,

@@ -1,5 +1,5 @@
-//! Sides that a row and the sides of its other columns imply for one of its columns, and the step of presolve that takes
-//! them.
+//! Sides that a row and the sides of its other columns imply for one of its columns, and the step of presolve that
+//! takes them.
 #![tactic(auto)]
 
 mod implied;

@@ -86,8 +86,8 @@ fn implied(
 }
 
 /// Takes the sides that a row implies for the column of its term at a place, where it is whole and they are stronger
-/// than its own and not of a size above 2^100; `NoPoint` where the low side passes the high one. The activity of the row
-/// lies between the sides `extent` in the bounds.
+/// than its own and not of a size above 2^100; `NoPoint` where the low side passes the high one. The activity of the
+/// row lies between the sides `extent` in the bounds.
 #[tactic(auto, using(crate::proofs::ImpliedSides::taking))]
 pub fn try_implied(
     alloc: Global,

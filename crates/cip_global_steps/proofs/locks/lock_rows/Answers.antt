@@ -1,6 +1,6 @@
 use Rattle.std.proofs.Common.{◌<◌, List, Option, length, rules, subst}
 use Rattle.cip_rational.specs.Rational.{ℚ}
-use Rattle.cip_problem.specs.Program.{Term, Row}
+use Rattle.cip_problem.specs.Program.{Term}
 use Rattle.cip_global_steps.specs.FreeColumns.{TermsFree}
 use Rattle.cip_global_steps.proofs.Free.{row_locked}
 use Rattle.cip_global_steps.proofs.locks.lock_rows.Goals as goal

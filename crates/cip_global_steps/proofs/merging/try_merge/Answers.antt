@@ -1,6 +1,6 @@
-use Rattle.std.proofs.Common.{◌≡◌, List, sym, ap, ◌∙◌}
+use Rattle.std.proofs.Common.{◌≡◌, sym, ap, ◌∙◌}
 use Rattle.std.proofs.lemmas.Option.{same_Some}
-use Rattle.cip_problem.specs.Program.{Term, Sides, Row, no_row}
+use Rattle.cip_problem.specs.Program.{Sides, Row}
 use Rattle.cip_problem.specs.Choices.{met}
 use Rattle.cip_reductions.specs.NarrowedPrograms.{with_row}
 use Rattle.cip_global_steps.specs.RowsMet.{sides_of}

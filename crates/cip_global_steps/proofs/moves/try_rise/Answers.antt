@@ -1,7 +1,6 @@
 use Rattle.std.proofs.Common.{◌≡◌, List, Some, sym, ap, ◌∙◌, subst, true≢false}
 use Rattle.cip_rational.specs.Rational.{zeroℚ, ◌<ℚ◌}
 use Rattle.cip_problem.specs.Program.{Sides}
-use Rattle.cip_problem.specs.Activity.{value_at}
 use Rattle.cip_problem.specs.Box.{sides_at}
 use Rattle.cip_global_steps.specs.FreeColumns.{greatest_value}
 use Rattle.cip_global_steps.proofs.Moved.{stays, risen}

@@ -1,6 +1,5 @@
-use Rattle.std.proofs.Common.{◌≡◌, List, IfSome, sym, ap, ◌∙◌, subst}
-use Rattle.cip_problem.specs.Program.{Term}
-use Rattle.cip_implied_sides.specs.Rests.{IsRestAbove, IsRestBelow, IsDifference}
+use Rattle.std.proofs.Common.{IfSome}
+use Rattle.cip_implied_sides.specs.Rests.{IsDifference}
 use Rattle.cip_implied_sides.proofs.ImpliedSides.{implied_if}
 use Rattle.cip_implied_sides.proofs.implied.implied_sides.Goals as goal
 

@@ -1,7 +1,7 @@
-use Rattle.std.proofs.Common.{◌≡◌, ◌<◌, false, true, List, length, Some, slice_get, ap, sym, ◌∙◌, subst}
+use Rattle.std.proofs.Common.{◌≡◌, true, List, length, ap, sym, ◌∙◌, subst}
 use Rattle.cip_problem.specs.Program.{Term, Sides}
 use Rattle.cip_problem.specs.Box.{sides_at}
-use Rattle.cip_problem.specs.Choices.{met, choice_at, is_open}
+use Rattle.cip_problem.specs.Choices.{met}
 use Rattle.cip_implied_sides.specs.Rests.{Implies}
 use Rattle.cip_implied_sides.specs.Taken.{IsPlainWhole, IsImplied}
 use Rattle.cip_implied_sides.proofs.ImpliedSides.{found_by, term_inside}

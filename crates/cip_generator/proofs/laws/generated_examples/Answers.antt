@@ -1,6 +1,6 @@
 use Rattle.std.proofs.Common.{refl}
 use Rattle.cip_generator.specs.Generated.{next_state}
-use Rattle.cip_generator.proofs.laws.generated_are_as_by_hand.Goals as goal
+use Rattle.cip_generator.proofs.laws.generated_examples.Goals as goal
 
 pub returns : goal.returns
 unfolding next_state

@@ -1,0 +1,4 @@
+pub mod Asking
+pub mod Calling
+pub mod Noting
+pub mod Serving

@@ -1,0 +1,41 @@
+use Rattle.std.proofs.Common.{◌≡◌, ◌≢◌, ◌∷◌, [], ◌++◌, ℕ, List, refl, sym, ap, ◌∙◌, subst}
+use Rattle.cip_plugin.specs.declared.asking.Given.{Given}
+use Rattle.cip_calls.specs.Asked.{ask_in, told, proposers, AreSeated}
+use Rattle.cip_calls.specs.Noted.{makers}
+use Rattle.cip_calls.specs.Served.{Used}
+use Rattle.cip_calls.specs.declared.judging.Came.TheVariants.{Emptied}
+use Rattle.cip_calls.proofs.Noting.{come_called, come_gone}
+use Rattle.cip_calls.proofs.Serving.{used_nobody, round_used, round_plain, if_ok}
+use Rattle.cip_calls.proofs.plugins.Plugins.ask_round.Goals as goal
+
+pub returns-then-has_none-clause-come : goal.returns-then-has_none-clause-come
+returns-then-has_none-clause-come g c =
+    come_called c.args.core.now c.args.node.now _ _ (g.R.Seated.room c.args.self.now.roster) c.args.self.now.scratches c.requires.ready c.requires.sound (record { steps = []; run = refl })
+
+pub returns-then-has_none-clause-used : goal.returns-then-has_none-clause-used
+returns-then-has_none-clause-used g c = λ _.
+    used_nobody (ask_in c.args.round ∷ []) (g.R.Seated.state c.args.self.now.roster) c.args.self.now.judged.items (c.has_none.ensures c.if-has_none.true)
+
+pub returns-in_err-gave-clause-come : goal.returns-in_err-gave-clause-come
+returns-in_err-gave-clause-come g c =
+    come_called c.args.core.now c.args.node.now _ _ _ c.args.self.now.scratches c.requires.ready c.ask_all.ensures.sound c.ask_all.ensures.run
+
+pub take_all-requires-clause-seated : goal.take_all-requires-clause-seated
+take_all-requires-clause-seated g c =
+    subst (λ (l : List (ℕ × Given)). AreSeated (g.R.Seated.state c.ask_all.new.self) l) (sym c.as_slice.ensures.value) c.in_ok-gave.ensures.seated
+
+pub returns-clause-come : goal.returns-clause-come
+returns-clause-come g c = come_gone _ _ _ _ _ _ _ _ _ c.ask_all.ensures.run c.take_all.ensures.gone
+
+pub returns-clause-used : goal.returns-clause-used
+returns-clause-used g c =
+    let ask = ask_in c.args.round in
+    let a = g.R.Seated.state c.args.self.now.roster in
+    let b = g.R.Seated.state c.ask_all.new.self in
+    let d = g.R.Seated.state c.take_all.new.self.roster in
+    let had = c.args.self.now.judged.items in
+    let has = c.take_all.new.self.judged.items in
+    if_ok c.take_all.result (λ came. came ≢ Emptied → makers has ≡ makers had ++ proposers ask (told c.as_slice.result.now)) (λ came. came ≢ Emptied → Used (ask ∷ []) a had d has)
+    (λ came h other. round_used ask a b d (told c.in_ok-gave.gave.items) had has (round_plain c.args.round) c.ask_all.ensures.sound.settled c.in_ok-gave.ensures.asked c.take_all.ensures.gone.noted
+    (h other ∙ ap (λ (l : List (ℕ × Given)). makers had ++ proposers ask (told l)) c.as_slice.ensures.value))
+    c.take_all.ensures.judged

@@ -1,0 +1,22 @@
+use Rattle.cip_events.specs.declared.words.Word.TheVariants as say
+use Rattle.cip_calls.proofs.Noting.{noted_none, noted_by, judged_entry}
+use Rattle.cip_calls.proofs.plugins.Plugins.finish.Goals as goal
+
+pub returns-in_err-put_if-clause-noted : goal.returns-in_err-put_if-clause-noted
+returns-in_err-put_if-clause-noted g c = noted_none (g.R.Seated.state c.args.self.now.roster)
+
+pub returns-in_err-put_if-clause-judged : goal.returns-in_err-put_if-clause-judged
+returns-in_err-put_if-clause-judged g c = judged_entry c.args.id c.args.came.now _ _ c.push_reserved.ensures.items
+
+pub returns-in-Refused-clause-noted : goal.returns-in-Refused-clause-noted
+returns-in-Refused-clause-noted g c =
+    noted_by c.note_refused.result _ _ c.args.id (say.Refused c.name.result) c.note_refused.ensures.noted c.note_refused.ensures.same
+
+pub returns-in-Refused-clause-judged : goal.returns-in-Refused-clause-judged
+returns-in-Refused-clause-judged g c = judged_entry c.args.id c.args.came.now _ _ c.push_reserved.ensures.items
+
+pub returns-in_default-clause-noted : goal.returns-in_default-clause-noted
+returns-in_default-clause-noted g c = noted_none (g.R.Seated.state c.args.self.now.roster)
+
+pub returns-in_default-clause-judged : goal.returns-in_default-clause-judged
+returns-in_default-clause-judged g c = judged_entry c.args.id c.args.came.now _ _ c.push_reserved.ensures.items

@@ -1,0 +1,13 @@
+use Rattle.std.proofs.Common.{◌≡◌, ◌∷◌, [], ◌++◌, ap, ◌∙◌}
+use Rattle.cip_events.specs.Events.{event_at}
+use Rattle.cip_events.specs.declared.events.Event.{Event}
+use Rattle.cip_events.specs.declared.events.EventKind.TheVariants.{NodeFocused}
+use Rattle.cip_calls.proofs.Serving.{focus_used, on_ok}
+use Rattle.cip_calls.proofs.plugins.Plugins.focus.Goals as goal
+
+pub returns-clause-used : goal.returns-clause-used
+returns-clause-used g c =
+    let event = event_at c.args.node.now.number NodeFocused in
+    let same : c.at.result ≡ event = c.at.ensures ∙ ap (λ n. event_at n NodeFocused) c.id.ensures in
+    on_ok c.tell.result _ _ (focus_used c.has_none.result c.args.self.now.queue c.put.new.queue event _ _ _ _ c.has_none.ensures
+    (λ f. c.in_ok-put.ensures f ∙ ap (λ (x : Event). c.args.self.now.queue ++ x ∷ []) same)) c.tell.ensures.used

@@ -1,0 +1,29 @@
+use Rattle.std.proofs.Common.{sym, append-nil}
+use Rattle.cip_calls.specs.Asked.{ask_in}
+use Rattle.cip_calls.specs.Noted.{makers}
+use Rattle.cip_calls.proofs.Noting.{gone_none, gone_further, seat_noted, all_more}
+use Rattle.cip_calls.proofs.plugins.Plugins.take_all.Goals as goal
+
+pub loop-id-init : goal.loop-id-init
+loop-id-init g c = record {
+  gone = gone_none c.args.core.now c.args.node.now (g.R.Seated.state c.args.self.now.roster) (g.R.Seated.room c.args.self.now.roster) c.args.self.now.scratches c.requires.ready c.requires.sound;
+  seated = c.requires.seated;
+  judged = sym (append-nil (makers c.args.self.now.judged.items));
+}
+
+pub loop-id-preserved : goal.loop-id-preserved
+loop-id-preserved g c = record {
+  gone = gone_further _ _ _ _ _ _ _ _ _ _ _ _ _ c.loop-id.invariant.gone c.take_given.ensures.gone;
+  seated = λ k d within. seat_noted _ _ _ c.take_given.ensures.gone.noted (c.loop-id.invariant.seated k d within);
+  judged = all_more (ask_in c.args.round) c.args.gave.now c.loop-id.id-index c.loop-id-item.result _ _ _ c.loop-id-test.true c.loop-id-item.is c.loop-id.invariant.judged
+      (c.in_ok-came.ensures.judged c.in_default.not-Emptied);
+}
+
+pub returns-in_err-came-clause-gone : goal.returns-in_err-came-clause-gone
+returns-in_err-came-clause-gone g c = gone_further _ _ _ _ _ _ _ _ _ _ _ _ _ c.loop-id.invariant.gone c.take_given.ensures.gone
+
+pub returns-in-Emptied-clause-gone : goal.returns-in-Emptied-clause-gone
+returns-in-Emptied-clause-gone g c = gone_further _ _ _ _ _ _ _ _ _ _ _ _ _ c.loop-id.invariant.gone c.take_given.ensures.gone
+
+pub returns-in-Emptied-clause-emptied : goal.returns-in-Emptied-clause-emptied
+returns-in-Emptied-clause-emptied g c = λ _. c.in_ok-came.ensures.emptied c.in-Emptied.is

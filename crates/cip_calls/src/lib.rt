@@ -1,0 +1,14 @@
+//! Plugins are asked while a node is in work, what they propose is judged, and what happened is told to them.
+#![tactic(auto)]
+
+mod asks;
+mod judging;
+mod plugins;
+mod rosters;
+mod rounds;
+mod silence;
+
+pub use asks::{Asks, Round, Turn};
+pub use judging::Came;
+pub use plugins::Plugins;
+pub use silence::NoPlugins;

@@ -1,0 +1,5 @@
+pub mod Multiplied
+pub mod Points
+pub mod Spread
+pub mod Sums
+pub mod Tried

@@ -1,0 +1,3 @@
+pub mod MasterExamples
+pub mod MasterPrograms
+pub mod MasterStatements

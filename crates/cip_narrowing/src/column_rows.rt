@@ -1,0 +1,113 @@
+//! In which rows each column stands.
+use cip_lin::Row;
+use std::alloc::{AllocError, Global};
+
+/// In which of a list of rows each column stands.
+#[derive(Drop)]
+pub struct ColumnRows {
+    ends: Vec<u32>,
+    rows: Vec<u32>,
+}
+
+/// Whether a column is taken: all are, or continuous ones alone.
+fn is_taken(whole: &[bool], col: u32, only_continuous: bool) -> bool {
+    match whole.get(col as usize) {
+        Some(is_whole) => !(only_continuous && *is_whole),
+        None => false,
+    }
+}
+
+/// Counts the row at the place behind each of its columns.
+fn count_row(row: &Row, whole: &[bool], only_continuous: bool, ends: &mut [u32]) {
+    for term in row.terms() {
+        if is_taken(whole, term.col, only_continuous) {
+            if let Some(count) = ends.get_mut((term.col as usize).wrapping_add(1)) {
+                *count = count.wrapping_add(1);
+            }
+        }
+    }
+}
+
+/// Adds up counts, each with those before it, and answers the last sum.
+fn add_up(counts: &mut [u32]) -> usize {
+    let mut sum = 0u32;
+    for count in counts.iter_mut() {
+        sum = sum.wrapping_add(*count);
+        *count = sum;
+    }
+    sum as usize
+}
+
+/// Writes a number down at the end of a column's list.
+fn put(number: u32, col: u32, ends: &mut [u32], rows: &mut [u32]) {
+    let Some(end) = ends.get_mut(col as usize) else {
+        return;
+    };
+    if let Some(place) = rows.get_mut(*end as usize) {
+        *place = number;
+    }
+    *end = end.wrapping_add(1);
+}
+
+impl ColumnRows {
+    /// No column. It takes no memory.
+    pub fn new(alloc: Global) -> ColumnRows {
+        ColumnRows {
+            ends: Vec::new(alloc),
+            rows: Vec::new(alloc),
+        }
+    }
+
+    /// Takes rows: all their columns, or the continuous ones alone. `Err` where memory was refused; it has nothing of
+    /// use then, until rows are taken again.
+    pub fn take(
+        &mut self,
+        own: &[Row],
+        whole: &[bool],
+        only_continuous: bool,
+    ) -> Result<(), AllocError> {
+        self.ends.clear();
+        self.rows.clear();
+        self.ends.resize(whole.len().saturating_add(1), 0)?;
+        for row in own {
+            count_row(row, whole, only_continuous, self.ends.as_mut_slice());
+        }
+        let count = add_up(self.ends.as_mut_slice());
+        self.rows.resize(count, 0)?;
+        for (number, row) in own.iter().enumerate() {
+            let short = u32::try_from(number).unwrap_or(u32::MAX);
+            self.fill(short, row, whole, only_continuous);
+        }
+        Ok(())
+    }
+
+    /// Writes a row down at each of its columns.
+    fn fill(&mut self, number: u32, row: &Row, whole: &[bool], only_continuous: bool) {
+        for term in row.terms() {
+            if is_taken(whole, term.col, only_continuous) {
+                let ends = self.ends.as_mut_slice();
+                put(number, term.col, ends, self.rows.as_mut_slice());
+            }
+        }
+    }
+
+    /// Where the list of the column before this one ends.
+    fn start_of(&self, col: u32) -> usize {
+        let Some(before) = (col as usize).checked_sub(1) else {
+            return 0;
+        };
+        match self.ends.get(before) {
+            Some(end) => *end as usize,
+            None => 0,
+        }
+    }
+
+    /// The rows of a column, by their numbers.
+    pub fn rows_of(&self, col: u32) -> &[u32] {
+        let end = match self.ends.get(col as usize) {
+            Some(end) => *end as usize,
+            None => 0,
+        };
+        self.rows.get(self.start_of(col)..end).unwrap_or(&[])
+    }
+}

@@ -1,0 +1,103 @@
+//! Which rows have to be looked at again as a box changes.
+use crate::column_rows::ColumnRows;
+use cip_lin::{Row, Sides};
+use std::alloc::{AllocError, Global};
+
+/// A box as it was seen last, and the rows with a column whose sides have changed since they were looked at.
+#[derive(Drop)]
+pub struct Watched {
+    columns: ColumnRows,
+    seen: Vec<Sides>,
+    is_waiting: Vec<bool>,
+    waiting: Vec<u32>,
+}
+
+impl Watched {
+    /// No row. It takes no memory.
+    pub fn new(alloc: Global) -> Watched {
+        Watched {
+            columns: ColumnRows::new(alloc),
+            seen: Vec::new(alloc),
+            is_waiting: Vec::new(alloc),
+            waiting: Vec::new(alloc),
+        }
+    }
+
+    /// Takes a program's rows, all of which wait, and its box. `Err` where memory was refused.
+    pub fn take(&mut self, own: &[Row], whole: &[bool], sides: &[Sides]) -> Result<(), AllocError> {
+        self.columns.take(own, whole, false)?;
+        self.waiting.clear();
+        self.is_waiting.clear();
+        self.is_waiting.resize(own.len(), false)?;
+        for number in 0..own.len() {
+            self.wait_for(u32::try_from(number).unwrap_or(u32::MAX))?;
+        }
+        self.see(sides)
+    }
+
+    /// Takes a box as seen.
+    fn see(&mut self, sides: &[Sides]) -> Result<(), AllocError> {
+        self.seen.clear();
+        self.seen.extend_from_slice(sides)
+    }
+
+    /// Has a row wait, where it doesn't.
+    pub fn wait_for(&mut self, number: u32) -> Result<(), AllocError> {
+        let Some(is_waiting) = self.is_waiting.get_mut(number as usize) else {
+            return Ok(());
+        };
+        if !*is_waiting {
+            *is_waiting = true;
+            self.waiting.push(number)?;
+        }
+        Ok(())
+    }
+
+    /// Has the rows of a column wait.
+    pub fn wait_for_column(&mut self, col: u32) -> Result<(), AllocError> {
+        for number in self.columns.rows_of(col) {
+            if let Some(is_waiting) = self.is_waiting.get_mut(*number as usize) {
+                if !*is_waiting {
+                    *is_waiting = true;
+                    self.waiting.push(*number)?;
+                }
+            }
+        }
+        Ok(())
+    }
+
+    /// Takes a box, and has the rows wait of the columns whose sides differ from those that were seen last.
+    pub fn look(&mut self, sides: &[Sides]) -> Result<(), AllocError> {
+        for col in 0..sides.len() {
+            let short = u32::try_from(col).unwrap_or(u32::MAX);
+            if self.seen.get(col) != sides.get(col) {
+                self.wait_for_column(short)?;
+            }
+        }
+        self.see(sides)
+    }
+
+    /// Has no row wait.
+    pub fn calm(&mut self) {
+        for number in &self.waiting {
+            if let Some(is_waiting) = self.is_waiting.get_mut(*number as usize) {
+                *is_waiting = false;
+            }
+        }
+        self.waiting.clear();
+    }
+
+    /// The next row that waits, which waits no longer.
+    pub fn next(&mut self) -> Option<u32> {
+        let number = self.waiting.pop()?;
+        if let Some(is_waiting) = self.is_waiting.get_mut(number as usize) {
+            *is_waiting = false;
+        }
+        Some(number)
+    }
+
+    /// How many rows wait.
+    pub fn count(&self) -> usize {
+        self.waiting.len()
+    }
+}

@@ -1,0 +1,24 @@
+-- Steps one after another.
+use Rattle.cip_problem.specs.Program.{Program}
+use Rattle.cip_reductions.specs.NarrowedPrograms.{IsStep, IsExactStep}
+use Rattle.cip_reductions.proofs.Pairing.{exact_self, exact_after, exact_step, step_after}
+
+pub stays : (program : Program) → IsExactStep program program
+stays program = exact_self program
+
+pub follows : (first second third : Program) → IsExactStep first second → IsExactStep second third → IsExactStep first third
+follows first second third a b = exact_after first second third a b
+
+pub ruleset chains = (stays, follows)
+
+-- steps that aren't exact
+pub is_step : (program changed : Program) → IsExactStep program changed → IsStep program changed
+is_step program changed s = exact_step program changed s
+
+pub stays_dual : (program : Program) → IsStep program program
+stays_dual program = exact_step program program (exact_self program)
+
+pub follows_dual : (first second third : Program) → IsStep first second → IsStep second third → IsStep first third
+follows_dual first second third a b = step_after first second third a b
+
+pub ruleset dual_chains = (stays_dual, is_step, follows_dual)

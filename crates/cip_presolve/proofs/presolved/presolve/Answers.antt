@@ -1,0 +1,16 @@
+use Rattle.std.proofs.Common.{◌≤◌, length, sym, subst}
+use Rattle.cip_problem.specs.Limits.{most_rows}
+use Rattle.cip_problem.specs.Program.{Program}
+use Rattle.cip_reductions.specs.NarrowedPrograms.{IsStep, IsInfeasible}
+use Rattle.cip_steps.specs.DraftParts.{unnamed}
+use Rattle.cip_presolve.proofs.Compacted.{infeasible_named}
+use Rattle.cip_presolve.proofs.presolved.presolve.Goals as goal
+
+pub returns-in-NoPoint : goal.returns-in-NoPoint
+returns-in-NoPoint c =
+    let step : IsStep (unnamed c.args.program.now) c.reduce.new.draft = subst (λ (p : Program). IsStep p c.reduce.new.draft) c.in_ok-draft.ensures c.reduce.ensures.step in
+    let none : IsInfeasible c.reduce.new.draft = rw c.in-NoPoint.is at c.in_ok-place.ensures.end in
+    infeasible_named c.args.program.now c.reduce.new.draft step none
+
+pub reduce-requires : goal.reduce-requires
+reduce-requires c = subst (λ (p : Program). length p.rows ≤ most_rows) (sym c.in_ok-draft.ensures) c.columns-columns.ensures.formed.few_rows

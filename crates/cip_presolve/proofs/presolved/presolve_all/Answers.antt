@@ -1,0 +1,20 @@
+use Rattle.std.proofs.Common.{◌≤◌, length, sym, subst}
+use Rattle.cip_problem.specs.Limits.{most_rows}
+use Rattle.cip_problem.specs.Program.{Program}
+use Rattle.cip_reductions.specs.NarrowedPrograms.{IsExactStep, IsInfeasible}
+use Rattle.cip_steps.specs.DraftParts.{unnamed}
+use Rattle.cip_presolve.proofs.Chained.{is_step}
+use Rattle.cip_presolve.proofs.Compacted.{infeasible_exactly}
+use Rattle.cip_presolve.proofs.presolved.presolve_all.Goals as goal
+
+pub returns-in-NoPoint : goal.returns-in-NoPoint
+returns-in-NoPoint c =
+    let step : IsExactStep (unnamed c.args.program.now) c.reduce_exactly.new.draft = subst (λ (p : Program). IsExactStep p c.reduce_exactly.new.draft) c.in_ok-draft.ensures c.reduce_exactly.ensures.step in
+    let none : IsInfeasible c.reduce_exactly.new.draft = rw c.in-NoPoint.is at c.in_ok-place.ensures.end in
+    infeasible_exactly c.args.program.now c.reduce_exactly.new.draft step none
+
+pub reduce_exactly-requires : goal.reduce_exactly-requires
+reduce_exactly-requires c = subst (λ (p : Program). length p.rows ≤ most_rows) (sym c.in_ok-draft.ensures) c.columns-columns.ensures.formed.few_rows
+
+pub finished-requires-clause-step : goal.finished-requires-clause-step
+finished-requires-clause-step c = is_step _ _ (subst (λ (p : Program). IsExactStep p c.reduce_exactly.new.draft) c.in_ok-draft.ensures c.reduce_exactly.ensures.step)

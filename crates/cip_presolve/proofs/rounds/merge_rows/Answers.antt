@@ -1,0 +1,15 @@
+use Rattle.std.proofs.Common.{◌∙◌}
+use Rattle.cip_presolve.proofs.Chained.{follows}
+use Rattle.cip_presolve.proofs.rounds.merge_rows.Goals as goal
+
+pub loop-at-preserved : goal.loop-at-preserved
+loop-at-preserved c = record {
+  step = follows _ _ _ c.loop-at.invariant.step c.merge_pair.ensures.step;
+  rows = c.merge_pair.ensures.rows ∙ c.loop-at.invariant.rows;
+}
+
+pub returns-in_err-end-clause-step : goal.returns-in_err-end-clause-step
+returns-in_err-end-clause-step c = follows _ _ _ c.loop-at.invariant.step c.merge_pair.ensures.step
+
+pub returns-in_default-clause-step : goal.returns-in_default-clause-step
+returns-in_default-clause-step c = follows _ _ _ c.loop-at.invariant.step c.merge_pair.ensures.step

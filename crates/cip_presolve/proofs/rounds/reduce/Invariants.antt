@@ -1,0 +1,9 @@
+use Rattle.std.proofs.Common.{◌≡◌, length}
+use Rattle.cip_reductions.specs.NarrowedPrograms.{IsStep}
+use Rattle.cip_presolve.proofs.rounds.reduce.Given as goal
+
+abbrev pub invariant-loop : goal.invariant-loop
+invariant-loop l = record {
+  step : IsStep l.initial.draft l.draft;
+  rows : length l.draft.rows ≡ length l.initial.draft.rows;
+}

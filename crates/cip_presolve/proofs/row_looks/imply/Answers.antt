@@ -1,0 +1,17 @@
+use Rattle.std.proofs.Common.{◌∙◌}
+use Rattle.cip_implied_sides.proofs.ImpliedSides.{stays_enclosed}
+use Rattle.cip_presolve.proofs.Chained.{follows}
+use Rattle.cip_presolve.proofs.row_looks.imply.Goals as goal
+
+pub loop-at-preserved : goal.loop-at-preserved
+loop-at-preserved c = record {
+  step = follows _ _ _ c.loop-at.invariant.step c.imply_at.ensures.step;
+  rows = c.imply_at.ensures.rows ∙ c.loop-at.invariant.rows;
+  enclosed = stays_enclosed _ _ _ _ c.imply_at.ensures.step c.imply_at.ensures.rows c.loop-at.invariant.enclosed;
+}
+
+pub returns-in_err-end-clause-step : goal.returns-in_err-end-clause-step
+returns-in_err-end-clause-step c = follows _ _ _ c.loop-at.invariant.step c.imply_at.ensures.step
+
+pub returns-in_default-clause-step : goal.returns-in_default-clause-step
+returns-in_default-clause-step c = follows _ _ _ c.loop-at.invariant.step c.imply_at.ensures.step

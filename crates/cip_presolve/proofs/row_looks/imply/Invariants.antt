@@ -1,0 +1,11 @@
+use Rattle.std.proofs.Common.{◌≡◌}
+use Rattle.cip_reductions.specs.NarrowedPrograms.{IsExactStep}
+use Rattle.cip_implied_sides.specs.Taken.{IsEnclosed}
+use Rattle.cip_presolve.proofs.row_looks.imply.Given as goal
+
+abbrev pub invariant-loop-at : goal.invariant-loop-at
+invariant-loop-at l = record {
+  step : IsExactStep l.initial.draft l.draft;
+  rows : l.draft.rows ≡ l.initial.draft.rows;
+  enclosed : IsEnclosed l.draft l.row l.extent;
+}

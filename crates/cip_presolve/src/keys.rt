@@ -1,0 +1,68 @@
+//! Numbers of rows by which those with equal terms stand side by side: hints, of which nothing is promised.
+ghost use Rattle.std.specs.Prelude.{length, ◌<◌, ◌^◌};
+
+use cip_frac::Frac;
+use cip_lin::{Row, Term};
+use std::alloc::{AllocError, Global};
+
+/// A fingerprint with a number mixed in.
+#[inline]
+fn mixed(print: u64, number: u64) -> u64 {
+    (print ^ number)
+        .wrapping_mul(0x9E37_79B9_7F4A_7C15)
+        .rotate_left(29)
+}
+
+/// The lower 64 bits of a number.
+#[inline]
+fn lower(number: u128) -> u64 {
+    (number & 0xFFFF_FFFF_FFFF_FFFF) as u64
+}
+
+/// A fingerprint with a coefficient mixed in.
+fn with_coef(print: u64, coef: Frac) -> u64 {
+    let over = lower(coef.numerator().unsigned_abs());
+    let under = lower(coef.denominator().unsigned_abs());
+    let sign = u64::from(coef.is_negative());
+    mixed(mixed(mixed(print, over), under), sign)
+}
+
+/// The fingerprint of a row's terms.
+fn print_of(terms: &[Term]) -> u64 {
+    let mut print = 0xCBF2_9CE4_8422_2325u64;
+    for term in terms {
+        print = with_coef(mixed(print, u64::from(term.col)), term.coef);
+    }
+    print
+}
+
+/// A row's fingerprint, and behind it the row's number.
+fn key_of(row: &Row, number: u32) -> u128 {
+    let print = u128::from(print_of(row.terms()));
+    print.wrapping_mul(1 << 32).wrapping_add(u128::from(number))
+}
+
+/// The keys of the rows of two terms and more, in rising order; `Err` where the memory for them was refused.
+pub(crate) fn sorted_keys(alloc: Global, rows: &[Row]) -> Result<Vec<u128>, AllocError>
+    requires { length rows.now < 2 ^ 32 }
+{
+    let mut keys = Vec::new(alloc);
+    for number in 0..rows.len() {
+        if rows[number].terms().len() < 2 {
+            continue;
+        }
+        keys.push(key_of(&rows[number], number as u32))?;
+    }
+    keys.sort()?;
+    Ok(keys)
+}
+
+/// The number of the row of a key.
+pub(crate) fn row_of(key: u128) -> u32 {
+    (key & 0xFFFF_FFFF) as u32
+}
+
+/// Whether two keys are of rows that may have equal terms.
+pub(crate) fn are_alike(one: u128, other: u128) -> bool {
+    one >> 32 == other >> 32
+}

@@ -1,0 +1,177 @@
+//! What waits to be looked at: hints, of which nothing is promised but that each call ends.
+ghost use Rattle.std.specs.Prelude.{length, ◌<◌, ◌^◌};
+
+use cip_lin::Row;
+use std::alloc::{AllocError, Global};
+
+/// Numbers of rows that wait, with a flag for each row that does.
+#[derive(Debug, Drop)]
+pub struct Queue {
+    waiting: Vec<u32>,
+    marked: Vec<bool>,
+}
+
+impl Queue {
+    /// No row of so many waits. `Err` where the memory for it was refused.
+    pub fn new(alloc: Global, rows: usize) -> Result<Queue, AllocError> {
+        Ok(Queue {
+            waiting: Vec::new(alloc),
+            marked: vec![in alloc; false; rows]?,
+        })
+    }
+
+    /// A row waits from now on. `Err` comes where a growth was refused.
+    pub fn add(&mut self, row: u32) -> Result<(), AllocError> {
+        let at = row as usize;
+        if at < self.marked.len() && !self.marked[at] {
+            self.waiting.push(row)?;
+            self.marked[at] = true;
+        }
+        Ok(())
+    }
+
+    /// These rows wait from now on. `Err` comes where a growth was refused.
+    pub fn add_all(&mut self, rows: &[u32]) -> Result<(), AllocError> {
+        for row in rows {
+            self.add(*row)?;
+        }
+        Ok(())
+    }
+
+    /// The row that waits and came last, which waits no more; `None` where none waits.
+    pub fn next(&mut self) -> Option<u32> {
+        let Some(row) = self.waiting.pop() else {
+            return None;
+        };
+        let at = row as usize;
+        if at < self.marked.len() {
+            self.marked[at] = false;
+        }
+        Some(row)
+    }
+}
+
+/// For each column the rows that have a term on it: hints, of which nothing is promised.
+#[derive(Debug, Drop)]
+pub struct RowLists {
+    lists: Vec<Vec<u32>>,
+}
+
+impl RowLists {
+    /// No list for each of so many columns. `Err` where the memory for it was refused.
+    fn empty(alloc: Global, columns: usize) -> Result<RowLists, AllocError> {
+        let mut lists = Vec::new(alloc);
+        for _ in 0..columns {
+            lists.push(Vec::new(alloc))?;
+        }
+        Ok(RowLists { lists })
+    }
+
+    /// Puts a row into the list of each of its columns.
+    fn add(&mut self, row: &Row, number: u32) -> Result<(), AllocError> {
+        for term in row.terms() {
+            if let Some(list) = self.lists.get_mut(term.col as usize) {
+                list.push(number)?;
+            }
+        }
+        Ok(())
+    }
+
+    /// The lists of these rows, over so many columns. `Err` where the memory for them was refused.
+    pub fn new(alloc: Global, rows: &[Row], columns: usize) -> Result<RowLists, AllocError>
+        requires { length rows.now < 2 ^ 32 }
+    {
+        let mut lists = RowLists::empty(alloc, columns)?;
+        for number in 0..rows.len() {
+            lists.add(&rows[number], number as u32)?;
+        }
+        Ok(lists)
+    }
+
+    /// The rows of a column.
+    pub fn rows(&self, column: u32) -> &[u32] {
+        match self.lists.get(column as usize) {
+            Some(list) => list.as_slice(),
+            None => &[],
+        }
+    }
+}
+
+/// The most steps that presolve takes.
+const MOST_STEPS: u32 = 1_000_000;
+
+/// The most rows and terms, counted together, that presolve looks at.
+const MOST_LOOKED_AT: u64 = 1 << 27;
+
+/// What waits to be looked at, where a change of a column leads, how many steps were taken, and how many rows and terms
+/// were looked at.
+#[derive(Debug, Drop)]
+pub struct Work {
+    queue: Queue,
+    lists: RowLists,
+    steps: u32,
+    looked_at: u64,
+}
+
+impl Work {
+    /// All of these rows wait, the first one to be looked at first. `Err` where the memory for that was refused.
+    pub fn new(alloc: Global, rows: &[Row], columns: usize) -> Result<Work, AllocError>
+        requires { length rows.now < 2 ^ 32 }
+    {
+        let lists = RowLists::new(alloc, rows, columns)?;
+        let mut queue = Queue::new(alloc, rows.len())?;
+        for back in 0..rows.len() {
+            queue.add((rows.len() - 1 - back) as u32)?;
+        }
+        Ok(Work {
+            queue,
+            lists,
+            steps: 0,
+            looked_at: 0,
+        })
+    }
+
+    /// Whether as many steps were taken, or rows and terms looked at, as may be.
+    fn is_spent(&self) -> bool {
+        self.steps >= MOST_STEPS || self.looked_at >= MOST_LOOKED_AT
+    }
+
+    /// The row to look at next; `None` where none waits, or as much was done as may be.
+    pub fn next(&mut self) -> Option<u32> {
+        if self.is_spent() {
+            return None;
+        }
+        self.queue.next()
+    }
+
+    /// Whether no row is to be looked at.
+    pub fn is_done(&self) -> bool {
+        self.is_spent() || self.queue.waiting.is_empty()
+    }
+
+    /// A row of so many terms is looked at.
+    pub fn look(&mut self, terms: usize) {
+        self.looked_at = self
+            .looked_at
+            .saturating_add(1)
+            .saturating_add(terms as u64);
+    }
+
+    /// A step was taken that changes no column.
+    pub fn count_step(&mut self) {
+        self.steps = self.steps.saturating_add(1);
+    }
+
+    /// A step was taken that changes a row, which waits from now on. `Err` comes where a growth was refused.
+    pub fn row_changed(&mut self, row: u32) -> Result<(), AllocError> {
+        self.count_step();
+        self.queue.add(row)
+    }
+
+    /// A step was taken that changes the sides of a column, whose rows wait from now on. `Err` comes where a growth was
+    /// refused.
+    pub fn column_changed(&mut self, column: u32) -> Result<(), AllocError> {
+        self.count_step();
+        self.queue.add_all(self.lists.rows(column))
+    }
+}

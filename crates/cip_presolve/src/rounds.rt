@@ -1,0 +1,217 @@
+//! Steps are taken until none applies.
+ghost use Rattle.std.specs.Prelude.{IfOk, length, ◌<◌, ◌≤◌, ◌≡◌};
+ghost use Rattle.cip_problem.specs.Limits.{most_rows};
+ghost use Rattle.cip_reductions.specs.NarrowedPrograms.{IsStep, IsExactStep};
+ghost use Rattle.cip_global_steps.specs.FreeColumns.{RowsFree};
+ghost use Rattle.cip_presolve.specs.RoundEnds.{RoundEndsRightly};
+
+use crate::keys::sorted_keys;
+use crate::queues::Work;
+use crate::row_looks::{Place, RoundEnd, look_at, merge_pair};
+use cip_global_steps::{free_columns, try_move};
+use cip_steps::{Draft, Outcome};
+use std::alloc::{AllocError, Global};
+
+/// The most looks at rows between two rounds over all rows or columns: more than the work gives.
+const MOST_LOOKS: u32 = (1 << 27) + 1;
+
+/// The most rounds over all rows or columns.
+const MOST_ROUNDS: u32 = 64;
+
+/// Looks at the rows that wait until none does. `Err` comes where a growth was refused.
+#[tactic(auto, using(crate::proofs::Chained::chains))]
+fn look_at_all(alloc: Global, draft: &mut Draft, work: &mut Work) -> Result<RoundEnd, AllocError>
+    ensures step { IsExactStep draft.old draft.new }
+    ensures end { IfOk result (RoundEndsRightly draft.new) }
+    ensures rows { length draft.new.rows ≡ length draft.old.rows }
+{
+    for _ in 0..MOST_LOOKS {
+        let Some(row) = work.next() else {
+            return Ok(RoundEnd::Open);
+        };
+        match look_at(alloc, draft, row, work)? {
+            RoundEnd::Open => {}
+            end => return Ok(end),
+        }
+    }
+    Ok(RoundEnd::Open)
+}
+
+/// Makes one row of each two with equal terms. `Err` comes where a growth was refused.
+#[tactic(auto, using(crate::proofs::Chained::chains))]
+fn merge_rows(alloc: Global, draft: &mut Draft, work: &mut Work) -> Result<RoundEnd, AllocError>
+    requires { length draft.old.rows ≤ most_rows }
+    ensures step { IsExactStep draft.old draft.new }
+    ensures end { IfOk result (RoundEndsRightly draft.new) }
+    ensures rows { length draft.new.rows ≡ length draft.old.rows }
+{
+    let keys = sorted_keys(alloc, draft.rows())?;
+    for at in 1..keys.len() {
+        match merge_pair(alloc, draft, keys[at - 1], keys[at], work)? {
+            RoundEnd::Open => {}
+            end => return Ok(end),
+        }
+    }
+    Ok(RoundEnd::Open)
+}
+
+/// Moves the costs of the columns with equal sides to the constant.
+#[tactic(auto, using(crate::proofs::Chained::chains))]
+fn settle_columns(draft: &mut Draft) -> RoundEnd
+    ensures step { IsExactStep draft.old draft.new }
+    ensures end { RoundEndsRightly draft.new result }
+    ensures rows { length draft.new.rows ≡ length draft.old.rows }
+{
+    for column in 0..draft.bounds().len() {
+        let number = column as u32;
+        match draft.try_fixed(number) {
+            Outcome::NoPoint => {
+                return RoundEnd::NoPoint {
+                    place: Place::Column(number),
+                };
+            }
+            _ => {}
+        }
+    }
+    RoundEnd::Open
+}
+
+/// Looks at the rows that wait, and then at rows with equal terms. `Err` comes where a growth was refused.
+#[tactic(auto, using(crate::proofs::Chained::chains))]
+fn look_and_merge(alloc: Global, draft: &mut Draft, work: &mut Work) -> Result<RoundEnd, AllocError>
+    requires { length draft.old.rows ≤ most_rows }
+    ensures step { IsExactStep draft.old draft.new }
+    ensures end { IfOk result (RoundEndsRightly draft.new) }
+    ensures rows { length draft.new.rows ≡ length draft.old.rows }
+{
+    match look_at_all(alloc, draft, work)? {
+        RoundEnd::Open => merge_rows(alloc, draft, work),
+        end => Ok(end),
+    }
+}
+
+/// Takes the exact steps until none applies. `Err` comes where a growth was refused.
+#[tactic(auto, using(crate::proofs::Chained::chains))]
+fn settle(alloc: Global, draft: &mut Draft, work: &mut Work) -> Result<RoundEnd, AllocError>
+    requires { length draft.old.rows ≤ most_rows }
+    ensures step { IsExactStep draft.old draft.new }
+    ensures end { IfOk result (RoundEndsRightly draft.new) }
+    ensures rows { length draft.new.rows ≡ length draft.old.rows }
+{
+    for _ in 0..MOST_ROUNDS {
+        match look_and_merge(alloc, draft, work)? {
+            RoundEnd::Open => {}
+            end => return Ok(end),
+        }
+        if work.is_done() {
+            return Ok(settle_columns(draft));
+        }
+    }
+    Ok(settle_columns(draft))
+}
+
+/// Takes the exact steps until none applies. `Err` comes where a growth was refused.
+pub(crate) fn reduce_exactly(alloc: Global, draft: &mut Draft) -> Result<RoundEnd, AllocError>
+    requires { length draft.old.rows ≤ most_rows }
+    ensures step { IsExactStep draft.old draft.new }
+    ensures end { IfOk result (RoundEndsRightly draft.new) }
+    ensures rows { length draft.new.rows ≡ length draft.old.rows }
+{
+    let mut work = Work::new(alloc, draft.rows(), draft.bounds().len())?;
+    settle(alloc, draft, &mut work)
+}
+
+/// Moves a column that no row holds; its rows wait from then on. `Err` comes where a growth was refused.
+#[tactic(auto, using(crate::proofs::Chained::dual_chains))]
+fn move_column(
+    draft: &mut Draft,
+    column: u32,
+    free: &[bool],
+    rising: bool,
+    work: &mut Work,
+) -> Result<(), AllocError>
+    requires inside { column < length draft.old.bounds }
+    requires free { RowsFree rising free.now draft.old.rows }
+    ensures step { IsStep draft.old draft.new }
+    ensures rows { draft.new.rows ≡ draft.old.rows }
+    ensures columns { length draft.new.bounds ≡ length draft.old.bounds }
+{
+    match try_move(draft, column, free, rising) {
+        Outcome::Tightened(moved) => work.column_changed(moved),
+        _ => Ok(()),
+    }
+}
+
+/// Moves the columns that no row keeps from rising, or from falling, to where they cost least; their rows wait from
+/// then on. `Err` comes where a growth was refused.
+#[tactic(auto, using(crate::proofs::Chained::dual_chains))]
+fn move_columns(
+    alloc: Global,
+    draft: &mut Draft,
+    rising: bool,
+    work: &mut Work,
+) -> Result<(), AllocError>
+    ensures step { IsStep draft.old draft.new }
+    ensures rows { draft.new.rows ≡ draft.old.rows }
+{
+    let columns = draft.bounds().len();
+    let free = free_columns(alloc, draft.rows(), columns, rising)?;
+    for column in 0..columns {
+        move_column(draft, column as u32, free.as_slice(), rising, work)?;
+    }
+    Ok(())
+}
+
+/// Moves the columns that no row holds: those that may fall, and then those that may rise. `Err` comes where a growth
+/// was refused.
+#[tactic(auto, using(crate::proofs::Chained::dual_chains))]
+fn move_both(alloc: Global, draft: &mut Draft, work: &mut Work) -> Result<(), AllocError>
+    ensures step { IsStep draft.old draft.new }
+    ensures rows { draft.new.rows ≡ draft.old.rows }
+{
+    move_columns(alloc, draft, false, work)?;
+    move_columns(alloc, draft, true, work)
+}
+
+/// Takes the exact steps until none applies, and then moves columns that no row holds. `Err` comes where a growth was
+/// refused.
+#[tactic(auto, using(crate::proofs::Chained::dual_chains))]
+fn settle_and_move(
+    alloc: Global,
+    draft: &mut Draft,
+    work: &mut Work,
+) -> Result<RoundEnd, AllocError>
+    requires { length draft.old.rows ≤ most_rows }
+    ensures step { IsStep draft.old draft.new }
+    ensures end { IfOk result (RoundEndsRightly draft.new) }
+    ensures rows { length draft.new.rows ≡ length draft.old.rows }
+{
+    match settle(alloc, draft, work)? {
+        RoundEnd::Open => {
+            move_both(alloc, draft, work)?;
+            Ok(RoundEnd::Open)
+        }
+        end => Ok(end),
+    }
+}
+
+/// Takes the steps until none applies. `Err` comes where a growth was refused.
+#[tactic(auto, using(crate::proofs::Chained::dual_chains))]
+pub(crate) fn reduce(alloc: Global, draft: &mut Draft) -> Result<RoundEnd, AllocError>
+    requires { length draft.old.rows ≤ most_rows }
+    ensures step { IsStep draft.old draft.new }
+    ensures end { IfOk result (RoundEndsRightly draft.new) }
+    ensures rows { length draft.new.rows ≡ length draft.old.rows }
+{
+    let mut work = Work::new(alloc, draft.rows(), draft.bounds().len())?;
+    for _ in 0..MOST_ROUNDS {
+        match settle_and_move(alloc, draft, &mut work)? {
+            RoundEnd::Open => {}
+            end => return Ok(end),
+        }
+        if work.is_done() {
+            return Ok(settle_columns(draft));
+        }
+    }
+    Ok(settle_columns(draft))
+}

@@ -1,0 +1,156 @@
+//! What looking at one row, or at two with equal terms, comes to.
+ghost use Rattle.std.specs.Prelude.{IfOk, length, ◌<◌, ◌≡◌};
+ghost use Rattle.cip_reductions.specs.NarrowedPrograms.{IsExactStep};
+ghost use Rattle.cip_implied_sides.specs.Taken.{IsEnclosed};
+ghost use Rattle.cip_presolve.specs.RoundEnds.{RoundEndsRightly};
+
+use crate::keys::{are_alike, row_of};
+use crate::left_rows::says_nothing;
+use crate::queues::Work;
+use cip_global_steps::try_merge;
+use cip_implied_sides::{row_extent, try_implied};
+use cip_lin::Sides;
+use cip_steps::{Draft, Outcome};
+use std::alloc::{AllocError, Global};
+
+/// A row or a column at which no point is feasible.
+#[derive(Clone, Copy, Debug, PartialEq, Eq)]
+pub enum Place {
+    /// The row of this number, from 0.
+    Row(u32),
+    /// The column of this number, from 0.
+    Column(u32),
+}
+
+/// What looking at rows and columns comes to.
+#[derive(Clone, Copy, Debug, PartialEq, Eq)]
+pub enum RoundEnd {
+    /// Some points may be feasible.
+    Open,
+    /// No point is feasible, as this row or column shows.
+    NoPoint { place: Place },
+}
+
+/// Tells the work of a step, if one was taken. `Err` comes where a growth was refused.
+fn tell(work: &mut Work, outcome: Outcome) -> Result<(), AllocError> {
+    match outcome {
+        Outcome::Tightened(column) => work.column_changed(column),
+        Outcome::Gone => {
+            work.count_step();
+            Ok(())
+        }
+        _ => Ok(()),
+    }
+}
+
+/// Takes the sides that a row implies for the column of its term at a place. The activity of the row lies between the
+/// sides `extent`. `Err` comes where a growth was refused.
+#[tactic(auto, using(crate::proofs::Chained::chains))]
+fn imply_at(
+    alloc: Global,
+    draft: &mut Draft,
+    row: u32,
+    at: usize,
+    extent: Sides,
+    work: &mut Work,
+) -> Result<RoundEnd, AllocError>
+    requires inside { row < length draft.old.rows }
+    requires encloses { IsEnclosed draft.old row extent }
+    ensures step { IsExactStep draft.old draft.new }
+    ensures end { IfOk result (RoundEndsRightly draft.new) }
+    ensures rows { draft.new.rows ≡ draft.old.rows }
+{
+    match try_implied(alloc, draft, row as usize, at, extent) {
+        Outcome::NoPoint => Ok(RoundEnd::NoPoint {
+            place: Place::Row(row),
+        }),
+        outcome => {
+            tell(work, outcome)?;
+            Ok(RoundEnd::Open)
+        }
+    }
+}
+
+/// Takes the sides that a row implies for its columns. `Err` comes where a growth was refused.
+#[tactic(auto, using(crate::proofs::Chained::chains))]
+fn imply(
+    alloc: Global,
+    draft: &mut Draft,
+    row: u32,
+    work: &mut Work,
+) -> Result<RoundEnd, AllocError>
+    requires { row < length draft.old.rows }
+    ensures step { IsExactStep draft.old draft.new }
+    ensures end { IfOk result (RoundEndsRightly draft.new) }
+    ensures rows { length draft.new.rows ≡ length draft.old.rows }
+{
+    let extent = row_extent(draft, row as usize);
+    let count = draft.row(row as usize).terms().len();
+    for at in 0..count {
+        match imply_at(alloc, draft, row, at, extent, work)? {
+            RoundEnd::Open => {}
+            end => return Ok(end),
+        }
+    }
+    Ok(RoundEnd::Open)
+}
+
+/// Looks at one row; what its change touches waits from then on. `Err` comes where a growth was refused.
+#[tactic(auto, using(crate::proofs::Chained::chains))]
+pub(crate) fn look_at(
+    alloc: Global,
+    draft: &mut Draft,
+    row: u32,
+    work: &mut Work,
+) -> Result<RoundEnd, AllocError>
+    ensures step { IsExactStep draft.old draft.new }
+    ensures end { IfOk result (RoundEndsRightly draft.new) }
+    ensures rows { length draft.new.rows ≡ length draft.old.rows }
+{
+    let number = row as usize;
+    if number >= draft.count() || says_nothing(draft.row(number)) {
+        return Ok(RoundEnd::Open);
+    }
+    work.look(draft.row(number).terms().len());
+    match draft.reduce_row(alloc, number)? {
+        Outcome::NoPoint => Ok(RoundEnd::NoPoint {
+            place: Place::Row(row),
+        }),
+        Outcome::Kept => imply(alloc, draft, row, work),
+        outcome => {
+            tell(work, outcome)?;
+            Ok(RoundEnd::Open)
+        }
+    }
+}
+
+/// Makes one row of those of two keys, where they have equal terms: the second row stays. `Err` comes where a growth
+/// was refused.
+#[tactic(auto, using(crate::proofs::Chained::chains))]
+pub(crate) fn merge_pair(
+    alloc: Global,
+    draft: &mut Draft,
+    first: u128,
+    second: u128,
+    work: &mut Work,
+) -> Result<RoundEnd, AllocError>
+    ensures step { IsExactStep draft.old draft.new }
+    ensures end { IfOk result (RoundEndsRightly draft.new) }
+    ensures rows { length draft.new.rows ≡ length draft.old.rows }
+{
+    let gone = row_of(first) as usize;
+    let stays = row_of(second);
+    if !are_alike(first, second) || gone >= draft.count() || stays as usize >= draft.count() {
+        return Ok(RoundEnd::Open);
+    }
+    match try_merge(alloc, draft, stays as usize, gone)? {
+        Outcome::NoPoint => Ok(RoundEnd::NoPoint {
+            place: Place::Row(stays),
+        }),
+        Outcome::Gone => {
+            work.row_changed(stays)?;
+            Ok(RoundEnd::Open)
+        }
+        _ => Ok(RoundEnd::Open),
+    }
+}

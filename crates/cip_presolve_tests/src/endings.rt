@@ -1,0 +1,38 @@
+//! What searches of programs end with.
+use crate::programs::has_near_columns;
+use cip_frac::Frac;
+use cip_model::Program;
+use cip_report::{Answer, Ended, Held};
+use cip_solve::{Log, Options, solve};
+use std::alloc::Global;
+
+/// What a search ends with: a least cost, or which word.
+#[derive(Clone, Copy, Debug, PartialEq, Eq)]
+pub(crate) enum Ending {
+    Optimal(Frac),
+    Infeasible,
+    Unbounded,
+    Other,
+}
+
+fn ending_of(answer: &Answer) -> Ending {
+    match (&answer.ended, &answer.best) {
+        (Ended::Optimal, Some(held)) => Ending::Optimal(held.cost),
+        (Ended::Infeasible, None) => Ending::Infeasible,
+        (Ended::Unbounded { .. }, Some(_)) => Ending::Unbounded,
+        _ => Ending::Other,
+    }
+}
+
+/// What a search of a program ends with, and what it holds then; nothing where a side is too far.
+pub(crate) fn searched(alloc: Global, program: &Program) -> (Ending, Option<Held>) {
+    if !has_near_columns(program) {
+        return (Ending::Other, None);
+    }
+    let options = Options {
+        nodes: 10_000,
+        gap: None,
+    };
+    let answer = solve(alloc, program, &options, &mut Log::new(alloc));
+    (ending_of(&answer), answer.best)
+}

@@ -1,0 +1,48 @@
+//! Combinations that cuts are made of.
+use crate::numbers::ratio;
+use crate::shifts::Shift;
+use crate::stops::{Stop, found};
+use cip_frac::Frac;
+use cip_lin::{ColumnMultiple, Combo, RowId, RowMultiple};
+use std::alloc::Global;
+
+/// No row and no side.
+pub fn empty_combo(alloc: Global) -> Combo {
+    Combo {
+        rows: Vec::new(alloc),
+        lows: Vec::new(alloc),
+        highs: Vec::new(alloc),
+    }
+}
+
+/// Adds a row, a quotient of two numbers times.
+pub fn push_row(combo: &mut Combo, row: RowId, over: i128, under: i128) -> Result<(), Stop> {
+    let factor = found(ratio(over, under))?;
+    combo.rows.push(RowMultiple { row, factor })?;
+    Ok(())
+}
+
+/// Adds that a way is at least 0, a quotient of two numbers times.
+pub fn push_way(combo: &mut Combo, shift: Shift, over: i128, under: i128) -> Result<(), Stop> {
+    let weight = found(ratio(over, under))?;
+    if weight.is_zero() {
+        return Ok(());
+    }
+    if shift.side.is_none() {
+        return Err(Stop::GaveUp);
+    }
+    push_side(combo, shift, weight)
+}
+
+/// Adds the side from which a way is told, with a weight above 0.
+fn push_side(combo: &mut Combo, shift: Shift, weight: Frac) -> Result<(), Stop> {
+    let col = shift.col;
+    if shift.is_turned {
+        let factor = weight.neg();
+        combo.highs.push(ColumnMultiple { col, factor })?;
+    } else {
+        let factor = weight;
+        combo.lows.push(ColumnMultiple { col, factor })?;
+    }
+    Ok(())
+}

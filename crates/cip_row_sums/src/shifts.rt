@@ -1,0 +1,193 @@
+//! A row in the ways of its columns from their sides.
+use crate::numbers::{UNIT, rough, with_product};
+use crate::stops::{Stop, found};
+use crate::sums::Terms;
+use cip_frac::Frac;
+use cip_lin::Sides;
+use cip_plugin::View;
+use std::alloc::Global;
+
+/// From which of its sides a column's way is told.
+#[derive(Clone, Copy, PartialEq, Eq, Debug)]
+pub enum Aim {
+    /// From the side that is nearer.
+    Nearest,
+    /// From the side that leaves the coefficient above 0.
+    Positive,
+    /// As `Positive` for a continuous column, else as `Nearest`.
+    Rounding,
+}
+
+/// A column's way from one of its sides, and the coefficient of that in a row.
+#[derive(Clone, Copy)]
+pub struct Shift {
+    pub col: u32,
+    /// The coefficient of the way.
+    pub coef: i64,
+    /// How long the way roughly is at the last point.
+    pub way: i64,
+    /// The side; none for a whole column without sides, whose way is its value.
+    pub side: Option<Frac>,
+    /// Whether the column is whole.
+    pub is_whole: bool,
+    /// Whether the side is the high one.
+    pub is_turned: bool,
+    /// Whether the sides are there and differ by 1.
+    pub is_unit: bool,
+}
+
+impl Shift {
+    /// Whether the column stands at neither of its sides.
+    pub fn is_between(&self) -> bool {
+        self.way > 0 && !(self.is_unit && self.way >= UNIT)
+    }
+
+    /// What the column's coefficient is where that of its way is this one.
+    pub fn column_coefficient(&self, number: i64) -> i64 {
+        if self.is_turned {
+            number.wrapping_neg()
+        } else {
+            number
+        }
+    }
+}
+
+/// The sides of a column in the node's box, its value at the last point, and whether it is whole.
+pub fn place_of(view: &View<'_>, col: u32) -> Option<(Sides, Frac, bool)> {
+    let sides = view.bounds.as_slice().get(col as usize)?;
+    let value = view.point?.get(col as usize)?;
+    let whole = view.whole.get(col as usize)?;
+    Some((*sides, *value, *whole))
+}
+
+/// Whether the high side is nearer than the low one.
+fn is_high_nearer(low: Frac, high: Frac, value: Frac) -> bool {
+    let at = rough(value);
+    rough(high).wrapping_sub(at) < at.wrapping_sub(rough(low))
+}
+
+/// Whether a way is told from the high side.
+fn is_from_high(sides: Sides, value: Frac, is_positive: bool, by_sign: bool) -> bool {
+    if by_sign {
+        return !is_positive;
+    }
+    match (sides.low, sides.high) {
+        (Some(low), Some(high)) => is_high_nearer(low, high, value),
+        (None, Some(_)) => true,
+        _ => false,
+    }
+}
+
+/// Whether two sides are there and differ by 1.
+fn is_unit(sides: Sides) -> bool {
+    match (sides.low, sides.high) {
+        (Some(low), Some(high)) => match high.sub(low) {
+            Ok(width) => width == Frac::one(),
+            Err(_) => false,
+        },
+        _ => false,
+    }
+}
+
+/// How far a value roughly is from a side.
+fn way_from(side: Option<Frac>, value: Frac) -> i64 {
+    let from = match side {
+        Some(side) => rough(side),
+        None => 0,
+    };
+    rough(value).wrapping_sub(from)
+}
+
+/// The way of a column with this coefficient.
+fn shift_of(view: &View<'_>, term: (u32, i64), aim: Aim) -> Option<Shift> {
+    let (sides, value, is_whole) = place_of(view, term.0)?;
+    let by_sign = match aim {
+        Aim::Nearest => false,
+        Aim::Positive => true,
+        Aim::Rounding => !is_whole,
+    };
+    let is_turned = is_from_high(sides, value, term.1 > 0, by_sign);
+    let side = if is_turned { sides.high } else { sides.low };
+    match side {
+        None if !is_whole || by_sign => return None,
+        Some(side) if is_whole && !side.is_whole() => return None,
+        _ => {}
+    }
+    let way = way_from(side, value);
+    Some(Shift {
+        col: term.0,
+        coef: if is_turned {
+            term.1.wrapping_neg()
+        } else {
+            term.1
+        },
+        way: if is_turned { way.wrapping_neg() } else { way },
+        side,
+        is_whole,
+        is_turned,
+        is_unit: is_unit(sides),
+    })
+}
+
+/// A row in the ways of its columns, which is at most its right side.
+#[derive(Drop)]
+pub struct Shifted {
+    pub items: Vec<Shift>,
+    pub right: Frac,
+    /// Whether a whole column of it has a value that isn't.
+    pub is_fractional: bool,
+}
+
+impl Shifted {
+    /// No column.
+    pub fn new(alloc: Global) -> Shifted {
+        Shifted {
+            items: Vec::new(alloc),
+            right: Frac::zero(),
+            is_fractional: false,
+        }
+    }
+
+    /// Takes a row that is at most its right side.
+    pub fn take(
+        &mut self,
+        view: &View<'_>,
+        terms: &Terms,
+        right: Frac,
+        aim: Aim,
+    ) -> Result<(), Stop> {
+        self.items.clear();
+        self.right = right;
+        self.is_fractional = false;
+        for term in terms {
+            let item = found(shift_of(view, *term, aim))?;
+            if let Some(side) = item.side {
+                let times = Frac::from(term.1.wrapping_neg());
+                self.right = found(with_product(self.right, times, side))?;
+            }
+            if item.is_whole && item.way.checked_rem(UNIT) != Some(0) {
+                self.is_fractional = true;
+            }
+            self.items.push(item)?;
+        }
+        Ok(())
+    }
+
+    /// Tells the way of a column whose sides differ by 1 from the other side.
+    pub fn flip(&mut self, place: usize) -> Result<(), Stop> {
+        let Some(item) = self.items.get_mut(place) else {
+            return Ok(());
+        };
+        let Some(side) = item.side else {
+            return Ok(());
+        };
+        let by = Frac::from(if item.is_turned { -1 } else { 1 });
+        let times = Frac::from(item.coef.wrapping_neg());
+        self.right = found(with_product(self.right, times, Frac::one()))?;
+        item.side = Some(found(side.add(by).ok())?);
+        item.coef = item.coef.wrapping_neg();
+        item.way = UNIT.wrapping_sub(item.way);
+        item.is_turned = !item.is_turned;
+        Ok(())
+    }
+}

@@ -1,0 +1,39 @@
+//! Why work on a cut ends without one.
+use std::alloc::{AllocError, AllocFailed};
+
+/// Why work on a cut ends without one.
+#[derive(Clone, Copy, PartialEq, Eq, Debug)]
+pub enum Stop {
+    /// A number is too great, or a side that is wanted isn't there.
+    GaveUp,
+    /// Memory was refused.
+    NoMemory,
+}
+
+impl From<AllocError> for Stop {
+    fn from(_error: AllocError) -> Stop {
+        Stop::NoMemory
+    }
+}
+
+impl<T: Drop> From<AllocFailed<T>> for Stop {
+    fn from(_error: AllocFailed<T>) -> Stop {
+        Stop::NoMemory
+    }
+}
+
+/// What is there, or that the work gave up.
+pub fn found<T>(value: Option<T>) -> Result<T, Stop> {
+    match value {
+        Some(value) => Ok(value),
+        None => Err(Stop::GaveUp),
+    }
+}
+
+/// Goes on where the work gave up; not where memory was refused.
+pub fn unless_refused(outcome: Result<(), Stop>) -> Result<(), AllocError> {
+    match outcome {
+        Err(Stop::NoMemory) => Err(AllocError),
+        _ => Ok(()),
+    }
+}

@@ -1,0 +1,244 @@
+//! Rows that stand at a side, made whole and added up.
+use crate::numbers::{product, raised, with_product};
+use crate::stops::{Stop, found};
+use cip_frac::Frac;
+use cip_lin::{RowId, Term};
+use std::alloc::Global;
+use std::mem;
+
+/// Whole coefficients by rising column.
+pub type Terms = Vec<(u32, i64)>;
+
+// The most columns of a sum, so that no combination is too long.
+const MOST_TERMS: usize = 2_000;
+
+/// At which of its sides a row stands.
+#[derive(Clone, Copy, PartialEq, Eq, Debug)]
+pub enum Standing {
+    /// At none.
+    Between,
+    /// At its low side.
+    Low,
+    /// At its high side.
+    High,
+    /// At both, which are the same.
+    Both,
+}
+
+/// A row that stands at a side, with the least number that makes its coefficients whole.
+#[derive(Clone, Copy)]
+pub struct TightRow<'a> {
+    pub id: RowId,
+    pub terms: &'a [Term],
+    pub standing: Standing,
+    pub side: Frac,
+    pub common: i64,
+}
+
+/// A row of a sum: how often it was taken after it was made whole.
+#[derive(Clone, Copy)]
+pub struct Used {
+    pub id: RowId,
+    pub standing: Standing,
+    pub common: i64,
+    pub times: i64,
+}
+
+impl Used {
+    /// Whether the row, taken so often, is at most its side times that.
+    pub fn fits(&self) -> bool {
+        match self.standing {
+            Standing::Low => self.times < 0,
+            Standing::High => self.times > 0,
+            _ => true,
+        }
+    }
+
+    /// How often the row itself was taken.
+    pub fn factor(&self) -> Option<i64> {
+        product(self.times, self.common)
+    }
+}
+
+/// A row that is added so often, after it was made whole.
+#[derive(Clone, Copy)]
+pub struct Multiple<'a> {
+    pub terms: &'a [Term],
+    pub common: i64,
+    pub times: i64,
+}
+
+impl<'a> Multiple<'a> {
+    /// What it adds by a term.
+    fn coefficient(&self, term: &Term) -> Option<i64> {
+        product(raised(term.coef, self.common)?, self.times)
+    }
+}
+
+/// What stands at the next column of two rows: the sum there, and how far each list goes on.
+#[derive(Clone, Copy)]
+struct Next {
+    col: u32,
+    value: i64,
+    own: usize,
+    other: usize,
+}
+
+/// The next column of the first row alone.
+fn next_own(own: (u32, i64), factor: i64) -> Option<Next> {
+    Some(Next {
+        col: own.0,
+        value: product(own.1, factor)?,
+        own: 1,
+        other: 0,
+    })
+}
+
+/// The next column of the second row alone.
+fn next_other(term: &Term, multiple: Multiple<'_>) -> Option<Next> {
+    Some(Next {
+        col: term.col,
+        value: multiple.coefficient(term)?,
+        own: 0,
+        other: 1,
+    })
+}
+
+/// The next column of both rows.
+fn next_both(own: (u32, i64), factor: i64, term: &Term, multiple: Multiple<'_>) -> Option<Next> {
+    let first = product(own.1, factor)?;
+    Some(Next {
+        col: own.0,
+        value: first.checked_add(multiple.coefficient(term)?)?,
+        own: 1,
+        other: 1,
+    })
+}
+
+/// Writes a row times a factor with a multiple of another one added.
+pub fn write_sum(
+    own: &[(u32, i64)],
+    factor: i64,
+    multiple: Multiple<'_>,
+    out: &mut Terms,
+) -> Result<(), Stop> {
+    out.clear();
+    let mut here = 0usize;
+    let mut there = 0usize;
+    for _ in 0..own.len().saturating_add(multiple.terms.len()) {
+        let next = match (own.get(here), multiple.terms.get(there)) {
+            (None, None) => return Ok(()),
+            (Some(mine), None) => next_own(*mine, factor),
+            (Some(mine), Some(term)) if mine.0 < term.col => next_own(*mine, factor),
+            (Some(mine), Some(term)) if mine.0 == term.col => {
+                next_both(*mine, factor, term, multiple)
+            }
+            (_, Some(term)) => next_other(term, multiple),
+        };
+        let step = found(next)?;
+        if step.value != 0 {
+            out.push((step.col, step.value))?;
+        }
+        here = here.wrapping_add(step.own);
+        there = there.wrapping_add(step.other);
+    }
+    Ok(())
+}
+
+/// A sum of rows, each at a side: its coefficients are whole, and it is at most the right side where each of its rows
+/// fits.
+#[derive(Drop)]
+pub struct Sum {
+    pub used: Vec<Used>,
+    pub terms: Terms,
+    pub right: Frac,
+    spare: Terms,
+}
+
+impl Sum {
+    /// No row.
+    pub fn new(alloc: Global) -> Sum {
+        Sum {
+            used: Vec::new(alloc),
+            terms: Vec::new(alloc),
+            right: Frac::zero(),
+            spare: Vec::new(alloc),
+        }
+    }
+
+    /// A row alone.
+    pub fn begin(&mut self, row: &TightRow<'_>) -> Result<(), Stop> {
+        self.used.clear();
+        self.terms.clear();
+        self.right = Frac::zero();
+        self.add(1, row, 1)
+    }
+
+    /// A row alone, with the sign by which it is at most the right side.
+    pub fn begin_at_most(&mut self, row: &TightRow<'_>) -> Result<(), Stop> {
+        self.begin(row)?;
+        if row.standing == Standing::Low {
+            self.turn();
+        }
+        Ok(())
+    }
+
+    /// The sum so often, and a row so often.
+    pub fn add(&mut self, own: i64, row: &TightRow<'_>, times: i64) -> Result<(), Stop> {
+        let multiple = Multiple {
+            terms: row.terms,
+            common: row.common,
+            times,
+        };
+        write_sum(self.terms.as_slice(), own, multiple, &mut self.spare)?;
+        mem::swap(&mut self.terms, &mut self.spare);
+        if self.terms.len() > MOST_TERMS {
+            return Err(Stop::GaveUp);
+        }
+        let factor = found(product(times, row.common))?;
+        let before = found(with_product(Frac::zero(), self.right, Frac::from(own)))?;
+        self.right = found(with_product(before, row.side, Frac::from(factor)))?;
+        self.scale_used(own)?;
+        self.used.push(Used {
+            id: row.id,
+            standing: row.standing,
+            common: row.common,
+            times,
+        })?;
+        Ok(())
+    }
+
+    /// Each row is taken so often as it was.
+    fn scale_used(&mut self, factor: i64) -> Result<(), Stop> {
+        for used in self.used.iter_mut() {
+            used.times = found(product(used.times, factor))?;
+        }
+        Ok(())
+    }
+
+    /// The sum with the other sign.
+    pub fn turn(&mut self) {
+        for used in self.used.iter_mut() {
+            used.times = used.times.wrapping_neg();
+        }
+        for term in self.terms.iter_mut() {
+            term.1 = term.1.wrapping_neg();
+        }
+        self.right = self.right.neg();
+    }
+
+    /// Whether a row is one of its rows.
+    pub fn uses(&self, id: RowId) -> bool {
+        self.used.iter().any(|used| used.id == id)
+    }
+
+    /// The coefficient of a column.
+    pub fn coefficient(&self, col: u32) -> i64 {
+        for term in &self.terms {
+            if term.0 == col {
+                return term.1;
+            }
+        }
+        0
+    }
+}

@@ -1,0 +1,144 @@
+//! Rows that stand at a side at the last point.
+use crate::numbers::{common_multiple, with_product};
+use crate::stops::{Stop, found};
+use crate::sums::{Standing, TightRow};
+use cip_frac::Frac;
+use cip_lin::{Row, RowId, Term};
+use cip_plugin::View;
+use std::alloc::{AllocError, Global};
+
+/// A number that counts rows or columns, of which there are fewer than 2^32.
+pub fn short(number: usize) -> u32 {
+    u32::try_from(number).unwrap_or(u32::MAX)
+}
+
+/// A row by its name.
+pub fn row_of<'a>(view: &View<'a>, id: RowId) -> Option<&'a Row> {
+    match id {
+        RowId::Own(number) => view.own.get(number as usize),
+        RowId::Pool(id) => {
+            let place = view.pool.partition_point(|kept| kept.id < id);
+            let kept = view.pool.get(place)?;
+            if kept.id == id { Some(&kept.row) } else { None }
+        }
+        RowId::Cutoff => None,
+    }
+}
+
+/// What a row comes to at a point.
+fn activity(terms: &[Term], point: &[Frac]) -> Option<Frac> {
+    let mut sum = Frac::zero();
+    for term in terms {
+        let value = point.get(term.col as usize)?;
+        sum = with_product(sum, term.coef, *value)?;
+    }
+    Some(sum)
+}
+
+/// At which of its sides a row stands at a point.
+fn standing_of(row: &Row, point: &[Frac]) -> Standing {
+    let (low, high) = (row.low(), row.high());
+    if low.is_some() && low == high {
+        return Standing::Both;
+    }
+    let sum = activity(row.terms(), point);
+    if sum.is_none() {
+        Standing::Between
+    } else if sum == low {
+        Standing::Low
+    } else if sum == high {
+        Standing::High
+    } else {
+        Standing::Between
+    }
+}
+
+/// The least number that makes a row's coefficients whole.
+fn common_of(terms: &[Term]) -> Option<i64> {
+    let mut common = 1;
+    for term in terms {
+        if !term.coef.is_whole() {
+            common = common_multiple(common, term.coef.denominator())?;
+        }
+    }
+    Some(common)
+}
+
+/// A row with the side at which it stands.
+pub fn tight_row<'a>(view: &View<'a>, id: RowId, standing: Standing) -> Option<TightRow<'a>> {
+    let row = row_of(view, id)?;
+    let side = match standing {
+        Standing::Between => return None,
+        Standing::High => row.high()?,
+        _ => row.low()?,
+    };
+    Some(TightRow {
+        id,
+        terms: row.terms(),
+        standing,
+        side,
+        common: common_of(row.terms())?,
+    })
+}
+
+/// At which of its sides each row stands at the last point: the program's own, then those of the pool.
+#[derive(Drop)]
+pub struct Standings {
+    list: Vec<Standing>,
+}
+
+impl Standings {
+    /// None.
+    pub fn new(alloc: Global) -> Standings {
+        Standings {
+            list: Vec::new(alloc),
+        }
+    }
+
+    /// Takes a point.
+    pub fn take(&mut self, view: &View<'_>, point: &[Frac]) -> Result<(), AllocError> {
+        self.list.clear();
+        for row in view.own {
+            self.list.push(standing_of(row, point))?;
+        }
+        for kept in view.pool {
+            self.list.push(standing_of(&kept.row, point))?;
+        }
+        Ok(())
+    }
+
+    /// How many rows there are.
+    pub fn len(&self) -> usize {
+        self.list.len()
+    }
+
+    /// That of a row.
+    pub fn get(&self, place: usize) -> Standing {
+        match self.list.get(place) {
+            Some(standing) => *standing,
+            None => Standing::Between,
+        }
+    }
+}
+
+/// The name of the row at a place: the program's own, then those of the pool.
+pub(crate) fn id_at(view: &View<'_>, place: usize) -> Option<RowId> {
+    if place < view.own.len() {
+        return Some(RowId::Own(short(place)));
+    }
+    let kept = view.pool.get(place.wrapping_sub(view.own.len()))?;
+    Some(RowId::Pool(kept.id))
+}
+
+/// A row with the side at which it stands, or that the work gave up.
+pub fn tight_at<'a>(
+    view: &View<'a>,
+    standings: &Standings,
+    place: usize,
+) -> Result<TightRow<'a>, Stop> {
+    let id = found(id_at(view, place))?;
+    match tight_row(view, id, standings.get(place)) {
+        Some(row) => Ok(row),
+        None => Err(Stop::GaveUp),
+    }
+}

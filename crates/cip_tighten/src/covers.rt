@@ -1,0 +1,174 @@
+//! Covers: columns of a row, each with two values, that can't all stand at the costlier one. The row, divided by the
+//! greatest of their coefficients and rounded, says that one of them doesn't.
+use crate::roundings::rounded_cut;
+use cip_plugin::View;
+use cip_row_sums::{Aim, Candidate, Candidates, Shift, Shifted, Stop, Sum, UNIT, unless_refused};
+use std::alloc::{AllocError, Global};
+
+/// A column that may stand in a cover: by its key, then by its place.
+#[derive(Clone, Copy, PartialEq, Eq, PartialOrd, Ord)]
+struct Pick {
+    key: i64,
+    place: usize,
+    coef: i64,
+    way: i64,
+}
+
+/// What work on covers is done in.
+#[derive(Drop)]
+pub(crate) struct Covers {
+    shifted: Shifted,
+    picks: Vec<Pick>,
+    cover: Vec<Pick>,
+    kept: Vec<Pick>,
+}
+
+/// In which order columns come into a cover.
+#[derive(Clone, Copy, PartialEq, Eq, Debug)]
+enum Order {
+    /// What is left of the way for the coefficient, the least first.
+    ByRate,
+    /// The way, the longest first.
+    ByWay,
+}
+
+/// By what a column stands in an order.
+fn key_of(shift: Shift, order: Order) -> i64 {
+    let left = UNIT.saturating_sub(shift.way);
+    match order {
+        Order::ByWay => left,
+        Order::ByRate => {
+            let raised = i128::from(left) << 24;
+            match raised.checked_div(i128::from(shift.coef)) {
+                Some(rate) => i64::try_from(rate).unwrap_or(i64::MAX),
+                None => i64::MAX,
+            }
+        }
+    }
+}
+
+/// Lists the columns that may stand in a cover, in an order.
+fn list_picks(items: &[Shift], order: Order, picks: &mut Vec<Pick>) -> Result<(), Stop> {
+    picks.clear();
+    for (place, shift) in items.iter().enumerate() {
+        if shift.is_unit {
+            picks.push(Pick {
+                key: key_of(*shift, order),
+                place,
+                coef: shift.coef,
+                way: shift.way,
+            })?;
+        }
+    }
+    picks.sort_unstable();
+    Ok(())
+}
+
+/// Takes columns in their order until their coefficients come to more than the limit, and answers what they come to.
+fn fill(picks: &[Pick], limit: i128, cover: &mut Vec<Pick>) -> Result<i128, Stop> {
+    cover.clear();
+    let mut sum = 0i128;
+    for pick in picks {
+        if sum > limit {
+            return Ok(sum);
+        }
+        sum = sum.wrapping_add(i128::from(pick.coef));
+        let mut taken = *pick;
+        taken.key = pick.way;
+        cover.push(taken)?;
+    }
+    if sum > limit {
+        Ok(sum)
+    } else {
+        Err(Stop::GaveUp)
+    }
+}
+
+/// Leaves out columns, those of short ways first, as long as the others come to more than the limit.
+fn thin(cover: &mut Vec<Pick>, sum: i128, limit: i128, kept: &mut Vec<Pick>) -> Result<(), Stop> {
+    cover.sort_unstable();
+    kept.clear();
+    let mut left = sum;
+    for pick in cover.iter() {
+        let rest = left.wrapping_sub(i128::from(pick.coef));
+        if rest > limit {
+            left = rest;
+        } else {
+            kept.push(*pick)?;
+        }
+    }
+    Ok(())
+}
+
+impl Covers {
+    /// Nothing.
+    pub(crate) fn new(alloc: Global) -> Covers {
+        Covers {
+            shifted: Shifted::new(alloc),
+            picks: Vec::new(alloc),
+            cover: Vec::new(alloc),
+            kept: Vec::new(alloc),
+        }
+    }
+
+    /// Tells the ways of the cover's columns from their other sides, and answers the greatest of their coefficients.
+    fn turn_cover(&mut self) -> Result<i64, Stop> {
+        let mut most = 0;
+        for pick in &self.kept {
+            self.shifted.flip(pick.place)?;
+            most = pick.coef.max(most);
+        }
+        if most > 0 {
+            Ok(most)
+        } else {
+            Err(Stop::GaveUp)
+        }
+    }
+
+    /// The cut of a cover that is found in an order.
+    fn cut_by(
+        &mut self,
+        alloc: Global,
+        view: &View<'_>,
+        sum: &Sum,
+        order: Order,
+    ) -> Result<Candidate, Stop> {
+        self.shifted
+            .take(view, &sum.terms, sum.right, Aim::Positive)?;
+        let limit = self.shifted.right.floor();
+        if !self.shifted.is_fractional || limit < 0 {
+            return Err(Stop::GaveUp);
+        }
+        list_picks(self.shifted.items.as_slice(), order, &mut self.picks)?;
+        let come_to = fill(self.picks.as_slice(), limit, &mut self.cover)?;
+        thin(&mut self.cover, come_to, limit, &mut self.kept)?;
+        let by = self.turn_cover()?;
+        rounded_cut(alloc, sum, &self.shifted, by)
+    }
+
+    /// Keeps the cut of a cover, if one is found in this order.
+    fn keep_by(
+        &mut self,
+        alloc: Global,
+        view: &View<'_>,
+        sum: &Sum,
+        order: Order,
+        candidates: &mut Candidates,
+    ) -> Result<(), Stop> {
+        let candidate = self.cut_by(alloc, view, sum, order)?;
+        candidates.push(candidate)?;
+        Ok(())
+    }
+
+    /// Keeps the cuts of covers of a row that is at most its right side.
+    pub(crate) fn search(
+        &mut self,
+        alloc: Global,
+        view: &View<'_>,
+        sum: &Sum,
+        candidates: &mut Candidates,
+    ) -> Result<(), AllocError> {
+        unless_refused(self.keep_by(alloc, view, sum, Order::ByRate, candidates))?;
+        unless_refused(self.keep_by(alloc, view, sum, Order::ByWay, candidates))
+    }
+}

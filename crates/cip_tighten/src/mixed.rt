@@ -1,0 +1,165 @@
+//! The separator of mixed roundings.
+ghost use Rattle.std.specs.Prelude.{None, codes};
+
+use crate::mixing::{best_division, list_divisors};
+use crate::paths::go_on;
+use crate::split_cuts::mixed_cut;
+use cip_narrowing::ColumnRows;
+use cip_plugin::{Cut, Plugin, Separator, View};
+use cip_row_sums::{
+    Aim, Candidates, Gains, Shifted, Standings, Stop, Sum, Terms, tight_at, unless_refused,
+};
+use std::alloc::{AllocError, Global};
+
+// The most cuts of a round.
+const MOST_CUTS: usize = 5;
+
+// The most rows of a sum.
+const MOST_ROWS: usize = 6;
+
+// The most coefficients that are looked at in a round.
+const MOST_WORK: usize = 1 << 23;
+
+/// A separator: mixed roundings of rows that stand at a side at the last point of the root, and of up to six of them,
+/// added up so that continuous columns between their sides cancel out. Each is proved by a split cut.
+#[derive(Drop)]
+pub struct MixedSeparator {
+    gains: Gains,
+    standings: Standings,
+    columns: ColumnRows,
+    sum: Sum,
+    shifted: Shifted,
+    divisors: Vec<i64>,
+    terms: Terms,
+    candidates: Candidates,
+    next: usize,
+    work: usize,
+}
+
+impl MixedSeparator {
+    /// One that was never called. It takes no memory.
+    pub fn new(alloc: Global) -> MixedSeparator {
+        MixedSeparator {
+            gains: Gains::new(),
+            standings: Standings::new(alloc),
+            columns: ColumnRows::new(alloc),
+            sum: Sum::new(alloc),
+            shifted: Shifted::new(alloc),
+            divisors: Vec::new(alloc),
+            terms: Vec::new(alloc),
+            candidates: Candidates::new(alloc),
+            next: 0,
+            work: 0,
+        }
+    }
+
+    /// Keeps the best mixed rounding of the sum with its sign.
+    fn mix(&mut self, alloc: Global, view: &View<'_>) -> Result<(), Stop> {
+        self.shifted
+            .take(view, &self.sum.terms, self.sum.right, Aim::Nearest)?;
+        if !self.shifted.is_fractional {
+            return Err(Stop::GaveUp);
+        }
+        let items = self.shifted.items.as_slice();
+        list_divisors(items, &mut self.divisors)?;
+        let looked_at = items.len().saturating_mul(self.divisors.len());
+        self.work = self.work.saturating_add(looked_at);
+        let best = best_division(&self.shifted, self.divisors.as_slice(), &mut self.terms)?;
+        let cut = mixed_cut(alloc, view, &self.sum, &self.shifted, best)?;
+        self.candidates.push(cut)?;
+        Ok(())
+    }
+
+    /// Keeps the best mixed roundings of the sum with both signs, and answers whether there was one.
+    fn mix_both(&mut self, alloc: Global, view: &View<'_>) -> Result<bool, AllocError> {
+        let before = self.candidates.len();
+        unless_refused(self.mix(alloc, view))?;
+        self.sum.turn();
+        unless_refused(self.mix(alloc, view))?;
+        self.sum.turn();
+        Ok(self.candidates.len() > before)
+    }
+
+    /// Adds rows to the one at a place until there is a cut, or no more row to add.
+    fn search_from(&mut self, alloc: Global, view: &View<'_>, place: usize) -> Result<(), Stop> {
+        let Ok(row) = tight_at(view, &self.standings, place) else {
+            return Err(Stop::GaveUp);
+        };
+        self.sum.begin(&row)?;
+        for _ in 1..MOST_ROWS {
+            if self.mix_both(alloc, view)? {
+                return Ok(());
+            }
+            go_on(view, &self.standings, &self.columns, &mut self.sum)?;
+        }
+        self.mix_both(alloc, view)?;
+        Ok(())
+    }
+
+    /// The next row to begin with.
+    fn next_place(&mut self) -> usize {
+        let place = self.next;
+        self.next = place.wrapping_add(1);
+        if self.next >= self.standings.len() {
+            self.next = 0;
+        }
+        place
+    }
+
+    /// Keeps cuts that begin with any row, as far as the work of a round goes.
+    fn search(&mut self, alloc: Global, view: &View<'_>) -> Result<(), AllocError> {
+        self.candidates.clear();
+        self.work = 0;
+        if let Some(point) = view.point {
+            self.standings.take(view, point)?;
+        }
+        for _ in 0..self.standings.len() {
+            if self.candidates.is_full() || self.work > MOST_WORK {
+                return Ok(());
+            }
+            let place = self.next_place();
+            unless_refused(self.search_from(alloc, view, place))?;
+        }
+        Ok(())
+    }
+}
+
+impl Plugin for MixedSeparator {
+    ghost told = { λ _. None };
+
+    ghost label = { λ _. codes "mir" };
+
+    fn name(&self) -> &str {
+        "mir"
+    }
+
+    fn priority(&self) -> i32 {
+        10
+    }
+
+    fn init(&mut self, _alloc: Global) -> Result<(), AllocError> {
+        Ok(())
+    }
+
+    fn init_solve(&mut self, _alloc: Global, view: &View<'_>) -> Result<(), AllocError> {
+        self.gains = Gains::new();
+        self.next = 0;
+        self.columns.take(view.own, view.whole, true)
+    }
+
+    fn exit_solve(&mut self) {
+        self.candidates.clear();
+    }
+
+    fn exit(&mut self) {}
+}
+
+impl Separator for MixedSeparator {
+    fn separate(&mut self, alloc: Global, view: &View<'_>) -> Result<Vec<Cut>, AllocError> {
+        if !self.gains.may_pay(view) {
+            return Ok(Vec::new(alloc));
+        }
+        self.search(alloc, view)?;
+        self.candidates.choose(alloc, MOST_CUTS)
+    }
+}

@@ -1,0 +1,203 @@
+//! Mixed rounding: a row in ways from sides, divided by a number. With f what the right side leaves, a whole column's
+//! coefficient goes down to a whole number, and up again by what it left above f, over 1 - f; a continuous column's
+//! stays where it is below 0, over 1 - f, and is 0 else; the right side goes down.
+//!
+//! All is told times the common denominator, so that it stays whole.
+use cip_frac::Frac;
+use cip_row_sums::{Shift, Shifted, Stop, Terms, broken_by, found, kept, measure_of, score};
+
+// The greatest denominator of a right side.
+const MOST_UNDER: i128 = 1 << 20;
+
+/// A row's right side divided: over the denominator of the right side times the divisor, what it leaves, and what is
+/// left to the next whole number.
+#[derive(Clone, Copy)]
+pub(crate) struct Division {
+    /// What the row is divided by, above 0.
+    pub(crate) by: i64,
+    /// The denominator of the right side.
+    pub(crate) under: i128,
+    /// The whole number below the divided right side.
+    pub(crate) floor: i128,
+    /// What it leaves above that.
+    pub(crate) part: i128,
+    /// What is left to the next one.
+    pub(crate) rest: i128,
+}
+
+/// A right side divided by a number above 0, where that leaves something.
+pub(crate) fn divided(right: Frac, by: i64) -> Option<Division> {
+    let under = right.denominator();
+    if by <= 0 || under > MOST_UNDER {
+        return None;
+    }
+    let whole = under.checked_mul(i128::from(by))?;
+    let part = right.numerator().checked_rem_euclid(whole)?;
+    if part == 0 {
+        return None;
+    }
+    Some(Division {
+        by,
+        under,
+        floor: right.numerator().checked_div_euclid(whole)?,
+        part,
+        rest: whole.checked_sub(part)?,
+    })
+}
+
+impl Division {
+    /// What a whole column's coefficient leaves, over the same denominator.
+    pub(crate) fn part_of(&self, shift: Shift) -> Option<i128> {
+        let left = shift.coef.checked_rem_euclid(self.by)?;
+        i128::from(left).checked_mul(self.under)
+    }
+
+    /// The whole number that a whole column's coefficient goes down to.
+    pub(crate) fn floor_of(&self, shift: Shift) -> Option<i128> {
+        Some(i128::from(shift.coef.checked_div_euclid(self.by)?))
+    }
+
+    /// The coefficient of a whole column.
+    fn whole_coefficient(&self, shift: Shift) -> Option<i128> {
+        let part = self.part_of(shift)?;
+        if shift.side.is_none() && part != 0 {
+            return None;
+        }
+        let down = self.floor_of(shift)?.checked_mul(self.rest)?;
+        down.checked_add(part.checked_sub(self.part)?.max(0))
+    }
+
+    /// The coefficient of a way in the mixed rounding.
+    pub(crate) fn coefficient(&self, shift: Shift) -> Option<i64> {
+        if shift.is_whole {
+            kept(self.whole_coefficient(shift)?)
+        } else {
+            kept(i128::from(shift.coef.min(0)).checked_mul(self.under)?)
+        }
+    }
+
+    /// By how much the last point breaks the mixed rounding, roughly.
+    pub(crate) fn broken(&self, items: &[Shift]) -> Option<i128> {
+        let mut sum = 0i128;
+        for shift in items {
+            let number = self.coefficient(*shift)?;
+            let way = i128::from(number).wrapping_mul(i128::from(shift.way));
+            sum = sum.wrapping_add(way);
+        }
+        broken_by(sum, self.floor.checked_mul(self.rest)?)
+    }
+}
+
+/// The coefficients of the mixed rounding, by column.
+pub(crate) fn write_terms(
+    division: Division,
+    items: &[Shift],
+    terms: &mut Terms,
+) -> Result<(), Stop> {
+    terms.clear();
+    for shift in items {
+        let number = found(division.coefficient(*shift))?;
+        if number != 0 {
+            terms.push((shift.col, shift.column_coefficient(number)))?;
+        }
+    }
+    Ok(())
+}
+
+/// A division with the score of its mixed rounding.
+#[derive(Clone, Copy)]
+pub(crate) struct Scored {
+    pub(crate) division: Division,
+    pub(crate) score: u128,
+}
+
+/// The mixed rounding of a row that is divided by a number, where it has a score.
+fn score_by(shifted: &Shifted, by: i64, terms: &mut Terms) -> Result<Scored, Stop> {
+    let division = found(divided(shifted.right, by))?;
+    let items = shifted.items.as_slice();
+    let broken = found(division.broken(items))?;
+    if broken <= 0 {
+        return Err(Stop::GaveUp);
+    }
+    write_terms(division, items, terms)?;
+    let size = found(measure_of(terms))?;
+    let score = found(score(broken, size))?;
+    Ok(Scored { division, score })
+}
+
+/// The better of two, if there are any.
+fn better(held: Option<Scored>, other: Scored) -> Option<Scored> {
+    match held {
+        Some(before) if before.score >= other.score => Some(before),
+        _ => Some(other),
+    }
+}
+
+/// The best mixed rounding of a row that is divided by one of these numbers.
+fn best_of(
+    shifted: &Shifted,
+    divisors: &[i64],
+    start: Option<Scored>,
+    terms: &mut Terms,
+) -> Result<Option<Scored>, Stop> {
+    let mut best = start;
+    for by in divisors {
+        match score_by(shifted, *by, terms) {
+            Ok(one) => best = better(best, one),
+            Err(Stop::GaveUp) => {}
+            Err(stop) => return Err(stop),
+        }
+    }
+    Ok(best)
+}
+
+/// The best mixed rounding of a row that is divided by one of these numbers, or by the best of them times 2, 4 or 8.
+pub(crate) fn best_division(
+    shifted: &Shifted,
+    divisors: &[i64],
+    terms: &mut Terms,
+) -> Result<Scored, Stop> {
+    let first = found(best_of(shifted, divisors, None, terms)?)?;
+    let by = first.division.by;
+    let more = [
+        by.saturating_mul(2),
+        by.saturating_mul(4),
+        by.saturating_mul(8),
+    ];
+    found(best_of(shifted, &more, Some(first), terms)?)
+}
+
+/// Adds the sizes of coefficients of whole columns to a list, those between their sides alone or the others, as long as
+/// there are fewer than so many.
+fn list_sizes(
+    items: &[Shift],
+    between: bool,
+    most: usize,
+    divisors: &mut Vec<i64>,
+) -> Result<(), Stop> {
+    for shift in items {
+        if divisors.len() >= most {
+            return Ok(());
+        }
+        let size = shift.coef.saturating_abs();
+        if shift.is_whole
+            && shift.is_between() == between
+            && !divisors.iter().any(|by| *by == size)
+        {
+            divisors.push(size)?;
+        }
+    }
+    Ok(())
+}
+
+/// Lists the numbers that a row is tried with: 1, and the sizes of the coefficients of its whole columns, of a long row
+/// of those between their sides alone.
+pub(crate) fn list_divisors(items: &[Shift], divisors: &mut Vec<i64>) -> Result<(), Stop> {
+    divisors.clear();
+    divisors.push(1)?;
+    list_sizes(items, true, 32, divisors)?;
+    if items.len() <= 200 {
+        list_sizes(items, false, 64, divisors)?;
+    }
+    Ok(())
+}

@@ -1,0 +1,127 @@
+//! The separator of rows that are divided by small numbers and rounded.
+ghost use Rattle.std.specs.Prelude.{None, codes};
+
+use crate::roundings::rounded_cut;
+use cip_plugin::{Cut, Plugin, Separator, View};
+use cip_row_sums::{
+    Aim, Candidates, Gains, Shifted, Standing, Standings, Stop, Sum, tight_at, unless_refused,
+};
+use std::alloc::{AllocError, Global};
+
+// The most cuts of a round.
+const MOST_CUTS: usize = 5;
+
+// What rows are divided by, once they are made whole.
+const DIVISORS: [i64; 2] = [2, 3];
+
+/// A separator: rows that stand at a side at the last point of the root, divided by 2 and by 3, their coefficients
+/// rounded by the sides of columns.
+#[derive(Drop)]
+pub struct RoundingSeparator {
+    gains: Gains,
+    standings: Standings,
+    sum: Sum,
+    shifted: Shifted,
+    candidates: Candidates,
+}
+
+impl RoundingSeparator {
+    /// One that was never called. It takes no memory.
+    pub fn new(alloc: Global) -> RoundingSeparator {
+        RoundingSeparator {
+            gains: Gains::new(),
+            standings: Standings::new(alloc),
+            sum: Sum::new(alloc),
+            shifted: Shifted::new(alloc),
+            candidates: Candidates::new(alloc),
+        }
+    }
+
+    /// Keeps the cut of the sum divided by a number.
+    fn divide(&mut self, alloc: Global, by: i64) -> Result<(), Stop> {
+        let cut = rounded_cut(alloc, &self.sum, &self.shifted, by)?;
+        self.candidates.push(cut)?;
+        Ok(())
+    }
+
+    /// Keeps the cuts of the sum as it is.
+    fn divide_all(&mut self, alloc: Global, view: &View<'_>) -> Result<(), Stop> {
+        self.shifted
+            .take(view, &self.sum.terms, self.sum.right, Aim::Rounding)?;
+        if !self.shifted.is_fractional {
+            return Ok(());
+        }
+        for by in DIVISORS {
+            unless_refused(self.divide(alloc, by))?;
+        }
+        Ok(())
+    }
+
+    /// Keeps the cuts of a row.
+    fn search_row(&mut self, alloc: Global, view: &View<'_>, place: usize) -> Result<(), Stop> {
+        let Ok(row) = tight_at(view, &self.standings, place) else {
+            return Err(Stop::GaveUp);
+        };
+        self.sum.begin_at_most(&row)?;
+        unless_refused(self.divide_all(alloc, view))?;
+        if row.standing != Standing::Both {
+            return Ok(());
+        }
+        self.sum.turn();
+        self.divide_all(alloc, view)
+    }
+
+    /// Keeps the cuts of all rows.
+    fn search(&mut self, alloc: Global, view: &View<'_>) -> Result<(), AllocError> {
+        self.candidates.clear();
+        if let Some(point) = view.point {
+            self.standings.take(view, point)?;
+        }
+        for place in 0..view.own.len() {
+            if self.candidates.is_full() {
+                return Ok(());
+            }
+            unless_refused(self.search_row(alloc, view, place))?;
+        }
+        Ok(())
+    }
+}
+
+impl Plugin for RoundingSeparator {
+    ghost told = { λ _. None };
+
+    ghost label = { λ _. codes "rounding" };
+
+    fn name(&self) -> &str {
+        "rounding"
+    }
+
+    fn priority(&self) -> i32 {
+        30
+    }
+
+    fn init(&mut self, _alloc: Global) -> Result<(), AllocError> {
+        Ok(())
+    }
+
+    fn init_solve(&mut self, _alloc: Global, _view: &View<'_>) -> Result<(), AllocError> {
+        self.gains = Gains::new();
+        Ok(())
+    }
+
+    fn exit_solve(&mut self) {
+        self.candidates.clear();
+    }
+
+    fn exit(&mut self) {}
+}
+
+impl Separator for RoundingSeparator {
+    fn separate(&mut self, alloc: Global, view: &View<'_>) -> Result<Vec<Cut>, AllocError> {
+        if !self.gains.may_pay(view) {
+            return Ok(Vec::new(alloc));
+        }
+        self.search(alloc, view)?;
+        self.candidates.choose(alloc, MOST_CUTS)
+    }
+}
