@@ -3,7 +3,7 @@ use Rattle.std.proofs.Common.{◌≡◌, ℕ, ◌+◌, ◌*◌, List, [], ◌∷
 use Rattle.std.specs.Prelude.{slice_get, ◌&&◌, Result, Ok, Err, IfOk, OnOk, OnErr}
 use Rattle.std.proofs.lemmas.List.{map-append, take-append-drop}
 use Rattle.cip_plugin.specs.Asking.{asks, answer_of, first_part}
-use Rattle.cip_plugin.specs.Calls.{Ask, Separate, Propagate, Search, Answer}
+use Rattle.cip_plugin.specs.Calls.{Ask, Separate, Propagate, Search, Branch, Enforce, Answer}
 use Rattle.cip_plugin.specs.declared.asking.Given.{Given}
 use Rattle.cip_plugin.specs.declared.kinds.Kind.{Kind}
 use Rattle.cip_plugin.specs.declared.kinds.Kind.TheVariants as kinds
@@ -16,14 +16,14 @@ use Rattle.cip_seats.specs.Delivering.{Delivered}
 use Rattle.cip_seats.specs.Wishing.{raised_in}
 use Rattle.cip_seats.proofs.Hearing.{asks_in-append, asked_once}
 use Rattle.cip_seats.proofs.Running.{calls_of-append, Runs-append}
-use Rattle.cip_roster.specs.Nexts.{AskedNext, CalledNext}
+use Rattle.cip_roster.specs.Nexts.{CalledNext}
+use Rattle.cip_roster.specs.KeptRankings.{Room}
 use Rattle.cip_roster.specs.Turns.{IsSound, CalledKind, CalledBoth, HandsOn, HadTurn, handed}
 use Rattle.cip_roster.specs.Wished.{Ran}
 use Rattle.cip_roster.proofs.Giving.{next_by}
-use Rattle.cip_roster.proofs.Calm.{run_calm, turns_calm, sound_alike}
+use Rattle.cip_roster.proofs.Calm.{run_calm, turns_calm, settled_alike}
 use Rattle.cip_calls.specs.Served.{handed_out}
 use Rattle.cip_calls.specs.Asked.{told, told_next, proposers, count_of, HasAskedSome, HasAsked, HasTold, IsSeatedNext}
-use Rattle.cip_calls.specs.Noted.{HasRun}
 use Rattle.cip_calls.proofs.Asking.{count_more, handed-append, proposers-append, turns_hand}
 use Rattle.cip_calls.proofs.Serving.{between, nothing_there}
 
@@ -55,10 +55,10 @@ one_asked kind ask a b has fits c =
     }
 
 -- those of a kind, and then the handlers
-settled_between : (kind : Kind) (ask : Ask) (a m : State) (had has : List (ℕ × Given)) (room : ℕ)
+settled_between : (kind : Kind) (ask : Ask) (a m : State) (had has : List (ℕ × Given)) (room : Room)
     → IsSound a room → CalledKind kind ask a m had has → All (λ seat. is_settled seat ≡ true) m.seats
 settled_between kind ask a m had has room sound c =
-    (sound_alike a m room (2 * live_count a.seats) (run_calm (all_turns ask c.called.heard) a m (turns_calm ask c.called.heard) c.called.run) sound (omega arith)).settled
+    settled_alike a m (run_calm (all_turns ask c.called.heard) a m (turns_calm ask c.called.heard) c.called.run) sound.settled
 
 -- what is given by both
 given_both : (some has : List (ℕ × Given)) (xs ys : List (ℕ × Answer)) → take (length some) has ≡ some
@@ -81,7 +81,7 @@ both_hand id ask xs ys gave e =
     ∙ ap (count_of id) (sym (proposers-append ask (given_of xs) (given_of ys)))
     ∙ ap (λ (g : List (ℕ × Answer)). count_of id (proposers ask g)) (sym e)
 
-pub both_asked : (kind : Kind) (ask : Ask) (a b : State) (has : List (ℕ × Given)) (room : ℕ)
+pub both_asked : (kind : Kind) (ask : Ask) (a b : State) (has : List (ℕ × Given)) (room : Room)
     → ((k : Kind) → cond (same_kind kind k) (ask ∷ []) [] ++ cond (same_kind kinds.ConsHandler k) (ask ∷ []) [] ≡ cond (asks k ask) (ask ∷ []) [])
     → IsSound a room → CalledBoth kind ask a b has → HasAsked ask a b (told has)
 both_asked kind ask a b has room fits sound c =
@@ -134,15 +134,33 @@ heuristics kinds.BranchRule = refl
 heuristics kinds.ConsHandler = refl
 heuristics kinds.EventHandler = refl
 
+pub rules : (k : Kind) → same_kind kinds.BranchRule k ≡ asks k Branch
+rules kinds.Separator = refl
+rules kinds.Propagator = refl
+rules kinds.Pricer = refl
+rules kinds.Heuristic = refl
+rules kinds.BranchRule = refl
+rules kinds.ConsHandler = refl
+rules kinds.EventHandler = refl
+
+pub enforcers : (k : Kind) → same_kind kinds.ConsHandler k ≡ asks k Enforce
+enforcers kinds.Separator = refl
+enforcers kinds.Propagator = refl
+enforcers kinds.Pricer = refl
+enforcers kinds.Heuristic = refl
+enforcers kinds.BranchRule = refl
+enforcers kinds.ConsHandler = refl
+enforcers kinds.EventHandler = refl
+
 -- ---- one plugin at a time
 
-given_next : (id : ℕ) (heard : Answer) (given : Option Given) → HandsOn heard given
+pub given_next : (id : ℕ) (heard : Answer) (given : Option Given) → HandsOn heard given
     → told_next (Some (id, given)) ≡ given_of ((id, heard) ∷ [])
 given_next id heard None e = sym (ap (λ (x : Answer). cond (is_answer x) ((id, first_part x) ∷ []) []) e)
 given_next id heard (Some given) h =
     ap (λ (x : Answer). (id, x) ∷ []) h.1 ∙ sym (ap (λ t. cond t ((id, first_part heard) ∷ []) []) h.0)
 
-turn_some : (id : ℕ) (ask : Ask) (a b : State) (given : Option Given) → HadTurn id ask a b given
+abbrev pub turn_some : (id : ℕ) (ask : Ask) (a b : State) (given : Option Given) → HadTurn id ask a b given
     → HasAskedSome ask a b (told_next (Some (id, given)))
 turn_some id ask a b given had =
     let heard : List (ℕ × Answer) = (id, had.answer) ∷ [] in
@@ -157,36 +175,21 @@ turn_some id ask a b given had =
 pub some_none : (ask : Ask) (a : State) → HasAskedSome ask a a []
 some_none ask a = record { steps = []; run = refl; handed = λ id. refl }
 
-next_some : (found : Option Key) (ask : Ask) (a b : State) (gave : Option (ℕ × Option Given)) → AskedNext found ask a b gave
-    → HasAskedSome ask a b (told_next gave)
-next_some None ask a b gave h =
-    subst (λ (g : Option (ℕ × Option Given)). HasAskedSome ask a b (told_next g)) (sym h.1)
-    (subst (λ (s : State). HasAskedSome ask a s []) (sym h.0) (some_none ask a))
-next_some (Some key) ask a b gave h =
-    subst (λ (g : Option (ℕ × Option Given)). HasAskedSome ask a b (told_next g)) (sym h.1) (turn_some key.id ask a b h.0 h.2)
-
-pub next_asked : (kind : Kind) (ask : Ask) (named : Option ℕ) (a b : State) (gave : Option (ℕ × Option Given))
-    → CalledNext kind ask named a b gave → HasAskedSome ask a b (told_next gave)
-next_asked kind ask named a b gave c = next_some c.found ask a b gave c.asked
-
 -- ---- runs
 
-pub kind_run : (kind : Kind) (ask : Ask) (a b : State) (had has : List (ℕ × Given)) → CalledKind kind ask a b had has → HasRun a b
+pub kind_run : (kind : Kind) (ask : Ask) (a b : State) (had has : List (ℕ × Given)) → CalledKind kind ask a b had has → Ran a b
 kind_run kind ask a b had has c = record { steps = all_turns ask c.called.heard; run = c.called.run }
 
-pub both_run : (kind : Kind) (ask : Ask) (a b : State) (has : List (ℕ × Given)) → CalledBoth kind ask a b has → HasRun a b
+pub both_run : (kind : Kind) (ask : Ask) (a b : State) (has : List (ℕ × Given)) → CalledBoth kind ask a b has → Ran a b
 both_run kind ask a b has c = record {
   steps = all_turns ask c.first.called.heard ++ all_turns ask c.second.called.heard;
   run = Runs-append (all_turns ask c.first.called.heard) (all_turns ask c.second.called.heard) a c.between b c.first.called.run c.second.called.run;
 }
 
-pub ran_run : (a b : State) → Ran a b → HasRun a b
-ran_run a b ran = record { steps = ran.steps; run = ran.run }
-
-pub same_run : (a b : State) → b ≡ a → HasRun a b
+pub same_run : (a b : State) → b ≡ a → Ran a b
 same_run a b e = record { steps = []; run = e }
 
-pub delivered_run : (node : ℕ) (events : List Event) (a b : State) → Delivered node events a b → HasRun a b
+pub delivered_run : (node : ℕ) (events : List Event) (a b : State) → Delivered node events a b → Ran a b
 delivered_run node events a b d = record { steps = d.steps; run = d.run }
 
 -- what was delivered was told

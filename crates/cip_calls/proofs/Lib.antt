@@ -1,4 +1,6 @@
 pub mod Asking
 pub mod Calling
 pub mod Noting
+pub mod Pools
 pub mod Serving
+pub mod Waiting

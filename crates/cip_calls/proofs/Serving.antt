@@ -1,5 +1,5 @@
 -- Plugins that are on throughout are served, by one part of the work on a node and by one after the other.
-use Rattle.std.proofs.Common.{◌≡◌, ℕ, ◌+◌, List, [], ◌∷◌, ◌++◌, map, Some, Bool, true, false, eqb, cond, sym, ◌∙◌, ap, subst, refl, arith, zero-add, append-nil, All}
+use Rattle.std.proofs.Common.{◌≡◌, ℕ, ◌+◌, List, [], ◌∷◌, ◌++◌, map, Some, Bool, true, false, eqb, cond, sym, ◌∙◌, ap, subst, refl, arith, zero-add, add-zero, append-nil, All}
 use Rattle.std.specs.Prelude.{slice_get, slice_index_or, Result, Ok, Err, IfOk, OnOk}
 use Rattle.std.proofs.lemmas.List.{map-append}
 use Rattle.std.proofs.lemmas.List.Sums.{sum_by-cons}
@@ -17,6 +17,7 @@ use Rattle.cip_seats.proofs.Hearing.{asks_in-append}
 use Rattle.cip_seats.proofs.Onward.{Later}
 use Rattle.cip_seats.proofs.Running.{calls_of-append, Runs-append, run_follows}
 use Rattle.cip_seats.proofs.Telling.{all_parts}
+use Rattle.cip_roster.specs.Wished.{Ran}
 use Rattle.cip_roster.proofs.Keeping.{at_place}
 use Rattle.cip_roster.proofs.Throughout.{on_between, on_lives, hears_later}
 use Rattle.cip_judge.specs.declared.judged.Judged.{Judged}
@@ -25,7 +26,7 @@ use Rattle.cip_calls.specs.Asked.{ask_in, proposers, count_of, HasAsked, HasTold
 use Rattle.cip_calls.specs.declared.asks.Round.{Round}
 use Rattle.cip_calls.specs.declared.asks.Round.TheVariants as round
 use Rattle.cip_calls.specs.declared.judging.Came.TheVariants as ends
-use Rattle.cip_calls.specs.Noted.{HasNoted, HasRun, makers}
+use Rattle.cip_calls.specs.Noted.{HasNoted, makers}
 use Rattle.cip_calls.proofs.Asking.{count_more, handed-append}
 
 -- ---- one part after the other
@@ -123,11 +124,19 @@ used_last qs ws a b h m used = record {
       };
 }
 
+-- no step
+pub used_none : (a : State) (h : List (ℕ × Judged)) → Used [] a h a h
+used_none a h = record {
+  steps = [];
+  run = refl;
+  each = λ id s u at now on. record { asked = λ i d within. absurd (omega (arith, within)); judged = sym (add-zero (judged_of id h)) };
+}
+
 pub nothing_there : (id : ℕ) (s : Seat) → slice_get [] id ≡ Some s → ⊥
 nothing_there id s at = cc
 
 -- nobody has a seat
-pub used_run : (qs : List Ask) (a b : State) (h m : List (ℕ × Judged)) → a.seats ≡ [] → HasRun a b → Used qs a h b m
+pub used_run : (qs : List Ask) (a b : State) (h m : List (ℕ × Judged)) → a.seats ≡ [] → Ran a b → Used qs a h b m
 used_run qs a b h m none ran = record {
   steps = ran.steps;
   run = ran.run;

@@ -3,8 +3,9 @@ ghost use Rattle.std.specs.Prelude.{◌≡◌, ◌∷◌, [], true, IfOk, OnOk, 
 ghost use Rattle.cip_events.specs.declared.words.Word.TheVariants as say;
 ghost use Rattle.cip_seats.specs.Steps.{Runs, Notes};
 ghost use Rattle.cip_roster.specs.Turns.{IsSound};
-ghost use Rattle.cip_calls.specs.Asked.{ask_in, ask_at, told as told_of, told_next, HasAskedSome, HasAsked, AreSeated, IsSeatedNext, HasTold};
-ghost use Rattle.cip_calls.specs.Noted.{HasRun};
+ghost use Rattle.cip_roster.specs.Wished.{Ran};
+ghost use Rattle.cip_calls.specs.Asked.{ask_in, ask_at, told as told_of, HasAsked, AreSeated, IsSeatedNext, HasTold};
+ghost use Rattle.cip_calls.specs.Waiting.{HasAskedNext};
 
 use cip_events::EventQueue;
 use cip_plugin::{Given, View};
@@ -50,10 +51,11 @@ pub trait Asks: Seated {
         ensures asked { IfOk result (λ gave. HasAsked (ask_in round) (Self.state self.old) (Self.state self.new)
             (told_of gave.items)) }
         ensures seated { IfOk result (λ gave. AreSeated (Self.state self.new) gave.items) }
-        ensures run { HasRun (Self.state self.old) (Self.state self.new) };
+        ensures run { Ran (Self.state self.old) (Self.state self.new) };
 
-    /// Asks the next plugin behind the one of a number, or the first, for this. `None`: there is none behind it; an
-    /// inner `None`: that one wanted memory. `Err` comes where a growth was refused, and then nobody was called.
+    /// Asks the next plugin behind the one of a number, or the first, for this, by falling priority and rising number.
+    /// `None`: there is none behind it; an inner `None`: that one wanted memory. `Err` comes where a growth was refused,
+    /// and then nobody was called.
     fn ask_next(
         &mut self,
         alloc: Global,
@@ -63,8 +65,7 @@ pub trait Asks: Seated {
     ) -> Result<Option<(u32, Option<Given>)>, AllocError>
         requires sound { IsSound (Self.state self.old) (Self.room self.old) }
         ensures sound { IsSound (Self.state self.new) (Self.room self.new) }
-        ensures asked { IfOk result (λ gave. HasAskedSome (ask_at turn) (Self.state self.old) (Self.state self.new)
-            (told_next gave)) }
+        ensures asked { IfOk result (HasAskedNext (ask_at turn) (Self.state self.old) (Self.state self.new) after) }
         ensures seated { IfOk result (IsSeatedNext (Self.state self.new)) }
         ensures err { OnErr result (Self.state self.new ≡ Self.state self.old) };
 
@@ -90,5 +91,5 @@ pub trait Asks: Seated {
         ensures sound { IsSound (Self.state self.new) (Self.room self.new) }
         ensures empty { OnOk result (queue.new ≡ []) }
         ensures told { OnOk result (HasTold queue.old (Self.state self.old) (Self.state self.new)) }
-        ensures run { HasRun (Self.state self.old) (Self.state self.new) };
+        ensures run { Ran (Self.state self.old) (Self.state self.new) };
 }

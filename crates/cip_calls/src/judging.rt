@@ -1,14 +1,16 @@
 //! What plugins gave is judged, one proposal after the other.
-ghost use Rattle.std.specs.Prelude.{◌≡◌, ◌≢◌, ◌++◌, length, IfOk, OnOk, IsSome, slice_get};
+ghost use Rattle.std.specs.Prelude.{◌≡◌, ◌≢◌, ◌++◌, false, length, IfOk, OnOk, IsSome, slice_get};
 ghost use Rattle.cip_plugin.specs.Asking.{answer_of};
 ghost use Rattle.cip_plugin.specs.Calls.{Separate, Propagate, Search};
 ghost use Rattle.cip_roster.specs.Turns.{IsSound};
 ghost use Rattle.cip_judge.specs.ProposalsJudged.{IsShownEmpty};
-ghost use Rattle.cip_judge.specs.declared.judged.Judged.TheVariants.{Emptied as ShownEmpty};
+ghost use Rattle.cip_tree.specs.Nodes.{region_of};
+ghost use Rattle.cip_judge.specs.declared.judged.Judged.TheVariants.{Accepted as WasAccepted, Emptied as ShownEmpty};
 ghost use Rattle.cip_calls.specs.Asked.{ask_in, told as told_of, proposers, AreSeated};
-ghost use Rattle.cip_calls.specs.Noted.{IsReady, HasGone, HasJudged, makers};
+ghost use Rattle.cip_calls.specs.Noted.{IsReady, IsSameNode, HasGone, HasJudged, makers};
 ghost use Rattle.cip_calls.specs.Served.{count_for};
-ghost use Rattle.cip_calls.specs.declared.judging.Came.TheVariants.{Emptied};
+ghost use Rattle.cip_calls.specs.declared.asks.Round.TheVariants.{Cuts as OfCuts, Sides as OfSides};
+ghost use Rattle.cip_calls.specs.declared.judging.Came.TheVariants.{Quiet, Accepted, Emptied};
 
 use crate::asks::{Asks, Round};
 use crate::plugins::Plugins;
@@ -121,25 +123,37 @@ fn side_event(
 }
 
 /// Whether a proposal was accepted, this one or one before it.
-fn is_any(before: bool, came: Judged) -> bool {
-    before || came == Judged::Accepted
+fn is_any(before: bool, came: &Judged) -> bool
+    ensures { result ≡ false → (before ≡ false) × (came.now ≢ WasAccepted) }
+{
+    match came {
+        Judged::Accepted => true,
+        _ => before,
+    }
 }
 
 /// Whether a proposal was accepted, one of a plugin or one of those before it.
-fn is_more(before: bool, came: Came) -> bool {
-    before || came == Came::Accepted
+fn is_more(before: bool, came: Came) -> bool
+    ensures { result ≡ false → (before ≡ false) × (came ≢ Accepted) }
+{
+    match came {
+        Came::Accepted => true,
+        _ => before,
+    }
 }
 
 /// What came of proposals none of which showed that the node is empty.
 fn came_of(any: bool) -> Came
-    ensures { result ≢ Emptied }
+    ensures open_ { result ≢ Emptied }
+    ensures quiet { result ≡ Quiet → any ≡ false }
 {
     if any { Came::Accepted } else { Came::Quiet }
 }
 
 impl<R: Asks> Plugins<R> {
-    /// Judges a cut of a plugin. `Err` comes where memory was refused: what was accepted before it stands.
-    pub(crate) fn take_cut(
+    /// Judges a cut of the plugin of a number, as `judge_cut` does, and writes down what became of it. `Err` comes where
+    /// memory was refused: what was accepted before it stands.
+    pub fn take_cut(
         &mut self,
         core: &mut Core<'_>,
         node: &Node,
@@ -152,6 +166,8 @@ impl<R: Asks> Plugins<R> {
         ensures gone { HasGone core.old node.now (R.state self.old.roster) core.new node.now self.new.scratches
             (R.state self.new.roster) (R.room self.new.roster) }
         ensures judged { OnOk result (HasJudged id 1 self.old.judged.items self.new.judged.items) }
+        ensures region { region_of core.new.tree node.now ≡ region_of core.old.tree node.now }
+        ensures rows { IfOk result (λ came. came ≢ WasAccepted → core.new.pool ≡ core.old.pool) }
     {
         self.judged.reserve(1)?;
         let came = judge_cut(core, node, cut, &mut self.scratches)?;
@@ -160,7 +176,7 @@ impl<R: Asks> Plugins<R> {
     }
 
     /// Judges a side of a plugin, as `take_cut` does.
-    pub(crate) fn take_side(
+    pub fn take_side(
         &mut self,
         core: &mut Core<'_>,
         node: &mut Node,
@@ -174,6 +190,8 @@ impl<R: Asks> Plugins<R> {
             (R.state self.new.roster) (R.room self.new.roster) }
         ensures judged { OnOk result (HasJudged id 1 self.old.judged.items self.new.judged.items) }
         ensures emptied { IfOk result (λ came. came ≡ ShownEmpty → IsShownEmpty core.new node.new) }
+        ensures node { IfOk result (λ came. came ≢ WasAccepted → IsSameNode core.old core.new node.old node.new) }
+        ensures pool { core.new.pool ≡ core.old.pool }
     {
         self.judged.reserve(1)?;
         let before = sides_at(core, told.col);
@@ -196,6 +214,8 @@ impl<R: Asks> Plugins<R> {
         ensures gone { HasGone core.old node.now (R.state self.old.roster) core.new node.now self.new.scratches
             (R.state self.new.roster) (R.room self.new.roster) }
         ensures judged { OnOk result (HasJudged id 1 self.old.judged.items self.new.judged.items) }
+        ensures region { region_of core.new.tree node.now ≡ region_of core.old.tree node.now }
+        ensures pool { core.new.pool ≡ core.old.pool }
     {
         self.judged.reserve(1)?;
         let came = judge_guess(core, node, guess);
@@ -217,11 +237,13 @@ impl<R: Asks> Plugins<R> {
         ensures gone { HasGone core.old node.now (R.state self.old.roster) core.new node.now self.new.scratches
             (R.state self.new.roster) (R.room self.new.roster) }
         ensures judged { OnOk result (HasJudged id (length cuts.now) self.old.judged.items self.new.judged.items) }
+        ensures region { region_of core.new.tree node.now ≡ region_of core.old.tree node.now }
+        ensures rows { IfOk result (λ any. any ≡ false → core.new.pool ≡ core.old.pool) }
     {
         let mut any = false;
         for cut in cuts {
             let came = self.take_cut(core, node, id, cut)?;
-            any = is_any(any, came);
+            any = is_any(any, &came);
         }
         Ok(any)
     }
@@ -240,11 +262,13 @@ impl<R: Asks> Plugins<R> {
         ensures gone { HasGone core.old node.now (R.state self.old.roster) core.new node.now self.new.scratches
             (R.state self.new.roster) (R.room self.new.roster) }
         ensures judged { OnOk result (HasJudged id (length points.now) self.old.judged.items self.new.judged.items) }
+        ensures region { region_of core.new.tree node.now ≡ region_of core.old.tree node.now }
+        ensures pool { core.new.pool ≡ core.old.pool }
     {
         let mut any = false;
         for guess in points {
             let came = self.take_point(core, node, id, guess)?;
-            any = is_any(any, came);
+            any = is_any(any, &came);
         }
         Ok(any)
     }
@@ -265,12 +289,13 @@ impl<R: Asks> Plugins<R> {
         ensures judged { IfOk result (λ came. came ≢ Emptied
             → HasJudged id (length sides.now) self.old.judged.items self.new.judged.items) }
         ensures emptied { IfOk result (λ came. came ≡ Emptied → IsShownEmpty core.new node.new) }
+        ensures pool { core.new.pool ≡ core.old.pool }
     {
         let mut any = false;
         for told in sides {
             match self.take_side(core, node, id, told)? {
                 Judged::Emptied => return Ok(Came::Emptied),
-                came => any = is_any(any, came),
+                came => any = is_any(any, &came),
             }
         }
         Ok(came_of(any))
@@ -294,6 +319,10 @@ impl<R: Asks> Plugins<R> {
             → HasJudged id (count_for (ask_in round) (answer_of given.now)) self.old.judged.items
             self.new.judged.items) }
         ensures emptied { IfOk result (λ came. came ≡ Emptied → IsShownEmpty core.new node.new) }
+        ensures node { round ≢ OfSides → IsSameNode core.old core.new node.old node.new }
+        ensures rows { IfOk result (λ came. came ≡ Quiet → core.new.pool ≡ core.old.pool) }
+        ensures pool { round ≢ OfCuts → core.new.pool ≡ core.old.pool }
+        ensures sides { IfOk result (λ came. came ≡ Emptied → round ≡ OfSides) }
     {
         match round {
             Round::Sides => self.take_sides(core, node, id, sides_of(given)),
@@ -324,6 +353,10 @@ impl<R: Asks> Plugins<R> {
         ensures judged { IfOk result (λ came. came ≢ Emptied → makers self.new.judged.items
             ≡ makers self.old.judged.items ++ proposers (ask_in round) (told_of gave.now)) }
         ensures emptied { IfOk result (λ came. came ≡ Emptied → IsShownEmpty core.new node.new) }
+        ensures node { round ≢ OfSides → IsSameNode core.old core.new node.old node.new }
+        ensures rows { IfOk result (λ came. came ≡ Quiet → core.new.pool ≡ core.old.pool) }
+        ensures pool { round ≢ OfCuts → core.new.pool ≡ core.old.pool }
+        ensures sides { IfOk result (λ came. came ≡ Emptied → round ≡ OfSides) }
     {
         let mut any = false;
         for (id, given) in gave {

@@ -3,6 +3,7 @@
 
 mod asks;
 mod judging;
+mod laws;
 mod plugins;
 mod rosters;
 mod rounds;
@@ -10,5 +11,6 @@ mod silence;
 
 pub use asks::{Asks, Round, Turn};
 pub use judging::Came;
-pub use plugins::Plugins;
+pub use laws::uses_join;
+pub use plugins::{Last, Plugins, view_of};
 pub use silence::NoPlugins;

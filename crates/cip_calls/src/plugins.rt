@@ -5,11 +5,13 @@ ghost use Rattle.cip_calls.specs.Noted.{HasNoted, HasJudged};
 
 use crate::asks::Asks;
 use cip_core::Core;
-use cip_events::{Event, EventQueue};
+use cip_events::{Event, EventKind, EventQueue};
 use cip_frac::Frac;
 use cip_judge::{Judged, Scratches};
+use cip_lin::Combo;
 use cip_plugin::View;
 use std::alloc::{AllocError, Global};
+use std::mem;
 
 /// The plugins of a search, with the events that wait to be told them, what checks of their proposals work in, and what
 /// became of the proposals of the node in work, each with the number of who made it.
@@ -25,9 +27,37 @@ pub struct Plugins<R> {
     pub judged: Vec<(u32, Judged)>,
 }
 
-/// What plugins see of a core while the node of this number is in work, with the point of its last linear program, if
-/// it has one.
-pub(crate) fn view_of<'v>(core: &'v Core<'_>, node: u64, point: Option<&'v [Frac]>) -> View<'v>
+/// What the last linear program of a node came to, as plugins see it: its point, if it has one and that was found, and
+/// the combination that shows its least cost, or that it has no point.
+#[derive(Clone, Copy, Debug, Drop)]
+pub struct Last<'p> {
+    /// The point.
+    pub point: Option<&'p [Frac]>,
+    /// The combination.
+    pub combo: Option<&'p Combo>,
+}
+
+impl<'p> Last<'p> {
+    /// No linear program was solved yet.
+    pub fn none() -> Last<'p> {
+        Last {
+            point: None,
+            combo: None,
+        }
+    }
+}
+
+/// The point held, if there is one.
+fn held_point<'v>(core: &'v Core<'_>) -> Option<&'v [Frac]> {
+    match core.incumbent().held() {
+        None => None,
+        Some((_, point)) => Some(point),
+    }
+}
+
+/// What plugins see of a core while the node of this number is in work, or after it was, with what its last linear
+/// program came to. As the last guess that was accepted they see the point held, which is no dearer.
+pub fn view_of<'v>(core: &'v Core<'_>, node: u64, last: Last<'v>) -> View<'v>
     ensures { result.node ≡ node }
 {
     let rows = core.rows();
@@ -41,10 +71,10 @@ pub(crate) fn view_of<'v>(core: &'v Core<'_>, node: u64, point: Option<&'v [Frac
         cutoff: rows.cutoff,
         whole: program.whole(),
         costs: program.costs(),
-        point,
-        combo: None,
+        point: last.point,
+        combo: last.combo,
         held: core.held_cost(),
-        guess: None,
+        guess: held_point(core),
         blocks: None,
     }
 }
@@ -82,14 +112,32 @@ impl<R: Asks> Plugins<R> {
         }
     }
 
-    /// Writes down what became of a proposal, puts the event that it raised, if there is one, behind those that wait,
-    /// and writes the fault of one that was refused. `Err` comes where memory was refused.
-    pub(crate) fn finish(
-        &mut self,
-        id: u32,
-        came: &Judged,
-        event: Option<Event>,
-    ) -> Result<(), AllocError>
+    /// Puts an event of a node behind those that wait, unless nobody is to be told. `Err` comes where memory was
+    /// refused.
+    pub fn queue_event(&mut self, node: u64, kind: EventKind) -> Result<(), AllocError>
+        ensures frame { (self.new.roster ≡ self.old.roster) × (self.new.scratches ≡ self.old.scratches)
+            × (self.new.judged ≡ self.old.judged) }
+    {
+        put(
+            &mut self.queue,
+            self.roster.has_none(),
+            Event::at(node, kind),
+        )
+    }
+
+    /// What became of proposals since this was asked last; nothing is left of it.
+    pub fn take_judged(&mut self, alloc: Global) -> Vec<(u32, Judged)>
+        ensures judged { result.items ≡ self.old.judged.items }
+        ensures none { self.new.judged.items ≡ [] }
+        ensures frame { (self.new.roster ≡ self.old.roster) × (self.new.scratches ≡ self.old.scratches) }
+    {
+        mem::replace(&mut self.judged, Vec::new(alloc))
+    }
+
+    /// Writes down what became of a proposal of the plugin of a number, puts the event that it raised, if there is one,
+    /// behind those that wait, and writes the fault of one that was refused. There is room for one more in `judged`.
+    /// `Err` comes where memory was refused: what became of it is written down then, too.
+    pub fn finish(&mut self, id: u32, came: &Judged, event: Option<Event>) -> Result<(), AllocError>
         requires sound { IsSound (R.state self.old.roster) (R.room self.old.roster) }
         requires seat { IsSome (slice_get (R.state self.old.roster).seats id) }
         requires room { vec_len self.old.judged < vec_capacity self.old.judged }

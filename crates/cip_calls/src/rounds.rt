@@ -4,18 +4,19 @@ ghost use Rattle.cip_events.specs.Events.{event_at};
 ghost use Rattle.cip_events.specs.declared.events.EventKind.TheVariants.{NodeFocused};
 ghost use Rattle.cip_plugin.specs.Calls.{OnEvent, Propagate};
 ghost use Rattle.cip_roster.specs.Turns.{IsSound};
+ghost use Rattle.cip_roster.specs.Wished.{Ran};
 ghost use Rattle.cip_judge.specs.ProposalsJudged.{IsShownEmpty};
 ghost use Rattle.cip_calls.specs.Asked.{ask_in};
-ghost use Rattle.cip_calls.specs.Noted.{IsReady, HasRun, HasCome};
+ghost use Rattle.cip_calls.specs.Noted.{IsReady, IsSameNode, HasCome};
 ghost use Rattle.cip_calls.specs.Served.{Used};
-ghost use Rattle.cip_calls.specs.declared.judging.Came.TheVariants.{Emptied};
+ghost use Rattle.cip_calls.specs.declared.asks.Round.TheVariants.{Cuts as OfCuts, Sides as OfSides};
+ghost use Rattle.cip_calls.specs.declared.judging.Came.TheVariants.{Quiet, Emptied};
 
 use crate::asks::{Asks, Round};
 use crate::judging::Came;
-use crate::plugins::{Plugins, put, view_of};
+use crate::plugins::{Last, Plugins, put, view_of};
 use cip_core::Core;
 use cip_events::{Event, EventKind};
-use cip_frac::Frac;
 use cip_tree::Node;
 use std::alloc::{AllocError, Global};
 
@@ -39,8 +40,9 @@ fn came_in_rounds(first: Came, last: Came) -> Came
 
 impl<R: Asks> Plugins<R> {
     /// Asks all plugins of a round, while a node is in work, and judges what they propose, in their order; of the last
-    /// linear program of the node they see the point, if there is one. `Emptied`: the node has no improving point, and
-    /// what was proposed behind that wasn't looked at. `Err` comes where memory was refused: what was called and
+    /// linear program of the node they see what is lent. `Emptied` comes of sides alone: the node has no improving
+    /// point, and what was proposed behind that wasn't looked at. Cuts and points leave the node's region; and sides,
+    /// points and what is told as `Quiet` leave the pool. `Err` comes where memory was refused: what was called and
     /// accepted before it stands.
     pub fn ask_round(
         &mut self,
@@ -48,7 +50,7 @@ impl<R: Asks> Plugins<R> {
         core: &mut Core<'_>,
         node: &mut Node,
         round: Round,
-        point: Option<&[Frac]>,
+        last: Last<'_>,
     ) -> Result<Came, AllocError>
         requires ready { IsReady core.old node.old self.old.scratches }
         requires sound { IsSound (R.state self.old.roster) (R.room self.old.roster) }
@@ -57,13 +59,17 @@ impl<R: Asks> Plugins<R> {
         ensures used { IfOk result (λ came. came ≢ Emptied → Used (ask_in round ∷ []) (R.state self.old.roster)
             self.old.judged.items (R.state self.new.roster) self.new.judged.items) }
         ensures emptied { IfOk result (λ came. came ≡ Emptied → IsShownEmpty core.new node.new) }
+        ensures node { round ≢ OfSides → IsSameNode core.old core.new node.old node.new }
+        ensures rows { IfOk result (λ came. came ≡ Quiet → core.new.pool ≡ core.old.pool) }
+        ensures pool { round ≢ OfCuts → core.new.pool ≡ core.old.pool }
+        ensures sides { IfOk result (λ came. came ≡ Emptied → round ≡ OfSides) }
     {
         if self.roster.has_none() {
             return Ok(Came::Quiet);
         }
         let gave = self
             .roster
-            .ask_all(alloc, round, &view_of(core, node.id(), point))?;
+            .ask_all(alloc, round, &view_of(core, node.id(), last))?;
         self.take_all(core, node, round, gave.as_slice())
     }
 
@@ -74,6 +80,7 @@ impl<R: Asks> Plugins<R> {
         alloc: Global,
         core: &mut Core<'_>,
         node: &mut Node,
+        last: Last<'_>,
     ) -> Result<Came, AllocError>
         requires ready { IsReady core.old node.old self.old.scratches }
         requires sound { IsSound (R.state self.old.roster) (R.room self.old.roster) }
@@ -82,38 +89,39 @@ impl<R: Asks> Plugins<R> {
         ensures used { IfOk result (λ came. came ≢ Emptied → Used (Propagate ∷ []) (R.state self.old.roster)
             self.old.judged.items (R.state self.new.roster) self.new.judged.items) }
         ensures emptied { IfOk result (λ came. came ≡ Emptied → IsShownEmpty core.new node.new) }
+        ensures pool { core.new.pool ≡ core.old.pool }
     {
-        let first = self.ask_round(alloc, core, node, Round::Sides, None)?;
-        let mut last = first;
+        let first = self.ask_round(alloc, core, node, Round::Sides, last)?;
+        let mut newest = first;
         for _ in 1..MOST_ROUNDS {
-            let Came::Accepted = last else {
+            let Came::Accepted = newest else {
                 break;
             };
-            last = self.ask_round(alloc, core, node, Round::Sides, None)?;
+            newest = self.ask_round(alloc, core, node, Round::Sides, last)?;
         }
-        Ok(came_in_rounds(first, last))
+        Ok(came_in_rounds(first, newest))
     }
 
-    /// Tells all events that wait, while a node is in work. `Err` comes where memory was refused: what was called
-    /// before it stands.
+    /// Tells all events that wait; plugins see what is lent of the node of this number, which is in work or was it last.
+    /// `Err` comes where memory was refused: what was called before it stands.
     pub fn tell(
         &mut self,
         alloc: Global,
         core: &Core<'_>,
-        node: &Node,
-        point: Option<&[Frac]>,
+        node: u64,
+        last: Last<'_>,
     ) -> Result<(), AllocError>
         requires sound { IsSound (R.state self.old.roster) (R.room self.old.roster) }
         ensures sound { IsSound (R.state self.new.roster) (R.room self.new.roster) }
         ensures used { OnOk result (Used (map (λ event. OnEvent event) self.old.queue) (R.state self.old.roster)
             self.old.judged.items (R.state self.new.roster) self.new.judged.items) }
-        ensures run { HasRun (R.state self.old.roster) (R.state self.new.roster) }
+        ensures run { Ran (R.state self.old.roster) (R.state self.new.roster) }
         ensures frame { (self.new.scratches ≡ self.old.scratches) × (self.new.judged ≡ self.old.judged) }
     {
         if self.roster.has_none() {
             return Ok(());
         }
-        let view = view_of(core, node.id(), point);
+        let view = view_of(core, node, last);
         self.roster.tell(alloc, &mut self.queue, &view)
     }
 
@@ -123,7 +131,7 @@ impl<R: Asks> Plugins<R> {
         ensures sound { IsSound (R.state self.new.roster) (R.room self.new.roster) }
         ensures used { OnOk result (Used (OnEvent (event_at node.now.number NodeFocused) ∷ [])
             (R.state self.old.roster) self.old.judged.items (R.state self.new.roster) self.new.judged.items) }
-        ensures run { HasRun (R.state self.old.roster) (R.state self.new.roster) }
+        ensures run { Ran (R.state self.old.roster) (R.state self.new.roster) }
         ensures frame { (self.new.scratches ≡ self.old.scratches) × (self.new.judged ≡ self.old.judged) }
     {
         put(
@@ -131,6 +139,6 @@ impl<R: Asks> Plugins<R> {
             self.roster.has_none(),
             Event::at(node.id(), EventKind::NodeFocused),
         )?;
-        self.tell(alloc, core, node, None)
+        self.tell(alloc, core, node.id(), Last::none())
     }
 }

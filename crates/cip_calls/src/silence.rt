@@ -16,10 +16,12 @@ pub struct NoPlugins;
 
 impl Seated for NoPlugins {
     ghost use Rattle.std.specs.Prelude.{[], false};
+    ghost use Rattle.cip_roster.specs.KeptRankings.{no_room};
+    ghost use Rattle.cip_roster.specs.KeptRankings.{no_room};
 
     ghost state = { λ none. record { seats = []; places = []; names = []; lines = []; kept = false } };
 
-    ghost room = { λ none. 0 };
+    ghost room = { λ none. no_room };
 
     fn trace(&self) -> &[TraceLine] {
         &[]

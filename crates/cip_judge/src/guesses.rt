@@ -4,6 +4,7 @@ ghost use Rattle.cip_problem.specs.WellFormed.{columns};
 ghost use Rattle.cip_model.specs.Verdicts.{verdict_of};
 ghost use Rattle.cip_model.specs.declared.verdicts.Verdict.TheVariants.{Feasible};
 ghost use Rattle.cip_incumbent.specs.HeldPoint.{offered};
+ghost use Rattle.cip_tree.specs.Nodes.{region_of};
 ghost use Rattle.cip_core.specs.CoreStates.{IsAtWork};
 ghost use Rattle.cip_core.specs.Later.{IsLaterAt};
 ghost use Rattle.cip_judge.specs.GuessesJudged.{costs_less, judged_as, guess_answer, IsAfterGuess};
@@ -33,6 +34,8 @@ fn hold(core: &mut Core<'_>, node: &Node, cost: Frac, values: &[Frac]) -> Judged
     ensures answer { result ≡ judged_as (offered core.old.incumbent.best (Feasible cost)) }
     ensures after { IsAfterGuess result core.old core.new values.now }
     ensures later { IsLaterAt core.old node.now core.new node.now }
+    ensures region { region_of core.new.tree node.now ≡ region_of core.old.tree node.now }
+    ensures frame { core.new ≡ record core.old { tree = core.new.tree; incumbent = core.new.incumbent } }
 {
     if !is_cheaper(cost, core.held_cost()) {
         return Judged::NotBetter;
@@ -51,6 +54,8 @@ pub fn judge_guess(core: &mut Core<'_>, node: &Node, guess: &Guess) -> Judged
     ensures answer { result ≡ guess_answer core.old guess.now.values.items }
     ensures after { IsAfterGuess result core.old core.new guess.now.values.items }
     ensures later { IsLaterAt core.old node.now core.new node.now }
+    ensures region { region_of core.new.tree node.now ≡ region_of core.old.tree node.now }
+    ensures frame { core.new ≡ record core.old { tree = core.new.tree; incumbent = core.new.incumbent } }
 {
     let values = guess.values.as_slice();
     if values.len() != core.program().columns() {

@@ -22,4 +22,4 @@ pub use reductions::judge_reduction;
 pub use rows::judge_row;
 pub use scratches::Scratches;
 pub use split_cuts::judge_split_cut;
-pub use splits::{Parted, judge_split};
+pub use splits::{Parted, judge_split, split_refusal};

@@ -81,6 +81,19 @@ fn refusal(core: &Core<'_>, split: Split) -> Option<JudgeFault>
     }
 }
 
+/// Why a node in work can't be split at a place. `None` comes exactly where the column is one of the program's, the
+/// number has a size of at most 2^100, and the column is whole and plain with a whole value on both sides of the
+/// number, or isn't whole and its choice is open; else the first of these that fails. Nothing changes.
+pub fn split_refusal(core: &Core<'_>, node: &Node, split: Split) -> Option<JudgeFault>
+    requires at_work { IsAtWork core.now node.now }
+    ensures { MatchOption result (IsPlace core.now split.col split.at)
+        (IsSplitRefused core.now split.col split.at) }
+{
+    let _ = node;
+    core.is_sound();
+    refusal(core, split)
+}
+
 /// Judges a split of a node in work, each of whose whole columns has a whole value. It is made exactly where the column
 /// is one of the program's, the number has a size of at most 2^100, and the column is whole and plain with a whole
 /// value on both sides of the number, or isn't whole and its choice is open: the node has ended then, and its halves
@@ -100,7 +113,7 @@ pub fn judge_split(
     ensures frame { core.new ≡ record core.old { tree = core.new.tree } }
 {
     core.is_sound();
-    if let Some(fault) = refusal(core, split) {
+    if let Some(fault) = split_refusal(core, &node, split) {
         return Ok(Parted::Whole(node, fault));
     }
     let (low, high) = core.split(node, given, split.col, split.at)?;

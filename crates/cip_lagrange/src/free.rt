@@ -27,7 +27,7 @@ fn add_column(sum: Frac, col: u32, rest: Frac, sides: Sides) -> Result<Frac, Lag
 }
 
 /// A sum with the least rests of columns by their numbers added, one after another.
-pub(crate) fn add_free(
+pub fn add_free(
     rests: &[Frac],
     bounds: &Bounds,
     numbers: &[u32],

@@ -17,7 +17,9 @@ mod trees;
 
 pub use answers::{LagrangeFault, TreeBound, TreeFault};
 pub use calls::tree_bound;
+pub use free::add_free;
 pub use lagrangian::lagrange;
 pub use laws::{halves_have_wholes, trees_bound_nodes};
+pub use multipliers::use_multipliers;
 pub use regions::TreeRegion;
 pub use scratches::{BlockScratch, LagrangeScratch};

@@ -90,7 +90,7 @@ fn use_multiplier(
 }
 
 /// Uses the multipliers of rows by their numbers, one after another, and answers the sum of their sides' products.
-pub(crate) fn use_multipliers(
+pub fn use_multipliers(
     rests: &mut [Frac],
     start: Frac,
     rows: &[Row],

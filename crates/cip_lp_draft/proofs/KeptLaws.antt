@@ -2,6 +2,7 @@
 use Rattle.std.proofs.Common.{◌≡◌, ℕ, ◌<◌, ◌≤◌, Bool, true, false, not, ◌&&◌, ◌||◌, cond, List, [], ◌∷◌, ◌++◌, length, Option, None, Some, refl, sym, ap, subst, ◌∙◌, arith}
 use Rattle.std.specs.Prelude.{All, IfSome, is_some, is_none, nat_le, slice_set}
 use Rattle.std.proofs.lemmas.List.{length-set}
+use Rattle.std.proofs.lemmas.List.Elements.{All-nil}
 use Rattle.cip_problem.specs.Limits.{most_columns}
 use Rattle.cip_problem.specs.Program.{Row}
 use Rattle.cip_rational.specs.Rational.{ℚ, zeroℚ}
@@ -140,6 +141,28 @@ cost_within old f name column h e c =
     omega (arith, m, s, c)
 
 -- ---- rows
+
+-- the row in hand is let go
+pub row_let_go : (f : LpFacts) (row_name : Option (List ℕ)) (form : List FormTerm) → IsKeptLp f → row_name ≡ None → form ≡ [] → IsKeptLp (record f { row_name = row_name; form = form })
+row_let_go f row_name form h n t =
+    let none : IsKeptLp (record f { row_name = None; form = [] }) = record {
+      sound = record {
+        costs = h.sound.costs;
+        bounds = h.sound.bounds;
+        integral = h.sound.integral;
+        row_names = h.sound.row_names;
+        few_columns = h.sound.few_columns;
+        few_rows = h.sound.few_rows;
+        room = λ e. absurd (cc);
+        few_entries = h.sound.few_entries;
+        form = All-nil (λ (x : FormTerm). x.column < length f.column_names);
+        rising = refl;
+        rows = h.sound.rows;
+      };
+      fresh = refl;
+    } in
+    let same : ◌≡◌ {A = LpFacts} (record f { row_name = None; form = [] }) (record f { row_name = row_name; form = form }) = λ i. record f { row_name = (sym n) i; form = (sym t) i } in
+    subst IsKeptLp same none
 
 -- the row in hand ends
 pub row_put : (f : LpFacts) (name : List ℕ) (low high : Option ℚ) (row : Row) (row_names : List (List ℕ)) (rows : List Row) (row_name : Option (List ℕ)) (form : List FormTerm) → IsKeptLp f → f.row_name ≡ Some name

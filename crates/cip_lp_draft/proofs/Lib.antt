@@ -1,2 +1,4 @@
 pub mod FormLaws
+pub mod FormOrder
+pub mod FormPlaces
 pub mod KeptLaws

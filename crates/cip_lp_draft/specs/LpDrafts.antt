@@ -18,7 +18,7 @@ facts_in draft = record {
   bounds = draft.sides.items;
   integral = draft.whole.items;
   constant = draft.constant;
-  form = draft.form.items;
+  form = draft.form;
   entries = draft.entries;
 }
 

@@ -8,8 +8,9 @@ ghost use Rattle.cip_lp_draft.specs.LpEvents.{IsTaken};
 
 use crate::columns::is_long;
 use crate::draft::LpDraft;
-use crate::form::{Amount, FormTerm, has_term, put_term};
+use crate::form::FormTerm;
 use cip_frac::Frac;
+use cip_lp_values::Amount;
 use cip_model::MOST_ENTRIES;
 use std::alloc::AllocError;
 
@@ -49,7 +50,7 @@ impl LpDraft {
     {
         match column {
             None => false,
-            Some(number) => has_term(self.form.as_slice(), number as u32),
+            Some(number) => self.form.has(number as u32),
         }
     }
 
@@ -95,7 +96,7 @@ impl LpDraft {
         }
         let number = self.make_column(name, column)?;
         let cost = self.minimized(amount.value);
-        put_term(&mut self.form, FormTerm::of(number, amount))?;
+        self.form.put(FormTerm::of(number, amount))?;
         set_cost(&mut self.costs, number, cost);
         Ok(None)
     }
@@ -116,7 +117,7 @@ impl LpDraft {
             return Ok(Some(10));
         }
         let number = self.make_column(name, column)?;
-        put_term(&mut self.form, FormTerm::of(number, amount))?;
+        self.form.put(FormTerm::of(number, amount))?;
         self.entries = entries_with(self.entries, amount);
         Ok(None)
     }

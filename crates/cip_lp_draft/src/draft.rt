@@ -1,5 +1,5 @@
 //! What is kept of the tokens of a text.
-use crate::form::FormTerm;
+use crate::form::Form;
 use cip_frac::Frac;
 use cip_lin::{Row, Sides};
 use cip_name_index::NameIndex;
@@ -23,8 +23,8 @@ pub struct LpDraft {
     pub(crate) sides: Vec<Sides>,
     pub(crate) whole: Vec<bool>,
     pub(crate) constant: Frac,
-    /// The numbers of the form in hand.
-    pub(crate) form: Vec<FormTerm>,
+    /// The form in hand.
+    pub(crate) form: Form,
     /// How many numbers of rows aren't 0.
     pub(crate) entries: usize,
     /// The column that is looked at first for the next name.

@@ -1,52 +1,15 @@
-//! The form in hand: numbers by rising column.
-ghost use Rattle.std.specs.Prelude.{◌≡◌, ◌++◌, ◌∷◌, [], not, nat_lt, true, OnOk, OnErr, IfOk};
-ghost use Rattle.std.specs.List.{list_all, prefix_len};
+//! The form in hand: the numbers of its columns.
+ghost use Rattle.std.specs.Prelude.{◌≡◌, ◌<◌, ◌++◌, ◌∷◌, [], ℕ, nat_lt, true, Some, slice_get, vec_len, OnOk, IfOk};
+ghost use Rattle.std.specs.List.{list_all};
 ghost use Rattle.cip_lp_rules.specs.LpFacts as facts;
 ghost use Rattle.cip_lp_rules.specs.LpSound.{form_rises};
-ghost use Rattle.cip_mps_steps.specs.MpsState.{is_zero_value};
+ghost use Rattle.cip_lp_draft.specs.LpForms.{form_of};
 
 use cip_frac::Frac;
 use cip_lin::{Row, RowFault, Term};
+use cip_lp_values::{Amount, is_zero};
 use std::alloc::{AllocError, Global};
 use std::marker::Model;
-
-/// A number with its sign. Contracts see whether it is 0 beside it.
-#[derive(Clone, Copy, Debug)]
-pub struct Amount {
-    /// The number.
-    pub value: Frac,
-}
-
-/// Whether a value is 0.
-fn is_zero(value: Frac) -> bool
-    ensures { result ≡ is_zero_value value }
-{
-    value.is_zero()
-}
-
-impl Model for Amount {
-    ghost use Rattle.cip_lp_rules.specs.LpPlaces as places;
-    ghost use Rattle.cip_lp_draft.specs.LpForms.{amount_code, amount_shown};
-
-    ghost Value = { places.Amount };
-
-    ghost coded = { amount_code };
-
-    ghost view = { λ a. amount_shown a.value };
-
-    ghost inverse = { λ a. record { value = a.value } };
-}
-
-impl Amount {
-    ghost use Rattle.std.specs.Prelude.{◌≡◌};
-
-    /// Whether the number is 0.
-    pub fn is_zero(&self) -> bool
-        ensures { result ≡ self.now.zero }
-    {
-        is_zero(self.value)
-    }
-}
 
 /// The number of a column in a form.
 #[derive(Clone, Copy, Debug)]
@@ -83,51 +46,113 @@ impl FormTerm {
     }
 }
 
-/// Whether a form has a number of this column. This takes a look at the last one alone where the column is behind that.
-pub(crate) fn has_term(form: &[FormTerm], column: u32) -> bool
-    requires { form_rises form.now ≡ true }
-    ensures { result ≡ facts.has_term form.now column }
+/// A form: numbers of columns, kept in the order in which they came. Contracts see them by rising column.
+#[derive(Debug, Drop)]
+pub(crate) struct Form {
+    pub(crate) terms: Vec<FormTerm>,
+    /// By column, where its number stands among the terms. Of a column that has none it says nothing.
+    pub(crate) places: Vec<usize>,
+}
+
+impl Model for Form {
+    ghost use Rattle.std.specs.Prelude.{List};
+    ghost use Rattle.std.specs.Coded.{coded_list};
+    ghost use Rattle.cip_lp_rules.specs.LpFacts as facts;
+    ghost use Rattle.cip_lp_draft.specs.LpForms.{term_code, form_of, ArePlaced};
+
+    ghost Value = { List facts.FormTerm };
+
+    ghost coded = { coded_list term_code };
+
+    ghost view = { λ f. form_of f.terms.items };
+
+    ghost invariant = { λ f. ArePlaced f.terms.items f.places.items };
+}
+
+/// Makes room for the place of a column; what was told of other columns stays.
+fn make_room(places: &mut Vec<usize>, column: u32) -> Result<(), AllocError>
+    ensures kept { (other place : ℕ) → slice_get places.old.items other ≡ Some place
+        → slice_get places.new.items other ≡ Some place }
+    ensures room { OnOk result (column < vec_len places.new) }
 {
-    match form.last() {
-        None => false,
-        Some(last) => {
-            if last.column < column {
-                false
-            } else {
-                form.iter().any(|term| term.column == column)
-            }
+    let count = column as usize + 1;
+    if count <= places.len() {
+        return Ok(());
+    }
+    places.resize(count, 0)
+}
+
+impl Form {
+    ghost use Rattle.std.specs.Prelude.{◌≡◌, [], true, OnOk, OnErr, IfOk};
+    ghost use Rattle.cip_lp_rules.specs.LpFacts as facts;
+    ghost use Rattle.cip_lp_rules.specs.LpSound.{form_rises};
+
+    /// No number yet.
+    pub(crate) fn new(alloc: Global) -> Form
+        ensures { result ≡ [] }
+    {
+        Form {
+            terms: Vec::new(alloc),
+            places: Vec::new(alloc),
         }
+    }
+
+    /// Whether a column has a number, by two looks whatever the length of the form.
+    pub(crate) fn has(&self, column: u32) -> bool
+        ensures { result ≡ facts.has_term self.now column }
+    {
+        match self.places.as_slice().get(column as usize) {
+            None => false,
+            Some(place) => match self.terms.as_slice().get(*place) {
+                None => false,
+                Some(term) => term.column == column,
+            },
+        }
+    }
+
+    /// Puts a number where its column belongs. `Err` comes where a growth was refused, and changes nothing.
+    pub(crate) fn put(&mut self, term: FormTerm) -> Result<(), AllocError>
+        ensures ok { OnOk result (self.new ≡ facts.form_with term self.old) }
+        ensures err { OnErr result (self.new ≡ self.old) }
+    {
+        self.terms.reserve(1)?;
+        make_room(&mut self.places, term.column)?;
+        self.places[term.column as usize] = self.terms.len();
+        self.terms.push_reserved(term);
+        Ok(())
+    }
+
+    /// Takes all numbers away.
+    pub(crate) fn clear(&mut self)
+        ensures { self.new ≡ [] }
+    {
+        self.terms.clear();
+    }
+
+    /// The row of the form between two sides; no number is left. `Err` comes where a growth was refused.
+    pub(crate) fn take_row(
+        &mut self,
+        alloc: Global,
+        low: Option<Frac>,
+        high: Option<Frac>,
+    ) -> Result<Row, AllocError>
+        requires { form_rises self.old ≡ true }
+        ensures row { IfOk result (λ row. row ≡ record { terms = facts.terms_of self.old; low = low; high = high }) }
+        ensures left { self.new ≡ [] }
+    {
+        sort_terms(&mut self.terms);
+        let row = row_of(alloc, self.terms.as_slice(), low, high);
+        self.terms.clear();
+        row
     }
 }
 
-/// How many numbers of a form stand on columns up to this one.
-fn place_in(form: &[FormTerm], column: u32) -> usize
-    requires { form_rises form.now ≡ true }
-    ensures { result ≡ prefix_len (λ t. not (nat_lt column t.column)) form.now }
+/// Puts numbers in the order of their columns, each of which has one.
+fn sort_terms(terms: &mut Vec<FormTerm>)
+    requires { form_rises (form_of terms.old.items) ≡ true }
+    ensures { terms.new.items ≡ form_of terms.old.items }
 {
-    match form.last() {
-        None => 0,
-        Some(last) => {
-            if last.column <= column {
-                form.len()
-            } else {
-                form.iter()
-                    .take_while(|term| !(column < term.column))
-                    .count()
-            }
-        }
-    }
-}
-
-/// Puts a number where its column belongs. `Err` comes where a growth was refused, and changes nothing.
-pub(crate) fn put_term(form: &mut Vec<FormTerm>, term: FormTerm) -> Result<(), AllocError>
-    requires { form_rises form.old.items ≡ true }
-    ensures ok { OnOk result (form.new.items ≡ facts.form_with term form.old.items) }
-    ensures err { OnErr result (form.new.items ≡ form.old.items) }
-{
-    let place = place_in(form.as_slice(), term.column);
-    form.insert(place, term)?;
-    Ok(())
+    terms.sort_unstable_by_key(|term| term.column);
 }
 
 /// Puts the number of a form behind the terms of a row; 0 is no term. `Err` comes where a growth was refused.
@@ -151,7 +176,7 @@ fn append(row: &mut Row, number: FormTerm) -> Result<(), AllocError>
 }
 
 /// The row of a form between two sides.
-pub(crate) fn row_of(
+fn row_of(
     alloc: Global,
     form: &[FormTerm],
     low: Option<Frac>,

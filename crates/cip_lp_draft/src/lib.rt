@@ -10,4 +10,3 @@ mod row_lines;
 mod sides;
 
 pub use draft::LpDraft;
-pub use form::Amount;

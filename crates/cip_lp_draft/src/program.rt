@@ -3,6 +3,7 @@ ghost use Rattle.std.specs.Prelude.{◌≡◌, IfOk};
 ghost use Rattle.cip_lp_rules.specs.LpFacts as facts;
 
 use crate::draft::LpDraft;
+use crate::form::Form;
 use cip_frac::Frac;
 use cip_lin::{Bounds, Choices, Sides};
 use cip_model::{Parts, Program, Sense};
@@ -37,7 +38,7 @@ impl LpDraft {
             sides: Vec::new(alloc),
             whole: Vec::new(alloc),
             constant: Frac::zero(),
-            form: Vec::new(alloc),
+            form: Form::new(alloc),
             entries: 0,
             near: 0,
         }

@@ -8,7 +8,6 @@ ghost use Rattle.cip_lp_draft.specs.LpEvents.{IsTaken};
 
 use crate::columns::is_long;
 use crate::draft::LpDraft;
-use crate::form::row_of;
 use cip_frac::Frac;
 use cip_model::MOST_ROWS;
 use itoa::Buffer;
@@ -94,14 +93,13 @@ impl LpDraft {
     pub fn end_row(&mut self, low: Option<Frac>, high: Option<Frac>) -> Result<(), AllocError>
         ensures { OnOk result (self.new ≡ facts.facts_with self.old (Ends low high)) }
     {
-        let row = row_of(self.alloc, self.form.as_slice(), low, high)?;
         self.rows.reserve(1)?;
         let Some(name) = self.row_name.take() else {
             return Ok(());
         };
+        let row = self.form.take_row(self.alloc, low, high)?;
         self.row_names.add(name)?;
         self.rows.push_reserved(row);
-        self.form.clear();
         Ok(())
     }
 }

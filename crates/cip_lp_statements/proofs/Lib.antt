@@ -1,2 +1,1 @@
 pub mod TakenLaws
-pub mod ValueLaws

@@ -1,3 +1,2 @@
-pub mod LpNumbers
 pub mod LpStages
 pub mod LpTaken

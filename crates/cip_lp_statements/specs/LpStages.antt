@@ -8,19 +8,11 @@ use Rattle.cip_lp_rules.specs.LpWords.{Relation, AtMost}
 use Rattle.cip_lp_rules.specs.LpGrammar.{is_name, goes_behind, low_side, high_side}
 use Rattle.cip_lp_rules.specs.LpOutcome.{LpContext}
 use Rattle.cip_lp_tokens.specs.LpKinds.{part_shown, relation_shown}
+use Rattle.cip_lp_values.specs.LpLimits.{limit_shown}
 use Rattle.cip_lp_statements.specs.declared.places.Stage.{Stage}
 use Rattle.cip_lp_statements.specs.declared.places.Stage.TheVariants.{Start, Labelled, FirstName, FirstSign, FirstNumber, SecondStart, SecondSign, SecondNumber, SecondName, AfterTerm, TermSign, TermNumber, LastDue, LastSign, BoundName, BoundDue, BoundSign, LimitSign, LimitRead, LimitDue, BoundedName}
-use Rattle.cip_lp_statements.specs.declared.places.Limit.{Limit}
 use Rattle.cip_lp_statements.specs.declared.places.Place.{Place}
 use Rattle.cip_lp_statements.specs.declared.statements.Statements.{Statements}
-
--- the value of a bound
-abbrev pub limit_from : Bool → Option ℚ → places.Limit
-limit_from minus None = places.Far minus
-limit_from minus (Some value) = places.Near value
-
-abbrev pub limit_shown : Limit → places.Limit
-limit_shown limit = limit_from limit.minus limit.value
 
 -- the value and the relation in front of a form
 abbrev pub first_of : Place → places.Given

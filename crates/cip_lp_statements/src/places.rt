@@ -1,7 +1,6 @@
 //! Where a token stands in its statement.
-use cip_frac::Frac;
-use cip_lp_draft::Amount;
 use cip_lp_tokens::Relation;
+use cip_lp_values::{Amount, Limit};
 
 /// Where a token stands in its statement.
 #[derive(Clone, Copy, PartialEq, Eq, Debug)]
@@ -48,15 +47,6 @@ pub(crate) enum Stage {
     LimitDue,
     /// Behind these, and a name.
     BoundedName,
-}
-
-/// The value of a bound; where there is none, infinity, upwards or downwards.
-#[derive(Clone, Copy, Debug)]
-pub(crate) struct Limit {
-    /// The value.
-    pub(crate) value: Option<Frac>,
-    /// Infinity has a `-`.
-    pub(crate) minus: bool,
 }
 
 /// What is kept of the statement in hand.

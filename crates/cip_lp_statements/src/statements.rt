@@ -7,10 +7,11 @@ ghost use Rattle.cip_lp_rules.specs.LpPlaces as places;
 ghost use Rattle.cip_lp_statements.specs.LpStages.{place_at, context_of};
 ghost use Rattle.cip_lp_statements.specs.LpTaken.{IsTokenTaken};
 
-use crate::places::{Limit, Place, Stage};
+use crate::places::{Place, Stage};
 use cip_frac::Frac;
-use cip_lp_draft::{Amount, LpDraft};
+use cip_lp_draft::LpDraft;
 use cip_lp_tokens::{LpPart, Relation, Token};
+use cip_lp_values::{Amount, Limit};
 use cip_model::Program;
 use std::alloc::{AllocError, Global};
 

@@ -7,13 +7,11 @@ ghost use Rattle.cip_lp_tokens.specs.LpKinds.{relation_shown};
 ghost use Rattle.cip_lp_statements.specs.LpStages.{first_of, given_of, row_low, row_high, where_of};
 ghost use Rattle.cip_lp_statements.specs.LpTaken.{AreTaken};
 
-use crate::numbers::amount_of;
 use crate::places::Stage;
 use crate::statements::Statements;
-use crate::values::{high_side, low_side};
 use cip_frac::Frac;
-use cip_lp_draft::Amount;
 use cip_lp_tokens::Relation;
+use cip_lp_values::{Amount, amount_of, high_side, low_side};
 use std::alloc::AllocError;
 
 /// Keeps a name in place of another one. `Err` comes where a growth was refused.

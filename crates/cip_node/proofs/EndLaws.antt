@@ -41,22 +41,22 @@ ended_here core new node mark end later few e met = record {
 }
 
 -- steps of a node, which may be in work or not yet
-record Leads (old : CoreState) (had : TakenNode) (new : CoreState) (has : TakenNode) : Type 0 where
-  later : IsLater old new
-  narrower : IsNarrower new (shown old.tree had) (shown new.tree has)
-  log : new.tree.log ≡ old.tree.log
-  parked : new.tree.parked ≡ old.tree.parked
-  ids : new.tree.ids ≡ old.tree.ids
-  same : new.touched ≡ false → region_of new.tree has ≡ region_of old.tree had
+pub record Leads (old : CoreState) (had : TakenNode) (new : CoreState) (has : TakenNode) : Type 0 where
+  pub later : IsLater old new
+  pub narrower : IsNarrower new (shown old.tree had) (shown new.tree has)
+  pub log : new.tree.log ≡ old.tree.log
+  pub parked : new.tree.parked ≡ old.tree.parked
+  pub ids : new.tree.ids ≡ old.tree.ids
+  pub same : new.touched ≡ false → region_of new.tree has ≡ region_of old.tree had
 
-leads_of : (old mid : CoreState) (node has : TakenNode) → IsLaterAt old node mid has → Leads old node mid has
+pub leads_of : (old mid : CoreState) (node has : TakenNode) → IsLaterAt old node mid has → Leads old node mid has
 leads_of old mid node has l = record { later = l.later; narrower = l.narrower; log = l.log; parked = l.parked; ids = l.ids; same = l.same }
 
 -- rows of the pool went, and another region is in work
 abbrev pub looked_core : CoreState → Pool → Region → CoreState
 looked_core core pool work = record core { pool = pool; tree = record core.tree { work = work } }
 
-leads_looked : (core : CoreState) (pool : Pool) (work : Region) (node : TakenNode) → Leads core node (looked_core core pool work) node
+pub leads_looked : (core : CoreState) (pool : Pool) (work : Region) (node : TakenNode) → Leads core node (looked_core core pool work) node
 leads_looked core pool work node = record {
   later = record { program = refl; root = refl; integral = refl; ids = omega arith; no_dearer = itself (held_of core); untouched = λ u. u };
   narrower = narrower_itself (looked_core core pool work) (shown core.tree node);
@@ -73,7 +73,7 @@ module _ (old mid new : CoreState) (node has : TakenNode) (l : Leads old node mi
       let i' : IsImproving (reduced_of mid) (held_of mid) point = fewer (reduced_of mid) (held_of new) (held_of mid) point later.no_dearer (subst (λ p. IsImproving p (held_of new) point) later.program i) in
       h point i (l.narrower.keeps point i' w)
 
-  entry_before : (ended : Node) (end : End) → LeavesEntry mid.tree new.tree ended end → LeavesEntry old.tree new.tree ended end
+  pub entry_before : (ended : Node) (end : End) → LeavesEntry mid.tree new.tree ended end → LeavesEntry old.tree new.tree ended end
   entry_before ended end e = record {
     logged = subst (λ l. new.tree.log ≡ l ++ record { node = ended.number; bound = ended.bound; end = end } ∷ []) l.log e.logged;
     parked = subst (λ p. new.tree.parked ≡ parked_after p ended end) l.parked e.parked;
@@ -117,7 +117,7 @@ module _ (old mid new : CoreState) (node has : TakenNode) (l : Leads old node mi
   }
 
 -- a node has ended after steps of its work
-ended_led : (old mid new : CoreState) (node has : TakenNode) (mark : Option Mark) (end : NodeEnd) → Leads old node mid has → HasEnded mid new has mark end → HasEnded old new node mark end
+pub ended_led : (old mid new : CoreState) (node has : TakenNode) (mark : Option Mark) (end : NodeEnd) → Leads old node mid has → HasEnded mid new has mark end → HasEnded old new node mark end
 ended_led old mid new node has mark end l h = record {
   ended = h.ended;
   narrower = narrower_further mid new (shown old.tree node) (shown mid.tree has) h.ended h.later l.narrower h.narrower;
@@ -129,7 +129,7 @@ ended_led old mid new node has mark end l h = record {
 }
 
 -- so it is where it goes back
-back_led : (old mid new : CoreState) (node has : TakenNode) (number : ℕ) (bound : Option ℚ) → Leads old node mid has → IsBack mid new number bound → IsBack old new number bound
+pub back_led : (old mid new : CoreState) (node has : TakenNode) (number : ℕ) (bound : Option ℚ) → Leads old node mid has → IsBack mid new number bound → IsBack old new number bound
 back_led old mid new node has number bound l h = record {
   kept = h.kept;
   log = h.log ∙ l.log;

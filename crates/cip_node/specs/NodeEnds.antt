@@ -95,6 +95,15 @@ IsEnd old new node ended mark (by.Parked leaf on bound by_this) =
     IsAside old new ended (record { values = leaf.items; on = on.items }) bound (shown_as by_this)
 IsEnd old new node ended mark (by.Ray point ray) = IsEndless old new ended point.items ray.items
 
+-- an end that a leaf may have
+abbrev pub IsLeafEnd : NodeEnd → Type 0
+IsLeafEnd by.Pruned = ⊥
+IsLeafEnd (by.Split low high) = ⊥
+IsLeafEnd by.Empty = Unit {0}
+IsLeafEnd by.Solved = Unit {0}
+IsLeafEnd (by.Parked leaf on bound by_this) = Unit {0}
+IsLeafEnd (by.Ray point ray) = Unit {0}
+
 -- a node has ended so
 pub record HasEnded (old new : CoreState) (node : TakenNode) (mark : Option Mark) (end : NodeEnd) : Type 0 where
   pub ended : Node

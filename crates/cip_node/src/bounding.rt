@@ -21,15 +21,18 @@ use std::alloc::{AllocError, Global};
 /// What a linear program found: a point, if it has one and that was found; the combination that shows its least cost,
 /// if that was shown; and the mark, if it wasn't.
 #[derive(Drop)]
-pub(crate) struct Found {
-    pub(crate) point: Option<Vec<Frac>>,
-    pub(crate) combo: Option<Combo>,
-    pub(crate) mark: Option<Mark>,
+pub struct Found {
+    /// Its point.
+    pub point: Option<Vec<Frac>>,
+    /// The combination that shows its least cost.
+    pub combo: Option<Combo>,
+    /// What it met, if nothing was shown.
+    pub mark: Option<Mark>,
 }
 
 /// What the linear program of a node leaves of it.
 #[derive(Drop)]
-pub(crate) enum Bounded {
+pub enum Bounded {
     /// The node's box has no improving point.
     Empty,
     /// The node goes on.
@@ -98,7 +101,7 @@ impl<'a> NodeWork<'a> {
 
     /// Solves the linear program of a node in work: its bound rises to what that shows, also beside a mark, and a point
     /// that is whole on whole columns is offered. `Err` comes where memory was refused; the node is in work then.
-    pub(crate) fn bound(&mut self, alloc: Global, node: &mut Node) -> Result<Bounded, AllocError>
+    pub fn bound(&mut self, alloc: Global, node: &mut Node) -> Result<Bounded, AllocError>
         requires { IsAtWork self.old.core node.old }
         ensures later { IsLaterAt self.old.core node.old self.new.core node.new }
         ensures bounded { IfOk result (IsBounded self.new.core node.new) }

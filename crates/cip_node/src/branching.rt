@@ -44,7 +44,7 @@ impl<'a> NodeWork<'a> {
     /// Closes a node whose bound isn't below the cost held, and splits any other by the rules, by the point of its last
     /// linear program, or by the last linear values, where that has none. `Err` comes where memory was refused; the
     /// node is open again then, with the bound that it had when it was taken up.
-    pub(crate) fn branch(
+    pub fn branch(
         &mut self,
         node: Node,
         given: Option<Frac>,

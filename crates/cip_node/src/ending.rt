@@ -1,8 +1,9 @@
 //! How the node in work ends, once its box was looked at.
-ghost use Rattle.std.specs.Prelude.{◌≡◌, None, MatchResult};
+ghost use Rattle.std.specs.Prelude.{◌≡◌, None, IfOk, MatchResult};
+ghost use Rattle.cip_core.specs.CoreStates.{IsTakenUp, IsGivenBound};
 ghost use Rattle.cip_core.specs.Steps.{IsBack};
 ghost use Rattle.cip_node.specs.Looking.{CanWorkOn, IsLeafNode, IsOpenNode};
-ghost use Rattle.cip_node.specs.NodeEnds.{HasEnded};
+ghost use Rattle.cip_node.specs.NodeEnds.{HasEnded, IsLeafEnd};
 ghost use Rattle.cip_node.specs.SameRows.{HasSameRows};
 
 use crate::bounding::Bounded;
@@ -11,27 +12,30 @@ use crate::leaves::solve_leaf;
 use crate::settling::settle;
 use crate::works::NodeWork;
 use cip_core::Core;
+use cip_frac::Frac;
 use cip_tree::Node;
 use std::alloc::{AllocError, Global};
 
 /// Ends a node that is a leaf, whose region is the region in work. `Err` comes where memory was refused; the node is
-/// open again then.
-pub(crate) fn end_leaf(
+/// open again then, with the bound that the log gave it.
+pub fn end_leaf(
     core: &mut Core<'_>,
     alloc: Global,
     node: Node,
+    given: Option<Frac>,
 ) -> Result<NodeEnd, AllocError>
-    requires can { CanWorkOn core.old node }
+    requires up { IsTakenUp core.old node }
+    requires given { IsGivenBound core.old node.number given }
     requires leaf { IsLeafNode core.old node }
     ensures ended { MatchResult result (HasEnded core.old core.new node None)
-        (λ _. IsBack core.old core.new node.number node.bound) }
+        (λ _. IsBack core.old core.new node.number given) }
+    ensures kind { IfOk result IsLeafEnd }
     ensures rows { HasSameRows core.old core.new }
 {
     core.is_sound();
     match solve_leaf(alloc, core.program(), core.bounds(), core.choices()) {
         Err(error) => {
-            let bound = node.bound();
-            core.go_back(node, bound);
+            core.go_back(node, given);
             Err(error)
         }
         Ok(solved) => Ok(settle(core, node, solved)),

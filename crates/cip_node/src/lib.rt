@@ -13,6 +13,8 @@ mod settling;
 mod starts;
 mod works;
 
+pub use bounding::{Bounded, Found};
+pub use ending::end_leaf;
 pub use ends::{NodeEnd, NodeRecord};
 pub use starts::Starts;
 pub use works::NodeWork;

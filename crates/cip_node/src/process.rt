@@ -34,8 +34,12 @@ impl<'a> NodeWork<'a> {
                 Ok((NodeEnd::Empty, NodeRecord { mark: None }))
             }
             Looked::Leaf => {
-                let end = end_leaf(&mut self.core, alloc, node)?;
-                Ok((end, NodeRecord { mark: None }))
+                let given = node.bound();
+                let ended = end_leaf(&mut self.core, alloc, node, given);
+                match ended {
+                    Err(error) => Err(error),
+                    Ok(end) => Ok((end, NodeRecord { mark: None })),
+                }
             }
             Looked::Open => self.end_open(alloc, node),
         }

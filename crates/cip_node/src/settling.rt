@@ -1,7 +1,7 @@
 //! A node that is a leaf ends.
 ghost use Rattle.std.specs.Prelude.{◌≡◌, None};
 ghost use Rattle.cip_core.specs.CoreStates.{IsAtWork};
-ghost use Rattle.cip_node.specs.NodeEnds.{HasEnded};
+ghost use Rattle.cip_node.specs.NodeEnds.{HasEnded, IsLeafEnd};
 ghost use Rattle.cip_node.specs.SameRows.{HasSameRows};
 ghost use Rattle.cip_node.specs.SolvedLeaves.{IsSolvedOf};
 
@@ -16,6 +16,7 @@ pub(crate) fn settle(core: &mut Core<'_>, node: Node, solved: Solved) -> NodeEnd
     requires at_work { IsAtWork core.old node }
     requires solved { IsSolvedOf core.old node solved }
     ensures ended { HasEnded core.old core.new node None result }
+    ensures kind { IsLeafEnd result }
     ensures rows { HasSameRows core.old core.new }
 {
     core.is_sound();

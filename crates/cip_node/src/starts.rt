@@ -2,6 +2,7 @@
 ghost use Rattle.std.specs.Prelude.{◌≡◌, length, IfSome};
 
 use cip_frac::Frac;
+use cip_lin::Combo;
 use cip_simplex::Start;
 use std::alloc::Global;
 
@@ -33,6 +34,8 @@ pub struct Starts {
     last: Option<Start>,
     // the last linear values
     values: Option<Vec<Frac>>,
+    // the combination that shows what they cost at least, if one was kept
+    combo: Option<Combo>,
 }
 
 /// The split that gave a node; `None` for the root.
@@ -54,18 +57,31 @@ impl Starts {
             node: 0,
             last: None,
             values: None,
+            combo: None,
         }
     }
 
     /// Keeps the point of the linear program of the node in work, if it has one, as the last linear values.
     pub(crate) fn note(&mut self, point: Option<Vec<Frac>>) {
+        self.keep(point, None);
+    }
+
+    /// Keeps the point of the linear program of the node in work, if it has one, as the last linear values, and the
+    /// combination that shows its least cost beside it, if there is one.
+    pub fn keep(&mut self, point: Option<Vec<Frac>>, combo: Option<Combo>) {
         if point.is_some() {
             self.values = point;
+            self.combo = combo;
         }
     }
 
+    /// The combination that shows the least cost of the linear program that had the last linear values, if it was kept.
+    pub fn last_combo(&self) -> Option<&Combo> {
+        self.combo.as_ref()
+    }
+
     /// The last linear values, one for each of so many columns, if a linear program had a point.
-    pub(crate) fn last_values(&self, columns: usize) -> Option<&[Frac]>
+    pub fn last_values(&self, columns: usize) -> Option<&[Frac]>
         ensures { IfSome result (λ values. length values.now ≡ columns) }
     {
         match &self.values {
@@ -80,7 +96,7 @@ impl Starts {
     }
 
     /// Turns to the node of this number; that before it needs its start no more.
-    pub(crate) fn turn_to(&mut self, number: u64) {
+    pub fn turn_to(&mut self, number: u64) {
         if let Some(place) = self.place() {
             self.leave(place);
         }
@@ -134,7 +150,7 @@ impl Starts {
     /// Hands where the linear program of the node in work ended on to its halves, of which this is the number of the
     /// low one, while so many nodes are open. Where too many are kept all others are let go first; where memory is
     /// refused the halves have none.
-    pub(crate) fn hand_on(&mut self, low: u64, waiting: usize) {
+    pub fn hand_on(&mut self, low: u64, waiting: usize) {
         let Some(start) = self.last.take() else {
             return;
         };

@@ -1,8 +1,10 @@
-//! Tests of bounding trees and of the pool of columns, on rows worked out by hand.
+//! Tests of bounding trees, the Lagrangian bound and the pool of columns, on rows worked out by hand.
 #![tactic(auto)]
 
 #[cfg(test)]
 mod columns;
+#[cfg(test)]
+mod multipliers;
 #[cfg(test)]
 mod tasks;
 #[cfg(test)]

@@ -7,7 +7,7 @@ use std::alloc::Global;
 
 /// A tree that is checked.
 #[derive(Clone, Copy)]
-enum Shape {
+pub enum Shape {
     /// x is split at 0, and minus half the row bounds both halves, by -3/2 and -5/2.
     Halved,
     /// x is split at 0; the box alone bounds the low half, by -1. y is split in the high half: the box alone bounds its
@@ -36,7 +36,7 @@ const SHAPES: [Shape; 7] = [
 ];
 
 /// The tree of a shape.
-fn tree_of(alloc: Global, shape: Shape) -> Option<BoundTree> {
+pub fn tree_of(alloc: Global, shape: Shape) -> Option<BoundTree> {
     match shape {
         Shape::Halved => split(alloc, 0, 0, bound(alloc, -1), bound(alloc, -1)),
         Shape::Emptied => {

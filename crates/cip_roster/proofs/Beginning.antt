@@ -18,11 +18,13 @@ use Rattle.cip_seats.specs.Steps.{Step, IsSeated, Runs}
 use Rattle.cip_seats.specs.Wishing.{begins, begun_with}
 use Rattle.cip_seats.proofs.Running.{Runs-append, run_lives}
 use Rattle.cip_roster.specs.Begun.{AreSeated, IsBegun, IsFresh, IsPlaying, all_begin}
+use Rattle.cip_roster.specs.KeptRankings.{Room, no_rankings}
 use Rattle.cip_roster.specs.Shelves.{shown}
 use Rattle.cip_roster.specs.Turns.{IsSound, StandsAt}
 use Rattle.cip_roster.proofs.Calm.{all_at}
 use Rattle.cip_roster.proofs.Keeping.{at_place}
 use Rattle.cip_roster.proofs.Sounding.{begins_of, playing_settled, run_elsewhere}
+use Rattle.cip_roster.proofs.StillRanked.{ranked_as_none}
 
 -- the first calls of some plugins and of one more
 all_begin_more : (id : ℕ) (xs : List (Bool × Bool)) (first second : Bool)
@@ -140,14 +142,16 @@ held_shown (w ∷ whos) =
     ∙ ap (λ (n : ℕ). 1 + n) (held_shown whos) ∙ one-add (length whos)
 
 -- a roster that begins is sound
-pub begun_sound : (state : State) (room : ℕ) → All IsPlaying state.seats
-    → length state.seats + held_count state.places < 2 ^ 32 → 2 * length state.seats ≤ room → IsSound state room
-begun_sound state room playing numbers fits =
+pub begun_sound : (state : State) (room : Room) → All IsPlaying state.seats
+    → length state.seats + held_count state.places < 2 ^ 32 → 2 * length state.seats ≤ room.lines
+    → room.rankings ≡ no_rankings → IsSound state room
+begun_sound state room playing numbers fits none =
     let most = count_by-le-length is_live state.seats in
     record {
       settled = λ i d within. playing_settled (get_or state.seats i d) (playing i d within);
       numbers = numbers;
       lasts = omega arith;
+      ranked = ranked_as_none state.seats room.rankings none;
     }
 
 -- some plugins came to their seats so far, and others are to come

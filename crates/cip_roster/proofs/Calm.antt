@@ -1,5 +1,5 @@
 -- Asking and noting leave each plugin as it stands: runs of such steps keep all but what is told.
-use Rattle.std.proofs.Common.{◌≡◌, ℕ, zero, suc, ◌+◌, ◌*◌, ◌≤◌, List, [], ◌∷◌, ◌++◌, length, map, Some, Bool, true, false, eqb, cond, set, sym, ◌∙◌, ap, refl, arith, All, count_by, get_or}
+use Rattle.std.proofs.Common.{◌≡◌, ℕ, zero, suc, ◌+◌, List, [], ◌∷◌, ◌++◌, length, map, Some, Bool, true, false, eqb, cond, set, sym, ◌∙◌, ap, refl, All, count_by, get_or}
 use Rattle.std.specs.Prelude.{slice_get, option_map, ℤ, ◌&&◌, ◌||◌, not}
 use Rattle.std.proofs.lemmas.Option.{slice_get-map, same_Some, slice_get-get_or}
 use Rattle.std.proofs.lemmas.List.{map-set, length-map}
@@ -9,12 +9,12 @@ use Rattle.cip_events.specs.declared.words.Word.TheVariants as say
 use Rattle.cip_plugin.specs.declared.kinds.Kind.{Kind}
 use Rattle.cip_plugin.specs.Calls.{Ask, Answer, Cuts, Reductions, Prices, Guesses, Splits, Says, Wishes, NoAnswer, Init, InitSolve, Asked, ExitSolve, Exit}
 use Rattle.cip_plugin.specs.Asking.{asks, count_past}
-use Rattle.cip_seats.specs.Seats.{Standing, Seat, State, is_alive, is_playing, is_settled, live_count, held_count}
+use Rattle.cip_seats.specs.Seats.{Standing, Seat, State, is_alive, is_playing, is_settled, live_count}
 use Rattle.cip_seats.specs.Steps.{Step, Calls, Notes, Turns, Ranks, Takes, Steps, Runs, Sat, IsCalled, is_note}
 use Rattle.cip_seats.specs.Calling.{all_turns, dropped, turn_of}
 use Rattle.cip_seats.proofs.Lists.{set_self}
 use Rattle.cip_seats.proofs.Onward.{ask_stands}
-use Rattle.cip_roster.specs.Turns.{CanBeAsked, IsSound}
+use Rattle.cip_roster.specs.Turns.{CanBeAsked}
 use Rattle.cip_roster.proofs.Keeping.{at_place}
 
 -- what of a seat no asking changes
@@ -195,20 +195,12 @@ alike_live a b alike =
     ∙ ap (count_by (λ (f : Face). is_alive f.standing.stage)) alike.faces
     ∙ count_shown face (λ f. is_alive f.standing.stage) a.seats
 
--- what is sound stays so, as faces stay
-pub sound_alike : (a b : State) (room later : ℕ) → IsAlike a b → IsSound a room → 2 * live_count a.seats ≤ later
-    → IsSound b later
-sound_alike a b room later alike sound fits =
+-- those that are settled stay so
+pub settled_alike : (a b : State) → IsAlike a b → All (λ seat. is_settled seat ≡ true) a.seats
+    → All (λ seat. is_settled seat ≡ true) b.seats
+settled_alike a b alike settled =
     let back : IsAlike b a = record { faces = sym alike.faces; places = sym alike.places } in
-    let count = alike_length a b alike in
-    let live = alike_live a b alike in
-    let held = ap held_count alike.places in
-    let numbers = sound.numbers in
-    record {
-      settled = all_at (λ seat. is_settled seat ≡ true) b.seats (λ i t at.
-          let old = alike_at b a i t back at in
-          ap (λ (f : Face). is_playing f.standing.stage || not (is_alive f.standing.stage)) (sym old.2)
-          ∙ at_place (λ seat. is_settled seat ≡ true) a.seats i old.0 old.1 sound.settled);
-      numbers = omega arith;
-      lasts = omega arith;
-    }
+    all_at (λ seat. is_settled seat ≡ true) b.seats (λ i t at.
+    let old = alike_at b a i t back at in
+    ap (λ (f : Face). is_playing f.standing.stage || not (is_alive f.standing.stage)) (sym old.2)
+    ∙ at_place (λ seat. is_settled seat ≡ true) a.seats i old.0 old.1 settled)

@@ -12,6 +12,7 @@ use Rattle.cip_seats.specs.Seats.{Seat, State, held_count, is_alive, is_live, li
 use Rattle.cip_seats.specs.Steps.{Step, Runs}
 use Rattle.cip_seats.specs.Wishing.{ends}
 use Rattle.cip_seats.proofs.Running.{Runs-append}
+use Rattle.cip_roster.specs.KeptRankings.{Room}
 use Rattle.cip_roster.specs.Turns.{IsSound, StandsAt}
 use Rattle.cip_roster.specs.Closed.{Back, all_end, back, backs, lives_there, shelf_backs}
 use Rattle.cip_roster.specs.Moved.{numbered, unnumbered}
@@ -88,16 +89,16 @@ ends_of i true = (refl, (refl, tt))
 ends_of i false = tt
 
 -- one more was closed, if it was live
-pub ended_one : (i : ℕ) (a b c : State) (room later : ℕ) → EndedSoFar i a b room → i < length b.seats
+pub ended_one : (i : ℕ) (a b c : State) (room : ℕ) (later : Room) → EndedSoFar i a b room → i < length b.seats
     → Runs b (cond (lives_there (slice_get b.seats i)) (ends i) []) c → lives_there (slice_get c.seats i) ≡ false
-    → IsSound c later → EndedSoFar (i + 1) a c later
+    → IsSound c later → EndedSoFar (i + 1) a c later.lines
 ended_one i a b c room later so_far within run gone sound =
     let own = some_within b.seats i within in
     let x = own.0 in
     let took : Runs b (cond (is_live x) (ends i) []) c =
     subst (λ (o : Option Seat). Runs b (cond (lives_there o) (ends i) []) c) own.1 run in
     let elsewhere = run_elsewhere i (cond (is_live x) (ends i) []) b c (ends_of i (is_live x)) took in
-    subst (λ (n : ℕ). EndedSoFar n a c later) (sym (add-one i)) (record {
+    subst (λ (n : ℕ). EndedSoFar n a c later.lines) (sym (add-one i)) (record {
       run = subst (λ (steps : List Step). Runs a steps c)
           (sym (one_more a i x (sym (so_far.rest i (omega arith)) ∙ own.1)))
           (Runs-append (all_end 0 (take i a.seats)) (cond (is_live x) (ends i) []) a b c so_far.run took);

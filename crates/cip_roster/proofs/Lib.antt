@@ -10,6 +10,7 @@ pub mod OneEvent
 pub mod Ranking
 pub mod Sitting
 pub mod Sounding
+pub mod StillRanked
 pub mod Throughout
 pub mod Trying
 pub mod Turning

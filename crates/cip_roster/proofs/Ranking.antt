@@ -4,6 +4,7 @@ use Rattle.std.proofs.lemmas.Option.{cond_some, same_Some}
 use Rattle.std.proofs.lemmas.List.{drop_all}
 use Rattle.std.specs.Prelude.{slice_get, IsSome}
 use Rattle.std.specs.List.{AllByRecursion, find}
+use Rattle.cip_roster.specs.KeptRankings.{IsRanking}
 use Rattle.cip_roster.specs.Nexts.{IsNext, is_behind, key_at}
 use Rattle.std.specs.List.Sorted.{IsPermutation}
 use Rattle.std.proofs.lemmas.List.Sorted.{All-permutation}
@@ -229,6 +230,18 @@ found_rec : (P : Key → Type 0) (p : Key → Bool) (xs : List Key) (x : Key) �
 found_rec P p [] x is all = cc
 found_rec P p (y ∷ xs) x is all =
     found_if P x y (find p xs) (p y) is all.0 (λ later. found_rec P p xs x later all.1)
+
+-- the first one behind another in a ranking is the next one
+pub is_next : (kind : Kind) (a r : State) (after : Option ℕ) (other found : Option Key) (keys lent : List Key) → r ≡ a
+    → IsRanking kind a.seats keys → lent ≡ keys → other ≡ key_at r.seats after → found ≡ find (is_behind other) lent
+    → IsNext kind a.seats after found
+is_next kind a r after other found keys lent same ranking all named is = record {
+  keys = keys;
+  permutation = ranking.permutation;
+  sorted = ranking.sorted;
+  first = is ∙ ap (find (is_behind other)) all
+      ∙ ap (λ (o : Option Key). find (is_behind o) keys) (named ∙ ap (λ (s : State). key_at s.seats after) same);
+}
 
 -- the next one may be asked
 pub next_can : (kind : Kind) (ask : Ask) (a r : State) (after : Option ℕ) (found : Option Key) (key : Key)

@@ -10,8 +10,10 @@ use Rattle.cip_seats.specs.Steps.{Step, Calls, Notes, Turns, Ranks, Takes, Steps
 use Rattle.cip_seats.specs.Wishing.{begins, ends, raised_in}
 use Rattle.cip_seats.proofs.Counting.{count_pushed, count_set, run_measure}
 use Rattle.cip_seats.proofs.Lists.{get_set_other}
+use Rattle.cip_roster.specs.KeptRankings.{Room, no_rankings}
 use Rattle.cip_roster.specs.Turns.{IsSound, StandsAt}
 use Rattle.cip_roster.proofs.Calm.{all_at}
+use Rattle.cip_roster.proofs.StillRanked.{ranked_as_none}
 use Rattle.cip_roster.proofs.Keeping.{at_place}
 
 -- steps that change no seat but this one
@@ -85,10 +87,10 @@ settled_but a b id s others at own settled =
     (cases_eq k id))
 
 -- a sound state behind a run that changes one seat
-pub sound_run : (id : ℕ) (steps : List Step) (a b : State) (room later : ℕ) (s : Seat) → AreOf id steps → Runs a steps b
-    → IsSound a room → slice_get b.seats id ≡ Some s → is_settled s ≡ true → 2 * live_count b.seats ≤ later
-    → IsSound b later
-sound_run id steps a b room later s own run sound at settled fits =
+pub sound_run : (id : ℕ) (steps : List Step) (a b : State) (room later : Room) (s : Seat) → AreOf id steps
+    → Runs a steps b → IsSound a room → slice_get b.seats id ≡ Some s → is_settled s ≡ true
+    → 2 * live_count b.seats ≤ later.lines → later.rankings ≡ no_rankings → IsSound b later
+sound_run id steps a b room later s own run sound at settled fits none =
     let elsewhere = run_elsewhere id steps a b own run in
     let held = ap held_count elsewhere.places in
     let count = elsewhere.count in
@@ -97,6 +99,7 @@ sound_run id steps a b room later s own run sound at settled fits =
       settled = settled_but a.seats b.seats id s elsewhere.seats at settled sound.settled;
       numbers = omega arith;
       lasts = fits;
+      ranked = ranked_as_none b.seats later.rankings none;
     }
 
 -- who plays is settled
@@ -116,23 +119,24 @@ live_behind_run id steps a b own run =
     omega arith
 
 -- a change that ends nobody
-pub sound_still : (id : ℕ) (step : Step) (a b : State) (room later : ℕ) → IsOf id step → raised_in 0 (step ∷ []) ≡ []
-    → Runs a (step ∷ []) b → IsSound a room → StandsAt Playing b id → 2 * live_count a.seats ≤ later → IsSound b later
-sound_still id step a b room later own quiet run sound stands fits =
+pub sound_still : (id : ℕ) (step : Step) (a b : State) (room later : Room) → IsOf id step
+    → raised_in 0 (step ∷ []) ≡ [] → Runs a (step ∷ []) b → IsSound a room → StandsAt Playing b id
+    → 2 * live_count a.seats ≤ later.lines → later.rankings ≡ no_rankings → IsSound b later
+sound_still id step a b room later own quiet run sound stands fits none =
     let live = live_behind_run id (step ∷ []) a b (own, tt) run in
-    let none = ap length quiet in
+    let calm = ap length quiet in
     sound_run id (step ∷ []) a b room later stands.seat (own, tt) run sound stands.at
-    (playing_settled stands.seat stands.stands) (omega arith)
+    (playing_settled stands.seat stands.stands) (omega arith) none
 
 -- a plugin was closed
-pub sound_ended : (id : ℕ) (a b : State) (room later : ℕ) → Runs a (ends id) b → IsSound a room → StandsAt Gone b id
-    → room ≤ later + 2 → IsSound b later
-sound_ended id a b room later run sound stands fits =
+pub sound_ended : (id : ℕ) (a b : State) (room later : Room) → Runs a (ends id) b → IsSound a room → StandsAt Gone b id
+    → room.lines ≤ later.lines + 2 → later.rankings ≡ no_rankings → IsSound b later
+sound_ended id a b room later run sound stands fits none =
     let own : AreOf id (ends id) = (refl, (refl, tt)) in
     let live = live_behind_run id (ends id) a b own run in
     let lasts = sound.lasts in
     sound_run id (ends id) a b room later stands.seat own run sound stands.at
-    (gone_settled stands.seat stands.stands) (omega arith)
+    (gone_settled stands.seat stands.stands) (omega arith) none
 
 -- beside one more nothing else changes
 get_beside : {A : Type 0} (xs : List A) (y : A) (k : ℕ) → (k ≡ length xs → ⊥)
@@ -155,10 +159,11 @@ most_one true = omega arith
 most_one false = omega arith
 
 -- a plugin was included
-pub sound_included : (place : ℕ) (first second : Bool) (a b c : State) (room later : ℕ)
+pub sound_included : (place : ℕ) (first second : Bool) (a b c : State) (room later : Room)
     → Runs a (Takes place ∷ []) b → Runs b (begins (length a.seats) first second) c → IsSound a room
-    → StandsAt Playing c (length a.seats) → 2 * (live_count a.seats + 1) ≤ later → IsSound c later
-sound_included place first second a b c room later came run sound stands fits =
+    → StandsAt Playing c (length a.seats) → 2 * (live_count a.seats + 1) ≤ later.lines
+    → later.rankings ≡ no_rankings → IsSound c later
+sound_included place first second a b c room later came run sound stands fits none =
     let id = length a.seats in
     let steps = begins id first second in
     let taken : Taken place a came.0 = came.1.moves in
@@ -184,6 +189,7 @@ sound_included place first second a b c room later came run sound stands fits =
           stands.at (playing_settled stands.seat stands.stands) sound.settled;
       numbers = omega arith;
       lasts = omega arith;
+      ranked = ranked_as_none c.seats later.rankings none;
     }
 
 -- a step keeps the number of plugins that have seats or stand on the shelf

@@ -7,19 +7,19 @@ use Rattle.cip_plugin.specs.Asking.{answer_of, first_part, count_past}
 use Rattle.cip_plugin.specs.declared.asking.Given.{Given}
 use Rattle.cip_plugin.specs.declared.asking.Given.TheVariants as given
 use Rattle.std.specs.Prelude.{slice_get, IsSome}
-use Rattle.std.specs.List.Sorted.{IsPermutation, IsSorted}
 use Rattle.cip_plugin.specs.declared.kinds.Kind.{Kind}
 use Rattle.cip_seats.specs.declared.keys.Key.{Key}
 use Rattle.cip_seats.specs.declared.stages.Stage.{Stage}
 use Rattle.cip_seats.specs.Seats.{Seat, State, live_count}
 use Rattle.cip_seats.specs.Steps.{Step, Calls, Notes, Runs, is_note, line}
 use Rattle.cip_seats.specs.Wishing.{begun_with, ends}
-use Rattle.cip_seats.specs.Calling.{Called, all_turns, dropped, given_of, ids_of, is_answer, is_ready, keys_from, noted, turn_of}
-use Rattle.cip_seats.specs.Ranks.{rank_order}
+use Rattle.cip_seats.specs.Calling.{Called, all_turns, dropped, given_of, ids_of, is_answer, noted, turn_of}
 use Rattle.cip_seats.proofs.Running.{Runs-append, run_stays}
 use Rattle.cip_roster.specs.Turns.{CalledKind, CanBeAsked, HadTurn, HandsOn, IsSound, StandsAt, entries, handed}
-use Rattle.cip_roster.proofs.Calm.{asked_still, run_calm, sound_alike, turn_calm, turns_calm}
+use Rattle.cip_roster.specs.KeptRankings.{AreRanked, IsRanking, Room}
+use Rattle.cip_roster.proofs.Calm.{asked_still, run_calm, turn_calm, turns_calm}
 use Rattle.cip_roster.proofs.Keeping.{noted_some, some_at}
+use Rattle.cip_roster.proofs.StillRanked.{ranking_alike, sound_alike}
 use Rattle.cip_events.specs.declared.words.Word.{Word}
 use Rattle.std.proofs.lemmas.Bool.{ne_eqb}
 use Rattle.std.proofs.lemmas.Option.{slice_get-get_or}
@@ -217,42 +217,56 @@ seat_stays a b id steps run is =
     there (slice_get b.seats id) stays.0 stays.1
 
 -- plugins were asked, and what is sound is so behind it
-pub called_sound : (order : List ℕ) (ask : Ask) (a r b : State) (gave : List (ℕ × Answer)) (room most later n : ℕ)
-    → r ≡ a → IsSound a room → Called order ask r b gave → 2 * n + 2 * live_count a.seats ≤ most → most ≤ later + 2 * n
-    → IsSound b later
-called_sound order ask a r b gave room most later n same sound called enough left =
+pub called_sound : (order : List ℕ) (ask : Ask) (a r b : State) (gave : List (ℕ × Answer)) (room most later : Room)
+    (n : ℕ) → r ≡ a → IsSound a room → Called order ask r b gave → 2 * n + 2 * live_count a.seats ≤ most.lines
+    → most.lines ≤ later.lines + 2 * n → later.rankings ≡ room.rankings → IsSound b later
+called_sound order ask a r b gave room most later n same sound called enough left kept =
     let own : IsSound r room = rw same sound in
-    let count : 2 * live_count r.seats ≤ later = rw same (omega arith) in
+    let count : 2 * live_count r.seats ≤ later.lines = rw same (omega arith) in
     sound_alike r b room later (run_calm (all_turns ask called.heard) r b (turns_calm ask called.heard) called.run) own
-    count
+    count kept
+
+-- and a ranking stays right
+pub called_ranked : (kind : Kind) (order : List ℕ) (ask : Ask) (a r b : State) (gave : List (ℕ × Answer))
+    (keys : List Key) → r ≡ a → Called order ask r b gave → IsRanking kind a.seats keys → IsRanking kind b.seats keys
+called_ranked kind order ask a r b gave keys same called ranking =
+    ranking_alike kind r b keys
+    (run_calm (all_turns ask called.heard) r b (turns_calm ask called.heard) called.run)
+    (subst (λ (s : State). IsRanking kind s.seats keys) (sym same) ranking)
 
 -- a sound state with more room
-pub sound_more : (a b : State) (room later : ℕ) → b ≡ a → room ≤ later → IsSound a room → IsSound b later
-sound_more a b room later same more sound =
+pub sound_more : (a b : State) (room later : Room) → b ≡ a → room.lines ≤ later.lines
+    → later.rankings ≡ room.rankings → IsSound a room → IsSound b later
+sound_more a b room later same more kept sound =
     let lasts = sound.lasts in
-    rw same (record { settled = sound.settled; numbers = sound.numbers; lasts = omega arith })
+    rw same (record {
+      settled = sound.settled;
+      numbers = sound.numbers;
+      lasts = omega arith;
+      ranked = subst (AreRanked a.seats) (sym kept) sound.ranked;
+    })
 
 -- all of a kind were called
-pub called_kind : (kind : Kind) (ask : Ask) (a r b : State) (keys : List Key)
-    (had mid has : List (ℕ × Given)) → r ≡ a → mid ≡ had → IsPermutation (keys_from (is_ready kind) 0 a.seats) keys
-    → IsSorted rank_order keys → take (length mid) has ≡ mid → Called (ids_of keys) ask r b (handed mid has)
-    → CalledKind kind ask a b had has
-called_kind kind ask a r b keys had mid has same mine permuted sorted kept called = record {
+pub called_kind : (kind : Kind) (ask : Ask) (a r b c : State) (keys lent : List Key)
+    (had mid has : List (ℕ × Given)) → r ≡ a → c ≡ b → mid ≡ had → lent ≡ keys → IsRanking kind a.seats keys
+    → take (length mid) has ≡ mid → Called (ids_of lent) ask r b (handed mid has) → CalledKind kind ask a c had has
+called_kind kind ask a r b c keys lent had mid has same later mine all ranking kept called = record {
   keys = keys;
-  permutation = permuted;
-  sorted = sorted;
+  permutation = ranking.permutation;
+  sorted = ranking.sorted;
   kept = rw (← mine) kept;
-  called = rw (← same, ← mine) called;
+  called = rw (← same, later, ← mine, ← all) called;
 }
 
 -- one turn, and what is sound is so behind it
-pub turned_sound : (id : ℕ) (ask : Ask) (a r b : State) (given : Option Given) (room most later : ℕ) → r ≡ a
-    → IsSound a room → HadTurn id ask r b given → 2 + 2 * live_count a.seats ≤ most → most ≤ later + 2 → IsSound b later
-turned_sound id ask a r b given room most later same sound had enough left =
+pub turned_sound : (id : ℕ) (ask : Ask) (a r b : State) (given : Option Given) (room most later : Room) → r ≡ a
+    → IsSound a room → HadTurn id ask r b given → 2 + 2 * live_count a.seats ≤ most.lines
+    → most.lines ≤ later.lines + 2 → later.rankings ≡ room.rankings → IsSound b later
+turned_sound id ask a r b given room most later same sound had enough left kept =
     let own : IsSound r room = rw same sound in
-    let count : 2 * live_count r.seats ≤ later = rw same (omega arith) in
+    let count : 2 * live_count r.seats ≤ later.lines = rw same (omega arith) in
     sound_alike r b room later (run_calm (turn_of id ask had.answer) r b (turn_calm id ask had.answer) had.run) own
-    count
+    count kept
 
 -- what was dropped is noted, as there was some
 pub dropped_some : (a b : State) (id past : ℕ) → (past ≡ 0 → ⊥) → Runs a (Notes id (say.Dropped past) ∷ []) b

@@ -15,6 +15,7 @@ use Rattle.cip_seats.specs.Wishing.{Granted, begins, begun_with, ends, fault_of,
 use Rattle.cip_seats.proofs.Counting.{count_set}
 use Rattle.cip_seats.proofs.Running.{Runs-append}
 use Rattle.cip_roster.specs.Closed.{lives_there}
+use Rattle.cip_roster.specs.KeptRankings.{Room}
 use Rattle.cip_roster.specs.Turns.{IsLiveAt, IsSound, StandsAt}
 use Rattle.cip_roster.specs.Wished.{WasGranted}
 use Rattle.cip_roster.proofs.Keeping.{at_place}
@@ -34,7 +35,8 @@ plays_at Left is = cc
 plays_at Gone is = cc
 
 -- a live plugin of a sound state plays
-pub live_plays : (state : State) (id room : ℕ) → IsSound state room → IsLiveAt state id → StandsAt Playing state id
+pub live_plays : (state : State) (id : ℕ) (room : Room) → IsSound state room → IsLiveAt state id
+    → StandsAt Playing state id
 live_plays state id room sound live = record {
   seat = live.seat;
   at = live.at;
@@ -143,7 +145,7 @@ welcomed id a b s c first second is set_up begun =
     (Runs-append (begun_with id (Init first) first) (begun_with id (InitSolve second) second) b s c set_up begun)
 
 -- a live plugin has room for its last lines
-pub live_room : (state : State) (id room : ℕ) → IsSound state room → IsLiveAt state id → 2 ≤ room
+pub live_room : (state : State) (id : ℕ) (room : Room) → IsSound state room → IsLiveAt state id → 2 ≤ room.lines
 live_room state id room sound live =
     let gone : Seat = record live.seat { standing = record { stage = Gone; on = true } } in
     let fewer = count_set is_live state.seats id live.seat gone live.at in

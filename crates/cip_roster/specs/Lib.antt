@@ -1,6 +1,7 @@
 pub mod Begun
 pub mod Closed
 pub mod Kept
+pub mod KeptRankings
 pub mod Moved
 pub mod Nexts
 pub mod Shelves

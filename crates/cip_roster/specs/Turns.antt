@@ -12,13 +12,15 @@ use Rattle.cip_seats.specs.Seats.{Seat, State, is_live, is_on, is_settled, live_
 use Rattle.cip_seats.specs.Steps.{Runs}
 use Rattle.cip_seats.specs.Calling.{Called, is_ready, ids_of, keys_from, turn_of, is_answer}
 use Rattle.cip_seats.specs.Ranks.{rank_order}
+use Rattle.cip_roster.specs.KeptRankings.{AreRanked, Room}
 
--- each plugin may be asked or was closed, numbers are enough for all plugins, and there is room for the two last lines
--- of each live one
-pub record IsSound (state : State) (room : ℕ) : Type 0 where
+-- each plugin may be asked or was closed, numbers are enough for all plugins, there is room for the two last lines of
+-- each live one, and each ranking that is kept is that of the seats as they are
+pub record IsSound (state : State) (room : Room) : Type 0 where
   pub settled : All (λ seat. is_settled seat ≡ true) state.seats
   pub numbers : length state.seats + held_count state.places < 2 ^ 32
-  pub lasts : 2 * live_count state.seats ≤ room
+  pub lasts : 2 * live_count state.seats ≤ room.lines
+  pub ranked : AreRanked state.seats room.rankings
 
 -- a plugin has this seat, and its life has come to this stage
 pub record StandsAt (stage : Stage) (state : State) (id : ℕ) : Type 0 where

@@ -5,6 +5,7 @@ ghost use Rattle.cip_plugin.specs.Asking.{asks, ask_of};
 ghost use Rattle.cip_plugin.specs.declared.kinds.Kind.TheVariants as kinds;
 ghost use Rattle.cip_seats.specs.Calling.{Called, ids_of, is_ready, keys_from};
 ghost use Rattle.cip_seats.specs.Ranks.{rank_order};
+ghost use Rattle.cip_roster.specs.KeptRankings.{IsRanking};
 ghost use Rattle.cip_roster.specs.Turns.{IsSound, CanBeAsked, CalledBoth, CalledKind, handed, ready_key};
 ghost use Rattle.cip_roster.specs.Wished.{Ran};
 
@@ -48,6 +49,42 @@ pub(crate) fn ranking<R: Steps>(
     Ok(keys)
 }
 
+/// The live and enabled plugins of a kind, in the order in which they are called: the ranking that is kept, or one that
+/// is made; it is kept again as it is handed back. The state stays as it was; `Err` comes where a growth was refused.
+pub(crate) fn ranked<R: Steps>(
+    roster: &mut R,
+    alloc: Global,
+    kind: Kind,
+) -> Result<Vec<Key>, AllocError>
+    requires sound { IsSound (R.state roster.old) (R.room roster.old) }
+    ensures sound { IsSound (R.state roster.new) (R.room roster.new) }
+    ensures state { R.state roster.new ≡ R.state roster.old }
+    ensures ranking { IfOk result (λ keys. IsRanking kind (R.state roster.old).seats keys.items) }
+{
+    match roster.take_ranking(kind) {
+        Some(keys) => Ok(keys),
+        None => ranking(roster, alloc, kind),
+    }
+}
+
+/// A copy of the ranking of a kind, which stays as it is while wishes are granted. The state stays as it was; `Err`
+/// comes where a growth was refused.
+pub(crate) fn order_of<R: Steps>(
+    roster: &mut R,
+    alloc: Global,
+    kind: Kind,
+) -> Result<Vec<Key>, AllocError>
+    requires sound { IsSound (R.state roster.old) (R.room roster.old) }
+    ensures sound { IsSound (R.state roster.new) (R.room roster.new) }
+    ensures state { R.state roster.new ≡ R.state roster.old }
+    ensures ranking { IfOk result (λ order. IsRanking kind (R.state roster.old).seats order.items) }
+{
+    let keys = ranked(roster, alloc, kind)?;
+    let order = Vec::from_slice(alloc, keys.as_slice())?;
+    roster.keep_ranking(kind, keys);
+    Ok(order)
+}
+
 /// Asks these plugins, one after the other, and puts what they give behind what is there. `given` has room for all.
 fn call<R: Steps>(
     roster: &mut R,
@@ -58,12 +95,13 @@ fn call<R: Steps>(
     given: &mut Vec<(u32, Given)>,
 )
     requires ready { All (λ key. CanBeAsked (R.state roster.old) (ask_of question) key.id) keys.now }
-    requires lines { 2 * length keys.now ≤ R.room roster.old }
+    requires lines { 2 * length keys.now ≤ (R.room roster.old).lines }
     requires room { vec_len given.old + length keys.now ≤ vec_capacity given.old }
     ensures called { Called (ids_of keys.now) (ask_of question.entry) (R.state roster.old) (R.state roster.new)
         (handed given.old.items given.new.items) }
     ensures kept { take (length given.old.items) given.new.items ≡ given.old.items }
-    ensures room { R.room roster.old ≤ R.room roster.new + 2 * length keys.now }
+    ensures room { (R.room roster.old).lines ≤ (R.room roster.new).lines + 2 * length keys.now }
+    ensures rankings { (R.room roster.new).rankings ≡ (R.room roster.old).rankings }
 {
     for key in keys {
         turn_into(roster, alloc, key.id, question, view, given);
@@ -87,10 +125,11 @@ pub(crate) fn call_kind<R: Steps>(
         (R.state roster.new) given.old.items given.new.items) }
     ensures err { OnErr result (R.state roster.new ≡ R.state roster.old) }
 {
-    let keys = ranking(roster, alloc, kind)?;
+    let keys = ranked(roster, alloc, kind)?;
     given.reserve(keys.len())?;
     roster.reserve_turns(keys.len())?;
     call(roster, alloc, keys.as_slice(), question, view, given);
+    roster.keep_ranking(kind, keys);
     Ok(())
 }
 

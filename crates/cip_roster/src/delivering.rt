@@ -2,17 +2,19 @@
 ghost use Rattle.std.specs.Prelude.{◌≡◌, [], ◌∷◌, OnOk, OnErr, IsSome, slice_get};
 ghost use Rattle.cip_plugin.specs.Asking.{answer_of};
 ghost use Rattle.cip_seats.specs.Delivering.{Delivered, wishes_in};
+ghost use Rattle.cip_plugin.specs.declared.kinds.Kind.TheVariants as kinds;
+ghost use Rattle.cip_roster.specs.KeptRankings.{IsRanking};
 ghost use Rattle.cip_roster.specs.Turns.{IsSound};
 ghost use Rattle.cip_roster.specs.Wished.{IsNoted, Ran, TookQuietly, WasTold, WasToldOne};
 
-use crate::calling::ranking;
+use crate::calling::order_of;
 use crate::rosters::Seated;
 use crate::steps::Steps;
 use crate::turns::turn;
 use crate::wishing::{refused, wish as try_wish};
 use cip_events::{Event, EventQueue};
 use cip_plugin::{Given, Kind, Question, View, Wish};
-use cip_seats::WishFault;
+use cip_seats::{Key, WishFault};
 use std::alloc::{AllocError, Global};
 
 /// The wishes of what was given.
@@ -112,7 +114,29 @@ fn tell_one<R: Steps>(
     }
 }
 
-/// Tells an event to those that want it and are live and enabled at their turn, and grants their wishes.
+/// Tells an event to these handlers, if they want it and are live and enabled at their turn, and grants their wishes.
+fn tell_each<R: Steps>(
+    roster: &mut R,
+    alloc: Global,
+    keys: &[Key],
+    event: Event,
+    queue: &mut EventQueue,
+    view: &View<'_>,
+) -> Result<(), AllocError>
+    requires sound { IsSound (R.state roster.old) (R.room roster.old) }
+    requires ranking { IsRanking kinds.EventHandler (R.state roster.old).seats keys.now }
+    ensures sound { IsSound (R.state roster.new) (R.room roster.new) }
+    ensures told { OnOk result (WasTold view.now.node event (R.state roster.old)
+        (R.state roster.new) queue.old queue.new) }
+    ensures err { OnErr result (Ran (R.state roster.old) (R.state roster.new)) }
+{
+    for key in keys {
+        tell_one(roster, alloc, key.id, event, queue, view)?;
+    }
+    Ok(())
+}
+
+/// Tells an event to all handlers, in the order in which they stand as it is taken.
 fn tell<R: Steps>(
     roster: &mut R,
     alloc: Global,
@@ -126,11 +150,8 @@ fn tell<R: Steps>(
         (R.state roster.new) queue.old queue.new) }
     ensures err { OnErr result (Ran (R.state roster.old) (R.state roster.new)) }
 {
-    let keys = ranking(roster, alloc, Kind::EventHandler)?;
-    for key in &keys {
-        tell_one(roster, alloc, key.id, event, queue, view)?;
-    }
-    Ok(())
+    let order = order_of(roster, alloc, Kind::EventHandler)?;
+    tell_each(roster, alloc, order.as_slice(), event, queue, view)
 }
 
 /// Tells all events that wait, and those that inclusions and frees raise meanwhile. `Err` comes where a growth was

@@ -9,6 +9,7 @@ mod journals;
 mod laws;
 mod moves;
 mod nexts;
+mod rankings;
 mod rosters;
 mod single;
 mod slots;

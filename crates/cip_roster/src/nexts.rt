@@ -1,11 +1,11 @@
 //! Calls of one plugin at a time: the next behind one that was called before.
-ghost use Rattle.std.specs.Prelude.{◌≡◌, ◌<◌, ◌^◌, IfOk, OnErr, length, true};
+ghost use Rattle.std.specs.Prelude.{◌≡◌, IfOk, OnErr, true};
 ghost use Rattle.std.specs.List.{find};
 ghost use Rattle.cip_plugin.specs.Asking.{asks, ask_of};
 ghost use Rattle.cip_roster.specs.Turns.{IsSound};
 ghost use Rattle.cip_roster.specs.Nexts.{CalledNext, IsNext, is_behind, key_at};
 
-use crate::calling::ranking;
+use crate::calling::ranked;
 use crate::rosters::Seated;
 use crate::steps::Steps;
 use crate::turns::turn;
@@ -40,18 +40,22 @@ fn key_at<R: Steps>(roster: &R, after: Option<u32>) -> Option<Key>
     }
 }
 
-/// The next plugin of a kind. `Err` comes where a growth was refused.
+/// The next plugin of a kind; the state stays as it was. `Err` comes where a growth was refused.
 fn next<R: Steps>(
-    roster: &R,
+    roster: &mut R,
     alloc: Global,
     kind: Kind,
     after: Option<u32>,
 ) -> Result<Option<Key>, AllocError>
-    requires { length (R.state roster.now).seats < 2 ^ 32 }
-    ensures { IfOk result (λ found. IsNext kind (R.state roster.now).seats after found) }
+    requires sound { IsSound (R.state roster.old) (R.room roster.old) }
+    ensures sound { IsSound (R.state roster.new) (R.room roster.new) }
+    ensures state { R.state roster.new ≡ R.state roster.old }
+    ensures next { IfOk result (λ found. IsNext kind (R.state roster.old).seats after found) }
 {
-    let keys = ranking(roster, alloc, kind)?;
-    Ok(first_behind(keys.as_slice(), key_at(roster, after)))
+    let keys = ranked(roster, alloc, kind)?;
+    let found = first_behind(keys.as_slice(), key_at(roster, after));
+    roster.keep_ranking(kind, keys);
+    Ok(found)
 }
 
 /// Asks the next plugin of a kind. `Err` comes where a growth was refused, and then nobody was called.

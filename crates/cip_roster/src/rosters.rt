@@ -1,9 +1,11 @@
 //! The roster and what is seen of it.
-ghost use Rattle.std.specs.Prelude.{◌≡◌, ℕ, ◌-◌, map, vec_len, vec_capacity};
+ghost use Rattle.std.specs.Prelude.{◌≡◌, ◌-◌, map, vec_len, vec_capacity};
 ghost use Rattle.cip_seats.specs.Seats.{State};
+ghost use Rattle.cip_roster.specs.KeptRankings.{Room};
 ghost use Rattle.cip_roster.specs.Shelves.{shown};
 
 use crate::journals::Journal;
+use crate::rankings::Rankings;
 use crate::slots::Slot;
 use cip_events::{Name, TraceLine};
 use cip_plugin::{
@@ -12,13 +14,15 @@ use cip_plugin::{
 use std::marker::PhantomData;
 
 /// The plugins of a search: those that were included, by their numbers, and those on the shelf by their places, of
-/// which `None` is left once a plugin was included; with the names of those that were included, and the trace.
+/// which `None` is left once a plugin was included; with the names of those that were included, the trace, and the
+/// order in which the plugins of each kind are called, once it was made.
 #[derive(Drop)]
 pub struct Roster {
     pub(crate) slots: Vec<Slot>,
     pub(crate) shelf: Vec<Option<AnyPlugin>>,
     pub(crate) names: Vec<Name>,
     pub(crate) journal: Journal,
+    pub(crate) rankings: Rankings,
     pub(crate) boxes: PhantomData<
         (
             Box<dyn Separator>,
@@ -32,11 +36,11 @@ pub struct Roster {
     >,
 }
 
-/// What is known of a roster: its state, and for how many lines it has room.
+/// What is known of a roster: its state, and what it has ready: room for lines, and rankings of its plugins.
 pub trait Seated {
     ghost state: { Self → State };
 
-    ghost room: { Self → ℕ };
+    ghost room: { Self → Room };
 
     /// The lines of the trace that are kept.
     fn trace(&self) -> &[TraceLine]
@@ -134,7 +138,10 @@ impl Seated for Roster {
       kept = r.journal.kept;
     } };
 
-    ghost room = { λ r. vec_capacity r.journal.lines - vec_len r.journal.lines };
+    ghost room = { λ r. record {
+      lines = vec_capacity r.journal.lines - vec_len r.journal.lines;
+      rankings = r.rankings;
+    } };
 
     fn trace(&self) -> &[TraceLine] {
         self.journal.lines.as_slice()

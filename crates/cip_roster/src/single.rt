@@ -6,6 +6,7 @@ ghost use Rattle.cip_seats.specs.Lives.{word_of_ask};
 ghost use Rattle.cip_seats.specs.Seats.{Seat};
 ghost use Rattle.cip_seats.specs.Steps.{IsSeated, switch_word};
 
+use crate::rankings::Rankings;
 use crate::rosters::{Roster, Seated};
 use crate::slots::{Sits, Slot};
 use crate::steps::{Seats, Steps};
@@ -147,6 +148,7 @@ impl Steps for Roster {
     }
 
     fn exit_solve(&mut self, id: u32) {
+        self.rankings = Rankings::none();
         self.slots[id as usize].exit_solve();
         self.note(id, Word::ExitSolve);
     }
@@ -170,19 +172,30 @@ impl Steps for Roster {
     }
 
     fn switch(&mut self, id: u32, on: bool) {
+        self.rankings = Rankings::none();
         self.slots[id as usize].turn(on);
         self.note(id, word_of_switch(on));
     }
 
     fn set_priority(&mut self, id: u32, priority: i32) {
+        self.rankings = Rankings::none();
         self.slots[id as usize].priority = priority;
     }
 
     fn come(&mut self, place: u32) {
+        self.rankings = Rankings::none();
         match mem::replace(&mut self.shelf[place as usize], None) {
             None => unreachable!(),
             Some(plugin) => self.take_seat(plugin),
         }
+    }
+
+    fn take_ranking(&mut self, kind: Kind) -> Option<Vec<Key>> {
+        self.rankings.take(kind)
+    }
+
+    fn keep_ranking(&mut self, kind: Kind, keys: Vec<Key>) {
+        self.rankings.keep(kind, keys);
     }
 }
 

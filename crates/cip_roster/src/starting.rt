@@ -4,11 +4,13 @@ ghost use Rattle.cip_events.specs.Names.{shown_name};
 ghost use Rattle.cip_plugin.specs.Who.{Who};
 ghost use Rattle.cip_seats.specs.Seats.{held_count};
 ghost use Rattle.cip_seats.specs.Steps.{Runs};
+ghost use Rattle.cip_roster.specs.KeptRankings.{no_rankings};
 ghost use Rattle.cip_roster.specs.Turns.{IsSound};
 ghost use Rattle.cip_roster.specs.Begun.{AreSeated, IsBegun, IsFresh, IsPlaying, all_begin};
 
 use crate::journals::Journal;
 use crate::moves::shelve;
+use crate::rankings::Rankings;
 use crate::rosters::{Roster, Seated};
 use crate::steps::{Seats, Steps};
 use crate::turns::{begin, set_up};
@@ -20,13 +22,14 @@ use std::marker::PhantomData;
 fn begin_all<R: Steps>(roster: &mut R, alloc: Global, view: &View<'_>)
     requires fresh { All IsFresh (R.state roster.old).seats }
     requires numbers { length (R.state roster.old).seats < 2 ^ 32 }
-    requires room { 6 * length (R.state roster.old).seats ≤ R.room roster.old }
+    requires room { 6 * length (R.state roster.old).seats ≤ (R.room roster.old).lines }
     ensures run { (answered : List (Bool × Bool)) × Runs (R.state roster.old)
         (all_begin 0 answered) (R.state roster.new) }
     ensures playing { All IsPlaying (R.state roster.new).seats }
     ensures seats { length (R.state roster.new).seats ≡ length (R.state roster.old).seats }
     ensures places { (R.state roster.new).places ≡ (R.state roster.old).places }
-    ensures room { 2 * length (R.state roster.old).seats ≤ R.room roster.new }
+    ensures room { 2 * length (R.state roster.old).seats ≤ (R.room roster.new).lines }
+    ensures rankings { (R.room roster.new).rankings ≡ (R.room roster.old).rankings }
 {
     for id in 0..roster.count() {
         set_up(roster, alloc, id as u32);
@@ -64,7 +67,8 @@ fn admit<P: Tells + Drop, R: Seats<P>>(
     requires unnamed { (R.state roster.old).names ≡ [] }
     requires unwritten { (R.state roster.old).lines ≡ [] }
     requires numbers { length plugins.old.items + held_count (R.state roster.old).places < 2 ^ 32 }
-    requires room { 6 * length plugins.old.items ≤ R.room roster.old }
+    requires room { 6 * length plugins.old.items ≤ (R.room roster.old).lines }
+    requires unranked { (R.room roster.old).rankings ≡ no_rankings }
     ensures begun { (shelf : List Who) → (R.state roster.old).places ≡ map (λ who. Some who) shelf
         → IsBegun (map P.who plugins.old.items) shelf (R.state roster.old).kept (R.state roster.new) }
     ensures sound { IsSound (R.state roster.new) (R.room roster.new) }
@@ -88,7 +92,8 @@ impl Roster {
         ensures spare { IfOk result (λ roster. start ≤ ⟦<Roster as Seats<AnyPlugin>>⟧.spare roster) }
         ensures shelf { IfOk result (λ roster. vec_len roster.shelf + shelf ≤ vec_capacity roster.shelf) }
         ensures bare { IfOk result (λ roster. roster.shelf.items ≡ []) }
-        ensures room { IfOk result (λ roster. 6 * start ≤ ⟦<Roster as Seated>⟧.room roster) }
+        ensures room { IfOk result (λ roster. 6 * start ≤ (⟦<Roster as Seated>⟧.room roster).lines) }
+        ensures unranked { IfOk result (λ roster. (⟦<Roster as Seated>⟧.room roster).rankings ≡ no_rankings) }
     {
         let mut journal = Journal::new(alloc, kept);
         journal.reserve(6 * start)?;
@@ -97,6 +102,7 @@ impl Roster {
             shelf: Vec::with_capacity(alloc, shelf)?,
             names: Vec::with_capacity(alloc, start)?,
             journal,
+            rankings: Rankings::none(),
             boxes: PhantomData,
         })
     }

@@ -11,6 +11,7 @@ ghost use Rattle.cip_seats.specs.Steps.{IsSeated, Runs, Calls, Turns, Ranks, Tak
 ghost use Rattle.cip_seats.specs.Delivering.{hears_there};
 ghost use Rattle.cip_seats.specs.Wishing.{is_enabled, place_fault};
 ghost use Rattle.cip_seats.specs.declared.stages.Stage.TheVariants as stages;
+ghost use Rattle.cip_roster.specs.KeptRankings.{no_rankings, ranking_of, with_ranking, without_ranking};
 ghost use Rattle.cip_roster.specs.Nexts.{key_of};
 ghost use Rattle.cip_roster.specs.Turns.{CanBeAsked, StandsAt};
 
@@ -57,59 +58,67 @@ pub(crate) trait Steps: Seated {
     /// was refused. Neither changes the state.
     fn reserve_turns(&mut self, turns: usize) -> Result<(), AllocError>
         ensures state { Self.state self.new ≡ Self.state self.old }
-        ensures room { OnOk result (2 * turns + 2 * live_count (Self.state self.old).seats ≤ Self.room self.new) }
-        ensures grows { Self.room self.old ≤ Self.room self.new };
+        ensures room { OnOk result (2 * turns + 2 * live_count (Self.state self.old).seats
+            ≤ (Self.room self.new).lines) }
+        ensures grows { (Self.room self.old).lines ≤ (Self.room self.new).lines }
+        ensures rankings { (Self.room self.new).rankings ≡ (Self.room self.old).rankings };
 
     /// Makes room for one more plugin: its seat, its name and its lines. `Err` comes where a growth was refused.
     /// Neither changes the state.
     fn reserve_seat(&mut self) -> Result<(), AllocError>
         ensures state { Self.state self.new ≡ Self.state self.old }
         ensures seat { OnOk result (Self.has_seat self.new) }
-        ensures room { OnOk result (6 + 2 * live_count (Self.state self.old).seats ≤ Self.room self.new) }
-        ensures grows { Self.room self.old ≤ Self.room self.new };
+        ensures room { OnOk result (6 + 2 * live_count (Self.state self.old).seats ≤ (Self.room self.new).lines) }
+        ensures grows { (Self.room self.old).lines ≤ (Self.room self.new).lines }
+        ensures rankings { (Self.room self.new).rankings ≡ (Self.room self.old).rankings };
 
     /// Writes a line, for which there is room, where lines are kept.
     fn note(&mut self, id: u32, word: Word)
-        requires { 1 ≤ Self.room self.old }
+        requires { 1 ≤ (Self.room self.old).lines }
         ensures seats { (Self.state self.new).seats ≡ (Self.state self.old).seats }
         ensures places { (Self.state self.new).places ≡ (Self.state self.old).places }
         ensures names { (Self.state self.new).names ≡ (Self.state self.old).names }
         ensures kept { (Self.state self.new).kept ≡ (Self.state self.old).kept }
         ensures lines { (Self.state self.new).lines ≡ (if (Self.state self.old).kept
             then (Self.state self.old).lines ++ line id word ∷ [] else (Self.state self.old).lines) }
-        ensures room { Self.room self.old ≤ Self.room self.new + 1 };
+        ensures room { (Self.room self.old).lines ≤ (Self.room self.new).lines + 1 }
+        ensures rankings { (Self.room self.new).rankings ≡ (Self.room self.old).rankings };
 
     /// A plugin at a seat is set up; whether it had its memory.
     fn init(&mut self, alloc: Global, id: u32) -> bool
         requires at { StandsAt stages.Fresh (Self.state self.old) id }
-        requires room { 1 ≤ Self.room self.old }
+        requires room { 1 ≤ (Self.room self.old).lines }
         ensures run { Runs (Self.state self.old) (Calls id (Init result) ∷ []) (Self.state self.new) }
         ensures at { StandsAt stages.Begun (Self.state self.new) id }
-        ensures room { Self.room self.old ≤ Self.room self.new + 1 };
+        ensures room { (Self.room self.old).lines ≤ (Self.room self.new).lines + 1 }
+        ensures rankings { (Self.room self.new).rankings ≡ (Self.room self.old).rankings };
 
     /// It hears that the search is on; whether it had its memory.
     fn init_solve(&mut self, alloc: Global, id: u32, view: &View<'_>) -> bool
         requires at { StandsAt stages.Begun (Self.state self.old) id }
-        requires room { 1 ≤ Self.room self.old }
+        requires room { 1 ≤ (Self.room self.old).lines }
         ensures run { Runs (Self.state self.old) (Calls id (InitSolve result) ∷ []) (Self.state self.new) }
         ensures at { StandsAt stages.Playing (Self.state self.new) id }
-        ensures room { Self.room self.old ≤ Self.room self.new + 1 };
+        ensures room { (Self.room self.old).lines ≤ (Self.room self.new).lines + 1 }
+        ensures rankings { (Self.room self.new).rankings ≡ (Self.room self.old).rankings };
 
-    /// It hears that the search ends.
+    /// It hears that the search ends. No ranking is kept behind it.
     fn exit_solve(&mut self, id: u32)
         requires at { StandsAt stages.Playing (Self.state self.old) id }
-        requires room { 1 ≤ Self.room self.old }
+        requires room { 1 ≤ (Self.room self.old).lines }
         ensures run { Runs (Self.state self.old) (Calls id ExitSolve ∷ []) (Self.state self.new) }
         ensures at { StandsAt stages.Left (Self.state self.new) id }
-        ensures room { Self.room self.old ≤ Self.room self.new + 1 };
+        ensures room { (Self.room self.old).lines ≤ (Self.room self.new).lines + 1 }
+        ensures rankings { (Self.room self.new).rankings ≡ no_rankings };
 
     /// It is closed.
     fn exit(&mut self, id: u32)
         requires at { StandsAt stages.Left (Self.state self.old) id }
-        requires room { 1 ≤ Self.room self.old }
+        requires room { 1 ≤ (Self.room self.old).lines }
         ensures run { Runs (Self.state self.old) (Calls id Exit ∷ []) (Self.state self.new) }
         ensures at { StandsAt stages.Gone (Self.state self.new) id }
-        ensures room { Self.room self.old ≤ Self.room self.new + 1 };
+        ensures room { (Self.room self.old).lines ≤ (Self.room self.new).lines + 1 }
+        ensures rankings { (Self.room self.new).rankings ≡ (Self.room self.old).rankings };
 
     /// It is asked. `Err`: it wanted memory that was refused.
     fn ask(
@@ -120,34 +129,52 @@ pub(crate) trait Steps: Seated {
         view: &View<'_>,
     ) -> Result<Given, AllocError>
         requires ready { CanBeAsked (Self.state self.old) (ask_of question) id }
-        requires room { 1 ≤ Self.room self.old }
+        requires room { 1 ≤ (Self.room self.old).lines }
         ensures run { Runs (Self.state self.old)
             (Calls id (Asked (ask_of question.entry) (answer result answer_of)) ∷ []) (Self.state self.new) }
-        ensures room { Self.room self.old ≤ Self.room self.new + 1 };
+        ensures room { (Self.room self.old).lines ≤ (Self.room self.new).lines + 1 }
+        ensures rankings { (Self.room self.new).rankings ≡ (Self.room self.old).rankings };
 
-    /// A plugin is disabled while it is enabled, or enabled while it isn't, and its line is written.
+    /// A plugin is disabled while it is enabled, or enabled while it isn't, and its line is written. No ranking is kept
+    /// behind it.
     fn switch(&mut self, id: u32, on: bool)
         requires at { StandsAt stages.Playing (Self.state self.old) id }
         requires other { is_enabled (slice_get (Self.state self.old).seats id) ≡ (if on then false else true) }
-        requires room { 1 ≤ Self.room self.old }
+        requires room { 1 ≤ (Self.room self.old).lines }
         ensures run { Runs (Self.state self.old) (Turns id on ∷ []) (Self.state self.new) }
         ensures at { StandsAt stages.Playing (Self.state self.new) id }
-        ensures room { Self.room self.old ≤ Self.room self.new + 1 };
+        ensures room { (Self.room self.old).lines ≤ (Self.room self.new).lines + 1 }
+        ensures rankings { (Self.room self.new).rankings ≡ no_rankings };
 
-    /// A plugin gets a priority.
+    /// A plugin gets a priority. No ranking is kept behind it.
     fn set_priority(&mut self, id: u32, priority: i32)
         requires at { StandsAt stages.Playing (Self.state self.old) id }
         ensures run { Runs (Self.state self.old) (Ranks id priority ∷ []) (Self.state self.new) }
         ensures at { StandsAt stages.Playing (Self.state self.new) id }
-        ensures room { Self.room self.new ≡ Self.room self.old };
+        ensures room { (Self.room self.new).lines ≡ (Self.room self.old).lines }
+        ensures rankings { (Self.room self.new).rankings ≡ no_rankings };
 
-    /// The plugin of a place of the shelf gets the next seat, uncalled.
+    /// The plugin of a place of the shelf gets the next seat, uncalled. No ranking is kept behind it.
     fn come(&mut self, place: u32)
         requires held { place_fault (slice_get (Self.state self.old).places place) ≡ None }
         requires seat { Self.has_seat self.old }
         ensures run { Runs (Self.state self.old) (Takes place ∷ []) (Self.state self.new) }
         ensures at { StandsAt stages.Fresh (Self.state self.new) (length (Self.state self.old).seats) }
-        ensures room { Self.room self.new ≡ Self.room self.old };
+        ensures room { (Self.room self.new).lines ≡ (Self.room self.old).lines }
+        ensures rankings { (Self.room self.new).rankings ≡ no_rankings };
+
+    /// Takes out the ranking of a kind, if it is kept; the state stays as it was.
+    fn take_ranking(&mut self, kind: Kind) -> Option<Vec<Key>>
+        ensures taken { result ≡ ranking_of kind (Self.room self.old).rankings }
+        ensures state { Self.state self.new ≡ Self.state self.old }
+        ensures lines { (Self.room self.new).lines ≡ (Self.room self.old).lines }
+        ensures left { (Self.room self.new).rankings ≡ without_ranking kind (Self.room self.old).rankings };
+
+    /// Keeps the ranking of a kind; the state stays as it was.
+    fn keep_ranking(&mut self, kind: Kind, keys: Vec<Key>)
+        ensures state { Self.state self.new ≡ Self.state self.old }
+        ensures lines { (Self.room self.new).lines ≡ (Self.room self.old).lines }
+        ensures more { (Self.room self.new).rankings ≡ with_ranking kind keys (Self.room self.old).rankings };
 }
 
 /// What gives plugins of a type seats, uncalled.

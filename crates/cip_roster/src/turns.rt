@@ -8,6 +8,7 @@ ghost use Rattle.cip_seats.specs.Calling.{dropped};
 ghost use Rattle.cip_seats.specs.Steps.{Runs, Notes};
 ghost use Rattle.cip_seats.specs.Wishing.{begun_with, ends};
 ghost use Rattle.cip_seats.specs.declared.stages.Stage.TheVariants as stages;
+ghost use Rattle.cip_roster.specs.KeptRankings.{no_rankings};
 ghost use Rattle.cip_roster.specs.Turns.{CanBeAsked, HadTurn, StandsAt, entries};
 
 use crate::rosters::Seated;
@@ -19,9 +20,10 @@ use std::alloc::Global;
 /// That a plugin wanted memory is written.
 fn note_memory<R: Steps>(roster: &mut R, id: u32)
     requires seat { IsSome (slice_get (R.state roster.old).seats id) }
-    requires room { 1 ≤ R.room roster.old }
+    requires room { 1 ≤ (R.room roster.old).lines }
     ensures run { Runs (R.state roster.old) (Notes id say.NoMemory ∷ []) (R.state roster.new) }
-    ensures room { R.room roster.old ≤ R.room roster.new + 1 }
+    ensures room { (R.room roster.old).lines ≤ (R.room roster.new).lines + 1 }
+    ensures rankings { (R.room roster.new).rankings ≡ (R.room roster.old).rankings }
     ensures seats { (R.state roster.new).seats ≡ (R.state roster.old).seats }
 {
     roster.note(id, Word::NoMemory);
@@ -30,9 +32,10 @@ fn note_memory<R: Steps>(roster: &mut R, id: u32)
 /// How many proposals were dropped is written, if any were.
 fn note_dropped<R: Steps>(roster: &mut R, id: u32, past: usize)
     requires seat { IsSome (slice_get (R.state roster.old).seats id) }
-    requires room { 1 ≤ R.room roster.old }
+    requires room { 1 ≤ (R.room roster.old).lines }
     ensures run { Runs (R.state roster.old) (dropped id past) (R.state roster.new) }
-    ensures room { R.room roster.old ≤ R.room roster.new + 1 }
+    ensures room { (R.room roster.old).lines ≤ (R.room roster.new).lines + 1 }
+    ensures rankings { (R.room roster.new).rankings ≡ (R.room roster.old).rankings }
 {
     if past == 0 {
         return;
@@ -43,11 +46,12 @@ fn note_dropped<R: Steps>(roster: &mut R, id: u32, past: usize)
 /// A plugin at a seat is set up, and want of memory is written.
 pub(crate) fn set_up<R: Steps>(roster: &mut R, alloc: Global, id: u32)
     requires at { StandsAt stages.Fresh (R.state roster.old) id }
-    requires room { 2 ≤ R.room roster.old }
+    requires room { 2 ≤ (R.room roster.old).lines }
     ensures run { (answered : Bool) × Runs (R.state roster.old) (begun_with id (Init answered) answered)
         (R.state roster.new) }
     ensures at { StandsAt stages.Begun (R.state roster.new) id }
-    ensures room { R.room roster.old ≤ R.room roster.new + 2 }
+    ensures room { (R.room roster.old).lines ≤ (R.room roster.new).lines + 2 }
+    ensures rankings { (R.room roster.new).rankings ≡ (R.room roster.old).rankings }
 {
     if roster.init(alloc, id) {
         return;
@@ -58,11 +62,12 @@ pub(crate) fn set_up<R: Steps>(roster: &mut R, alloc: Global, id: u32)
 /// It hears that the search is on, and want of memory is written.
 pub(crate) fn begin<R: Steps>(roster: &mut R, alloc: Global, id: u32, view: &View<'_>)
     requires at { StandsAt stages.Begun (R.state roster.old) id }
-    requires room { 2 ≤ R.room roster.old }
+    requires room { 2 ≤ (R.room roster.old).lines }
     ensures run { (answered : Bool) × Runs (R.state roster.old) (begun_with id (InitSolve answered) answered)
         (R.state roster.new) }
     ensures at { StandsAt stages.Playing (R.state roster.new) id }
-    ensures room { R.room roster.old ≤ R.room roster.new + 2 }
+    ensures room { (R.room roster.old).lines ≤ (R.room roster.new).lines + 2 }
+    ensures rankings { (R.room roster.new).rankings ≡ (R.room roster.old).rankings }
 {
     if roster.init_solve(alloc, id, view) {
         return;
@@ -70,13 +75,14 @@ pub(crate) fn begin<R: Steps>(roster: &mut R, alloc: Global, id: u32, view: &Vie
     note_memory(roster, id);
 }
 
-/// It hears that the search ends, and is closed.
+/// It hears that the search ends, and is closed. No ranking is kept behind it.
 pub(crate) fn end<R: Steps>(roster: &mut R, id: u32)
     requires at { StandsAt stages.Playing (R.state roster.old) id }
-    requires room { 2 ≤ R.room roster.old }
+    requires room { 2 ≤ (R.room roster.old).lines }
     ensures run { Runs (R.state roster.old) (ends id) (R.state roster.new) }
     ensures at { StandsAt stages.Gone (R.state roster.new) id }
-    ensures room { R.room roster.old ≤ R.room roster.new + 2 }
+    ensures room { (R.room roster.old).lines ≤ (R.room roster.new).lines + 2 }
+    ensures rankings { (R.room roster.new).rankings ≡ no_rankings }
 {
     roster.exit_solve(id);
     roster.exit(id);
@@ -92,9 +98,10 @@ pub(crate) fn turn<R: Steps>(
     view: &View<'_>,
 ) -> Option<Given>
     requires ready { CanBeAsked (R.state roster.old) (ask_of question) id }
-    requires room { 2 ≤ R.room roster.old }
+    requires room { 2 ≤ (R.room roster.old).lines }
     ensures turn { HadTurn id (ask_of question.entry) (R.state roster.old) (R.state roster.new) result }
-    ensures room { R.room roster.old ≤ R.room roster.new + 2 }
+    ensures room { (R.room roster.old).lines ≤ (R.room roster.new).lines + 2 }
+    ensures rankings { (R.room roster.new).rankings ≡ (R.room roster.old).rankings }
 {
     match roster.ask(alloc, id, question, view) {
         Ok(mut given) => {
@@ -119,12 +126,13 @@ pub(crate) fn turn_into<R: Steps>(
     given: &mut Vec<(u32, Given)>,
 )
     requires ready { CanBeAsked (R.state roster.old) (ask_of question) id }
-    requires lines { 2 ≤ R.room roster.old }
+    requires lines { 2 ≤ (R.room roster.old).lines }
     requires room { vec_len given.old < vec_capacity given.old }
     ensures turn { (brought : Option Brought)
         × HadTurn id (ask_of question.entry) (R.state roster.old) (R.state roster.new) brought
         × (given.new.items ≡ given.old.items ++ entries id brought) }
-    ensures lines { R.room roster.old ≤ R.room roster.new + 2 }
+    ensures lines { (R.room roster.old).lines ≤ (R.room roster.new).lines + 2 }
+    ensures rankings { (R.room roster.new).rankings ≡ (R.room roster.old).rankings }
     ensures length { vec_len given.new ≤ vec_len given.old + 1 }
     ensures capacity { vec_capacity given.new ≡ vec_capacity given.old }
 {

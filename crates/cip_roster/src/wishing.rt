@@ -32,9 +32,10 @@ fn live<R: Steps>(roster: &R, id: u32) -> Result<(), WishFault>
 /// Makes room for a line of a live plugin; else why not. Neither changes the state.
 fn ready<R: Steps>(roster: &mut R, id: u32) -> Result<(), WishFault>
     ensures state { R.state roster.new ≡ R.state roster.old }
-    ensures grows { R.room roster.old ≤ R.room roster.new }
+    ensures grows { (R.room roster.old).lines ≤ (R.room roster.new).lines }
     ensures room { OnOk result (2 + 2 * live_count (R.state roster.old).seats
-        ≤ R.room roster.new) }
+        ≤ (R.room roster.new).lines) }
+    ensures rankings { (R.room roster.new).rankings ≡ (R.room roster.old).rankings }
     ensures came { MatchResult result (λ _. IsLiveAt (R.state roster.old) id)
         (λ fault. (fault ≡ faults.NoMemory)
         ⊎ (seat_fault (slice_get (R.state roster.old).seats id) ≡ Some fault)) }
@@ -50,7 +51,7 @@ fn welcome<R: Steps>(roster: &mut R, alloc: Global, place: u32, view: &View<'_>)
     requires held { place_fault (slice_get (R.state roster.old).places place) ≡ None }
     requires seat { R.has_seat roster.old }
     requires room { 6 + 2 * live_count (R.state roster.old).seats
-        ≤ R.room roster.old }
+        ≤ (R.room roster.old).lines }
     ensures sound { IsSound (R.state roster.new) (R.room roster.new) }
     ensures granted { Granted (Include place) (R.state roster.old)
         (R.state roster.new) }

@@ -1,12 +1,10 @@
 //! Calls of plugins, and what is kept of them.
-ghost use Rattle.std.specs.Prelude.{◌+◌, ◌<◌, ◌^◌, length};
 ghost use Rattle.cip_roster.specs.Turns.{IsSound};
 
-use crate::fakes::{Finder, Lent, add_finder, empty_kit, says};
-use cip_plugin::{AnyPlugin, Given, Kit, View};
+use crate::fakes::{Fake, QUIET, says};
+use cip_plugin::{Given, View};
 use cip_roster::{Roster, Seated};
 use std::alloc::{AllocError, Global};
-use std::test::Fail;
 
 /// Whether no call of all plugins of a kind gives anything.
 fn lists_are_empty(roster: &mut Roster, alloc: Global, view: &View<'_>) -> Result<bool, AllocError>
@@ -35,27 +33,37 @@ fn enforcers_end(roster: &mut Roster, alloc: Global, view: &View<'_>) -> Result<
     Ok(roster.call_enforcers(alloc, view, None)?.is_none() && roster.trace().is_empty())
 }
 
-/// Whether a roster of a kit without plugins gives nothing.
-fn gives_nothing(kit: &mut Kit, alloc: Global, view: &View<'_>) -> Result<bool, AllocError>
-    requires { length kit.old.start.items + length kit.old.shelf.items < 2 ^ 32 }
+/// Whether a roster without plugins gives nothing.
+pub fn gives_nothing(
+    roster: &mut Roster,
+    alloc: Global,
+    view: &View<'_>,
+) -> Result<bool, AllocError>
+    requires { IsSound (⟦<Roster as Seated>⟧.state roster.old) (⟦<Roster as Seated>⟧.room roster.old) }
 {
-    let mut roster = Roster::start(alloc, kit, true, view)?;
-    let lists = lists_are_empty(&mut roster, alloc, view)?;
-    let rules = rules_end(&mut roster, alloc, view)?;
-    let enforcers = enforcers_end(&mut roster, alloc, view)?;
+    let lists = lists_are_empty(roster, alloc, view)?;
+    let rules = rules_end(roster, alloc, view)?;
+    let enforcers = enforcers_end(roster, alloc, view)?;
     Ok(lists && rules && enforcers)
 }
 
-#[test]
-fn an_empty_start_gives_nothing(rt: HostRuntime) -> Result<(), Fail> {
-    let lent = Lent::new(rt.alloc())?;
-    let mut kit = empty_kit(rt.alloc());
-    assert!(rt; gives_nothing(&mut kit, rt.alloc(), &lent.view())?);
-    Ok(())
-}
-
-/// A heuristic's priority, how many points it brings, and whether it wants memory at each call.
-const FINDERS: [(i32, usize, bool); 3] = [(0, 65, false), (5, 1, false), (9, 0, true)];
+/// Heuristics of three priorities: one brings 65 points, one brings one, and one wants memory at each call.
+pub const FINDERS: [Fake; 3] = [
+    Fake {
+        points: 65,
+        ..QUIET
+    },
+    Fake {
+        priority: 5,
+        points: 1,
+        ..QUIET
+    },
+    Fake {
+        priority: 9,
+        wants_memory: true,
+        ..QUIET
+    },
+];
 
 /// What is written as they are called: by falling priority, those that answer with their first 64 points.
 const LINES: [(u32, &'static str); 13] = [
@@ -92,34 +100,10 @@ fn counts_are(given: &[(u32, Given)], wanted: &[(u32, usize)]) -> bool {
     true
 }
 
-/// Puts the heuristics of the table behind plugins.
-fn fill(plugins: &mut Vec<AnyPlugin>, alloc: Global) -> Result<(), AllocError> {
-    for (priority, points, wants_memory) in FINDERS {
-        let finder = Finder {
-            priority,
-            points,
-            wants_memory,
-        };
-        add_finder(plugins, alloc, finder)?;
-    }
-    Ok(())
-}
-
 /// Whether the heuristics are called as is said in the tables.
-fn are_ranked(kit: &mut Kit, alloc: Global, view: &View<'_>) -> Result<bool, AllocError>
-    requires { length kit.old.start.items + length kit.old.shelf.items < 2 ^ 32 }
+pub fn are_ranked(roster: &mut Roster, alloc: Global, view: &View<'_>) -> Result<bool, AllocError>
+    requires { IsSound (⟦<Roster as Seated>⟧.state roster.old) (⟦<Roster as Seated>⟧.room roster.old) }
 {
-    let mut roster = Roster::start(alloc, kit, true, view)?;
     let given = roster.call_heuristics(alloc, view)?;
     Ok(counts_are(&given, &[(1, 1), (0, 64)]) && says(roster.trace(), &LINES))
-}
-
-#[test]
-fn who_has_a_higher_priority_is_called_first(rt: HostRuntime) -> Result<(), Fail> {
-    let lent = Lent::new(rt.alloc())?;
-    let mut kit = empty_kit(rt.alloc());
-    fill(&mut kit.start, rt.alloc())?;
-    assert!(rt; kit.start.len() == 3 && kit.shelf.is_empty());
-    assert!(rt; are_ranked(&mut kit, rt.alloc(), &lent.view())?);
-    Ok(())
 }

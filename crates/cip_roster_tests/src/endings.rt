@@ -1,16 +1,14 @@
 //! How a roster ends, and what it leaves.
-ghost use Rattle.std.specs.Prelude.{◌+◌, ◌<◌, ◌≤◌, ◌^◌, All, IsSome, OnOk, length, slice_get, vec_len, vec_capacity};
+ghost use Rattle.std.specs.Prelude.{◌+◌, ◌≤◌, All, IsSome, OnOk, length, slice_get, vec_len, vec_capacity};
 ghost use Rattle.cip_seats.specs.Seats.{held_count};
 ghost use Rattle.cip_roster.specs.Turns.{IsSound};
 ghost use Rattle.cip_roster.specs.Wished.{Ran};
 
-use crate::fakes::{Finder, Lent, add_finder, empty_kit, says};
-use crate::tellers::Teller;
+use crate::fakes::says;
 use cip_events::{EventQueue, Trace};
-use cip_plugin::{AnyPlugin, Given, Kit, View, Wish};
+use cip_plugin::{Given, Kit, View, Wish};
 use cip_roster::{Roster, Seated};
 use std::alloc::{AllocError, Global};
-use std::test::Fail;
 
 /// What is written where 0 tells and 1 doesn't, one more is included from the shelf and 1 is freed, the others are
 /// called, what they give is refused, and all are closed.
@@ -37,7 +35,7 @@ const LINES: [(u32, &'static str); 16] = [
 const SPENT: [Option<u32>; 4] = [Some(0), Some(1), Some(2), None];
 
 /// The names of those that had numbers.
-const NAMES: [&'static str; 3] = ["teller", "finder", "finder"];
+const NAMES: [&'static str; 3] = ["teller", "fake", "fake"];
 
 /// Whether plugins are spent with the numbers of the table.
 fn are_spent(kit: &Kit) -> bool {
@@ -93,7 +91,7 @@ fn refuse(roster: &mut Roster, given: &[(u32, Given)]) -> Result<(), AllocError>
 }
 
 /// Whether a roster of two plugins and two on the shelf leaves what is said in the tables.
-fn ends_well(
+pub fn ends_well(
     roster: &mut Roster,
     kit: &mut Kit,
     alloc: Global,
@@ -110,30 +108,4 @@ fn ends_well(
     let trace = roster.take_trace(alloc);
     let none = roster.trace().is_empty();
     Ok(granted && none && are_spent(kit) && are_named(&trace) && says(&trace.lines, &LINES))
-}
-
-/// Puts one that tells and one that doesn't into a kit, and two on its shelf.
-fn fill(kit: &mut Kit, alloc: Global) -> Result<(), AllocError> {
-    kit.start.push(AnyPlugin::Heuristic(Box::new(alloc, Teller::new(alloc)?)?))?;
-    add_finder(&mut kit.start, alloc, Finder::quiet())?;
-    add_finder(&mut kit.shelf, alloc, Finder::quiet())?;
-    add_finder(&mut kit.shelf, alloc, Finder::quiet())
-}
-
-/// Whether a roster of these leaves what is said in the tables.
-fn is_closed(kit: &mut Kit, alloc: Global, view: &View<'_>) -> Result<bool, AllocError>
-    requires { length kit.old.start.items + length kit.old.shelf.items < 2 ^ 32 }
-{
-    let mut roster = Roster::start(alloc, kit, true, view)?;
-    ends_well(&mut roster, kit, alloc, view)
-}
-
-#[test]
-fn a_roster_ends(rt: HostRuntime) -> Result<(), Fail> {
-    let lent = Lent::new(rt.alloc())?;
-    let mut kit = empty_kit(rt.alloc());
-    fill(&mut kit, rt.alloc())?;
-    assert!(rt; kit.start.len() == 2 && kit.shelf.len() == 2);
-    assert!(rt; is_closed(&mut kit, rt.alloc(), &lent.view())?);
-    Ok(())
 }

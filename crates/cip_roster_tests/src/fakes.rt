@@ -7,32 +7,43 @@ use cip_model::Blocks;
 use cip_plugin::{AnyPlugin, EventHandler, Guess, Heuristic, Kit, Plugin, View, Wish};
 use std::alloc::{AllocError, Global};
 
-/// A heuristic that brings so many points without values, or wants memory at each call.
+/// A plugin that tells nothing: a heuristic that brings so many points without values, or a handler that has the same
+/// wish at each event of its kind. It may want memory at each call.
 #[derive(Clone, Copy, Drop)]
-pub struct Finder {
+pub struct Fake {
     pub priority: i32,
     pub points: usize,
     pub wants_memory: bool,
+    pub wish: Wish,
+    pub kind: EventKind,
 }
 
-impl Finder {
-    /// One that brings nothing.
-    pub fn quiet() -> Finder {
-        Finder {
-            priority: 0,
-            points: 0,
-            wants_memory: false,
+/// A heuristic that brings nothing.
+pub const QUIET: Fake = Fake {
+    priority: 0,
+    points: 0,
+    wants_memory: false,
+    wish: Wish::Enable(0),
+    kind: EventKind::LpSolved,
+};
+
+impl Fake {
+    /// Whether it has the memory for a call.
+    fn answers(&self) -> Result<(), AllocError> {
+        if self.wants_memory {
+            return Err(AllocError);
         }
+        Ok(())
     }
 }
 
-impl Plugin for Finder {
+impl Plugin for Fake {
     ghost told = { λ _. None };
 
-    ghost label = { λ _. codes "finder" };
+    ghost label = { λ _. codes "fake" };
 
     fn name(&self) -> &str {
-        "finder"
+        "fake"
     }
 
     fn priority(&self) -> i32 {
@@ -40,17 +51,11 @@ impl Plugin for Finder {
     }
 
     fn init(&mut self, _alloc: Global) -> Result<(), AllocError> {
-        if self.wants_memory {
-            return Err(AllocError);
-        }
-        Ok(())
+        self.answers()
     }
 
     fn init_solve(&mut self, _alloc: Global, _view: &View<'_>) -> Result<(), AllocError> {
-        if self.wants_memory {
-            return Err(AllocError);
-        }
-        Ok(())
+        self.answers()
     }
 
     fn exit_solve(&mut self) {}
@@ -58,11 +63,9 @@ impl Plugin for Finder {
     fn exit(&mut self) {}
 }
 
-impl Heuristic for Finder {
+impl Heuristic for Fake {
     fn search(&mut self, alloc: Global, _view: &View<'_>) -> Result<Vec<Guess>, AllocError> {
-        if self.wants_memory {
-            return Err(AllocError);
-        }
+        self.answers()?;
         let mut guesses = Vec::new(alloc);
         for _ in 0..self.points {
             guesses.push(Guess {
@@ -73,40 +76,7 @@ impl Heuristic for Finder {
     }
 }
 
-/// An event handler that has the same wish at each event of its kind.
-#[derive(Drop)]
-pub struct Wisher {
-    pub wish: Wish,
-    pub kind: EventKind,
-}
-
-impl Plugin for Wisher {
-    ghost told = { λ _. None };
-
-    ghost label = { λ _. codes "wisher" };
-
-    fn name(&self) -> &str {
-        "wisher"
-    }
-
-    fn priority(&self) -> i32 {
-        0
-    }
-
-    fn init(&mut self, _alloc: Global) -> Result<(), AllocError> {
-        Ok(())
-    }
-
-    fn init_solve(&mut self, _alloc: Global, _view: &View<'_>) -> Result<(), AllocError> {
-        Ok(())
-    }
-
-    fn exit_solve(&mut self) {}
-
-    fn exit(&mut self) {}
-}
-
-impl EventHandler for Wisher {
+impl EventHandler for Fake {
     fn interest(&self) -> EventMask {
         EventMask::empty().with(self.kind)
     }
@@ -175,23 +145,33 @@ pub fn empty_kit(alloc: Global) -> Kit
     }
 }
 
-/// Puts a heuristic behind plugins.
-pub fn add_finder(
+/// Puts heuristics behind plugins.
+pub fn add_finders(
     plugins: &mut Vec<AnyPlugin>,
     alloc: Global,
-    finder: Finder,
+    fakes: &[Fake],
 ) -> Result<(), AllocError> {
-    plugins.push(AnyPlugin::Heuristic(Box::new(alloc, finder)?))?;
+    for fake in fakes {
+        plugins.push(AnyPlugin::Heuristic(Box::new(alloc, *fake)?))?;
+    }
     Ok(())
 }
 
-/// Puts a handler behind plugins.
-pub fn add_wisher(
+/// Puts event handlers behind plugins, each with its wish and the kind of its events.
+pub fn add_wishers(
     plugins: &mut Vec<AnyPlugin>,
     alloc: Global,
-    wisher: Wisher,
+    wishes: &[(Wish, EventKind)],
 ) -> Result<(), AllocError> {
-    plugins.push(AnyPlugin::EventHandler(Box::new(alloc, wisher)?))?;
+    for at in 0..wishes.len() {
+        let (wish, kind) = wishes[at];
+        let fake = Fake {
+            wish,
+            kind,
+            ..QUIET
+        };
+        plugins.push(AnyPlugin::EventHandler(Box::new(alloc, fake)?))?;
+    }
     Ok(())
 }
 

@@ -1,13 +1,11 @@
 //! Wishes, one by one.
-ghost use Rattle.std.specs.Prelude.{◌+◌, ◌<◌, ◌^◌, length};
 ghost use Rattle.cip_roster.specs.Turns.{IsSound};
 
-use crate::fakes::{Finder, Lent, add_finder, empty_kit, says};
+use crate::fakes::says;
 use cip_events::EventQueue;
-use cip_plugin::{Kit, View, Wish};
+use cip_plugin::{View, Wish};
 use cip_roster::{Roster, Seated, WishFault};
-use std::alloc::{AllocError, Global};
-use std::test::Fail;
+use std::alloc::Global;
 
 /// Wishes in their order, where one heuristic stands on the shelf, and the fault of each.
 const WISHES: [(Wish, Option<WishFault>); 14] = [
@@ -55,21 +53,10 @@ fn come_to(
 }
 
 /// Whether the wishes of the table come to what is said there, and their lines are written.
-fn are_wished(kit: &mut Kit, alloc: Global, view: &View<'_>) -> Result<bool, AllocError>
-    requires { length kit.old.start.items + length kit.old.shelf.items < 2 ^ 32 }
+pub fn are_wished(roster: &mut Roster, alloc: Global, view: &View<'_>) -> bool
+    requires { IsSound (⟦<Roster as Seated>⟧.state roster.old) (⟦<Roster as Seated>⟧.room roster.old) }
 {
-    let mut roster = Roster::start(alloc, kit, true, view)?;
     let mut queue = EventQueue::new(alloc);
-    let come = come_to(&mut roster, alloc, &mut queue, view, &WISHES);
-    Ok(come && queue.len() == 2 && says(roster.trace(), &LINES))
-}
-
-#[test]
-fn wishes_are_granted_or_refused(rt: HostRuntime) -> Result<(), Fail> {
-    let lent = Lent::new(rt.alloc())?;
-    let mut kit = empty_kit(rt.alloc());
-    add_finder(&mut kit.shelf, rt.alloc(), Finder::quiet())?;
-    assert!(rt; kit.start.is_empty() && kit.shelf.len() == 1);
-    assert!(rt; are_wished(&mut kit, rt.alloc(), &lent.view())?);
-    Ok(())
+    let come = come_to(roster, alloc, &mut queue, view, &WISHES);
+    come && queue.len() == 2 && says(roster.trace(), &LINES)
 }

@@ -2,6 +2,7 @@
 //! prints what came of each call. README.md says how a row is written.
 #![tactic(auto)]
 
+mod lines;
 mod row;
 mod setup;
 mod showing;

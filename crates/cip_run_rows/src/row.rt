@@ -1,4 +1,7 @@
 //! The parts of a row.
+ghost use Rattle.std.specs.Prelude.{◌<◌};
+
+use crate::lines::put_lines;
 use crate::setup::{Setup, key_and_value};
 use cip_io::MemoryStore;
 use cip_main::Words;
@@ -55,9 +58,16 @@ impl<'a> Row<'a> {
         Ok(words)
     }
 
-    /// The store of a run, with the texts.
-    pub fn store(&self, alloc: Global, setup: &Setup<'_>) -> Result<MemoryStore, AllocError> {
-        let mut store = MemoryStore::new(alloc, setup.piece);
+    /// The store of a run, with the texts, of which one pull gives at most `piece` bytes.
+    pub fn store(
+        &self,
+        alloc: Global,
+        setup: &Setup<'_>,
+        piece: usize,
+    ) -> Result<MemoryStore, AllocError>
+        requires { 0 < piece }
+    {
+        let mut store = MemoryStore::new(alloc, piece);
         if let Some(call) = setup.fail {
             store.fail_at(call)?;
         }
@@ -82,9 +92,11 @@ fn add_text(
     let Some((name, lines)) = text.split_once('\n') else {
         return store.add(text, b"");
     };
-    let mut text = String::from_str(alloc, lines)?;
-    if cut != Some(name) {
-        text.push('\n')?;
+    let mut text = String::new(alloc);
+    put_lines(lines, &mut text)?;
+    let whole = text.as_str();
+    match whole.strip_suffix('\n') {
+        Some(short) if cut == Some(name) => store.add(name, short.as_bytes()),
+        _ => store.add(name, whole.as_bytes()),
     }
-    store.add(name, text.as_bytes())
 }

@@ -19,6 +19,10 @@ pub struct Setup<'a> {
     pub cut: Option<&'a str>,
     /// Whether the numbers of entries of the logs are shown.
     pub entries: bool,
+    /// Whether the entries of the logs are shown, with their marks.
+    pub log: bool,
+    /// Whether all smaller pieces are tried too.
+    pub alike: bool,
     ghost some: { 0 < piece },
 }
 
@@ -31,6 +35,8 @@ impl<'a> Setup<'a> {
             room: 4_096,
             cut: None,
             entries: false,
+            log: false,
+            alike: false,
         }
     }
 
@@ -44,6 +50,8 @@ impl<'a> Setup<'a> {
             ("room", _) => self.room = value.parse().ok()?,
             ("cut", _) => self.cut = Some(value),
             ("entries", "") => self.entries = true,
+            ("log", "") => self.log = true,
+            ("alike", "") => self.alike = true,
             _ => return None,
         }
         Some(())

@@ -1,13 +1,10 @@
 //! Linear programs worked out by hand.
-use crate::programs::Posed;
+use crate::programs::{FROM_ZERO, Posed, Written, fraction, pose};
 use crate::slow_check::{Program, is_right};
 use cip_frac::Frac;
-use cip_lin::{Row, Sides, Term};
+use cip_lin::Row;
 use cip_simplex::{Lp, LpAnswer, Solver, Start, solve, solve_from, solve_fully, solve_greedily};
 use std::alloc::Global;
-
-/// A row: its coefficients by column, what they are divided by, and its sides.
-type Line = (&'static [i64], i64, Option<i64>, Option<i64>);
 
 /// What is answered.
 #[derive(Clone, Copy)]
@@ -18,14 +15,11 @@ enum Want {
     Unbounded,
 }
 
-/// A program: its rows, the sides of its columns, its costs and what they are divided by. Then what is answered, how
-/// many moves by the list that takes at most, and whether the rule of few moves gets there.
+/// A program, what is answered, how many moves by the list that takes at most, and whether the rule of few moves gets
+/// there.
 #[derive(Clone, Copy)]
 struct Case {
-    rows: &'static [Line],
-    columns: &'static [(i64, Option<i64>)],
-    costs: &'static [i64],
-    under: i64,
+    program: Written,
     want: Want,
     moves: u32,
     is_quick: bool,
@@ -33,14 +27,20 @@ struct Case {
 
 /// 2a + 3b + c <= 5, 4a + b + 2c <= 11, 3a + 4b + 2c <= 8, each from 0 to 10.
 const THREE_COLUMNS: Case = Case {
-    rows: &[
-        (&[2, 3, 1], 1, None, Some(5)),
-        (&[4, 1, 2], 1, None, Some(11)),
-        (&[3, 4, 2], 1, None, Some(8)),
-    ],
-    columns: &[(0, Some(10)), (0, Some(10)), (0, Some(10))],
-    costs: &[-5, -4, -3],
-    under: 1,
+    program: Written {
+        rows: &[
+            (&[2, 3, 1], 1, (None, Some(5))),
+            (&[4, 1, 2], 1, (None, Some(11))),
+            (&[3, 4, 2], 1, (None, Some(8))),
+        ],
+        columns: &[
+            (Some(0), Some(10)),
+            (Some(0), Some(10)),
+            (Some(0), Some(10)),
+        ],
+        costs: &[-5, -4, -3],
+        under: 1,
+    },
     want: Want::Optimal(&[2, 0, 1], 1, (-13, 1)),
     moves: 100,
     is_quick: true,
@@ -50,30 +50,36 @@ const CASES: [Case; 5] = [
     THREE_COLUMNS,
     // two units are no three
     Case {
-        rows: &[(&[1, 1], 1, Some(3), None)],
-        columns: &[(0, Some(1)), (0, Some(1))],
-        costs: &[1, 1],
-        under: 1,
+        program: Written {
+            rows: &[(&[1, 1], 1, (Some(3), None))],
+            columns: &[(Some(0), Some(1)), (Some(0), Some(1))],
+            costs: &[1, 1],
+            under: 1,
+        },
         want: Want::Infeasible,
         moves: 100,
         is_quick: true,
     },
     // a cost falls without end
     Case {
-        rows: &[(&[1, -1], 1, None, Some(2))],
-        columns: &[(0, None), (0, None)],
-        costs: &[-1, 0],
-        under: 1,
+        program: Written {
+            rows: &[(&[1, -1], 1, (None, Some(2)))],
+            columns: &[FROM_ZERO, FROM_ZERO],
+            costs: &[-1, 0],
+            under: 1,
+        },
         want: Want::Unbounded,
         moves: 100,
         is_quick: true,
     },
     // crossed sides have no point
     Case {
-        rows: &[(&[1], 1, Some(3), Some(2))],
-        columns: &[(0, Some(10))],
-        costs: &[1],
-        under: 1,
+        program: Written {
+            rows: &[(&[1], 1, (Some(3), Some(2)))],
+            columns: &[(Some(0), Some(10))],
+            costs: &[1],
+            under: 1,
+        },
         want: Want::Infeasible,
         moves: 0,
         is_quick: true,
@@ -81,78 +87,21 @@ const CASES: [Case; 5] = [
     // minimise -3/4 x1 + 150 x2 - 1/50 x3 + 6 x4, where 1/4 x1 - 60 x2 - 1/25 x3 + 9 x4 <= 0,
     // 1/2 x1 - 90 x2 - 1/50 x3 + 3 x4 <= 0 and x3 <= 1, a row: other rules for the entering variable never end here
     Case {
-        rows: &[
-            (&[25, -6000, -4, 900], 100, None, Some(0)),
-            (&[25, -4500, -1, 150], 50, None, Some(0)),
-            (&[0, 0, 1], 1, None, Some(1)),
-        ],
-        columns: &[(0, None), (0, None), (0, None), (0, None)],
-        costs: &[-75, 15000, -2, 600],
-        under: 100,
+        program: Written {
+            rows: &[
+                (&[25, -6000, -4, 900], 100, (None, Some(0))),
+                (&[25, -4500, -1, 150], 50, (None, Some(0))),
+                (&[0, 0, 1], 1, (None, Some(1))),
+            ],
+            columns: &[FROM_ZERO, FROM_ZERO, FROM_ZERO, FROM_ZERO],
+            costs: &[-75, 15000, -2, 600],
+            under: 100,
+        },
         want: Want::Optimal(&[1, 0, 25, 0], 25, (-1, 20)),
         moves: 100,
         is_quick: false,
     },
 ];
-
-fn fraction(over: i64, under: i64) -> Frac {
-    match Frac::new(over as i128, under as i128) {
-        Ok(value) => value,
-        Err(_) => Frac::zero(),
-    }
-}
-
-/// Appends the terms of a row.
-fn put_terms(row: &mut Row, coefficients: &[i64], under: i64) -> bool {
-    let mut col = 0u32;
-    for coefficient in coefficients {
-        let coef = fraction(*coefficient, under);
-        if !coef.is_zero() && row.append(Term { col, coef }).is_err() {
-            return false;
-        }
-        col = col.wrapping_add(1);
-    }
-    true
-}
-
-fn put_rows(alloc: Global, posed: &mut Posed, lines: &[Line]) -> bool {
-    for (coefficients, under, low, high) in lines {
-        let mut row = Row::empty(alloc, low.map(Frac::from), high.map(Frac::from));
-        if !put_terms(&mut row, coefficients, *under) || posed.rows.push(row).is_err() {
-            return false;
-        }
-    }
-    true
-}
-
-fn put_bounds(posed: &mut Posed, columns: &[(i64, Option<i64>)]) -> bool {
-    for (low, high) in columns {
-        let sides = Sides {
-            low: Some(Frac::from(*low)),
-            high: high.map(Frac::from),
-        };
-        if posed.bounds.push(sides).is_err() {
-            return false;
-        }
-    }
-    true
-}
-
-fn put_costs(posed: &mut Posed, costs: &[i64], under: i64) -> bool {
-    for cost in costs {
-        if posed.costs.push(fraction(*cost, under)).is_err() {
-            return false;
-        }
-    }
-    true
-}
-
-/// Puts a case into an empty program.
-fn is_put(alloc: Global, posed: &mut Posed, case: &Case) -> bool {
-    put_rows(alloc, posed, case.rows)
-        && put_bounds(posed, case.columns)
-        && put_costs(posed, case.costs, case.under)
-}
 
 fn is_point(point: &[Frac], values: &[i64], under: i64) -> bool {
     if point.len() != values.len() {
@@ -167,7 +116,7 @@ fn is_point(point: &[Frac], values: &[i64], under: i64) -> bool {
 }
 
 /// An answer is right, and the one that is wanted.
-fn is_as(program: Program<'_>, found: &LpAnswer, want: Want) -> bool {
+fn is_as(alloc: Global, program: Program<'_>, found: &LpAnswer, want: Want) -> bool {
     let is_wanted = match (found, want) {
         (
             LpAnswer::Optimal {
@@ -181,7 +130,7 @@ fn is_as(program: Program<'_>, found: &LpAnswer, want: Want) -> bool {
         (LpAnswer::Unbounded { point: _, ray: _ }, Want::Unbounded) => true,
         _ => false,
     };
-    is_wanted && is_right(program, found)
+    is_wanted && is_right(alloc, program, found)
 }
 
 /// By the list, in so many moves.
@@ -191,7 +140,7 @@ fn is_solved(alloc: Global, solver: &mut Solver, program: Program<'_>, case: &Ca
     }
     let lp = Lp::new(program.rows, program.bounds, program.costs);
     match solve(alloc, solver, &lp, case.moves) {
-        Ok(found) => is_as(program, &found, case.want),
+        Ok(found) => is_as(alloc, program, &found, case.want),
         Err(_) => false,
     }
 }
@@ -203,7 +152,7 @@ fn is_fully_solved(alloc: Global, solver: &mut Solver, program: Program<'_>, wan
     }
     let lp = Lp::new(program.rows, program.bounds, program.costs);
     match solve_fully(alloc, solver, &lp) {
-        Ok(found) => is_as(program, &found, want),
+        Ok(found) => is_as(alloc, program, &found, want),
         Err(_) => false,
     }
 }
@@ -235,9 +184,9 @@ fn found_greedily(
 }
 
 /// Something is found, which is wanted.
-fn is_found(program: Program<'_>, found: &Option<LpAnswer>, want: Want) -> bool {
+fn is_found(alloc: Global, program: Program<'_>, found: &Option<LpAnswer>, want: Want) -> bool {
     match found {
-        Some(found) => is_as(program, found, want),
+        Some(found) => is_as(alloc, program, found, want),
         None => false,
     }
 }
@@ -251,7 +200,7 @@ fn is_found_greedily(
     want: Want,
 ) -> bool {
     match found_greedily(alloc, solver, program, start, 100) {
-        Some((found, _last)) => is_found(program, &found, want),
+        Some((found, _last)) => is_found(alloc, program, &found, want),
         None => false,
     }
 }
@@ -272,22 +221,8 @@ fn is_answered(alloc: Global, program: Program<'_>, case: &Case) -> bool {
         && (!case.is_quick || is_quickly_solved(alloc, &mut solver, program, case.want))
 }
 
-/// The program of a case.
-fn posed(alloc: Global, case: &Case) -> Option<Posed> {
-    match Posed::new(alloc) {
-        Ok(mut posed) => {
-            if is_put(alloc, &mut posed, case) {
-                Some(posed)
-            } else {
-                None
-            }
-        }
-        Err(_) => None,
-    }
-}
-
 fn is_so(alloc: Global, case: &Case) -> bool {
-    match posed(alloc, case) {
+    match pose(alloc, &case.program) {
         Some(posed) => is_answered(alloc, posed.program(), case),
         None => false,
     }
@@ -319,7 +254,7 @@ fn start_behind(
         return None;
     };
     let is_wanted = match want {
-        Some(want) => is_as(program, &found, want),
+        Some(want) => is_as(alloc, program, &found, want),
         None => matches!(&found, LpAnswer::Limit),
     };
     if is_wanted { Some(last) } else { None }
@@ -375,7 +310,7 @@ fn is_limited(alloc: Global, program: Program<'_>) -> bool {
 }
 
 fn has_starts(alloc: Global) -> bool {
-    match posed(alloc, &THREE_COLUMNS) {
+    match pose(alloc, &THREE_COLUMNS.program) {
         Some(posed) => is_found_from_starts(alloc, posed.program(), THREE_COLUMNS.want)
             && is_limited(alloc, posed.program()),
         None => false,

@@ -1,33 +1,17 @@
 //! Linear programs at random, each answer checked.
-ghost use Rattle.std.specs.Prelude.{◌≡◌, ◌<◌, length};
+ghost use Rattle.std.specs.Prelude.{◌≡◌, length};
 ghost use Rattle.cip_simplex.specs.LpShape.{variables};
 
+use crate::draws::Random;
 use crate::programs::Posed;
 use crate::slow_check::{Program, is_right};
 use cip_dictionary::Stand;
 use cip_frac::Frac;
-use cip_lin::{Row, RowFault, Sides, Term};
+use cip_lin::{Row, RowFault, Term};
 use cip_simplex::{Lp, LpAnswer, Solver, Start, solve, solve_from, solve_greedily};
 use std::alloc::{AllocError, Global};
 
-#[derive(Drop)]
-struct Random {
-    state: u64,
-}
-
 impl Random {
-    // a number below n
-    fn below(&mut self, n: u32) -> u32
-        requires { 0 < n }
-        ensures { result < n }
-    {
-        self.state = self
-            .state
-            .wrapping_mul(6364136223846793005)
-            .wrapping_add(1442695040888963407);
-        ((self.state >> 33) % n as u64) as u32
-    }
-
     // a whole number from -4 to 4, 0 in half of the cases
     fn small(&mut self) -> Frac {
         if self.below(2) == 0 {
@@ -36,25 +20,7 @@ impl Random {
         Frac::from(self.below(9) as i64 - 4)
     }
 
-    // a low and a high side, each open in a part of the cases
-    fn sides(&mut self) -> Sides {
-        let low = self.below(11) as i64 - 5;
-        let high = low + self.below(6) as i64;
-        Sides {
-            low: if self.below(4) == 0 {
-                None
-            } else {
-                Some(Frac::from(low))
-            },
-            high: if self.below(3) == 0 {
-                None
-            } else {
-                Some(Frac::from(high))
-            },
-        }
-    }
-
-    fn stand(&mut self) -> Option<Stand> {
+    fn place(&mut self) -> Option<Stand> {
         match self.below(5) {
             0 => Some(Stand::Low),
             1 => Some(Stand::High),
@@ -77,7 +43,7 @@ impl Random {
     // appends up to eight rows
     fn fill_rows(&mut self, alloc: Global, posed: &mut Posed, columns: u32) -> bool {
         for _ in 0..self.below(9) {
-            let sides = self.sides();
+            let sides = self.sides(3);
             let mut row = Row::empty(alloc, sides.low, sides.high);
             if self.fill_row(&mut row, columns).is_err() || posed.rows.push(row).is_err() {
                 return false;
@@ -89,7 +55,7 @@ impl Random {
     // appends columns
     fn fill_columns(&mut self, posed: &mut Posed, columns: u32) -> Result<(), AllocError> {
         for _ in 0..columns {
-            posed.bounds.push(self.sides())?;
+            posed.bounds.push(self.sides(3))?;
         }
         for _ in 0..columns {
             posed.costs.push(self.small())?;
@@ -110,7 +76,7 @@ impl Random {
         len: usize,
     ) -> Result<(), AllocError> {
         for _ in 0..len {
-            standing.push(self.stand())?;
+            standing.push(self.place())?;
         }
         Ok(())
     }
@@ -146,8 +112,8 @@ fn agree(first: &LpAnswer, second: &LpAnswer) -> bool {
 }
 
 // an answer is right, and like another one
-fn is_like(program: Program<'_>, other: &LpAnswer, found: &LpAnswer) -> bool {
-    is_right(program, other) && agree(found, other)
+fn is_like(alloc: Global, program: Program<'_>, other: &LpAnswer, found: &LpAnswer) -> bool {
+    is_right(alloc, program, other) && agree(found, other)
 }
 
 // a rule that makes few moves answers as the list does
@@ -163,7 +129,7 @@ fn is_few_alike(
 {
     match solve_greedily(alloc, solver, lp, start, 10000) {
         Ok((other, _last)) => match other {
-            Some(other) => is_like(program, &other, found),
+            Some(other) => is_like(alloc, program, &other, found),
             None => false,
         },
         Err(_) => false,
@@ -182,7 +148,7 @@ fn is_begun_alike(
     requires { length start.now ≡ variables lp.now }
 {
     match solve_from(alloc, solver, lp, start, 10000) {
-        Ok((other, _last)) => is_like(program, &other, found),
+        Ok((other, _last)) => is_like(alloc, program, &other, found),
         Err(_) => false,
     }
 }
@@ -198,7 +164,7 @@ fn are_alike(
     requires { length start.now ≡ variables lp.now }
 {
     match solve(alloc, solver, lp, 10000) {
-        Ok(found) => is_right(program, &found)
+        Ok(found) => is_right(alloc, program, &found)
             && is_few_alike(alloc, solver, lp, program, start, &found)
             && is_begun_alike(alloc, solver, lp, program, start, &found),
         Err(_) => false,
@@ -233,7 +199,7 @@ fn is_answered(alloc: Global, solver: &mut Solver, random: &mut Random) -> bool 
 
 #[test]
 fn a_thousand_programs_are_answered_right(rt: HostRuntime) {
-    let mut random = Random { state: 20260727 };
+    let mut random = Random::new(20260727);
     let mut solver = Solver::new(rt.alloc());
     for number in 0..1000 {
         assert!(rt;

@@ -1,8 +1,13 @@
-//! A plain check of what is answered, from the rows, the sides and the costs alone.
-//! A sum that leaves the range is `None`.
+//! A plain check of what is answered, from the rows, the sides and the costs alone; of a combination by the checks of
+//! `cip_cert`. A sum that leaves the range is `None`.
+ghost use Rattle.std.specs.Prelude.{IsTrue, All};
+ghost use Rattle.cip_problem.specs.Activity.{StandsBelow};
+
+use cip_cert::{Rows, Scratch, empties, lower_bound};
 use cip_frac::Frac;
-use cip_lin::{Bounds, ColumnMultiple, Combo, Row, RowId, RowMultiple, Sides, Term};
+use cip_lin::{Bounds, Combo, Row, Sides, Term};
 use cip_simplex::LpAnswer;
+use std::alloc::Global;
 
 /// What was solved.
 #[derive(Clone, Copy)]
@@ -133,160 +138,70 @@ fn is_ray(program: Program<'_>, ray: &[Frac]) -> bool {
     falls && stays_in_bounds(program, ray) && stays_in_rows(program, ray)
 }
 
-fn side_for(sides: Sides, factor: Frac) -> Option<Frac> {
-    if Frac::zero() < factor {
-        sides.low
-    } else {
-        sides.high
-    }
+// a row stands on the first so many columns
+fn stands(row: &Row, columns: usize) -> bool
+    ensures { IsTrue result → StandsBelow columns row.now.terms }
+{
+    row.terms().iter().all(|term| (term.col as usize) < columns)
 }
 
-fn row_by<'a>(program: Program<'a>, id: RowId) -> Option<&'a Row> {
-    match id {
-        RowId::Own(r) => program.rows.get(r as usize),
-        _ => None,
-    }
+// each of these rows does
+fn all_stand(rows: &[Row], columns: usize) -> bool
+    ensures { IsTrue result → All (λ row. StandsBelow columns row.terms) rows.now }
+{
+    rows.iter().all(|row| stands(row, columns))
 }
 
-fn bound_sides(program: Program<'_>, column: u32) -> Option<Sides> {
-    program.bounds.as_slice().get(column as usize).copied()
-}
-
-// the side of a row that a factor uses
-fn row_side(program: Program<'_>, part: RowMultiple) -> Option<Frac> {
-    match row_by(program, part.row) {
-        Some(row) => side_for(sides_of(row), part.factor),
-        None => None,
-    }
-}
-
-// the sum of factors times sides of rows
-fn row_delta(program: Program<'_>, combo: &Combo) -> Option<Frac> {
-    let mut sum = Some(Frac::zero());
-    for part in &combo.rows {
-        sum = plus_some(sum, part.factor, row_side(program, *part));
-    }
-    sum
-}
-
-// the side of a column that a factor above 0 uses, which is the low one, or one below 0
-fn bound_side(program: Program<'_>, part: ColumnMultiple, is_low: bool) -> Option<Frac> {
-    if part.factor.is_zero() || part.factor.is_positive() != is_low {
+// what costs come to at least by a combination
+fn bound(alloc: Global, program: Program<'_>, combo: &Combo) -> Option<Frac> {
+    let columns = program.bounds.len();
+    let mut scratch = Scratch::new(alloc, columns.min(64)).ok()?;
+    if scratch.row.entries().len() < columns
+        || program.costs.len() != columns
+        || !all_stand(program.rows, columns)
+    {
         return None;
     }
-    match bound_sides(program, part.col) {
-        Some(sides) => side_for(sides, part.factor),
-        None => None,
+    let rows = Rows {
+        own: program.rows,
+        pool: &[],
+        cutoff: &None,
+        whole: &[],
+    };
+    lower_bound(&rows, program.bounds, program.costs, combo, &mut scratch).ok()
+}
+
+// a combination shows that no point is there
+fn is_empty(alloc: Global, program: Program<'_>, combo: &Combo) -> bool {
+    let columns = program.bounds.len();
+    let Ok(mut scratch) = Scratch::new(alloc, columns.min(64)) else {
+        return false;
+    };
+    if scratch.row.entries().len() < columns || !all_stand(program.rows, columns) {
+        return false;
     }
-}
-
-// a sum with factors above 0 times low sides, or factors below 0 times high sides
-fn bound_delta(
-    program: Program<'_>,
-    parts: &[ColumnMultiple],
-    is_low: bool,
-    start: Option<Frac>,
-) -> Option<Frac> {
-    let mut sum = start;
-    for part in parts {
-        sum = plus_some(sum, part.factor, bound_side(program, *part, is_low));
-    }
-    sum
-}
-
-// the sum of factors times sides
-fn delta(program: Program<'_>, combo: &Combo) -> Option<Frac> {
-    let rows = row_delta(program, combo);
-    let lows = bound_delta(program, combo.lows.as_slice(), true, rows);
-    bound_delta(program, combo.highs.as_slice(), false, lows)
-}
-
-// the coefficient of a row on a column
-fn coefficient(terms: &[Term], column: u32) -> Frac {
-    for term in terms {
-        if term.col == column {
-            return term.coef;
-        }
-    }
-    Frac::zero()
-}
-
-fn of_column(parts: &[ColumnMultiple], column: u32, start: Option<Frac>) -> Option<Frac> {
-    let mut sum = start;
-    for part in parts {
-        if part.col == column {
-            sum = plus_some(sum, part.factor, Some(Frac::one()));
-        }
-    }
-    sum
-}
-
-// the coefficient of the row of a part on a column
-fn row_coefficient(program: Program<'_>, part: RowMultiple, column: u32) -> Option<Frac> {
-    match row_by(program, part.row) {
-        Some(row) => Some(coefficient(row.terms(), column)),
-        None => None,
-    }
-}
-
-// the coefficient of the sum of rows on a column
-fn of_rows(program: Program<'_>, combo: &Combo, column: u32) -> Option<Frac> {
-    let mut sum = Some(Frac::zero());
-    for part in &combo.rows {
-        sum = plus_some(sum, part.factor, row_coefficient(program, *part, column));
-    }
-    sum
-}
-
-// what a column costs beyond the sum
-fn rest(program: Program<'_>, combo: &Combo, costs: &[Frac], column: u32) -> Option<Frac> {
-    let rows = of_rows(program, combo, column);
-    let lows = of_column(combo.lows.as_slice(), column, rows);
-    let own = of_column(combo.highs.as_slice(), column, lows);
-    plus_some(Some(value_at(costs, column)), Frac::one().neg(), own)
-}
-
-// a sum with the least of a rest between sides
-fn plus_rest(sum: Option<Frac>, sides: Sides, rest: Option<Frac>) -> Option<Frac> {
-    match rest {
-        Some(rest) if rest.is_zero() => sum,
-        Some(rest) => plus_some(sum, rest, side_for(sides, rest)),
-        None => None,
-    }
-}
-
-// what costs come to at least by a combination: the sum of its sides, and the least of the rest in the box
-fn bound(program: Program<'_>, combo: &Combo, costs: &[Frac]) -> Option<Frac> {
-    let mut sum = delta(program, combo);
-    let mut column = 0u32;
-    for sides in program.bounds.as_slice() {
-        sum = plus_rest(sum, *sides, rest(program, combo, costs, column));
-        column = column.wrapping_add(1);
-    }
-    sum
+    let rows = Rows {
+        own: program.rows,
+        pool: &[],
+        cutoff: &None,
+        whole: &[],
+    };
+    empties(&rows, program.bounds, combo, &mut scratch).is_ok()
 }
 
 fn is_point(program: Program<'_>, point: &[Frac]) -> bool {
     keeps_bounds(program, point) && keeps_rows(program, point)
 }
 
-// a combination shows that no point is there
-fn is_empty(program: Program<'_>, combo: &Combo) -> bool {
-    match bound(program, combo, &[]) {
-        Some(least) => Frac::zero() < least,
-        None => false,
-    }
-}
-
 /// What an answer says is so.
-pub(crate) fn is_right(program: Program<'_>, found: &LpAnswer) -> bool {
+pub(crate) fn is_right(alloc: Global, program: Program<'_>, found: &LpAnswer) -> bool {
     match found {
         LpAnswer::Optimal { point, combo, cost } => {
             is_point(program, point.as_slice())
                 && dot(program.costs, point.as_slice()) == Some(*cost)
-                && bound(program, combo, program.costs) == Some(*cost)
+                && bound(alloc, program, combo) == Some(*cost)
         }
-        LpAnswer::Infeasible { combo } => is_empty(program, combo),
+        LpAnswer::Infeasible { combo } => is_empty(alloc, program, combo),
         LpAnswer::Unbounded { point, ray } => {
             is_point(program, point.as_slice()) && is_ray(program, ray.as_slice())
         }

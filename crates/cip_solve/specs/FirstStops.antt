@@ -1,4 +1,6 @@
--- When a search stops by the gap that was asked for: behind the first node at whose end it is reached.
+-- When a search stops by the gap that was asked for: not before a node behind which the log settles that it is
+-- reached. A log says what each node ended as, and not when a point was found: so of the nodes before the last it can
+-- be said that a search may have stood behind them with a point and a least bound that don't reach the gap.
 use Rattle.std.specs.Prelude.{◌≡◌, ℕ, ◌<◌, ◌≤◌, List, length, take, Option}
 use Rattle.cip_rational.specs.Rational.{ℚ}
 use Rattle.cip_problem.specs.Program.{Program}
@@ -13,7 +15,7 @@ use Rattle.cip_solve.specs.Searching.{IsStill, HasReachedGap}
 abbrev pub IsLongerLog : List Entry → List Entry → Type 0
 IsLongerLog old new = (entries : ℕ) → entries ≤ length old → take entries new ≡ take entries old
 
--- the search stood so behind the first entries of a log, as many as are said, and there the gap wasn't reached
+-- a search may stand so behind the first entries of a log, as many as are said, and then the gap isn't reached
 pub record IsShortAt (program : Program) (start asked : Option ℚ) (log : List Entry) (entries : ℕ) : Type 0 where
   pub tree : Nodes
   pub holding : Holding
@@ -22,7 +24,7 @@ pub record IsShortAt (program : Program) (start asked : Option ℚ) (log : List 
   pub logged : tree.log ≡ take entries log
   pub short : HasReachedGap asked tree holding → ⊥
 
--- it wasn't reached behind any node but the last
+-- behind no node but the last does the log settle that it is reached
 abbrev pub IsFirstStop : Program → Option ℚ → Option ℚ → List Entry → Type 0
 IsFirstStop program start asked log =
     (entries : ℕ) → 0 < entries → entries < length log → IsShortAt program start asked log entries

@@ -42,7 +42,7 @@ pub fn unsearched(program: &Program) -> Answer
 
 /// Searches for a feasible point of least cost, over at most so many nodes; what was done is left in the log, in place
 /// of what it held. After each node has ended, and before the next is taken, it is seen whether the gap that was asked
-/// for is reached, and then the answer is `Gap`: so the last node is the first at whose end it is reached. Else it is
+/// for is reached, and then the answer is `Gap`: behind no earlier node does the log settle that it was. Else it is
 /// `NodeLimit` exactly where as many nodes were taken and an open one matters; and `NoMemory` where memory was refused,
 /// with the point that was found by then.
 pub fn solve(alloc: Global, program: &Program, options: &Options, log: &mut Log) -> Answer

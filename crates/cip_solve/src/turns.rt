@@ -144,8 +144,8 @@ impl<'a> Search<'a> {
         reaches_gap(asked, &held, &bound)
     }
 
-    /// Takes up open nodes, at most so many, until the gap that was asked for is reached, behind the first at whose end
-    /// it is; how the search stops.
+    /// Takes up open nodes, at most so many, until the gap that was asked for is reached at the end of one; how the
+    /// search stops.
     pub(crate) fn explore(&mut self, alloc: Global, nodes: u64, asked: &Option<Frac>) -> Stop
         requires still { IsStill self.old.work.core.program self.old.work.core.tree.root.bound self.old.work.core.tree
             self.old.work.core.incumbent self.old.worst }

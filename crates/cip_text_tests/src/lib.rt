@@ -1,5 +1,5 @@
-//! Tests of stores and sinks, of the words of the command line, and of texts: numbers, lines, programs, points and
-//! blocks, each with what was worked out by hand.
+//! Tests of stores and sinks, of the words of the command line, of texts where `run` doesn't show what is asked, and of
+//! programs that are drawn, each with what was worked out by hand.
 #![tactic(auto)]
 
 #[cfg(test)]
@@ -7,28 +7,18 @@ mod blocks;
 #[cfg(test)]
 mod commands;
 #[cfg(test)]
-mod faltering;
+mod entries;
 #[cfg(test)]
-mod faults;
+mod faltering;
 #[cfg(test)]
 mod files;
 #[cfg(test)]
-mod kinds;
+mod fronts;
 #[cfg(test)]
-mod limits;
+mod generated;
 #[cfg(test)]
-mod lines;
-#[cfg(test)]
-mod models;
-#[cfg(test)]
-mod numbers;
-#[cfg(test)]
-mod pieces;
+mod known;
 #[cfg(test)]
 mod points;
 #[cfg(test)]
 mod programs;
-#[cfg(test)]
-mod sides;
-#[cfg(test)]
-mod stores;

@@ -1,10 +1,10 @@
 //! Sides that are tightened and choices that are made, and put back.
-ghost use Rattle.std.specs.Prelude.{◌≡◌, ◌<◌};
+ghost use Rattle.std.specs.Prelude.{◌≡◌, ◌<◌, [], IfOk};
 
 use cip_domain::{Checkpoint, DomainStore, Region, Tightened};
 use cip_frac::Frac;
 use cip_lin::{Bounds, Choice, Choices, Side, Sides};
-use std::test::Fail;
+use std::alloc::{AllocError, Global};
 
 /// Sides at two numbers.
 pub(crate) fn between(low: i64, high: i64) -> Sides {
@@ -41,16 +41,36 @@ fn are_made(store: &mut DomainStore) -> bool {
     true
 }
 
+/// Makes the changes of the table, and puts all of them back.
+fn are_put_back(store: &mut DomainStore, start: Checkpoint) -> bool
+    requires start { start ≡ 0 }
+{
+    let are_made = are_made(store);
+    store.undo_to(start);
+    are_made && has(store, between(0, 3)) && store.mark() == start
+}
+
+/// One column from 0 to a number.
+fn one_column(alloc: Global, high: i64) -> Result<Bounds, AllocError> {
+    let mut bounds = Bounds::new(alloc, 0)?;
+    bounds.push(between(0, high))?;
+    Ok(bounds)
+}
+
+fn is_tightened(alloc: Global) -> bool {
+    match one_column(alloc, 3) {
+        Ok(bounds) => {
+            let mut store = DomainStore::new(alloc, Region::new(bounds, Choices::new(alloc)));
+            let start = store.mark();
+            are_put_back(&mut store, start)
+        }
+        Err(_) => false,
+    }
+}
+
 #[test]
-fn sides_are_tightened_and_put_back(rt: HostRuntime) -> Result<(), Fail> {
-    let mut bounds = Bounds::new(rt.alloc(), 0)?;
-    bounds.push(between(0, 3))?;
-    let mut store = DomainStore::new(rt.alloc(), Region::new(bounds, Choices::new(rt.alloc())));
-    let first = store.mark();
-    assert!(rt; are_made(&mut store));
-    store.undo_to(first);
-    assert!(rt; has(&store, between(0, 3)) && store.mark() == first);
-    Ok(())
+fn sides_are_tightened_and_put_back(rt: HostRuntime) {
+    assert!(rt; is_tightened(rt.alloc()));
 }
 
 /// A low side of the column from 0 to 5, which is 0 or from 2 to 5; whether it is made to be on; what that answers, the
@@ -97,16 +117,44 @@ fn comes_to(store: &mut DomainStore, start: Checkpoint, at: usize) -> bool
         && store.choices().at(0).is_open()
 }
 
-#[test]
-fn choices_are_made_and_put_back(rt: HostRuntime) -> Result<(), Fail> {
-    let mut bounds = Bounds::new(rt.alloc(), 0)?;
-    bounds.push(between(0, 5))?;
-    let mut choices = Choices::new(rt.alloc());
-    choices.push(Choice::open(between(2, 5)))?;
-    let mut store = DomainStore::new(rt.alloc(), Region::new(bounds, choices));
-    let start = store.mark();
+/// All cases of the table come to what is said there.
+fn come_to(store: &mut DomainStore, start: Checkpoint) -> bool
+    requires start { start ≡ 0 }
+{
     for at in 0..CHOICES.len() {
-        assert!(rt; comes_to(&mut store, start, at), "case {at}");
+        if !comes_to(store, start, at) {
+            return false;
+        }
     }
-    Ok(())
+    true
+}
+
+/// One open choice, which is off at 0 or on from 2 to 5.
+fn one_choice(alloc: Global) -> Result<Choices, AllocError> {
+    let mut choices = Choices::new(alloc);
+    choices.push(Choice::open(between(2, 5)))?;
+    Ok(choices)
+}
+
+/// The store of one column from 0 to 5 with a choice.
+fn with_a_choice(alloc: Global) -> Result<DomainStore, AllocError>
+    ensures { IfOk result (λ store. store.before ≡ []) }
+{
+    let bounds = one_column(alloc, 5)?;
+    Ok(DomainStore::new(alloc, Region::new(bounds, one_choice(alloc)?)))
+}
+
+fn are_chosen(alloc: Global) -> bool {
+    match with_a_choice(alloc) {
+        Ok(mut store) => {
+            let start = store.mark();
+            come_to(&mut store, start)
+        }
+        Err(_) => false,
+    }
+}
+
+#[test]
+fn choices_are_made_and_put_back(rt: HostRuntime) {
+    assert!(rt; are_chosen(rt.alloc()));
 }

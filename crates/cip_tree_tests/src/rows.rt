@@ -2,7 +2,6 @@
 use cip_frac::Frac;
 use cip_lin::{Bounds, Row, RowFault, Sides, Term};
 use std::alloc::Global;
-use std::test::Fail;
 
 fn term(col: u32, coef: i64) -> Term {
     Term {
@@ -40,10 +39,15 @@ fn rows_rise_and_have_no_zero(rt: HostRuntime) {
     }
 }
 
-#[test]
-fn a_new_box_is_open(rt: HostRuntime) -> Result<(), Fail> {
-    let bounds = Bounds::new(rt.alloc(), 3)?;
+fn is_new_box_open(alloc: Global) -> bool {
     let open = [Sides::open(), Sides::open(), Sides::open()];
-    assert!(rt; bounds.as_slice() == open.as_slice());
-    Ok(())
+    match Bounds::new(alloc, 3) {
+        Ok(bounds) => bounds.as_slice() == open.as_slice(),
+        Err(_) => false,
+    }
+}
+
+#[test]
+fn a_new_box_is_open(rt: HostRuntime) {
+    assert!(rt; is_new_box_open(rt.alloc()));
 }

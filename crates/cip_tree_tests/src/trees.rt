@@ -1,5 +1,5 @@
 //! Nodes: their boxes, their order and their log.
-ghost use Rattle.std.specs.Prelude.{◌≡◌, [], ◌∷◌, true, false, length};
+ghost use Rattle.std.specs.Prelude.{◌≡◌, [], ◌∷◌, true, false, length, IfOk};
 ghost use Rattle.cip_tree.specs.Nodes.{IsTaken};
 
 use crate::boxes::between;
@@ -8,7 +8,7 @@ use cip_domain::Tightened;
 use cip_frac::Frac;
 use cip_lin::{Choice, Choices, Side, Sides};
 use cip_tree::{End, Logged, Node, SplitFault, Tree};
-use std::test::Fail;
+use std::alloc::{AllocError, Global};
 
 /// The root is split at 1, and each half has its sides.
 fn halves_end_and_begin(tree: &mut Tree) -> bool
@@ -27,22 +27,6 @@ fn halves_end_and_begin(tree: &mut Tree) -> bool
         && tree.next().is_none()
 }
 
-#[test]
-fn halves_end_and_begin_at_the_split(rt: HostRuntime) -> Result<(), Fail> {
-    let mut tree = two_columns(rt.alloc(), Choices::new(rt.alloc()))?;
-    assert!(rt; halves_end_and_begin(&mut tree));
-    Ok(())
-}
-
-/// A column and a number at which the root is split, and why it isn't.
-const ROOT_SPLITS: [(u32, i128, Option<SplitFault>); 5] = [
-    (0, 0, None),
-    (0, 2, None),
-    (0, 3, Some(SplitFault::Outside)),
-    (0, -1, Some(SplitFault::Outside)),
-    (1, 1, Some(SplitFault::NotWhole)),
-];
-
 /// What the split of the root comes to.
 fn root_split(tree: &mut Tree, col: u32, at: i128, want: Option<SplitFault>) -> bool
     requires flags { tree.old.integral ≡ true ∷ false ∷ [] }
@@ -59,16 +43,6 @@ fn root_split(tree: &mut Tree, col: u32, at: i128, want: Option<SplitFault>) -> 
         (Some(Err(fault)), Some(wanted)) => fault == wanted,
         _ => false,
     }
-}
-
-#[test]
-fn splits_of_other_columns_and_at_the_ends_are_refused(rt: HostRuntime) -> Result<(), Fail> {
-    for at in 0..ROOT_SPLITS.len() {
-        let (col, place, want) = ROOT_SPLITS[at];
-        let mut tree = two_columns(rt.alloc(), Choices::new(rt.alloc()))?;
-        assert!(rt; root_split(&mut tree, col, place, want), "case {at}");
-    }
-    Ok(())
 }
 
 /// A node has this number, and its second column these sides and a choice that is made so.
@@ -107,23 +81,6 @@ fn is_split_by_choice(tree: &mut Tree) -> bool
         && split(tree, &high, 1, 1, 7) == Some(Err(SplitFault::NotWhole))
 }
 
-#[test]
-fn an_open_choice_is_split(rt: HostRuntime) -> Result<(), Fail> {
-    let mut choices = Choices::new(rt.alloc());
-    choices.push(Choice::plain())?;
-    choices.push(Choice::open(between(2, 3)))?;
-    let mut tree = two_columns(rt.alloc(), choices)?;
-    assert!(rt; is_split_by_choice(&mut tree));
-    let by_choice = End::Split {
-        col: 1,
-        at: 7,
-        low: 1,
-        high: 2,
-    };
-    assert!(rt; tree.log().first().map(|entry| entry.end) == Some(by_choice));
-    Ok(())
-}
-
 /// The next node is the root, at most 2.
 fn gives_back_the_root(tree: &mut Tree) -> bool
     requires columns { length tree.old.root.box ≡ 2 }
@@ -155,13 +112,6 @@ fn keeps_the_stronger(tree: &mut Tree) -> bool
         && gives_back_the_root(tree)
 }
 
-#[test]
-fn the_stronger_change_counts(rt: HostRuntime) -> Result<(), Fail> {
-    let mut tree = two_columns(rt.alloc(), Choices::new(rt.alloc()))?;
-    assert!(rt; keeps_the_stronger(&mut tree));
-    Ok(())
-}
-
 /// Nodes 3 and 4, which are 2 and 3, are taken, and entered in turn.
 fn are_entered(tree: &mut Tree) -> bool
     requires columns { length tree.old.root.box ≡ 2 }
@@ -186,13 +136,6 @@ fn is_split_twice(tree: &mut Tree) -> bool
         return false;
     };
     split(tree, &high, 2, 0, 2) == Some(Ok((3, 4))) && are_entered(tree)
-}
-
-#[test]
-fn each_node_is_entered_from_the_one_before(rt: HostRuntime) -> Result<(), Fail> {
-    let mut tree = two_columns(rt.alloc(), Choices::new(rt.alloc()))?;
-    assert!(rt; is_split_twice(&mut tree));
-    Ok(())
 }
 
 /// The root is at most 3 already, can't be at least 4, and is at least 1 then, also in the low half of its split at 1.
@@ -226,13 +169,6 @@ const TIGHTENED: (Option<Tightened>, Option<Tightened>, Option<Tightened>) = (
     Some(Tightened::Yes),
 );
 
-#[test]
-fn a_tightened_side_outlives_a_split(rt: HostRuntime) -> Result<(), Fail> {
-    let mut tree = two_columns(rt.alloc(), Choices::new(rt.alloc()))?;
-    assert!(rt; keeps_its_side(&mut tree));
-    Ok(())
-}
-
 /// Node 2 is tightened to at most 2; that is so once more as it is entered after node 1, and as it is taken again.
 fn has_its_side_again(tree: &mut Tree) -> bool
     requires columns { length tree.old.root.box ≡ 2 }
@@ -248,13 +184,6 @@ fn has_its_side_again(tree: &mut Tree) -> bool
         Some(again) => is_tighter && is_back && is_node(tree, &again, 2, between(2, 2)),
         None => false,
     }
-}
-
-#[test]
-fn a_tightened_side_comes_back(rt: HostRuntime) -> Result<(), Fail> {
-    let mut tree = two_columns(rt.alloc(), Choices::new(rt.alloc()))?;
-    assert!(rt; is_halved(&mut tree, None) && has_its_side_again(&mut tree));
-    Ok(())
 }
 
 /// Splits the root, of this bound, at 1 into nodes 1 and 2.
@@ -298,15 +227,6 @@ fn takes_the_least_first(tree: &mut Tree) -> bool {
     }
 }
 
-#[test]
-fn the_least_bound_comes_first(rt: HostRuntime) -> Result<(), Fail> {
-    let mut tree = two_columns(rt.alloc(), Choices::new(rt.alloc()))?;
-    assert!(rt; is_halved(&mut tree, Some(Frac::from(3))));
-    assert!(rt; has_bound(&tree, 3));
-    assert!(rt; takes_the_least_first(&mut tree));
-    Ok(())
-}
-
 /// The end of a node of bound 3.
 fn ended(id: u64, end: End) -> Logged {
     Logged {
@@ -329,10 +249,8 @@ fn are_ended(tree: &mut Tree) -> bool {
     tree.next().is_none()
 }
 
-#[test]
-fn ends_are_logged_in_their_order(rt: HostRuntime) -> Result<(), Fail> {
-    let mut tree = two_columns(rt.alloc(), Choices::new(rt.alloc()))?;
-    assert!(rt; is_halved(&mut tree, Some(Frac::from(3))) && are_ended(&mut tree));
+/// The log has the ends of the root, which was split, and of its halves, and is taken.
+fn is_logged(tree: Tree) -> bool {
     let split = End::Split {
         col: 0,
         at: 1,
@@ -344,17 +262,145 @@ fn ends_are_logged_in_their_order(rt: HostRuntime) -> Result<(), Fail> {
         ended(1, End::Parked),
         ended(2, End::Closed),
     ];
-    assert!(rt; tree.take_log().as_slice() == log.as_slice());
-    Ok(())
+    tree.take_log().as_slice() == log.as_slice()
+}
+
+/// No open node has a bound of at least 4, and both have one of at least 3.
+fn are_closed(tree: &mut Tree) -> bool {
+    tree.close_from(Frac::from(4));
+    let stay = tree.open_count() == 2;
+    tree.close_from(Frac::from(3));
+    stay && tree.open_count() == 0 && tree.log().len() == 1
+}
+
+/// What is tried with a tree of two columns from 0 to 3, of which the first is whole.
+#[derive(Clone, Copy)]
+enum Tried {
+    /// Halves end and begin at the split.
+    Halves,
+    /// A column and a number at which the root is split, and why it isn't.
+    Split(u32, i128, Option<SplitFault>),
+    /// The stronger change of a node counts.
+    Stronger,
+    /// Each node is entered from the one before.
+    Entered,
+    /// A tightened side outlives a split.
+    Outlives,
+    /// A tightened side comes back with its node.
+    ComesBack,
+    /// The node of the least bound comes first.
+    Order,
+    /// Nodes are closed from a cost on.
+    Closed,
+}
+
+const TRIED: [Tried; 12] = [
+    Tried::Halves,
+    Tried::Split(0, 0, None),
+    Tried::Split(0, 2, None),
+    Tried::Split(0, 3, Some(SplitFault::Outside)),
+    Tried::Split(0, -1, Some(SplitFault::Outside)),
+    Tried::Split(1, 1, Some(SplitFault::NotWhole)),
+    Tried::Stronger,
+    Tried::Entered,
+    Tried::Outlives,
+    Tried::ComesBack,
+    Tried::Order,
+    Tried::Closed,
+];
+
+/// Splits the root, of the bound 3, and tries one of the last two.
+fn holds_behind(tree: &mut Tree, tried: Tried) -> bool
+    requires flags { tree.old.integral ≡ true ∷ false ∷ [] }
+    requires columns { length tree.old.root.box ≡ 2 }
+{
+    if !is_halved(tree, Some(Frac::from(3))) {
+        return false;
+    }
+    match tried {
+        Tried::Order => has_bound(tree, 3) && takes_the_least_first(tree),
+        _ => are_closed(tree),
+    }
+}
+
+fn holds(tree: &mut Tree, tried: Tried) -> bool
+    requires flags { tree.old.integral ≡ true ∷ false ∷ [] }
+    requires columns { length tree.old.root.box ≡ 2 }
+{
+    match tried {
+        Tried::Halves => halves_end_and_begin(tree),
+        Tried::Split(col, at, want) => root_split(tree, col, at, want),
+        Tried::Stronger => keeps_the_stronger(tree),
+        Tried::Entered => is_split_twice(tree),
+        Tried::Outlives => keeps_its_side(tree),
+        Tried::ComesBack => is_halved(tree, None) && has_its_side_again(tree),
+        _ => holds_behind(tree, tried),
+    }
+}
+
+fn is_so(alloc: Global, tried: Tried) -> bool {
+    match two_columns(alloc, Choices::new(alloc)) {
+        Ok(mut tree) => holds(&mut tree, tried),
+        Err(_) => false,
+    }
 }
 
 #[test]
-fn nodes_are_closed_from_a_cost(rt: HostRuntime) -> Result<(), Fail> {
-    let mut tree = two_columns(rt.alloc(), Choices::new(rt.alloc()))?;
-    assert!(rt; is_halved(&mut tree, Some(Frac::from(3))));
-    tree.close_from(Frac::from(4));
-    assert!(rt; tree.open_count() == 2);
-    tree.close_from(Frac::from(3));
-    assert!(rt; tree.open_count() == 0 && tree.log().len() == 1);
-    Ok(())
+fn trees_are_as_worked_out(rt: HostRuntime) {
+    for at in 0..TRIED.len() {
+        assert!(rt; is_so(rt.alloc(), TRIED[at]), "case {at}");
+    }
+}
+
+/// The root is split, and the ends of its halves are logged in their order.
+fn are_ends_logged(alloc: Global) -> bool {
+    match two_columns(alloc, Choices::new(alloc)) {
+        Ok(mut tree) => {
+            let has_ended = is_halved(&mut tree, Some(Frac::from(3))) && are_ended(&mut tree);
+            let is_logged = is_logged(tree);
+            has_ended && is_logged
+        }
+        Err(_) => false,
+    }
+}
+
+#[test]
+fn ends_are_logged_in_their_order(rt: HostRuntime) {
+    assert!(rt; are_ends_logged(rt.alloc()));
+}
+
+/// The tree whose second column is 0 or from 2 to 3.
+fn with_a_choice(alloc: Global) -> Result<Tree, AllocError>
+    ensures { IfOk result (λ tree. (tree.integral ≡ true ∷ false ∷ []) × (length tree.root.box ≡ 2)) }
+{
+    let mut choices = Choices::new(alloc);
+    choices.push(Choice::plain())?;
+    choices.push(Choice::open(between(2, 3)))?;
+    two_columns(alloc, choices)
+}
+
+/// The first entry of the log is the split by the choice.
+fn is_logged_by_choice(tree: &Tree) -> bool {
+    let by_choice = End::Split {
+        col: 1,
+        at: 7,
+        low: 1,
+        high: 2,
+    };
+    match tree.log().first() {
+        Some(entry) => entry.end == by_choice,
+        None => false,
+    }
+}
+
+fn is_choice_split(alloc: Global) -> bool {
+    match with_a_choice(alloc) {
+        Ok(mut tree) => is_split_by_choice(&mut tree) && is_logged_by_choice(&tree),
+        Err(_) => false,
+    }
+}
+
+#[test]
+fn an_open_choice_is_split(rt: HostRuntime) {
+    assert!(rt; is_choice_split(rt.alloc()));
 }

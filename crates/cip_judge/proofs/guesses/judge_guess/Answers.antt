@@ -10,4 +10,6 @@ returns-in_default c = record {
   answer = search rules;
   after = refl;
   later = later_at_itself c.args.core.now c.args.node.now c.requires.at_work;
+  region = refl;
+  frame = refl;
 }

@@ -17,14 +17,14 @@ solve_leaf-requires c =
     let node = c.args.node in
     let box : c.bounds.result.now ≡ box_of core.tree node = c.bounds.ensures ∙ ap (λ (r : Region). r.box) c.requires.leaf.full.region in
     let choices : c.choices.result.now ≡ choices_of core.tree node = c.choices.ensures ∙ ap (λ (r : Region). r.choices) c.requires.leaf.full.region in
-    let w : IsAtWork core node = record { up = c.requires.can.up; region = c.requires.leaf.full.region } in
+    let w : IsAtWork core node = record { up = c.requires.up; region = c.requires.leaf.full.region } in
     subst (λ (p : Program). HasOneLeaf p c.bounds.result.now c.choices.result.now) (sym c.program.ensures)
     (subst (λ b. HasOneLeaf (reduced_of core) b c.choices.result.now) (sym box)
     (subst (HasOneLeaf (reduced_of core) (box_of core.tree node)) (sym choices) (record {
       wholes = c.requires.leaf.full.wholes;
       settled = c.requires.leaf.settled;
-      within = work_within core node c.requires.can.up;
-      still_open = (work_node_of core node c.requires.can.up).still_open;
+      within = work_within core node c.requires.up;
+      still_open = (work_node_of core node c.requires.up).still_open;
       long = subst (λ b. length b ≡ columns (reduced_of core)) (ap (λ (r : Region). r.box) c.requires.leaf.full.region) (work_long core node c.is_sound.ensures.formed w);
     })))
 

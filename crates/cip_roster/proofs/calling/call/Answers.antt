@@ -1,4 +1,4 @@
-use Rattle.std.proofs.Common.{ℕ, List, pos, arith, subst, sym, get_or}
+use Rattle.std.proofs.Common.{ℕ, List, pos, arith, subst, sym, ◌∙◌, get_or}
 use Rattle.cip_plugin.specs.Asking.{ask_of}
 use Rattle.cip_seats.specs.declared.keys.Key.{Key}
 use Rattle.cip_roster.proofs.Turning.{SoFar, all_still, ids_next, so_far_more}
@@ -22,4 +22,5 @@ loop-key-preserved g c =
       lines = omega (arith, c.loop-key.invariant.lines, c.turn_into.ensures.lines);
       length = omega (arith, c.loop-key.invariant.length, c.turn_into.ensures.length);
       capacity = omega (arith, c.loop-key.invariant.capacity, c.turn_into.ensures.capacity);
+      rankings = c.turn_into.ensures.rankings ∙ c.loop-key.invariant.rankings;
     }

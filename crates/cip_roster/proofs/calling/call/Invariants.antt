@@ -10,7 +10,8 @@ invariant-loop-key g l = record {
   so_far : SoFar (ask_of l.question) (ids_of (take l.key-index l.keys)) (g.R.Seated.state l.initial.roster)
       (g.R.Seated.state l.roster) l.initial.given.items l.given.items;
   ready : All (λ key. CanBeAsked (g.R.Seated.state l.roster) (ask_of l.question) key.id) l.keys;
-  lines : g.R.Seated.room l.initial.roster ≤ g.R.Seated.room l.roster + 2 * l.key-index;
+  lines : (g.R.Seated.room l.initial.roster).lines ≤ (g.R.Seated.room l.roster).lines + 2 * l.key-index;
   length : vec_len l.given ≤ vec_len l.initial.given + l.key-index;
   capacity : vec_capacity l.given ≡ vec_capacity l.initial.given;
+  rankings : (g.R.Seated.room l.roster).rankings ≡ (g.R.Seated.room l.initial.roster).rankings;
 }

@@ -1,10 +1,11 @@
-use Rattle.std.proofs.Common.{List, length, All, ap, arith, subst, sym}
+use Rattle.std.proofs.Common.{List, length, All, ap, arith, subst, sym, ◌∙◌}
 use Rattle.cip_plugin.specs.Asking.{ask_of}
 use Rattle.cip_seats.specs.declared.keys.Key.{Key}
 use Rattle.cip_seats.specs.Calling.{ids_of}
 use Rattle.cip_roster.specs.Turns.{CanBeAsked, handed}
 use Rattle.cip_roster.proofs.Ranking.{ranked_can}
-use Rattle.cip_roster.proofs.Turning.{all_behind, called_sound}
+use Rattle.cip_roster.proofs.StillRanked.{sound_with}
+use Rattle.cip_roster.proofs.Turning.{all_behind, called_kind, called_ranked, called_sound}
 use Rattle.cip_roster.proofs.calling.call_kind.Goals as goal
 
 pub call-requires-clause-ready : goal.call-requires-clause-ready
@@ -13,17 +14,26 @@ call-requires-clause-ready g c =
     (ask_of c.args.question) k.id) keys)
     (sym c.as_slice.ensures.value)
     (all_behind c.in_ok-keys.keys.items (ask_of c.args.question) (g.R.Seated.state c.args.roster.now)
-    (g.R.Seated.state c.reserve_turns.new.self) c.reserve_turns.ensures.state
+    (g.R.Seated.state c.reserve_turns.new.self) (c.reserve_turns.ensures.state ∙ c.ranked.ensures.state)
     (ranked_can c.args.kind (ask_of c.args.question) (g.R.Seated.state c.args.roster.now) c.in_ok-keys.keys.items
-    c.requires.fits c.in_ok-keys.ensures.permutation))
+    c.requires.fits c.in_ok-keys.ensures.ranking.permutation))
 
 pub returns-clause-sound : goal.returns-clause-sound
 returns-clause-sound g c =
-    called_sound (ids_of c.as_slice.result.now) (ask_of c.args.question) (g.R.Seated.state c.args.roster.now)
+    let same = c.reserve_turns.ensures.state ∙ c.ranked.ensures.state in
+    sound_with c.args.kind c.in_ok-keys.keys (g.R.Seated.state c.call.new.roster)
+    (g.R.Seated.state c.keep_ranking.new.self) (g.R.Seated.room c.call.new.roster)
+    (g.R.Seated.room c.keep_ranking.new.self) c.keep_ranking.ensures.state c.keep_ranking.ensures.lines
+    c.keep_ranking.ensures.more
+    (called_ranked c.args.kind (ids_of c.as_slice.result.now) (ask_of c.args.question)
+    (g.R.Seated.state c.args.roster.now) (g.R.Seated.state c.reserve_turns.new.self)
+    (g.R.Seated.state c.call.new.roster) (handed c.reserve.new.self.items c.call.new.given.items)
+    c.in_ok-keys.keys.items same c.call.ensures.called c.in_ok-keys.ensures.ranking)
+    (called_sound (ids_of c.as_slice.result.now) (ask_of c.args.question) (g.R.Seated.state c.ranked.new.roster)
     (g.R.Seated.state c.reserve_turns.new.self) (g.R.Seated.state c.call.new.roster)
-    (handed c.reserve.new.self.items c.call.new.given.items) (g.R.Seated.room c.args.roster.now)
+    (handed c.reserve.new.self.items c.call.new.given.items) (g.R.Seated.room c.ranked.new.roster)
     (g.R.Seated.room c.reserve_turns.new.self) (g.R.Seated.room c.call.new.roster) (length c.as_slice.result.now)
-    c.reserve_turns.ensures.state c.requires.sound c.call.ensures.called
+    c.reserve_turns.ensures.state c.ranked.ensures.sound c.call.ensures.called
     (omega (
       arith,
       c.in_ok-reserve_turns.ensures.room,
@@ -32,4 +42,13 @@ returns-clause-sound g c =
           c.as_slice.ensures.value,
       c.as_slice.ensures.len,
     ))
-    c.call.ensures.room
+    c.call.ensures.room (c.call.ensures.rankings ∙ c.reserve_turns.ensures.rankings))
+
+pub returns-clause-called : goal.returns-clause-called
+returns-clause-called g c =
+    called_kind c.args.kind (ask_of c.args.question) (g.R.Seated.state c.args.roster.now)
+    (g.R.Seated.state c.reserve_turns.new.self) (g.R.Seated.state c.call.new.roster)
+    (g.R.Seated.state c.keep_ranking.new.self) c.in_ok-keys.keys.items c.as_slice.result.now c.args.given.now.items
+    c.reserve.new.self.items c.call.new.given.items (c.reserve_turns.ensures.state ∙ c.ranked.ensures.state)
+    c.keep_ranking.ensures.state c.reserve.ensures.items c.as_slice.ensures.value c.in_ok-keys.ensures.ranking
+    c.call.ensures.kept c.call.ensures.called

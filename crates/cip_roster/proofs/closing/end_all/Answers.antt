@@ -4,14 +4,15 @@ use Rattle.cip_roster.proofs.closing.end_all.Goals as goal
 
 pub loop-place-init : goal.loop-place-init
 loop-place-init g c = record {
-  so_far = ended_none (g.R.Seated.state c.args.roster.now) (g.R.Seated.room c.args.roster.now) c.requires.sound.lasts;
+  so_far = ended_none (g.R.Seated.state c.args.roster.now) (g.R.Seated.room c.args.roster.now).lines
+      c.requires.sound.lasts;
   sound = c.requires.sound;
 }
 
 pub loop-place-preserved : goal.loop-place-preserved
 loop-place-preserved g c = record {
   so_far = ended_one c.loop-place.place (g.R.Seated.state c.args.roster.now) (g.R.Seated.state c.loop-place.roster)
-      (g.R.Seated.state c.end_one.new.roster) (g.R.Seated.room c.loop-place.roster)
+      (g.R.Seated.state c.end_one.new.roster) (g.R.Seated.room c.loop-place.roster).lines
       (g.R.Seated.room c.end_one.new.roster) c.loop-place.invariant.so_far
       (omega (arith, c.loop-place-test.true, c.count-place-end.ensures, c.loop-place.invariant.so_far.count))
       c.end_one.ensures.run c.end_one.ensures.gone c.end_one.ensures.sound;
@@ -21,11 +22,11 @@ loop-place-preserved g c = record {
 pub returns-clause-run : goal.returns-clause-run
 returns-clause-run g c =
     ended_all c.loop-place.place (g.R.Seated.state c.args.roster.now) (g.R.Seated.state c.loop-place.roster)
-    (g.R.Seated.room c.loop-place.roster) (omega (arith, c.loop-place-test.false, c.count-place-end.ensures))
+    (g.R.Seated.room c.loop-place.roster).lines (omega (arith, c.loop-place-test.false, c.count-place-end.ensures))
     c.loop-place.invariant.so_far
 
 pub returns-clause-gone : goal.returns-clause-gone
 returns-clause-gone g c =
     ended_gone c.loop-place.place (g.R.Seated.state c.args.roster.now) (g.R.Seated.state c.loop-place.roster)
-    (g.R.Seated.room c.loop-place.roster) (omega (arith, c.loop-place-test.false, c.count-place-end.ensures))
+    (g.R.Seated.room c.loop-place.roster).lines (omega (arith, c.loop-place-test.false, c.count-place-end.ensures))
     c.loop-place.invariant.so_far

@@ -25,7 +25,7 @@ pub returns-clause-sound : goal.returns-clause-sound
 returns-clause-sound g c =
     sound_ended c.args.id (g.R.Seated.state c.args.roster.now) (g.R.Seated.state c.end.new.roster)
     (g.R.Seated.room c.args.roster.now) (g.R.Seated.room c.end.new.roster) c.end.ensures.run c.requires.sound
-    c.end.ensures.at c.end.ensures.room
+    c.end.ensures.at c.end.ensures.room c.end.ensures.rankings
 
 pub returns-clause-run : goal.returns-clause-run
 returns-clause-run g c =

@@ -1,68 +1,33 @@
-use Rattle.std.proofs.Common.{ℕ, List, pos, All, subst, sym, get_or}
-use Rattle.std.specs.Prelude.{slice_get, IsSome}
-use Rattle.std.specs.List.Sorted.{IsPermutation, IsSorted}
-use Rattle.std.proofs.lemmas.List.{take_all}
+use Rattle.std.proofs.Common.{List, subst, sym}
+use Rattle.std.specs.Prelude.{OnErr, OnOk}
 use Rattle.cip_plugin.specs.declared.kinds.Kind.TheVariants as kinds
 use Rattle.cip_seats.specs.declared.keys.Key.{Key}
-use Rattle.cip_seats.specs.Calling.{ids_of, is_ready, keys_from}
-use Rattle.cip_seats.specs.Ranks.{rank_order}
-use Rattle.cip_roster.proofs.Delivery.{ran_more}
-use Rattle.cip_roster.proofs.OneEvent.{ToldTo, on_err_any, told_to_all, told_to_more, told_to_none}
-use Rattle.cip_roster.proofs.Ranking.{ranked_seated}
-use Rattle.cip_roster.proofs.Turning.{ids_next, seat_stays}
+use Rattle.cip_seats.specs.Seats.{State}
+use Rattle.cip_roster.specs.KeptRankings.{IsRanking}
+use Rattle.cip_roster.specs.Wished.{Ran, WasTold}
+use Rattle.cip_roster.proofs.Delivery.{ran_same}
+use Rattle.cip_roster.proofs.OneEvent.{on_err_any}
 use Rattle.cip_roster.proofs.delivering.tell.Goals as goal
 
-pub loop-key-init : goal.loop-key-init
-loop-key-init g c = record {
-  told = told_to_none c.args.view.now.node c.args.event (g.R.Seated.state c.args.roster.now) c.args.queue.now;
-  seated = subst (λ (keys : List Key). All (λ k. IsSome (slice_get (g.R.Seated.state c.args.roster.now).seats k.id))
-      keys) (sym c.deref-key-items.ensures.value)
-      (ranked_seated kinds.EventHandler (g.R.Seated.state c.args.roster.now).seats c.in_ok-keys.keys.items
-      c.in_ok-keys.ensures.permutation);
-  sound = c.requires.sound;
-}
+pub tell_each-requires-clause-ranking : goal.tell_each-requires-clause-ranking
+tell_each-requires-clause-ranking g c =
+    subst (λ (keys : List Key). IsRanking kinds.EventHandler (g.R.Seated.state c.order_of.new.roster).seats keys)
+    (sym c.as_slice.ensures.value)
+    (subst (λ (s : State). IsRanking kinds.EventHandler s.seats c.in_ok-order.order.items)
+    (sym c.order_of.ensures.state) c.in_ok-order.ensures.ranking)
 
-pub tell_one-requires-clause-seat : goal.tell_one-requires-clause-seat
-tell_one-requires-clause-seat g c =
-    let d : Key = record { rank = record { 0 = pos 0 }; id = 0 } in
-    seat_stays (g.R.Seated.state c.args.roster.now) (g.R.Seated.state c.loop-key.roster)
-    (get_or c.deref-key-items.result.now c.loop-key.key-index d).id c.loop-key.invariant.told.steps
-    c.loop-key.invariant.told.run
-    (c.loop-key.invariant.seated c.loop-key.key-index d c.loop-key-test.true)
-
-pub returns-in_err-tell_one-clause-err : goal.returns-in_err-tell_one-clause-err
-returns-in_err-tell_one-clause-err g c =
-    on_err_any _ c.from_residual-in_err-tell_one.result (ran_more (g.R.Seated.state c.args.roster.now)
-    (g.R.Seated.state c.loop-key.roster) (g.R.Seated.state c.tell_one.new.roster) c.loop-key.invariant.told.steps
-    c.loop-key.invariant.told.run c.in_err-tell_one.ensures.err)
-
-pub loop-key-preserved : goal.loop-key-preserved
-loop-key-preserved g c =
-    let d : Key = record { rank = record { 0 = pos 0 }; id = 0 } in
-    record {
-      told = subst (λ (done : List ℕ). ToldTo c.args.view.now.node c.args.event done
-          (g.R.Seated.state c.args.roster.now) (g.R.Seated.state c.tell_one.new.roster) c.args.queue.now
-          c.tell_one.new.queue)
-          (sym (ids_next c.deref-key-items.result.now c.loop-key.key-index d c.loop-key-test.true))
-          (told_to_more c.args.view.now.node c.args.event _
-          (get_or c.deref-key-items.result.now c.loop-key.key-index d).id (g.R.Seated.state c.args.roster.now)
-          (g.R.Seated.state c.loop-key.roster) (g.R.Seated.state c.tell_one.new.roster) c.args.queue.now
-          c.loop-key.queue c.tell_one.new.queue c.loop-key.invariant.sound.settled c.loop-key.invariant.told
-          c.in_ok-tell_one.ensures.told);
-      seated = c.loop-key.invariant.seated;
-      sound = c.tell_one.ensures.sound;
-    }
+pub returns-in_err-order-clause-err : goal.returns-in_err-order-clause-err
+returns-in_err-order-clause-err g c =
+    on_err_any _ c.from_residual.result
+    (ran_same (g.R.Seated.state c.args.roster.now) (g.R.Seated.state c.order_of.new.roster) c.order_of.ensures.state)
 
 pub returns-clause-told : goal.returns-clause-told
 returns-clause-told g c =
-    told_to_all c.args.view.now.node c.args.event c.deref-key-items.result.now (g.R.Seated.state c.args.roster.now)
-    (g.R.Seated.state c.loop-key.roster) c.args.queue.now c.loop-key.queue
-    (subst (λ (keys : List Key). IsPermutation
-    (keys_from (is_ready kinds.EventHandler) 0 (g.R.Seated.state c.args.roster.now).seats) keys)
-    (sym c.deref-key-items.ensures.value) c.in_ok-keys.ensures.permutation)
-    (subst (λ (keys : List Key). IsSorted rank_order keys) (sym c.deref-key-items.ensures.value)
-    c.in_ok-keys.ensures.sorted)
-    (subst (λ (keys : List Key). ToldTo c.args.view.now.node c.args.event (ids_of keys)
-    (g.R.Seated.state c.args.roster.now) (g.R.Seated.state c.loop-key.roster) c.args.queue.now c.loop-key.queue)
-    (take_all c.loop-key.key-index c.deref-key-items.result.now c.loop-key-test.false)
-    c.loop-key.invariant.told)
+    subst (λ (s : State). OnOk c.tell_each.result (WasTold c.args.view.now.node c.args.event s
+    (g.R.Seated.state c.tell_each.new.roster) c.args.queue.now c.tell_each.new.queue)) c.order_of.ensures.state
+    c.tell_each.ensures.told
+
+pub returns-clause-err : goal.returns-clause-err
+returns-clause-err g c =
+    subst (λ (s : State). OnErr c.tell_each.result (Ran s (g.R.Seated.state c.tell_each.new.roster)))
+    c.order_of.ensures.state c.tell_each.ensures.err

@@ -1,4 +1,4 @@
-use Rattle.std.proofs.Common.{sym}
+use Rattle.std.proofs.Common.{sym, ◌∙◌}
 use Rattle.cip_plugin.specs.Calls.{OnEvent}
 use Rattle.cip_roster.proofs.Delivery.{ran_turn}
 use Rattle.cip_roster.proofs.OneEvent.{told_nothing, told_passed, told_wishes}
@@ -16,7 +16,7 @@ grant-requires-clause-sound g c =
     (g.R.Seated.state c.reserve_turns.new.self) (g.R.Seated.state c.turn.new.roster) c.turn.result
     (g.R.Seated.room c.args.roster.now) (g.R.Seated.room c.reserve_turns.new.self) (g.R.Seated.room c.turn.new.roster)
     c.reserve_turns.ensures.state c.requires.sound c.turn.ensures.turn c.in_ok-reserve_turns.ensures.room
-    c.turn.ensures.room
+    c.turn.ensures.room (c.turn.ensures.rankings ∙ c.reserve_turns.ensures.rankings)
 
 pub grant-requires-clause-seat : goal.grant-requires-clause-seat
 grant-requires-clause-seat g c =
@@ -30,7 +30,7 @@ returns-in-None-clause-sound g c =
     (g.R.Seated.state c.reserve_turns.new.self) (g.R.Seated.state c.turn.new.roster) c.turn.result
     (g.R.Seated.room c.args.roster.now) (g.R.Seated.room c.reserve_turns.new.self) (g.R.Seated.room c.turn.new.roster)
     c.reserve_turns.ensures.state c.requires.sound c.turn.ensures.turn c.in_ok-reserve_turns.ensures.room
-    c.turn.ensures.room
+    c.turn.ensures.room (c.turn.ensures.rankings ∙ c.reserve_turns.ensures.rankings)
 
 pub returns-in-None-clause-told : goal.returns-in-None-clause-told
 returns-in-None-clause-told g c =

@@ -1,5 +1,6 @@
-use Rattle.std.proofs.Common.{arith, ap, refl}
+use Rattle.std.proofs.Common.{arith, ap, refl, ◌∙◌}
 use Rattle.cip_seats.specs.Seats.{held_count}
+use Rattle.cip_roster.specs.KeptRankings.{Room}
 use Rattle.cip_roster.proofs.Beginning.{begun_sound, begun_with_all, seated_count, seated_fresh}
 use Rattle.cip_roster.proofs.starting.admit.Goals as goal
 
@@ -19,7 +20,7 @@ begin_all-requires-clause-room g c =
     omega (
       arith,
       c.requires.room,
-      c.seat_all.ensures.room,
+      ap (λ (r : Room). r.lines) c.seat_all.ensures.room,
       seated_count g.P.Tells.who c.args.plugins.now.items _ _ c.seat_all.ensures.seats refl,
     )
 
@@ -41,6 +42,7 @@ returns-clause-sound g c =
     begun_sound (g.R.Seated.state c.begin_all.new.roster) (g.R.Seated.room c.begin_all.new.roster)
     c.begin_all.ensures.playing (omega (arith, count, first, second, c.requires.numbers))
     (omega (arith, count, own, c.begin_all.ensures.room))
+    (c.begin_all.ensures.rankings ∙ ap (λ (r : Room). r.rankings) c.seat_all.ensures.room ∙ c.requires.unranked)
 
 pub returns-clause-seats : goal.returns-clause-seats
 returns-clause-seats g c =

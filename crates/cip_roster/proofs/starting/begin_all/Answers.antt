@@ -1,4 +1,4 @@
-use Rattle.std.proofs.Common.{ℕ, add-one, arith, subst, sym}
+use Rattle.std.proofs.Common.{ℕ, add-one, arith, subst, sym, ◌∙◌}
 use Rattle.cip_roster.proofs.Beginning.{BegunSoFar, begun_all, begun_more}
 use Rattle.cip_roster.proofs.starting.begin_all.Goals as goal
 
@@ -11,6 +11,7 @@ loop-id-preserved g c = record {
       c.begin.ensures.run.0 c.loop-id.invariant.so_far c.set_up.ensures.run.1 c.begin.ensures.run.1
       c.begin.ensures.at);
   room = omega (arith, c.loop-id.invariant.room, c.set_up.ensures.room, c.begin.ensures.room);
+  rankings = c.begin.ensures.rankings ∙ c.set_up.ensures.rankings ∙ c.loop-id.invariant.rankings;
 }
 
 pub returns-clause-playing : goal.returns-clause-playing

@@ -20,6 +20,6 @@ loop-plugin-preserved g c =
           (g.R.Seated.state c.seat.new.self) c.loop-plugin.invariant.so_far split c.seat.ensures.seats
           c.seat.ensures.names
           c.seat.ensures.places c.seat.ensures.lines c.seat.ensures.kept;
-      room = omega (arith, c.seat.ensures.room, c.loop-plugin.invariant.room);
+      room = rw c.seat.ensures.room c.loop-plugin.invariant.room;
       spare = omega (arith, c.seat.ensures.spare, c.loop-plugin.invariant.spare, ap length split);
     }

@@ -13,5 +13,6 @@ returns-clause-sound g c =
     refl c.switch.ensures.run
     (sound_more (g.R.Seated.state c.args.roster.now) (g.R.Seated.state c.ready.new.roster)
     (g.R.Seated.room c.args.roster.now) (g.R.Seated.room c.ready.new.roster) c.in_ok-ready.ensures.state
-    c.in_ok-ready.ensures.grows c.requires.sound)
+    c.in_ok-ready.ensures.grows c.in_ok-ready.ensures.rankings c.requires.sound)
     c.switch.ensures.at (omega (arith, live, c.in_ok-ready.ensures.room, c.switch.ensures.room))
+    c.switch.ensures.rankings

@@ -14,3 +14,4 @@ returns-clause-sound g c =
     (g.R.Seated.state c.set_priority.new.self)) (to_z-of_z c.ranges.priority) c.set_priority.ensures.run)
     c.requires.sound
     c.set_priority.ensures.at (omega (arith, c.requires.sound.lasts, c.set_priority.ensures.room))
+    c.set_priority.ensures.rankings

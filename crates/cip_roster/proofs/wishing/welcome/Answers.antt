@@ -1,4 +1,4 @@
-use Rattle.std.proofs.Common.{ℕ, arith, subst}
+use Rattle.std.proofs.Common.{ℕ, arith, subst, ◌∙◌}
 use Rattle.cip_seats.specs.declared.stages.Stage.TheVariants as stages
 use Rattle.cip_roster.specs.Turns.{StandsAt}
 use Rattle.cip_roster.proofs.Sounding.{sound_included}
@@ -17,6 +17,7 @@ returns-clause-sound g c =
     (subst (λ (n : ℕ). StandsAt stages.Playing (g.R.Seated.state c.begin.new.roster) n) c.count-id.ensures
     c.begin.ensures.at)
     (omega (arith, c.requires.room, c.come.ensures.room, c.set_up.ensures.room, c.begin.ensures.room))
+    (c.begin.ensures.rankings ∙ c.set_up.ensures.rankings ∙ c.come.ensures.rankings)
 
 pub returns-clause-granted : goal.returns-clause-granted
 returns-clause-granted g c =

@@ -5,6 +5,7 @@ use Rattle.cip_calls.specs.Noted.{makers}
 use Rattle.cip_calls.specs.Served.{Used}
 use Rattle.cip_calls.specs.declared.judging.Came.TheVariants.{Emptied}
 use Rattle.cip_calls.proofs.Noting.{come_called, come_gone}
+use Rattle.cip_calls.proofs.Pools.{node_none}
 use Rattle.cip_calls.proofs.Serving.{used_nobody, round_used, round_plain, if_ok}
 use Rattle.cip_calls.proofs.plugins.Plugins.ask_round.Goals as goal
 
@@ -15,6 +16,12 @@ returns-then-has_none-clause-come g c =
 pub returns-then-has_none-clause-used : goal.returns-then-has_none-clause-used
 returns-then-has_none-clause-used g c = λ _.
     used_nobody (ask_in c.args.round ∷ []) (g.R.Seated.state c.args.self.now.roster) c.args.self.now.judged.items (c.has_none.ensures c.if-has_none.true)
+
+pub returns-then-has_none-clause-node : goal.returns-then-has_none-clause-node
+returns-then-has_none-clause-node g c = λ other. node_none c.args.core.now c.args.node.now
+
+pub returns-in_err-gave-clause-node : goal.returns-in_err-gave-clause-node
+returns-in_err-gave-clause-node g c = λ other. node_none c.args.core.now c.args.node.now
 
 pub returns-in_err-gave-clause-come : goal.returns-in_err-gave-clause-come
 returns-in_err-gave-clause-come g c =

@@ -1,18 +1,34 @@
 use Rattle.std.proofs.Common.{◌∷◌, [], sym, ◌∙◌}
 use Rattle.cip_plugin.specs.Calls.{Propagate}
 use Rattle.cip_calls.proofs.Noting.{come_further}
+use Rattle.cip_calls.proofs.Pools.{sides_not_cuts}
 use Rattle.cip_calls.proofs.Serving.{used_again, accepted_open}
 use Rattle.cip_calls.proofs.plugins.Plugins.propagate.Goals as goal
 
-pub returns-in_err-last-clause-come : goal.returns-in_err-last-clause-come
-returns-in_err-last-clause-come g c = come_further _ _ _ _ _ _ _ _ _ _ _ _ _ c.loop.invariant.come c.ask_round-in-loop.ensures.come
+pub returns-in_err-first-clause-pool : goal.returns-in_err-first-clause-pool
+returns-in_err-first-clause-pool g c = c.ask_round.ensures.pool sides_not_cuts
+
+pub loop-init : goal.loop-init
+loop-init g c = record {
+  come = c.ask_round.ensures.come;
+  used = c.in_ok-first.ensures.used;
+  emptied = c.in_ok-first.ensures.emptied;
+  pool = c.ask_round.ensures.pool sides_not_cuts;
+}
+
+pub returns-in_err-newest-clause-come : goal.returns-in_err-newest-clause-come
+returns-in_err-newest-clause-come g c = come_further _ _ _ _ _ _ _ _ _ _ _ _ _ c.loop.invariant.come c.ask_round-in-loop.ensures.come
+
+pub returns-in_err-newest-clause-pool : goal.returns-in_err-newest-clause-pool
+returns-in_err-newest-clause-pool g c = c.ask_round-in-loop.ensures.pool sides_not_cuts ∙ c.loop.invariant.pool
 
 pub loop-preserved : goal.loop-preserved
 loop-preserved g c = record {
   come = come_further _ _ _ _ _ _ _ _ _ _ _ _ _ c.loop.invariant.come c.ask_round-in-loop.ensures.come;
   used = λ other. used_again (Propagate ∷ []) _ _ _ _ _ _ c.loop.invariant.come.sound.settled
-      (c.loop.invariant.used (λ e. accepted_open (sym c.in-Accepted.is ∙ e))) (c.in_ok-last.ensures.used other);
-  emptied = c.in_ok-last.ensures.emptied;
+      (c.loop.invariant.used (λ e. accepted_open (sym c.in-Accepted.is ∙ e))) (c.in_ok-newest.ensures.used other);
+  emptied = c.in_ok-newest.ensures.emptied;
+  pool = c.ask_round-in-loop.ensures.pool sides_not_cuts ∙ c.loop.invariant.pool;
 }
 
 pub returns-clause-used : goal.returns-clause-used

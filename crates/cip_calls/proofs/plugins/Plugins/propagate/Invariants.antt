@@ -9,6 +9,7 @@ use Rattle.cip_calls.proofs.plugins.Plugins.propagate.Given as goal
 abbrev pub invariant-loop : goal.invariant-loop
 invariant-loop g l = record {
   come : HasCome l.fn.core l.fn.node (g.R.Seated.state l.fn.self.roster) l.core l.node l.self.scratches (g.R.Seated.state l.self.roster) (g.R.Seated.room l.self.roster);
-  used : l.last ≢ Emptied → Used (Propagate ∷ []) (g.R.Seated.state l.fn.self.roster) l.fn.self.judged.items (g.R.Seated.state l.self.roster) l.self.judged.items;
-  emptied : l.last ≡ Emptied → IsShownEmpty l.core l.node;
+  used : l.newest ≢ Emptied → Used (Propagate ∷ []) (g.R.Seated.state l.fn.self.roster) l.fn.self.judged.items (g.R.Seated.state l.self.roster) l.self.judged.items;
+  emptied : l.newest ≡ Emptied → IsShownEmpty l.core l.node;
+  pool : l.core.pool ≡ l.fn.core.pool;
 }

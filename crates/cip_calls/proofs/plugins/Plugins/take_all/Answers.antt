@@ -1,7 +1,8 @@
-use Rattle.std.proofs.Common.{sym, append-nil}
+use Rattle.std.proofs.Common.{refl, sym, ◌∙◌, append-nil}
 use Rattle.cip_calls.specs.Asked.{ask_in}
 use Rattle.cip_calls.specs.Noted.{makers}
 use Rattle.cip_calls.proofs.Noting.{gone_none, gone_further, seat_noted, all_more}
+use Rattle.cip_calls.proofs.Pools.{node_none, node_further, quiet_left}
 use Rattle.cip_calls.proofs.plugins.Plugins.take_all.Goals as goal
 
 pub loop-id-init : goal.loop-id-init
@@ -9,6 +10,9 @@ loop-id-init g c = record {
   gone = gone_none c.args.core.now c.args.node.now (g.R.Seated.state c.args.self.now.roster) (g.R.Seated.room c.args.self.now.roster) c.args.self.now.scratches c.requires.ready c.requires.sound;
   seated = c.requires.seated;
   judged = sym (append-nil (makers c.args.self.now.judged.items));
+  node = λ other. node_none c.args.core.now c.args.node.now;
+  rows = λ e. refl;
+  pool = λ other. refl;
 }
 
 pub loop-id-preserved : goal.loop-id-preserved
@@ -17,13 +21,36 @@ loop-id-preserved g c = record {
   seated = λ k d within. seat_noted _ _ _ c.take_given.ensures.gone.noted (c.loop-id.invariant.seated k d within);
   judged = all_more (ask_in c.args.round) c.args.gave.now c.loop-id.id-index c.loop-id-item.result _ _ _ c.loop-id-test.true c.loop-id-item.is c.loop-id.invariant.judged
       (c.in_ok-came.ensures.judged c.in_default.not-Emptied);
+  node = λ other. node_further _ _ _ _ _ _ (c.loop-id.invariant.node other) (c.take_given.ensures.node other);
+  rows = λ e.
+      let both = c.is_more-any.ensures e in
+      c.in_ok-came.ensures.rows (quiet_left _ c.in_default.not-Emptied both.1) ∙ c.loop-id.invariant.rows both.0;
+  pool = λ other. c.take_given.ensures.pool other ∙ c.loop-id.invariant.pool other;
 }
 
 pub returns-in_err-came-clause-gone : goal.returns-in_err-came-clause-gone
 returns-in_err-came-clause-gone g c = gone_further _ _ _ _ _ _ _ _ _ _ _ _ _ c.loop-id.invariant.gone c.take_given.ensures.gone
+
+pub returns-in_err-came-clause-node : goal.returns-in_err-came-clause-node
+returns-in_err-came-clause-node g c = λ other. node_further _ _ _ _ _ _ (c.loop-id.invariant.node other) (c.take_given.ensures.node other)
+
+pub returns-in_err-came-clause-pool : goal.returns-in_err-came-clause-pool
+returns-in_err-came-clause-pool g c = λ other. c.take_given.ensures.pool other ∙ c.loop-id.invariant.pool other
 
 pub returns-in-Emptied-clause-gone : goal.returns-in-Emptied-clause-gone
 returns-in-Emptied-clause-gone g c = gone_further _ _ _ _ _ _ _ _ _ _ _ _ _ c.loop-id.invariant.gone c.take_given.ensures.gone
 
 pub returns-in-Emptied-clause-emptied : goal.returns-in-Emptied-clause-emptied
 returns-in-Emptied-clause-emptied g c = λ _. c.in_ok-came.ensures.emptied c.in-Emptied.is
+
+pub returns-in-Emptied-clause-node : goal.returns-in-Emptied-clause-node
+returns-in-Emptied-clause-node g c = λ other. node_further _ _ _ _ _ _ (c.loop-id.invariant.node other) (c.take_given.ensures.node other)
+
+pub returns-in-Emptied-clause-pool : goal.returns-in-Emptied-clause-pool
+returns-in-Emptied-clause-pool g c = λ other. c.take_given.ensures.pool other ∙ c.loop-id.invariant.pool other
+
+pub returns-in-Emptied-clause-sides : goal.returns-in-Emptied-clause-sides
+returns-in-Emptied-clause-sides g c = λ _. c.in_ok-came.ensures.sides c.in-Emptied.is
+
+pub returns-clause-rows : goal.returns-clause-rows
+returns-clause-rows g c = λ e. c.loop-id.invariant.rows (c.came_of.ensures.quiet e)

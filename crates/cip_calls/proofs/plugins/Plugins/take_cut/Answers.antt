@@ -1,25 +1,45 @@
-use Rattle.std.proofs.Common.{sym, subst}
+use Rattle.std.proofs.Common.{refl, sym, ap, subst}
 use Rattle.cip_problem.specs.WellFormed.{columns}
-use Rattle.cip_core.specs.CoreStates.{reduced_of}
+use Rattle.cip_tree.specs.Nodes.{region_of}
+use Rattle.cip_core.specs.CoreStates.{CoreState, reduced_of}
 use Rattle.cip_judge.specs.ProposalsJudged.{HaveRoom}
 use Rattle.cip_judge.specs.declared.scratches.Scratches.{Scratches}
 use Rattle.cip_calls.proofs.Noting.{noted_none, gone_none, gone_by}
+use Rattle.cip_calls.proofs.Pools.{cut_more, cut_after}
 use Rattle.cip_calls.proofs.plugins.Plugins.take_cut.Goals as goal
 
 pub returns-in_err-reserve-clause-gone : goal.returns-in_err-reserve-clause-gone
 returns-in_err-reserve-clause-gone g c =
     gone_none c.args.core.now c.args.node.now (g.R.Seated.state c.args.self.now.roster) (g.R.Seated.room c.args.self.now.roster) c.args.self.now.scratches c.requires.ready c.requires.sound
 
+pub returns-in_err-reserve-clause-region : goal.returns-in_err-reserve-clause-region
+returns-in_err-reserve-clause-region g c = refl
+
 pub returns-in_err-came-clause-gone : goal.returns-in_err-came-clause-gone
 returns-in_err-came-clause-gone g c =
-    gone_by _ _ _ _ _ _ _ _ c.judge_cut.ensures.later c.judge_cut.ensures.scratches c.requires.sound (noted_none (g.R.Seated.state c.args.self.now.roster))
+    gone_by _ _ _ _ _ _ _ _ c.judge_cut.ensures.later c.judge_cut.ensures.scratches c.requires.sound
+    (cut_more c.judge_cut.result c.args.core.now c.judge_cut.new.core c.args.cut.now c.judge_cut.ensures.judged) (noted_none (g.R.Seated.state c.args.self.now.roster))
+
+pub returns-in_err-came-clause-region : goal.returns-in_err-came-clause-region
+returns-in_err-came-clause-region g c = ap (λ (k : CoreState). region_of k.tree c.args.node.now) c.judge_cut.ensures.frame
 
 pub returns-in_err-finish-clause-gone : goal.returns-in_err-finish-clause-gone
 returns-in_err-finish-clause-gone g c =
     gone_by _ _ _ _ _ _ _ _ c.judge_cut.ensures.later
-    (subst (λ (s : Scratches). HaveRoom s (columns (reduced_of c.args.core.now))) (sym c.finish.ensures.scratches) c.judge_cut.ensures.scratches) c.finish.ensures.sound c.finish.ensures.noted
+    (subst (λ (s : Scratches). HaveRoom s (columns (reduced_of c.args.core.now))) (sym c.finish.ensures.scratches) c.judge_cut.ensures.scratches) c.finish.ensures.sound
+    (cut_more c.judge_cut.result c.args.core.now c.judge_cut.new.core c.args.cut.now c.judge_cut.ensures.judged) c.finish.ensures.noted
+
+pub returns-in_err-finish-clause-region : goal.returns-in_err-finish-clause-region
+returns-in_err-finish-clause-region g c = ap (λ (k : CoreState). region_of k.tree c.args.node.now) c.judge_cut.ensures.frame
 
 pub returns-clause-gone : goal.returns-clause-gone
 returns-clause-gone g c =
     gone_by _ _ _ _ _ _ _ _ c.judge_cut.ensures.later
-    (subst (λ (s : Scratches). HaveRoom s (columns (reduced_of c.args.core.now))) (sym c.finish.ensures.scratches) c.judge_cut.ensures.scratches) c.finish.ensures.sound c.finish.ensures.noted
+    (subst (λ (s : Scratches). HaveRoom s (columns (reduced_of c.args.core.now))) (sym c.finish.ensures.scratches) c.judge_cut.ensures.scratches) c.finish.ensures.sound
+    (cut_more c.judge_cut.result c.args.core.now c.judge_cut.new.core c.args.cut.now c.judge_cut.ensures.judged) c.finish.ensures.noted
+
+pub returns-clause-region : goal.returns-clause-region
+returns-clause-region g c = ap (λ (k : CoreState). region_of k.tree c.args.node.now) c.judge_cut.ensures.frame
+
+pub returns-clause-rows : goal.returns-clause-rows
+returns-clause-rows g c = (cut_after c.args.core.now c.judge_cut.new.core c.args.cut.now c.in_ok-came.came c.in_ok-came.ensures.judged).same

@@ -1,3 +1,4 @@
+use Rattle.std.proofs.Common.{refl, ◌∙◌}
 use Rattle.cip_calls.proofs.Noting.{gone_none, gone_further, judged_none, judged_more, seat_noted}
 use Rattle.cip_calls.proofs.plugins.Plugins.take_cuts.Goals as goal
 
@@ -6,6 +7,8 @@ loop-cut-init g c = record {
   gone = gone_none c.args.core.now c.args.node.now (g.R.Seated.state c.args.self.now.roster) (g.R.Seated.room c.args.self.now.roster) c.args.self.now.scratches c.requires.ready c.requires.sound;
   seat = c.requires.seat;
   judged = judged_none c.args.id c.args.self.now.judged.items;
+  region = refl;
+  rows = λ e. refl;
 }
 
 pub loop-cut-preserved : goal.loop-cut-preserved
@@ -13,8 +16,13 @@ loop-cut-preserved g c = record {
   gone = gone_further _ _ _ _ _ _ _ _ _ _ _ _ _ c.loop-cut.invariant.gone c.take_cut.ensures.gone;
   seat = seat_noted _ _ c.args.id c.take_cut.ensures.gone.noted c.loop-cut.invariant.seat;
   judged = judged_more c.args.id c.loop-cut.cut-index _ _ _ c.loop-cut.invariant.judged c.in_ok-came.ensures.judged;
+  region = c.take_cut.ensures.region ∙ c.loop-cut.invariant.region;
+  rows = λ e. let both = c.is_any-any.ensures e in c.in_ok-came.ensures.rows both.1 ∙ c.loop-cut.invariant.rows both.0;
 }
 
 pub returns-in_err-came-clause-gone : goal.returns-in_err-came-clause-gone
 returns-in_err-came-clause-gone g c =
     gone_further _ _ _ _ _ _ _ _ _ _ _ _ _ c.loop-cut.invariant.gone c.take_cut.ensures.gone
+
+pub returns-in_err-came-clause-region : goal.returns-in_err-came-clause-region
+returns-in_err-came-clause-region g c = c.take_cut.ensures.region ∙ c.loop-cut.invariant.region

@@ -1,9 +1,10 @@
-use Rattle.std.proofs.Common.{sym, subst}
+use Rattle.std.proofs.Common.{refl, sym, ap, subst}
 use Rattle.cip_problem.specs.WellFormed.{columns}
-use Rattle.cip_core.specs.CoreStates.{reduced_of}
+use Rattle.cip_core.specs.CoreStates.{CoreState, reduced_of}
 use Rattle.cip_judge.specs.ProposalsJudged.{HaveRoom}
 use Rattle.cip_judge.specs.declared.scratches.Scratches.{Scratches}
-use Rattle.cip_calls.proofs.Noting.{gone_none, gone_by}
+use Rattle.cip_calls.proofs.Noting.{noted_none, gone_none, gone_by}
+use Rattle.cip_calls.proofs.Pools.{more_same}
 use Rattle.cip_calls.proofs.plugins.Plugins.take_point.Goals as goal
 
 pub returns-in_err-reserve-clause-gone : goal.returns-in_err-reserve-clause-gone
@@ -13,9 +14,17 @@ returns-in_err-reserve-clause-gone g c =
 pub returns-in_err-finish-clause-gone : goal.returns-in_err-finish-clause-gone
 returns-in_err-finish-clause-gone g c =
     gone_by _ _ _ _ _ _ _ _ c.judge_guess-came.ensures.later
-    (subst (λ (s : Scratches). HaveRoom s (columns (reduced_of c.args.core.now))) (sym c.finish.ensures.scratches) c.requires.ready.room) c.finish.ensures.sound c.finish.ensures.noted
+    (subst (λ (s : Scratches). HaveRoom s (columns (reduced_of c.args.core.now))) (sym c.finish.ensures.scratches) c.requires.ready.room) c.finish.ensures.sound
+    (more_same _ _ (ap (λ (k : CoreState). k.pool) c.judge_guess-came.ensures.frame)) c.finish.ensures.noted
+
+pub returns-in_err-finish-clause-pool : goal.returns-in_err-finish-clause-pool
+returns-in_err-finish-clause-pool g c = ap (λ (k : CoreState). k.pool) c.judge_guess-came.ensures.frame
 
 pub returns-clause-gone : goal.returns-clause-gone
 returns-clause-gone g c =
     gone_by _ _ _ _ _ _ _ _ c.judge_guess-came.ensures.later
-    (subst (λ (s : Scratches). HaveRoom s (columns (reduced_of c.args.core.now))) (sym c.finish.ensures.scratches) c.requires.ready.room) c.finish.ensures.sound c.finish.ensures.noted
+    (subst (λ (s : Scratches). HaveRoom s (columns (reduced_of c.args.core.now))) (sym c.finish.ensures.scratches) c.requires.ready.room) c.finish.ensures.sound
+    (more_same _ _ (ap (λ (k : CoreState). k.pool) c.judge_guess-came.ensures.frame)) c.finish.ensures.noted
+
+pub returns-clause-pool : goal.returns-clause-pool
+returns-clause-pool g c = ap (λ (k : CoreState). k.pool) c.judge_guess-came.ensures.frame

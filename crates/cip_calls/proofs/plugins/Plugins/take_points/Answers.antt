@@ -1,3 +1,4 @@
+use Rattle.std.proofs.Common.{refl, ◌∙◌}
 use Rattle.cip_calls.proofs.Noting.{gone_none, gone_further, judged_none, judged_more, seat_noted}
 use Rattle.cip_calls.proofs.plugins.Plugins.take_points.Goals as goal
 
@@ -6,6 +7,8 @@ loop-guess-init g c = record {
   gone = gone_none c.args.core.now c.args.node.now (g.R.Seated.state c.args.self.now.roster) (g.R.Seated.room c.args.self.now.roster) c.args.self.now.scratches c.requires.ready c.requires.sound;
   seat = c.requires.seat;
   judged = judged_none c.args.id c.args.self.now.judged.items;
+  region = refl;
+  pool = refl;
 }
 
 pub loop-guess-preserved : goal.loop-guess-preserved
@@ -13,8 +16,16 @@ loop-guess-preserved g c = record {
   gone = gone_further _ _ _ _ _ _ _ _ _ _ _ _ _ c.loop-guess.invariant.gone c.take_point.ensures.gone;
   seat = seat_noted _ _ c.args.id c.take_point.ensures.gone.noted c.loop-guess.invariant.seat;
   judged = judged_more c.args.id c.loop-guess.guess-index _ _ _ c.loop-guess.invariant.judged c.in_ok-came.ensures.judged;
+  region = c.take_point.ensures.region ∙ c.loop-guess.invariant.region;
+  pool = c.take_point.ensures.pool ∙ c.loop-guess.invariant.pool;
 }
 
 pub returns-in_err-came-clause-gone : goal.returns-in_err-came-clause-gone
 returns-in_err-came-clause-gone g c =
     gone_further _ _ _ _ _ _ _ _ _ _ _ _ _ c.loop-guess.invariant.gone c.take_point.ensures.gone
+
+pub returns-in_err-came-clause-region : goal.returns-in_err-came-clause-region
+returns-in_err-came-clause-region g c = c.take_point.ensures.region ∙ c.loop-guess.invariant.region
+
+pub returns-in_err-came-clause-pool : goal.returns-in_err-came-clause-pool
+returns-in_err-came-clause-pool g c = c.take_point.ensures.pool ∙ c.loop-guess.invariant.pool

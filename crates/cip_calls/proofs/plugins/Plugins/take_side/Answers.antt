@@ -5,6 +5,7 @@ use Rattle.cip_judge.specs.ProposalsJudged.{HaveRoom}
 use Rattle.cip_judge.specs.declared.scratches.Scratches.{Scratches}
 use Rattle.cip_judge.proofs.Going.{side_goes_on}
 use Rattle.cip_calls.proofs.Noting.{noted_none, gone_none, gone_by}
+use Rattle.cip_calls.proofs.Pools.{more_same, side_pool, side_node}
 use Rattle.cip_calls.proofs.plugins.Plugins.take_side.Goals as goal
 
 pub returns-in_err-reserve-clause-gone : goal.returns-in_err-reserve-clause-gone
@@ -15,23 +16,45 @@ pub returns-in_err-came-clause-gone : goal.returns-in_err-came-clause-gone
 returns-in_err-came-clause-gone g c =
     gone_by _ _ _ _ _ _ _ _ c.judge_reduction.ensures.later
     (record { first = c.judge_reduction.ensures.scratch ∙ c.requires.ready.room.first; second = c.requires.ready.room.second })
-    c.requires.sound (noted_none (g.R.Seated.state c.args.self.now.roster))
+    c.requires.sound
+    (more_same _ _ (side_pool c.judge_reduction.result c.args.core.now c.judge_reduction.new.core c.args.node.now c.judge_reduction.new.node c.args.told.now.col c.args.told.now.side c.args.told.now.value c.judge_reduction.ensures.after))
+    (noted_none (g.R.Seated.state c.args.self.now.roster))
+
+pub returns-in_err-came-clause-pool : goal.returns-in_err-came-clause-pool
+returns-in_err-came-clause-pool g c =
+    side_pool c.judge_reduction.result c.args.core.now c.judge_reduction.new.core c.args.node.now c.judge_reduction.new.node c.args.told.now.col c.args.told.now.side c.args.told.now.value c.judge_reduction.ensures.after
 
 pub returns-in_err-finish-clause-gone : goal.returns-in_err-finish-clause-gone
 returns-in_err-finish-clause-gone g c =
     gone_by _ _ _ _ _ _ _ _ c.judge_reduction.ensures.later
     (subst (λ (s : Scratches). HaveRoom s (columns (reduced_of c.args.core.now))) (sym c.finish.ensures.scratches)
     (record { first = c.judge_reduction.ensures.scratch ∙ c.requires.ready.room.first; second = c.requires.ready.room.second }))
-    c.finish.ensures.sound c.finish.ensures.noted
+    c.finish.ensures.sound
+    (more_same _ _ (side_pool c.judge_reduction.result c.args.core.now c.judge_reduction.new.core c.args.node.now c.judge_reduction.new.node c.args.told.now.col c.args.told.now.side c.args.told.now.value c.judge_reduction.ensures.after))
+    c.finish.ensures.noted
+
+pub returns-in_err-finish-clause-pool : goal.returns-in_err-finish-clause-pool
+returns-in_err-finish-clause-pool g c =
+    side_pool c.judge_reduction.result c.args.core.now c.judge_reduction.new.core c.args.node.now c.judge_reduction.new.node c.args.told.now.col c.args.told.now.side c.args.told.now.value c.judge_reduction.ensures.after
 
 pub returns-clause-gone : goal.returns-clause-gone
 returns-clause-gone g c =
     gone_by _ _ _ _ _ _ _ _ c.judge_reduction.ensures.later
     (subst (λ (s : Scratches). HaveRoom s (columns (reduced_of c.args.core.now))) (sym c.finish.ensures.scratches)
     (record { first = c.judge_reduction.ensures.scratch ∙ c.requires.ready.room.first; second = c.requires.ready.room.second }))
-    c.finish.ensures.sound c.finish.ensures.noted
+    c.finish.ensures.sound
+    (more_same _ _ (side_pool c.judge_reduction.result c.args.core.now c.judge_reduction.new.core c.args.node.now c.judge_reduction.new.node c.args.told.now.col c.args.told.now.side c.args.told.now.value c.judge_reduction.ensures.after))
+    c.finish.ensures.noted
 
 pub returns-clause-emptied : goal.returns-clause-emptied
 returns-clause-emptied g c = λ e.
     (side_goes_on c.args.core.now c.judge_reduction.new.core c.args.node.now c.judge_reduction.new.node c.args.told.now c.in_ok-came.came
     c.judge_reduction.ensures.later c.in_ok-came.ensures.emptied c.in_ok-came.ensures.after).emptied e
+
+pub returns-clause-pool : goal.returns-clause-pool
+returns-clause-pool g c =
+    side_pool c.judge_reduction.result c.args.core.now c.judge_reduction.new.core c.args.node.now c.judge_reduction.new.node c.args.told.now.col c.args.told.now.side c.args.told.now.value c.judge_reduction.ensures.after
+
+pub returns-clause-node : goal.returns-clause-node
+returns-clause-node g c =
+    side_node c.args.core.now c.judge_reduction.new.core c.args.node.now c.judge_reduction.new.node c.args.told.now.col c.args.told.now.side c.args.told.now.value c.in_ok-came.came c.in_ok-came.ensures.after

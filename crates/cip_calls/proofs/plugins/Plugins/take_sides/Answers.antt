@@ -1,3 +1,4 @@
+use Rattle.std.proofs.Common.{refl, ◌∙◌}
 use Rattle.cip_calls.proofs.Noting.{gone_none, gone_further, judged_none, judged_more, seat_noted}
 use Rattle.cip_calls.proofs.plugins.Plugins.take_sides.Goals as goal
 
@@ -6,6 +7,7 @@ loop-told-init g c = record {
   gone = gone_none c.args.core.now c.args.node.now (g.R.Seated.state c.args.self.now.roster) (g.R.Seated.room c.args.self.now.roster) c.args.self.now.scratches c.requires.ready c.requires.sound;
   seat = c.requires.seat;
   judged = judged_none c.args.id c.args.self.now.judged.items;
+  pool = refl;
 }
 
 pub loop-told-preserved : goal.loop-told-preserved
@@ -13,13 +15,20 @@ loop-told-preserved g c = record {
   gone = gone_further _ _ _ _ _ _ _ _ _ _ _ _ _ c.loop-told.invariant.gone c.take_side.ensures.gone;
   seat = seat_noted _ _ c.args.id c.take_side.ensures.gone.noted c.loop-told.invariant.seat;
   judged = judged_more c.args.id c.loop-told.told-index _ _ _ c.loop-told.invariant.judged c.in_ok-came.ensures.judged;
+  pool = c.take_side.ensures.pool ∙ c.loop-told.invariant.pool;
 }
 
 pub returns-in_err-came-clause-gone : goal.returns-in_err-came-clause-gone
 returns-in_err-came-clause-gone g c = gone_further _ _ _ _ _ _ _ _ _ _ _ _ _ c.loop-told.invariant.gone c.take_side.ensures.gone
+
+pub returns-in_err-came-clause-pool : goal.returns-in_err-came-clause-pool
+returns-in_err-came-clause-pool g c = c.take_side.ensures.pool ∙ c.loop-told.invariant.pool
 
 pub returns-in-Emptied-clause-gone : goal.returns-in-Emptied-clause-gone
 returns-in-Emptied-clause-gone g c = gone_further _ _ _ _ _ _ _ _ _ _ _ _ _ c.loop-told.invariant.gone c.take_side.ensures.gone
 
 pub returns-in-Emptied-clause-emptied : goal.returns-in-Emptied-clause-emptied
 returns-in-Emptied-clause-emptied g c = λ _. c.in_ok-came.ensures.emptied c.in-Emptied.is
+
+pub returns-in-Emptied-clause-pool : goal.returns-in-Emptied-clause-pool
+returns-in-Emptied-clause-pool g c = c.take_side.ensures.pool ∙ c.loop-told.invariant.pool

@@ -1,4 +1,4 @@
-use Rattle.std.proofs.Common.{IsSome}
+use Rattle.std.proofs.Common.{◌≡◌, IsSome}
 use Rattle.std.specs.Prelude.{slice_get}
 use Rattle.cip_calls.specs.Noted.{HasGone, HasJudged}
 use Rattle.cip_calls.proofs.plugins.Plugins.take_sides.Given as goal
@@ -8,4 +8,5 @@ invariant-loop-told g l = record {
   gone : HasGone l.initial.core l.initial.node (g.R.Seated.state l.initial.self.roster) l.core l.node l.self.scratches (g.R.Seated.state l.self.roster) (g.R.Seated.room l.self.roster);
   seat : IsSome (slice_get (g.R.Seated.state l.self.roster).seats l.id);
   judged : HasJudged l.id l.told-index l.initial.self.judged.items l.self.judged.items;
+  pool : l.core.pool ≡ l.initial.core.pool;
 }

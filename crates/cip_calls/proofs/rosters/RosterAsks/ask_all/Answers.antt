@@ -4,7 +4,7 @@ use Rattle.cip_plugin.specs.declared.asking.Given.{Given}
 use Rattle.cip_plugin.specs.Calls.{Separate, Propagate, Search}
 use Rattle.cip_plugin.specs.declared.kinds.Kind.TheVariants as kinds
 use Rattle.cip_roster.proofs.Giving.{kind_seated, both_seated}
-use Rattle.cip_calls.proofs.Calling.{both_asked, one_asked, separators, propagators, heuristics, kind_run, both_run, ran_run, same_run, either}
+use Rattle.cip_calls.proofs.Calling.{both_asked, one_asked, separators, propagators, heuristics, kind_run, both_run, same_run, either}
 use Rattle.cip_calls.proofs.Serving.{then_ok}
 use Rattle.cip_calls.proofs.rosters.RosterAsks.ask_all.Goals as goal
 
@@ -16,7 +16,7 @@ pub returns-in-Cuts-clause-seated : goal.returns-in-Cuts-clause-seated
 returns-in-Cuts-clause-seated g c = then_ok {A = Vec (ℕ × Given) Global} {E = AllocError} c.call_separators.result _ _ c.call_separators.ensures.called (λ (gave : Vec (ℕ × Given) Global) h. both_seated kinds.Separator Separate _ _ gave.items h)
 
 pub returns-in-Cuts-clause-run : goal.returns-in-Cuts-clause-run
-returns-in-Cuts-clause-run g c = either {A = Vec (ℕ × Given) Global} {E = AllocError} c.call_separators.result _ _ _ c.call_separators.ensures.called c.call_separators.ensures.err (λ (gave : Vec (ℕ × Given) Global) h. both_run kinds.Separator Separate _ _ gave.items h) (λ ran. ran_run _ _ ran)
+returns-in-Cuts-clause-run g c = either {A = Vec (ℕ × Given) Global} {E = AllocError} c.call_separators.result _ _ _ c.call_separators.ensures.called c.call_separators.ensures.err (λ (gave : Vec (ℕ × Given) Global) h. both_run kinds.Separator Separate _ _ gave.items h) (λ ran. ran)
 
 pub returns-in-Sides-clause-asked : goal.returns-in-Sides-clause-asked
 returns-in-Sides-clause-asked g c =
@@ -26,7 +26,7 @@ pub returns-in-Sides-clause-seated : goal.returns-in-Sides-clause-seated
 returns-in-Sides-clause-seated g c = then_ok {A = Vec (ℕ × Given) Global} {E = AllocError} c.call_propagators.result _ _ c.call_propagators.ensures.called (λ (gave : Vec (ℕ × Given) Global) h. both_seated kinds.Propagator Propagate _ _ gave.items h)
 
 pub returns-in-Sides-clause-run : goal.returns-in-Sides-clause-run
-returns-in-Sides-clause-run g c = either {A = Vec (ℕ × Given) Global} {E = AllocError} c.call_propagators.result _ _ _ c.call_propagators.ensures.called c.call_propagators.ensures.err (λ (gave : Vec (ℕ × Given) Global) h. both_run kinds.Propagator Propagate _ _ gave.items h) (λ ran. ran_run _ _ ran)
+returns-in-Sides-clause-run g c = either {A = Vec (ℕ × Given) Global} {E = AllocError} c.call_propagators.result _ _ _ c.call_propagators.ensures.called c.call_propagators.ensures.err (λ (gave : Vec (ℕ × Given) Global) h. both_run kinds.Propagator Propagate _ _ gave.items h) (λ ran. ran)
 
 pub returns-in-Points-clause-asked : goal.returns-in-Points-clause-asked
 returns-in-Points-clause-asked g c =

@@ -1,4 +1,4 @@
-use Rattle.cip_calls.proofs.Calling.{delivered_told, delivered_run, ran_run, either_on}
+use Rattle.cip_calls.proofs.Calling.{delivered_told, delivered_run, either_on}
 use Rattle.cip_calls.proofs.Serving.{on_ok}
 use Rattle.cip_calls.proofs.rosters.RosterAsks.tell.Goals as goal
 
@@ -6,4 +6,4 @@ pub returns-clause-told : goal.returns-clause-told
 returns-clause-told g c = on_ok _ _ _ (λ d. delivered_told _ _ _ _ d) c.deliver.ensures.told
 
 pub returns-clause-run : goal.returns-clause-run
-returns-clause-run g c = either_on _ _ _ _ (λ d. delivered_run _ _ _ _ d) (λ ran. ran_run _ _ ran) c.deliver.ensures.told c.deliver.ensures.err
+returns-clause-run g c = either_on _ _ _ _ (λ d. delivered_run _ _ _ _ d) (λ ran. ran) c.deliver.ensures.told c.deliver.ensures.err

@@ -1,7 +1,6 @@
 use Rattle.std.proofs.Common.{ℕ, List, ◌++◌, ◌∷◌, [], Option, Vec, Global, sym, ap, ◌∙◌}
 use Rattle.std.specs.Prelude.{option_map}
 use Rattle.cip_problem.specs.Program.{Row}
-use Rattle.cip_lp_rules.specs.LpFacts.{FormTerm, terms_of}
 use Rattle.cip_lp_draft.specs.LpDrafts.{facts_in}
 use Rattle.cip_lp_draft.proofs.KeptLaws.{row_put}
 use Rattle.cip_lp_draft.proofs.draft.LpDraft.end_row.Goals as goal
@@ -11,9 +10,9 @@ items_of name = option_map (λ (n : Vec ℕ Global). n.items) name
 
 pub invariant_of-self-2 : goal.invariant_of-self-2
 invariant_of-self-2 c =
-    row_put (facts_in c.self.inside) c.in-Some.name.items c.args.low c.args.high c.in_ok-row.row c.add.new.self c.push_reserved.new.self.items (items_of c.take.new.self) c.clear.new.self.items c.self.invariant
+    row_put (facts_in c.self.inside) c.in-Some.name.items c.args.low c.args.high c.in_ok-row.row c.add.new.self c.push_reserved.new.self.items (items_of c.take.new.self) c.take_row.new.self c.self.invariant
     (ap items_of (sym c.in-Some.ensures.value))
-    (c.in_ok-row.ensures ∙ ap (λ (form : List FormTerm). record { terms = terms_of form; low = c.args.low; high = c.args.high }) c.as_slice.ensures.value)
+    c.in_ok-row.ensures.row
     c.in_ok-add.ensures.ok
     (c.push_reserved.ensures.items ∙ ap (λ (rows : List Row). rows ++ c.in_ok-row.row ∷ []) c.in_ok-reserve.ensures.items)
-    (ap items_of c.in-Some.ensures.after) c.clear.ensures.items
+    (ap items_of c.in-Some.ensures.after) c.in_ok-row.ensures.left

@@ -1,5 +1,7 @@
-use Rattle.std.proofs.Common.{subst}
+use Rattle.std.proofs.Common.{sym, subst}
 use Rattle.cip_tree.specs.Nodes.{box_of}
+use Rattle.cip_core.specs.CoreStates.{IsGivenBound}
+use Rattle.cip_core.specs.Steps.{IsBack}
 use Rattle.cip_node.specs.Looking.{IsLook}
 use Rattle.cip_node.proofs.EndLaws.{none_kept, emptied}
 use Rattle.cip_node.proofs.Looked.{look_empty}
@@ -14,3 +16,9 @@ returns-in-Empty-clause-ended c =
     let left = c.close_empty.ensures.left in
     emptied core c.close_empty.new.self c.args.node left
     (none_kept core c.close_empty.new.self (box_of core.tree c.args.node) left.later (look_empty core c.args.node (subst (IsLook core c.args.node) c.in-Empty.is c.requires.look)))
+
+pub end_leaf-ended-requires-clause-given : goal.end_leaf-ended-requires-clause-given
+end_leaf-ended-requires-clause-given c = subst (IsGivenBound c.args.self.now.core c.args.node.number) (sym c.bound-given.ensures) c.requires.can.given
+
+pub returns-in-Err-clause-ended : goal.returns-in-Err-clause-ended
+returns-in-Err-clause-ended c = subst (IsBack c.args.self.now.core c.end_leaf-ended.new.core c.args.node.number) c.bound-given.ensures c.in-Err.ensures.ended

@@ -1,0 +1,3 @@
+pub mod LpAmounts
+pub mod LpLimits
+pub mod LpNumbers

@@ -1,0 +1,4 @@
+pub mod BlockSums
+pub mod FirstRows
+pub mod KeptMasters
+pub mod WeightTerms

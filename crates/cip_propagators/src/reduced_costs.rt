@@ -1,0 +1,146 @@
+//! The propagator of reduced costs.
+ghost use Rattle.std.specs.Prelude.{None, codes};
+
+use crate::cost_rows::CostRow;
+use cip_lin::{Row, RowMultiple};
+use cip_narrowing::{Implied, Narrowing, Region, Source, list_implied, reduction_of};
+use cip_plugin::{Plugin, Propagator, Reduction, View};
+use std::alloc::{AllocError, Global};
+
+// The most sides of a call: each is judged with all rows of the bound.
+const MOST_SIDES: usize = 16;
+
+/// A propagator: where a cost is held, sides of whole columns that the multipliers of the last linear program imply. Its
+/// rows added up with the cutoff row leave minus the reduced costs, so a column with one is near its side at each point
+/// that is cheaper.
+#[derive(Drop)]
+pub struct ReducedCostPropagator {
+    cost_row: CostRow,
+    implied: Vec<Implied>,
+}
+
+/// Whether a column is whole.
+fn is_whole(whole: &[bool], col: u32) -> bool {
+    match whole.get(col as usize) {
+        Some(is_whole) => *is_whole,
+        None => false,
+    }
+}
+
+/// Adds sides of whole columns, or all of them where they show that the box has no point.
+fn add_sides(
+    alloc: Global,
+    view: &View<'_>,
+    implied: &[Implied],
+    rows: &[RowMultiple],
+    narrowing: Narrowing,
+    reductions: &mut Vec<Reduction>,
+) -> Result<(), AllocError> {
+    for item in implied {
+        if reductions.len() >= MOST_SIDES {
+            return Ok(());
+        }
+        if narrowing == Narrowing::Contradiction || is_whole(view.whole, item.col) {
+            reductions.push(reduction_of(alloc, *item, rows)?)?;
+        }
+    }
+    Ok(())
+}
+
+impl ReducedCostPropagator {
+    /// One that was never called. It takes no memory.
+    pub fn new(alloc: Global) -> ReducedCostPropagator {
+        ReducedCostPropagator {
+            cost_row: CostRow::new(alloc),
+            implied: Vec::new(alloc),
+        }
+    }
+
+    /// Adds what the row of reduced costs implies.
+    fn narrow(
+        &mut self,
+        alloc: Global,
+        view: &View<'_>,
+        row: &Row,
+        reductions: &mut Vec<Reduction>,
+    ) -> Result<(), AllocError> {
+        let region = Region {
+            sides: view.bounds.as_slice(),
+            whole: view.whole,
+            is_exact: false,
+        };
+        self.implied.clear();
+        let most = view.costs.len();
+        let narrowing = list_implied(row, Source::AtLeast, &region, most, &mut self.implied)?;
+        add_sides(
+            alloc,
+            view,
+            self.implied.as_slice(),
+            self.cost_row.rows.as_slice(),
+            narrowing,
+            reductions,
+        )
+    }
+
+    /// The row of reduced costs, where the last linear program has a point and a cost is held.
+    fn row(&mut self, alloc: Global, view: &View<'_>) -> Result<Option<Row>, AllocError> {
+        let Some(combo) = view.combo else {
+            return Ok(None);
+        };
+        match view.cutoff {
+            Some(cutoff) if view.point.is_some() => self.cost_row.take(alloc, view, combo, cutoff),
+            _ => Ok(None),
+        }
+    }
+
+    /// Adds what is implied.
+    fn narrow_all(
+        &mut self,
+        alloc: Global,
+        view: &View<'_>,
+        reductions: &mut Vec<Reduction>,
+    ) -> Result<(), AllocError> {
+        match self.row(alloc, view)? {
+            Some(row) => self.narrow(alloc, view, &row, reductions),
+            None => Ok(()),
+        }
+    }
+}
+
+impl Plugin for ReducedCostPropagator {
+    ghost told = { λ _. None };
+
+    ghost label = { λ _. codes "redcost" };
+
+    fn name(&self) -> &str {
+        "redcost"
+    }
+
+    fn priority(&self) -> i32 {
+        10
+    }
+
+    fn init(&mut self, _alloc: Global) -> Result<(), AllocError> {
+        Ok(())
+    }
+
+    fn init_solve(&mut self, _alloc: Global, _view: &View<'_>) -> Result<(), AllocError> {
+        Ok(())
+    }
+
+    fn exit_solve(&mut self) {
+        self.implied.clear();
+    }
+
+    fn exit(&mut self) {}
+}
+
+impl Propagator for ReducedCostPropagator {
+    fn propagate(&mut self, alloc: Global, view: &View<'_>) -> Result<Vec<Reduction>, AllocError> {
+        let mut reductions = Vec::new(alloc);
+        match self.narrow_all(alloc, view, &mut reductions) {
+            Ok(()) => Ok(reductions),
+            Err(fault) => Err(fault),
+        }
+    }
+}

@@ -1,0 +1,48 @@
+//! LP texts of as many entries as there may be, and one more.
+use cip_lp::{LpReader, ReadFault};
+use std::alloc::{AllocError, Global};
+
+/// The terms of a row on 65,536 columns, one a line.
+fn terms(alloc: Global) -> Result<String, AllocError> {
+    let mut terms = String::new(alloc);
+    for number in 0..65_536 {
+        writeln!(terms, "+x{number}")?;
+    }
+    Ok(terms)
+}
+
+/// Feeds an objective, 64 rows of these terms, and this behind them.
+fn feed(reader: &mut LpReader, terms: &str, behind: &str) -> Result<(), ReadFault> {
+    reader.feed(b"Min x0\nST\n")?;
+    for _ in 0..64 {
+        reader.feed(terms.as_bytes())?;
+        reader.feed(b">=0\n")?;
+    }
+    reader.feed(behind.as_bytes())
+}
+
+/// The fault of such a text: line and kind.
+fn fault_of(alloc: Global, terms: &str, behind: &str) -> Option<(usize, u32)> {
+    let mut reader = LpReader::new(alloc);
+    let fed = feed(&mut reader, terms, behind);
+    let ended = match fed {
+        Ok(()) => reader.finish().err(),
+        Err(fault) => Some(fault),
+    };
+    match ended {
+        Some(ReadFault::Faulty(fault)) => Some((fault.line, fault.kind.number())),
+        _ => None,
+    }
+}
+
+/// The most entries and a term more whose number is 0, which is read to its end; and an entry more.
+fn are_limited(alloc: Global, terms: &str) -> bool {
+    fault_of(alloc, terms, "0 x1 >= 0\n") == Some((4_194_372, 8))
+        && fault_of(alloc, terms, "0 x1 + x0 >= 0\n") == Some((4_194_371, 9))
+}
+
+#[test]
+fn entries_are_limited(rt: HostRuntime) {
+    let terms = terms(rt.alloc()).expect(&rt, "memory");
+    assert!(rt; are_limited(rt.alloc(), terms.as_str()));
+}
