@@ -20,7 +20,7 @@ use Rattle.cip_reductions.proofs.Pairing.{exact_self}
 use Rattle.cip_row_reading.specs.SingleRows.{single_sides}
 use Rattle.cip_row_reading.proofs.Enclosing.{past_below}
 use Rattle.cip_steps.proofs.Singled.{met_inside, inward_onward}
-use Rattle.cip_implied_sides.specs.Rests.{product_at, IsRestBelow, IsRestAbove, IsDifference, Implies}
+use Rattle.cip_implied_sides.specs.Rests.{product_at, IsRestBelow, IsRestAbove, AreRests, IsDifference, Implies}
 use Rattle.cip_row_reading.specs.RowReading.{Encloses}
 use Rattle.cip_reductions.proofs.Inside.{all_hold}
 use Rattle.cip_implied_sides.specs.Taken.{IsEnclosed, IsImplied}
@@ -59,10 +59,11 @@ implied_by box row made at whole above below low high term sides g nonzero ra rb
     let inward : Between (single_sides whole made term).low (single_sides whole made term).high (value_at x term.column) = inward_onward whole (divided_sides term.coefficient made.low made.high) (value_at x term.column) (λ o. subst (λ n. IsWhole (value_at x n)) c (whole_if o)) value in
     subst (λ n. Between sides.low sides.high (value_at x n)) (sym c) (subst (λ (s : Sides). Between s.low s.high (value_at x term.column)) (sym e) inward)
 
-pub implied_if : (box : List Sides) (row made : Row) (at : ℕ) (whole : Bool) (above below low high : Option ℚ) (term : Term) (found : Option Sides) → slice_get row.terms at ≡ Some term → ¬ (term.coefficient ≡ zeroℚ) → IfSome above (IsRestAbove box row.terms at) → IfSome below (IsRestBelow box row.terms at) → IfSome low (IsDifference row.low above) → IfSome high (IsDifference row.high below) → made ≡ record { terms = []; low = low; high = high } → IfSome found (λ sides. sides ≡ single_sides whole made term) → IfSome found (Implies box row at whole)
-implied_if box row made at whole above below low high term None g nonzero ra rb dl dh m e = tt
-implied_if box row made at whole above below low high term (Some sides) g nonzero ra rb dl dh m e =
-    implied_by box row made at whole above below low high term sides g nonzero ra rb dl dh (ap (λ (r : Row). r.low) m) (ap (λ (r : Row). r.high) m) e
+-- so it is for each box
+pub implied_all : (row made : Row) (at : ℕ) (whole : Bool) (rests : Sides) (low high : Option ℚ) (term : Term) (found : Option Sides) → slice_get row.terms at ≡ Some term → ¬ (term.coefficient ≡ zeroℚ) → IfSome low (IsDifference row.low rests.high) → IfSome high (IsDifference row.high rests.low) → made ≡ record { terms = []; low = low; high = high } → IfSome found (λ sides. sides ≡ single_sides whole made term) → IfSome found (λ sides. (box : List Sides) → AreRests box row.terms at rests → Implies box row at whole sides)
+implied_all row made at whole rests low high term None g nonzero dl dh m e = tt
+implied_all row made at whole rests low high term (Some sides) g nonzero dl dh m e = λ box r.
+    implied_by box row made at whole rests.high rests.low low high term sides g nonzero r.above r.below dl dh (ap (λ (r : Row). r.low) m) (ap (λ (r : Row). r.high) m) e
 
 -- ---- the step
 

@@ -1,13 +1,13 @@
 -- Activities without one term.
 use Rattle.std.proofs.Common.{◌≡◌, ◌≢◌, ℕ, zero, suc, ◌+◌, ◌<◌, Bool, true, false, List, [], ◌∷◌, length, Option, None, Some, IfSome, IfOk, Result, Ok, Err, slice_get, refl, sym, ap, ◌∙◌, subst, arith}
 use Rattle.std.specs.Prelude.{slice_set, slice_index_or, if◌then◌else◌}
-use Rattle.std.specs.List.{AllByRecursion}
-use Rattle.std.proofs.lemmas.Option.{get_or_from_slice_get}
+use Rattle.std.specs.List.{AllByRecursion, remove}
+use Rattle.std.proofs.lemmas.Option.{none-some, same_Some, get_or_from_slice_get, slice_get-get_or}
 use Rattle.cip_rational.specs.Rational.{ℚ, ◌+ℚ◌, ◌-ℚ◌, ◌*ℚ◌, zeroℚ, negate, ◌≤ℚ◌, lt_test}
 use Rattle.cip_rational.proofs.Rational.Order.{≤ℚ_refl, ≤ℚ_trans}
 use Rattle.cip_rational.proofs.Rational.Ring.{zero-+ℚ, negate-*ℚ, negate_negate}
 use Rattle.cip_rational.proofs.Linear.{linear_le, linear_same}
-use Rattle.cip_problem.specs.Program.{Term, Sides}
+use Rattle.cip_problem.specs.Program.{Term, Sides, Row}
 use Rattle.cip_problem.specs.Activity.{activity, value_at, StandsBelow}
 use Rattle.cip_problem.specs.Box.{Between, IsInBox, sides_at}
 use Rattle.cip_problem.specs.RowTerms.{column_at, coefficient_at, no_term, AreTerms}
@@ -18,7 +18,8 @@ use Rattle.cip_frac.proofs.Outcomes.{product_added-value}
 use Rattle.cip_lin.specs.declared.outcomes.Least.TheVariants.{Value}
 use Rattle.cip_lin.specs.RowSums.{least_side, least_of, least_at, least_added}
 use Rattle.cip_row_reading.specs.RowReading.{Encloses}
-use Rattle.cip_implied_sides.specs.Rests.{IsLeastProduct, IsGreatestProduct, product_at, IsDifference, IsRestBelow, IsRestAbove}
+use Rattle.cip_row_reading.proofs.FixedColumns.{from_rec, to_rec}
+use Rattle.cip_implied_sides.specs.Rests.{IsLeastProduct, IsGreatestProduct, product_at, IsDifference, IsRestBelow, IsRestAbove, AreRests}
 
 -- ---- products at one side
 
@@ -56,7 +57,7 @@ value_same [] column v h = absurd (omega (arith, h))
 value_same (w ∷ x) zero v h = refl
 value_same (w ∷ x) (suc column) v h = value_same x column v (omega (arith, h))
 
-value_other : (x : List ℚ) (column place : ℕ) (v : ℚ) → place ≢ column → value_at (slice_set x column v) place ≡ value_at x place
+pub value_other : (x : List ℚ) (column place : ℕ) (v : ℚ) → place ≢ column → value_at (slice_set x column v) place ≡ value_at x place
 value_other [] column place v h = refl
 value_other (w ∷ x) zero zero v h = absurd (h refl)
 value_other (w ∷ x) zero (suc place) v h = refl
@@ -152,6 +153,75 @@ replaced (t ∷ ts) (suc k) x column v i l o =
     let p : t.coefficient *ℚ value_at (slice_set x column v) t.column ≡ t.coefficient *ℚ value_at x t.column = ap (λ w. t.coefficient *ℚ w) (value_other x column t.column v o.0) in
     let q : activity ts (slice_set x column v) +ℚ product_at ts k x ≡ activity ts x +ℚ coefficient_at ts k *ℚ v = replaced ts k x column v i (omega (arith, l)) o.1 in
     linear_same ((t.coefficient *ℚ value_at (slice_set x column v) t.column) ∷ (t.coefficient *ℚ value_at x t.column) ∷ activity ts (slice_set x column v) ∷ activity ts x ∷ product_at ts k x ∷ (coefficient_at ts k *ℚ v) ∷ []) (λ s w. omega (arith, s.same_out))
+
+-- ---- without a term
+
+pub removed_activity : (terms : List Term) (at : ℕ) (own : Term) (x : List ℚ) → slice_get terms at ≡ Some own → activity (remove terms at) x ≡ activity terms x -ℚ own.coefficient *ℚ value_at x own.column
+removed_activity [] at own x g = absurd (none-some own g)
+removed_activity (t ∷ ts) zero own x g =
+    let e : t.coefficient *ℚ value_at x t.column ≡ own.coefficient *ℚ value_at x own.column = ap (λ (u : Term). u.coefficient *ℚ value_at x u.column) (same_Some t own g) in
+    linear_same ((t.coefficient *ℚ value_at x t.column) ∷ (own.coefficient *ℚ value_at x own.column) ∷ activity ts x ∷ []) (λ s w. omega (arith, s.same_out))
+removed_activity (t ∷ ts) (suc at) own x g =
+    let e : activity (remove ts at) x ≡ activity ts x -ℚ own.coefficient *ℚ value_at x own.column = removed_activity ts at own x g in
+    linear_same ((t.coefficient *ℚ value_at x t.column) ∷ (own.coefficient *ℚ value_at x own.column) ∷ activity ts x ∷ activity (remove ts at) x ∷ []) (λ s w. omega (arith, s.same_out))
+
+removed_all : (P : Term → Type 0) (terms : List Term) (at : ℕ) → AllByRecursion P terms → AllByRecursion P (remove terms at)
+removed_all P [] zero h = tt
+removed_all P [] (suc at) h = tt
+removed_all P (t ∷ ts) zero h = h.1
+removed_all P (t ∷ ts) (suc at) h = (h.0, removed_all P ts at h.1)
+
+pub removed_stands : (n : ℕ) (terms : List Term) (at : ℕ) → StandsBelow n terms → StandsBelow n (remove terms at)
+removed_stands n terms at h = from_rec (λ t. t.column < n) (remove terms at) (removed_all (λ t. t.column < n) terms at (to_rec (λ t. t.column < n) terms h))
+
+pub made_without : (terms less : List Term) (at : ℕ) (rest : Row) → less ≡ remove terms at → rest ≡ record { terms = less; low = None; high = None } → rest.terms ≡ remove terms at
+made_without terms less at rest e k = ap (λ (r : Row). r.terms) k ∙ e
+
+pub ruleset without = (made_without)
+
+product_is : (terms : List Term) (at : ℕ) (x : List ℚ) → at < length terms → activity (remove terms at) x ≡ activity terms x -ℚ product_at terms at x
+product_is terms at x l =
+    let g : slice_get terms at ≡ Some (slice_index_or terms at no_term) = slice_get-get_or terms at no_term l in
+    removed_activity terms at (slice_index_or terms at no_term) x g
+
+pub rests_by : (box : List Sides) (terms less : List Term) (at : ℕ) (sides : Sides) → at < length terms → less ≡ remove terms at → Encloses box less sides → AreRests box terms at sides
+rests_by box terms less at sides l e h = record { below = lower sides.low (λ x w. (h x w).above); above = upper sides.high (λ x w. (h x w).below) }
+  where
+    less_is : (x : List ℚ) → activity less x ≡ activity terms x -ℚ product_at terms at x
+    less_is x = ap (λ (ts : List Term). activity ts x) e ∙ product_is terms at x l
+
+    lower : (low : Option ℚ) → ((x : List ℚ) → IsInBox box x → IfSome low (λ side. side ≤ℚ activity less x)) → IfSome low (IsRestBelow box terms at)
+    lower None f = tt
+    lower (Some low) f = λ x w.
+        let k : low ≤ℚ activity less x = f x w in
+        let m = less_is x in
+        linear_le (low ∷ activity less x ∷ activity terms x ∷ product_at terms at x ∷ []) (λ s u. omega (arith, s.le_out, s.same_out))
+
+    upper : (high : Option ℚ) → ((x : List ℚ) → IsInBox box x → IfSome high (λ side. activity less x ≤ℚ side)) → IfSome high (IsRestAbove box terms at)
+    upper None f = tt
+    upper (Some high) f = λ x w.
+        let k : activity less x ≤ℚ high = f x w in
+        let m = less_is x in
+        linear_le (high ∷ activity less x ∷ activity terms x ∷ product_at terms at x ∷ []) (λ s u. omega (arith, s.le_out, s.same_out))
+
+pub none_known : (box : List Sides) (terms : List Term) (at : ℕ) (sides : Sides) → sides.low ≡ None → sides.high ≡ None → AreRests box terms at sides
+none_known box terms at sides l h = record {
+  below = subst (λ o. IfSome o (IsRestBelow box terms at)) (sym l) tt;
+  above = subst (λ o. IfSome o (IsRestAbove box terms at)) (sym h) tt;
+}
+
+pub less_stands : (n : ℕ) (terms less : List Term) (at : ℕ) → less ≡ remove terms at → StandsBelow n terms → StandsBelow n less
+less_stands n terms less at e h = subst (λ (ts : List Term). StandsBelow n ts) (sym e) (removed_stands n terms at h)
+
+pub ruleset summed = (rests_by, none_known, less_stands)
+
+pub rests_are : (box : List Sides) (terms : List Term) (at : ℕ) (low high : Option ℚ) (sides : Sides) → IfSome low (IsRestBelow box terms at) → IfSome high (IsRestAbove box terms at) → sides.low ≡ low → sides.high ≡ high → AreRests box terms at sides
+rests_are box terms at low high sides l h e k = record {
+  below = subst (λ o. IfSome o (IsRestBelow box terms at)) (sym e) l;
+  above = subst (λ o. IfSome o (IsRestAbove box terms at)) (sym k) h;
+}
+
+pub ruleset resting = (rests_are)
 
 -- ---- the rest
 

@@ -1,5 +1,5 @@
 -- A row without one of its terms, and what that says of the term's column.
-use Rattle.std.specs.Prelude.{◌≡◌, ℕ, true, List, Option, Some, Bool}
+use Rattle.std.specs.Prelude.{◌≡◌, ℕ, true, List, Option, Some, IfSome, Bool}
 use Rattle.cip_rational.specs.Rational.{ℚ, ◌+ℚ◌, ◌-ℚ◌, ◌*ℚ◌, negate, ◌≤ℚ◌, IsWhole}
 use Rattle.cip_problem.specs.Program.{Term, Sides, Row}
 use Rattle.cip_problem.specs.Activity.{activity, value_at}
@@ -31,6 +31,11 @@ IsRestBelow box terms at least =
 abbrev pub IsRestAbove : List Sides → List Term → ℕ → ℚ → Type 0
 IsRestAbove box terms at greatest =
     (point : List ℚ) → IsInBox box point → activity terms point ≤ℚ greatest +ℚ product_at terms at point
+
+-- the activity without the term at a place lies between these sides at each point of a box
+pub record AreRests (box : List Sides) (terms : List Term) (at : ℕ) (rests : Sides) : Type 0 where
+  pub below : IfSome rests.low (IsRestBelow box terms at)
+  pub above : IfSome rests.high (IsRestAbove box terms at)
 
 -- a side less a number, both of which are there
 pub record IsDifference (side rest : Option ℚ) (difference : ℚ) : Type 0 where

@@ -3,8 +3,9 @@
 #![tactic(auto)]
 
 mod implied;
+mod open;
 mod rests;
 mod taking;
 
-pub use implied::implied_sides;
+pub use open::{OpenPlaces, open_places};
 pub use taking::{row_extent, try_implied};

@@ -1,12 +1,15 @@
 //! The least and the greatest activity of a row without one of its terms, by those of the whole row.
-ghost use Rattle.std.specs.Prelude.{◌≡◌, ◌<◌, length, slice_get, Some, IfSome};
+ghost use Rattle.std.specs.Prelude.{◌≡◌, ◌<◌, length, slice_get, Some, IfSome, IfOk};
+ghost use Rattle.std.specs.List.{remove};
 ghost use Rattle.cip_rational.specs.Rational.{zeroℚ};
 ghost use Rattle.cip_problem.specs.Activity.{StandsBelow};
 ghost use Rattle.cip_row_reading.specs.RowReading.{Encloses};
-ghost use Rattle.cip_implied_sides.specs.Rests.{IsLeastProduct, IsGreatestProduct, IsDifference, IsRestBelow, IsRestAbove};
+ghost use Rattle.cip_implied_sides.specs.Rests.{IsLeastProduct, IsGreatestProduct, IsDifference, IsRestBelow, IsRestAbove, AreRests};
 
 use cip_frac::Frac;
-use cip_lin::{Bounds, Least, Row, Sides, Term, add_least};
+use cip_lin::{Bounds, Least, Row, RowFault, Sides, Term, add_least};
+use cip_row_reading::extent;
+use std::alloc::{AllocError, Global};
 
 /// The least product of a coefficient and a value between two sides, where it is there and in range.
 #[tactic(auto, using(crate::proofs::RestSums::least_product_is))]
@@ -54,27 +57,85 @@ pub(crate) fn term_at(row: &Row, at: usize) -> Term
 }
 
 /// The least activity of a row without the term at a place, where it is in range, by the least one of the row.
-pub(crate) fn rest_below(row: &Row, at: usize, bounds: &Bounds, extent: Sides) -> Option<Frac>
+fn rest_below(row: &Row, at: usize, bounds: &Bounds, whole: Sides) -> Option<Frac>
     requires stands { StandsBelow (length bounds.now) row.now.terms }
     requires inside { at < length row.now.terms }
-    requires encloses { Encloses bounds.now row.now.terms extent }
+    requires encloses { Encloses bounds.now row.now.terms whole }
     ensures { IfSome result (IsRestBelow bounds.now row.now.terms at) }
 {
     let _terms = row.terms();
     let term = term_at(row, at);
     let own = least_product(term.coef, bounds.sides(term.col));
-    difference(extent.low, own)
+    difference(whole.low, own)
 }
 
 /// The greatest activity of a row without the term at a place, where it is in range, by the greatest one of the row.
-pub(crate) fn rest_above(row: &Row, at: usize, bounds: &Bounds, extent: Sides) -> Option<Frac>
+fn rest_above(row: &Row, at: usize, bounds: &Bounds, whole: Sides) -> Option<Frac>
     requires stands { StandsBelow (length bounds.now) row.now.terms }
     requires inside { at < length row.now.terms }
-    requires encloses { Encloses bounds.now row.now.terms extent }
+    requires encloses { Encloses bounds.now row.now.terms whole }
     ensures { IfSome result (IsRestAbove bounds.now row.now.terms at) }
 {
     let _terms = row.terms();
     let term = term_at(row, at);
     let own = greatest_product(term.coef, bounds.sides(term.col));
-    difference(extent.high, own)
+    difference(whole.high, own)
+}
+
+/// A row without the term at a place, and without sides; `None` where that is no row, and `Err` where the memory for it
+/// was refused.
+#[tactic(auto, using(crate::proofs::RestSums::without))]
+fn without(alloc: Global, row: &Row, at: usize) -> Result<Option<Row>, AllocError>
+    requires { at < length row.now.terms }
+    ensures { IfOk result (λ found. IfSome found (λ rest. rest.terms ≡ remove row.now.terms at)) }
+{
+    let mut terms = row.terms().to_vec(alloc)?;
+    let _own = terms.remove(at);
+    match Row::build(alloc, terms.as_slice(), None, None) {
+        Ok(rest) => Ok(Some(rest)),
+        Err(RowFault::NoMemory) => Err(AllocError),
+        Err(_) => Ok(None),
+    }
+}
+
+/// Two sides between which the activity of a row without the term at a place lies, summed up anew. `Err` comes where a
+/// growth was refused.
+#[tactic(auto, using(crate::proofs::RestSums::summed))]
+fn rests_summed(alloc: Global, row: &Row, at: usize, bounds: &Bounds) -> Result<Sides, AllocError>
+    requires stands { StandsBelow (length bounds.now) row.now.terms }
+    requires inside { at < length row.now.terms }
+    ensures { IfOk result (AreRests bounds.now row.now.terms at) }
+{
+    match without(alloc, row, at)? {
+        Some(rest) => Ok(extent(&rest, bounds)),
+        None => Ok(Sides {
+            low: None,
+            high: None,
+        }),
+    }
+}
+
+/// Two sides between which the activity of a row without the term at a place lies, by the sides `whole` of the row's
+/// activity, or summed up `anew`. `Err` comes where a growth was refused.
+#[tactic(auto, using(crate::proofs::RestSums::resting))]
+pub(crate) fn rests(
+    alloc: Global,
+    row: &Row,
+    at: usize,
+    bounds: &Bounds,
+    whole: Sides,
+    anew: bool,
+) -> Result<Sides, AllocError>
+    requires stands { StandsBelow (length bounds.now) row.now.terms }
+    requires inside { at < length row.now.terms }
+    requires encloses { Encloses bounds.now row.now.terms whole }
+    ensures { IfOk result (AreRests bounds.now row.now.terms at) }
+{
+    if anew {
+        return rests_summed(alloc, row, at, bounds);
+    }
+    Ok(Sides {
+        low: rest_below(row, at, bounds, whole),
+        high: rest_above(row, at, bounds, whole),
+    })
 }

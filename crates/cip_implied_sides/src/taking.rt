@@ -1,36 +1,22 @@
 //! The step of presolve that takes the sides which a row implies for a whole column.
-ghost use Rattle.std.specs.Prelude.{◌≡◌, ◌<◌, length, IfSome};
+ghost use Rattle.std.specs.Prelude.{◌≡◌, ◌<◌, length, IfSome, IfOk};
 ghost use Rattle.std.specs.Bool.{OnTrue};
 ghost use Rattle.cip_reductions.specs.NarrowedPrograms.{IsExactStep};
 ghost use Rattle.cip_steps.specs.RuleEnds.{EndsRightly};
 ghost use Rattle.cip_implied_sides.specs.Taken.{IsEnclosed, IsPlainWhole, IsImplied};
 
 use crate::implied::implied_sides;
-use crate::rests::term_at;
-use cip_frac::Frac;
+use crate::rests::{rests, term_at};
 use cip_lin::Sides;
 use cip_row_reading::extent;
-use cip_steps::{Draft, Outcome};
-use std::alloc::Global;
+use cip_steps::{Draft, Outcome, is_far};
+use std::alloc::{AllocError, Global};
 
 /// A column, and sides for it.
 #[derive(Clone, Copy, Debug)]
 struct ColumnSides {
     column: u32,
     sides: Sides,
-}
-
-/// Whether a side is there and its size is above 2^100.
-fn is_far_side(side: Option<Frac>) -> bool {
-    match (side, Frac::whole(1 << 100)) {
-        (Some(side), Ok(most)) => most < side.abs(),
-        _ => false,
-    }
-}
-
-/// Whether one of two sides has a size above 2^100.
-fn is_far(sides: Sides) -> bool {
-    is_far_side(sides.low) || is_far_side(sides.high)
 }
 
 /// Two sides between which the activity of a row of a program in work lies: the least and the greatest activity, where
@@ -55,7 +41,7 @@ fn is_plain_whole(draft: &Draft, column: u32) -> bool
 }
 
 /// The whole column of the term of a row at a place, and its sides met with those that the row implies; `None` where it
-/// isn't whole, or a number isn't in range.
+/// isn't whole, or a number isn't in range, and `Err` where a growth was refused.
 #[tactic(auto, using(crate::proofs::ImpliedSides::finding))]
 fn implied(
     alloc: Global,
@@ -63,31 +49,34 @@ fn implied(
     number: usize,
     at: usize,
     extent: Sides,
-) -> Option<ColumnSides>
+    anew: bool,
+) -> Result<Option<ColumnSides>, AllocError>
     requires inside { number < length draft.now.rows }
     requires encloses { IsEnclosed draft.now number extent }
-    ensures { IfSome result (λ found. IsImplied draft.now found.column found.sides) }
+    ensures { IfOk result (λ implied. IfSome implied (λ found. IsImplied draft.now found.column found.sides)) }
 {
     let row = draft.row(number);
     if at >= row.terms().len() {
-        return None;
+        return Ok(None);
     }
     let term = term_at(row, at);
     if !is_plain_whole(draft, term.col) {
-        return None;
+        return Ok(None);
     }
-    let Some(implied) = implied_sides(alloc, row, at, draft.bounds(), extent, true) else {
-        return None;
+    let others = rests(alloc, row, at, draft.bounds(), extent, anew)?;
+    let Some(implied) = implied_sides(alloc, row, at, others, true) else {
+        return Ok(None);
     };
-    Some(ColumnSides {
+    Ok(Some(ColumnSides {
         column: term.col,
         sides: draft.bounds().sides(term.col).met(implied),
-    })
+    }))
 }
 
 /// Takes the sides that a row implies for the column of its term at a place, where it is whole and they are stronger
 /// than its own and not of a size above 2^100; `NoPoint` where the low side passes the high one. The activity of the
-/// row lies between the sides `extent` in the bounds.
+/// row lies between the sides `extent` in the bounds; where that term alone leaves one of them open, the rest of the row
+/// is to be summed up `anew`. `Err` comes where a growth was refused.
 #[tactic(auto, using(crate::proofs::ImpliedSides::taking))]
 pub fn try_implied(
     alloc: Global,
@@ -95,26 +84,27 @@ pub fn try_implied(
     number: usize,
     at: usize,
     extent: Sides,
-) -> Outcome
+    anew: bool,
+) -> Result<Outcome, AllocError>
     requires inside { number < length draft.old.rows }
     requires encloses { IsEnclosed draft.old number extent }
     ensures step { IsExactStep draft.old draft.new }
-    ensures end { EndsRightly draft.new result }
+    ensures end { IfOk result (EndsRightly draft.new) }
     ensures rows { draft.new.rows ≡ draft.old.rows }
     ensures columns { length draft.new.bounds ≡ length draft.old.bounds }
 {
-    let Some(found) = implied(alloc, draft, number, at, extent) else {
-        return Outcome::Kept;
+    let Some(found) = implied(alloc, draft, number, at, extent, anew)? else {
+        return Ok(Outcome::Kept);
     };
     if found.sides.cross() {
-        return Outcome::NoPoint;
+        return Ok(Outcome::NoPoint);
     }
     if is_far(found.sides) {
-        return Outcome::Kept;
+        return Ok(Outcome::Kept);
     }
     if draft.bounds().sides(found.column).is_inside(found.sides) {
-        return Outcome::Kept;
+        return Ok(Outcome::Kept);
     }
     draft.set_sides(found.column, found.sides);
-    Outcome::Tightened(found.column)
+    Ok(Outcome::Tightened(found.column))
 }

@@ -100,17 +100,12 @@ impl RowLists {
 /// The most steps that presolve takes.
 const MOST_STEPS: u32 = 1_000_000;
 
-/// The most rows and terms, counted together, that presolve looks at.
-const MOST_LOOKED_AT: u64 = 1 << 27;
-
-/// What waits to be looked at, where a change of a column leads, how many steps were taken, and how many rows and terms
-/// were looked at.
+/// What waits to be looked at, where a change of a column leads, and how many steps were taken.
 #[derive(Debug, Drop)]
 pub struct Work {
     queue: Queue,
     lists: RowLists,
     steps: u32,
-    looked_at: u64,
 }
 
 impl Work {
@@ -127,16 +122,16 @@ impl Work {
             queue,
             lists,
             steps: 0,
-            looked_at: 0,
         })
     }
 
-    /// Whether as many steps were taken, or rows and terms looked at, as may be.
+    /// Whether as many steps were taken as may be.
     fn is_spent(&self) -> bool {
-        self.steps >= MOST_STEPS || self.looked_at >= MOST_LOOKED_AT
+        self.steps >= MOST_STEPS
     }
 
-    /// The row to look at next; `None` where none waits, or as much was done as may be.
+    /// The row to look at next; `None` where none waits, or as many steps were taken as may
+    /// be.
     pub fn next(&mut self) -> Option<u32> {
         if self.is_spent() {
             return None;
@@ -147,14 +142,6 @@ impl Work {
     /// Whether no row is to be looked at.
     pub fn is_done(&self) -> bool {
         self.is_spent() || self.queue.waiting.is_empty()
-    }
-
-    /// A row of so many terms is looked at.
-    pub fn look(&mut self, terms: usize) {
-        self.looked_at = self
-            .looked_at
-            .saturating_add(1)
-            .saturating_add(terms as u64);
     }
 
     /// A step was taken that changes no column.

@@ -12,11 +12,11 @@ use cip_global_steps::{free_columns, try_move};
 use cip_steps::{Draft, Outcome};
 use std::alloc::{AllocError, Global};
 
-/// The most looks at rows between two rounds over all rows or columns: more than the work gives.
-const MOST_LOOKS: u32 = (1 << 27) + 1;
+/// The most looks at rows between two rounds over all rows or columns: each step lets no more rows wait than there are.
+const MOST_LOOKS: u64 = 1_000_001 << 16;
 
-/// The most rounds over all rows or columns.
-const MOST_ROUNDS: u32 = 64;
+/// The most rounds over all rows or columns: a step is taken in each but the last.
+const MOST_ROUNDS: u32 = 1_000_001;
 
 /// Looks at the rows that wait until none does. `Err` comes where a growth was refused.
 #[tactic(auto, using(crate::proofs::Chained::chains))]

@@ -8,7 +8,7 @@ use crate::keys::{are_alike, row_of};
 use crate::left_rows::says_nothing;
 use crate::queues::Work;
 use cip_global_steps::try_merge;
-use cip_implied_sides::{row_extent, try_implied};
+use cip_implied_sides::{open_places, row_extent, try_implied};
 use cip_lin::Sides;
 use cip_steps::{Draft, Outcome};
 use std::alloc::{AllocError, Global};
@@ -43,24 +43,32 @@ fn tell(work: &mut Work, outcome: Outcome) -> Result<(), AllocError> {
     }
 }
 
+/// A term of a row, and whether it alone leaves the row's extent open.
+#[derive(Clone, Copy)]
+struct TermPlace {
+    row: u32,
+    at: usize,
+    is_open: bool,
+}
+
 /// Takes the sides that a row implies for the column of its term at a place. The activity of the row lies between the
 /// sides `extent`. `Err` comes where a growth was refused.
 #[tactic(auto, using(crate::proofs::Chained::chains))]
 fn imply_at(
     alloc: Global,
     draft: &mut Draft,
-    row: u32,
-    at: usize,
+    term: TermPlace,
     extent: Sides,
     work: &mut Work,
 ) -> Result<RoundEnd, AllocError>
-    requires inside { row < length draft.old.rows }
-    requires encloses { IsEnclosed draft.old row extent }
+    requires inside { term.row < length draft.old.rows }
+    requires encloses { IsEnclosed draft.old term.row extent }
     ensures step { IsExactStep draft.old draft.new }
     ensures end { IfOk result (RoundEndsRightly draft.new) }
     ensures rows { draft.new.rows ≡ draft.old.rows }
 {
-    match try_implied(alloc, draft, row as usize, at, extent) {
+    let TermPlace { row, at, is_open } = term;
+    match try_implied(alloc, draft, row as usize, at, extent, is_open)? {
         Outcome::NoPoint => Ok(RoundEnd::NoPoint {
             place: Place::Row(row),
         }),
@@ -85,9 +93,15 @@ fn imply(
     ensures rows { length draft.new.rows ≡ length draft.old.rows }
 {
     let extent = row_extent(draft, row as usize);
+    let open = open_places(draft, row as usize);
     let count = draft.row(row as usize).terms().len();
     for at in 0..count {
-        match imply_at(alloc, draft, row, at, extent, work)? {
+        let term = TermPlace {
+            row,
+            at,
+            is_open: open.has(at),
+        };
+        match imply_at(alloc, draft, term, extent, work)? {
             RoundEnd::Open => {}
             end => return Ok(end),
         }
@@ -111,7 +125,6 @@ pub(crate) fn look_at(
     if number >= draft.count() || says_nothing(draft.row(number)) {
         return Ok(RoundEnd::Open);
     }
-    work.look(draft.row(number).terms().len());
     match draft.reduce_row(alloc, number)? {
         Outcome::NoPoint => Ok(RoundEnd::NoPoint {
             place: Place::Row(row),

@@ -68,7 +68,7 @@ sides_kept (None ∷ forms) (w ∷ ws) (s ∷ ss) zero l h = refl
 sides_kept (None ∷ forms) (w ∷ ws) (s ∷ ss) (suc number) l h = sides_kept forms ws ss number (omega (arith, l)) h
 sides_kept (Some f ∷ forms) (w ∷ ws) (s ∷ ss) number l h = sides_kept forms ws ss number (omega (arith, l)) h
 
-sides_number : (forms : List (Option Form)) (box : List Sides) (column : ℕ) → length forms ≡ length box → Stays forms column → sides_at (gathered forms box) (number_in forms column) ≡ sides_at box column
+pub sides_number : (forms : List (Option Form)) (box : List Sides) (column : ℕ) → length forms ≡ length box → Stays forms column → sides_at (gathered forms box) (number_in forms column) ≡ sides_at box column
 sides_number [] box column e h = absurd (none-some None h)
 sides_number (f ∷ forms) [] column e h = absurd (omega (arith, e))
 sides_number (None ∷ forms) (s ∷ ss) zero e h = refl

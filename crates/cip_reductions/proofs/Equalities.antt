@@ -169,7 +169,7 @@ numerators_le a q w v h =
     le_integer (numerator a) (numerator q) (subst (λ t. t ≤ℚ integer (numerator q)) (whole_is a w) (subst (λ t. a ≤ℚ t) (whole_is q v) h))
 
 -- a whole number between whole numbers in range is in range
-between_fits : (a q b : ℚ) → IsWhole a → IsWhole q → IsWhole b → fits_range a ≡ true → fits_range b ≡ true → a ≤ℚ q → q ≤ℚ b → fits_range q ≡ true
+pub between_fits : (a q b : ℚ) → IsWhole a → IsWhole q → IsWhole b → fits_range a ≡ true → fits_range b ≡ true → a ≤ℚ q → q ≤ℚ b → fits_range q ≡ true
 between_fits a q b wa wq wb fa fb l u =
     subst (λ t. fits_range t ≡ true) (sym (whole_is q wq))
     (fits-integer (numerator q) (size_between (numerator a) (numerator q) (numerator b) largest (fits_out a fa).top (fits_out b fb).top (numerators_le a q wa wq l) (numerators_le q b wq wb u)))

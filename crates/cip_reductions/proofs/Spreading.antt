@@ -15,7 +15,7 @@ use Rattle.cip_reductions.specs.Compacting.{Stays, StandsOnLeft, AreLeft, rows_l
 
 -- ---- lengths
 
-length-placed : (forms : List (Option Form)) (values : List ℚ) → length (placed forms values) ≡ length forms
+pub length-placed : (forms : List (Option Form)) (values : List ℚ) → length (placed forms values) ≡ length forms
 length-placed [] values = refl
 length-placed (None ∷ forms) [] = ap (λ n. suc n) (length-placed forms [])
 length-placed (None ∷ forms) (v ∷ values) = ap (λ n. suc n) (length-placed forms values)

@@ -43,7 +43,7 @@ fn fixed_sum(terms: &[Term], bounds: &Bounds) -> Option<Frac>
 }
 
 /// A side less a number: `None` where that isn't in range, and `Some(None)` where the side is open.
-fn less(side: Option<Frac>, shift: Frac) -> Option<Option<Frac>>
+pub fn less(side: Option<Frac>, shift: Frac) -> Option<Option<Frac>>
     ensures { IfSome result (λ found. found ≡ side_less side shift) }
 {
     match side {

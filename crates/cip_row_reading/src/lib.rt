@@ -7,5 +7,5 @@ mod fixed_columns;
 mod single_rows;
 
 pub use extents::{RowSays, extent, row_says};
-pub use fixed_columns::{only_value, without_fixed};
-pub use single_rows::{one_term, single_sides};
+pub use fixed_columns::{less, only_value, without_fixed};
+pub use single_rows::{inward, one_term, single_sides};

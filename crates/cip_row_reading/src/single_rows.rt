@@ -44,7 +44,7 @@ fn divided(coef: Frac, low: Option<Frac>, high: Option<Frac>) -> Option<Sides>
 }
 
 /// A low side rounded up, and a high side rounded down.
-fn inward(sides: Sides) -> Sides
+pub fn inward(sides: Sides) -> Sides
     ensures { result ≡ inward_if true sides }
 {
     let low = match sides.low {

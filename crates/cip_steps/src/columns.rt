@@ -19,7 +19,7 @@ impl Draft {
     }
 
     /// Replaces the cost of a column, and the constant.
-    fn set_cost(&mut self, column: u32, cost: Frac, constant: Frac)
+    pub fn set_cost(&mut self, column: u32, cost: Frac, constant: Frac)
         requires { column < length self.old.bounds }
         ensures { self.new ≡ with_cost self.old column cost constant }
     {

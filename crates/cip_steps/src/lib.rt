@@ -8,4 +8,4 @@ mod rules;
 
 pub use copies::{copied_rows, row_of_terms};
 pub use drafts::Draft;
-pub use rules::Outcome;
+pub use rules::{Outcome, is_far};

@@ -42,7 +42,7 @@ fn is_far_side(side: Option<Frac>) -> bool {
 }
 
 /// Whether one of two sides has a size above 2^100.
-fn is_far(sides: Sides) -> bool {
+pub fn is_far(sides: Sides) -> bool {
     is_far_side(sides.low) || is_far_side(sides.high)
 }
 

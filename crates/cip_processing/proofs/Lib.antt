@@ -1,0 +1,4 @@
+pub mod Coming
+pub mod Closing
+pub mod Standing
+pub mod Using

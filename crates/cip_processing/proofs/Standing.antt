@@ -1,0 +1,93 @@
+-- What the last linear program of a node found stays so, while the node and the pool stay as they are.
+use Rattle.std.proofs.Common.{◌≡◌, ◌≢◌, List, Option, None, Some, refl, sym, ap, ◌∙◌, subst}
+use Rattle.cip_rational.specs.Rational.{ℚ}
+use Rattle.cip_problem.specs.Program.{Sides, Program}
+use Rattle.cip_problem.specs.WellFormed.{columns}
+use Rattle.cip_linear.specs.LinearProgram.{IsPoint}
+use Rattle.cip_cuts.specs.Improving.{IsNoDearer}
+use Rattle.cip_search.specs.Relaxation.{IsRelaxedBound}
+use Rattle.cip_domain.specs.Changes.{Region}
+use Rattle.cip_rows.specs.RowPools.{Pool}
+use Rattle.cip_tree.specs.Nodes.{TakenNode, region_of, box_of}
+use Rattle.cip_node_bounds.specs.NodeRows.{usable_rows}
+use Rattle.cip_node_bounds.specs.Relaxing.{node_program, IsMark}
+use Rattle.cip_node_bounds.specs.declared.relaxed.Mark.{Mark}
+use Rattle.cip_core.specs.CoreStates.{CoreState, reduced_of, held_of, rows_lent}
+use Rattle.cip_core.specs.Later.{IsLaterAt}
+use Rattle.cip_core.specs.Steps.{IsTried}
+use Rattle.cip_core.proofs.Relations.{no_dearer_trans}
+use Rattle.cip_node.specs.Bounding.{IsAsGood, HasTried, point_of, IsFound}
+use Rattle.cip_node_rules.specs.declared.looks.Looked.{Looked}
+use Rattle.cip_node_rules.specs.declared.looks.Looked.TheVariants as look
+use Rattle.cip_node.specs.Looking.{IsLook, IsOpenNode}
+use Rattle.cip_node.specs.declared.bounding.Found.{Found}
+use Rattle.cip_node.proofs.Looked.{look_empty, open_after}
+use Rattle.cip_calls.specs.Noted.{IsSameNode}
+use Rattle.cip_calls.specs.declared.asks.Round.TheVariants as rounds
+use Rattle.cip_calls.specs.declared.judging.Came.{Came}
+use Rattle.cip_calls.specs.declared.judging.Came.TheVariants as came
+use Rattle.cip_processing.specs.NodesReached.{IsFoundAt, IsFoundBy, IsSeen}
+
+module _ (old new : CoreState) (program : new.program ≡ old.program) (pool : new.pool ≡ old.pool) (box : List Sides) where
+  good_later : (bound : Option ℚ) (mark : Option Mark) → IsAsGood old box bound mark → IsAsGood new box bound mark
+  good_later bound None h =
+      subst (λ (p : Program). IsRelaxedBound p (usable_rows box new.pool.rows) box bound) (sym program)
+      (subst (λ (q : Pool). IsRelaxedBound (reduced_of old) (usable_rows box q.rows) box bound) (sym pool) h)
+  good_later bound (Some mark) h =
+      subst (λ (p : Program). IsMark p (record { own = p.rows; pool = new.pool.rows; cutoff = None }) box (columns p) mark) (sym program)
+      (subst (λ (q : Pool). IsMark (reduced_of old) (record { own = (reduced_of old).rows; pool = q.rows; cutoff = None }) box (columns (reduced_of old)) mark) (sym pool) h)
+
+  point_later : (point : List ℚ) → IsPoint (node_program (reduced_of old) (rows_lent old) box) point → IsPoint (node_program (reduced_of new) (rows_lent new) box) point
+  point_later point h =
+      subst (λ (p : Program). IsPoint (node_program p (record { own = p.rows; pool = new.pool.rows; cutoff = None }) box) point) (sym program)
+      (subst (λ (q : Pool). IsPoint (node_program (reduced_of old) (record { own = (reduced_of old).rows; pool = q.rows; cutoff = None }) box) point) (sym pool) h)
+
+  tried_later : (point : Option (List ℚ)) (mark : Option Mark) → IsNoDearer (held_of new) (held_of old) → HasTried old box point mark → HasTried new box point mark
+  tried_later None mark less h = h
+  tried_later (Some point) mark less h = (
+    point_later point h.0,
+    λ cost e. no_dearer_trans (held_of new) (held_of old) (Some cost) less
+        (subst (λ (p : Program). IsTried p (held_of old) point) (sym program) h.1 cost e),
+  )
+
+  pub found_later : (bound : Option ℚ) (found : Found) → IsNoDearer (held_of new) (held_of old) → IsFound old box bound found → IsFound new box bound found
+  found_later bound found less h = record {
+    long = h.long;
+    good = good_later bound found.mark h.good;
+    tried = tried_later (point_of found) found.mark less h.tried;
+  }
+
+-- the node and the pool are as they were
+pub found_stays : (old new : CoreState) (had has : TakenNode) (found : Found) → IsLaterAt old had new has → new.pool ≡ old.pool → IsSameNode old new had has → IsFoundAt old had found → IsFoundAt new has found
+found_stays old new had has found l pool same h =
+    let box : box_of new.tree has ≡ box_of old.tree had = ap (λ (r : Region). r.box) same.region in
+    subst (λ b. IsFound new b has.bound found) (sym box)
+    (subst (λ (n : TakenNode). IsFound new (box_of old.tree had) n.bound found) (sym same.node)
+    (found_later old new l.later.program pool (box_of old.tree had) had.bound found l.later.no_dearer h))
+
+pub open_stays : (old new : CoreState) (had has : TakenNode) → IsLaterAt old had new has → IsSameNode old new had has → IsOpenNode old had → IsOpenNode new has
+open_stays old new had has l same h = open_after old new had has l same.region h
+
+-- ---- by what came of a round
+
+pub found_open : (what : Came) (core : CoreState) (node : TakenNode) (found : Found) → what ≢ came.Emptied → IsFoundBy what core node found → IsFoundAt core node found
+found_open came.Emptied core node found other h = absurd (other refl)
+found_open came.Quiet core node found other h = h
+found_open came.Accepted core node found other h = h
+
+pub found_by : (what : Came) (core : CoreState) (node : TakenNode) (found : Found) → what ≢ came.Emptied → IsFoundAt core node found → IsFoundBy what core node found
+found_by came.Emptied core node found other h = absurd (other refl)
+found_by came.Quiet core node found other h = h
+found_by came.Accepted core node found other h = h
+
+-- ---- looks
+
+pub seen_of : (core : CoreState) (node : TakenNode) (looked : Looked) → IsLook core node looked → IsSeen core node looked
+seen_of core node look.Empty h = look_empty core node h
+seen_of core node look.Leaf h = h
+seen_of core node look.Open h = h
+
+-- ---- rounds are told apart
+
+pub points_not_cuts : rounds.Points ≢ rounds.Cuts
+points_not_cuts e = cc

@@ -1,0 +1,2 @@
+pub mod NodesDone
+pub mod NodesReached
