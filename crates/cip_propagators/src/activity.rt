@@ -88,8 +88,8 @@ impl ActivityPropagator {
         self.sides.extend_from_slice(sides)
     }
 
-    /// Takes the sides that were listed, and has the rows of their columns wait. Answers whether each column has a value
-    /// left.
+    /// Takes the sides that were listed, and has the rows of their columns wait. Answers whether each column has a
+    /// value left.
     fn take_sides(&mut self) -> Result<bool, AllocError> {
         for item in &self.implied {
             if !narrowed(self.sides.as_mut_slice(), *item) {

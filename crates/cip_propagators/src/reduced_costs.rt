@@ -10,9 +10,9 @@ use std::alloc::{AllocError, Global};
 // The most sides of a call: each is judged with all rows of the bound.
 const MOST_SIDES: usize = 16;
 
-/// A propagator: where a cost is held, sides of whole columns that the multipliers of the last linear program imply. Its
-/// rows added up with the cutoff row leave minus the reduced costs, so a column with one is near its side at each point
-/// that is cheaper.
+/// A propagator: where a cost is held, sides of whole columns that the multipliers of the last linear program imply.
+/// Its rows added up with the cutoff row leave minus the reduced costs, so a column with one is near its side at each
+/// point that is cheaper.
 #[derive(Drop)]
 pub struct ReducedCostPropagator {
     cost_row: CostRow,

@@ -1,5 +1,5 @@
-//! Tests of dictionaries, of the simplex method and of bases: states and programs worked out by hand, lines of whole numbers
-//! beside lines of fractions, and programs at random, each answer of which is checked.
+//! Tests of dictionaries, of the simplex method and of bases: states and programs worked out by hand, lines of whole
+//! numbers beside lines of fractions, and programs at random, each answer of which is checked.
 #![tactic(auto)]
 
 #[cfg(test)]

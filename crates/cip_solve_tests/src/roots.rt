@@ -1,13 +1,20 @@
 //! How roots end.
 ghost use Rattle.std.specs.Prelude.{[]};
-ghost use Rattle.cip_core.specs.CoreStates.{IsKeptIn};
+ghost use Rattle.cip_problem.specs.WellFormed.{columns};
+ghost use Rattle.cip_roster.specs.Turns.{IsSound};
+ghost use Rattle.cip_core.specs.CoreStates.{reduced_of, IsKeptIn};
+ghost use Rattle.cip_judge.specs.ProposalsJudged.{HaveRoom};
 
 use crate::programs::{FREE_COLUMN, has_near_columns, program_of};
+use cip_calls::{NoPlugins, Plugins};
 use cip_core::Core;
 use cip_frac::Frac;
+use cip_judge::Scratches;
 use cip_leaf::Shown;
 use cip_model::{Place, Program};
 use cip_node::{NodeEnd, NodeRecord, NodeWork};
+use cip_processing::{Done, process};
+use cip_roster::Seated;
 use cip_tree::End;
 use std::alloc::{AllocError, Global};
 
@@ -230,9 +237,57 @@ fn is_begun(alloc: Global, program: &Program, case: &Case) -> bool {
     }
 }
 
+/// A root has ended so, without a mark, and not where a plugin proposed it.
+fn is_done(done: Result<Done, AllocError>, kind: Kind) -> bool {
+    match done {
+        Ok(done) => is_of_kind(&done.end, kind) && done.mark.is_none() && !done.proposed,
+        Err(_) => false,
+    }
+}
+
+/// Takes up the root, and works on it while nobody is asked.
+fn is_worked_alone(
+    alloc: Global,
+    work: &mut NodeWork<'_>,
+    plugins: &mut Plugins<NoPlugins>,
+    case: &Case,
+) -> bool
+    requires kept { IsKeptIn work.old.core [] }
+    requires room { HaveRoom plugins.old.scratches (columns (reduced_of work.old.core)) }
+    requires sound { IsSound (⟦<NoPlugins as Seated>⟧.state plugins.old.roster)
+        (⟦<NoPlugins as Seated>⟧.room plugins.old.roster) }
+{
+    if work.core.tree().ids() != 1 {
+        return false;
+    }
+    match work.core.take() {
+        Some(node) => {
+            is_done(process(alloc, work, plugins, node), case.kind) && is_left(&work.core, case)
+        }
+        None => false,
+    }
+}
+
+/// Begins a search of a program, and works on its root while nobody is asked.
+fn is_begun_alone(alloc: Global, program: &Program, case: &Case) -> bool {
+    if !has_near_columns(program) {
+        return false;
+    }
+    let Ok(scratches) = Scratches::new(alloc, program) else {
+        return false;
+    };
+    let Ok(mut work) = NodeWork::new(alloc, program) else {
+        return false;
+    };
+    let mut plugins = Plugins::new(alloc, scratches, NoPlugins);
+    is_worked_alone(alloc, &mut work, &mut plugins, case)
+}
+
 fn is_as(alloc: Global, case: &Case) -> bool {
     match program_of(alloc, case.text) {
-        Some(program) => is_begun(alloc, &program, case),
+        Some(program) => {
+            is_begun(alloc, &program, case) && is_begun_alone(alloc, &program, case)
+        }
         None => false,
     }
 }
