@@ -1,8 +1,10 @@
 //! Solving a program and reporting.
-ghost use Rattle.std.specs.Prelude.{◌<◌};
+ghost use Rattle.std.specs.Prelude.{◌≡◌, ◌<◌, None};
 ghost use Rattle.cip_input.specs.LimitedModels.{IsLimited};
-ghost use Rattle.cip_answers.specs.Figures.{answer_text, exit_status, names_of};
+ghost use Rattle.cip_answers.specs.Figures.{exit_status, names_of};
+ghost use Rattle.cip_trace_texts.specs.TraceTexts.{traced_text};
 ghost use Rattle.cip_report.specs.Answers.{figures_of, AnswerFits};
+ghost use Rattle.cip_report.specs.Traces.{kept_lines};
 ghost use Rattle.cip_answering.specs.Answering.{limits_of};
 ghost use Rattle.cip_answering.specs.Saying.{Says};
 ghost use Rattle.cip_answering.specs.Work.{Searched, Works};
@@ -17,7 +19,8 @@ use std::alloc::Global;
 fn search(alloc: Global, program: &Program, options: &Options, logs: &mut Vec<Log>) -> Answer
     requires limited { IsLimited program.now }
     requires some { 0 < options.now.nodes }
-    ensures { Searched program.now (limits_of options.now) logs.old.items logs.new.items result }
+    ensures searched { Searched program.now (limits_of options.now) logs.old.items logs.new.items result }
+    ensures untraced { result.trace ≡ None }
 {
     if logs.reserve(1).is_err() {
         return unsearched(program);
@@ -33,7 +36,7 @@ fn tell<K: Sink>(program: &Program, answer: &Answer, out: &mut K) -> u8
     requires { AnswerFits program.now answer.now }
     ensures { let figures = figures_of program.now answer.now in
         Says (K.tells out.old) (K.tells out.new)
-        (answer_text (names_of program.now) figures) (exit_status figures.status) result }
+        (traced_text (names_of program.now) figures (kept_lines answer.now.trace)) (exit_status figures.status) result }
 {
     match report(program, answer, out) {
         Ok(()) => answer.ended.status(),

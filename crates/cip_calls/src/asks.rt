@@ -53,9 +53,9 @@ pub trait Asks: Seated {
         ensures seated { IfOk result (λ gave. AreSeated (Self.state self.new) gave.items) }
         ensures run { Ran (Self.state self.old) (Self.state self.new) };
 
-    /// Asks the next plugin behind the one of a number, or the first, for this, by falling priority and rising number.
-    /// `None`: there is none behind it; an inner `None`: that one wanted memory. `Err` comes where a growth was refused,
-    /// and then nobody was called.
+    /// Asks the next plugin behind the one of a number, or the first, for this, by falling priority and rising
+    /// number. `None`: there is none behind it; an inner `None`: that one wanted memory. `Err` comes where a growth
+    /// was refused, and then nobody was called.
     fn ask_next(
         &mut self,
         alloc: Global,

@@ -151,8 +151,8 @@ fn came_of(any: bool) -> Came
 }
 
 impl<R: Asks> Plugins<R> {
-    /// Judges a cut of the plugin of a number, as `judge_cut` does, and writes down what became of it. `Err` comes where
-    /// memory was refused: what was accepted before it stands.
+    /// Judges a cut of the plugin of a number, as `judge_cut` does, and writes down what became of it. `Err` comes
+    /// where memory was refused: what was accepted before it stands.
     pub fn take_cut(
         &mut self,
         core: &mut Core<'_>,

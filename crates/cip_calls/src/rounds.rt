@@ -102,8 +102,8 @@ impl<R: Asks> Plugins<R> {
         Ok(came_in_rounds(first, newest))
     }
 
-    /// Tells all events that wait; plugins see what is lent of the node of this number, which is in work or was it last.
-    /// `Err` comes where memory was refused: what was called before it stands.
+    /// Tells all events that wait; plugins see what is lent of the node of this number, which is in work or was it
+    /// last. `Err` comes where memory was refused: what was called before it stands.
     pub fn tell(
         &mut self,
         alloc: Global,

@@ -17,7 +17,6 @@ pub struct NoPlugins;
 impl Seated for NoPlugins {
     ghost use Rattle.std.specs.Prelude.{[], false};
     ghost use Rattle.cip_roster.specs.KeptRankings.{no_room};
-    ghost use Rattle.cip_roster.specs.KeptRankings.{no_room};
 
     ghost state = { λ none. record { seats = []; places = []; names = []; lines = []; kept = false } };
 

@@ -8,9 +8,9 @@ use cip_lin::{Row, Sides};
 use cip_row_reading::single_sides;
 use std::alloc::Global;
 
-/// The sides that a row and the sides of its other columns imply for the column of the term at a place, rounded inward
-/// where that is whole; `None` where a number isn't in range. The activity of the row without that term lies between the
-/// sides `rests` in the box.
+/// The sides that a row and the sides of its other columns imply for the column of the term at a place, rounded
+/// inward where that is whole; `None` where a number isn't in range. The activity of the row without that term lies
+/// between the sides `rests` in the box.
 pub(crate) fn implied_sides(
     alloc: Global,
     row: &Row,

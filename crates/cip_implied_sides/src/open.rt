@@ -41,8 +41,8 @@ impl Found {
     }
 }
 
-/// The places of the terms that leave the least activity of a row open, and the greatest one, where each is the only one
-/// that does.
+/// The places of the terms that leave the least activity of a row open, and the greatest one, where each is the only
+/// one that does.
 #[derive(Clone, Copy, Debug)]
 pub struct OpenPlaces {
     low: Option<usize>,

@@ -75,8 +75,8 @@ fn implied(
 
 /// Takes the sides that a row implies for the column of its term at a place, where it is whole and they are stronger
 /// than its own and not of a size above 2^100; `NoPoint` where the low side passes the high one. The activity of the
-/// row lies between the sides `extent` in the bounds; where that term alone leaves one of them open, the rest of the row
-/// is to be summed up `anew`. `Err` comes where a growth was refused.
+/// row lies between the sides `extent` in the bounds; where that term alone leaves one of them open, the rest of the
+/// row is to be summed up `anew`. `Err` comes where a growth was refused.
 #[tactic(auto, using(crate::proofs::ImpliedSides::taking))]
 pub fn try_implied(
     alloc: Global,

@@ -1,5 +1,5 @@
 -- What the reading of a text of a model answers.
-use Rattle.std.specs.Prelude.{◌≡◌, Bool, true, false, List, Option, ℕ, take, IfSome, Result, Ok, Err, MatchResult}
+use Rattle.std.specs.Prelude.{◌≡◌, Bool, true, false, List, Option, None, Some, ℕ, take, IfSome, Result, Ok, Err, MatchResult}
 use Rattle.std.proofs.Common.{◌∙◌, sym, subst}
 use Rattle.cip_io.specs.Faults.{Rose}
 use Rattle.cip_io.specs.Store.{StoreTells}
@@ -27,7 +27,8 @@ as_told true text bytes program h p = text_told lp_reading text bytes program h 
 as_told false text bytes program h p = text_told mps_reading text bytes program h p
 
 as_fault : (lp : Bool) (text : Option (List ℕ)) (bytes : List ℕ) (line kind : ℕ) → IfSome text (λ all. take most_pulled all ≡ bytes) → HasFaultAs lp bytes line kind → IfSome text (λ all. HasFaultAs lp all line kind)
-as_fault true text bytes line kind h p = fault_told lp_reading text bytes line kind h p
+as_fault true None bytes line kind h p = tt
+as_fault true (Some all) bytes line kind h p = record { number = p.number; fault = fault_told lp_reading (Some all) bytes line p.number h p.fault; is_kind = p.is_kind }
 as_fault false text bytes line kind h p = fault_told mps_reading text bytes line kind h p
 
 -- what the reader answers at the end of a text that was read

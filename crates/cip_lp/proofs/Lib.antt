@@ -1,2 +1,4 @@
+pub mod ByteSteps
+pub mod LastBytes
 pub mod LineLaws
 pub mod LpAnswers

@@ -9,7 +9,9 @@ use Rattle.cip_lp_tokens.specs.LpLines.{token_shown}
 use Rattle.cip_lp_rules.specs.LpTokens.{Token}
 use Rattle.cip_lp_rules.specs.LpOutcome.{LpContext, context_with, is_end, lp_reading}
 use Rattle.cip_lp.specs.declared.line_reader.LineReader.{LineReader}
-use Rattle.cip_lp.specs.LinesRead.{stage_of, tokens_read, AreOver, IsTaken}
+use Rattle.cip_lp_stream.specs.LpBytes.{tokens_read}
+use Rattle.cip_lp_stream.proofs.TakenTexts.{tokens_failed}
+use Rattle.cip_lp.specs.LinesRead.{stage_of, AreOver, IsTaken}
 use Rattle.cip_lp_statements.specs.declared.statements.Statements.{Statements}
 use Rattle.cip_lp_statements.specs.LpStages.{context_of}
 use Rattle.cip_lp_statements.specs.LpTaken.{IsTokenTaken}
@@ -18,11 +20,6 @@ use Rattle.cip_lp_statements.specs.LpTaken.{IsTokenTaken}
 pub tokens_over : (known : LpContext) (number : ℕ) (tokens : List Token) → tokens_read number (Going (Ended known)) tokens ≡ Going (Ended known)
 tokens_over known number [] = refl
 tokens_over known number (token ∷ tokens) = tokens_over known number tokens
-
--- behind a fault
-pub tokens_failed : (line kind number : ℕ) (tokens : List Token) → tokens_read number (Failed line kind) tokens ≡ Failed line kind
-tokens_failed line kind number [] = refl
-tokens_failed line kind number (token ∷ tokens) = tokens_failed line kind number tokens
 
 -- a token more
 pub token_read : (old : LpContext) (new : Stage LpContext) (token : Token) (kind : Option ℕ) (number : ℕ) → IsTaken old new token kind → item_read lp_reading (Going (Open old)) number token ≡ progress_after number kind new

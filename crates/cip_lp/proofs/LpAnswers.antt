@@ -1,45 +1,152 @@
 -- What the calls of a reader of LP texts answer.
-use Rattle.std.proofs.Common.{◌≡◌, ℕ, List, [], Some, Result, Ok, Err, sym, subst, ◌∙◌}
-use Rattle.cip_line_texts.specs.LineStream.{stream_of, FaultsOfEndedLines}
-use Rattle.cip_line_stream.specs.PieceCuts.{no_bytes, known_fault}
-use Rattle.cip_line_stream.proofs.Streams.{first_stands, quiet, faulty}
-use Rattle.cip_lp_rules.specs.LpOutcome.{lp_reading}
+use Rattle.std.proofs.Common.{◌≡◌, ℕ, ◌+◌, ◌≤◌, Bool, true, List, [], ◌++◌, Option, None, Some, is_some, Result, Ok, Err, refl, sym, ap, subst, ◌∙◌}
+use Rattle.std.proofs.lemmas.List.{append-nil, append_assoc}
+use Rattle.cip_problem.specs.Program.{Program}
+use Rattle.cip_line_texts.specs.LineEnds.{Stage}
+use Rattle.cip_line_texts.specs.LineTexts.{Outcome, Means, outcome_at, outcome_of, HasFault}
+use Rattle.cip_line_texts.specs.LineStream.{Progress, Going, Failed, outcome_from}
+use Rattle.cip_line_stream.specs.declared.faults.KnownFault.{KnownFault}
+use Rattle.cip_line_stream.specs.PieceFaults.{first_fault, has_kind_to}
+use Rattle.cip_line_stream.specs.PieceStands.{progress_of, progress_after, outcome_with}
+use Rattle.cip_line_stream.proofs.Streams.{few_kinds}
+use Rattle.cip_lp_rules.specs.LpOutcome.{LpContext, lp_reading, told_kind, HasLpFault}
+use Rattle.cip_lp_stream.specs.LpBytes.{LpBytes, part_read, behind, beyond, text_taken, IsTold}
+use Rattle.cip_lp_stream.specs.LpTakenTexts.{last_line, TakenFaultsStay, TakenTextsComeOut}
+use Rattle.cip_lp.specs.declared.faults.LpFault.{LpFault}
 use Rattle.cip_lp.specs.declared.faults.ReadFault.{ReadFault}
 use Rattle.cip_lp.specs.declared.faults.ReadFault.TheVariants.{Faulty, NoMemory}
 use Rattle.cip_lp.specs.declared.lp_text.LpText.{LpText}
 use Rattle.cip_lp.specs.declared.reader.LpReader.{LpReader}
 use Rattle.cip_lp.specs.LpFaultKinds.{kind_number}
-use Rattle.cip_lp.specs.LpTexts.{kept_of, stage_of, StandsFor}
-use Rattle.cip_lp.specs.LpReaders.{HasRead, IsSaid, IsFed, IsFaultOf}
+use Rattle.cip_lp.specs.LpTexts.{stage_of, bytes_of, shown_of}
+use Rattle.cip_lp.specs.LpReaders.{HasRead, IsKnown, KnownLpFaultsStay, IsSaid, IsFed, IsFaultOf}
+
+-- ---- bytes
+
+-- the progress behind tokens
+pub after_is : (number : ℕ) (kind : Option ℕ) (stage : Stage LpContext) → progress_of (first_fault None number kind) stage ≡ progress_after number kind stage
+after_is number None stage = refl
+after_is number (Some kind) stage = refl
+
+abbrev pub bytes_with : Stage LpContext → (ended : ℕ) → (front : Bool) → (rest : List ℕ) → (size : ℕ) → LpBytes
+bytes_with stage ended front rest size = record { stage = stage; ended = ended; front = front; rest = rest; size = size }
+
+-- what is kept behind tokens
+pub moved : (f : Option KnownFault) (stage : Stage LpContext) (p : Progress (Stage LpContext)) (ended ended_then : ℕ) (front : Bool) (rest rest_then : List ℕ) (size size_then : ℕ)
+    → progress_of f stage ≡ p → ended ≡ ended_then → rest ≡ rest_then → size ≡ size_then → progress_of f (bytes_with stage ended front rest size) ≡ behind p ended_then front rest_then size_then
+moved f stage p ended ended_then front rest rest_then size size_then e same_ended same_rest same_size =
+    here f ∙ (λ i. behind (e i) (same_ended i) front (same_rest i) (same_size i))
+  where
+    here : (g : Option KnownFault) → progress_of g (bytes_with stage ended front rest size) ≡ behind (progress_of g stage) ended front rest size
+    here None = refl
+    here (Some g) = refl
+
+-- behind the first byte too many
+pub beyond_going : (stage : Stage LpContext) (p : Progress (Stage LpContext)) (bytes : LpBytes) (f : Option KnownFault) (line : ℕ) → f ≡ None → progress_of f stage ≡ p → progress_of (first_fault None line (Some 12)) bytes ≡ beyond p line
+beyond_going stage p bytes f line none e = ap (λ q. beyond q line) (sym (ap (λ g. progress_of g stage) none) ∙ e)
+
+pub beyond_failed : (stage : Stage LpContext) (p : Progress (Stage LpContext)) (bytes : LpBytes) (f : Option KnownFault) (line : ℕ) → is_some f ≡ true → progress_of f stage ≡ p → progress_of f bytes ≡ beyond p line
+beyond_failed stage p bytes None line some e = absurd (cc)
+beyond_failed stage p bytes (Some fault) line some e = ap (λ q. beyond q line) e
+
+-- ---- the end
+
+-- what progress comes to
+outcome_is : (last : ℕ) (f : Option KnownFault) (stage : Stage LpContext) → outcome_from lp_reading last (progress_of f stage) ≡ outcome_with (first_fault f (last + 1) (lp_reading.end_fault stage)) (lp_reading.result stage)
+outcome_is last None stage = go (lp_reading.end_fault stage)
+  where
+    go : (o : Option ℕ) → ◌≡◌ {A = Outcome Program} (outcome_at o (last + 1) (Means (lp_reading.result stage))) (outcome_with (first_fault None (last + 1) o) (lp_reading.result stage))
+    go None = refl
+    go (Some kind) = refl
+outcome_is last (Some f) stage = refl
+
+-- the outcome of a text that ends here
+pub closes : TakenTextsComeOut → (text : List ℕ) (old : LpText) (f : Option KnownFault) (stage : Stage LpContext) (last : ℕ) (fault : Option KnownFault) → old.fault ≡ None → shown_of old ≡ text_taken text → last ≡ last_line (bytes_of old)
+    → progress_of f stage ≡ part_read (bytes_of old) → fault ≡ first_fault f (last + 1) (lp_reading.end_fault stage) → outcome_of lp_reading text ≡ outcome_with fault (lp_reading.result stage)
+closes law text old f stage last fault none stands is_last read is_fault =
+    law text (bytes_of old) (sym stands ∙ ap (λ g. progress_of g (bytes_of old)) none)
+    ∙ (λ i. outcome_from lp_reading (sym is_last i) (sym read i))
+    ∙ outcome_is last f stage
+    ∙ ap (λ g. outcome_with g (lp_reading.result stage)) (sym is_fault)
+
+-- ---- the calls
 
 -- before the first piece
-pub begun : (reader : LpReader) (kept : LpText) → reader.text ≡ Some kept → kept_of kept ≡ no_bytes → stage_of kept ≡ lp_reading.start → HasRead reader []
-begun reader kept e none start = record {
-  kept = kept;
-  goes_on = e;
-  stands = first_stands lp_reading (kept_of kept) (stage_of kept) none start;
-}
+pub begun : (reader : LpReader) (kept : LpText) → reader.text ≡ Some kept → shown_of kept ≡ text_taken [] → HasRead reader []
+begun reader kept e h = record { kept = kept; goes_on = e; stands = h }
 
 -- the text of a reader
-pub read_text : (reader : LpReader) (held : LpText) (text : List ℕ) → reader.text ≡ Some held → HasRead reader text → StandsFor held (stream_of lp_reading text)
+pub read_text : (reader : LpReader) (held : LpText) (text : List ℕ) → reader.text ≡ Some held → HasRead reader text → shown_of held ≡ text_taken text
 read_text reader held text e h =
     let s : Some h.kept ≡ Some held = sym h.goes_on ∙ e in
     let same : h.kept ≡ held = cc s in
-    subst (λ (k : LpText). StandsFor k (stream_of lp_reading text)) same h.stands
+    ap shown_of (sym same) ∙ h.stands
+
+-- a fault that is known
+is_known : TakenFaultsStay → (now : LpText) (text : List ℕ) (known : KnownFault) (fault : LpFault) → shown_of now ≡ text_taken text → now.fault ≡ Some known → has_kind_to 12 (Some known) ≡ true → IsSaid (Some known) (Err (Faulty fault)) → IsKnown text fault.line (kind_number fault.kind)
+is_known law now text known fault stands e few said = record {
+  told = record {
+    number = known.kind;
+    taken = taken ∙ ap (λ (line : ℕ). Failed line known.kind) (sym said.0);
+    is_kind = sym said.1;
+  };
+  of_text = λ rest. record {
+    number = known.kind;
+    fault = subst (λ (line : ℕ). HasFault lp_reading (text ++ rest) line known.kind) (sym said.0) (law.of_text text rest known.line known.kind taken (few_kinds 12 known few));
+    is_kind = sym said.1;
+  };
+}
+  where
+    taken : text_taken text ≡ Failed known.line known.kind
+    taken = sym stands ∙ ap (λ g. progress_of g (bytes_of now)) e
+
+pub said_known : TakenFaultsStay → (now : LpText) (text : List ℕ) (f : Option KnownFault) (fault : LpFault) → shown_of now ≡ text_taken text → now.fault ≡ f → has_kind_to 12 f ≡ true → IsSaid f (Err (Faulty fault)) → IsKnown text fault.line (kind_number fault.kind)
+said_known law now text None fault stands e few said = absurd said
+said_known law now text (Some known) fault stands e few said = is_known law now text known fault stands e few said
+
+-- without a known fault
+none_told : (now : LpText) (text : List ℕ) → shown_of now ≡ text_taken text → now.fault ≡ None → (line kind : ℕ) → IsTold text line kind → ⊥
+none_told now text stands none line kind told =
+    let going : text_taken text ≡ Going (bytes_of now) = sym stands ∙ ap (λ g. progress_of g (bytes_of now)) none in
+    let failed : text_taken text ≡ Failed line told.number = told.taken in
+    cc (going, failed)
 
 -- one piece more
-pub fed : FaultsOfEndedLines lp_reading lp_reading → (after : LpReader) (now : LpText) (text : List ℕ) → after.text ≡ Some now → StandsFor now (stream_of lp_reading text) → (answer : Result (Unit {0}) ReadFault) → IsSaid (known_fault 9 (kept_of now)) answer → IsFed after text answer
-fed law after now text e stands answer said = go answer said
+pub fed : TakenFaultsStay → (after : LpReader) (now : LpText) (text : List ℕ) → after.text ≡ Some now → shown_of now ≡ text_taken text → has_kind_to 12 now.fault ≡ true → (answer : Result (Unit {0}) ReadFault) → IsSaid now.fault answer → IsFed after text answer
+fed law after now text e stands few answer said = go answer said
   where
     now_read : HasRead after text
     now_read = record { kept = now; goes_on = e; stands = stands }
 
-    go : (answer : Result (Unit {0}) ReadFault) → IsSaid (known_fault 9 (kept_of now)) answer → IsFed after text answer
-    go (Ok _) s = (now_read, quiet lp_reading lp_reading law text (kept_of now) (stage_of now) stands s)
-    go (Err (Faulty fault)) s = (now_read, faulty lp_reading lp_reading law text (kept_of now) (stage_of now) stands (record { line = fault.line; kind = kind_number fault.kind }) s)
+    go : (answer : Result (Unit {0}) ReadFault) → IsSaid now.fault answer → IsFed after text answer
+    go (Ok _) s = (now_read, none_told now text stands s)
+    go (Err (Faulty fault)) s = (now_read, said_known law now text now.fault fault stands refl few s)
     go (Err NoMemory) s = absurd s
+
+-- a known fault is the text's
+pub known_fault : (text : List ℕ) (line kind : ℕ) → IsKnown text line kind → HasLpFault text line kind
+known_fault text line kind h = subst (λ (t : List ℕ). HasLpFault t line kind) (append-nil text) (h.of_text [])
 
 -- why a text that came whole gives no program
 pub whole_fault : (after : LpReader) (text : List ℕ) (fault : ReadFault) → IsFed after text (Err fault) → IsFaultOf text fault
-whole_fault after text (Faulty fault) h = h.1.fault
+whole_fault after text (Faulty fault) h = known_fault text fault.line (kind_number fault.kind) h.1
 whole_fault after text NoMemory h = tt
+
+-- the fault at the end
+pub end_fault : (text : List ℕ) (known : KnownFault) (fault : LpFault) (value : Program) → outcome_of lp_reading text ≡ outcome_with (Some known) value → fault.line ≡ known.line → kind_number fault.kind ≡ told_kind known.kind → HasLpFault text fault.line (kind_number fault.kind)
+end_fault text known fault value e line kind = record {
+  number = known.kind;
+  fault = subst (λ (n : ℕ). HasFault lp_reading text n known.kind) (sym line) (record { faulty = e });
+  is_kind = sym kind;
+}
+
+-- known faults stay
+pub stays : TakenFaultsStay → KnownLpFaultsStay
+stays law text rest line kind h = record {
+  told = record {
+    number = h.told.number;
+    taken = law.taken text rest line h.told.number h.told.taken;
+    is_kind = h.told.is_kind;
+  };
+  of_text = λ more. subst (λ (t : List ℕ). HasLpFault t line kind) (sym (append_assoc text rest more)) (h.of_text (rest ++ more));
+}

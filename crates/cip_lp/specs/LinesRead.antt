@@ -1,10 +1,11 @@
 -- What the code keeps of the lines that have ended.
 --     stage_of lines      the stage of the text behind them
-use Rattle.std.specs.Prelude.{◌≡◌, ℕ, if◌then◌else◌, List, Option, None, fold}
+use Rattle.std.specs.Prelude.{◌≡◌, ℕ, if◌then◌else◌, List, Option, None}
 use Rattle.cip_line_texts.specs.LineEnds.{Stage, Open, Ended}
-use Rattle.cip_line_texts.specs.LineStream.{Progress, Going, item_read}
+use Rattle.cip_line_texts.specs.LineStream.{Going}
 use Rattle.cip_lp_rules.specs.LpTokens.{Token}
-use Rattle.cip_lp_rules.specs.LpOutcome.{LpContext, token_fault, context_with, is_end, lp_reading}
+use Rattle.cip_lp_rules.specs.LpOutcome.{LpContext, token_fault, context_with, is_end}
+use Rattle.cip_lp_stream.specs.LpBytes.{tokens_read}
 use Rattle.cip_lp_draft.specs.LpEvents.{IsLpKind}
 use Rattle.cip_lp_statements.specs.LpStages.{context_of}
 use Rattle.cip_lp.specs.declared.line_reader.LineReader.{LineReader}
@@ -19,10 +20,6 @@ pub record IsTaken (old : LpContext) (new : Stage LpContext) (token : Token) (ki
   pub taken : kind ≡ None
       → new ≡ (if is_end old token then Ended (context_with old token) else Open (context_with old token))
   pub few : IsLpKind kind
-
--- what is read of tokens of a line of this number
-abbrev pub tokens_read : (number : ℕ) → Progress (Stage LpContext) → List Token → Progress (Stage LpContext)
-tokens_read number progress tokens = fold (λ p item. item_read lp_reading p number item) progress tokens
 
 -- these tokens change nothing: there are none, or the text has ended
 abbrev pub AreOver : Stage LpContext → List Token → Type 0

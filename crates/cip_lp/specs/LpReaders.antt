@@ -1,37 +1,46 @@
 -- What a reader of LP texts has read, and what its calls answer.
-use Rattle.std.specs.Prelude.{◌≡◌, ⊤, ℕ, List, Option, None, Some, Result, Ok, Err}
-use Rattle.cip_line_texts.specs.LineStream.{stream_of}
+use Rattle.std.specs.Prelude.{◌≡◌, ⊤, ℕ, List, ◌++◌, Option, None, Some, Result, Ok, Err}
 use Rattle.cip_line_stream.specs.declared.faults.KnownFault.{KnownFault}
-use Rattle.cip_line_stream.specs.EndedFaults.{IsKnownFault}
-use Rattle.cip_lp_rules.specs.LpOutcome.{lp_reading, HasLpFault}
+use Rattle.cip_lp_rules.specs.LpOutcome.{told_kind, HasLpFault}
+use Rattle.cip_lp_stream.specs.LpBytes.{text_taken, IsTold}
 use Rattle.cip_lp.specs.declared.faults.ReadFault.{ReadFault}
 use Rattle.cip_lp.specs.declared.faults.ReadFault.TheVariants.{Faulty, NoMemory}
 use Rattle.cip_lp.specs.declared.lp_text.LpText.{LpText}
 use Rattle.cip_lp.specs.declared.reader.LpReader.{LpReader}
 use Rattle.cip_lp.specs.LpFaultKinds.{kind_number}
-use Rattle.cip_lp.specs.LpTexts.{StandsFor}
+use Rattle.cip_lp.specs.LpTexts.{shown_of}
 
 -- the reader has read this text, piece by piece
 pub record HasRead (reader : LpReader) (text : List ℕ) : Type 0 where
   pub kept : LpText
   pub goes_on : reader.text ≡ Some kept
-  pub stands : StandsFor kept (stream_of lp_reading text)
+  pub stands : shown_of kept ≡ text_taken text
 
 -- a growth was refused
 abbrev pub IsSpent : LpReader → Type 0
 IsSpent reader = reader.text ≡ None
 
+-- a token that has ended is faulty, or the text is too long; and this is the text's fault, whatever follows
+pub record IsKnown (text : List ℕ) (line kind : ℕ) : Type 0 where
+  pub told : IsTold text line kind
+  pub of_text : (rest : List ℕ) → HasLpFault (text ++ rest) line kind
+
+-- a known fault is that of the text with whatever follows, and stays known
+abbrev pub KnownLpFaultsStay : Type 0
+KnownLpFaultsStay =
+    (text rest : List ℕ) (line kind : ℕ) → IsKnown text line kind → IsKnown (text ++ rest) line kind
+
 -- what is answered of a fault that is known, or of none
 abbrev pub IsSaid : Option KnownFault → Result (Unit {0}) ReadFault → Type 0
 IsSaid known (Ok _) = known ≡ None
-IsSaid known (Err (Faulty fault)) = known ≡ Some (record { line = fault.line; kind = kind_number fault.kind })
+IsSaid None (Err (Faulty fault)) = ⊥
+IsSaid (Some known) (Err (Faulty fault)) = (fault.line ≡ known.line) × (kind_number fault.kind ≡ told_kind known.kind)
 IsSaid known (Err NoMemory) = ⊥
 
 -- what `feed` answers of the text with its piece, and how it leaves the reader
 abbrev pub IsFed : (after : LpReader) → (text : List ℕ) → Result (Unit {0}) ReadFault → Type 0
-IsFed after text (Ok _) = HasRead after text × ((line kind : ℕ) → ¬ IsKnownFault lp_reading text line kind)
-IsFed after text (Err (Faulty fault)) =
-    HasRead after text × IsKnownFault lp_reading text fault.line (kind_number fault.kind)
+IsFed after text (Ok _) = HasRead after text × ((line kind : ℕ) → ¬ IsTold text line kind)
+IsFed after text (Err (Faulty fault)) = HasRead after text × IsKnown text fault.line (kind_number fault.kind)
 IsFed after text (Err NoMemory) = IsSpent after
 
 -- why a text gives no program

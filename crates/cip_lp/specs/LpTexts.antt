@@ -1,21 +1,28 @@
 -- An LP text as far as it came.
---     StandsFor text stream      the code keeps what the plain stream does
+--     shown_of text      what is known of it, as it is taken byte by byte
+use Rattle.std.specs.Prelude.{ℕ}
 use Rattle.cip_line_texts.specs.LineEnds.{Stage}
-use Rattle.cip_line_texts.specs.LineStream.{Stream}
-use Rattle.cip_line_stream.specs.PieceCuts.{Cut, cut_of}
-use Rattle.cip_line_stream.specs.PieceStands.{StandsAt}
+use Rattle.cip_line_texts.specs.LineStream.{Progress}
+use Rattle.cip_line_stream.specs.PieceStands.{progress_of}
 use Rattle.cip_lp_rules.specs.LpOutcome.{LpContext}
+use Rattle.cip_lp_stream.specs.LpBytes.{LpBytes}
 use Rattle.cip_lp.specs.declared.lp_text.LpText.{LpText}
 use Rattle.cip_lp.specs.LinesRead as lines
 
--- what is kept of its bytes
-abbrev pub kept_of : LpText → Cut
-kept_of text = cut_of text.pieces
-
--- what its lines have said
+-- what its tokens have said
 abbrev pub stage_of : LpText → Stage LpContext
 stage_of text = lines.stage_of text.lines
 
--- the code keeps what the plain stream does
-abbrev pub StandsFor : LpText → Stream (Stage LpContext) → Type 0
-StandsFor text stream = StandsAt (kept_of text) (stage_of text) stream
+-- that, and what is kept of its bytes
+abbrev pub bytes_of : LpText → LpBytes
+bytes_of text = record {
+  stage = stage_of text;
+  ended = text.ended;
+  front = text.front;
+  rest = text.rest.items;
+  size = text.size;
+}
+
+-- or its fault
+abbrev pub shown_of : LpText → Progress LpBytes
+shown_of text = progress_of text.fault (bytes_of text)

@@ -1,9 +1,10 @@
-//! Reading the lines of a text, one after another.
+//! Reading the tokens of a text, one after another.
 ghost use Rattle.std.specs.Prelude.{◌≡◌, ◌∷◌, ℕ, false, IfOk, MatchOption};
-ghost use Rattle.cip_line_texts.specs.LineStream.{Going, line_read};
+ghost use Rattle.cip_line_texts.specs.LineStream.{Going};
 ghost use Rattle.cip_line_stream.specs.PieceStands.{progress_after};
 ghost use Rattle.cip_lp_rules.specs.LpOutcome as text;
 ghost use Rattle.cip_lp_rules.specs.LpOutcome.{LpContext, lp_reading};
+ghost use Rattle.cip_lp_stream.specs.LpBytes.{tokens_read};
 ghost use Rattle.cip_lp_tokens.specs.LpLines.{token_shown, tokens_left};
 ghost use Rattle.cip_lp_draft.specs.LpEvents.{IsLpKind};
 ghost use Rattle.cip_lp_statements.specs.LpStages.{context_of};
@@ -14,7 +15,7 @@ use cip_lp_tokens::{LineTokens, LpPart, Token};
 use cip_model::Program;
 use std::alloc::{AllocError, Global};
 
-/// What was read of the lines that have ended. Behind End no token is looked at.
+/// What was read of the tokens of a text. Behind End none is looked at.
 #[derive(Debug, Drop)]
 pub(crate) struct LineReader {
     pub(crate) statements: Statements,
@@ -32,7 +33,7 @@ fn is_end(token: Token<'_>) -> bool
 }
 
 impl LineReader {
-    /// Before the first line.
+    /// Before the first token.
     pub(crate) fn new(alloc: Global) -> LineReader
         ensures { stage_of result ≡ lp_reading.start }
     {
@@ -66,14 +67,14 @@ impl LineReader {
         tokens.next_token()
     }
 
-    /// Reads one line more, and says the kind of its first fault, if it has one.
-    pub(crate) fn take_line(&mut self, line: &[u8]) -> Result<Option<u32>, AllocError>
+    /// Reads these tokens, and says the kind of their first fault, if there is one.
+    pub(crate) fn take_tokens(&mut self, line: LineTokens<'_>) -> Result<Option<u32>, AllocError>
         ensures read { IfOk result (λ kind. (number : ℕ)
-            → line_read lp_reading (Going (stage_of self.old)) number line.now
+            → tokens_read number (Going (stage_of self.old)) (tokens_left line.entry)
             ≡ progress_after number kind (stage_of self.new)) }
         ensures kinds { IfOk result IsLpKind }
     {
-        let mut tokens = LineTokens::of(line);
+        let mut tokens = line;
         while let Some(token) = self.next_of(&mut tokens) {
             let kind = self.take(token)?;
             if kind.is_some() {
@@ -83,7 +84,7 @@ impl LineReader {
         Ok(None)
     }
 
-    /// The program of the lines.
+    /// The program of the tokens.
     pub(crate) fn into_program(self) -> Result<Program, AllocError>
         ensures { IfOk result (λ program. program ≡ lp_reading.result (stage_of self)) }
     {

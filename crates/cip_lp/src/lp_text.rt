@@ -1,177 +1,307 @@
-//! An LP text, in whatever pieces it comes.
-ghost use Rattle.std.specs.Prelude.{◌≡◌, ◌+◌, ◌<◌, ◌≤◌, ◌∷◌, ◌++◌, [], ℕ, List, Option, length, true, false, IfSome, OnOk, IfOk, fold};
-ghost use Rattle.std.specs.List.{list_any};
+//! An LP text, byte by byte.
+ghost use Rattle.std.specs.Prelude.{◌≡◌, ◌+◌, ◌<◌, ◌≤◌, [], ◌∷◌, ℕ, List, None, true, false, OnOk, IfOk, fold};
 ghost use Rattle.cip_problem.specs.Limits.{longest_text};
-ghost use Rattle.cip_syntax.specs.Lines.{is_line_feed};
-ghost use Rattle.cip_line_texts.specs.LineTexts.{outcome_of};
+ghost use Rattle.cip_syntax.specs.Lines as text;
 ghost use Rattle.cip_line_texts.specs.LineEnds.{Stage};
-ghost use Rattle.cip_line_texts.specs.LineStream.{Stream, byte_read, stream_of};
-ghost use Rattle.cip_line_stream.specs.PieceFaults.{has_kind_to};
-ghost use Rattle.cip_line_stream.specs.PieceCuts.{no_bytes, cut_of, with_bytes, with_feed, known_fault};
-ghost use Rattle.cip_line_stream.specs.PieceStands.{progress_after, IsRead, IsLastRead, outcome_with};
+ghost use Rattle.cip_line_texts.specs.LineStream.{Progress};
+ghost use Rattle.cip_line_texts.specs.LineTexts.{outcome_of};
+ghost use Rattle.cip_line_stream.specs.PieceFaults.{has_kind_to, first_fault};
+ghost use Rattle.cip_line_stream.specs.PieceStands.{progress_of, outcome_with};
 ghost use Rattle.cip_lp_rules.specs.LpOutcome.{LpContext, lp_reading};
+ghost use Rattle.cip_lp_stream.specs.LpBytes as taken;
+ghost use Rattle.cip_lp_stream.specs.LpBytes.{part_read, with_last, byte_taken, text_taken};
+ghost use Rattle.cip_lp_stream.specs.LpParts.{ends_with};
+ghost use Rattle.cip_lp_stream.specs.LpTakenTexts.{last_line};
 
 use crate::line_reader::LineReader;
-use cip_line_stream::{KnownFault, Pieces, cut_line};
-use cip_lp_rules::lp_pieces::lp_texts_are_read;
+use cip_line_stream::KnownFault;
+use cip_lp_stream::taken_texts_come_out;
+use cip_lp_tokens::{LineTokens, ends_before, hangs};
 use cip_model::Program;
 use std::alloc::{AllocError, Global};
 
-/// The number of the kind of a text that is too long.
-const TOO_MANY: u32 = 9;
+/// The most bytes of a text.
+const LONGEST_TEXT: usize = 67_108_864;
 
 /// The number of the kind of a text without End.
 const NO_END: u32 = 8;
 
-/// An LP text as far as it came.
+/// The number that stands for a text that is too long.
+const TOO_LONG: u32 = 12;
+
+/// An LP text as far as it came: what its tokens have said that have ended, how many lines have ended, whether no token
+/// of the line that has not ended was read, its bytes behind these tokens, how many bytes there are, and the fault.
 #[derive(Debug, Drop)]
 pub(crate) struct LpText {
     pub(crate) alloc: Global,
-    pub(crate) pieces: Pieces,
     pub(crate) lines: LineReader,
-    ghost kinds: { has_kind_to 11 (cut_of pieces).fault ≡ true },
+    pub(crate) ended: usize,
+    pub(crate) front: bool,
+    pub(crate) rest: Vec<u8>,
+    pub(crate) size: usize,
+    pub(crate) fault: Option<KnownFault>,
+    ghost counted: { ended ≤ size },
+    ghost few: { size ≤ longest_text },
+    ghost kinds: { has_kind_to 12 fault ≡ true },
+}
+
+/// Whether a byte ends a line.
+fn is_line_feed(byte: u8) -> bool
+    ensures { result ≡ text.is_line_feed byte }
+{
+    byte == b'\n'
+}
+
+/// The fault of a line that has one of this kind, or none.
+fn fault_on(line: usize, kind: Option<u32>) -> Option<KnownFault>
+    ensures { result ≡ first_fault None line kind }
+{
+    match kind {
+        None => None,
+        Some(kind) => Some(KnownFault { line, kind }),
+    }
 }
 
 impl LpText {
-    ghost use Rattle.cip_lp.specs.LpTexts.{kept_of, stage_of, StandsFor};
+    ghost use Rattle.cip_lp.specs.LpTexts.{stage_of, bytes_of, shown_of};
 
     /// Before the first byte.
     pub(crate) fn new(alloc: Global) -> LpText
-        ensures kept { kept_of result ≡ no_bytes }
-        ensures stage { stage_of result ≡ lp_reading.start }
+        ensures { shown_of result ≡ text_taken [] }
     {
         LpText {
             alloc,
-            pieces: Pieces::new(alloc),
             lines: LineReader::new(alloc),
+            ended: 0,
+            front: true,
+            rest: Vec::new(alloc),
+            size: 0,
+            fault: None,
         }
     }
 
-    /// Reads the line that has not ended, all of which is kept, and says the kind of its fault, if it has one.
-    fn read_unread(&mut self) -> Result<Option<u32>, AllocError>
-        ensures read { IfOk result (IsRead lp_reading (kept_of self.old) (stage_of self.old) (stage_of self.new)) }
-        ensures kept { kept_of self.new ≡ kept_of self.old }
-        ensures kinds { IfOk result (λ kind. IfSome kind (λ k. (0 < k) × (k ≤ 11))) }
+    /// Lets go of what the tokens have said, where there is a fault.
+    fn let_go(&mut self)
+        ensures read { progress_of self.new.fault (stage_of self.new) ≡ progress_of self.old.fault (stage_of self.old) }
+        ensures rest { self.new.rest ≡ self.old.rest }
+        ensures ended { self.new.ended ≡ self.old.ended }
+        ensures size { self.new.size ≡ self.old.size }
     {
-        match self.pieces.unread() {
-            None => Ok(None),
-            Some(line) => self.lines.take_line(line),
-        }
-    }
-
-    /// Reads the line that these bytes end, and says the kind of its fault, if it has one. Where nothing of the line
-    /// was kept, nothing is copied.
-    fn read_line(&mut self, tail: &[u8]) -> Result<Option<u32>, AllocError>
-        requires no_feed { list_any is_line_feed tail.now ≡ false }
-        ensures read { IfOk result (IsRead lp_reading (with_bytes (kept_of self.old) tail.now)
-            (stage_of self.old) (stage_of self.new)) }
-        ensures kept { OnOk result ((kind : Option ℕ) → with_feed (with_bytes (kept_of self.new) tail.now) kind
-            ≡ with_feed (with_bytes (kept_of self.old) tail.now) kind) }
-        ensures size { OnOk result ((kept_of self.new).size ≡ (kept_of self.old).size) }
-        ensures kinds { IfOk result (λ kind. IfSome kind (λ k. (0 < k) × (k ≤ 11))) }
-    {
-        if self.pieces.has_bytes() {
-            self.pieces.join(tail)?;
-            return self.read_unread();
-        }
-        match self.pieces.unread() {
-            None => Ok(None),
-            Some(_) => self.lines.take_line(tail),
-        }
-    }
-
-    /// Lets go of what the lines have left, where one has a fault of this kind.
-    fn let_go(&mut self, kind: Option<u32>)
-        ensures kept { kept_of self.new ≡ kept_of self.old }
-        ensures stage { (number : ℕ) → progress_after number kind (stage_of self.new)
-            ≡ progress_after number kind (stage_of self.old) }
-    {
-        if let Some(_) = kind {
+        if self.fault.is_some() {
             self.lines = LineReader::new(self.alloc);
         }
     }
 
-    /// Takes the last bytes of a line, and the line feed behind them. What the lines have left is let go where this one
-    /// is faulty.
-    fn end_line(&mut self, tail: &[u8]) -> Result<(), AllocError>
-        requires no_feed { list_any is_line_feed tail.now ≡ false }
-        requires few { (kept_of self.old).size + length tail.now ≤ longest_text }
-        ensures reads { (s : Stream (Stage LpContext)) → StandsFor self.old s
-            → OnOk result (StandsFor self.new (fold (byte_read lp_reading) s (tail.now ++ 10 ∷ []))) }
-        ensures size { OnOk result ((kept_of self.new).size ≡ (kept_of self.old).size + length tail.now + 1) }
+    /// Reads the tokens of the bytes that are kept, and keeps none.
+    fn read_rest(&mut self) -> Result<(), AllocError>
+        requires { self.old.fault ≡ None }
+        ensures read { OnOk result (progress_of self.new.fault (stage_of self.new) ≡ part_read (bytes_of self.old)) }
+        ensures rest { OnOk result (self.new.rest.items ≡ []) }
+        ensures ended { self.new.ended ≡ self.old.ended }
+        ensures size { self.new.size ≡ self.old.size }
     {
-        let kind = self.read_line(tail)?;
-        self.pieces.end_line_with(tail, kind);
-        self.let_go(kind);
+        let tokens = LineTokens::of(self.front, self.rest.as_slice());
+        let kind = self.lines.take_tokens(tokens)?;
+        self.fault = fault_on(self.ended + 1, kind);
+        self.rest.clear();
+        self.let_go();
         Ok(())
     }
 
-    /// Takes bytes of the text that are looked at.
-    fn take_bytes(&mut self, bytes: &[u8]) -> Result<(), AllocError>
-        requires { (kept_of self.old).size + length bytes.now ≤ longest_text + 1 }
-        ensures { (s : Stream (Stage LpContext)) → StandsFor self.old s
-            → OnOk result (StandsFor self.new (fold (byte_read lp_reading) s bytes.now)) }
+    /// Takes the line feed that ends the line.
+    fn end_line(&mut self, byte: u8) -> Result<(), AllocError>
+        requires going { self.old.fault ≡ None }
+        requires few { self.old.size < longest_text }
+        requires feed { text.is_line_feed byte ≡ true }
+        ensures { OnOk result (shown_of self.new ≡ byte_taken (shown_of self.old) byte) }
     {
-        let mut rest = bytes;
-        while let Some((tail, behind)) = cut_line(rest) {
-            self.end_line(tail)?;
-            rest = behind;
+        self.read_rest()?;
+        self.ended += 1;
+        self.front = true;
+        self.size += 1;
+        Ok(())
+    }
+
+    /// Whether the bytes that are kept begin a comment.
+    fn in_comment(&self) -> bool
+        ensures { result ≡ taken.in_comment self.now.rest.items }
+    {
+        match self.rest.as_slice() {
+            [b'\\', ..] => true,
+            _ => false,
         }
-        self.pieces.keep(rest)
+    }
+
+    /// Whether a token has ended behind the bytes that are kept, where this byte follows.
+    fn ends_with(&self, byte: u8) -> bool
+        ensures { result ≡ ends_with self.now.rest.items byte }
+    {
+        match self.rest.as_slice().last() {
+            Some(last) => ends_before(*last, byte),
+            None => false,
+        }
+    }
+
+    /// Whether the tokens of the bytes that are kept have ended where this byte follows.
+    fn is_cut(&self, byte: u8) -> bool
+        ensures { result ≡ taken.is_cut (bytes_of self.now) byte }
+    {
+        byte == b'\\' || (self.ends_with(byte) && !(self.front && hangs(self.rest.as_slice())))
+    }
+
+    /// Takes a byte of the line behind tokens that have ended.
+    fn begin_part(&mut self, byte: u8) -> Result<(), AllocError>
+        requires going { self.old.fault ≡ None }
+        requires few { self.old.size < longest_text }
+        ensures { OnOk result (shown_of self.new
+            ≡ taken.behind (part_read (bytes_of self.old)) self.old.ended false (byte ∷ []) (self.old.size + 1)) }
+    {
+        self.read_rest()?;
+        self.front = false;
+        self.size += 1;
+        self.rest.push(byte)?;
+        Ok(())
+    }
+
+    /// Takes a byte of the line.
+    fn put(&mut self, byte: u8) -> Result<(), AllocError>
+        requires going { self.old.fault ≡ None }
+        requires few { self.old.size < longest_text }
+        requires other { text.is_line_feed byte ≡ false }
+        ensures { OnOk result (shown_of self.new ≡ byte_taken (shown_of self.old) byte) }
+    {
+        if self.in_comment() {
+            self.size += 1;
+            return Ok(());
+        }
+        if self.is_cut(byte) {
+            return self.begin_part(byte);
+        }
+        self.size += 1;
+        self.rest.push(byte)?;
+        Ok(())
+    }
+
+    /// Keeps the first byte too many, where it is one of the line.
+    fn keep_last(&mut self, byte: u8) -> Result<(), AllocError>
+        ensures rest { OnOk result (self.new.rest.items ≡ with_last self.old.rest.items byte) }
+        ensures lines { stage_of self.new ≡ stage_of self.old }
+        ensures ended { self.new.ended ≡ self.old.ended }
+        ensures front { self.new.front ≡ self.old.front }
+        ensures size { self.new.size ≡ self.old.size }
+        ensures fault { self.new.fault ≡ self.old.fault }
+    {
+        if is_line_feed(byte) {
+            return Ok(());
+        }
+        self.rest.push(byte)?;
+        Ok(())
+    }
+
+    /// Is too long, where no token as far as the first byte too many is faulty.
+    fn end_long(&mut self)
+        ensures { (read : Progress (Stage LpContext)) → progress_of self.old.fault (stage_of self.old) ≡ read
+            → shown_of self.new ≡ taken.beyond read (self.old.ended + 1) }
+    {
+        if self.fault.is_some() {
+            return;
+        }
+        self.fault = fault_on(self.ended + 1, Some(TOO_LONG));
+    }
+
+    /// Takes the first byte too many.
+    fn put_last(&mut self, byte: u8) -> Result<(), AllocError>
+        requires going { self.old.fault ≡ None }
+        requires full { longest_text ≤ self.old.size }
+        ensures { OnOk result (shown_of self.new ≡ byte_taken (shown_of self.old) byte) }
+    {
+        self.keep_last(byte)?;
+        self.read_rest()?;
+        self.end_long();
+        Ok(())
+    }
+
+    /// Takes one byte more, where there is no fault.
+    fn take_more(&mut self, byte: u8) -> Result<(), AllocError>
+        requires { self.old.fault ≡ None }
+        ensures { OnOk result (shown_of self.new ≡ byte_taken (shown_of self.old) byte) }
+    {
+        if self.size >= LONGEST_TEXT {
+            return self.put_last(byte);
+        }
+        if is_line_feed(byte) {
+            return self.end_line(byte);
+        }
+        self.put(byte)
+    }
+
+    /// Takes one byte more. Behind a fault none is looked at.
+    fn take_byte(&mut self, byte: u8) -> Result<(), AllocError>
+        ensures { OnOk result (shown_of self.new ≡ byte_taken (shown_of self.old) byte) }
+    {
+        match self.fault {
+            Some(_) => Ok(()),
+            None => self.take_more(byte),
+        }
     }
 
     /// Takes one more piece of the text.
     pub(crate) fn take(&mut self, piece: &[u8]) -> Result<(), AllocError>
-        ensures { (text : List ℕ) → StandsFor self.old (stream_of lp_reading text)
-            → OnOk result (StandsFor self.new (stream_of lp_reading (text ++ piece.now))) }
+        ensures { OnOk result (shown_of self.new ≡ fold byte_taken (shown_of self.old) piece.now) }
     {
-        let looked = self.pieces.looked_at(piece);
-        self.take_bytes(looked)
+        for byte in piece {
+            self.take_byte(*byte)?;
+        }
+        Ok(())
     }
 
-    /// The fault at a line that has ended.
+    /// The fault, if there is one so far.
     pub(crate) fn known_fault(&self) -> Option<KnownFault>
-        ensures fault { result ≡ known_fault 9 (kept_of self.now) }
-        ensures kinds { has_kind_to 11 result ≡ true }
+        ensures fault { result ≡ self.now.fault }
+        ensures kinds { has_kind_to 12 result ≡ true }
     {
-        self.pieces.known_fault(TOO_MANY)
+        self.fault
     }
 
-    /// Reads the last line where it has no line feed, and says the kind of its fault, if it has one.
-    fn read_last(&mut self) -> Result<Option<u32>, AllocError>
-        ensures read { IfOk result (IsLastRead lp_reading (kept_of self.old) (stage_of self.old) (stage_of self.new)) }
-        ensures kept { kept_of self.new ≡ kept_of self.old }
-        ensures kinds { IfOk result (λ kind. IfSome kind (λ k. (0 < k) × (k ≤ 11))) }
+    /// The number of the last line.
+    fn last_line(&self) -> usize
+        ensures line { result ≡ last_line (bytes_of self.now) }
+        ensures few { result ≤ longest_text + 1 }
     {
-        if self.pieces.is_filled() {
-            self.read_unread()
+        if self.rest.is_empty() {
+            self.ended
         } else {
-            Ok(None)
+            self.ended + 1
         }
     }
 
-    /// The kind of the fault behind the last line, if there is one: End is missing.
-    fn end_kind(&self) -> Option<u32>
-        ensures fault { result ≡ lp_reading.end_fault (stage_of self.now) }
-        ensures kinds { IfSome result (λ k. (0 < k) × (k ≤ 11)) }
+    /// The fault of a text with this last line, all of whose tokens were read.
+    fn fault_at_end(&self, last: usize) -> Option<KnownFault>
+        requires { last ≤ longest_text + 1 }
+        ensures fault { result ≡ first_fault self.now.fault (last + 1) (lp_reading.end_fault (stage_of self.now)) }
+        ensures kinds { has_kind_to 12 result ≡ true }
     {
-        if self.lines.ended { None } else { Some(NO_END) }
+        if self.fault.is_some() || self.lines.ended {
+            return self.fault;
+        }
+        fault_on(last + 1, Some(NO_END))
     }
 
     /// The fault of the text that ends here, if it has one.
     pub(crate) fn close(&mut self) -> Result<Option<KnownFault>, AllocError>
-        ensures outcome { (text : List ℕ) → StandsFor self.old (stream_of lp_reading text)
+        requires { self.old.fault ≡ None }
+        ensures outcome { (text : List ℕ) → shown_of self.old ≡ text_taken text
             → IfOk result (λ fault. outcome_of lp_reading text
             ≡ outcome_with fault (lp_reading.result (stage_of self.new))) }
-        ensures kinds { IfOk result (λ fault. has_kind_to 11 fault ≡ true) }
+        ensures kinds { IfOk result (λ fault. has_kind_to 12 fault ≡ true) }
     {
-        lp_texts_are_read();
-        let last_kind = self.read_last()?;
-        let end_kind = self.end_kind();
-        Ok(self.pieces.fault_at_end(last_kind, end_kind, TOO_MANY))
+        taken_texts_come_out();
+        let last = self.last_line();
+        self.read_rest()?;
+        Ok(self.fault_at_end(last))
     }
 
-    /// The program that the lines have said.
+    /// The program that the tokens have said.
     pub(crate) fn into_program(self) -> Result<Program, AllocError>
         ensures { IfOk result (λ program. program ≡ lp_reading.result (stage_of self)) }
     {

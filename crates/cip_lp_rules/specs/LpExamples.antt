@@ -9,7 +9,7 @@ use Rattle.cip_lp_rules.specs.LpWords.{Constraints, Generals, AtMost, EqualTo, A
 use Rattle.cip_lp_rules.specs.LpTokens.{Opening, OutsideSection, Reserved, Free, Infinite, Number, Name, Sign, Colon, Relates, BadToken, line_tokens}
 use Rattle.cip_lp_rules.specs.LpPlaces.{Begins, Adds, Amount}
 use Rattle.cip_lp_rules.specs.LpFacts.{LpFacts, nothing_said, event_fault}
-use Rattle.cip_lp_rules.specs.LpOutcome.{lp_reading}
+use Rattle.cip_lp_rules.specs.LpOutcome.{lp_reading, told_kind}
 
 -- ---- texts and their programs
 
@@ -169,7 +169,7 @@ one_amount = record { value = integral 1; zero = false }
 abbrev pub zero_amount : Amount
 zero_amount = record { value = integral 0; zero = true }
 
--- what a text comes to whose first byte too many is on line 7
+-- what a text comes to whose first byte too many is on line 7, where its tokens come to this
 abbrev pub long_outcome : Outcome Program → Outcome Program
 long_outcome outcome = too_long lp_reading.long 7 outcome
 
@@ -200,9 +200,10 @@ pub record EachLpKindIsFound : Type 0 where
   pub kind9_entry : event_fault (entries_said 4194304) (Adds one_amount (codes "x")) ≡ Some 9
   pub kind9_no_entry : event_fault (entries_said 4194304) (Adds zero_amount (codes "x")) ≡ None
   pub kind9_last_entry : event_fault (entries_said 4194303) (Adds one_amount (codes "x")) ≡ None
-  pub kind9_text : long_outcome (Means empty_program) ≡ Faulty 7 9
-  pub kind9_less : long_outcome (Faulty 7 8) ≡ Faulty 7 8
-  pub kind9_least : long_outcome (Faulty 7 10) ≡ Faulty 7 9
+  pub kind9_text : long_outcome (Means empty_program) ≡ Faulty 7 12
+  pub kind9_told : told_kind 12 ≡ 9
+  pub kind9_end : long_outcome (Faulty 8 8) ≡ Faulty 7 12
+  pub kind9_first : long_outcome (Faulty 7 10) ≡ Faulty 7 10
   pub kind10_name : IsLpFaulty (with_rows (replicate 256 97 ++ codes " >= 1\n")) 5 10
   pub kind10_short : IsLpFaulty (with_rows (replicate 255 97 ++ codes " >= 1\n")) 6 8
   pub kind11_section : IsLpFaulty (with_rows (codes "SOS1\n")) 5 11

@@ -1,7 +1,7 @@
 -- What an LP text comes to: the program that it describes, or its first fault.
 --     lp_reading      how such a text is read
 --     HasLpProgram text program, HasLpFault text line kind
-use Rattle.std.specs.Prelude.{ℕ, Bool, true, false, List, Option, Some}
+use Rattle.std.specs.Prelude.{◌≡◌, ℕ, ◌==◌, Bool, true, false, if◌then◌else◌, List, Option, Some}
 use Rattle.cip_problem.specs.Program.{Program}
 use Rattle.cip_line_texts.specs.LineTexts.{Reading, HasResult, HasFault}
 use Rattle.cip_line_texts.specs.LineEnds.{Stage, ending}
@@ -36,7 +36,8 @@ abbrev pub is_end : LpContext → Token → Bool
 is_end context (Opening End) = true
 is_end context other = false
 
--- how tokens are read: kind 8 is that of a text without End, and 9 that of one that is too long
+-- how tokens are read: kind 8 is that of a text without End; and 12 stands for a text that is too long, whose first byte
+-- too many comes behind the tokens as far as it
 abbrev pub lp_tokens : Reading LpContext Token Program
 lp_tokens = record {
   items = line_tokens;
@@ -45,7 +46,7 @@ lp_tokens = record {
   next = context_with;
   end_fault = λ context. Some 8;
   result = λ context. program_of context.facts;
-  long = 9;
+  long = 12;
 }
 
 -- how a text is read: End ends it
@@ -56,6 +57,13 @@ lp_reading = ending is_end lp_tokens
 abbrev pub HasLpProgram : (text : List ℕ) → (program : Program) → Type 0
 HasLpProgram text program = HasResult lp_reading text program
 
--- a text has its first fault at a token of a line, and the least kind of fault there
-abbrev pub HasLpFault : (text : List ℕ) → (line kind : ℕ) → Type 0
-HasLpFault text line kind = HasFault lp_reading text line kind
+-- the kind that is told of a fault: that of a text that is too long is 9, too
+abbrev pub told_kind : (number : ℕ) → ℕ
+told_kind number = if number == 12 then 9 else number
+
+-- a text has its first fault at a token of a line, and the least kind of fault there; a text that is too long has one
+-- behind its tokens as far as the first byte too many, on the line of that byte
+pub record HasLpFault (text : List ℕ) (line kind : ℕ) : Type 0 where
+  pub number : ℕ
+  pub fault : HasFault lp_reading text line number
+  pub is_kind : told_kind number ≡ kind

@@ -1,6 +1,7 @@
 -- The tokens of a line of an LP text.
 --     line_pieces line      what the line is cut into
 --     line_tokens line      its tokens: a word at its front may open a section
+--     tokens_from front bytes      those of a part of it
 use Rattle.std.specs.Prelude.{ℕ, zero, suc, ◌==◌, Bool, true, false, not, ◌&&◌, if◌then◌else◌, List, [], ◌∷◌, length, drop, map, Option, None, Some}
 use Rattle.std.specs.Str.{bytes_eq, str_to_ascii_lowercase}
 use Rattle.cip_syntax.specs.Lines.{is_blank}
@@ -97,3 +98,7 @@ tokens_of pieces = map token_of pieces
 -- the tokens of a line
 abbrev pub line_tokens : List ℕ → List Token
 line_tokens line = tokens_of (line_pieces line)
+
+-- the tokens of bytes of a line, in its front or not: in front a word may open a section
+abbrev pub tokens_from : (front : Bool) → List ℕ → List Token
+tokens_from front bytes = if front then line_tokens bytes else map token_of (line_pieces bytes)

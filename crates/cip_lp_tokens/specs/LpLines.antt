@@ -1,8 +1,8 @@
 -- The tokens of a line that are still to come, as the code hands them out.
 --     tokens_left tokens      the tokens
-use Rattle.std.specs.Prelude.{ℕ, Bool, if◌then◌else◌, List, map}
+use Rattle.std.specs.Prelude.{List}
 use Rattle.cip_lp_rules.specs.LpTokens as tokens
-use Rattle.cip_lp_rules.specs.LpTokens.{line_pieces, token_of, tokens_of}
+use Rattle.cip_lp_rules.specs.LpTokens.{tokens_from}
 use Rattle.cip_lp_tokens.specs.declared.line_tokens.Token.{Token}
 use Rattle.cip_lp_tokens.specs.declared.line_tokens.Token.TheVariants.{Opening, OutsideSection, Reserved, Free, Infinite, Number, Name, Sign, Colon, Relates, Bad}
 use Rattle.cip_lp_tokens.specs.declared.line_tokens.LineTokens.{LineTokens}
@@ -21,10 +21,6 @@ token_shown (Sign minus) = tokens.Sign minus
 token_shown Colon = tokens.Colon
 token_shown (Relates relation) = tokens.Relates (relation_shown relation)
 token_shown Bad = tokens.BadToken
-
--- the tokens of a line from one of them on; a word opens a section in front alone
-abbrev pub tokens_from : Bool → List ℕ → List tokens.Token
-tokens_from front rest = if front then tokens_of (line_pieces rest) else map token_of (line_pieces rest)
 
 -- the tokens that are still to come
 abbrev pub tokens_left : LineTokens → List tokens.Token

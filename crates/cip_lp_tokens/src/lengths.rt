@@ -13,7 +13,7 @@ pub(crate) fn begins_name(byte: u8) -> bool
 }
 
 /// Whether a name goes on with this byte.
-fn is_name_byte(byte: u8) -> bool
+pub(crate) fn is_name_byte(byte: u8) -> bool
     ensures { result ≡ text.is_name_byte byte }
 {
     byte.is_ascii_alphanumeric() || byte == b'_' || byte == b'.' || byte == b'#' || byte == b'$'

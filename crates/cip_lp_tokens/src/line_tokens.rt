@@ -76,13 +76,13 @@ fn piece_token(piece: Piece<'_>) -> Token<'_>
 }
 
 impl<'a> LineTokens<'a> {
-    /// The tokens of a line without line feed.
-    pub fn of(line: &'a [u8]) -> LineTokens<'a>
-        ensures { tokens_left result ≡ tokens.line_tokens line.now }
+    /// The tokens of bytes of a line, in its front or not. They are without line feed.
+    pub fn of(front: bool, bytes: &'a [u8]) -> LineTokens<'a>
+        ensures { tokens_left result ≡ tokens.tokens_from front bytes.now }
     {
         LineTokens {
-            pieces: Pieces { rest: line },
-            front: true,
+            pieces: Pieces { rest: bytes },
+            front,
         }
     }
 

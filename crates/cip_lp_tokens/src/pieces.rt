@@ -5,6 +5,7 @@ ghost use Rattle.cip_syntax.specs.Lines as lines;
 ghost use Rattle.cip_lp_rules.specs.LpWords as text;
 ghost use Rattle.cip_lp_rules.specs.LpTokens as tokens;
 ghost use Rattle.cip_lp_rules.specs.LpTokens.{line_pieces, has_colon};
+ghost use Rattle.cip_lp_stream.specs.LpParts.{is_over};
 ghost use Rattle.cip_lp_tokens.specs.LpKinds.{relation_shown};
 ghost use Rattle.cip_lp_tokens.specs.LpPieces.{piece_shown, begins_blank, begins_nothing};
 
@@ -29,7 +30,7 @@ pub(crate) struct Pieces<'a> {
 }
 
 /// Blank, tab and carriage return.
-fn is_blank(byte: u8) -> bool
+pub(crate) fn is_blank(byte: u8) -> bool
     ensures { result ≡ lines.is_blank byte }
 {
     byte == b' ' || byte == b'\t' || byte == b'\r'
@@ -185,6 +186,14 @@ impl<'a> Pieces<'a> {
                 Some(piece)
             }
         }
+    }
+
+    /// Whether no piece comes next.
+    pub(crate) fn is_over(&self) -> bool
+        ensures { result ≡ is_over (line_pieces self.now.rest.now) }
+    {
+        let mut ahead = *self;
+        ahead.next_piece().is_none()
     }
 
     /// Whether `:` comes next.

@@ -6,7 +6,7 @@ use Rattle.cip_io.specs.Store.{StoreTells}
 use Rattle.cip_problem.specs.Program.{Program}
 use Rattle.cip_problem.specs.Log.{root, leaf_count}
 use Rattle.cip_mps_rules.specs.MpsOutcome.{mps_reading}
-use Rattle.cip_lp_rules.specs.LpOutcome.{lp_reading}
+use Rattle.cip_lp_rules.specs.LpOutcome.{lp_reading, told_kind}
 use Rattle.cip_rational.specs.Rational.{ℚ}
 use Rattle.cip_line_texts.specs.LineTexts.{Reading, Outcome, outcome_of, HasResult, HasFault as HasLineFault}
 use Rattle.cip_line_texts.specs.LineTexts as texts
@@ -151,16 +151,18 @@ one_program_as true = one_value lp_reading
 one_program_as false = one_value mps_reading
 
 no_fault_as : (lp : Bool) (text : List ℕ) (program : Program) (line kind : ℕ) → HasProgramAs lp text program → HasFaultAs lp text line kind → ⊥
-no_fault_as true = no_line_fault lp_reading
-no_fault_as false = no_line_fault mps_reading
+no_fault_as true text program line kind h e = no_line_fault lp_reading text program line e.number h e.fault
+no_fault_as false text program line kind h e = no_line_fault mps_reading text program line kind h e
 
 -- a text has one first fault
 one_fault : {K I X : Type 0} (r : Reading K I X) (text : List ℕ) (line kind other_line other_kind : ℕ) → HasLineFault r text line kind → HasLineFault r text other_line other_kind → (line ≡ other_line) × (kind ≡ other_kind)
 one_fault r text line kind other_line other_kind h e = let same = sym h.faulty ∙ e.faulty in (same_line_of same, same_kind_of same)
 
 one_fault_as : (lp : Bool) (text : List ℕ) (line kind other_line other_kind : ℕ) → HasFaultAs lp text line kind → HasFaultAs lp text other_line other_kind → (line ≡ other_line) × (kind ≡ other_kind)
-one_fault_as true = one_fault lp_reading
-one_fault_as false = one_fault mps_reading
+one_fault_as true text line kind other_line other_kind h e =
+    let same = one_fault lp_reading text line h.number other_line e.number h.fault e.fault in
+    (same.0, sym h.is_kind ∙ ap told_kind same.1 ∙ e.is_kind)
+one_fault_as false text line kind other_line other_kind h e = one_fault mps_reading text line kind other_line other_kind h e
 
 one_program : (call : Call) (text : List ℕ) (program other : Program) → HasProgram call text program → HasProgram call text other → program ≡ other
 one_program call = one_program_as (is_lp_name (model_in call.job))

@@ -1,8 +1,9 @@
 -- What the last linear program of a node found stays so, while the node and the pool stay as they are.
-use Rattle.std.proofs.Common.{◌≡◌, ◌≢◌, List, Option, None, Some, refl, sym, ap, ◌∙◌, subst}
+use Rattle.std.proofs.Common.{◌≡◌, ◌≢◌, ℕ, List, length, Option, None, Some, IfSome, refl, sym, ap, ◌∙◌, subst}
+use Rattle.std.specs.Prelude.{option_map}
 use Rattle.cip_rational.specs.Rational.{ℚ}
 use Rattle.cip_problem.specs.Program.{Sides, Program}
-use Rattle.cip_problem.specs.WellFormed.{columns}
+use Rattle.cip_problem.specs.WellFormed.{columns, IsWellFormed}
 use Rattle.cip_linear.specs.LinearProgram.{IsPoint}
 use Rattle.cip_cuts.specs.Improving.{IsNoDearer}
 use Rattle.cip_search.specs.Relaxation.{IsRelaxedBound}
@@ -12,9 +13,10 @@ use Rattle.cip_tree.specs.Nodes.{TakenNode, region_of, box_of}
 use Rattle.cip_node_bounds.specs.NodeRows.{usable_rows}
 use Rattle.cip_node_bounds.specs.Relaxing.{node_program, IsMark}
 use Rattle.cip_node_bounds.specs.declared.relaxed.Mark.{Mark}
-use Rattle.cip_core.specs.CoreStates.{CoreState, reduced_of, held_of, rows_lent}
+use Rattle.cip_core.specs.CoreStates.{CoreState, reduced_of, held_of, rows_lent, IsAtWork}
 use Rattle.cip_core.specs.Later.{IsLaterAt}
 use Rattle.cip_core.specs.Steps.{IsTried}
+use Rattle.cip_core.proofs.CoreSteps.{work_long}
 use Rattle.cip_core.proofs.Relations.{no_dearer_trans}
 use Rattle.cip_node.specs.Bounding.{IsAsGood, HasTried, point_of, IsFound}
 use Rattle.cip_node_rules.specs.declared.looks.Looked.{Looked}
@@ -67,6 +69,16 @@ found_stays old new had has found l pool same h =
 
 pub open_stays : (old new : CoreState) (had has : TakenNode) → IsLaterAt old had new has → IsSameNode old new had has → IsOpenNode old had → IsOpenNode new has
 open_stays old new had has l same h = open_after old new had has l same.region h
+
+pub some_map : {A B : Type 0} (p : Option A) (f : A → B) (Q : B → Type 0) → IfSome (option_map f p) Q → IfSome p (λ a. Q (f a))
+some_map None f Q h = tt
+some_map (Some a) f Q h = h
+
+-- the point that was found has a value for each column
+pub found_long : (core : CoreState) (node : TakenNode) (found : Found) → IsWellFormed core.program → IsAtWork core node → IsFoundAt core node found → IfSome (point_of found) (λ values. length values ≡ columns core.program)
+found_long core node found formed at_work h =
+    subst (λ (n : ℕ). IfSome (point_of found) (λ values. length values ≡ n))
+    (sym (ap (λ (r : Region). length r.box) at_work.region) ∙ work_long core node formed at_work) h.long
 
 -- ---- by what came of a round
 

@@ -9,7 +9,7 @@ ghost use Rattle.cip_calls.specs.Served.{Used};
 ghost use Rattle.cip_calls.specs.declared.judging.Came.TheVariants.{Emptied};
 ghost use Rattle.cip_processing.specs.NodesReached.{IsFoundAt, IsFoundBy, IsOpenBounded};
 
-use crate::telling::{last_of, queue_both, taken_kind, tell_now};
+use crate::telling::{last_of, offered_kind, queue_both, tell_now};
 use cip_calls::{Asks, Came, Plugins, Round};
 use cip_events::EventKind;
 use cip_node::{Bounded, Found, NodeWork};
@@ -20,7 +20,8 @@ use std::alloc::{AllocError, Global};
 const MOST_ROUNDS: u32 = 20;
 
 /// Solves the linear program of a node in work, from where its last one ended; this waits to be told, if it is given,
-/// and behind it that its point was taken, if it was. `Err` comes where memory was refused.
+/// and behind it that its point was taken, or that it is feasible and no cheaper than the point held. `Err` comes where
+/// memory was refused.
 fn solve_lp<R: Asks>(
     alloc: Global,
     work: &mut NodeWork<'_>,
@@ -39,8 +40,9 @@ fn solve_lp<R: Asks>(
 {
     let before = work.core.held_cost();
     let bounded = work.bound(alloc, node)?;
-    let taken = taken_kind(before, work.core.held_cost());
-    queue_both(plugins, node.id(), solved, taken)?;
+    let is_silent = plugins.roster.has_none();
+    let offered = offered_kind(&work.core, node, before, &bounded, is_silent);
+    queue_both(plugins, node.id(), solved, offered)?;
     Ok(bounded)
 }
 

@@ -1,7 +1,10 @@
 //! What is told of the work on a node, and what plugins see of its last linear program.
-ghost use Rattle.std.specs.Prelude.{◌≡◌, [], OnOk};
+ghost use Rattle.std.specs.Prelude.{◌≡◌, [], length, IfSome, OnOk};
+ghost use Rattle.cip_problem.specs.WellFormed.{columns};
 ghost use Rattle.cip_roster.specs.Turns.{IsSound};
 ghost use Rattle.cip_roster.specs.Wished.{Ran};
+ghost use Rattle.cip_core.specs.CoreStates.{IsAtWork};
+ghost use Rattle.cip_node.specs.Bounding.{IsBounded};
 ghost use Rattle.cip_calls.specs.Noted.{IsReady, HasCome};
 ghost use Rattle.cip_calls.specs.Served.{Used};
 
@@ -10,7 +13,8 @@ use cip_calls::{Asks, Last, Plugins};
 use cip_core::Core;
 use cip_events::EventKind;
 use cip_frac::Frac;
-use cip_node::{Found, NodeEnd, Starts};
+use cip_model::Verdict;
+use cip_node::{Bounded, Found, NodeEnd, Starts};
 use cip_tree::Node;
 use std::alloc::{AllocError, Global};
 
@@ -38,12 +42,50 @@ pub(crate) fn last_kept(starts: &Starts, columns: usize) -> Last<'_> {
     }
 }
 
-/// What is told where the cost held was this before a point was offered, and is that now.
-pub(crate) fn taken_kind(before: Option<Frac>, now: Option<Frac>) -> Option<EventKind> {
-    if before == now {
-        None
-    } else {
-        Some(EventKind::BestSolFound)
+/// What is told of a point that was offered and not taken: that it is no cheaper than the point held, if it is feasible.
+fn told_of(core: &Core<'_>, point: &[Frac]) -> Option<EventKind>
+    requires { length point.now ≡ columns core.now.program }
+{
+    match core.program().check(point) {
+        Verdict::Feasible(_) => Some(EventKind::PoorSolFound),
+        _ => None,
+    }
+}
+
+/// So it is of a point, if there is one.
+fn told_if(core: &Core<'_>, point: &Option<Vec<Frac>>) -> Option<EventKind>
+    requires { IfSome point.now (λ values. length values.items ≡ columns core.now.program) }
+{
+    match point {
+        None => None,
+        Some(values) => told_of(core, values.as_slice()),
+    }
+}
+
+/// What is told of the point of the linear program of a node in work, which was offered if it was feasible, where the
+/// cost held was this before: that it was taken, or that it is no cheaper than the point held. Nothing, where nobody is
+/// to be told.
+pub(crate) fn offered_kind(
+    core: &Core<'_>,
+    node: &Node,
+    before: Option<Frac>,
+    bounded: &Bounded,
+    is_silent: bool,
+) -> Option<EventKind>
+    requires at_work { IsAtWork core.now node.now }
+    requires bounded { IsBounded core.now node.now bounded.now }
+{
+    let _ = node;
+    if is_silent {
+        return None;
+    }
+    if core.held_cost() != before {
+        return Some(EventKind::BestSolFound);
+    }
+    core.is_sound();
+    match bounded {
+        Bounded::Empty => None,
+        Bounded::Open(found) => told_if(core, &found.point),
     }
 }
 
@@ -116,6 +158,7 @@ fn point_kind(done: &Done) -> Option<EventKind> {
     }
     match &done.end {
         NodeEnd::Solved => Some(EventKind::PoorSolFound),
+        NodeEnd::Ray { .. } => Some(EventKind::PoorSolFound),
         _ => None,
     }
 }

@@ -1,3 +1,4 @@
 pub mod LeafLines
 pub mod ToldSides
+pub mod TraceLemmas
 pub mod WritingLemmas

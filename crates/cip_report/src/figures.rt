@@ -3,6 +3,7 @@ ghost use Rattle.std.specs.Prelude.{◌≡◌, ℕ, List};
 ghost use Rattle.cip_answers.specs.Figures.{status_word, exit_status};
 ghost use Rattle.cip_report.specs.Answers.{status_of};
 
+use cip_events::Trace;
 use cip_frac::Frac;
 use cip_leaf::Shown;
 
@@ -89,4 +90,6 @@ pub struct Answer {
     pub bound: Option<Frac>,
     /// How many nodes were taken and have ended.
     pub nodes: u64,
+    /// What was written of the calls of plugins, if that was kept.
+    pub trace: Option<Trace>,
 }

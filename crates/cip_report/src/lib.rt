@@ -4,6 +4,7 @@
 mod buffer;
 mod checks;
 mod figures;
+mod traces;
 mod writing;
 
 pub use checks::{check_status, report_check};

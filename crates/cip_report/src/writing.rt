@@ -8,12 +8,16 @@ ghost use Rattle.cip_numerals.specs.NumberText.{natural_text, fraction_text};
 ghost use Rattle.cip_problem.specs.WellFormed.{columns};
 ghost use Rattle.cip_problem.specs.Points.{printed};
 ghost use Rattle.cip_problem.specs.Choices.{choice_at, is_open};
-ghost use Rattle.cip_answers.specs.Figures.{line, figure_text, point_lines, cost_lines, held_lines, leaf_name, choice_text, choice_lines, leaf_lines, ray_name, ray_lines, overflow_text, shown_lines, figure_lines, answer_text, held_cost, names_of};
+ghost use Rattle.cip_answers.specs.Figures.{line, figure_text, point_lines, cost_lines, held_lines, leaf_name, choice_text, choice_lines, leaf_lines, ray_name, ray_lines, overflow_text, shown_lines, figure_lines, held_cost, names_of};
+ghost use Rattle.cip_trace_texts.specs.TraceTexts.{traced_end, traced_text};
 ghost use Rattle.cip_report.specs.Answers.{figures_of, printed_held, status_of, overflow_of, StandsAmong, EndedFits, AnswerFits};
+ghost use Rattle.cip_report.specs.Traces.{kept_lines};
 ghost use Rattle.cip_report.specs.Writing.{Writes};
 
 use crate::buffer::Buffer;
 use crate::figures::{Answer, Ended, Held};
+use crate::traces::write_kept;
+use cip_events::Trace;
 use cip_frac::Frac;
 use cip_io::{Failed, Sink};
 use cip_leaf::Shown;
@@ -385,6 +389,16 @@ fn write_body<K: Sink>(
     }
 }
 
+/// Writes the lines of the trace, if one was kept, and the last line.
+fn write_end<K: Sink>(out: &mut K, buffer: &mut Buffer, trace: &Option<Trace>) -> Result<(), Failed>
+    ensures taken { Writes result (K.tells out.old) (K.tells out.new)
+        (buffer.old ++ traced_end (kept_lines trace.now)) buffer.new }
+    ensures faults { CountsFaults result (K.tells out.old).faults (K.tells out.new).faults }
+{
+    write_kept(out, buffer, trace)?;
+    buffer.write(out, b"end\n")
+}
+
 /// Writes the answer, of which an end may be left in the buffer.
 fn write_answer<K: Sink>(
     out: &mut K,
@@ -394,18 +408,21 @@ fn write_answer<K: Sink>(
 ) -> Result<(), Failed>
     requires { AnswerFits program.now answer.now }
     ensures taken { Writes result (K.tells out.old) (K.tells out.new)
-        (buffer.old ++ answer_text (names_of program.now) (figures_of program.now answer.now)) buffer.new }
+        (buffer.old ++ traced_text (names_of program.now) (figures_of program.now answer.now)
+        (kept_lines answer.now.trace)) buffer.new }
     ensures faults { CountsFaults result (K.tells out.old).faults (K.tells out.new).faults }
 {
     write_line(out, buffer, b"status", answer.ended.word().as_bytes())?;
     write_body(out, buffer, program, answer)?;
-    buffer.write(out, b"end\n")
+    write_end(out, buffer, &answer.trace)
 }
 
-/// Writes the answer of a search, and takes no memory. After an `Err` the sink took a part of it.
+/// Writes the answer of a search, with the lines of its trace, and takes no memory. After an `Err` the sink took a part
+/// of it.
 pub fn report<K: Sink>(program: &Program, answer: &Answer, out: &mut K) -> Result<(), Failed>
     requires fits { AnswerFits program.now answer.now }
-    ensures taken { let text = answer_text (names_of program.now) (figures_of program.now answer.now) in
+    ensures taken { let text =
+        traced_text (names_of program.now) (figures_of program.now answer.now) (kept_lines answer.now.trace) in
         MatchResult result
         (λ _. TakesAll (K.tells out.old) (K.tells out.new) text)
         (λ _. PushesPart (K.tells out.old) (K.tells out.new) text) }

@@ -1,5 +1,5 @@
 -- What a search begins with.
-use Rattle.std.proofs.Common.{◌≡◌, inr, ℕ, List, [], ◌∷◌, Option, None, Some, IfSome, refl, sym, ◌∙◌, subst, arith}
+use Rattle.std.proofs.Common.{◌≡◌, inr, ℕ, Bool, List, [], ◌∷◌, Option, None, Some, IfSome, refl, sym, ◌∙◌, subst, arith}
 use Rattle.cip_rational.specs.Rational.{ℚ}
 use Rattle.cip_problem.specs.Program.{Program}
 use Rattle.cip_problem.specs.Points.{IsLowerBound}
@@ -22,11 +22,12 @@ use Rattle.cip_search.specs.SearchAnswers.{IsSearchAnswer}
 use Rattle.cip_search.proofs.Logs.{true_entries}
 use Rattle.cip_search.proofs.WorkLogs.{none_relaxed, none_marked}
 use Rattle.cip_tree.specs.Nodes.{Nodes}
-use Rattle.cip_core.specs.Beginning.{HasNotBegun}
+use Rattle.cip_core.specs.Beginning.{IsRootBound, HasNotBegun}
 use Rattle.cip_core.specs.CoreStates.{CoreState}
 use Rattle.cip_core.specs.KeptNodes.{cost_held, IsKept, IsHolding}
-use Rattle.cip_solve.specs.Solved.{AreMet}
-use Rattle.cip_solve.specs.Searching.{IsStill, IsTold}
+use Rattle.cip_node_bounds.specs.declared.relaxed.Mark.{Mark}
+use Rattle.cip_solve.specs.Solved.{AreMet, IsSolved, IsSolvedBy}
+use Rattle.cip_solve.specs.Searching.{IsStill, IsAtRoot, IsTold, IsWritten}
 use Rattle.cip_solve.specs.Stopping.{WasLeast}
 use Rattle.cip_solve.proofs.AnswerLaws.{refused_is_right}
 
@@ -48,11 +49,10 @@ start_lower program tree holding columns h e k =
 
 -- ---- the search
 
-pub still_begun : (program : Program) (core : CoreState) → HasNotBegun program core → IsHolding core.program core.incumbent → IsStill core.program core.tree.root.bound core.tree core.incumbent None
+still_begun : (program : Program) (core : CoreState) → HasNotBegun program core → IsHolding core.program core.incumbent → IsStill core.program core.tree.root.bound core.tree core.incumbent None
 still_begun program core b h = record {
   kept = b.kept.kept;
   matter = b.kept.matter;
-  boxes = b.kept.boxes b.untouched;
   start_is = refl;
   is_held = h;
   is_worst = b.new.parked;
@@ -61,19 +61,33 @@ still_begun program core b h = record {
 }
 
 -- the root's bound holds
-pub lower_begun : (program : Program) (core : CoreState) → HasNotBegun program core → IfSome core.tree.root.bound (IsLowerBound core.program)
+lower_begun : (program : Program) (core : CoreState) → HasNotBegun program core → IfSome core.tree.root.bound (IsLowerBound core.program)
 lower_begun program core b =
     start_lower core.program core.tree core.incumbent (columns program) b.nothing b.new.log b.kept.kept
+
+pub at_root : (program : Program) (core : CoreState) → HasNotBegun program core → IsHolding core.program core.incumbent → IsAtRoot core
+at_root program core b h = record {
+  standing = record { still = still_begun program core b h; boxes = b.kept.boxes };
+  empty = b.new.log;
+  plain = b.untouched;
+  root = subst (λ (p : Program). IsRootBound p core.tree.root.bound) (sym b.program_is) b.root;
+  lower = lower_begun program core b;
+}
 
 pub none_met : (program : Program) (start : Option ℚ) (log : List Entry) → AreMet program start log []
 none_met program start log marked c = absurd (none_in marked c)
 
-pub told_begun : (program : Program) (start : Option ℚ) (log : List Entry) → log ≡ [] → IsTold program start log []
+told_begun : (program : Program) (start : Option ℚ) (log : List Entry) → log ≡ [] → IsTold program start log []
 told_begun program start log e = subst (λ l. IsTold program start l []) (sym e) (record {
   work = none_relaxed program start [];
   are_of = none_marked [];
-  met = none_met program start [];
 })
+
+pub written_begun : (core : CoreState) → core.tree.log ≡ [] → IsWritten core []
+written_begun core e = record {
+  told = told_begun core.program core.tree.root.bound core.tree.log e;
+  met = λ u. none_met core.program core.tree.root.bound core.tree.log;
+}
 
 -- ---- memory was refused before a node was taken
 
@@ -119,3 +133,15 @@ module _ (program : Program) (start : Option ℚ) (holds : IfSome start (IsBound
     work = none_relaxed program start [];
     marks = tt;
   }
+
+-- nor by whatever would have worked on nodes
+pub unsearched_by : (program : Program) (nodes : ℕ) (asked : Option ℚ) (alone : Bool) (log : List Entry) (marks : List (ℕ × Mark)) (answer : ends.Answer) → log ≡ [] → marks ≡ [] → IsSolved program nodes asked [] [] answer → IsSolvedBy program nodes asked alone log marks answer
+unsearched_by program nodes asked alone log marks answer l m s =
+    subst (λ entries. IsSolvedBy program nodes asked alone entries marks answer) (sym l)
+    (subst (λ of_them. IsSolvedBy program nodes asked alone [] of_them answer) (sym m) (record {
+      start = s.start;
+      root = s.root;
+      right = s.right;
+      shown = s.shown;
+      met = λ e. s.met refl;
+    }))

@@ -6,5 +6,7 @@ pub mod FirstRows
 pub mod FirstLaws
 pub mod Fits
 pub mod LeastBounds
+pub mod Serving
 pub mod TurnLaws
+pub mod Working
 pub mod WorkedNodes

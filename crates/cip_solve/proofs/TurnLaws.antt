@@ -1,5 +1,5 @@
 -- A search from one node to the next.
-use Rattle.std.proofs.Common.{◌≡◌, ◌≢◌, ℕ, ◌+◌, ◌-◌, ◌≤◌, drop, IfSome, Bool, true, false, not, is_some, IsSome, true≢false, List, [], ◌∷◌, ◌++◌, length, take, Option, None, Some, MatchOption, refl, sym, ap, ◌∙◌, subst, arith}
+use Rattle.std.proofs.Common.{◌≡◌, ◌≢◌, ℕ, ◌+◌, ◌≤◌, Bool, true, false, not, is_some, IsSome, true≢false, List, [], ◌∷◌, ◌++◌, length, take, Option, None, Some, MatchOption, refl, sym, ap, ◌∙◌, subst, arith}
 use Rattle.std.proofs.lemmas.List.{take-append-le}
 use Rattle.cip_rational.specs.Rational.{ℚ}
 use Rattle.cip_rational.proofs.Rational.Order.{≤ℚ_refl}
@@ -15,21 +15,23 @@ use Rattle.cip_search.proofs.Alike as alike
 use Rattle.cip_search.proofs.Logs as logs
 use Rattle.cip_search.proofs.Logs.{true_entries}
 use Rattle.cip_tree.specs.Moves as tree
-use Rattle.cip_tree.specs.Nodes.{Base, Nodes, TakenNode, box_of, shown}
+use Rattle.cip_tree.specs.Nodes.{Nodes, TakenNode, shown}
 use Rattle.cip_node_bounds.specs.declared.relaxed.Mark.{Mark}
 use Rattle.cip_core.specs.CoreStates.{CoreState, held_of, IsKeptIn, IsTakenUp}
 use Rattle.cip_core.specs.KeptNodes.{cost_held, state_of, IsHolding}
 use Rattle.cip_core.specs.Later.{IsLater}
 use Rattle.cip_core.specs.Steps.{LeavesEntry, IsBack}
 use Rattle.cip_tree.specs.Moves.{TakesFirst}
-use Rattle.cip_node.specs.NodeEnds.{IsEndless as EndsEndless, IsEnd, HasEnded}
+use Rattle.cip_node.specs.NodeEnds.{IsEndless as EndsEndless}
 use Rattle.cip_node.specs.declared.ends.NodeEnd.{NodeEnd}
 use Rattle.cip_node.specs.declared.ends.NodeEnd.TheVariants as by
 use Rattle.cip_endings.specs.LeastBounds.{least_of, bound_held, flat}
 use Rattle.cip_endings.specs.Gaps.{reaches_gap}
 use Rattle.cip_solve.specs.FirstStops.{IsLongerLog}
 use Rattle.cip_solve.specs.Logs.{marks_by}
-use Rattle.cip_solve.specs.Searching.{IsStill, IsTold, HasReachedGap, StopsEndless, StopsRefused, StopsAs, IsKeptAs}
+use Rattle.cip_solve.specs.NodesWorked.{IsWorkedEnd, HasWorked}
+use Rattle.cip_solve.specs.Solved.{AreMet}
+use Rattle.cip_solve.specs.Searching.{IsStill, IsStanding, IsTold, IsWritten, HasReachedGap, StopsEndless, StopsRefused, StopsAs, IsKeptAs}
 use Rattle.cip_solve.specs.Stopping.{WasLeast}
 use Rattle.cip_endings.specs.Worst.{IsWorst, worst_bound}
 use Rattle.cip_endings.specs.declared.worst.Worst.{Worst}
@@ -37,7 +39,7 @@ use Rattle.cip_solve.specs.declared.turns.Stop.{Stop}
 use Rattle.cip_solve.specs.declared.turns.Stop.TheVariants.{Still}
 use Rattle.cip_solve.proofs.LeastBounds.{IsLeastAmong}
 use Rattle.cip_solve.proofs.ComesTo.{AmongAll, open_least, parked_least, least_of_all, is_least}
-use Rattle.cip_solve.proofs.WorkedNodes.{entry_of_end, one_longer, told_more, worst_more}
+use Rattle.cip_solve.proofs.WorkedNodes.{entry_of_end, one_longer, told_more, met_taken, worst_more}
 
 -- ---- the least bound beside an open node
 
@@ -150,25 +152,35 @@ module _ (old mid new : CoreState) (node : TakenNode) (worst : Option Worst) (ta
   pub cheaper_still : IsNoDearer (held_of new) (cost_held old.incumbent)
   cheaper_still = subst (λ (i : Holding). IsNoDearer (held_of new) (cost_held i)) (ap (λ (c : CoreState). c.incumbent) taken) later.no_dearer
 
+  -- nothing was touched before
+  untouched_before : new.touched ≡ false → old.touched ≡ false
+  untouched_before u = sym (ap (λ (c : CoreState). c.touched) taken) ∙ later.untouched u
+
   -- nothing was logged
-  pub told_still : (marks : List (ℕ × Mark)) → new.tree.log ≡ mid.tree.log → IsTold old.program old.tree.root.bound old.tree.log marks → IsTold new.program new.tree.root.bound new.tree.log marks
-  told_still marks l t =
-      subst (λ (p : Program). IsTold p new.tree.root.bound new.tree.log marks) (sym same_program)
-      (subst (λ (x : Node). IsTold old.program x.bound new.tree.log marks) (sym same_root)
-      (subst (λ log. IsTold old.program old.tree.root.bound log marks) (sym (l ∙ same_log)) t))
+  same_told : {X : Type 0} (P : Program → Option ℚ → List Entry → X → Type 0) (x : X) → new.tree.log ≡ mid.tree.log → P old.program old.tree.root.bound old.tree.log x → P new.program new.tree.root.bound new.tree.log x
+  same_told P x l t =
+      subst (λ (p : Program). P p new.tree.root.bound new.tree.log x) (sym same_program)
+      (subst (λ (n : Node). P old.program n.bound new.tree.log x) (sym same_root)
+      (subst (λ log. P old.program old.tree.root.bound log x) (sym (l ∙ same_log)) t))
+
+  pub written_still : (marks : List (ℕ × Mark)) → new.tree.log ≡ mid.tree.log → IsWritten old marks → IsWritten new marks
+  written_still marks l t = record {
+    told = same_told IsTold marks l t.told;
+    met = λ u. same_told AreMet marks l (t.met (untouched_before u));
+  }
 
   pub no_longer : new.tree.log ≡ mid.tree.log → length new.tree.log ≤ length old.tree.log + 1
   no_longer l = omega (arith, ap length (l ∙ same_log))
 
   -- one entry was logged
-  pub longer_by : (ended : Node) (mark : Option Mark) (end : NodeEnd) → IsEnd mid new node ended mark end → length new.tree.log ≤ length old.tree.log + 1
+  pub longer_by : (ended : Node) (mark : Option Mark) (end : NodeEnd) → IsWorkedEnd mid new ended mark end → length new.tree.log ≤ length old.tree.log + 1
   longer_by ended mark end h =
-      let e = entry_of_end mid new node ended mark end h in
+      let e = entry_of_end mid new ended mark end h in
       omega (arith, one_longer mid new ended e.end e.entry, ap length same_log)
 
-  pub longer_log : (ended : Node) (mark : Option Mark) (end : NodeEnd) → IsEnd mid new node ended mark end → IsLongerLog old.tree.log new.tree.log
+  pub longer_log : (ended : Node) (mark : Option Mark) (end : NodeEnd) → IsWorkedEnd mid new ended mark end → IsLongerLog old.tree.log new.tree.log
   longer_log ended mark end h =
-      let e = entry_of_end mid new node ended mark end h in
+      let e = entry_of_end mid new ended mark end h in
       let last : Entry = record { node = ended.number; bound = ended.bound; end = e.end } in
       λ n s. ap (take n) (e.entry.logged ∙ ap (λ l. l ++ last ∷ []) same_log) ∙ take-append-le n old.tree.log (last ∷ []) s
 
@@ -183,31 +195,33 @@ module _ (old mid new : CoreState) (node : TakenNode) (worst : Option Worst) (ta
   }
 
   -- it ended
-  module _ (u : new.touched ≡ false) (ended : Node) (few : new.tree.ids ≤ mid.tree.ids + 2) where
-    still_after : (next : Option Worst) (end : End) → LeavesEntry mid.tree new.tree ended end → IsKeptIn new [] → IsWorst new.program new.tree.parked next → IsStill new.program new.tree.root.bound new.tree new.incumbent next × (length new.tree.log ≡ length old.tree.log + 1)
+  module _ (ended : Node) (few : new.tree.ids ≤ mid.tree.ids + 2) where
+    still_after : (next : Option Worst) (end : End) → LeavesEntry mid.tree new.tree ended end → IsKeptIn new [] → IsWorst new.program new.tree.parked next → IsStanding new next × (length new.tree.log ≡ length old.tree.log + 1)
     still_after next end e s w =
         let longer : length new.tree.log ≡ length old.tree.log + 1 = one_longer mid new ended end e ∙ ap (λ l. length l + 1) same_log in (
           record {
-            kept = s.kept;
-            matter = s.matter;
-            boxes = s.boxes u;
-            start_is = refl;
-            is_held = is_held;
-            is_worst = w;
-            counted = omega (arith, longer, few, ap (λ (t : Nodes). t.ids) first.rest, k.counted);
-            begun = λ f. absurd (not_empty mid.tree.log (record { node = ended.number; bound = ended.bound; end = end }) (sym e.logged ∙ f));
+            still = record {
+              kept = s.kept;
+              matter = s.matter;
+              start_is = refl;
+              is_held = is_held;
+              is_worst = w;
+              counted = omega (arith, longer, few, ap (λ (t : Nodes). t.ids) first.rest, k.counted);
+              begun = λ f. absurd (not_empty mid.tree.log (record { node = ended.number; bound = ended.bound; end = end }) (sym e.logged ∙ f));
+            };
+            boxes = s.boxes;
           },
           longer,
         )
 
     -- a node that wasn't put aside
-    quiet_after : (next : Option Worst) (end : End) → LeavesEntry mid.tree new.tree ended end → new.tree.parked ≡ mid.tree.parked → next ≡ worst → IsKeptIn new [] → IsStill new.program new.tree.root.bound new.tree new.incumbent next × (length new.tree.log ≡ length old.tree.log + 1)
+    quiet_after : (next : Option Worst) (end : End) → LeavesEntry mid.tree new.tree ended end → new.tree.parked ≡ mid.tree.parked → next ≡ worst → IsKeptIn new [] → IsStanding new next × (length new.tree.log ≡ length old.tree.log + 1)
     quiet_after next end e p n s =
         still_after next end e s (subst (λ l. IsWorst new.program l next) (sym p) (subst (IsWorst new.program mid.tree.parked) (sym n) was_worst))
 
     abbrev Turned : ℕ → Option ℚ → Option Worst → Option Stop → Type 0
     Turned nodes asked next stop =
-        MatchOption stop (IsStill new.program new.tree.root.bound new.tree new.incumbent next × (length new.tree.log ≡ length old.tree.log + 1)) (StopsAs new.program new.tree.root.bound nodes asked new.tree new.incumbent next)
+        MatchOption stop (IsStanding new next × (length new.tree.log ≡ length old.tree.log + 1)) (StopsAs new.program new.tree.root.bound nodes asked new.tree new.incumbent next)
 
     endless_after : (point ray : List ℚ) → EndsEndless mid new ended point ray → StopsEndless new.program new.tree.log point ray
     endless_after point ray e = record {
@@ -216,7 +230,7 @@ module _ (old mid new : CoreState) (node : TakenNode) (worst : Option Worst) (ta
       falls = record { feasible = e.feasible; shown = e.shown_ray };
     }
 
-    pub turned_by : (nodes : ℕ) (asked : Option ℚ) (mark : Option Mark) (next : Option Worst) (stop : Option Stop) (end : NodeEnd) → IsKeptAs worst next end stop → IsEnd mid new node ended mark end → Turned nodes asked next stop
+    pub turned_by : (nodes : ℕ) (asked : Option ℚ) (mark : Option Mark) (next : Option Worst) (stop : Option Stop) (end : NodeEnd) → IsKeptAs worst next end stop → IsWorkedEnd mid new ended mark end → Turned nodes asked next stop
     turned_by nodes asked mark next stop by.Pruned a h = subst (Turned nodes asked next) (sym a.1) (quiet_after next Closed h.entry h.entry.parked a.0 h.kept)
     turned_by nodes asked mark next stop by.Empty a h = subst (Turned nodes asked next) (sym a.1) (quiet_after next Closed h.entry h.entry.parked a.0 h.kept)
     turned_by nodes asked mark next stop by.Solved a h = subst (Turned nodes asked next) (sym a.1) (quiet_after next Closed h.entry h.entry.parked a.0 h.kept)
@@ -226,14 +240,22 @@ module _ (old mid new : CoreState) (node : TakenNode) (worst : Option Worst) (ta
         (still_after next Parked h.entry h.kept (worst_more new.program mid.tree.parked new.tree.parked ended (record { values = leaf.items; on = on.items }) bound (shown_as shown) worst next h.entry.parked h.bound_is h.wide_as was_worst a.0))
     turned_by nodes asked mark next stop (by.Ray point ray) a h = subst (Turned nodes asked next) (sym a) (endless_after point.items ray.items h)
 
-  -- the marks are told
-  pub told_turn : (mark : Option Mark) (end : NodeEnd) (marks : List (ℕ × Mark)) → IsTakenUp mid node → HasEnded mid new node mark end → new.pool.rows ≡ [] → new.touched ≡ false → IsTold old.program old.tree.root.bound old.tree.log marks → IsTold new.program new.tree.root.bound new.tree.log (marks ++ marks_by node.number mark)
-  told_turn mark end marks up h bare u t =
-      let t' = subst (λ (c : CoreState). IsTold c.program mid.tree.root.bound mid.tree.log marks) (sym taken)
-      (subst (λ (n : Nodes). IsTold old.program n.root.bound n.log marks) (sym first.rest) t) in
-      subst (λ (p : Program). IsTold p new.tree.root.bound new.tree.log (marks ++ marks_by node.number mark)) (sym later.program)
-      (subst (λ (x : Node). IsTold mid.program x.bound new.tree.log (marks ++ marks_by node.number mark)) (sym later.root)
-      (told_more mid new node mark end marks up h bare u t'))
+  -- the marks are written
+  pub written_turn : (mark : Option Mark) (end : NodeEnd) (marks : List (ℕ × Mark)) → IsTakenUp mid node → HasWorked mid new node mark end → (new.touched ≡ false → new.pool.rows ≡ []) → IsWritten old marks → IsWritten new (marks ++ marks_by node.number mark)
+  written_turn mark end marks up h bare t = record {
+    told = lead IsTold (marks ++ marks_by node.number mark) (told_more mid new node mark end marks up h (back IsTold marks t.told));
+    met = λ u. lead AreMet (marks ++ marks_by node.number mark) (met_taken mid new node mark end marks up h (bare u) u (back AreMet marks (t.met (untouched_before u))));
+  }
+    where
+      back : {X : Type 0} (P : Program → Option ℚ → List Entry → X → Type 0) (x : X) → P old.program old.tree.root.bound old.tree.log x → P mid.program mid.tree.root.bound mid.tree.log x
+      back P x t =
+          subst (λ (c : CoreState). P c.program mid.tree.root.bound mid.tree.log x) (sym taken)
+          (subst (λ (n : Nodes). P old.program n.root.bound n.log x) (sym first.rest) t)
+
+      lead : {X : Type 0} (P : Program → Option ℚ → List Entry → X → Type 0) (x : X) → P mid.program mid.tree.root.bound new.tree.log x → P new.program new.tree.root.bound new.tree.log x
+      lead P x t =
+          subst (λ (p : Program). P p new.tree.root.bound new.tree.log x) (sym later.program)
+          (subst (λ (n : Node). P mid.program n.bound new.tree.log x) (sym later.root) t)
 
 -- no node is open
 pub nothing_open : (program : Program) (start : Option ℚ) (nodes : ℕ) (asked : Option ℚ) (old : Nodes) (holding : Holding) (worst : Option Worst) → old.open_ ≡ [] → IsStill program start old holding worst → StopsAs program start nodes asked old holding worst Still

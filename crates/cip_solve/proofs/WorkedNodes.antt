@@ -1,5 +1,5 @@
 -- What the end of a node says of the log, and of the worst parked leaf.
-use Rattle.std.proofs.Common.{◌≡◌, inl, inr, ℕ, ◌+◌, ◌≤◌, List, [], ◌∷◌, ◌++◌, length, Option, None, Some, IfSome, Contains, false, sym, ap, ◌∙◌, subst, arith, length-append}
+use Rattle.std.proofs.Common.{◌≡◌, inl, inr, ℕ, ◌+◌, List, [], ◌∷◌, ◌++◌, length, Option, None, Some, IfSome, Contains, false, sym, ap, ◌∙◌, subst, arith, length-append}
 use Rattle.std.proofs.lemmas.List.{append-nil, map-append}
 use Rattle.std.proofs.lemmas.List.Elements.{Contains-push, Contains-push_cases}
 use Rattle.cip_rational.specs.Rational.{ℚ}
@@ -22,11 +22,11 @@ use Rattle.cip_core.specs.Steps.{LeavesEntry}
 use Rattle.cip_node.specs.Bounding.{IsMarkOf, IsAsGood}
 use Rattle.cip_leaves.specs.Leaf.{Leaf}
 use Rattle.cip_leaves.specs.WideNodes.{IsWideAs}
-use Rattle.cip_node.specs.NodeEnds.{IsEnd, HasEnded}
 use Rattle.cip_node.specs.declared.ends.NodeEnd.{NodeEnd}
 use Rattle.cip_node.specs.declared.ends.NodeEnd.TheVariants as by
 use Rattle.cip_leaves.specs.WideLeaf.{Shown}
 use Rattle.cip_solve.specs.Logs.{numbers_of, marks_by}
+use Rattle.cip_solve.specs.NodesWorked.{IsWorkedEnd, HasWorked}
 use Rattle.cip_solve.specs.Solved.{own_rows, IsMet, AreMet}
 use Rattle.cip_solve.specs.Searching.{IsTold, IsWorseOf}
 use Rattle.cip_endings.specs.Worst.{leaf_of, IsWorst}
@@ -40,13 +40,13 @@ pub record HasEntry (mid new : CoreState) (ended : Node) (mark : Option Mark) : 
   pub entry : LeavesEntry mid.tree new.tree ended end
   pub good : IsSplitEnd end → IsAsGood new ended.box ended.bound mark
 
-pub entry_of_end : (mid new : CoreState) (node : TakenNode) (ended : Node) (mark : Option Mark) (end : NodeEnd) → IsEnd mid new node ended mark end → HasEntry mid new ended mark
-entry_of_end mid new node ended mark by.Pruned h = record { end = Closed; entry = h.entry; good = λ s. absurd s }
-entry_of_end mid new node ended mark by.Empty h = record { end = Closed; entry = h.entry; good = λ s. absurd s }
-entry_of_end mid new node ended mark by.Solved h = record { end = Closed; entry = h.entry; good = λ s. absurd s }
-entry_of_end mid new node ended mark (by.Split low high) h = record { end = Split h.column h.at low high; entry = h.entry; good = λ s. h.good }
-entry_of_end mid new node ended mark (by.Parked leaf on bound shown) h = record { end = Parked; entry = h.entry; good = λ s. absurd s }
-entry_of_end mid new node ended mark (by.Ray point ray) h = record { end = Parked; entry = h.entry; good = λ s. absurd s }
+pub entry_of_end : (mid new : CoreState) (ended : Node) (mark : Option Mark) (end : NodeEnd) → IsWorkedEnd mid new ended mark end → HasEntry mid new ended mark
+entry_of_end mid new ended mark by.Pruned h = record { end = Closed; entry = h.entry; good = λ s. absurd s }
+entry_of_end mid new ended mark by.Empty h = record { end = Closed; entry = h.entry; good = λ s. absurd s }
+entry_of_end mid new ended mark by.Solved h = record { end = Closed; entry = h.entry; good = λ s. absurd s }
+entry_of_end mid new ended mark (by.Split low high) h = record { end = Split h.column h.at low high; entry = h.entry; good = λ s. h.good }
+entry_of_end mid new ended mark (by.Parked leaf on bound shown) h = record { end = Parked; entry = h.entry; good = λ s. absurd s }
+entry_of_end mid new ended mark (by.Ray point ray) h = record { end = Parked; entry = h.entry; good = λ s. absurd s }
 
 pub one_longer : (mid new : CoreState) (ended : Node) (end : End) → LeavesEntry mid.tree new.tree ended end → length new.tree.log ≡ length mid.tree.log + 1
 one_longer mid new ended end e =
@@ -106,24 +106,39 @@ met_here mid new node ended (Some mark) g p bare b m = record {
 }
 
 -- once the node has ended
-pub told_more : (mid new : CoreState) (node : TakenNode) (mark : Option Mark) (end : NodeEnd) (marks : List (ℕ × Mark)) → IsTakenUp mid node → (h : HasEnded mid new node mark end) → new.pool.rows ≡ [] → new.touched ≡ false → IsTold mid.program mid.tree.root.bound mid.tree.log marks → IsTold mid.program mid.tree.root.bound new.tree.log (marks ++ marks_by node.number mark)
-told_more mid new node mark end marks up h bare u t =
-    let program = mid.program in
-    let start = mid.tree.root.bound in
-    let e = entry_of_end mid new node h.ended mark end h.end_ in
-    let entry : Entry = record { node = node.number; bound = h.ended.bound; end = e.end } in
-    let g = given_taken mid node up in
-    let more = marks_by node.number mark in
-    let numbers = sym (numbers_more marks more) in
-    let logged : new.tree.log ≡ mid.tree.log ++ entry ∷ [] = subst (λ n. new.tree.log ≡ mid.tree.log ++ record { node = n; bound = h.ended.bound; end = e.end } ∷ []) h.narrower.number e.entry.logged in
-    let box = h.same u ∙ (up.nodes.boxes (h.later.untouched u)).boxes (shown mid.tree node) g.given (here (shown mid.tree node) (mid.tree.open_ ++ mid.tree.parked)) g.found in
-    subst (λ log. IsTold program start log (marks ++ more)) (sym logged) (record {
-      work = subst (AreRelaxed program start (mid.tree.log ++ entry ∷ [])) numbers
-          (relaxed_more program start mid.tree.log (numbers_of marks) (numbers_of more) entry g.given up.nodes.kept.searched.logged g.found t.work
-          (λ s n. good_relaxed mid new h.ended.box g.given.box h.ended.bound mark (numbers_of marks) node.number h.later.program (λ point w. g.holds point (h.narrower.inside point w)) (e.good s) n));
-      are_of = subst (AreOfEntries (mid.tree.log ++ entry ∷ [])) numbers (marks_more mid.tree.log (numbers_of marks) entry mark t.are_of);
-      met = met_more program start mid.tree.log entry marks mark t.met (met_here mid new node h.ended mark g h.later.program bare box h.met);
-    })
+module _ (mid new : CoreState) (node : TakenNode) (mark : Option Mark) (end : NodeEnd) (marks : List (ℕ × Mark)) (up : IsTakenUp mid node) (h : HasWorked mid new node mark end) where
+  abbrev more : List (ℕ × Mark)
+  more = marks_by node.number mark
+
+  logged_more : (e : HasEntry mid new h.ended mark) → new.tree.log ≡ mid.tree.log ++ record { node = node.number; bound = h.ended.bound; end = e.end } ∷ []
+  logged_more e =
+      subst (λ n. new.tree.log ≡ mid.tree.log ++ record { node = n; bound = h.ended.bound; end = e.end } ∷ []) h.narrower.number e.entry.logged
+
+  pub told_more : IsTold mid.program mid.tree.root.bound mid.tree.log marks → IsTold mid.program mid.tree.root.bound new.tree.log (marks ++ more)
+  told_more t =
+      let program = mid.program in
+      let start = mid.tree.root.bound in
+      let e = entry_of_end mid new h.ended mark end h.end_ in
+      let entry : Entry = record { node = node.number; bound = h.ended.bound; end = e.end } in
+      let g = given_taken mid node up in
+      let numbers = sym (numbers_more marks more) in
+      subst (λ log. IsTold program start log (marks ++ more)) (sym (logged_more e)) (record {
+        work = subst (AreRelaxed program start (mid.tree.log ++ entry ∷ [])) numbers
+            (relaxed_more program start mid.tree.log (numbers_of marks) (numbers_of more) entry g.given up.nodes.kept.searched.logged g.found t.work
+            (λ s n. good_relaxed mid new h.ended.box g.given.box h.ended.bound mark (numbers_of marks) node.number h.later.program (λ point w. g.holds point (h.narrower.inside point w)) (e.good s) n));
+        are_of = subst (AreOfEntries (mid.tree.log ++ entry ∷ [])) numbers (marks_more mid.tree.log (numbers_of marks) entry mark t.are_of);
+      })
+
+  pub met_taken : new.pool.rows ≡ [] → new.touched ≡ false → AreMet mid.program mid.tree.root.bound mid.tree.log marks → AreMet mid.program mid.tree.root.bound new.tree.log (marks ++ more)
+  met_taken bare u t =
+      let program = mid.program in
+      let start = mid.tree.root.bound in
+      let e = entry_of_end mid new h.ended mark end h.end_ in
+      let entry : Entry = record { node = node.number; bound = h.ended.bound; end = e.end } in
+      let g = given_taken mid node up in
+      let box = h.same u ∙ (up.nodes.boxes (h.later.untouched u)).boxes (shown mid.tree node) g.given (here (shown mid.tree node) (mid.tree.open_ ++ mid.tree.parked)) g.found in
+      subst (λ log. AreMet program start log (marks ++ more)) (sym (logged_more e))
+      (met_more program start mid.tree.log entry marks mark t (met_here mid new node h.ended mark g h.later.program bare box h.met))
 
 -- ---- the worst leaf
 

@@ -1,5 +1,5 @@
 -- What holds of a search between two nodes, and how it stops.
-use Rattle.std.specs.Prelude.{◌≡◌, ◌≢◌, ◌⊎◌, ℕ, ◌+◌, ◌*◌, ◌<◌, ◌≤◌, true, List, [], ◌++◌}
+use Rattle.std.specs.Prelude.{◌≡◌, ◌≢◌, ◌⊎◌, ℕ, ◌+◌, ◌*◌, ◌<◌, ◌≤◌, true, false, List, [], ◌++◌}
 use Rattle.std.specs.Prelude.{Option, None, Some, IfSome, length}
 use Rattle.cip_rational.specs.Rational.{ℚ}
 use Rattle.cip_problem.specs.Program.{Program}
@@ -15,6 +15,8 @@ use Rattle.cip_search.specs.SearchAnswers.{AreRelaxed, AreOfEntries, IsParkedLas
 use Rattle.cip_tree.specs.Nodes.{Nodes}
 use Rattle.cip_node_bounds.specs.declared.relaxed.Mark.{Mark}
 use Rattle.cip_search.specs.SearchState.{stay, HasGivenBoxes}
+use Rattle.cip_core.specs.Beginning.{IsRootBound}
+use Rattle.cip_core.specs.CoreStates.{CoreState, held_of}
 use Rattle.cip_core.specs.KeptNodes.{cost_held, state_of, IsSearchOf, IsKept, AllMatter, IsHolding}
 use Rattle.cip_node.specs.declared.ends.NodeEnd.{NodeEnd}
 use Rattle.cip_node.specs.declared.ends.NodeEnd.TheVariants as by
@@ -29,26 +31,44 @@ use Rattle.cip_solve.specs.declared.turns.Stop.TheVariants as kinds
 
 -- ---- between two nodes
 
--- with no node in work: the nodes are those of a search whose root had this bound, each open one matters, and boxes are
--- those of the log; the point held is one of the program, the worst parked leaf is known, the numbers given are few,
--- and the root is open before a node was taken
+-- with no node in work: the nodes are those of a search whose root had this bound, and each open one matters; the point
+-- held is one of the program, the worst parked leaf is known, the numbers given are few, and the root is open before a
+-- node was taken
 pub record IsStill
     (program : Program) (start : Option ℚ) (tree : Nodes) (holding : Holding) (worst : Option Worst) : Type 0 where
   pub kept : IsKept program program stay tree (cost_held holding) []
   pub matter : AllMatter (cost_held holding) tree.open_
-  pub boxes : HasGivenBoxes program tree.root.bound (state_of tree (cost_held holding) [])
   pub start_is : tree.root.bound ≡ start
   pub is_held : IsHolding program holding
   pub is_worst : IsWorst program tree.parked worst
   pub counted : tree.ids ≤ 1 + 2 * length tree.log
   pub begun : tree.log ≡ [] → tree.open_ ≢ []
 
+-- so it is of a core, and where no row was added and no side tightened, boxes are those of the log
+pub record IsStanding (core : CoreState) (worst : Option Worst) : Type 0 where
+  pub still : IsStill core.program core.tree.root.bound core.tree core.incumbent worst
+  pub boxes : core.touched ≡ false
+      → HasGivenBoxes core.program core.tree.root.bound (state_of core.tree (held_of core) [])
+
+-- no node was taken yet, no row was added and no side tightened, and the root has its bound, which holds
+pub record IsAtRoot (core : CoreState) : Type 0 where
+  pub standing : IsStanding core None
+  pub empty : core.tree.log ≡ []
+  pub plain : core.touched ≡ false
+  pub root : IsRootBound core.program core.tree.root.bound
+  pub lower : IfSome core.tree.root.bound (IsLowerBound core.program)
+
 -- nodes were split by bounds that are as good as their linear programs', unless they are marked; and marks are of nodes
--- that were taken, and say what their linear programs met
+-- that were taken
 pub record IsTold (program : Program) (start : Option ℚ) (log : List Entry) (marks : List (ℕ × Mark)) : Type 0 where
   pub work : AreRelaxed program start log (numbers_of marks)
   pub are_of : AreOfEntries log (numbers_of marks)
-  pub met : AreMet program start log marks
+
+-- so it is of a core, and where no row was added and no side tightened, marks say what the linear programs of their
+-- nodes met
+pub record IsWritten (core : CoreState) (marks : List (ℕ × Mark)) : Type 0 where
+  pub told : IsTold core.program core.tree.root.bound core.tree.log marks
+  pub met : core.touched ≡ false → AreMet core.program core.tree.root.bound core.tree.log marks
 
 -- ---- how it stops
 

@@ -1,5 +1,5 @@
 -- What solving a program comes to.
-use Rattle.std.specs.Prelude.{◌≡◌, ℕ, ◌≤◌, List, [], Option, None, Some, option_map}
+use Rattle.std.specs.Prelude.{◌≡◌, ℕ, ◌≤◌, Bool, true, List, [], Option, None, Some, option_map}
 use Rattle.std.specs.List.{Contains}
 use Rattle.cip_rational.specs.Rational.{ℚ}
 use Rattle.cip_problem.specs.Program.{Program}
@@ -45,14 +45,19 @@ RayIsShown program answer =
     → IsShownBeside program (option_map (λ held. held.point) answer.held) ray
 
 -- the answer of a search from the root's bound on, with its log and the marks of nodes by their numbers; `nodes` is the
--- budget, and `asked` the gap that was asked for, if one was
-pub record IsSolved
-    (program : Program) (nodes : ℕ) (asked : Option ℚ) (log : List Entry) (marks : List (ℕ × Mark)) (answer : Answer)
-    : Type 0 where
+-- budget, `asked` the gap that was asked for, if one was, and `alone` says that there were no plugins
+pub record IsSolvedBy
+    (program : Program) (nodes : ℕ) (asked : Option ℚ) (alone : Bool) (log : List Entry) (marks : List (ℕ × Mark))
+    (answer : Answer) : Type 0 where
   pub start : Option ℚ
   pub root : IsRootBound program start
   pub right : IsSearchAnswer program start nodes asked log (numbers_of marks) answer
   -- a ray is one that the check of rays accepts beside the point held
   pub shown : RayIsShown program answer
-  -- marks say what the linear programs of their nodes met
-  pub met : AreMet program start log marks
+  -- without plugins, marks say what the linear programs of their nodes met
+  pub met : alone ≡ true → AreMet program start log marks
+
+-- so it is of a search without plugins
+abbrev pub IsSolved
+    : Program → ℕ → Option ℚ → List Entry → List (ℕ × Mark) → Answer → Type 0
+IsSolved program nodes asked log marks answer = IsSolvedBy program nodes asked true log marks answer

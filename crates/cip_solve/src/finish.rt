@@ -1,24 +1,26 @@
 //! The answer of a search that has stopped.
-ghost use Rattle.std.specs.Prelude.{◌≡◌, ℕ, List, Option, [], ◌<◌, length, false, None, IfSome};
+ghost use Rattle.std.specs.Prelude.{◌≡◌, ℕ, List, Option, ◌<◌, length, Bool, true, false, None, IfSome};
 ghost use Rattle.cip_rational.specs.Rational.{ℚ};
-ghost use Rattle.cip_problem.specs.Points.{IsLowerBound};
 ghost use Rattle.cip_problem.specs.Log.{Entry};
 ghost use Rattle.cip_problem.specs.WellFormed.{columns};
 ghost use Rattle.cip_search.specs.SearchAnswers.{IsSearchAnswer};
 ghost use Rattle.cip_tree.specs.Nodes.{Nodes};
 ghost use Rattle.cip_node_bounds.specs.declared.relaxed.Mark.{Mark};
+ghost use Rattle.cip_core.specs.CoreStates.{reduced_of};
 ghost use Rattle.cip_core.specs.KeptNodes.{IsHolding};
 ghost use Rattle.cip_endings.specs.AnswerOf.{answer_of};
-ghost use Rattle.cip_solve.specs.FirstStops.{IsFirstStop};
+ghost use Rattle.cip_solve.specs.FirstStops.{StopsFirst};
 ghost use Rattle.cip_solve.specs.Logs.{entries_of, marked_in, numbers_of};
-ghost use Rattle.cip_solve.specs.Searching.{IsStill, IsTold, IsEndless};
+ghost use Rattle.cip_solve.specs.Searching.{IsAtRoot, IsEndless};
 ghost use Rattle.cip_solve.specs.Searching.{StopsStill, StopsEndless, StopsRefused, StopsAs, IsWithin};
-ghost use Rattle.cip_solve.specs.Solved.{AreMet, RayIsShown};
+ghost use Rattle.cip_solve.specs.Solved.{AreMet, RayIsShown, IsSolvedBy};
+ghost use Rattle.cip_solve.specs.SplitsServed.{splits_in, HasServed};
 ghost use Rattle.cip_solve.specs.Stopping.{BestIs};
 
 use crate::logs::Log;
 use crate::solving::Options;
 use crate::turns::{Search, Stop};
+use crate::works::Works;
 use cip_core::{Core, cost_of};
 use cip_endings::{Worst, capped, ended_at, flat, least_left};
 use cip_frac::Frac;
@@ -65,6 +67,7 @@ fn still_answer(
         → IsSearchAnswer program tree.now.root.bound nodes asked.now tree.now.log (numbers_of marks)
         (answer_of result) × RayIsShown program (answer_of result) }
     ensures nodes { result.nodes ≡ length tree.now.log }
+    ensures untraced { result.trace ≡ None }
 {
     let held = cost_of(incumbent);
     let waiting = tree.bound();
@@ -76,6 +79,7 @@ fn still_answer(
         best,
         bound,
         nodes: taken_of(tree),
+        trace: None,
     }
 }
 
@@ -87,6 +91,7 @@ fn endless_answer(program: &Program, point: Vec<Frac>, ray: Vec<Frac>, nodes: u6
         → IsSearchAnswer program.now start budget asked log (numbers_of marks) (answer_of result)
         × RayIsShown program.now (answer_of result) }
     ensures nodes { result.nodes ≡ nodes }
+    ensures untraced { result.trace ≡ None }
 {
     let _columns = program.columns();
     match program.check(point.as_slice()) {
@@ -95,6 +100,7 @@ fn endless_answer(program: &Program, point: Vec<Frac>, ray: Vec<Frac>, nodes: u6
             best: Some(Held { cost, point }),
             bound: None,
             nodes,
+            trace: None,
         },
         _ => unreachable!(),
     }
@@ -116,6 +122,7 @@ fn refused_answer(
         → IsSearchAnswer program start budget asked tree.log (numbers_of marks) (answer_of result)
         × RayIsShown program (answer_of result) }
     ensures nodes { result.nodes ≡ nodes }
+    ensures untraced { result.trace ≡ None }
 {
     let bound = capped(cost_of(incumbent), bound);
     let best = held_of(incumbent, point);
@@ -124,6 +131,7 @@ fn refused_answer(
         best,
         bound,
         nodes,
+        trace: None,
     }
 }
 
@@ -143,6 +151,7 @@ fn answer_at(
         → IsSearchAnswer core.now.program core.now.tree.root.bound options.now.nodes options.now.gap
         core.now.tree.log (numbers_of marks) (answer_of result) × RayIsShown core.now.program (answer_of result) }
     ensures nodes { result.nodes ≡ length core.now.tree.log }
+    ensures untraced { result.trace ≡ None }
 {
     core.is_sound();
     let tree = core.tree();
@@ -163,13 +172,16 @@ impl<'a> Search<'a> {
             self.work.core.tree self.work.core.incumbent self.worst stop }
         requires within { IsWithin self.work.core.program self.work.core.tree.root.bound options.now.nodes
             self.work.core.tree.log self.marks.items }
+        requires met { self.work.core.touched ≡ false → AreMet self.work.core.program self.work.core.tree.root.bound
+            self.work.core.tree.log self.marks.items }
         requires point { length point.items ≡ columns self.work.core.program }
         ensures right { IsSearchAnswer self.entry.work.core.program self.entry.work.core.tree.root.bound
             options.now.nodes options.now.gap (entries_of log.new) (marked_in log.new) (answer_of result) }
         ensures shown { RayIsShown self.entry.work.core.program (answer_of result) }
         ensures nodes { result.nodes ≡ length (entries_of log.new) }
-        ensures met { AreMet self.entry.work.core.program self.entry.work.core.tree.root.bound (entries_of log.new)
-            log.new.marks.items }
+        ensures untraced { result.trace ≡ None }
+        ensures met { self.entry.work.core.touched ≡ false → AreMet self.entry.work.core.program
+            self.entry.work.core.tree.root.bound (entries_of log.new) log.new.marks.items }
         ensures logged { entries_of log.new ≡ self.entry.work.core.tree.log }
     {
         let Search { work, worst, marks } = self;
@@ -183,33 +195,32 @@ impl<'a> Search<'a> {
 
 /// Searches from what has taken no node, as its options say; the point that is found is written to a
 /// list of as many values, and what was done is left in the log.
-pub(crate) fn search_from(
+pub(crate) fn search_from<W: Works>(
     work: NodeWork<'_>,
+    works: &mut W,
     alloc: Global,
     options: &Options,
     point: Vec<Frac>,
     log: &mut Log,
 ) -> Answer
-    requires still { IsStill work.core.program work.core.tree.root.bound work.core.tree work.core.incumbent None }
-    requires empty { work.core.tree.log ≡ [] }
-    requires plain { work.core.touched ≡ false }
-    requires lower { IfSome work.core.tree.root.bound (IsLowerBound work.core.program) }
+    requires root { IsAtRoot work.core }
     requires some { 0 < options.now.nodes }
     requires point { length point.items ≡ columns work.core.program }
-    ensures right { IsSearchAnswer work.entry.core.program work.entry.core.tree.root.bound options.now.nodes
-        options.now.gap (entries_of log.new) (marked_in log.new) (answer_of result) }
-    ensures shown { RayIsShown work.entry.core.program (answer_of result) }
+    requires ready { W.is_ready works.old (columns (reduced_of work.core)) }
+    ensures solved { (alone : Bool) → (alone ≡ true → W.asks ≡ false)
+        → IsSolvedBy work.entry.core.program options.now.nodes options.now.gap alone (entries_of log.new)
+        log.new.marks.items (answer_of result) }
     ensures nodes { result.nodes ≡ length (entries_of log.new) }
-    ensures met { AreMet work.entry.core.program work.entry.core.tree.root.bound (entries_of log.new)
-        log.new.marks.items }
-    ensures first { IsFirstStop work.entry.core.program work.entry.core.tree.root.bound options.now.gap
-        (entries_of log.new) }
+    ensures untraced { result.trace ≡ None }
+    ensures first { StopsFirst work.entry.core.program options.now.gap (entries_of log.new) }
+    ensures asked { W.is_ready works.new (columns (reduced_of work.entry.core))
+        × HasServed (splits_in (entries_of log.new)) (W.state works.old) (W.state works.new) }
 {
     let mut search = Search {
         work,
         worst: None,
         marks: Vec::new(alloc),
     };
-    let stop = search.explore(alloc, options.nodes, &options.gap);
+    let stop = search.explore(alloc, works, options.nodes, &options.gap);
     search.finish(stop, options, point, log)
 }

@@ -1,12 +1,16 @@
-//! The search for a point of least cost, over the work on nodes.
+//! The search for a point of least cost, over the work on nodes, with plugins or without.
 #![tactic(auto)]
 
+mod asking;
 mod finish;
 mod laws;
 mod logs;
 mod solving;
 mod turns;
+mod works;
 
+pub use asking::Asking;
 pub use laws::answers_fit;
 pub use logs::Log;
-pub use solving::{Options, solve, unsearched};
+pub use solving::{Options, solve, solve_by, unsearched};
+pub use works::{Alone, Works};

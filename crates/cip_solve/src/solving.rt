@@ -1,14 +1,17 @@
 //! Solving a program.
-ghost use Rattle.std.specs.Prelude.{◌≡◌, ℕ, Option, [], ◌<◌, length};
+ghost use Rattle.std.specs.Prelude.{◌≡◌, ℕ, Bool, true, false, Option, None, [], ◌<◌, length};
 ghost use Rattle.cip_rational.specs.Rational.{ℚ};
+ghost use Rattle.cip_problem.specs.WellFormed.{columns};
 ghost use Rattle.cip_core.specs.Beginning.{AreNearColumns};
 ghost use Rattle.cip_endings.specs.AnswerOf.{answer_of};
 ghost use Rattle.cip_solve.specs.FirstStops.{StopsFirst};
 ghost use Rattle.cip_solve.specs.Logs.{entries_of};
-ghost use Rattle.cip_solve.specs.Solved.{IsSolved};
+ghost use Rattle.cip_solve.specs.Solved.{IsSolved, IsSolvedBy};
+ghost use Rattle.cip_solve.specs.SplitsServed.{splits_in, HasServed};
 
 use crate::finish::search_from;
 use crate::logs::Log;
+use crate::works::{Alone, Works};
 use cip_core::root_bound;
 use cip_frac::Frac;
 use cip_model::Program;
@@ -30,6 +33,7 @@ pub struct Options {
 pub fn unsearched(program: &Program) -> Answer
     ensures solved { (nodes : ℕ) (asked : Option ℚ) → IsSolved program.now nodes asked [] [] (answer_of result) }
     ensures nodes { result.nodes ≡ 0 }
+    ensures trace { result.trace ≡ None }
     ensures first { (asked : Option ℚ) → StopsFirst program.now asked [] }
 {
     Answer {
@@ -37,21 +41,33 @@ pub fn unsearched(program: &Program) -> Answer
         best: None,
         bound: root_bound(program),
         nodes: 0,
+        trace: None,
     }
 }
 
-/// Searches for a feasible point of least cost, over at most so many nodes; what was done is left in the log, in place
-/// of what it held. After each node has ended, and before the next is taken, it is seen whether the gap that was asked
-/// for is reached, and then the answer is `Gap`: behind no earlier node does the log settle that it was. Else it is
-/// `NodeLimit` exactly where as many nodes were taken and an open one matters; and `NoMemory` where memory was refused,
-/// with the point that was found by then.
-pub fn solve(alloc: Global, program: &Program, options: &Options, log: &mut Log) -> Answer
+/// Searches for a feasible point of least cost, over at most so many nodes, by what works on them: with plugins,
+/// whatever these answer, or without. What was done is left in the log, in place of what it held. After each node has
+/// ended, and before the next is taken, it is seen whether the gap that was asked for is reached, and then the answer is
+/// `Gap`: behind no earlier node does the log settle that it was. Else it is `NodeLimit` exactly where as many nodes were
+/// taken and an open one matters; and `NoMemory` where memory was refused, with the point that was found by then.
+pub fn solve_by<W: Works>(
+    alloc: Global,
+    program: &Program,
+    options: &Options,
+    works: &mut W,
+    log: &mut Log,
+) -> Answer
     requires near { AreNearColumns program.now }
     requires some { 0 < options.now.nodes }
-    ensures solved { IsSolved program.now options.now.nodes options.now.gap (entries_of log.new) log.new.marks.items
+    requires ready { W.is_ready works.old (columns program.now) }
+    ensures solved { (alone : Bool) → (alone ≡ true → W.asks ≡ false)
+        → IsSolvedBy program.now options.now.nodes options.now.gap alone (entries_of log.new) log.new.marks.items
         (answer_of result) }
     ensures nodes { result.nodes ≡ length (entries_of log.new) }
+    ensures trace { result.trace ≡ None }
     ensures first { StopsFirst program.now options.now.gap (entries_of log.new) }
+    ensures asked { W.is_ready works.new (columns program.now)
+        × HasServed (splits_in (entries_of log.new)) (W.state works.old) (W.state works.new) }
 {
     log.taken.clear();
     log.marks.clear();
@@ -63,7 +79,20 @@ pub fn solve(alloc: Global, program: &Program, options: &Options, log: &mut Log)
         Err(_) => unsearched(program),
         Ok(work) => {
             work.core.is_sound();
-            search_from(work, alloc, options, point, log)
+            search_from(work, works, alloc, options, point, log)
         }
     }
+}
+
+/// Searches so without plugins, as the work on nodes goes by itself.
+pub fn solve(alloc: Global, program: &Program, options: &Options, log: &mut Log) -> Answer
+    requires near { AreNearColumns program.now }
+    requires some { 0 < options.now.nodes }
+    ensures solved { IsSolved program.now options.now.nodes options.now.gap (entries_of log.new) log.new.marks.items
+        (answer_of result) }
+    ensures nodes { result.nodes ≡ length (entries_of log.new) }
+    ensures trace { result.trace ≡ None }
+    ensures first { StopsFirst program.now options.now.gap (entries_of log.new) }
+{
+    solve_by(alloc, program, options, &mut Alone, log)
 }

@@ -2,10 +2,15 @@
 ghost use Rattle.std.specs.Prelude.{◌≡◌, ℕ, ◌+◌, ◌<◌, ◌≤◌, true, false, Option, [], ◌++◌, length, MatchOption};
 ghost use Rattle.std.specs.Prelude.{vec_len, vec_capacity};
 ghost use Rattle.cip_rational.specs.Rational.{ℚ};
+ghost use Rattle.cip_problem.specs.WellFormed.{columns};
+ghost use Rattle.cip_seats.specs.Seats.{State};
+ghost use Rattle.cip_core.specs.CoreStates.{reduced_of};
 ghost use Rattle.cip_solve.specs.FirstStops.{IsLongerLog, IsFirstStop};
 ghost use Rattle.cip_solve.specs.Logs.{marks_by};
-ghost use Rattle.cip_solve.specs.Searching.{IsStill, IsTold, IsKeptAs, HasReachedGap, StopsAs};
+ghost use Rattle.cip_solve.specs.SplitsServed.{splits_in, HasServed};
+ghost use Rattle.cip_solve.specs.Searching.{IsStill, IsStanding, IsWritten, IsKeptAs, HasReachedGap, StopsAs};
 
+use crate::works::Works;
 use cip_endings::{Worst, flat, least_left, reaches_gap, worse};
 use cip_frac::Frac;
 use cip_node::{NodeEnd, NodeRecord, NodeWork};
@@ -87,25 +92,24 @@ impl<'a> Search<'a> {
     }
 
     /// Takes up a node and works on it; how the search stops, if it does.
-    fn turn(&mut self, alloc: Global) -> Option<Stop>
-        requires still { IsStill self.old.work.core.program self.old.work.core.tree.root.bound self.old.work.core.tree
-            self.old.work.core.incumbent self.old.worst }
-        requires told { IsTold self.old.work.core.program self.old.work.core.tree.root.bound self.old.work.core.tree.log
-            self.old.marks.items }
-        requires plain { self.old.work.core.touched ≡ false }
-        ensures plain { self.new.work.core.touched ≡ false }
-        ensures program { self.new.work.core.program ≡ self.old.work.core.program }
-        ensures root { self.new.work.core.tree.root ≡ self.old.work.core.tree.root }
+    fn turn<W: Works>(&mut self, alloc: Global, works: &mut W) -> Option<Stop>
+        requires standing { IsStanding self.old.work.core self.old.worst }
+        requires written { IsWritten self.old.work.core self.old.marks.items }
+        requires ready { W.is_ready works.old (columns (reduced_of self.old.work.core)) }
+        ensures same { (self.new.work.core.program ≡ self.old.work.core.program)
+            × (self.new.work.core.tree.root ≡ self.old.work.core.tree.root)
+            × (W.asks ≡ false → self.new.work.core.touched ≡ self.old.work.core.touched) }
         ensures longer { length self.new.work.core.tree.log ≤ length self.old.work.core.tree.log + 1 }
         ensures grown { IsLongerLog self.old.work.core.tree.log self.new.work.core.tree.log }
-        ensures told { IsTold self.new.work.core.program self.new.work.core.tree.root.bound self.new.work.core.tree.log
-            self.new.marks.items }
+        ensures written { IsWritten self.new.work.core self.new.marks.items }
         ensures turned { (nodes : ℕ) (asked : Option ℚ) → MatchOption result
-            (IsStill self.new.work.core.program self.new.work.core.tree.root.bound self.new.work.core.tree
-            self.new.work.core.incumbent self.new.worst
+            (IsStanding self.new.work.core self.new.worst
             × (length self.new.work.core.tree.log ≡ length self.old.work.core.tree.log + 1))
             (StopsAs self.new.work.core.program self.new.work.core.tree.root.bound nodes asked self.new.work.core.tree
             self.new.work.core.incumbent self.new.worst) }
+        ensures asked { W.is_ready works.new (columns (reduced_of self.new.work.core))
+            × ((first : State) → HasServed (splits_in self.old.work.core.tree.log) first (W.state works.old)
+            → HasServed (splits_in self.new.work.core.tree.log) first (W.state works.new)) }
     {
         let waiting = self.work.core.tree().bound();
         if waiting.is_none() {
@@ -120,7 +124,7 @@ impl<'a> Search<'a> {
             return Some(Stop::Still);
         };
         let number = node.id();
-        let ended = self.work.process(alloc, node);
+        let ended = works.work_on(alloc, &mut self.work, node);
         self.work.core.is_sound();
         match ended {
             Err(_) => Some(Stop::NoMemory { bound }),
@@ -146,26 +150,31 @@ impl<'a> Search<'a> {
 
     /// Takes up open nodes, at most so many, until the gap that was asked for is reached at the end of one; how the
     /// search stops.
-    pub(crate) fn explore(&mut self, alloc: Global, nodes: u64, asked: &Option<Frac>) -> Stop
-        requires still { IsStill self.old.work.core.program self.old.work.core.tree.root.bound self.old.work.core.tree
-            self.old.work.core.incumbent self.old.worst }
-        requires told { IsTold self.old.work.core.program self.old.work.core.tree.root.bound self.old.work.core.tree.log
-            self.old.marks.items }
+    pub(crate) fn explore<W: Works>(
+        &mut self,
+        alloc: Global,
+        works: &mut W,
+        nodes: u64,
+        asked: &Option<Frac>,
+    ) -> Stop
+        requires standing { IsStanding self.old.work.core self.old.worst }
+        requires written { IsWritten self.old.work.core self.old.marks.items }
         requires empty { self.old.work.core.tree.log ≡ [] }
-        requires plain { self.old.work.core.touched ≡ false }
-        ensures plain { self.new.work.core.touched ≡ false }
-        ensures program { self.new.work.core.program ≡ self.old.work.core.program }
-        ensures root { self.new.work.core.tree.root ≡ self.old.work.core.tree.root }
+        requires ready { W.is_ready works.old (columns (reduced_of self.old.work.core)) }
+        ensures same { (self.new.work.core.program ≡ self.old.work.core.program)
+            × (self.new.work.core.tree.root ≡ self.old.work.core.tree.root)
+            × (W.asks ≡ false → self.new.work.core.touched ≡ self.old.work.core.touched) }
         ensures most { length self.new.work.core.tree.log ≤ nodes }
-        ensures told { IsTold self.new.work.core.program self.new.work.core.tree.root.bound self.new.work.core.tree.log
-            self.new.marks.items }
+        ensures written { IsWritten self.new.work.core self.new.marks.items }
         ensures stopped { StopsAs self.new.work.core.program self.new.work.core.tree.root.bound nodes asked.now
             self.new.work.core.tree self.new.work.core.incumbent self.new.worst result }
         ensures first { IsFirstStop self.old.work.core.program self.old.work.core.tree.root.bound asked.now
             self.new.work.core.tree.log }
+        ensures asked { W.is_ready works.new (columns (reduced_of self.new.work.core))
+            × HasServed (splits_in self.new.work.core.tree.log) (W.state works.old) (W.state works.new) }
     {
         for _ in 0..nodes {
-            if let Some(stop) = self.turn(alloc) {
+            if let Some(stop) = self.turn(alloc, works) {
                 return stop;
             }
             if self.has_reached_gap(asked) {

@@ -28,17 +28,53 @@ fn mps_faults_stay(alloc: Global) -> bool {
     (open, known, later) == (None, Some(3), Some(3))
 }
 
-/// Line 4 has a byte that begins no token.
+/// Line 4 has a byte that begins no token. It is known as soon as that token has ended, and then stays.
 fn lp_faults_stay(alloc: Global) -> bool {
     let mut reader = LpReader::new(alloc);
-    let open = lp_line(&mut reader, "Min\n x\nST\n x ! 1");
-    let known = lp_line(&mut reader, "\nEnd\n");
-    let later = lp_line(&mut reader, "more\n");
+    let open = lp_line(&mut reader, "Min\n x\nST\n x !");
+    let known = lp_line(&mut reader, " ");
+    let later = lp_line(&mut reader, "1\nEnd\n");
     (open, known, later) == (None, Some(4), Some(4))
 }
 
-/// A fault is known behind the line feed of its line, and then stays.
+/// Behind how many bytes of a text a reader of LP texts knows its fault, where it takes one at a time; 0 where it knows
+/// none.
+fn known_behind(alloc: Global, text: &[u8]) -> usize {
+    let mut reader = LpReader::new(alloc);
+    for at in 0..text.len() {
+        if reader.feed(&text[at..at + 1]).is_err() {
+            return at + 1;
+        }
+    }
+    0
+}
+
+/// Where a token ends: before a blank, a mark or a comment that it doesn't go on with; a relation before a third byte;
+/// a number before what is no exponent; a section word where the word behind it ends. And at a line feed each token has
+/// ended.
+const ENDS: [(&[u8], usize); 12] = [
+    (b"x ", 2),
+    (b"x:", 2),
+    (b"x\\", 2),
+    (b"x", 0),
+    (b"Bounds\n", 7),
+    (b"Bounds x", 0),
+    (b"Bounds x ", 9),
+    (b"Bounds : ", 9),
+    (b"Subject To\n", 11),
+    (b"Min 1e+2 + ", 0),
+    (b"Min 1e+2 3 ", 11),
+    (b"Min <= ", 7),
+];
+
+/// A fault of free MPS is known behind the line feed of its line, that of an LP text behind its token, and then stays.
 #[test]
 fn known_faults_stay(rt: HostRuntime) {
     assert!(rt; mps_faults_stay(rt.alloc()) && lp_faults_stay(rt.alloc()));
+    for at in 0..ENDS.len() {
+        assert!(rt;
+            known_behind(rt.alloc(), ENDS[at].0) == ENDS[at].1,
+            "case {at}"
+        );
+    }
 }

@@ -76,7 +76,8 @@ pub(crate) fn take_split<R: Asks>(
     }
 }
 
-/// Judges the split that a rule gave, if it gave one: which, where it is accepted. `Err` comes where memory was refused.
+/// Judges the split that a rule gave, if it gave one: which, where it is accepted. `Err` comes where memory was
+/// refused.
 fn take_rule<R: Asks>(
     plugins: &mut Plugins<R>,
     core: &Core<'_>,

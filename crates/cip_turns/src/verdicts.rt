@@ -135,8 +135,8 @@ fn take_branched<R: Asks>(
     Ok(Verdict::Quiet)
 }
 
-/// Writes down that a handler said whether the point keeps its rows, which changes nothing. `Err` comes where memory was
-/// refused.
+/// Writes down that a handler said whether the point keeps its rows, which changes nothing. `Err` comes where memory
+/// was refused.
 fn take_word<R: Asks>(
     plugins: &mut Plugins<R>,
     core: &mut Core<'_>,

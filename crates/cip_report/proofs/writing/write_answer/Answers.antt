@@ -18,5 +18,5 @@ returns-in_err-write_body-clause-taken g c =
 pub returns-clause-taken : goal.returns-clause-taken
 returns-clause-taken g c =
     let word : c.as_bytes.result.now ≡ status_word (status_of c.args.program.now.row_names c.args.answer.now.ended) = c.as_bytes.ensures.value ∙ c.word.ensures c.args.program.now.row_names in
-    third_of_three c.write.result _ _ _ _ c.args.buffer.now _ _ _ _ _ _
-    (rw word at c.in_ok-write_line.ensures.taken) c.in_ok-write_body.ensures.taken c.write.ensures.taken
+    third_of_three c.write_end.result _ _ _ _ c.args.buffer.now _ _ _ _ _ _
+    (rw word at c.in_ok-write_line.ensures.taken) c.in_ok-write_body.ensures.taken c.write_end.ensures.taken

@@ -1,4 +1,4 @@
-use Rattle.std.proofs.Common.{◌≡◌, ◌∙◌, ℕ, List, IfSome, length, Option, ap, sym, subst}
+use Rattle.std.proofs.Common.{◌≡◌, ℕ, List, IfSome, length, Option, sym, subst}
 use Rattle.cip_rational.specs.Rational.{ℚ}
 use Rattle.cip_problem.specs.Program.{Program}
 use Rattle.cip_problem.specs.Log.{Entry}

@@ -9,7 +9,7 @@ returns-clause-solved c = λ nodes asked. record {
   root = c.root_bound.ensures.root;
   right = nothing_searched c.args.program.now c.root_bound.result c.root_bound.ensures.holds nodes asked;
   shown = λ ray e. absurd (cc);
-  met = none_met c.args.program.now c.root_bound.result [];
+  met = λ a. none_met c.args.program.now c.root_bound.result [];
 }
 
 pub returns-clause-first : goal.returns-clause-first

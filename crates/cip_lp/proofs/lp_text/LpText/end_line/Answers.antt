@@ -1,14 +1,14 @@
-use Rattle.std.proofs.Common.{◌+◌, ◌∙◌, sym}
-use Rattle.cip_line_stream.proofs.Streams.{line_ended_with}
-use Rattle.cip_lp_rules.specs.LpOutcome.{lp_reading}
-use Rattle.cip_lp.specs.LpTexts.{kept_of, stage_of}
+use Rattle.std.proofs.Common.{ℕ, ◌+◌, [], true, ap, ◌∙◌}
+use Rattle.cip_lp_stream.specs.LpBytes.{part_read}
+use Rattle.cip_lp.specs.LpTexts.{stage_of, bytes_of}
+use Rattle.cip_lp.proofs.ByteSteps.{taken_feed}
+use Rattle.cip_lp.proofs.LpAnswers.{moved}
 use Rattle.cip_lp.proofs.lp_text.LpText.end_line.Goals as goal
 
-pub returns-clause-reads : goal.returns-clause-reads
-returns-clause-reads c = λ s h.
-    let text = c.args.self.now in
-    let after = c.let_go.new.self in
-    let kind = c.in_ok-kind.kind in
-    line_ended_with lp_reading (kept_of text) (kept_of after) (stage_of text) (stage_of after) kind s c.args.tail.now c.requires.no_feed h
-    (λ none. c.in_ok-kind.ensures.read none ∙ sym (c.let_go.ensures.stage ((kept_of text).ended + 1)))
-    (c.let_go.ensures.kept ∙ c.end_line_with.ensures ∙ c.in_ok-kind.ensures.kept kind)
+pub returns : goal.returns
+returns c =
+    let now = c.args.self.now in
+    let then = c.read_rest.new.self in
+    moved then.fault (stage_of then) (part_read (bytes_of now)) (then.ended + 1) (now.ended + 1) true then.rest.items [] (then.size + 1) (now.size + 1) c.in_ok-read_rest.ensures.read
+    (ap (λ (n : ℕ). n + 1) c.read_rest.ensures.ended) c.in_ok-read_rest.ensures.rest (ap (λ (n : ℕ). n + 1) c.read_rest.ensures.size)
+    ∙ taken_feed now.fault (bytes_of now) c.args.byte c.requires.going c.requires.few c.requires.feed

@@ -19,5 +19,5 @@ pub returns-clause-nodes : goal.returns-clause-nodes
 returns-clause-nodes c = c.answer_at-answer.ensures.nodes ∙ ap length (sym c.take_log.ensures.entries)
 
 pub returns-clause-met : goal.returns-clause-met
-returns-clause-met c =
-    subst (λ log. AreMet c.args.self.work.core.program c.args.self.work.core.tree.root.bound log c.args.self.marks.items) (sym c.take_log.ensures.entries) c.requires.within.told.met
+returns-clause-met c = λ u.
+    subst (λ log. AreMet c.args.self.work.core.program c.args.self.work.core.tree.root.bound log c.args.self.marks.items) (sym c.take_log.ensures.entries) (c.requires.met u)

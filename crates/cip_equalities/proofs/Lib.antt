@@ -1,0 +1,6 @@
+pub mod FormsKept
+pub mod FormsOfRows
+pub mod RowsReplaced
+pub mod SourceSides
+pub mod Substituting
+pub mod TermsPut

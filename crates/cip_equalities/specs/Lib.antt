@@ -1,0 +1,3 @@
+pub mod ColumnForms
+pub mod FormEnds
+pub mod PutTerms

@@ -1,0 +1,86 @@
+//! The heuristic that dives.
+ghost use Rattle.std.specs.Prelude.{None, codes, length, IfOk};
+ghost use Rattle.cip_guides.specs.FullGuesses.{AreFull};
+
+use crate::dives::Dive;
+use crate::guesses::only_guess;
+use crate::shares::Share;
+use cip_frac::Frac;
+use cip_plugin::{Guess, Heuristic, Plugin, View};
+use std::alloc::{AllocError, Global};
+
+/// A heuristic: whole columns are fixed one after another near the values of the last point, those nearest to a whole
+/// number first, and then the continuous ones; behind each the sides that rows imply are taken. Where a row can't be
+/// kept a whole column gets the number next to it, up to 64 times. It does a bounded share of the nodes' work.
+#[derive(Drop)]
+pub struct DiveHeuristic {
+    dive: Dive,
+    share: Share,
+}
+
+impl DiveHeuristic {
+    /// One that was never called. It takes no memory.
+    pub fn new(alloc: Global) -> DiveHeuristic {
+        DiveHeuristic {
+            dive: Dive::new(alloc),
+            share: Share::new(),
+        }
+    }
+
+    /// Dives, and answers whether the box that is left may be a point of the program.
+    fn go(&mut self, view: &View<'_>, point: &[Frac]) -> Result<bool, AllocError> {
+        let before = self.share.left();
+        let is_there = self.dive.go(view, point, &mut self.share)?;
+        self.share.end(before);
+        Ok(is_there)
+    }
+
+    /// Whether a dive came to a point.
+    fn has_gone(&mut self, view: &View<'_>) -> Result<bool, AllocError> {
+        match view.point {
+            Some(point) if self.share.may_begin() => self.go(view, point),
+            _ => Ok(false),
+        }
+    }
+}
+
+impl Plugin for DiveHeuristic {
+    ghost told = { λ _. None };
+
+    ghost label = { λ _. codes "dive" };
+
+    fn name(&self) -> &str {
+        "dive"
+    }
+
+    fn priority(&self) -> i32 {
+        20
+    }
+
+    fn init(&mut self, _alloc: Global) -> Result<(), AllocError> {
+        Ok(())
+    }
+
+    fn init_solve(&mut self, _alloc: Global, view: &View<'_>) -> Result<(), AllocError> {
+        self.share.begin(view.own, view.costs.len());
+        self.dive.take(view)
+    }
+
+    fn exit_solve(&mut self) {
+        self.dive.calm();
+    }
+
+    fn exit(&mut self) {}
+}
+
+impl Heuristic for DiveHeuristic {
+    fn search(&mut self, alloc: Global, view: &View<'_>) -> Result<Vec<Guess>, AllocError>
+        ensures full { IfOk result (λ guesses. AreFull (length view.now.costs.now) guesses.items) }
+    {
+        if !self.has_gone(view)? {
+            return Ok(Vec::new(alloc));
+        }
+        let values = self.dive.values(alloc)?;
+        only_guess(alloc, view.costs.len(), values)
+    }
+}

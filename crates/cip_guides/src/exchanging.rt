@@ -1,0 +1,252 @@
+//! The heuristic that exchanges columns.
+ghost use Rattle.std.specs.Prelude.{None, codes, length, IfOk};
+ghost use Rattle.cip_guides.specs.FullGuesses.{AreFull};
+
+use crate::coefficients::coefficient;
+use crate::exchanges::{Move, Placed, step_of};
+use crate::guesses::only_guess;
+use crate::shares::Share;
+use crate::wholes::is_whole_at;
+use cip_frac::Frac;
+use cip_lin::Term;
+use cip_plugin::{Guess, Heuristic, Plugin, View};
+use cip_row_sums::{rough, short};
+use std::alloc::{AllocError, Global};
+
+/// A heuristic: the last point that was accepted, its columns moved to where they cost less, the costliest first, as
+/// far as each row goes. Where a row keeps a whole column from moving, another whole column of that row is moved by 1
+/// the other way, if both together cost less. It works once on each point, and does a bounded share of the nodes' work.
+#[derive(Drop)]
+pub struct ExchangeHeuristic {
+    placed: Placed,
+    order: Vec<(i64, u32)>,
+    share: Share,
+    held: Option<Frac>,
+    is_lost: bool,
+}
+
+/// A number, or minus that.
+fn signed(number: Frac, is_up: bool) -> Frac {
+    if is_up { number } else { number.neg() }
+}
+
+/// The cost of a column.
+fn cost_of(view: &View<'_>, col: u32) -> Frac {
+    match view.costs.get(col as usize) {
+        Some(cost) => *cost,
+        None => Frac::zero(),
+    }
+}
+
+/// A column by 1 up or down.
+fn unit(col: u32, is_up: bool) -> Move {
+    Move {
+        col,
+        by: signed(Frac::one(), is_up),
+    }
+}
+
+/// Whether two columns that are moved by 1 cost less together.
+fn costs_less(view: &View<'_>, first: (u32, bool), other: (u32, bool)) -> bool {
+    let cost = signed(cost_of(view, first.0), first.1);
+    match cost.add(signed(cost_of(view, other.0), other.1)) {
+        Ok(sum) => sum.is_negative(),
+        Err(_) => false,
+    }
+}
+
+/// Lists the columns with a cost, the costliest first.
+fn list_costs(costs: &[Frac], order: &mut Vec<(i64, u32)>) -> Result<(), AllocError> {
+    order.clear();
+    for col in 0..short(costs.len()) {
+        if let Some(cost) = costs.get(col as usize) {
+            if !cost.is_zero() {
+                order.push((rough(cost.abs()).wrapping_neg(), col))?;
+            }
+        }
+    }
+    order.sort_unstable();
+    Ok(())
+}
+
+impl ExchangeHeuristic {
+    /// One that was never called. It takes no memory.
+    pub fn new(alloc: Global) -> ExchangeHeuristic {
+        ExchangeHeuristic {
+            placed: Placed::new(alloc),
+            order: Vec::new(alloc),
+            share: Share::new(),
+            held: None,
+            is_lost: false,
+        }
+    }
+
+    /// Moves a column, and notes where that leaves the range.
+    fn go(&mut self, view: &View<'_>, step: Move) {
+        if !self.placed.go(view.own, step) {
+            self.is_lost = true;
+        }
+    }
+
+    /// Moves a column, and back again where a row isn't kept then. Answers whether it was moved.
+    fn shift(&mut self, view: &View<'_>, step: Move) -> bool {
+        let Move { col, by } = step;
+        self.go(view, step);
+        if self.placed.keeps(view, col) {
+            return true;
+        }
+        self.go(view, Move { col, by: by.neg() });
+        false
+    }
+
+    /// Moves two columns, and back again where a row isn't kept then. Answers whether they were moved.
+    fn shift_both(&mut self, view: &View<'_>, first: (u32, bool), other: (u32, bool)) -> bool {
+        self.go(view, unit(first.0, first.1));
+        self.go(view, unit(other.0, other.1));
+        if self.placed.keeps(view, first.0) && self.placed.keeps(view, other.0) {
+            return true;
+        }
+        self.go(view, unit(first.0, !first.1));
+        self.go(view, unit(other.0, !other.1));
+        false
+    }
+
+    /// Takes the work of looking at a column's rows, and answers whether it was there.
+    fn spend(&mut self, col: u32) -> bool {
+        let rows = self.placed.count(col).saturating_add(1);
+        !self.is_lost && self.share.spend(rows)
+    }
+
+    /// Moves a column and that of a term of a row together, where they cost less. The column has a coefficient in the
+    /// row. Answers whether they were moved.
+    fn exchange_with(
+        &mut self,
+        view: &View<'_>,
+        first: (u32, bool),
+        coef: Frac,
+        term: &Term,
+    ) -> bool {
+        if term.col == first.0 || !is_whole_at(view.whole, term.col) {
+            return false;
+        }
+        let rises = coef.is_positive() == first.1;
+        let other = (term.col, term.coef.is_positive() != rises);
+        if !costs_less(view, first, other) || !self.spend(first.0) || !self.spend(term.col) {
+            return false;
+        }
+        self.shift_both(view, first, other)
+    }
+
+    /// Moves a column together with another one of the row that keeps it. Answers whether they were moved.
+    fn exchange(&mut self, view: &View<'_>, first: (u32, bool), place: usize) -> bool {
+        let Some(row) = self.placed.row_of(view.own, first.0, place) else {
+            return false;
+        };
+        let Some(coef) = coefficient(row, first.0) else {
+            return false;
+        };
+        for term in row.terms() {
+            if !self.share.spend(1) || self.is_lost {
+                return false;
+            }
+            if self.exchange_with(view, first, coef, term) {
+                return true;
+            }
+        }
+        false
+    }
+
+    /// Moves a column to where it costs less, or with another one. Answers whether it was moved.
+    fn improve(&mut self, view: &View<'_>, col: u32) -> bool {
+        let is_up = cost_of(view, col).is_negative();
+        if !self.spend(col) {
+            return false;
+        }
+        let Some((reach, kept_by)) = self.placed.reach(view, col, is_up) else {
+            return false;
+        };
+        let step = step_of(view, col, reach);
+        if step.is_positive() {
+            let by = signed(step, is_up);
+            return self.shift(view, Move { col, by });
+        }
+        match kept_by {
+            Some(place) if is_whole_at(view.whole, col) => self.exchange(view, (col, is_up), place),
+            _ => false,
+        }
+    }
+
+    /// Moves all columns in their order, and answers whether one was moved and nothing left the range.
+    fn improve_all(&mut self, view: &View<'_>) -> bool {
+        let mut is_better = false;
+        for place in 0..self.order.len() {
+            let Some((_, col)) = self.order.get(place).copied() else {
+                return false;
+            };
+            if self.improve(view, col) {
+                is_better = true;
+            }
+        }
+        is_better && !self.is_lost
+    }
+
+    /// Works on a point, unless it was worked on before, or the share is spent. Answers whether it came to a better
+    /// one.
+    fn has_improved(&mut self, view: &View<'_>) -> Result<bool, AllocError> {
+        let Some(guess) = view.guess else {
+            return Ok(false);
+        };
+        if !self.share.may_begin() || view.held == self.held {
+            return Ok(false);
+        }
+        self.held = view.held;
+        self.is_lost = false;
+        if !self.placed.place(view.own, guess)? {
+            return Ok(false);
+        }
+        Ok(self.improve_all(view))
+    }
+}
+
+impl Plugin for ExchangeHeuristic {
+    ghost told = { λ _. None };
+
+    ghost label = { λ _. codes "exchange" };
+
+    fn name(&self) -> &str {
+        "exchange"
+    }
+
+    fn priority(&self) -> i32 {
+        10
+    }
+
+    fn init(&mut self, _alloc: Global) -> Result<(), AllocError> {
+        Ok(())
+    }
+
+    fn init_solve(&mut self, _alloc: Global, view: &View<'_>) -> Result<(), AllocError> {
+        self.share.begin(view.own, view.costs.len());
+        self.held = None;
+        list_costs(view.costs, &mut self.order)?;
+        self.placed.take(view)
+    }
+
+    fn exit_solve(&mut self) {
+        self.held = None;
+    }
+
+    fn exit(&mut self) {}
+}
+
+impl Heuristic for ExchangeHeuristic {
+    fn search(&mut self, alloc: Global, view: &View<'_>) -> Result<Vec<Guess>, AllocError>
+        ensures full { IfOk result (λ guesses. AreFull (length view.now.costs.now) guesses.items) }
+    {
+        if !self.has_improved(view)? {
+            return Ok(Vec::new(alloc));
+        }
+        let values = self.placed.values().to_vec(alloc)?;
+        only_guess(alloc, view.costs.len(), values)
+    }
+}

@@ -1,0 +1,110 @@
+//! The heuristic that rounds the last point.
+ghost use Rattle.std.specs.Prelude.{None, codes, length, IfOk};
+ghost use Rattle.cip_guides.specs.FullGuesses.{AreFull};
+
+use crate::guesses::only_guess;
+use crate::locks::Locks;
+use crate::wholes::nearest;
+use cip_frac::Frac;
+use cip_plugin::{Guess, Heuristic, Plugin, View};
+use std::alloc::{AllocError, Global};
+
+/// A heuristic: the last point, its whole columns rounded. A column goes to where no row keeps it from going, down
+/// before up; one that is kept both ways goes to the nearer whole number.
+#[derive(Drop)]
+pub struct RoundHeuristic {
+    locks: Locks,
+}
+
+/// Whether a column's value has to be rounded.
+fn is_fractional(whole: &[bool], col: usize, value: Frac) -> bool {
+    match whole.get(col) {
+        Some(is_whole) => *is_whole && !value.is_whole(),
+        None => false,
+    }
+}
+
+/// Whether a point has a whole column whose value isn't whole.
+fn has_fraction(whole: &[bool], point: &[Frac]) -> bool {
+    whole
+        .iter()
+        .zip(point)
+        .any(|(is_whole, value)| *is_whole && !value.is_whole())
+}
+
+impl RoundHeuristic {
+    /// One that was never called. It takes no memory.
+    pub fn new(alloc: Global) -> RoundHeuristic {
+        RoundHeuristic {
+            locks: Locks::new(alloc),
+        }
+    }
+
+    /// The value to which a column goes.
+    fn rounded(&self, col: usize, value: Frac) -> Frac {
+        match self.locks.is_free(col) {
+            (true, _) => value.rounded_down(),
+            (false, true) => value.rounded_up(),
+            _ => nearest(value),
+        }
+    }
+
+    /// The point with its whole columns rounded.
+    fn values(
+        &self,
+        alloc: Global,
+        whole: &[bool],
+        point: &[Frac],
+    ) -> Result<Vec<Frac>, AllocError> {
+        let mut values = Vec::new(alloc);
+        for col in 0..point.len() {
+            let value = point[col];
+            if is_fractional(whole, col, value) {
+                values.push(self.rounded(col, value))?;
+            } else {
+                values.push(value)?;
+            }
+        }
+        Ok(values)
+    }
+}
+
+impl Plugin for RoundHeuristic {
+    ghost told = { λ _. None };
+
+    ghost label = { λ _. codes "round" };
+
+    fn name(&self) -> &str {
+        "round"
+    }
+
+    fn priority(&self) -> i32 {
+        30
+    }
+
+    fn init(&mut self, _alloc: Global) -> Result<(), AllocError> {
+        Ok(())
+    }
+
+    fn init_solve(&mut self, _alloc: Global, view: &View<'_>) -> Result<(), AllocError> {
+        self.locks.take(view.own, view.costs.len())
+    }
+
+    fn exit_solve(&mut self) {}
+
+    fn exit(&mut self) {}
+}
+
+impl Heuristic for RoundHeuristic {
+    fn search(&mut self, alloc: Global, view: &View<'_>) -> Result<Vec<Guess>, AllocError>
+        ensures full { IfOk result (λ guesses. AreFull (length view.now.costs.now) guesses.items) }
+    {
+        match view.point {
+            Some(point) if has_fraction(view.whole, point) => {
+                let values = self.values(alloc, view.whole, point)?;
+                only_guess(alloc, view.costs.len(), values)
+            }
+            _ => Ok(Vec::new(alloc)),
+        }
+    }
+}

@@ -1,0 +1,72 @@
+//! How much work a heuristic may do, in terms of rows that it looks at.
+use cip_lin::Row;
+
+// How many passes over a program a heuristic may do at first, and with each call.
+const FIRST_PASSES: usize = 64;
+
+const MORE_PASSES: usize = 4;
+
+// The most that it may do at a time, and that each call adds.
+const MOST: usize = 1 << 20;
+
+const MOST_MORE: usize = 1 << 18;
+
+/// What is left of a heuristic's share. Each call adds some passes over the program, and work begins once there is as
+/// much as the last work took.
+#[derive(Clone, Copy, Debug)]
+pub(crate) struct Share {
+    pass: usize,
+    left: usize,
+    wanted: usize,
+}
+
+/// How many columns and terms a program has.
+fn size_of(own: &[Row], columns: usize) -> usize {
+    let mut size = columns;
+    for row in own {
+        size = size.saturating_add(row.terms().len());
+    }
+    size
+}
+
+impl Share {
+    /// Of no program.
+    pub(crate) fn new() -> Share {
+        Share {
+            pass: 0,
+            left: 0,
+            wanted: 0,
+        }
+    }
+
+    /// Begins with a program.
+    pub(crate) fn begin(&mut self, own: &[Row], columns: usize) {
+        self.pass = size_of(own, columns);
+        self.left = self.pass.saturating_mul(FIRST_PASSES).min(MOST);
+        self.wanted = 0;
+    }
+
+    /// Adds what a call adds, and answers whether work may begin.
+    pub(crate) fn may_begin(&mut self) -> bool {
+        let more = self.pass.saturating_mul(MORE_PASSES).min(MOST_MORE);
+        self.left = self.left.saturating_add(more).min(MOST);
+        self.left > 0 && self.left >= self.wanted
+    }
+
+    /// Takes so much, and answers whether it was there.
+    pub(crate) fn spend(&mut self, terms: usize) -> bool {
+        let is_there = terms <= self.left;
+        self.left = self.left.saturating_sub(terms);
+        is_there
+    }
+
+    /// How much is left.
+    pub(crate) fn left(&self) -> usize {
+        self.left
+    }
+
+    /// Notes what work took that began with so much.
+    pub(crate) fn end(&mut self, before: usize) {
+        self.wanted = before.saturating_sub(self.left).min(MOST);
+    }
+}

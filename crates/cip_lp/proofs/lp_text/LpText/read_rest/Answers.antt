@@ -1,0 +1,21 @@
+use Rattle.std.proofs.Common.{◌+◌, sym, ap, ◌∙◌}
+use Rattle.cip_line_texts.specs.LineStream.{Going}
+use Rattle.cip_line_stream.specs.PieceStands.{progress_of}
+use Rattle.cip_lp_rules.specs.LpTokens.{tokens_from}
+use Rattle.cip_lp_stream.specs.LpBytes.{tokens_read}
+use Rattle.cip_lp.specs.LinesRead as lines
+use Rattle.cip_lp.specs.LpTexts.{stage_of}
+use Rattle.cip_lp.proofs.LpAnswers.{after_is}
+use Rattle.cip_lp.proofs.lp_text.LpText.read_rest.Goals as goal
+
+pub returns-clause-read : goal.returns-clause-read
+returns-clause-read c =
+    let now = c.args.self.now in
+    let stage = lines.stage_of c.take_tokens.new.self in
+    let number = now.ended + 1 in
+    c.let_go.ensures.read
+    ∙ ap (λ f. progress_of f stage) c.fault_on-self.ensures
+    ∙ after_is number c.in_ok-kind.kind stage
+    ∙ sym (c.in_ok-kind.ensures.read number)
+    ∙ ap (tokens_read number (Going (stage_of now))) c.of-tokens.ensures
+    ∙ ap (λ bytes. tokens_read number (Going (stage_of now)) (tokens_from now.front bytes)) c.as_slice.ensures.value

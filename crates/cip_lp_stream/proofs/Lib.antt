@@ -1,0 +1,4 @@
+pub mod PartedPieces
+pub mod PartedTokens
+pub mod PieceEnds
+pub mod TakenTexts

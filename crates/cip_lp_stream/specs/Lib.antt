@@ -1,0 +1,3 @@
+pub mod LpBytes
+pub mod LpParts
+pub mod LpTakenTexts

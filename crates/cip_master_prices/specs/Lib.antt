@@ -1,0 +1,2 @@
+pub mod MasterTasks
+pub mod ShownSums

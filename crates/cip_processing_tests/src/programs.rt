@@ -1,0 +1,69 @@
+//! Programs of texts of free MPS.
+ghost use Rattle.std.specs.Prelude.{IsTrue};
+ghost use Rattle.std.specs.List.{All};
+ghost use Rattle.cip_problem.specs.NearSides.{IsNear, HasNearSides};
+ghost use Rattle.cip_core.specs.Beginning.{AreNearColumns};
+
+use cip_frac::Frac;
+use cip_lin::Sides;
+use cip_model::Program;
+use cip_mps::read_mps;
+use std::alloc::Global;
+
+/// Minimise -2a - b with 2a + 2b <= 3, each 0 or 1.
+pub(crate) const TWO_COLUMNS: &str =
+    "ROWS\n N COST\n L R\nCOLUMNS\n a COST -2 R 2\n b COST -1 R 2\nRHS\n RHS R 3\n\
+    BOUNDS\n BV B a\n BV B b\nENDATA\n";
+
+/// Minimise a with a >= 2 and a <= 1, whole from 0 to 5.
+pub(crate) const CROSSED_ROWS: &str =
+    "ROWS\n N COST\n G R\n L S\nCOLUMNS\n a COST 1 R 1\n a S 1\nRHS\n RHS R 2 S 1\n\
+    BOUNDS\n UI B a 5\nENDATA\n";
+
+/// Minimise a with 2a >= 3, whole from 0 to 2.
+pub(crate) const NARROW_COLUMN: &str =
+    "ROWS\n N COST\n G R\nCOLUMNS\n a COST 1 R 2\nRHS\n RHS R 3\n\
+    BOUNDS\n UI B a 2\nENDATA\n";
+
+/// The program of a text.
+pub(crate) fn program_of(alloc: Global, text: &str) -> Option<Program> {
+    match read_mps(alloc, text.as_bytes()) {
+        Ok(program) => Some(program),
+        Err(_) => None,
+    }
+}
+
+/// Whether a side, where it is there, has a size below 10^9.
+fn is_near(side: Option<Frac>) -> bool
+    ensures { IsTrue result → IsNear side }
+{
+    match side {
+        None => true,
+        Some(value) => value.abs() < Frac::from(1_000_000_000),
+    }
+}
+
+/// Whether both sides do.
+fn are_near(sides: Sides) -> bool
+    ensures { IsTrue result → HasNearSides sides }
+{
+    is_near(sides.low) && is_near(sides.high)
+}
+
+/// Whether the sides of all columns do.
+fn has_near_sides(program: &Program) -> bool
+    ensures { IsTrue result → All HasNearSides program.now.bounds }
+{
+    program
+        .bounds()
+        .as_slice()
+        .iter()
+        .all(|sides| are_near(*sides))
+}
+
+/// Whether a search can begin with these sides.
+pub(crate) fn has_near_columns(program: &Program) -> bool
+    ensures { IsTrue result → AreNearColumns program.now }
+{
+    has_near_sides(program)
+}

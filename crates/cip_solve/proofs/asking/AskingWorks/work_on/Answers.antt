@@ -1,0 +1,20 @@
+use Rattle.std.proofs.Common.{subst}
+use Rattle.cip_roster.specs.Wished.{Ran}
+use Rattle.cip_solve.specs.SplitsServed.{splits_by}
+use Rattle.cip_solve.proofs.Working.{done_worked}
+use Rattle.cip_solve.proofs.Serving.{used_served, served_then}
+use Rattle.cip_solve.proofs.asking.AskingWorks.work_on.Goals as goal
+
+pub returns-clause-ended : goal.returns-clause-ended
+returns-clause-ended g c = done_worked c.args.work.now.core c.process.new.work.core c.args.node c.in_ok-done.done c.in_ok-done.ensures.ended
+
+pub returns-clause-served : goal.returns-clause-served
+returns-clause-served g c =
+    let done = c.in_ok-done.done in
+    let kept = c.process.ensures.kept in
+    let a = g.R.Seated.state c.args.self.now.plugins.roster in
+    let b = g.R.Seated.state c.process.new.plugins.roster in
+    let e = g.R.Seated.state c.tell_end-told.new.plugins.roster in
+    served_then (splits_by done.end) a b e kept.sound.settled
+    (used_served c.args.node.number done.proposed done.end a b _ _ c.in_ok-done.ensures.used kept.run)
+    (subst (λ r. Ran (g.R.Seated.state r) e) c.take_judged-judged.ensures.frame.0 c.tell_end-told.ensures.run)

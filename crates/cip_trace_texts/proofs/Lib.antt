@@ -1,0 +1,2 @@
+pub mod FrontTexts
+pub mod TraceTexts
