@@ -68,6 +68,7 @@ RUNS = [
     (["solve", "M"], 0, THIRTEEN),
     (["solve", "--plain", "--nodes", "1000", "M"], 0, THIRTEEN),
     (["solve", "--gap=0", "M"], 0, THIRTEEN),
+    (["solve", "M", "--trace"], 0, THIRTEEN),
     ([], 2, USAGE),
     (["solve"], 2, USAGE),
     (["M"], 2, USAGE),

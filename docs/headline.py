@@ -6,8 +6,9 @@ what a definition speaks of, what that speaks of, and so on. A definition is an 
 record or a data type; lemmas that definitions rest on are not followed, since the check proves them.
 
 Without a word it prints each definition with the line that says it in words, file by file. --files prints the files
-with their counts, --table a table of crates for docs/ARCHITECTURE.md. A definition that is reached only through fields
-of these names (`work` where nothing is said: how a search worked, a part of the contract beside the headline) has a star.
+with their counts, --table a table of crates for docs/ARCHITECTURE.md. A definition that is reached only through these
+fields (`Runs.work` and `Runs.kit` where nothing is said: how a search worked, and what became of the plugins, two parts
+of the contract beside the headline) has a star.
 Types of code, and words of std and clap, end the way; they are named at the end."""
 import argparse
 import re
@@ -224,7 +225,7 @@ def roots():
         if line.startswith("ghost use "):
             note_use(file, line)
     contract = text[text.index("pub fn run<"):]
-    contract = contract[contract.index("ensures"):contract.index("\n{")]
+    contract = contract[contract.index("requires"):contract.index("\n{")]
     for word in words_of(contract):
         module, original, _ = file.names.get(word, (None, None, None))
         found = target(module, original)
@@ -233,7 +234,7 @@ def roots():
 
 
 def follow(starts, apart=()):
-    """All that is reached, without what only fields of these names speak of."""
+    """All that is reached, without what only these fields, each named as Record.field, speak of."""
     seen, waiting = {}, list(starts)
     while waiting:
         now = waiting.pop()
@@ -243,7 +244,7 @@ def follow(starts, apart=()):
         if now[0] != "specs":
             continue
         definition = file_of(now[1], now[2]).definitions[now[3]]
-        waiting += [found for name, found in reached_from(definition) if name not in apart]
+        waiting += [found for name, found in reached_from(definition) if f"{definition.name}.{name}" not in apart]
     return seen
 
 
@@ -280,7 +281,7 @@ def main():
     reader = argparse.ArgumentParser(description=__doc__, formatter_class=argparse.RawDescriptionHelpFormatter)
     reader.add_argument("--files", dest="how", action="store_const", const="files", default="all")
     reader.add_argument("--table", dest="how", action="store_const", const="table")
-    reader.add_argument("--apart", nargs="*", default=["work"])
+    reader.add_argument("--apart", nargs="*", default=["Runs.work", "Runs.kit"])
     asked = reader.parse_args()
     starts = list(roots())
     reached, figures = follow(starts), follow(starts, tuple(asked.apart))

@@ -2,7 +2,7 @@
 #![tactic(auto)]
 
 use cip_io::{HostSink, HostStore};
-use cip_main::{Plain, Words, run, say};
+use cip_main::{Plain, Words, no_plugins, run, say};
 use std::process::ExitCode;
 use std::{env, io};
 
@@ -20,8 +20,16 @@ fn main(rt: HostRuntime) -> ExitCode {
     let status = match words(&rt) {
         Ok(words) => {
             let mut store = HostStore::new(&rt);
+            let mut kit = no_plugins(rt.alloc());
             let mut logs = Vec::new(rt.alloc());
-            run(rt.alloc(), &words, &mut store, &mut out, &mut logs)
+            run(
+                rt.alloc(),
+                &words,
+                &mut store,
+                &mut out,
+                &mut kit,
+                &mut logs,
+            )
         }
         Err(fault) if fault.kind() == io::ErrorKind::OutOfMemory => say(&mut out, Plain::NoMemory),
         Err(_) => say(&mut out, Plain::Usage),

@@ -1,5 +1,5 @@
 -- The figures that are printed of an answer of the code are those of the answer that it stands for.
-use Rattle.std.proofs.Common.{◌≡◌, ◌≢◌, ℕ, List, Option, None, Some, refl, ap, subst}
+use Rattle.std.proofs.Common.{◌≡◌, ◌≢◌, ℕ, Bool, List, Option, None, Some, refl, ap, subst}
 use Rattle.std.specs.Prelude.{option_map}
 use Rattle.cip_rational.specs.Rational.{ℚ}
 use Rattle.cip_problem.specs.Program.{Program}
@@ -25,7 +25,7 @@ use Rattle.cip_report.specs.Answers.{status_of, overflow_of, printed_held, figur
 use Rattle.cip_leaf.specs.LeafAnswers.{shown_as}
 use Rattle.cip_endings.specs.AnswerOf.{ended_of, held_of, answer_of}
 use Rattle.cip_core.specs.Beginning.{root_value}
-use Rattle.cip_solve.specs.Solved.{IsSolved}
+use Rattle.cip_solve.specs.Solved.{IsSolvedBy}
 
 overflow_same : (rows : List (List ℕ)) (shown : Shown) → overflow_at rows (shown_as shown) ≡ overflow_of rows shown
 overflow_same rows (Place (Row number)) = refl
@@ -76,8 +76,8 @@ lacks (Wide leaf on shown) e = absurd (cc)
 lacks NoMemory e = refl
 
 -- a right answer has true figures
-pub are_true : (program : Program) (nodes : ℕ) (asked : Option ℚ) (log : List Entry) (marks : List (ℕ × Mark)) (answer : Answer) → IsWellFormed program → (r : IsSolved program nodes asked log marks (answer_of answer)) → AreTrue program (root_value program) r.start nodes asked log (figures_of program answer)
-are_true program nodes asked log marks answer formed r =
+pub are_true : (program : Program) (nodes : ℕ) (asked : Option ℚ) (alone : Bool) (log : List Entry) (marks : List (ℕ × Mark)) (answer : Answer) → IsWellFormed program → (r : IsSolvedBy program nodes asked alone log marks (answer_of answer)) → AreTrue program (root_value program) r.start nodes asked log (figures_of program answer)
+are_true program nodes asked alone log marks answer formed r =
     let box = root_value program in
     let least : NoMore box r.start = root_no_less program box r.start r.root.whole r.root.plain in
     let printable : IsPrintable program box r.start nodes asked log (answer_of answer) = record {

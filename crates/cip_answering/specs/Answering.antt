@@ -1,11 +1,12 @@
 -- What solving a program and reporting comes to: true figures were told to the sink, and a log was added. `Work` says
 -- that they are those of what a search found.
-use Rattle.std.specs.Prelude.{◌≡◌, ◌⊎◌, ◌++◌, ◌∷◌, [], ℕ, ◌≤◌, List, length, Option}
+use Rattle.std.specs.Prelude.{◌≡◌, ◌⊎◌, ◌++◌, ◌∷◌, [], ℕ, ◌≤◌, false, List, length, Option}
 use Rattle.cip_io.specs.Sink.{SinkTells}
 use Rattle.cip_rational.specs.Rational.{ℚ}
 use Rattle.cip_problem.specs.Program.{Program}
 use Rattle.cip_problem.specs.Log.{Entry}
-use Rattle.cip_answers.specs.Figures.{Status, NoMemory, Figures, exit_status, names_of, answer_text}
+use Rattle.cip_answers.specs.Figures.{Status, NoMemory, Figures, exit_status, names_of}
+use Rattle.cip_trace_texts.specs.TraceTexts.{Traced, traced_text}
 use Rattle.cip_search.specs.Headline.{AreTrue}
 use Rattle.cip_solve.specs.Logs.{entries_of}
 use Rattle.cip_solve.specs.declared.logs.Log.{Log}
@@ -14,9 +15,9 @@ use Rattle.cip_words.specs.Jobs.{Limits}
 use Rattle.cip_answering.specs.RootBox.{IsBoxBound, BeginsAt}
 use Rattle.cip_answering.specs.Saying.{Says}
 
--- the limits of a search, as its options say
+-- what is asked of a search, as its options say
 abbrev pub limits_of : Options → Limits
-limits_of options = record { nodes = options.nodes; gap = options.gap }
+limits_of options = record { nodes = options.nodes; gap = options.gap; plain = options.plain; trace = options.trace }
 
 -- one log was added, and these are its entries
 pub record AddsLog (logs logs_after : List Log) (entries : List Entry) : Type 0 where
@@ -35,8 +36,8 @@ IsLogged logs logs_after entries status =
     AddsLog logs logs_after entries ⊎ (AddsNone logs logs_after entries × (status ≡ NoMemory))
 
 -- there are figures that are true of the program beside the log that was added, if one was, within these limits, and
--- the sink was told them. The search began at the box bound, or at that rounded up where all costs are whole, and took
--- no more nodes than the budget allows
+-- the sink was told them, with the lines of the trace, if they are asked for. The search began at the box bound, or at
+-- that rounded up where all costs are whole, and took no more nodes than the budget allows
 pub record Answers
     (program : Program) (limits : Limits) (sink sink_after : SinkTells) (logs logs_after : List Log) (result : ℕ)
     : Type 0 where
@@ -45,7 +46,9 @@ pub record Answers
   pub start : Option ℚ
   pub entries : List Entry
   pub are_true : AreTrue program box start limits.nodes limits.gap entries figures
-  pub told : Says sink sink_after (answer_text (names_of program) figures) (exit_status figures.status) result
+  pub lines : List Traced
+  pub told : Says sink sink_after (traced_text (names_of program) figures lines) (exit_status figures.status) result
+  pub untraced : limits.trace ≡ false → lines ≡ []
   pub logged : IsLogged logs logs_after entries figures.status
   pub is_box : IsBoxBound program box
   pub begins : BeginsAt program box start

@@ -2,6 +2,7 @@
 -- the log of the search.
 use Rattle.std.specs.Prelude.{◌≡◌, ◌≢◌, ◌⊎◌, ◌++◌, ◌∷◌, [], ℕ, List, Option, None, option_map}
 use Rattle.cip_io.specs.Sink.{SinkTells}
+use Rattle.cip_events.specs.declared.traces.Trace.{Trace}
 use Rattle.cip_rational.specs.Rational.{ℚ}
 use Rattle.cip_problem.specs.Program.{Program}
 use Rattle.cip_problem.specs.Points.{printed}
@@ -17,7 +18,10 @@ use Rattle.cip_report.specs.declared.figures.Ended.TheVariants.{NoMemory as Lack
 use Rattle.cip_report.specs.declared.figures.Answer.{Answer}
 use Rattle.cip_endings.specs.AnswerOf.{answer_of}
 use Rattle.cip_core.specs.Beginning.{root_value}
-use Rattle.cip_solve.specs.Solved.{IsShownBeside, IsSolved}
+use Rattle.cip_report.specs.Traces.{kept_lines}
+use Rattle.cip_kits.specs.Kits.{Stock}
+use Rattle.cip_solve.specs.KitsServed.{is_alone, IsKitAfter}
+use Rattle.cip_solve.specs.Solved.{IsShownBeside, IsSolvedBy}
 use Rattle.cip_solve.specs.declared.logs.Log.{Log}
 use Rattle.cip_words.specs.Jobs.{Limits}
 use Rattle.cip_answering.specs.Answering.{AddsLog, AddsNone, Answers}
@@ -39,14 +43,18 @@ pub record AddsNoMarks (logs logs_after : List Log) (marks : List (ℕ × Mark))
 abbrev pub AreMarks : (logs logs_after : List Log) → List (ℕ × Mark) → Type 0
 AreMarks logs logs_after marks = AddsMarks logs logs_after marks ⊎ AddsNoMarks logs logs_after marks
 
--- an answer of a search, as it is held, is right beside the log that was added, if one was
+-- an answer of a search, as it is held, is right beside the log that was added, if one was; and so is what became of
+-- the kit
 pub record Searched
-    (program : Program) (limits : Limits) (logs logs_after : List Log) (answer : Answer) : Type 0 where
+    (program : Program) (limits : Limits) (logs logs_after : List Log) (stock stock_after : Stock) (answer : Answer)
+    : Type 0 where
   pub entries : List Entry
   pub marks : List (ℕ × Mark)
-  pub right : IsSolved program limits.nodes limits.gap entries marks (answer_of answer)
+  pub right :
+      IsSolvedBy program limits.nodes limits.gap (is_alone limits.plain stock) entries marks (answer_of answer)
   pub logged : AddsLog logs logs_after entries ⊎ (AddsNone logs logs_after entries × (answer.ended ≡ LacksMemory))
   pub marked : AreMarks logs logs_after marks
+  pub kit : IsKitAfter (is_alone limits.plain stock) limits.trace entries stock stock_after answer.trace
 
 -- ---- what is left of a search, as the figures say it
 
@@ -88,16 +96,20 @@ pub record TellsWhatIsLeft (program : Program) (start : Option ℚ) (log : List 
 -- true figures were told, and they are those of an answer that is right beside the log that was added, with the box
 -- bound as it was summed up. Of how it was searched `solved` says: from the root's bound on, with no more nodes than
 -- the budget allows; and nodes were split by bounds that are as good as those of their linear programs, unless a mark
--- says what a linear program met that showed nothing
+-- says what a linear program met that showed nothing. The lines that are told are those of the trace, and `kit` says
+-- what became of the plugins
 pub record Works
-    (program : Program) (limits : Limits) (sink sink_after : SinkTells) (logs logs_after : List Log) (result : ℕ)
-    : Type 0 where
+    (program : Program) (limits : Limits) (sink sink_after : SinkTells) (logs logs_after : List Log)
+    (stock stock_after : Stock) (result : ℕ) : Type 0 where
   pub answers : Answers program limits sink sink_after logs logs_after result
   pub same_box : answers.box ≡ root_value program
   pub marks : List (ℕ × Mark)
   pub marked : AreMarks logs logs_after marks
   pub found : ends.Answer
   pub is_printed : answers.figures ≡ figures_of program found
-  pub solved : IsSolved program limits.nodes limits.gap answers.entries marks found
+  pub solved : IsSolvedBy program limits.nodes limits.gap (is_alone limits.plain stock) answers.entries marks found
   pub same_start : solved.start ≡ answers.start
   pub left : TellsWhatIsLeft program answers.start answers.entries answers.figures
+  pub trace : Option Trace
+  pub lines_are : answers.lines ≡ kept_lines trace
+  pub kit : IsKitAfter (is_alone limits.plain stock) limits.trace answers.entries stock stock_after trace

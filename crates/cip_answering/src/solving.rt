@@ -1,32 +1,41 @@
 //! Solving a program and reporting.
-ghost use Rattle.std.specs.Prelude.{◌≡◌, ◌<◌, None};
+ghost use Rattle.std.specs.Prelude.{◌≡◌, ◌<◌};
 ghost use Rattle.cip_input.specs.LimitedModels.{IsLimited};
 ghost use Rattle.cip_answers.specs.Figures.{exit_status, names_of};
 ghost use Rattle.cip_trace_texts.specs.TraceTexts.{traced_text};
 ghost use Rattle.cip_report.specs.Answers.{figures_of, AnswerFits};
 ghost use Rattle.cip_report.specs.Traces.{kept_lines};
+ghost use Rattle.cip_kits.specs.Kits.{stock_of, IsFew};
 ghost use Rattle.cip_answering.specs.Answering.{limits_of};
 ghost use Rattle.cip_answering.specs.Saying.{Says};
 ghost use Rattle.cip_answering.specs.Work.{Searched, Works};
 
 use cip_io::{Failed, Sink};
 use cip_model::Program;
+use cip_plugin::{AnyPlugin, Kit, Tells};
 use cip_report::{Answer, report};
 use cip_solve::{Log, Options, solve, unsearched};
 use std::alloc::Global;
 
-/// Searches a program, and adds the log.
-fn search(alloc: Global, program: &Program, options: &Options, logs: &mut Vec<Log>) -> Answer
+/// Searches a program with the plugins of a kit, and adds the log.
+fn search(
+    alloc: Global,
+    program: &Program,
+    options: &Options,
+    kit: &mut Kit,
+    logs: &mut Vec<Log>,
+) -> Answer
     requires limited { IsLimited program.now }
     requires some { 0 < options.now.nodes }
-    ensures searched { Searched program.now (limits_of options.now) logs.old.items logs.new.items result }
-    ensures untraced { result.trace ≡ None }
+    requires few { IsFew (stock_of ⟦<AnyPlugin as Tells>⟧.who kit.old) }
+    ensures searched { Searched program.now (limits_of options.now) logs.old.items logs.new.items
+        (stock_of ⟦<AnyPlugin as Tells>⟧.who kit.old) (stock_of ⟦<AnyPlugin as Tells>⟧.who kit.new) result }
 {
     if logs.reserve(1).is_err() {
         return unsearched(program);
     }
     let mut log = Log::new(alloc);
-    let answer = solve(alloc, program, options, &mut log);
+    let answer = solve(alloc, program, options, kit, &mut log);
     let _ = logs.push(log);
     answer
 }
@@ -45,21 +54,25 @@ fn tell<K: Sink>(program: &Program, answer: &Answer, out: &mut K) -> u8
 }
 
 /// Solves a program as the options say, and writes what the search found, whatever the end: the point held, and the
-/// bound as the least of what is left. It answers the status of the end, or 5 where the sink failed. A search adds one
-/// log to `logs`, or none where memory was refused before it had room for one: then the answer is want of memory, with
-/// the bound of the root.
+/// bound as the least of what is left, with the lines of the trace, if they are asked for. It answers the status of the
+/// end, or 5 where the sink failed. A search adds one log to `logs`, or none where memory was refused before it had
+/// room for one: then the answer is want of memory, with the bound of the root. The plugins of the kit are done with
+/// behind it, unless the search goes without them, or memory was refused before a node was taken.
 pub fn solve_and_report<K: Sink>(
     alloc: Global,
     program: &Program,
     options: &Options,
+    kit: &mut Kit,
     out: &mut K,
     logs: &mut Vec<Log>,
 ) -> u8
     requires limited { IsLimited program.now }
     requires some { 0 < options.now.nodes }
+    requires few { IsFew (stock_of ⟦<AnyPlugin as Tells>⟧.who kit.old) }
     ensures { Works program.now (limits_of options.now) (K.tells out.old) (K.tells out.new)
-        logs.old.items logs.new.items result }
+        logs.old.items logs.new.items (stock_of ⟦<AnyPlugin as Tells>⟧.who kit.old)
+        (stock_of ⟦<AnyPlugin as Tells>⟧.who kit.new) result }
 {
-    let answer = search(alloc, program, options, logs);
+    let answer = search(alloc, program, options, kit, logs);
     tell(program, &answer, out)
 }

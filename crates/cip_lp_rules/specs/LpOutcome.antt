@@ -36,8 +36,8 @@ abbrev pub is_end : LpContext → Token → Bool
 is_end context (Opening End) = true
 is_end context other = false
 
--- how tokens are read: kind 8 is that of a text without End; and 12 stands for a text that is too long, whose first byte
--- too many comes behind the tokens as far as it
+-- how tokens are read: kind 8 is that of a text without End; and 12 stands for a text that is too long, whose first
+-- byte too many comes behind the tokens as far as it
 abbrev pub lp_tokens : Reading LpContext Token Program
 lp_tokens = record {
   items = line_tokens;

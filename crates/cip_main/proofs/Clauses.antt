@@ -21,21 +21,25 @@ use Rattle.cip_point.specs.declared.faults.PointFault.{PointFault}
 use Rattle.cip_words.specs.Jobs.{Limits, Job, Solve, Check}
 use Rattle.cip_answers.specs.Checks.{check_status}
 use Rattle.cip_model.specs.Verdicts.{verdict_of}
-use Rattle.cip_main.specs.declared.refusals.TextFault.{TextFault}
-use Rattle.cip_main.specs.declared.refusals.TextFault.TheVariants.{Model, Blocks, Point}
+use Rattle.cip_tasks.specs.declared.refusals.TextFault.{TextFault}
+use Rattle.cip_tasks.specs.declared.refusals.TextFault.TheVariants.{Model, Blocks, Point}
 use Rattle.cip_answers.specs.Figures.{NodeLimit, Gap, Wide, NoMemory as LacksMemory, exit_status}
 use Rattle.cip_search.specs.SearchEnds.{ReachesGap}
 use Rattle.cip_search.specs.Headline.{IsSpent, EndsWith, EndsItself}
 use Rattle.cip_search.proofs.Ends.{budgets_suffice}
-use Rattle.cip_main.specs.declared.plain.Plain.{Plain}
-use Rattle.cip_main.specs.declared.plain.Plain.TheVariants.{Usage, ReadFault, Refused, NoMemory}
+use Rattle.cip_tasks.specs.declared.plain.Plain.{Plain}
+use Rattle.cip_tasks.specs.declared.plain.Plain.TheVariants.{Usage, ReadFault, Refused, NoMemory}
 use Rattle.cip_answering.specs.Answering.{IsLogged}
 use Rattle.cip_answering.specs.Checking.{checked}
-use Rattle.cip_main.specs.Plain.{plain_status}
-use Rattle.cip_main.specs.Running.{Call, model_in, HasProgram, HasFault, IsStoreSound, IsSinkSound, GivesPlain, IsAnswered, IsChecked, TellsVerdict, ArePulled, BlocksAreRead, Ran, gives_plain, gives_figures, gives_verdict, IsStatus, write_fault, TellsTruth, Asks, AsksOf, AsksWith, AsksToCheck, RefusesBlocks, IsCutShort, Headline, BreaksSome, CheckClause, HasBlocksFault, HasPointFault, IsFirstFault, TellsModelFault, TellsBlockFault, TellsPointFault, UsageClause, behind_up_to, PullsToFault, ReadFaultClause, RefusedClause, WriteFaultClause, SpentLog, FiguresReachGap, GapLog, OverflowClause, MemoryClause, TellsWork, WorkClause, Runs}
+use Rattle.cip_tasks.specs.Plain.{plain_status}
+use Rattle.cip_events.specs.declared.traces.Trace.{Trace}
+use Rattle.cip_problem.specs.Log.{Entry}
+use Rattle.cip_kits.specs.Kits.{Stock}
+use Rattle.cip_solve.specs.KitsServed.{is_alone, IsKitAfter}
+use Rattle.cip_main.specs.Running.{Call, model_in, HasProgram, HasFault, IsStoreSound, IsSinkSound, GivesPlain, IsAnswered, IsChecked, TellsVerdict, ArePulled, BlocksAreRead, Ran, gives_plain, gives_figures, gives_verdict, IsStatus, write_fault, TellsTruth, Asks, AsksOf, AsksWith, AsksToCheck, RefusesBlocks, IsCutShort, Headline, BreaksSome, CheckClause, HasBlocksFault, HasPointFault, IsFirstFault, TellsModelFault, TellsBlockFault, TellsPointFault, UsageClause, behind_up_to, PullsToFault, ReadFaultClause, RefusedClause, WriteFaultClause, SpentLog, FiguresReachGap, GapLog, OverflowClause, MemoryClause, TellsWork, WorkClause, TellsKit, KitClause, Runs}
 use Rattle.cip_answering.specs.Saying.{Says}
-use Rattle.cip_main.specs.Tasks.{TaskCause, model_of, second_of, FailsBehind, HasFaultyModel, HasFaultyBlocks, HasFaultyPoint}
-use Rattle.cip_main.proofs.Readings.{told, some_job}
+use Rattle.cip_tasks.specs.Tasks.{TaskCause, model_of, second_of, FailsBehind, HasFaultyModel, HasFaultyBlocks, HasFaultyPoint}
+use Rattle.cip_tasks.proofs.Readings.{told, some_job}
 use Rattle.cip_main.proofs.Statuses.{says_usage, says_read_fault, says_refused, says_no_memory, plain_below_five, plain_not_one, plain_not_ten, plain_not_eleven, plain_not_thirteen, plain_is, is_breach, is_overflow, figures_not_one, figures_not_two, figures_not_three, figures_not_four, figures_not_five, is_spent, is_near, gap_by_word, is_wide, exit_is, verdict_not_two, verdict_not_three, verdict_not_four, verdict_not_five, verdict_not_six, verdict_not_ten, verdict_not_thirteen, verdict_is}
 
 -- ---- the status of a call
@@ -267,6 +271,36 @@ work_clause : (call : Call) (r : Ran call) → WorkOf call r → WorkClause call
 work_clause call (gives_plain answer g) w text limits program asks h = inr (headline_plain call answer g text limits program asks h)
 work_clause call (gives_figures a) w text limits program asks h = inl (work_figures call text limits program asks h a w)
 work_clause call (gives_verdict c) w text limits program asks h = absurd (solve_check asks.job c.asked)
+
+-- ---- the kit
+
+tells_kit : (call : Call) (program : Program) (limits : Limits) → TellsWork call program limits → TellsKit call program limits
+tells_kit call program limits w = record { truth = w.answers; trace = w.trace; lines_are = w.lines_are; served = w.kit }
+
+-- a search without plugins leaves the kit as it is
+left_alone : (plain kept : Bool) (entries : List Entry) (kit after : Stock) (trace : Option Trace) → IsKitAfter (is_alone plain kit) kept entries kit after trace → plain ≡ true → after ≡ kit
+left_alone true kept entries kit after trace k e = k.same
+left_alone false kept entries kit after trace k e = absurd (cc)
+
+kit_served : (call : Call) (r : Ran call) → WorkOf call r → (text : List ℕ) (limits : Limits) (program : Program) → Asks call text limits → HasProgram call text program → TellsKit call program limits ⊎ (RefusesBlocks call program ⊎ IsCutShort call)
+kit_served call (gives_plain answer g) w text limits program asks h = inr (headline_plain call answer g text limits program asks h)
+kit_served call (gives_figures a) w text limits program asks h = inl (tells_kit call program limits (work_figures call text limits program asks h a w))
+kit_served call (gives_verdict c) w text limits program asks h = absurd (solve_check asks.job c.asked)
+
+plain_kit : (call : Call) (r : Ran call) → WorkOf call r → (model : List ℕ) (blocks : Option (List ℕ)) (limits : Limits) → call.job ≡ Some (Solve model blocks limits) → limits.plain ≡ true → call.kit_after ≡ call.kit
+plain_kit call (gives_plain answer g) w model blocks limits e plain = g.same_kit
+plain_kit call (gives_figures a) w model blocks limits e plain =
+    let k = tells_kit call a.program a.limits w in
+    left_alone a.limits.plain a.limits.trace k.truth.entries call.kit call.kit_after k.trace k.served (ap (λ (l : Limits). l.plain) (same_limits a.asked e) ∙ plain)
+plain_kit call (gives_verdict c) w model blocks limits e plain = absurd (solve_check e c.asked)
+
+kit_unsearched : (call : Call) → Ran call → ((model : List ℕ) (blocks : Option (List ℕ)) (limits : Limits) → call.job ≢ Some (Solve model blocks limits)) → call.kit_after ≡ call.kit
+kit_unsearched call (gives_plain answer g) n = g.same_kit
+kit_unsearched call (gives_figures a) n = absurd (n a.model a.blocks a.limits a.asked)
+kit_unsearched call (gives_verdict c) n = c.verdict.same_kit
+
+kit_clause : (call : Call) (r : Ran call) → WorkOf call r → KitClause call
+kit_clause call r w = record { served = kit_served call r w; plain = plain_kit call r w; no_search = kit_unsearched call r }
 
 -- ---- checks
 
@@ -602,6 +636,7 @@ runs call r w = record {
   statuses = statuses call r;
   headline = headline call r;
   work = work_clause call r w;
+  kit = kit_clause call r w;
   check = check_clause call r;
   usage = usage_clause call r;
   read_fault = read_fault_clause call r;

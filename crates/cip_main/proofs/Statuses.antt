@@ -7,10 +7,10 @@ use Rattle.cip_leaves.specs.Leaf.{Leaf}
 use Rattle.cip_answers.specs.Figures.{Overflow, Status, Optimal, Infeasible, Unbounded, Wide, NodeLimit, Gap, NoMemory as LacksMemory, status_word, exit_status}
 use Rattle.cip_answers.proofs.AnswerTexts.{apart}
 use Rattle.cip_answers.specs.Checks.{Checked, Feasible, BreaksBound, BreaksWhole, BreaksRow, WideRow, WideCost, check_status}
-use Rattle.cip_main.specs.declared.refusals.TextFault.{TextFault}
-use Rattle.cip_main.specs.declared.plain.Plain.{Plain}
-use Rattle.cip_main.specs.declared.plain.Plain.TheVariants.{Usage, ReadFault, Refused, NoMemory}
-use Rattle.cip_main.specs.Plain.{plain_status}
+use Rattle.cip_tasks.specs.declared.refusals.TextFault.{TextFault}
+use Rattle.cip_tasks.specs.declared.plain.Plain.{Plain}
+use Rattle.cip_tasks.specs.declared.plain.Plain.TheVariants.{Usage, ReadFault, Refused, NoMemory}
+use Rattle.cip_tasks.specs.Plain.{plain_status}
 use Rattle.cip_problem.specs.Program.{Program}
 use Rattle.cip_model.specs.declared.verdicts.Place.{Place}
 use Rattle.cip_model.specs.declared.verdicts.Place.TheVariants as places

@@ -8,11 +8,11 @@ use Rattle.cip_block_rules.specs.BlockRules.{block_reading}
 use Rattle.cip_point_rules.specs.PointRules.{point_reading}
 use Rattle.cip_parts.specs.BlockParts.{Blocks as Parts}
 use Rattle.cip_input.specs.TextsRead.{ReadsText}
-use Rattle.cip_main.specs.declared.plain.Plain.{Plain}
+use Rattle.cip_tasks.specs.declared.plain.Plain.{Plain}
 use Rattle.cip_words.specs.Jobs.{Limits}
-use Rattle.cip_main.specs.Tasks.{TakesBlocks, IsSolve, IsCheck}
+use Rattle.cip_tasks.specs.Tasks.{TakesBlocks, IsSolve, IsCheck}
 use Rattle.cip_main.specs.Running.{Call, BlocksAreRead, IsPulledBehind, TellsWork, TellsVerdict, GivesPlain, gives_plain, gives_figures, gives_verdict, Runs}
-use Rattle.cip_main.proofs.Readings.{told, value_told}
+use Rattle.cip_tasks.proofs.Readings.{told, value_told}
 use Rattle.cip_main.proofs.Clauses.{runs}
 use Rattle.std.proofs.Common.{◌∙◌, ap, subst}
 

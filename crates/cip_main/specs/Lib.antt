@@ -1,4 +1,1 @@
-pub mod Plain
-pub mod Refusals
 pub mod Running
-pub mod Tasks

@@ -1,5 +1,5 @@
--- What a call of `run` does: by the words, what the store tells, what the sink took, and the logs.
-use Rattle.std.specs.Prelude.{◌≡◌, ◌≢◌, ◌⊎◌, ⊤, ℕ, ◌*◌, ◌-◌, ◌≤◌, max, List, [], ◌∷◌, ◌++◌, length}
+-- What a call of `run` does: by the words, what the store tells, what the sink took, the kit of plugins, and the logs.
+use Rattle.std.specs.Prelude.{◌≡◌, ◌≢◌, ◌⊎◌, ⊤, true, ℕ, ◌*◌, ◌-◌, ◌≤◌, max, List, [], ◌∷◌, ◌++◌, length}
 use Rattle.std.specs.Prelude.{Option, None, Some, IfSome}
 use Rattle.cip_io.specs.Faults.{Rose}
 use Rattle.cip_io.specs.Store.{StoreTells}
@@ -26,41 +26,49 @@ use Rattle.cip_model.specs.declared.verdicts.Verdict.{Verdict}
 use Rattle.cip_model.specs.declared.verdicts.Verdict.TheVariants as verdicts
 use Rattle.cip_solve.specs.declared.logs.Log.{Log}
 use Rattle.cip_solve.specs.Logs.{entries_of}
+use Rattle.cip_events.specs.declared.traces.Trace.{Trace}
+use Rattle.cip_report.specs.Traces.{kept_lines}
+use Rattle.cip_kits.specs.Kits.{Stock}
+use Rattle.cip_solve.specs.KitsServed.{is_alone, IsKitAfter}
 use Rattle.cip_blocks.specs.BlockKinds.{kind_number as block_kind_number}
 use Rattle.cip_blocks.specs.declared.faults.BlockFault.{BlockFault}
 use Rattle.cip_point.specs.PointKinds.{kind_number as point_kind_number}
 use Rattle.cip_point.specs.declared.faults.PointFault.{PointFault}
-use Rattle.cip_main.specs.declared.refusals.TextFault.{TextFault}
-use Rattle.cip_main.specs.declared.refusals.TextFault.TheVariants.{Model, Blocks, Point}
-use Rattle.cip_main.specs.declared.plain.Plain.{Plain}
-use Rattle.cip_main.specs.declared.plain.Plain.TheVariants.{Usage, ReadFault, Refused, NoMemory}
+use Rattle.cip_tasks.specs.declared.refusals.TextFault.{TextFault}
+use Rattle.cip_tasks.specs.declared.refusals.TextFault.TheVariants.{Model, Blocks, Point}
+use Rattle.cip_tasks.specs.declared.plain.Plain.{Plain}
+use Rattle.cip_tasks.specs.declared.plain.Plain.TheVariants.{Usage, ReadFault, Refused, NoMemory}
 use Rattle.cip_answering.specs.Answering.{Answers}
 use Rattle.cip_answering.specs.Checking.{checked}
 use Rattle.cip_answering.specs.Work.{Works}
-use Rattle.cip_main.specs.Plain.{plain_text, plain_status}
+use Rattle.cip_tasks.specs.Plain.{plain_text, plain_status}
 use Rattle.cip_answering.specs.Saying.{Says}
-use Rattle.cip_main.specs.Tasks.{TaskCause, model_of, second_of}
+use Rattle.cip_tasks.specs.Tasks.{TaskCause, model_of, second_of}
 
--- a call: the job that its words mean, if they are accepted; store, sink and logs before and after it; its status
+-- a call: the job that its words mean, if they are accepted; store, sink, kit and logs before and after it; its status
 pub record Call : Type 0 where
   pub job : Option Job
   pub store : StoreTells
   pub store_after : StoreTells
   pub sink : SinkTells
   pub sink_after : SinkTells
+  pub kit : Stock
+  pub kit_after : Stock
   pub logs : List Log
   pub logs_after : List Log
   pub status : ℕ
 
--- a call, from what the store and the sink told before and after it
+-- a call, from what the store, the sink and the kit told before and after it
 abbrev pub call_of : Option Job → (store store_after : StoreTells) → (sink sink_after : SinkTells)
-    → (logs logs_after : List Log) → (status : ℕ) → Call
-call_of job store store_after sink sink_after logs logs_after status = record {
+    → (kit kit_after : Stock) → (logs logs_after : List Log) → (status : ℕ) → Call
+call_of job store store_after sink sink_after kit kit_after logs logs_after status = record {
   job = job;
   store = store;
   store_after = store_after;
   sink = sink;
   sink_after = sink_after;
+  kit = kit;
+  kit_after = kit_after;
   logs = logs;
   logs_after = logs_after;
   status = status;
@@ -88,11 +96,13 @@ abbrev pub IsSinkSound : Call → Type 0
 IsSinkSound call = call.sink_after.faults ≡ call.sink.faults
 
 -- an answer without figures is given, for the cause that goes with it: the sink took exactly its text, and the status
--- is the answer's; or the sink failed, the status is 5, and it took a front part of the text. No search was made
+-- is the answer's; or the sink failed, the status is 5, and it took a front part of the text. No search was made, and
+-- the kit is as it was
 pub record GivesPlain (call : Call) (answer : Plain) : Type 0 where
   pub cause : TaskCause call.job call.store call.store_after answer
   pub tells : Says call.sink call.sink_after (plain_text answer) (plain_status answer) call.status
   pub no_search : call.logs_after ≡ call.logs
+  pub same_kit : call.kit_after ≡ call.kit
 
 -- true figures of the program were told to the sink, beside the log of a search within these limits
 abbrev pub TellsTruth : Call → Program → Limits → Type 0
@@ -100,12 +110,13 @@ TellsTruth call program limits =
     Answers program limits call.sink call.sink_after call.logs call.logs_after call.status
 
 -- what the test of a point says was told to the sink: exactly its text, with its status; it holds of the program and
--- the point, and no search was made
+-- the point, no search was made, and the kit is as it was
 pub record TellsVerdict (call : Call) (program : Program) (point : List ℚ) : Type 0 where
   pub tells : Says call.sink call.sink_after (check_text (checked program point)) (check_status (checked program point))
       call.status
   pub holds : VerdictHolds program point (verdict_of program point)
   pub no_search : call.logs_after ≡ call.logs
+  pub same_kit : call.kit_after ≡ call.kit
 
 -- no blocks are named, or this text, if it is told, has blocks of the program
 abbrev pub BlocksAreRead : Program → (blocks : Option (List ℕ)) → StoreTells → Type 0
@@ -413,7 +424,7 @@ MemoryClause call = call.status ≡ 6 → GivesPlain call NoMemory ⊎ IsAnswere
 -- held, and as the bound the least of what it left
 abbrev pub TellsWork : Call → Program → Limits → Type 0
 TellsWork call program limits =
-    Works program limits call.sink call.sink_after call.logs call.logs_after call.status
+    Works program limits call.sink call.sink_after call.logs call.logs_after call.kit call.kit_after call.status
 
 -- where the words ask for the program of a text, the figures that are told are those of what a search found; and where
 -- none are told, that is for what the headline says
@@ -422,12 +433,34 @@ WorkClause call =
     (text : List ℕ) (limits : Limits) (program : Program) → Asks call text limits → HasProgram call text program
     → TellsWork call program limits ⊎ (RefusesBlocks call program ⊎ IsCutShort call)
 
+-- true figures of the program were told to the sink, with the lines of a trace, if they are asked for. Where the words
+-- ask for a search without plugins, or the kit has none, nobody was called, the kit is as it was, and no line is told;
+-- else its plugins served in the search, and all are done with: or memory was refused before a node was taken
+pub record TellsKit (call : Call) (program : Program) (limits : Limits) : Type 0 where
+  pub truth : TellsTruth call program limits
+  pub trace : Option Trace
+  pub lines_are : truth.lines ≡ kept_lines trace
+  pub served :
+      IsKitAfter (is_alone limits.plain call.kit) limits.trace truth.entries call.kit call.kit_after trace
+
+-- where the words ask for the program of a text, that became of the kit; and where no figures are told, that is for
+-- what the headline says. Where they ask for a search without plugins, or for none, the kit is as it was
+pub record KitClause (call : Call) : Type 0 where
+  pub served : (text : List ℕ) (limits : Limits) (program : Program) → Asks call text limits
+      → HasProgram call text program → TellsKit call program limits ⊎ (RefusesBlocks call program ⊎ IsCutShort call)
+  pub plain : (model : List ℕ) (blocks : Option (List ℕ)) (limits : Limits)
+      → call.job ≡ Some (Solve model blocks limits) → limits.plain ≡ true → call.kit_after ≡ call.kit
+  pub no_search :
+      ((model : List ℕ) (blocks : Option (List ℕ)) (limits : Limits) → call.job ≢ Some (Solve model blocks limits))
+      → call.kit_after ≡ call.kit
+
 -- what holds of every call, part by part
 pub record Runs (call : Call) : Type 0 where
   pub ran : Ran call
   pub statuses : IsStatus call.status
   pub headline : Headline call
   pub work : WorkClause call
+  pub kit : KitClause call
   pub check : CheckClause call
   pub usage : UsageClause call
   pub read_fault : ReadFaultClause call

@@ -1,17 +1,13 @@
 //! `run`, all that the program `cip` does: words in, bytes out.
 #![tactic(auto)]
 
-mod laws;
-mod plain;
-mod refusals;
+mod bare;
 mod running;
-mod tasks;
 
+pub use bare::no_plugins;
 pub use cip_answering::{check_and_report, solve_and_report};
+pub use cip_plugin::Kit;
 pub use cip_solve::Log;
+pub use cip_tasks::{Plain, Task, TextFault, read_task, refusals_tell};
 pub use cip_words::Words;
-pub use laws::refusals_tell;
-pub use plain::{Plain, say};
-pub use refusals::TextFault;
-pub use running::run;
-pub use tasks::{Task, read_task};
+pub use running::{run, say};

@@ -1,14 +1,27 @@
 //! The whole way from the words and the store to the sink.
 ghost use Rattle.cip_words.specs.Jobs.{job_of};
+ghost use Rattle.cip_tasks.specs.Plain.{plain_text, plain_status};
+ghost use Rattle.cip_kits.specs.Kits.{stock_of, IsFew};
+ghost use Rattle.cip_answering.specs.Saying.{Says};
 ghost use Rattle.cip_main.specs.Running.{Runs, call_of};
 
-use crate::plain::say;
-use crate::tasks::{Task, read_task};
 use cip_answering::{check_and_report, solve_and_report};
-use cip_io::{Sink, Store};
-use cip_solve::Log;
+use cip_io::{Failed, Sink, Store};
+use cip_plugin::{AnyPlugin, Kit, Tells};
+use cip_solve::{Log, Options};
+use cip_tasks::{Plain, Task, read_task};
 use cip_words::Words;
 use std::alloc::Global;
+
+/// Writes an answer without figures; its status, or 5 where the sink failed.
+pub fn say<K: Sink>(out: &mut K, answer: Plain) -> u8
+    ensures { Says (K.tells out.old) (K.tells out.new) (plain_text answer) (plain_status answer) result }
+{
+    match answer.tell(out) {
+        Ok(()) => answer.status(),
+        Err(Failed) => 5,
+    }
+}
 
 /// Does all that the program does, and answers its exit status:
 ///
@@ -29,19 +42,41 @@ use std::alloc::Global;
 ///
 /// The texts are the model's, and then that of the blocks or of the point. A search adds one log to `logs`, or none
 /// where memory was refused before it had room for one. Blocks change nothing of the search.
+///
+/// The plugins of the kit serve in the search, whatever they answer, and all are done with behind it: what the answer
+/// says holds for every kit. With `--plain`, at `check`, and where no node is taken the kit stays as it is. With
+/// `--trace` the lines of what the plugins were called for are printed behind the figures.
 pub fn run<S: Store, K: Sink>(
     alloc: Global,
     words: &Words,
     store: &mut S,
     out: &mut K,
+    kit: &mut Kit,
     logs: &mut Vec<Log>,
 ) -> u8
+    requires few { IsFew (stock_of ⟦<AnyPlugin as Tells>⟧.who kit.old) }
     ensures { Runs (call_of (job_of words.now) (S.tells store.old) (S.tells store.new)
-        (K.tells out.old) (K.tells out.new) logs.old.items logs.new.items result) }
+        (K.tells out.old) (K.tells out.new)
+        (stock_of ⟦<AnyPlugin as Tells>⟧.who kit.old) (stock_of ⟦<AnyPlugin as Tells>⟧.who kit.new)
+        logs.old.items logs.new.items result) }
 {
     match read_task(alloc, words, store) {
-        Ok(Task::Solve { program, options }) => {
-            solve_and_report(alloc, &program, &options, out, logs)
+        Ok(
+            Task::Solve {
+                program,
+                nodes,
+                gap,
+                plain,
+                trace,
+            },
+        ) => {
+            let options = Options {
+                nodes,
+                gap,
+                plain,
+                trace,
+            };
+            solve_and_report(alloc, &program, &options, kit, out, logs)
         }
         Ok(Task::Check { program, point }) => check_and_report(&program, point.as_slice(), out),
         Err(answer) => say(out, answer),

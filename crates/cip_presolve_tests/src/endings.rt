@@ -3,7 +3,7 @@ use crate::programs::has_near_columns;
 use cip_frac::Frac;
 use cip_model::Program;
 use cip_report::{Answer, Ended, Held};
-use cip_solve::{Log, Options, solve};
+use cip_solve::{Alone, Log, Options, solve_by};
 use std::alloc::Global;
 
 /// What a search ends with: a least cost, or which word.
@@ -32,7 +32,9 @@ pub(crate) fn searched(alloc: Global, program: &Program) -> (Ending, Option<Held
     let options = Options {
         nodes: 10_000,
         gap: None,
+        plain: true,
+        trace: false,
     };
-    let answer = solve(alloc, program, &options, &mut Log::new(alloc));
+    let answer = solve_by(alloc, program, &options, &mut Alone, &mut Log::new(alloc));
     (ending_of(&answer), answer.best)
 }

@@ -42,7 +42,8 @@ pub(crate) fn last_kept(starts: &Starts, columns: usize) -> Last<'_> {
     }
 }
 
-/// What is told of a point that was offered and not taken: that it is no cheaper than the point held, if it is feasible.
+/// What is told of a point that was offered and not taken: that it is no cheaper than the point held, if it is
+/// feasible.
 fn told_of(core: &Core<'_>, point: &[Frac]) -> Option<EventKind>
     requires { length point.now ≡ columns core.now.program }
 {

@@ -4,7 +4,7 @@ ghost use Rattle.std.specs.Prelude.{◌<◌};
 use crate::row::Row;
 use crate::setup::Setup;
 use cip_io::MemorySink;
-use cip_main::{Log, run};
+use cip_main::{Log, no_plugins, run};
 use cip_node_bounds::Mark;
 use std::alloc::{AllocError, Global};
 use std::io;
@@ -35,8 +35,9 @@ fn outcome_of(
     let words = row.words(alloc, own)?;
     let mut store = row.store(alloc, setup, piece)?;
     let mut out = MemorySink::new(alloc, setup.room)?;
+    let mut kit = no_plugins(alloc);
     let mut logs = Vec::new(alloc);
-    let status = run(alloc, &words, &mut store, &mut out, &mut logs);
+    let status = run(alloc, &words, &mut store, &mut out, &mut kit, &mut logs);
     Ok(Outcome { status, out, logs })
 }
 

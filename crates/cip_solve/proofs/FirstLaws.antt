@@ -7,7 +7,8 @@ use Rattle.cip_problem.specs.Log.{Entry}
 use Rattle.cip_incumbent.specs.HeldPoint.{Holding}
 use Rattle.cip_tree.specs.Moves as tree
 use Rattle.cip_tree.specs.Nodes.{Nodes}
-use Rattle.cip_core.specs.KeptNodes.{cost_held}
+use Rattle.cip_search.specs.SearchState.{HasGivenBoxes}
+use Rattle.cip_core.specs.KeptNodes.{cost_held, state_of}
 use Rattle.cip_endings.specs.LeastBounds.{least_of, bound_held, flat}
 use Rattle.cip_endings.specs.Gaps.{reaches_gap}
 use Rattle.cip_endings.specs.Worst.{worst_bound}
@@ -33,9 +34,9 @@ far_there program start asked tree_ holding worst waiting bound k m e f near =
 pub same_log_longer : (old new : List Entry) → new ≡ old → IsLongerLog old new
 same_log_longer old new e = λ n h. ap (take n) e
 
-module _ (program : Program) (start asked : Option ℚ) where
+module _ (program : Program) (start asked : Option ℚ) (alone : Bool) where
   -- what is so behind a front part of a log is so where entries are added
-  pub short_on : (old new : List Entry) → IsLongerLog old new → (n : ℕ) → n ≤ length old → IsShortAt program start asked old n → IsShortAt program start asked new n
+  pub short_on : (old new : List Entry) → IsLongerLog old new → (n : ℕ) → n ≤ length old → IsShortAt program start asked alone old n → IsShortAt program start asked alone new n
   short_on old new f n h s = record {
     tree = s.tree;
     holding = s.holding;
@@ -43,18 +44,19 @@ module _ (program : Program) (start asked : Option ℚ) where
     still = s.still;
     logged = s.logged ∙ sym (f n h);
     short = s.short;
+    boxes = s.boxes;
   }
 
   -- behind no node but the last, where a turn stopped
-  pub first_stop : (old new : List Entry) → IsLongerLog old new → length new ≤ length old + 1 → ((n : ℕ) → 0 < n → n ≤ length old → IsShortAt program start asked old n) → IsFirstStop program start asked new
+  pub first_stop : (old new : List Entry) → IsLongerLog old new → length new ≤ length old + 1 → ((n : ℕ) → 0 < n → n ≤ length old → IsShortAt program start asked alone old n) → IsFirstStop program start asked alone new
   first_stop old new f h s = λ n p l.
       let b : n ≤ length old = omega (arith, l, h) in
       short_on old new f n b (s n p b)
 
   -- one node more, behind which it isn't reached
-  pub short_more : (old : List Entry) (tree_ : Nodes) (holding : Holding) (worst : Option Worst) → IsLongerLog old tree_.log → length tree_.log ≡ length old + 1 → IsStill program start tree_ holding worst → (HasReachedGap asked tree_ holding → ⊥) → ((n : ℕ) → 0 < n → n ≤ length old → IsShortAt program start asked old n) → (n : ℕ) → 0 < n → n ≤ length tree_.log → IsShortAt program start asked tree_.log n
-  short_more old tree_ holding worst f e k r s n p h = elim (le_or_next n (length old) (omega (arith, h, e))) [
-    | inl b ↦ short_on old tree_.log f n b (s n p b)
+  pub short_more : (old : List Entry) (tree_ : Nodes) (holding : Holding) (worst : Option Worst) → IsLongerLog old tree_.log → length tree_.log ≡ length old + 1 → IsStill program start tree_ holding worst → (HasReachedGap asked tree_ holding → ⊥) → (alone ≡ true → HasGivenBoxes program tree_.root.bound (state_of tree_ (cost_held holding) [])) → ((n : ℕ) → 0 < n → n ≤ length old → IsShortAt program start asked alone old n) → (n : ℕ) → 0 < n → n ≤ length tree_.log → IsShortAt program start asked alone tree_.log n
+  short_more old tree_ holding worst f e k r b s n p h = elim (le_or_next n (length old) (omega (arith, h, e))) [
+    | inl few ↦ short_on old tree_.log f n few (s n p few)
     | inr same ↦ record {
       tree = tree_;
       holding = holding;
@@ -62,6 +64,7 @@ module _ (program : Program) (start asked : Option ℚ) where
       still = k;
       logged = sym (take_all n tree_.log (omega (arith, same, e)));
       short = r;
+      boxes = b;
     }
   ]
     where
@@ -74,8 +77,8 @@ module _ (program : Program) (start asked : Option ℚ) where
       ]
 
   -- nothing was logged yet
-  pub none_short : (log : List Entry) → log ≡ [] → (n : ℕ) → 0 < n → n ≤ length log → IsShortAt program start asked log n
+  pub none_short : (log : List Entry) → log ≡ [] → (n : ℕ) → 0 < n → n ≤ length log → IsShortAt program start asked alone log n
   none_short log e n p h = absurd (omega (arith, p, h, ap length e))
 
-  pub first_of_none : IsFirstStop program start asked []
+  pub first_of_none : IsFirstStop program start asked alone []
   first_of_none = λ n p l. absurd (omega (arith, p, l))

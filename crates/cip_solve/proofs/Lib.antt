@@ -10,3 +10,4 @@ pub mod Serving
 pub mod TurnLaws
 pub mod Working
 pub mod WorkedNodes
+pub mod KitLaws

@@ -6,3 +6,4 @@ pub mod Solved
 pub mod SplitsServed
 pub mod Statements
 pub mod Stopping
+pub mod KitsServed

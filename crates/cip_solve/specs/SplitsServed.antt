@@ -33,8 +33,8 @@ splits_by (by.Ray point ray) = 0
 abbrev pub is_worker : Kind → Bool
 is_worker kind = asks kind Propagate || (asks kind Separate || asks kind Search)
 
--- some steps were taken; of each plugin that was on throughout and is of a kind that is asked for sides, rows or points,
--- they have at least so many calls that ask it
+-- some steps were taken; of each plugin that was on throughout and is of a kind that is asked for sides, rows or
+-- points, they have at least so many calls that ask it
 pub record HasServed (splits : ℕ) (before after : State) : Type 0 where
   pub steps : List Step
   pub run : Runs before steps after

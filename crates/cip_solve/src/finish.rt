@@ -212,7 +212,8 @@ pub(crate) fn search_from<W: Works>(
         log.new.marks.items (answer_of result) }
     ensures nodes { result.nodes ≡ length (entries_of log.new) }
     ensures untraced { result.trace ≡ None }
-    ensures first { StopsFirst work.entry.core.program options.now.gap (entries_of log.new) }
+    ensures first { (alone : Bool) → (alone ≡ true → W.asks ≡ false)
+        → StopsFirst work.entry.core.program options.now.gap alone (entries_of log.new) }
     ensures asked { W.is_ready works.new (columns (reduced_of work.entry.core))
         × HasServed (splits_in (entries_of log.new)) (W.state works.old) (W.state works.new) }
 {

@@ -5,6 +5,7 @@ mod asking;
 mod finish;
 mod laws;
 mod logs;
+mod outsets;
 mod solving;
 mod turns;
 mod works;

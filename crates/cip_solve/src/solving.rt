@@ -4,18 +4,23 @@ ghost use Rattle.cip_rational.specs.Rational.{ℚ};
 ghost use Rattle.cip_problem.specs.WellFormed.{columns};
 ghost use Rattle.cip_core.specs.Beginning.{AreNearColumns};
 ghost use Rattle.cip_endings.specs.AnswerOf.{answer_of};
+ghost use Rattle.cip_kits.specs.Kits.{stock_of, IsFew};
 ghost use Rattle.cip_solve.specs.FirstStops.{StopsFirst};
+ghost use Rattle.cip_solve.specs.KitsServed.{is_alone, IsKitAfter};
 ghost use Rattle.cip_solve.specs.Logs.{entries_of};
 ghost use Rattle.cip_solve.specs.Solved.{IsSolved, IsSolvedBy};
 ghost use Rattle.cip_solve.specs.SplitsServed.{splits_in, HasServed};
 
 use crate::finish::search_from;
 use crate::logs::Log;
+use crate::outsets::{Outset, set_out};
 use crate::works::{Alone, Works};
 use cip_core::root_bound;
 use cip_frac::Frac;
+use cip_kits::{end, is_bare};
 use cip_model::Program;
 use cip_node::NodeWork;
+use cip_plugin::{AnyPlugin, Kit, Tells};
 use cip_report::{Answer, Ended};
 use std::alloc::Global;
 
@@ -27,6 +32,10 @@ pub struct Options {
     /// The gap that is asked for, if one is, in the units of the cost: the search ends once a point is held, a bound is
     /// there, and the cost less the bound is in range, above 0 and at most this.
     pub gap: Option<Frac>,
+    /// Whether it goes without plugins, and leaves the kit that it is given as it is.
+    pub plain: bool,
+    /// Whether what the plugins were called for is told, line by line.
+    pub trace: bool,
 }
 
 /// The answer where memory is refused before a node is taken: want of memory, with the bound of the root.
@@ -34,7 +43,7 @@ pub fn unsearched(program: &Program) -> Answer
     ensures solved { (nodes : ℕ) (asked : Option ℚ) → IsSolved program.now nodes asked [] [] (answer_of result) }
     ensures nodes { result.nodes ≡ 0 }
     ensures trace { result.trace ≡ None }
-    ensures first { (asked : Option ℚ) → StopsFirst program.now asked [] }
+    ensures first { (asked : Option ℚ) (alone : Bool) → StopsFirst program.now asked alone [] }
 {
     Answer {
         ended: Ended::NoMemory,
@@ -47,9 +56,9 @@ pub fn unsearched(program: &Program) -> Answer
 
 /// Searches for a feasible point of least cost, over at most so many nodes, by what works on them: with plugins,
 /// whatever these answer, or without. What was done is left in the log, in place of what it held. After each node has
-/// ended, and before the next is taken, it is seen whether the gap that was asked for is reached, and then the answer is
-/// `Gap`: behind no earlier node does the log settle that it was. Else it is `NodeLimit` exactly where as many nodes were
-/// taken and an open one matters; and `NoMemory` where memory was refused, with the point that was found by then.
+/// ended, and before the next is taken, it is seen whether the gap that was asked for is reached, and then the answer
+/// is `Gap`: behind no earlier node does the log settle that it was. Else it is `NodeLimit` exactly where as many nodes
+/// were taken and an open one matters; and `NoMemory` where memory was refused, with the point that was found by then.
 pub fn solve_by<W: Works>(
     alloc: Global,
     program: &Program,
@@ -65,7 +74,8 @@ pub fn solve_by<W: Works>(
         (answer_of result) }
     ensures nodes { result.nodes ≡ length (entries_of log.new) }
     ensures trace { result.trace ≡ None }
-    ensures first { StopsFirst program.now options.now.gap (entries_of log.new) }
+    ensures first { (alone : Bool) → (alone ≡ true → W.asks ≡ false)
+        → StopsFirst program.now options.now.gap alone (entries_of log.new) }
     ensures asked { W.is_ready works.new (columns program.now)
         × HasServed (splits_in (entries_of log.new)) (W.state works.old) (W.state works.new) }
 {
@@ -84,15 +94,71 @@ pub fn solve_by<W: Works>(
     }
 }
 
-/// Searches so without plugins, as the work on nodes goes by itself.
-pub fn solve(alloc: Global, program: &Program, options: &Options, log: &mut Log) -> Answer
+/// Searches so with the plugins of a kit. Where memory is refused before a node is taken, nobody was called.
+fn solve_with(
+    alloc: Global,
+    program: &Program,
+    options: &Options,
+    kit: &mut Kit,
+    log: &mut Log,
+) -> Answer
     requires near { AreNearColumns program.now }
     requires some { 0 < options.now.nodes }
-    ensures solved { IsSolved program.now options.now.nodes options.now.gap (entries_of log.new) log.new.marks.items
-        (answer_of result) }
+    requires few { IsFew (stock_of ⟦<AnyPlugin as Tells>⟧.who kit.old) }
+    ensures solved { IsSolvedBy program.now options.now.nodes options.now.gap false (entries_of log.new)
+        log.new.marks.items (answer_of result) }
     ensures nodes { result.nodes ≡ length (entries_of log.new) }
-    ensures trace { result.trace ≡ None }
-    ensures first { StopsFirst program.now options.now.gap (entries_of log.new) }
+    ensures first { StopsFirst program.now options.now.gap false (entries_of log.new) }
+    ensures kit { IsKitAfter false options.now.trace (entries_of log.new) (stock_of ⟦<AnyPlugin as Tells>⟧.who kit.old)
+        (stock_of ⟦<AnyPlugin as Tells>⟧.who kit.new) result.trace }
 {
-    solve_by(alloc, program, options, &mut Alone, log)
+    log.taken.clear();
+    log.marks.clear();
+    let Ok(outset) = set_out(alloc, program, kit, options.trace) else {
+        return unsearched(program);
+    };
+    let Outset {
+        work,
+        mut asking,
+        point,
+    } = outset;
+    let mut answer = search_from(work, &mut asking, alloc, options, point, log);
+    answer.trace = end(alloc, kit, &mut asking.plugins.roster, options.trace);
+    answer
+}
+
+/// Whether nobody is asked in a search: it is to go without plugins, or the kit has none.
+fn goes_alone(options: &Options, kit: &Kit) -> bool
+    ensures { result ≡ is_alone options.now.plain (stock_of ⟦<AnyPlugin as Tells>⟧.who kit.now) }
+{
+    options.plain || is_bare(kit)
+}
+
+/// Searches so with the plugins of a kit, whatever these answer; without, where that is asked for or the kit has none:
+/// then the kit is left as it is. Else all its plugins are done with behind the search, and the answer has the lines of
+/// the trace, if they are asked for.
+pub fn solve(
+    alloc: Global,
+    program: &Program,
+    options: &Options,
+    kit: &mut Kit,
+    log: &mut Log,
+) -> Answer
+    requires near { AreNearColumns program.now }
+    requires some { 0 < options.now.nodes }
+    requires few { IsFew (stock_of ⟦<AnyPlugin as Tells>⟧.who kit.old) }
+    ensures solved { IsSolvedBy program.now options.now.nodes options.now.gap
+        (is_alone options.now.plain (stock_of ⟦<AnyPlugin as Tells>⟧.who kit.old)) (entries_of log.new)
+        log.new.marks.items (answer_of result) }
+    ensures nodes { result.nodes ≡ length (entries_of log.new) }
+    ensures first { StopsFirst program.now options.now.gap
+        (is_alone options.now.plain (stock_of ⟦<AnyPlugin as Tells>⟧.who kit.old)) (entries_of log.new) }
+    ensures kit { IsKitAfter (is_alone options.now.plain (stock_of ⟦<AnyPlugin as Tells>⟧.who kit.old))
+        options.now.trace (entries_of log.new) (stock_of ⟦<AnyPlugin as Tells>⟧.who kit.old)
+        (stock_of ⟦<AnyPlugin as Tells>⟧.who kit.new) result.trace }
+{
+    if goes_alone(options, kit) {
+        return solve_by(alloc, program, options, &mut Alone, log);
+    }
+    solve_with(alloc, program, options, kit, log)
 }

@@ -1,5 +1,5 @@
 //! A search over the nodes, from one to the next.
-ghost use Rattle.std.specs.Prelude.{◌≡◌, ℕ, ◌+◌, ◌<◌, ◌≤◌, true, false, Option, [], ◌++◌, length, MatchOption};
+ghost use Rattle.std.specs.Prelude.{◌≡◌, ℕ, ◌+◌, ◌<◌, ◌≤◌, Bool, true, false, Option, [], ◌++◌, length, MatchOption};
 ghost use Rattle.std.specs.Prelude.{vec_len, vec_capacity};
 ghost use Rattle.cip_rational.specs.Rational.{ℚ};
 ghost use Rattle.cip_problem.specs.WellFormed.{columns};
@@ -160,6 +160,7 @@ impl<'a> Search<'a> {
         requires standing { IsStanding self.old.work.core self.old.worst }
         requires written { IsWritten self.old.work.core self.old.marks.items }
         requires empty { self.old.work.core.tree.log ≡ [] }
+        requires plain { self.old.work.core.touched ≡ false }
         requires ready { W.is_ready works.old (columns (reduced_of self.old.work.core)) }
         ensures same { (self.new.work.core.program ≡ self.old.work.core.program)
             × (self.new.work.core.tree.root ≡ self.old.work.core.tree.root)
@@ -168,7 +169,8 @@ impl<'a> Search<'a> {
         ensures written { IsWritten self.new.work.core self.new.marks.items }
         ensures stopped { StopsAs self.new.work.core.program self.new.work.core.tree.root.bound nodes asked.now
             self.new.work.core.tree self.new.work.core.incumbent self.new.worst result }
-        ensures first { IsFirstStop self.old.work.core.program self.old.work.core.tree.root.bound asked.now
+        ensures first { (alone : Bool) → (alone ≡ true → W.asks ≡ false)
+            → IsFirstStop self.old.work.core.program self.old.work.core.tree.root.bound asked.now alone
             self.new.work.core.tree.log }
         ensures asked { W.is_ready works.new (columns (reduced_of self.new.work.core))
             × HasServed (splits_in self.new.work.core.tree.log) (W.state works.old) (W.state works.new) }

@@ -4,7 +4,7 @@ use crate::programs::{has_near_columns, program_of};
 use cip_frac::Frac;
 use cip_model::Program;
 use cip_report::{Answer, Ended};
-use cip_solve::{Log, Options, solve};
+use cip_solve::{Alone, Log, Options, solve_by};
 use std::alloc::Global;
 
 /// How many programs are drawn.
@@ -225,8 +225,10 @@ fn searched(alloc: Global, program: &Program) -> Ending {
     let options = Options {
         nodes: 10_000,
         gap: None,
+        plain: true,
+        trace: false,
     };
-    ending_of(&solve(alloc, program, &options, &mut Log::new(alloc)))
+    ending_of(&solve_by(alloc, program, &options, &mut Alone, &mut Log::new(alloc)))
 }
 
 fn searched_text(alloc: Global, text: &str) -> Ending {

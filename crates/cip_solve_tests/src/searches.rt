@@ -5,7 +5,7 @@ use cip_leaf::Shown;
 use cip_model::{Place, Program};
 use cip_node_bounds::Mark;
 use cip_report::{Answer, Ended, Held};
-use cip_solve::{Log, Options, solve, unsearched};
+use cip_solve::{Alone, Log, Options, solve_by, unsearched};
 use cip_tree::{End, Logged};
 use std::alloc::Global;
 
@@ -252,8 +252,10 @@ fn is_searched(alloc: Global, program: &Program, log: &mut Log, case: &Case) -> 
     let options = Options {
         nodes: case.nodes,
         gap: None,
+        plain: true,
+        trace: false,
     };
-    is_answer(&solve(alloc, program, &options, log), case) && has(log, case.told)
+    is_answer(&solve_by(alloc, program, &options, &mut Alone, log), case) && has(log, case.told)
 }
 
 /// Searches a program, with a log that has nothing yet.

@@ -3,7 +3,7 @@ use cip_words::{Job, Words, WordsFault};
 use std::alloc::Global;
 
 /// Words, and how many nodes they ask for at most, over the text `M`; 0 where they are refused.
-const CASES: [(&[&str], u64); 30] = [
+const CASES: [(&[&str], u64); 32] = [
     (&["solve", "M"], 1_000_000),
     (&["solve", "M", "--nodes", "5"], 5),
     (&["solve", "--nodes=7", "--plain", "M"], 7),
@@ -37,6 +37,16 @@ const CASES: [(&[&str], u64); 30] = [
     (&["solve", "M", "--gap", "x"], 0),
     (&["solve", "M", "--gap", "-1"], 0),
     (&["solve", "M", "--gap=-1"], 0),
+    (&["solve", "M", "--trace=true"], 0),
+    (&["solve", "M", "--trace", "--trace"], 0),
+];
+
+/// Words, and whether they ask for a plain search, and for a trace.
+const FLAGS: [(&[&str], bool, bool); 4] = [
+    (&["solve", "M"], false, false),
+    (&["solve", "M", "--plain"], true, false),
+    (&["solve", "--trace", "M"], false, true),
+    (&["solve", "M", "--trace", "--gap=1", "--plain"], true, true),
 ];
 
 /// Whether these words ask for so many nodes at most, over the text `M`; 0 where they are refused.
@@ -45,9 +55,8 @@ fn asks(words: &Words, nodes: u64) -> bool {
         Ok(
             Job::Solve {
                 model,
-                blocks: _,
                 nodes: told,
-                gap: _,
+                ..
             },
         ) => model == "M" && told == nodes,
         Ok(Job::Check { .. }) => false,
@@ -55,21 +64,57 @@ fn asks(words: &Words, nodes: u64) -> bool {
     }
 }
 
-fn are_read(alloc: Global, list: &[&str], nodes: u64) -> bool {
-    let Ok(mut words) = Words::new(alloc) else {
-        return false;
-    };
-    for word in list {
-        if words.add(word).is_err() {
-            return false;
-        }
+/// Whether these words ask for a plain search, and for a trace, as is said.
+fn has_flags(words: &Words, plain: bool, trace: bool) -> bool {
+    match words.job() {
+        Ok(
+            Job::Solve {
+                plain: told,
+                trace: traced,
+                ..
+            },
+        ) => told == plain && traced == trace,
+        _ => false,
     }
-    asks(&words, nodes)
+}
+
+/// The words of a list; `None` where memory is refused.
+fn words_of(alloc: Global, list: &[&str]) -> Option<Words> {
+    let mut words = Words::new(alloc).ok()?;
+    for word in list {
+        words.add(word).ok()?;
+    }
+    Some(words)
+}
+
+fn are_read(alloc: Global, list: &[&str], nodes: u64) -> bool {
+    match words_of(alloc, list) {
+        Some(words) => asks(&words, nodes),
+        None => false,
+    }
+}
+
+fn flags_are_read(alloc: Global, list: &[&str], plain: bool, trace: bool) -> bool {
+    match words_of(alloc, list) {
+        Some(words) => has_flags(&words, plain, trace),
+        None => false,
+    }
 }
 
 #[test]
 fn words_are_read(rt: HostRuntime) {
     for at in 0..CASES.len() {
         assert!(rt; are_read(rt.alloc(), CASES[at].0, CASES[at].1), "case {at}");
+    }
+}
+
+#[test]
+fn flags_are_told(rt: HostRuntime) {
+    for at in 0..FLAGS.len() {
+        let (words, plain, trace) = FLAGS[at];
+        assert!(rt;
+            flags_are_read(rt.alloc(), words, plain, trace),
+            "case {at}"
+        );
     }
 }

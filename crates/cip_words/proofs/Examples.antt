@@ -1,27 +1,40 @@
 -- Words and the jobs that they mean, computed.
-use Rattle.std.specs.Prelude.{◌≡◌, [], ◌∷◌, None, Some, refl}
+use Rattle.std.specs.Prelude.{◌≡◌, true, false, [], ◌∷◌, None, Some, refl}
 use lib.Chars.{codes}
 use Rattle.clap.proofs.OnLiterals.{clap_on_literals}
 use Rattle.cip_words.specs.Jobs.{Solve, Check, cip_command, job_of}
 
 -- `solve` and a name ask for the usual number of nodes
-pub usual : job_of (codes "solve" ∷ codes "M" ∷ []) ≡ Some (Solve (codes "M") None (record { nodes = 1000000; gap = None }))
+pub usual : job_of (codes "solve" ∷ codes "M" ∷ []) ≡ Some (Solve (codes "M") None (record { nodes = 1000000; gap = None; plain = false; trace = false }))
 unfolding clap_on_literals cip_command job_of
 usual = refl
 
 -- as many nodes as `--nodes` says, before the name or behind it
-pub five : job_of (codes "solve" ∷ codes "--nodes=5" ∷ codes "M" ∷ []) ≡ Some (Solve (codes "M") None (record { nodes = 5; gap = None }))
+pub five : job_of (codes "solve" ∷ codes "--nodes=5" ∷ codes "M" ∷ []) ≡ Some (Solve (codes "M") None (record { nodes = 5; gap = None; plain = false; trace = false }))
 unfolding clap_on_literals cip_command job_of
 five = refl
 
-pub most : job_of (codes "solve" ∷ codes "M" ∷ codes "--nodes" ∷ codes "1099511627776" ∷ []) ≡ Some (Solve (codes "M") None (record { nodes = 1099511627776; gap = None }))
+pub most : job_of (codes "solve" ∷ codes "M" ∷ codes "--nodes" ∷ codes "1099511627776" ∷ []) ≡ Some (Solve (codes "M") None (record { nodes = 1099511627776; gap = None; plain = false; trace = false }))
 unfolding clap_on_literals cip_command job_of
 most = refl
 
--- `--plain` changes nothing of the job
-pub plain : job_of (codes "solve" ∷ codes "M" ∷ codes "--plain" ∷ []) ≡ Some (Solve (codes "M") None (record { nodes = 1000000; gap = None }))
+-- plainly, with a trace, and both
+pub plain : job_of (codes "solve" ∷ codes "M" ∷ codes "--plain" ∷ []) ≡ Some (Solve (codes "M") None (record { nodes = 1000000; gap = None; plain = true; trace = false }))
 unfolding clap_on_literals cip_command job_of
 plain = refl
+
+pub trace : job_of (codes "solve" ∷ codes "--trace" ∷ codes "M" ∷ []) ≡ Some (Solve (codes "M") None (record { nodes = 1000000; gap = None; plain = false; trace = true }))
+unfolding clap_on_literals cip_command job_of
+trace = refl
+
+pub plain_and_trace : job_of (codes "solve" ∷ codes "M" ∷ codes "--trace" ∷ codes "--plain" ∷ []) ≡ Some (Solve (codes "M") None (record { nodes = 1000000; gap = None; plain = true; trace = true }))
+unfolding clap_on_literals cip_command job_of
+plain_and_trace = refl
+
+-- a value of `--trace` is refused
+pub trace_with_value : job_of (codes "solve" ∷ codes "M" ∷ codes "--trace=true" ∷ []) ≡ None
+unfolding clap_on_literals cip_command job_of
+trace_with_value = refl
 
 -- no nodes, or more than the most, are refused
 pub no_nodes : job_of (codes "solve" ∷ codes "M" ∷ codes "--nodes" ∷ codes "0" ∷ []) ≡ None
@@ -75,7 +88,7 @@ unfolding clap_on_literals cip_command job_of
 version = refl
 
 -- the blocks of a text, and a point that is to be checked
-pub blocks : job_of (codes "solve" ∷ codes "M" ∷ codes "--blocks" ∷ codes "B" ∷ []) ≡ Some (Solve (codes "M") (Some (codes "B")) (record { nodes = 1000000; gap = None }))
+pub blocks : job_of (codes "solve" ∷ codes "M" ∷ codes "--blocks" ∷ codes "B" ∷ []) ≡ Some (Solve (codes "M") (Some (codes "B")) (record { nodes = 1000000; gap = None; plain = false; trace = false }))
 unfolding clap_on_literals cip_command job_of
 blocks = refl
 

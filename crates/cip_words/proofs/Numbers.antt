@@ -19,7 +19,7 @@ use Rattle.cip_number_text.specs.FractionText.{fraction_of}
 use Rattle.cip_text.specs.NumberFaults.{faulty}
 use Rattle.cip_text.specs.declared.number_text.NumberFault.{NumberFault}
 use Rattle.cip_text.specs.declared.number_text.NumberFault.TheVariants.{NotANumber, Huge, TooFine}
-use Rattle.cip_words.specs.Jobs.{Limits, Job, Solve, Check, AsksForSome, at_least_zero, begins_above_zero, gap_of, cip_command, check_behind, check_with, job_at, job_behind, job_of, solve_with, most_nodes, nodes_of, unless_faulty, usual_nodes}
+use Rattle.cip_words.specs.Jobs.{Limits, Job, Solve, Check, AsksForSome, at_least_zero, begins_above_zero, gap_of, is_true, cip_command, check_behind, check_with, job_at, job_behind, job_of, solve_with, most_nodes, nodes_of, unless_faulty, usual_nodes}
 
 -- a text that begins above 0 has no `+` in front
 plus_kept : (byte : ℕ) (bytes : List ℕ) (same : Bool) → (byte == 43) ≡ same → 49 ≤ byte → drop (cond same 1 0) (byte ∷ bytes) ≡ byte ∷ bytes
@@ -73,25 +73,46 @@ no_fraction text fault e = sym (ap (λ n. at_least_zero (value_of n)) e ∙ ap a
 
 -- ---- the job of what stands behind `solve`, or `check`
 
-solve_from : (f : Found) (model blocks nodes gap : Option (List ℕ)) → model ≡ first_value f (codes "model") → blocks ≡ first_value f (codes "blocks") → nodes ≡ first_value f (codes "nodes") → gap ≡ first_value f (codes "gap") → job_behind (rows_of f) ≡ solve_with model blocks (nodes_of nodes) (gap_of gap)
-solve_from f model blocks nodes gap m b n g =
-    ap (λ (x : Option (List ℕ)). solve_with x (first_of (codes "blocks") (rows_of f)) (nodes_of (first_of (codes "nodes") (rows_of f))) (gap_of (first_of (codes "gap") (rows_of f)))) (sym (first_value-rows f (codes "model")) ∙ sym m)
-    ∙ (ap₂ (λ (x y : Option (List ℕ)). solve_with model x (nodes_of y) (gap_of (first_of (codes "gap") (rows_of f)))) (sym (first_value-rows f (codes "blocks")) ∙ sym b) (sym (first_value-rows f (codes "nodes")) ∙ sym n)
-    ∙ ap (λ (x : Option (List ℕ)). solve_with model blocks (nodes_of nodes) (gap_of x)) (sym (first_value-rows f (codes "gap")) ∙ sym g))
+-- the flags as they were found
+abbrev pub plain_in : Found → Bool
+plain_in f = is_true (first_value f (codes "plain"))
 
-pub full_job : (f : Found) (model : List ℕ) (blocks word other : Option (List ℕ)) (nodes : ℕ) (gap : Option ℚ) → Some model ≡ first_value f (codes "model") → blocks ≡ first_value f (codes "blocks") → word ≡ first_value f (codes "nodes") → other ≡ first_value f (codes "gap") → Some nodes ≡ nodes_of word → Some gap ≡ gap_of other → job_behind (rows_of f) ≡ Some (Solve model blocks (record { nodes = nodes; gap = gap }))
-full_job f model blocks word other nodes gap m b n g e h =
-    solve_from f (Some model) blocks word other m b n g ∙ (sym (ap (λ t. solve_with (Some model) blocks t (gap_of other)) e) ∙ sym (ap (solve_with (Some model) blocks (Some nodes)) h))
+abbrev pub trace_in : Found → Bool
+trace_in f = is_true (first_value f (codes "trace"))
+
+-- a flag among the rows
+flag_from : (f : Found) (id : Text) → is_true (first_of id (rows_of f)) ≡ is_true (first_value f id)
+flag_from f id = ap is_true (sym (first_value-rows f id))
+
+solve_from : (f : Found) (model blocks nodes gap : Option (List ℕ)) → model ≡ first_value f (codes "model") → blocks ≡ first_value f (codes "blocks") → nodes ≡ first_value f (codes "nodes") → gap ≡ first_value f (codes "gap") → job_behind (rows_of f) ≡ solve_with model blocks (nodes_of nodes) (gap_of gap) (plain_in f) (trace_in f)
+solve_from f model blocks nodes gap m b n g =
+    ap (λ (x : Option (List ℕ)). solve_with x (first_of (codes "blocks") (rows_of f)) (nodes_of (first_of (codes "nodes") (rows_of f))) (gap_of (first_of (codes "gap") (rows_of f))) (is_true (first_of (codes "plain") (rows_of f))) (is_true (first_of (codes "trace") (rows_of f)))) (sym (first_value-rows f (codes "model")) ∙ sym m)
+    ∙ (ap₂ (λ (x y : Option (List ℕ)). solve_with model x (nodes_of y) (gap_of (first_of (codes "gap") (rows_of f))) (is_true (first_of (codes "plain") (rows_of f))) (is_true (first_of (codes "trace") (rows_of f)))) (sym (first_value-rows f (codes "blocks")) ∙ sym b) (sym (first_value-rows f (codes "nodes")) ∙ sym n)
+    ∙ (ap (λ (x : Option (List ℕ)). solve_with model blocks (nodes_of nodes) (gap_of x) (is_true (first_of (codes "plain") (rows_of f))) (is_true (first_of (codes "trace") (rows_of f)))) (sym (first_value-rows f (codes "gap")) ∙ sym g)
+    ∙ ap₂ (λ (x y : Bool). solve_with model blocks (nodes_of nodes) (gap_of gap) x y) (flag_from f (codes "plain")) (flag_from f (codes "trace"))))
+
+-- a flag by the word that was found of it
+flag_is : (f : Found) (id : Text) (word : Option (List ℕ)) (flag : Bool) → word ≡ first_value f id → flag ≡ is_true word → is_true (first_value f id) ≡ flag
+flag_is f id word flag w e = sym (e ∙ ap is_true w)
+
+pub full_job : (f : Found) (model : List ℕ) (blocks word other : Option (List ℕ)) (nodes : ℕ) (gap : Option ℚ) → Some model ≡ first_value f (codes "model") → blocks ≡ first_value f (codes "blocks") → word ≡ first_value f (codes "nodes") → other ≡ first_value f (codes "gap") → Some nodes ≡ nodes_of word → Some gap ≡ gap_of other → (plainly traced : Option (List ℕ)) (plain trace : Bool) → plainly ≡ first_value f (codes "plain") → plain ≡ is_true plainly → traced ≡ first_value f (codes "trace") → trace ≡ is_true traced → job_behind (rows_of f) ≡ Some (Solve model blocks (record { nodes = nodes; gap = gap; plain = plain; trace = trace }))
+full_job f model blocks word other nodes gap m b n g e h plainly traced plain trace p i t j =
+    solve_from f (Some model) blocks word other m b n g
+    ∙ (sym (ap (λ t. solve_with (Some model) blocks t (gap_of other) (plain_in f) (trace_in f)) e)
+    ∙ (sym (ap (λ g. solve_with (Some model) blocks (Some nodes) g (plain_in f) (trace_in f)) h)
+    ∙ ap₂ (λ (x y : Bool). solve_with (Some model) blocks (Some nodes) (Some gap) x y) (flag_is f (codes "plain") plainly plain p i) (flag_is f (codes "trace") traced trace t j)))
 
 pub no_number : (f : Found) (model : List ℕ) (word : Option (List ℕ)) → Some model ≡ first_value f (codes "model") → word ≡ first_value f (codes "nodes") → None ≡ nodes_of word → job_behind (rows_of f) ≡ None
 no_number f model word m n e =
     let gap = first_value f (codes "gap") in
-    solve_from f (Some model) (first_value f (codes "blocks")) word gap m refl n refl ∙ sym (ap (λ t. solve_with (Some model) (first_value f (codes "blocks")) t (gap_of gap)) e)
+    solve_from f (Some model) (first_value f (codes "blocks")) word gap m refl n refl ∙ sym (ap (λ t. solve_with (Some model) (first_value f (codes "blocks")) t (gap_of gap) (plain_in f) (trace_in f)) e)
 
 pub no_gap : (f : Found) (model : List ℕ) (word other : Option (List ℕ)) (nodes : ℕ) → Some model ≡ first_value f (codes "model") → word ≡ first_value f (codes "nodes") → other ≡ first_value f (codes "gap") → Some nodes ≡ nodes_of word → None ≡ gap_of other → job_behind (rows_of f) ≡ None
 no_gap f model word other nodes m n g e h =
     let blocks = first_value f (codes "blocks") in
-    solve_from f (Some model) blocks word other m refl n g ∙ (sym (ap (λ t. solve_with (Some model) blocks t (gap_of other)) e) ∙ sym (ap (solve_with (Some model) blocks (Some nodes)) h))
+    solve_from f (Some model) blocks word other m refl n g
+    ∙ (sym (ap (λ t. solve_with (Some model) blocks t (gap_of other) (plain_in f) (trace_in f)) e)
+    ∙ sym (ap (λ g. solve_with (Some model) blocks (Some nodes) g (plain_in f) (trace_in f)) h))
 
 pub no_model : (f : Found) → None ≡ first_value f (codes "model") → job_behind (rows_of f) ≡ None
 no_model f m = solve_from f None (first_value f (codes "blocks")) (first_value f (codes "nodes")) (first_value f (codes "gap")) m refl refl refl
@@ -128,15 +149,15 @@ nodes_range (Some text) nodes h = range_of text nodes (begins_above_zero text &&
 limits_same : (model other : List ℕ) (blocks others : Option (List ℕ)) (x y : Limits) → Solve model blocks x ≡ Solve other others y → x ≡ y
 limits_same model other blocks others x y e = cc
 
-job_range : (model blocks : Option (List ℕ)) (nodes : Option ℕ) (gap : Option (Option ℚ)) (word : Option (List ℕ)) (job : Job) → nodes_of word ≡ nodes → solve_with model blocks nodes gap ≡ Some job → AsksForSome job
-job_range (Some model) blocks (Some nodes) (Some gap) word (Solve told others limits) w h =
-    let asked : Limits = record { nodes = nodes; gap = gap } in
+job_range : (model blocks : Option (List ℕ)) (nodes : Option ℕ) (gap : Option (Option ℚ)) (plain trace : Bool) (word : Option (List ℕ)) (job : Job) → nodes_of word ≡ nodes → solve_with model blocks nodes gap plain trace ≡ Some job → AsksForSome job
+job_range (Some model) blocks (Some nodes) (Some gap) plain trace word (Solve told others limits) w h =
+    let asked : Limits = record { nodes = nodes; gap = gap; plain = plain; trace = trace } in
     let same : nodes ≡ limits.nodes = ap (λ (l : Limits). l.nodes) (limits_same model told blocks others asked limits (same_Some _ _ h)) in
     nodes_range word limits.nodes (w ∙ ap Some same)
-job_range (Some model) blocks (Some nodes) (Some gap) word (Check told point) w h = tt
-job_range (Some model) blocks (Some nodes) None word job w h = absurd (cc)
-job_range (Some model) blocks None gap word job w h = absurd (cc)
-job_range None blocks nodes gap word job w h = absurd (cc)
+job_range (Some model) blocks (Some nodes) (Some gap) plain trace word (Check told point) w h = tt
+job_range (Some model) blocks (Some nodes) None plain trace word job w h = absurd (cc)
+job_range (Some model) blocks None gap plain trace word job w h = absurd (cc)
+job_range None blocks nodes gap plain trace word job w h = absurd (cc)
 
 check_range : (model point : Option (List ℕ)) (job : Job) → check_with model point ≡ Some job → AsksForSome job
 check_range (Some model) (Some point) (Solve told others n) h = absurd (cc)
@@ -149,7 +170,7 @@ at_check entered true job h = check_range _ _ job h
 at_check entered false job h = absurd (cc)
 
 at_range : (entered : Text × List Row) (same : Bool) (job : Job) → (if same then job_behind entered.1 else (if bytes_eq entered.0 (codes "check") then check_behind entered.1 else None)) ≡ Some job → AsksForSome job
-at_range entered true job h = job_range _ _ _ _ (first_of (codes "nodes") entered.1) job refl h
+at_range entered true job h = job_range _ _ _ _ _ _ (first_of (codes "nodes") entered.1) job refl h
 at_range entered false job h = at_check entered (bytes_eq entered.0 (codes "check")) job h
 
 entered_range : (entered : Option (Text × List Row)) (job : Job) → option_and_then job_at entered ≡ Some job → AsksForSome job

@@ -1,6 +1,6 @@
 -- The words of a command line, without the program's name, and the jobs that they mean.
---     cip_command      the command, as `clap` has it: `solve MODEL [--blocks FILE] [--nodes N] [--gap G] [--plain]` and
---                      `check MODEL POINT`
+--     cip_command      the command, as `clap` has it: `solve MODEL [--blocks FILE] [--nodes N] [--gap G] [--plain]
+--                      [--trace]` and `check MODEL POINT`
 --     job_of words      the job of the words, where they are accepted
 use lib.Chars.{codes}
 use Rattle.std.specs.Prelude.{◌≡◌, ⊤, ℕ, ◌≤◌, nat_le, Bool, true, false, ◌&&◌, List, [], ◌∷◌, Option, None, Some}
@@ -17,10 +17,13 @@ use Rattle.cip_number_text.specs.Numeral.{value_of}
 use Rattle.cip_number_text.specs.FractionText.{fraction_of}
 use Rattle.clap.specs.declared.builder.action.ArgAction.TheVariants.{SetTrue}
 
--- what ends a search early: so many nodes, and a gap, if one is asked for
+-- how a program is searched: what ends the search early, so many nodes, and a gap, if one is asked for; whether no
+-- plugin is asked and the kit is left as it is; and whether the lines of the trace are kept and printed
 pub record Limits : Type 0 where
   pub nodes : ℕ
   pub gap : Option ℚ
+  pub plain : Bool
+  pub trace : Bool
 
 -- what the words ask for: to solve the program of the text of this name, with the blocks of another text, if one is
 -- named, within limits; or to check the point of a text in the program of a text
@@ -61,11 +64,17 @@ gap_rule = record (new_rule (codes "gap")) { long = Some (codes "gap") }
 abbrev pub plain_rule : Rule
 plain_rule = record (new_rule (codes "plain")) { long = Some (codes "plain"); action = Some SetTrue }
 
+-- `--trace`, which may be there
+abbrev pub trace_rule : Rule
+trace_rule = record (new_rule (codes "trace")) { long = Some (codes "trace"); action = Some SetTrue }
+
 abbrev pub solve_command : App
 solve_command =
     with_rule
+    (with_rule
     (with_rule (with_rule (with_rule (with_rule (new_app (codes "solve")) model_rule) blocks_rule) nodes_rule) gap_rule)
-    plain_rule
+    plain_rule)
+    trace_rule
 
 abbrev pub check_command : App
 check_command = with_rule (with_rule (new_app (codes "check")) model_rule) point_rule
@@ -104,12 +113,18 @@ abbrev pub gap_of : Option Text → Option (Option ℚ)
 gap_of None = Some None
 gap_of (Some text) = option_map Some (at_least_zero (value_of (fraction_of text)))
 
-abbrev pub solve_with : (model blocks : Option Text) (nodes : Option ℕ) (gap : Option (Option ℚ)) → Option Job
-solve_with (Some model) blocks (Some nodes) (Some gap) =
-    Some (Solve model blocks (record { nodes = nodes; gap = gap }))
-solve_with (Some model) blocks (Some nodes) None = None
-solve_with (Some model) blocks None gap = None
-solve_with None blocks nodes gap = None
+-- what is found of a name without a value says that it is there: where it isn't, `clap` puts `false` in its place
+abbrev pub is_true : Option Text → Bool
+is_true None = false
+is_true (Some text) = bytes_eq text (codes "true")
+
+abbrev pub solve_with :
+    (model blocks : Option Text) (nodes : Option ℕ) (gap : Option (Option ℚ)) (plain trace : Bool) → Option Job
+solve_with (Some model) blocks (Some nodes) (Some gap) plain trace =
+    Some (Solve model blocks (record { nodes = nodes; gap = gap; plain = plain; trace = trace }))
+solve_with (Some model) blocks (Some nodes) None plain trace = None
+solve_with (Some model) blocks None gap plain trace = None
+solve_with None blocks nodes gap plain trace = None
 
 abbrev pub check_with : (model point : Option Text) → Option Job
 check_with (Some model) (Some point) = Some (Check model point)
@@ -121,6 +136,7 @@ abbrev pub job_behind : List Row → Option Job
 job_behind rows =
     solve_with (first_of (codes "model") rows) (first_of (codes "blocks") rows)
     (nodes_of (first_of (codes "nodes") rows)) (gap_of (first_of (codes "gap") rows))
+    (is_true (first_of (codes "plain") rows)) (is_true (first_of (codes "trace") rows))
 
 abbrev pub check_behind : List Row → Option Job
 check_behind rows = check_with (first_of (codes "model") rows) (first_of (codes "point") rows)

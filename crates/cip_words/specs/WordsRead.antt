@@ -13,8 +13,9 @@ words_of line = map (λ word. string_bytes word) line.words.items
 
 -- the job that a value of `Job` tells
 abbrev pub meant : Told → Job
-meant (told.Solve model blocks nodes gap) =
-    Solve model.now (option_map (λ text. text.now) blocks) (record { nodes = nodes; gap = gap })
+meant (told.Solve model blocks nodes gap plain trace) =
+    Solve model.now (option_map (λ text. text.now) blocks)
+    (record { nodes = nodes; gap = gap; plain = plain; trace = trace })
 meant (told.Check model point) = Check model.now point.now
 
 -- why words give no job: they are not accepted; want of memory says nothing of them

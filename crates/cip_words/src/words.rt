@@ -3,7 +3,7 @@ ghost use Rattle.std.specs.Prelude.{◌≡◌, ◌++◌, ◌∷◌, [], true, fa
 ghost use Rattle.clap.specs.Words.{app_of, kind_of, rows_of, found_of, new_rule, rule_of, subcommand_rows_of};
 ghost use Rattle.clap.specs.declared.builder.action.ArgAction.TheVariants.{SetTrue};
 ghost use Rattle.clap.specs.declared.error.kind.ErrorKind.TheVariants.{OutOfMemory};
-ghost use Rattle.cip_words.specs.Jobs.{AsksForSome, IsAddedAs, solve_command, check_command, cip_command, begins_above_zero, nodes_of, at_least_zero, gap_of, job_behind, check_behind, job_at, job_of};
+ghost use Rattle.cip_words.specs.Jobs.{AsksForSome, IsAddedAs, solve_command, check_command, cip_command, begins_above_zero, nodes_of, at_least_zero, gap_of, is_true, job_behind, check_behind, job_at, job_of};
 ghost use Rattle.cip_number_text.specs.Numeral.{value_of};
 ghost use Rattle.cip_number_text.specs.FractionText.{fraction_of};
 ghost use Rattle.cip_words.specs.WordsRead.{meant, WordsCause};
@@ -54,6 +54,10 @@ pub enum Job<'a> {
         nodes: u64,
         /// The gap that is asked for, if one is, at least 0.
         gap: Option<Frac>,
+        /// Whether no plugin is asked.
+        plain: bool,
+        /// Whether the lines of the trace are printed.
+        trace: bool,
     },
     /// To check a point in the program of a text.
     Check {
@@ -109,7 +113,7 @@ fn flag<'a>(alloc: Global, id: &'a str) -> Arg<'a>
     option(alloc, id).action(ArgAction::SetTrue)
 }
 
-/// The subcommand `solve MODEL [--blocks FILE] [--nodes N] [--gap G] [--plain]`.
+/// The subcommand `solve MODEL [--blocks FILE] [--nodes N] [--gap G] [--plain] [--trace]`.
 fn solving<'a>(alloc: Global) -> Result<Command<'a>, AllocError>
     ensures { IfOk result (IsAddedAs solve_command.top) }
 {
@@ -118,7 +122,8 @@ fn solving<'a>(alloc: Global) -> Result<Command<'a>, AllocError>
         .arg(option(alloc, "blocks"))?
         .arg(option(alloc, "nodes"))?
         .arg(option(alloc, "gap"))?
-        .arg(flag(alloc, "plain"))
+        .arg(flag(alloc, "plain"))?
+        .arg(flag(alloc, "trace"))
 }
 
 /// The subcommand `check MODEL POINT`.
@@ -129,7 +134,7 @@ fn checking<'a>(alloc: Global) -> Result<Command<'a>, AllocError>
     check.arg(wanted(alloc, "point"))
 }
 
-/// The command: `solve MODEL [--blocks FILE] [--nodes N] [--gap G] [--plain]`, and `check MODEL POINT`.
+/// The command: `solve MODEL [--blocks FILE] [--nodes N] [--gap G] [--plain] [--trace]`, and `check MODEL POINT`.
 fn command<'a>(alloc: Global) -> Result<Command<'a>, AllocError>
     ensures { IfOk result (λ command. app_of command ≡ cip_command) }
 {
@@ -203,6 +208,16 @@ fn gap_in(word: Option<&str>) -> Option<Option<Frac>>
     }
 }
 
+/// Whether a name without a value is there, by the word that was found of it.
+fn is_true(word: Option<&str>) -> bool
+    ensures { result ≡ is_true (option_map (λ text. text.now) word.entry) }
+{
+    match word {
+        Some(text) => text == "true",
+        None => false,
+    }
+}
+
 /// The job of what stands behind `solve`.
 fn job_of_solve<'a>(solve: &ArgMatches<'a>) -> Result<Job<'a>, WordsFault>
     ensures { MatchResult result
@@ -216,15 +231,19 @@ fn job_of_solve<'a>(solve: &ArgMatches<'a>) -> Result<Job<'a>, WordsFault>
     let Some(nodes) = nodes_in(solve.get_str("nodes")) else {
         return Err(WordsFault::Refused);
     };
-    match gap_in(solve.get_str("gap")) {
-        Some(gap) => Ok(Job::Solve {
-            model,
-            blocks,
-            nodes,
-            gap,
-        }),
-        None => Err(WordsFault::Refused),
-    }
+    let Some(gap) = gap_in(solve.get_str("gap")) else {
+        return Err(WordsFault::Refused);
+    };
+    let plain = is_true(solve.get_str("plain"));
+    let trace = is_true(solve.get_str("trace"));
+    Ok(Job::Solve {
+        model,
+        blocks,
+        nodes,
+        gap,
+        plain,
+        trace,
+    })
 }
 
 /// The job of what stands behind `check`.

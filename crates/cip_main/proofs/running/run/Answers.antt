@@ -6,7 +6,7 @@ pub returns-in-Ok-Solve : goal.returns-in-Ok-Solve
 returns-in-Ok-Solve g c = answered _ _ _ (rw c.in-Ok-Solve.field-0-is at c.in-Ok-Solve.ensures) c.solve_and_report.ensures
 
 pub returns-in-Ok-Check : goal.returns-in-Ok-Check
-returns-in-Ok-Check g c = verdict_told _ _ _ _ (rw c.in-Ok-Check.field-0-is at c.in-Ok-Check.ensures) c.as_slice.ensures.value (record { tells = c.check_and_report.ensures.says; holds = c.check_and_report.ensures.holds; no_search = refl })
+returns-in-Ok-Check g c = verdict_told _ _ _ _ (rw c.in-Ok-Check.field-0-is at c.in-Ok-Check.ensures) c.as_slice.ensures.value (record { tells = c.check_and_report.ensures.says; holds = c.check_and_report.ensures.holds; no_search = refl; same_kit = refl })
 
 pub returns-in-Err : goal.returns-in-Err
-returns-in-Err g c = plain_told _ c.in-Err.answer (record { cause = c.in-Err.ensures; tells = c.say.ensures; no_search = refl })
+returns-in-Err g c = plain_told _ c.in-Err.answer (record { cause = c.in-Err.ensures; tells = c.say.ensures; no_search = refl; same_kit = refl })

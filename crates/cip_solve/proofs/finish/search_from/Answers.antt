@@ -49,10 +49,10 @@ returns-clause-solved g c = λ alone a.
     }
 
 pub returns-clause-first : goal.returns-clause-first
-returns-clause-first g c = record {
+returns-clause-first g c = λ alone a. record {
   start = c.args.work.core.tree.root.bound;
   root = c.requires.root.root;
-  first = subst (IsFirstStop c.args.work.core.program c.args.work.core.tree.root.bound c.args.options.now.gap) (sym c.finish.ensures.logged) c.explore-stop.ensures.first;
+  first = subst (IsFirstStop c.args.work.core.program c.args.work.core.tree.root.bound c.args.options.now.gap alone) (sym c.finish.ensures.logged) (c.explore-stop.ensures.first alone a);
 }
 
 pub returns-clause-asked : goal.returns-clause-asked

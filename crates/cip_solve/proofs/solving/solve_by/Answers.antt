@@ -22,8 +22,8 @@ returns-in-Ok-new-clause-solved g c = λ alone a.
     c.in-Ok-new.ensures.program_is (c.search_from.ensures.solved alone a)
 
 pub returns-in-Ok-new-clause-first : goal.returns-in-Ok-new-clause-first
-returns-in-Ok-new-clause-first g c =
-    subst (λ (p : Program). StopsFirst p c.args.options.now.gap (entries_of c.search_from.new.log)) c.in-Ok-new.ensures.program_is c.search_from.ensures.first
+returns-in-Ok-new-clause-first g c = λ alone a.
+    subst (λ (p : Program). StopsFirst p c.args.options.now.gap alone (entries_of c.search_from.new.log)) c.in-Ok-new.ensures.program_is (c.search_from.ensures.first alone a)
 
 pub returns-in-Ok-new-clause-asked : goal.returns-in-Ok-new-clause-asked
 returns-in-Ok-new-clause-asked g c = (

@@ -13,8 +13,8 @@ returns-clause-solved c = λ nodes asked. record {
 }
 
 pub returns-clause-first : goal.returns-clause-first
-returns-clause-first c = λ asked. record {
+returns-clause-first c = λ asked alone. record {
   start = c.root_bound.result;
   root = c.root_bound.ensures.root;
-  first = first_of_none c.args.program.now c.root_bound.result asked;
+  first = first_of_none c.args.program.now c.root_bound.result asked alone;
 }

@@ -10,10 +10,11 @@ pub returns-in_default-nodes_in : goal.returns-in_default-nodes_in
 returns-in_default-nodes_in c =
     (refl, no_number (found_of c.args.solve.now) _ _ c.in-Some.ensures c.get_str-2.ensures c.in_default-nodes_in.ensures)
 
-pub returns-in-Some-gap_in : goal.returns-in-Some-gap_in
-returns-in-Some-gap_in c =
-    full_job (found_of c.args.solve.now) _ _ _ _ _ _ c.in-Some.ensures c.get_str-blocks.ensures c.get_str-2.ensures c.get_str-3.ensures c.in-Some-nodes_in.ensures c.in-Some-gap_in.ensures
+pub returns-in_default-gap_in : goal.returns-in_default-gap_in
+returns-in_default-gap_in c =
+    (refl, no_gap (found_of c.args.solve.now) _ _ _ _ c.in-Some.ensures c.get_str-2.ensures c.get_str-3.ensures c.in-Some-nodes_in.ensures c.in_default-gap_in.ensures)
 
-pub returns-in-None : goal.returns-in-None
-returns-in-None c =
-    (refl, no_gap (found_of c.args.solve.now) _ _ _ _ c.in-Some.ensures c.get_str-2.ensures c.get_str-3.ensures c.in-Some-nodes_in.ensures c.in-None.ensures)
+pub returns : goal.returns
+returns c =
+    full_job (found_of c.args.solve.now) _ _ _ _ _ _ c.in-Some.ensures c.get_str-blocks.ensures c.get_str-2.ensures c.get_str-3.ensures c.in-Some-nodes_in.ensures c.in-Some-gap_in.ensures
+    _ _ _ _ c.get_str-4.ensures c.is_true-plain.ensures c.get_str-5.ensures c.is_true-trace.ensures

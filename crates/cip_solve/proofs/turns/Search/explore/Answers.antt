@@ -1,6 +1,8 @@
-use Rattle.std.proofs.Common.{◌+◌, ◌∙◌, None, ap, arith, length, inr, refl, sym, subst}
+use Rattle.std.proofs.Common.{◌≡◌, ◌+◌, ◌∙◌, false, [], None, ap, arith, length, inr, refl, sym, subst}
 use Rattle.cip_problem.specs.Program.{Program}
 use Rattle.cip_problem.specs.Log.{Node}
+use Rattle.cip_search.specs.SearchState.{HasGivenBoxes}
+use Rattle.cip_core.specs.KeptNodes.{cost_held, state_of}
 use Rattle.cip_solve.specs.Searching.{IsStill}
 use Rattle.cip_solve.specs.SplitsServed.{splits_in, HasServed}
 use Rattle.cip_solve.proofs.Serving.{served_none}
@@ -16,8 +18,8 @@ pub returns-in-Some-clause-stopped : goal.returns-in-Some-clause-stopped
 returns-in-Some-clause-stopped g c = c.in-Some.ensures.turned c.args.nodes c.args.asked.now
 
 pub returns-in-Some-clause-first : goal.returns-in-Some-clause-first
-returns-in-Some-clause-first g c =
-    first_stop c.args.self.now.work.core.program c.args.self.now.work.core.tree.root.bound c.args.asked.now c.loop.self.work.core.tree.log c.turn.new.self.work.core.tree.log c.turn.ensures.grown c.turn.ensures.longer c.loop.invariant.short
+returns-in-Some-clause-first g c = λ alone a.
+    first_stop c.args.self.now.work.core.program c.args.self.now.work.core.tree.root.bound c.args.asked.now alone c.loop.self.work.core.tree.log c.turn.new.self.work.core.tree.log c.turn.ensures.grown c.turn.ensures.longer (c.loop.invariant.short alone a)
 
 pub returns-in-Some-clause-asked : goal.returns-in-Some-clause-asked
 returns-in-Some-clause-asked g c =
@@ -29,8 +31,8 @@ returns-then-has_reached_gap-clause-same g c =
     (same.0 ∙ c.loop.invariant.program, same.1 ∙ c.loop.invariant.root, λ a. same.2 a ∙ c.loop.invariant.plain a)
 
 pub returns-then-has_reached_gap-clause-first : goal.returns-then-has_reached_gap-clause-first
-returns-then-has_reached_gap-clause-first g c =
-    first_stop c.args.self.now.work.core.program c.args.self.now.work.core.tree.root.bound c.args.asked.now c.loop.self.work.core.tree.log c.turn.new.self.work.core.tree.log c.turn.ensures.grown c.turn.ensures.longer c.loop.invariant.short
+returns-then-has_reached_gap-clause-first g c = λ alone a.
+    first_stop c.args.self.now.work.core.program c.args.self.now.work.core.tree.root.bound c.args.asked.now alone c.loop.self.work.core.tree.log c.turn.new.self.work.core.tree.log c.turn.ensures.grown c.turn.ensures.longer (c.loop.invariant.short alone a)
 
 pub returns-then-has_reached_gap-clause-asked : goal.returns-then-has_reached_gap-clause-asked
 returns-then-has_reached_gap-clause-asked g c =
@@ -44,9 +46,10 @@ loop-preserved g c =
     let same = c.turn.ensures.same in
     let still = subst (λ (p : Program). IsStill p c.args.self.now.work.core.tree.root.bound new.work.core.tree new.work.core.incumbent new.worst) (same.0 ∙ c.loop.invariant.program)
     (subst (λ (r : Node). IsStill new.work.core.program r.bound new.work.core.tree new.work.core.incumbent new.worst) (same.1 ∙ c.loop.invariant.root) next.0.still) in
+    let boxes = λ (e : new.work.core.touched ≡ false). subst (λ (p : Program). HasGivenBoxes p new.work.core.tree.root.bound (state_of new.work.core.tree (cost_held new.work.core.incumbent) [])) (same.0 ∙ c.loop.invariant.program) (next.0.boxes e) in
     record {
-      short = short_more program c.args.self.now.work.core.tree.root.bound c.args.asked.now c.loop.self.work.core.tree.log new.work.core.tree new.work.core.incumbent new.worst c.turn.ensures.grown next.1 still
-          (c.has_reached_gap.ensures.short c.if-has_reached_gap.false) c.loop.invariant.short;
+      short = λ alone a. short_more program c.args.self.now.work.core.tree.root.bound c.args.asked.now alone c.loop.self.work.core.tree.log new.work.core.tree new.work.core.incumbent new.worst c.turn.ensures.grown next.1 still
+          (c.has_reached_gap.ensures.short c.if-has_reached_gap.false) (λ e. boxes (same.2 (a e) ∙ (c.loop.invariant.plain (a e) ∙ c.requires.plain))) (c.loop.invariant.short alone a);
       standing = next.0;
       written = c.turn.ensures.written;
       program = same.0 ∙ c.loop.invariant.program;
@@ -78,7 +81,7 @@ loop-init g c =
       program = refl;
       root = refl;
       plain = λ e. refl;
-      short = none_short c.args.self.now.work.core.program c.args.self.now.work.core.tree.root.bound c.args.asked.now log c.requires.empty;
+      short = λ alone a. none_short c.args.self.now.work.core.program c.args.self.now.work.core.tree.root.bound c.args.asked.now alone log c.requires.empty;
       longer = ap length c.requires.empty;
       ready = c.requires.ready;
       served = subst (λ l. HasServed (splits_in l) a a) (sym c.requires.empty) (served_none a);

@@ -1,4 +1,4 @@
-use Rattle.std.proofs.Common.{◌≡◌, ℕ, ◌<◌, ◌≤◌, false, length}
+use Rattle.std.proofs.Common.{◌≡◌, ℕ, ◌<◌, ◌≤◌, Bool, true, false, length}
 use Rattle.cip_problem.specs.WellFormed.{columns}
 use Rattle.cip_core.specs.CoreStates.{reduced_of}
 use Rattle.cip_solve.specs.FirstStops.{IsShortAt}
@@ -13,7 +13,7 @@ invariant-loop g l = record {
   program : l.self.work.core.program ≡ l.fn.self.work.core.program;
   root : l.self.work.core.tree.root ≡ l.fn.self.work.core.tree.root;
   plain : g.W.Works.asks ≡ false → l.self.work.core.touched ≡ l.fn.self.work.core.touched;
-  short : (entries : ℕ) → 0 < entries → entries ≤ length l.self.work.core.tree.log → IsShortAt l.fn.self.work.core.program l.fn.self.work.core.tree.root.bound l.fn.asked l.self.work.core.tree.log entries;
+  short : (alone : Bool) → (alone ≡ true → g.W.Works.asks ≡ false) → (entries : ℕ) → 0 < entries → entries ≤ length l.self.work.core.tree.log → IsShortAt l.fn.self.work.core.program l.fn.self.work.core.tree.root.bound l.fn.asked alone l.self.work.core.tree.log entries;
   longer : length l.self.work.core.tree.log ≡ l.counter;
   ready : g.W.Works.is_ready l.works (columns (reduced_of l.self.work.core));
   served : HasServed (splits_in l.self.work.core.tree.log) (g.W.Works.state l.fn.works) (g.W.Works.state l.works);

@@ -1,0 +1,67 @@
+-- What a kit of plugins is, and what becomes of it as a search begins and ends.
+use Rattle.std.specs.Prelude.{◌≡◌, ℕ, ◌+◌, ◌^◌, ◌<◌, ◌≤◌, ◌==◌, ◌&&◌, Bool, true, false, List, [], length, map}
+use Rattle.std.specs.Prelude.{Option, None, Some}
+use Rattle.cip_events.specs.declared.traces.Trace.{Trace}
+use Rattle.cip_plugin.specs.Who.{Who}
+use Rattle.cip_plugin.specs.declared.boxed.AnyPlugin.{AnyPlugin}
+use Rattle.cip_plugin.specs.declared.kits.Kit.{Kit}
+use Rattle.cip_seats.specs.Seats.{State, held_count}
+use Rattle.cip_roster.specs.Begun.{IsBegun}
+use Rattle.cip_roster.specs.Closed.{Back, back, IsClosed}
+
+-- what the plugins of a kit mean: those of its start and of its shelf, in order, and those that are done with
+pub record Stock : Type 0 where
+  pub start : List Who
+  pub shelf : List Who
+  pub spent : List Back
+
+-- so it is of a kit, by what a plugin means; P1 to P7 are the types of plugins of the seven kinds
+abbrev pub stock_of : {P1 P2 P3 P4 P5 P6 P7 : Type 0}
+    {D1 : P1 → Type 0} {D2 : P2 → Type 0} {D3 : P3 → Type 0} {D4 : P4 → Type 0}
+    {D5 : P5 → Type 0} {D6 : P6 → Type 0} {D7 : P7 → Type 0}
+    → (AnyPlugin P1 P2 P3 P4 P5 P6 P7 D1 D2 D3 D4 D5 D6 D7 → Who) → Kit P1 P2 P3 P4 P5 P6 P7 D1 D2 D3 D4 D5 D6 D7 → Stock
+stock_of who kit = record {
+  start = map who kit.start.items;
+  shelf = map who kit.shelf.items;
+  spent = map (λ spent. back spent.id (who spent.plugin)) kit.spent.items;
+}
+
+-- start and shelf together have fewer than 2 ^ 32 plugins
+abbrev pub IsFew : Stock → Type 0
+IsFew stock = length stock.start + length stock.shelf < 2 ^ 32
+
+-- there is no plugin that begins, and none that a wish could include
+abbrev pub is_bare : Stock → Bool
+is_bare stock = (length stock.start == 0) && (length stock.shelf == 0)
+
+-- all plugins of a kit have moved into a roster, which has begun with those of the start
+pub record HasBegun (had has : Stock) (kept : Bool) (begun : State) : Type 0 where
+  pub begins : IsBegun had.start had.shelf kept begun
+  pub start : has.start ≡ []
+  pub shelf : has.shelf ≡ []
+  pub spent : has.spent ≡ had.spent
+
+-- a list that holds so many and has room for so many in all has room for the plugins of a roster
+abbrev pub HasRoomFor : (held most : ℕ) → State → Type 0
+HasRoomFor held most state = held + (length state.seats + held_count state.places) ≤ most
+
+-- a trace has the lines that a roster has written, and the names that they speak of
+pub record TellsLines (state : State) (trace : Option Trace) : Type 0 where
+  pub told : Trace
+  pub is_told : trace ≡ Some told
+  pub names : told.names.items ≡ state.names
+  pub lines : told.lines.items ≡ state.lines
+
+-- where lines are kept there is such a trace, and else there is none
+abbrev pub IsTraceOf : (kept : Bool) → State → Option Trace → Type 0
+IsTraceOf true state trace = TellsLines state trace
+IsTraceOf false state trace = trace ≡ None
+
+-- a roster was closed: each live plugin had its two last calls, and all went back into the kit, behind those that were
+-- done with before, the seated ones with their numbers in order
+pub record HasEnded (kept : Bool) (left : State) (had has : Stock) (trace : Option Trace) : Type 0 where
+  pub closed : State
+  pub closes : IsClosed left closed had.spent has.spent
+  pub start : has.start ≡ had.start
+  pub shelf : has.shelf ≡ had.shelf
+  pub told : IsTraceOf kept closed trace

@@ -1,0 +1,16 @@
+use Rattle.cip_words.specs.Jobs.{Solve}
+use Rattle.cip_tasks.proofs.Readings.{not_done, unread_cause, is_solve}
+use Rattle.cip_tasks.proofs.tasks.read_solve.Goals as goal
+
+pub returns-in_err-program : goal.returns-in_err-program
+returns-in_err-program g c = λ job limits asked some.
+    not_done _ _ _ _ (unread_cause job (Solve c.args.model.now _ limits) _ _ c.in_err-program.field-0.0 asked c.in_err-program.ensures.answer) c.from_residual.ensures
+
+pub returns-in_err-take_blocks : goal.returns-in_err-take_blocks
+returns-in_err-take_blocks g c = λ job limits asked some.
+    not_done _ _ _ _ (c.in_err-take_blocks.ensures job c.args.model.now limits _ asked c.in_ok-program.ensures.answer c.in_ok-program.ensures.holds) c.from_residual-in_err-take_blocks.ensures
+
+pub returns : goal.returns
+returns g c = λ job limits asked some.
+    is_solve job c.args.model.now _ limits _ _ _ _ c.programs_are_limited.ensures some asked c.in_ok-program.ensures.answer
+    (c.in_ok-take_blocks.ensures job c.args.model.now limits _ asked c.in_ok-program.ensures.answer c.in_ok-program.ensures.holds)

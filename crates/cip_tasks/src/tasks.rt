@@ -1,0 +1,198 @@
+//! What the words and the texts of a job come to.
+ghost use Rattle.std.specs.Prelude.{◌≡◌, ◌<◌, ℕ, List, Option, Some, MatchResult, option_map};
+ghost use Rattle.cip_words.specs.Jobs.{Job as Asked, Limits, Solve, Check, job_of};
+ghost use Rattle.cip_io.specs.Store.{StoreTells};
+ghost use Rattle.cip_input.specs.ModelsRead.{Reads};
+ghost use Rattle.cip_tasks.specs.Tasks.{TakesBlocks, IsSolve, IsTask, TaskCause};
+
+use crate::plain::Plain;
+use crate::refusals::TextFault;
+use cip_frac::Frac;
+use cip_input::{
+    Unread, UnreadBlocks, UnreadPoint, programs_are_limited, read_blocks, read_point, read_program,
+};
+use cip_io::Store;
+use cip_model::Program;
+use cip_point_rules::points::points_are_of_lines;
+use cip_words::{Job, Words, WordsFault};
+use std::alloc::Global;
+
+/// What is to be done.
+#[derive(Debug, Drop)]
+pub enum Task {
+    /// To solve a program.
+    Solve {
+        /// The program.
+        program: Program,
+        /// The most nodes that are taken, at least 1.
+        nodes: u64,
+        /// The gap that is asked for, if one is, at least 0.
+        gap: Option<Frac>,
+        /// Whether no plugin is asked.
+        plain: bool,
+        /// Whether the lines of the trace are printed.
+        trace: bool,
+    },
+    /// To check a point in a program.
+    Check {
+        /// The program.
+        program: Program,
+        /// The point: a value for each column.
+        point: Vec<Frac>,
+    },
+}
+
+impl From<Unread> for Plain {
+    ghost use Rattle.std.specs.Prelude.{◌≡◌};
+    ghost use Rattle.cip_tasks.specs.Tasks.{plain_of};
+
+    ghost from_gives = { λ cause answer. answer ≡ plain_of cause };
+
+    fn from(cause: Unread) -> Plain {
+        match cause {
+            Unread::StoreFailed => Plain::ReadFault,
+            Unread::Faulty(fault) => Plain::Refused(TextFault::Model(fault)),
+            Unread::NoMemory => Plain::NoMemory,
+        }
+    }
+}
+
+impl From<UnreadBlocks> for Plain {
+    ghost use Rattle.std.specs.Prelude.{◌≡◌};
+    ghost use Rattle.cip_tasks.specs.Tasks.{plain_of_blocks};
+
+    ghost from_gives = { λ cause answer. answer ≡ plain_of_blocks cause };
+
+    fn from(cause: UnreadBlocks) -> Plain {
+        match cause {
+            UnreadBlocks::StoreFailed => Plain::ReadFault,
+            UnreadBlocks::Faulty(fault) => Plain::Refused(TextFault::Blocks(fault)),
+            UnreadBlocks::NoMemory => Plain::NoMemory,
+        }
+    }
+}
+
+impl From<UnreadPoint> for Plain {
+    ghost use Rattle.std.specs.Prelude.{◌≡◌};
+    ghost use Rattle.cip_tasks.specs.Tasks.{plain_of_point};
+
+    ghost from_gives = { λ cause answer. answer ≡ plain_of_point cause };
+
+    fn from(cause: UnreadPoint) -> Plain {
+        match cause {
+            UnreadPoint::StoreFailed => Plain::ReadFault,
+            UnreadPoint::Faulty(fault) => Plain::Refused(TextFault::Point(fault)),
+            UnreadPoint::NoMemory => Plain::NoMemory,
+        }
+    }
+}
+
+impl From<WordsFault> for Plain {
+    ghost use Rattle.std.specs.Prelude.{◌≡◌};
+    ghost use Rattle.cip_tasks.specs.Tasks.{plain_of_words};
+
+    ghost from_gives = { λ fault answer. answer ≡ plain_of_words fault };
+
+    fn from(fault: WordsFault) -> Plain {
+        match fault {
+            WordsFault::Refused => Plain::Usage,
+            WordsFault::NoMemory => Plain::NoMemory,
+        }
+    }
+}
+
+/// Reads the text of blocks of this name, if one is named, behind that of the model.
+fn take_blocks<S: Store>(
+    alloc: Global,
+    store: &mut S,
+    blocks: Option<&str>,
+    program: &Program,
+) -> Result<(), Plain>
+    ensures { (job : Option Asked) (model : List ℕ) (limits : Limits) (old : StoreTells)
+        → job ≡ Some (Solve model (option_map (λ text. text.now) blocks.entry) limits)
+        → Reads model (old.holds model) old (S.tells store.old) program.now
+        → (S.tells store.old).holds ≡ old.holds
+        → MatchResult result
+        (λ _. TakesBlocks program.now (option_map (λ text. text.now) blocks.entry) old (S.tells store.old)
+        (S.tells store.new))
+        (TaskCause job old (S.tells store.new)) }
+{
+    let Some(name) = blocks else {
+        return Ok(());
+    };
+    let _blocks = read_blocks(alloc, store, name, program)?;
+    Ok(())
+}
+
+/// Reads the texts of a model and of its blocks.
+fn read_solve<S: Store>(
+    alloc: Global,
+    store: &mut S,
+    model: &str,
+    blocks: Option<&str>,
+) -> Result<Program, Plain>
+    ensures { (job : Option Asked) (limits : Limits)
+        → job ≡ Some (Solve model.now (option_map (λ text. text.now) blocks.entry) limits) → 0 < limits.nodes
+        → MatchResult result
+        (λ program. IsSolve job (S.tells store.old) (S.tells store.new) program limits)
+        (TaskCause job (S.tells store.old) (S.tells store.new)) }
+{
+    let program = read_program(alloc, store, model)?;
+    take_blocks(alloc, store, blocks, &program)?;
+    programs_are_limited();
+    Ok(program)
+}
+
+/// Reads the texts of a model and of a point.
+fn read_check<S: Store>(
+    alloc: Global,
+    store: &mut S,
+    model: &str,
+    point: &str,
+) -> Result<Task, Plain>
+    ensures { (job : Option Asked) → job ≡ Some (Check model.now point.now) → MatchResult result
+        (IsTask job (S.tells store.old) (S.tells store.new)) (TaskCause job (S.tells store.old) (S.tells store.new)) }
+{
+    let program = read_program(alloc, store, model)?;
+    let values = read_point(alloc, store, point, &program)?;
+    programs_are_limited();
+    points_are_of_lines();
+    Ok(Task::Check {
+        program,
+        point: values,
+    })
+}
+
+/// Reads the words, and the texts that they name, the model's first. An `Err` is the answer that is to be given then,
+/// without figures: `Usage` comes exactly where the words are not accepted, and then nothing is pulled; `ReadFault`
+/// where a call of the store failed; `Refused` exactly where a text is faulty, the texts before it are not, and it was
+/// pulled to its end, or to byte 67,108,865; `NoMemory` where a growth was refused, and no call of the store failed.
+pub fn read_task<S: Store>(alloc: Global, words: &Words, store: &mut S) -> Result<Task, Plain>
+    ensures { MatchResult result
+        (IsTask (job_of words.now) (S.tells store.old) (S.tells store.new))
+        (TaskCause (job_of words.now) (S.tells store.old) (S.tells store.new)) }
+{
+    match words.job() {
+        Ok(
+            Job::Solve {
+                model,
+                blocks,
+                nodes,
+                gap,
+                plain,
+                trace,
+            },
+        ) => {
+            let program = read_solve(alloc, store, model, blocks)?;
+            Ok(Task::Solve {
+                program,
+                nodes,
+                gap,
+                plain,
+                trace,
+            })
+        }
+        Ok(Job::Check { model, point }) => read_check(alloc, store, model, point),
+        Err(fault) => Err(Plain::from(fault)),
+    }
+}
