@@ -1,0 +1,43 @@
+//! Calls `run` with kits of plugins, as the files say that the words name, over stores and sinks in memory, and prints
+//! what came of each call. README.md says how a row is written.
+#![tactic(auto)]
+
+mod acts;
+mod calling;
+mod draws;
+mod fakes;
+mod fields;
+mod plugs;
+mod row;
+mod setup;
+mod showing;
+
+use row::Row;
+use showing::{show_run, unread};
+use std::rt::{Env, Files};
+use std::{env, fs, io};
+
+/// Prints what came of each run of a row; an error where the file is not there or is no row.
+fn show(rt: &(impl Files + Print + AllocGlobal), name: &str) -> io::Result<()> {
+    println!(rt; "{name}")?;
+    let text = fs::read_to_string(rt, name)?;
+    let Some(row) = Row::read(text.as_str()) else {
+        return Err(unread());
+    };
+    for own in row.runs() {
+        show_run(rt, &row, own)?;
+    }
+    Ok(())
+}
+
+/// Shows the rows in order, and ends at the first that can't be read.
+fn show_all(rt: &(impl Env + Files + Print + AllocGlobal)) -> io::Result<()> {
+    for name in env::args(rt)?.skip(1) {
+        show(rt, name.as_str())?;
+    }
+    Ok(())
+}
+
+fn main(rt: HostRuntime) -> io::Result<()> {
+    show_all(&rt)
+}
