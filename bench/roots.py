@@ -113,7 +113,7 @@ def exchange(table, rates, row, enter):
 
 def root(solver, file):
     before = resource.getrusage(resource.RUSAGE_CHILDREN).ru_utime
-    said = subprocess.run([solver, "solve", file, "--nodes", "1"], capture_output=True, text=True).stdout
+    said = subprocess.run([solver, "solve", file, "--nodes", "1", "--plain"], capture_output=True, text=True).stdout
     bound = dict(line.split(" ", 1) for line in said.splitlines() if " " in line).get("bound", "none")
     return resource.getrusage(resource.RUSAGE_CHILDREN).ru_utime - before, bound
 

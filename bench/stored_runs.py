@@ -68,7 +68,7 @@ RUNS = [
     (["solve", "M"], 0, THIRTEEN),
     (["solve", "--plain", "--nodes", "1000", "M"], 0, THIRTEEN),
     (["solve", "--gap=0", "M"], 0, THIRTEEN),
-    (["solve", "M", "--trace"], 0, THIRTEEN),
+    (["solve", "M", "--trace", "--plain"], 0, THIRTEEN),
     ([], 2, USAGE),
     (["solve"], 2, USAGE),
     (["M"], 2, USAGE),
@@ -104,7 +104,9 @@ RUNS = [
     (["check", "M", "short"], 4, "status refused\ntext point\nline 3\nkind 5 ColumnMissing\nend\n"),
     (["check", "M", "N"], 3, NO_FILE),
     (["solve", "no_objective"], 4, "status refused\ntext model\nline 4\nkind 16 NoObjective\nend\n"),
-    (["solve", "--nodes", "1", "--", "--odd"], 10, "status nodelimit\ncost none\nbound 2\nend\n"),
+    (["solve", "--plain", "--nodes", "1", "--", "--odd"], 10, "status nodelimit\ncost none\nbound 2\nend\n"),
+    # The least cost 3/2 makes x + y + z at most 1, and at least 2: the cut ends the root.
+    (["solve", "--nodes", "1", "--", "--odd"], 0, "status infeasible\nend\n"),
     (["solve", "--", "--odd"], 0, "status infeasible\nend\n"),
 ]
 

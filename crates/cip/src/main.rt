@@ -1,8 +1,12 @@
-//! The program `cip`: its words, the files of the system and standard output, handed to `run`.
+//! The program `cip`: its words, the files of the system and standard output, handed to `run` with the built-in
+//! plugins.
 #![tactic(auto)]
 
+mod builtins;
+
+use builtins::run_with_builtins;
 use cip_io::{HostSink, HostStore};
-use cip_main::{Plain, Words, no_plugins, run, say};
+use cip_main::{Plain, Words, say};
 use std::process::ExitCode;
 use std::{env, io};
 
@@ -20,16 +24,10 @@ fn main(rt: HostRuntime) -> ExitCode {
     let status = match words(&rt) {
         Ok(words) => {
             let mut store = HostStore::new(&rt);
-            let mut kit = no_plugins(rt.alloc());
-            let mut logs = Vec::new(rt.alloc());
-            run(
-                rt.alloc(),
-                &words,
-                &mut store,
-                &mut out,
-                &mut kit,
-                &mut logs,
-            )
+            match run_with_builtins(rt.alloc(), &words, &mut store, &mut out) {
+                Ok(status) => status,
+                Err(_) => say(&mut out, Plain::NoMemory),
+            }
         }
         Err(fault) if fault.kind() == io::ErrorKind::OutOfMemory => say(&mut out, Plain::NoMemory),
         Err(_) => say(&mut out, Plain::Usage),

@@ -1,16 +1,18 @@
 -- What the ends of a form's source say of its value.
-use Rattle.std.proofs.Common.{◌≡◌, ◌≤◌, ◌⊎◌, ℤ, true, false, Bool, List, [], ◌∷◌, Option, None, Some, IfSome, IfOk, Result, Ok, Err, refl, sym, ap, ◌∙◌, subst, arith, inl, inr}
-use Rattle.std.specs.Prelude.{pos}
+use Rattle.std.proofs.Common.{◌≡◌, ◌≤◌, ◌⊎◌, ℤ, true, false, Bool, true≢false, List, [], ◌∷◌, Option, None, Some, IfSome, IfOk, Result, Ok, Err, refl, sym, ap, ◌∙◌, subst, arith, inl, inr}
+use Rattle.std.specs.Prelude.{pos, not, cond}
 use Rattle.cip_rational.specs.Rational.{ℚ, ◌+ℚ◌, ◌*ℚ◌, zeroℚ, negate, ◌≤ℚ◌, IsWhole, numerator, denominator}
-use Rattle.cip_rational.specs.Range.{fits_range, magnitude, largest}
+use Rattle.cip_rational.specs.Range.{fits_range, magnitude, largest, product_overflows}
 use Rattle.cip_rational.proofs.Range.InRange.{fits_in}
 use Rattle.cip_rational.proofs.Rational.Order.{≤ℚ_refl, le_of_lt_test}
-use Rattle.cip_rational.proofs.Rational.Ring.{+ℚ-zero, negate-*ℚ}
+use Rattle.cip_rational.proofs.Rational.Ring.{+ℚ-zero, zero-+ℚ, negate-*ℚ}
+use Rattle.cip_rational.proofs.Rational.Whole.{IsWhole-zero}
 use Rattle.cip_rational.proofs.Linear.{linear_le}
 use Rattle.cip_problem.specs.Program.{Term, Sides}
 use Rattle.cip_problem.specs.Box.{Between, sides_inside, no_sides}
 use Rattle.cip_problem.proofs.Box.SideTests.{sides_inside_holds}
-use Rattle.cip_frac.specs.Outcomes.{product_added}
+use Rattle.cip_frac.specs.declared.operations.Wide.{Wide}
+use Rattle.cip_frac.specs.Outcomes.{and_then, sum_outcome, product_added}
 use Rattle.cip_frac.proofs.Outcomes.{product_added-value}
 use Rattle.cip_lin.specs.declared.outcomes.Least.{Least}
 use Rattle.cip_lin.specs.declared.outcomes.Least.TheVariants.{Value}
@@ -69,16 +71,34 @@ end_fits constant factor value sum n d e a b k l =
     let v : sum ≡ constant +ℚ factor *ℚ value = rw e at (product_added-value constant factor value) in
     subst (λ t. fits_range t ≡ true) v (fits_by sum n d a b k l)
 
-pub ruleset ends = (end_fits)
+-- where the sum with a product came to a value, the product was in range
+formed : (overflows : Bool) (wide : Wide) (product sum : ℚ) (next : ℚ → Result ℚ Wide) → and_then (cond overflows (Err wide) (Ok product)) next ≡ Ok sum → overflows ≡ false
+formed true wide product sum next e = cc
+formed false wide product sum next e = refl
+
+not_out : (b : Bool) → not b ≡ false → b ≡ true
+not_out true e = refl
+not_out false e = absurd (true≢false e)
+
+in_range : (a b : ℚ) → product_overflows a b ≡ false → fits_range (a *ℚ b) ≡ true
+unfolding product_overflows
+in_range a b e = not_out (fits_range (a *ℚ b)) e
+
+pub product_fits : (constant factor value sum : ℚ) → product_added constant factor value ≡ Ok sum → fits_range (factor *ℚ value) ≡ true
+product_fits constant factor value sum e =
+    in_range factor value (formed (product_overflows factor value) _ (factor *ℚ value) sum (λ product. sum_outcome constant product) e)
+
+pub ruleset ends = (end_fits, product_fits)
 
 not_past : (low high : ℚ) → is_past (Some low) (Some high) ≡ false → low ≤ℚ high
 not_past low high e = le_of_lt_test e
 
-pub assigned_by : (form : Form) (own : Sides) (low high : ℚ) → own.low ≡ Some low → own.high ≡ Some high → is_past own.low own.high ≡ false → IsWhole form.constant → IsWhole form.factor → IsWhole low → fits_range (form.constant +ℚ form.factor *ℚ low) ≡ true → IsWhole high → fits_range (form.constant +ℚ form.factor *ℚ high) ≡ true → FormAssigns form own
-assigned_by form own low high l u p c f wl fl wh fh = record {
+pub assigned_by : (form : Form) (own : Sides) (low high : ℚ) → own.low ≡ Some low → own.high ≡ Some high → is_past own.low own.high ≡ false → IsWhole form.constant → IsWhole form.factor → IsWhole low → fits_range (form.constant +ℚ form.factor *ℚ low) ≡ true → fits_range (form.factor *ℚ low) ≡ true → IsWhole high → fits_range (form.constant +ℚ form.factor *ℚ high) ≡ true → fits_range (form.factor *ℚ high) ≡ true → FormAssigns form own
+assigned_by form own low high l u p c f wl fl pl wh fh ph = record {
   constant = c;
   factor = f;
   values = λ v w b. let a = ends_assign form own no_sides v ends w b in record { whole = a.whole; in_range = a.in_range };
+  products = λ v w b. subst (λ t. fits_range t ≡ true) (zero-+ℚ (form.factor *ℚ v)) (ends_assign product own no_sides v product_ends w b).in_range;
   start = low;
   start_whole = wl;
   start_between = record {
@@ -96,6 +116,20 @@ assigned_by form own low high l u p c f wl fl wh fh = record {
       high_whole = wh;
       low_fits = fl;
       high_fits = fh;
+    }
+
+    product : Form
+    product = record { constant = zeroℚ; factor = form.factor; source = form.source }
+
+    product_ends : EndsAssign product own no_sides
+    product_ends = record {
+      keep = record { low = low; high = high; is_low = l; is_high = u; at_low = record { above = tt; below = tt }; at_high = record { above = tt; below = tt } };
+      constant = IsWhole-zero;
+      factor = f;
+      low_whole = wl;
+      high_whole = wh;
+      low_fits = subst (λ t. fits_range t ≡ true) (sym (zero-+ℚ (form.factor *ℚ low))) pl;
+      high_fits = subst (λ t. fits_range t ≡ true) (sym (zero-+ℚ (form.factor *ℚ high))) ph;
     }
 
 pub ruleset assigning = (assigned_by)

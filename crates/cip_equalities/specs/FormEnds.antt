@@ -26,13 +26,16 @@ pub record IsWholeInRange (value : ℚ) : Type 0 where
   pub whole : IsWhole value
   pub in_range : fits_range value ≡ true
 
--- a form has whole values in range at whole values of its source between sides, and there is such a value
+-- a form has whole values in range at whole values of its source between sides, the product that is formed before the
+-- constant is added is in range, too, and there is such a value
 pub record FormAssigns (form : Form) (own : Sides) : Type 0 where
   pub constant : IsWhole form.constant
   pub factor : IsWhole form.factor
   pub values : (value : ℚ)
       → IsWhole value → Between own.low own.high value
       → IsWholeInRange (form.constant +ℚ form.factor *ℚ value)
+  pub products : (value : ℚ)
+      → IsWhole value → Between own.low own.high value → fits_range (form.factor *ℚ value) ≡ true
   pub start : ℚ
   pub start_whole : IsWhole start
   pub start_between : Between own.low own.high start

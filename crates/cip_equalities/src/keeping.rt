@@ -51,11 +51,13 @@ pub fn keeps(form: &ColumnForm, own: Sides, outer: Sides) -> bool
     extent_of(form, own).is_inside(outer)
 }
 
-/// Whether the value of a form at a whole value of its source is in range, and the latter is whole.
+/// Whether the value of a form at a whole value of its source is in range, and so is the product that is formed before
+/// the constant is added, and the source's value is whole.
 #[tactic(auto, using(crate::proofs::FormsKept::ends))]
 fn fits_at(form: &ColumnForm, value: Frac) -> bool
     ensures whole { OnTrue result (IsWhole value) }
     ensures fits { OnTrue result (fits_range (form.now.constant +ℚ form.now.factor *ℚ value) ≡ true) }
+    ensures product { OnTrue result (fits_range (form.now.factor *ℚ value) ≡ true) }
 {
     match form.constant.plus_product(form.factor, value) {
         Ok(sum) => {
@@ -75,8 +77,8 @@ fn is_whole(form: &ColumnForm) -> bool
     form.constant.is_whole() && form.factor.is_whole()
 }
 
-/// Whether a form has whole values in range at whole values of its source between its sides, and there is such a value,
-/// as far as the ends tell.
+/// Whether a form has whole values in range at whole values of its source between its sides, and the factor's product
+/// with each of these is in range, and there is such a value, as far as the ends tell.
 #[tactic(auto, using(crate::proofs::FormsKept::assigning))]
 pub fn assigns(form: &ColumnForm, own: Sides) -> bool
     ensures { OnTrue result (FormAssigns form.now own) }

@@ -15,11 +15,13 @@ pub record Stock : Type 0 where
   pub shelf : List Who
   pub spent : List Back
 
--- so it is of a kit, by what a plugin means; P1 to P7 are the types of plugins of the seven kinds
-abbrev pub stock_of : {P1 P2 P3 P4 P5 P6 P7 : Type 0}
-    {D1 : P1 → Type 0} {D2 : P2 → Type 0} {D3 : P3 → Type 0} {D4 : P4 → Type 0}
-    {D5 : P5 → Type 0} {D6 : P6 → Type 0} {D7 : P7 → Type 0}
-    → (AnyPlugin P1 P2 P3 P4 P5 P6 P7 D1 D2 D3 D4 D5 D6 D7 → Who) → Kit P1 P2 P3 P4 P5 P6 P7 D1 D2 D3 D4 D5 D6 D7 → Stock
+-- so it is of a kit, by what a plugin means; X1 to X7 are the types of plugins of the seven kinds, and Y1 to Y7 what is
+-- kept of their values
+abbrev pub stock_of : {X1 X2 X3 X4 X5 X6 X7 : Type 0}
+    {Y1 : X1 → Type 0} {Y2 : X2 → Type 0} {Y3 : X3 → Type 0} {Y4 : X4 → Type 0}
+    {Y5 : X5 → Type 0} {Y6 : X6 → Type 0} {Y7 : X7 → Type 0}
+    → (AnyPlugin X1 X2 X3 X4 X5 X6 X7 Y1 Y2 Y3 Y4 Y5 Y6 Y7 → Who)
+    → Kit X1 X2 X3 X4 X5 X6 X7 Y1 Y2 Y3 Y4 Y5 Y6 Y7 → Stock
 stock_of who kit = record {
   start = map who kit.start.items;
   shelf = map who kit.shelf.items;

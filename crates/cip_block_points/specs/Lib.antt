@@ -1,0 +1,2 @@
+pub mod BlockVerdicts
+pub mod TakenPoints

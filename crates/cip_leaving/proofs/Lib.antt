@@ -1,0 +1,2 @@
+pub mod MayLeave
+pub mod StayingColumns

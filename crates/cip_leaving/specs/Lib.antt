@@ -1,0 +1,3 @@
+pub mod ColumnsOut
+pub mod KeptRows
+pub mod SpentRows

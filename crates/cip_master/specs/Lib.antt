@@ -1,0 +1,3 @@
+pub mod CombinedFactors
+pub mod MasterAnswers
+pub mod MasterSolving

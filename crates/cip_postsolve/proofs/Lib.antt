@@ -1,0 +1,3 @@
+pub mod FilledPoints
+pub mod Placed
+pub mod PointsBack

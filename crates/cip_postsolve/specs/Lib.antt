@@ -1,0 +1,4 @@
+pub mod FilledPoints
+pub mod Places
+pub mod PostsolveFaults
+pub mod StepsBack
