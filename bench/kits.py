@@ -207,7 +207,7 @@ def row_by(draw, kits, path):
     """Writes a row file with a search without plugins and searches with kits: the program, and the lines of each."""
     program = program_by(draw)
     runs = [[]] + [kit_by(draw) for _ in range(kits)]
-    lines = ["word solve", "word M", "word --trace"] + [line for own in runs for line in ["run"] + own]
+    lines = ["word solve", "word M", "word --trace", "room 4000000"] + [line for own in runs for line in ["run"] + own]
     with open(path, "w") as file:
         file.write("\n".join(lines + ["text M"] + text_of(program)) + "\n")
     return program, runs

@@ -1,9 +1,3 @@
 pub mod Chained
-pub mod Compacted
-pub mod CopiedParts
-pub mod Gone
-pub mod Leaving
-pub mod Leftovers
-pub mod MovedRows
-pub mod StepsBack
-pub mod Unchanged
+pub mod LeadsBack
+pub mod Substituted

@@ -1,5 +1,3 @@
-pub mod ColumnsOut
-pub mod LeftProgram
 pub mod Presolving
 pub mod RoundEnds
-pub mod StepsBack
+pub mod Substitutions

@@ -1,17 +1,14 @@
 //! Presolve: steps that take out rows and columns of a program, each a proved reduction, and the way back.
 #![tactic(auto)]
 
-mod columns_out;
-mod copies;
 mod keys;
-mod left_lists;
-mod left_rows;
 mod presolved;
 mod queues;
 mod rounds;
 mod row_looks;
-mod steps;
+mod substituting;
 
-pub use presolved::{PresolveEnd, Presolved, presolve, presolve_all, presolved_leads_back};
+pub use cip_compaction::Presolved;
+pub use cip_postsolve::{PostsolveFault, Steps, leaf_fits, postsolve, whole_part};
+pub use presolved::{PresolveEnd, presolve, presolve_all, presolved_leads_back};
 pub use row_looks::Place;
-pub use steps::{Steps, postsolve, whole_part};

@@ -88,6 +88,14 @@ impl RowLists {
         Ok(lists)
     }
 
+    /// A row has a term on a column from now on. `Err` comes where a growth was refused.
+    pub fn put(&mut self, row: u32, column: u32) -> Result<(), AllocError> {
+        if let Some(list) = self.lists.get_mut(column as usize) {
+            list.push(row)?;
+        }
+        Ok(())
+    }
+
     /// The rows of a column.
     pub fn rows(&self, column: u32) -> &[u32] {
         match self.lists.get(column as usize) {
@@ -100,11 +108,13 @@ impl RowLists {
 /// The most steps that presolve takes.
 const MOST_STEPS: u32 = 1_000_000;
 
-/// What waits to be looked at, where a change of a column leads, and how many steps were taken.
+/// What waits to be looked at, where a change of a column leads, which rows gave a column its form for a substitution,
+/// and how many steps were taken.
 #[derive(Debug, Drop)]
 pub struct Work {
     queue: Queue,
     lists: RowLists,
+    used: Vec<bool>,
     steps: u32,
 }
 
@@ -114,6 +124,7 @@ impl Work {
         requires { length rows.now < 2 ^ 32 }
     {
         let lists = RowLists::new(alloc, rows, columns)?;
+        let used = vec![in alloc; false; rows.len()]?;
         let mut queue = Queue::new(alloc, rows.len())?;
         for back in 0..rows.len() {
             queue.add((rows.len() - 1 - back) as u32)?;
@@ -121,6 +132,7 @@ impl Work {
         Ok(Work {
             queue,
             lists,
+            used,
             steps: 0,
         })
     }
@@ -160,5 +172,37 @@ impl Work {
     pub fn column_changed(&mut self, column: u32) -> Result<(), AllocError> {
         self.count_step();
         self.queue.add_all(self.lists.rows(column))
+    }
+
+    /// A step was taken that puts a term on a column into a row, which waits from now on. `Err` comes where a growth
+    /// was refused.
+    pub fn row_moved(&mut self, row: u32, column: u32) -> Result<(), AllocError> {
+        self.lists.put(row, column)?;
+        self.row_changed(row)
+    }
+
+    /// How many rows may have a term on a column.
+    pub fn count_of(&self, column: u32) -> usize {
+        self.lists.rows(column).len()
+    }
+
+    /// One of the rows that may have a term on a column.
+    pub fn row_of(&self, column: u32, at: usize) -> Option<u32> {
+        self.lists.rows(column).get(at).copied()
+    }
+
+    /// Whether a row gave a column its form for a substitution.
+    pub fn is_used(&self, row: u32) -> bool {
+        match self.used.get(row as usize) {
+            Some(used) => *used,
+            None => true,
+        }
+    }
+
+    /// A row gives a column its form for a substitution.
+    pub fn mark_used(&mut self, row: u32) {
+        if let Some(used) = self.used.get_mut(row as usize) {
+            *used = true;
+        }
     }
 }

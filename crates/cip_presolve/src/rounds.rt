@@ -8,6 +8,7 @@ ghost use Rattle.cip_presolve.specs.RoundEnds.{RoundEndsRightly};
 use crate::keys::sorted_keys;
 use crate::queues::Work;
 use crate::row_looks::{Place, RoundEnd, look_at, merge_pair};
+use crate::substituting::substitute_all;
 use cip_global_steps::{free_columns, try_move};
 use cip_steps::{Draft, Outcome};
 use std::alloc::{AllocError, Global};
@@ -173,8 +174,27 @@ fn move_both(alloc: Global, draft: &mut Draft, work: &mut Work) -> Result<(), Al
     move_columns(alloc, draft, true, work)
 }
 
-/// Takes the exact steps until none applies, and then moves columns that no row holds. `Err` comes where a growth was
-/// refused.
+/// Takes the exact steps until none applies, and then substitutes columns by equalities of two terms. `Err` comes where
+/// a growth was refused.
+#[tactic(auto, using(crate::proofs::Chained::chains))]
+fn settle_and_substitute(
+    alloc: Global,
+    draft: &mut Draft,
+    work: &mut Work,
+) -> Result<RoundEnd, AllocError>
+    requires { length draft.old.rows ≤ most_rows }
+    ensures step { IsExactStep draft.old draft.new }
+    ensures end { IfOk result (RoundEndsRightly draft.new) }
+    ensures rows { length draft.new.rows ≡ length draft.old.rows }
+{
+    match settle(alloc, draft, work)? {
+        RoundEnd::Open => substitute_all(alloc, draft, work),
+        end => Ok(end),
+    }
+}
+
+/// Takes the exact steps until none applies, substitutes columns, and then moves columns that no row holds. `Err` comes
+/// where a growth was refused.
 #[tactic(auto, using(crate::proofs::Chained::dual_chains))]
 fn settle_and_move(
     alloc: Global,
@@ -186,7 +206,7 @@ fn settle_and_move(
     ensures end { IfOk result (RoundEndsRightly draft.new) }
     ensures rows { length draft.new.rows ≡ length draft.old.rows }
 {
-    match settle(alloc, draft, work)? {
+    match settle_and_substitute(alloc, draft, work)? {
         RoundEnd::Open => {
             move_both(alloc, draft, work)?;
             Ok(RoundEnd::Open)

@@ -5,8 +5,8 @@ ghost use Rattle.cip_implied_sides.specs.Taken.{IsEnclosed};
 ghost use Rattle.cip_presolve.specs.RoundEnds.{RoundEndsRightly};
 
 use crate::keys::{are_alike, row_of};
-use crate::left_rows::says_nothing;
 use crate::queues::Work;
+use cip_compaction::says_nothing;
 use cip_global_steps::try_merge;
 use cip_implied_sides::{open_places, row_extent, try_implied};
 use cip_lin::Sides;
@@ -32,7 +32,7 @@ pub enum RoundEnd {
 }
 
 /// Tells the work of a step, if one was taken. `Err` comes where a growth was refused.
-fn tell(work: &mut Work, outcome: Outcome) -> Result<(), AllocError> {
+pub(crate) fn tell(work: &mut Work, outcome: Outcome) -> Result<(), AllocError> {
     match outcome {
         Outcome::Tightened(column) => work.column_changed(column),
         Outcome::Gone => {

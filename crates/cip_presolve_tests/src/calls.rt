@@ -3,7 +3,7 @@ use crate::programs::{THREE_COLUMNS, program_of};
 use cip_frac::Frac;
 use cip_model::Program;
 use cip_presolve::{
-    Place, PresolveEnd, Presolved, Steps, postsolve, presolve, presolve_all, whole_part,
+    Place, PresolveEnd, Presolved, Steps, leaf_fits, postsolve, presolve, presolve_all, whole_part,
 };
 use std::alloc::{AllocError, Global};
 
@@ -95,6 +95,42 @@ const CASES: &[Case] = &[
             wholes: &[],
         },
     },
+    // for whole x and y, y is 2x + 3, which is from 3 to 9 as x + y <= 9 says, so x is at most 3; y leaves that row,
+    // which then says 3x <= 6, and the cost 4x - y, which is 2x - 3; at last it leaves with its equality
+    Case {
+        text: "ROWS\n N COST\n E R\n L S\nCOLUMNS\n M 'MARKER' 'INTORG'\n x COST 4 R 2\n x S 1\n\
+            \x20y COST -1 R -1\n y S 1\nRHS\n RHS R -3 S 9\nBOUNDS\n UI B x 5\n UI B y 20\nENDATA\n",
+        any: Kind::Left {
+            rows: 0,
+            columns: 1,
+            point: &[0, 3],
+            wholes: &[0, 3],
+        },
+        all: Kind::Left {
+            rows: 2,
+            columns: 2,
+            point: &[0, 0],
+            wholes: &[0, 0],
+        },
+    },
+    // x is 2y - 2, so y is from 1 to 5/2, and x + 2z <= 4 says 2y + 2z <= 6; no column moves, as each costs less the
+    // greater it is
+    Case {
+        text: "ROWS\n N COST\n E R\n L S\nCOLUMNS\n x COST -1 R 1\n x S 1\n y R -2\n z COST -3 S 2\n\
+            RHS\n RHS R -2 S 4\nBOUNDS\n UP B x 3\n UP B y 9\n UP B z 7\nENDATA\n",
+        any: Kind::Left {
+            rows: 1,
+            columns: 2,
+            point: &[-2, 0, 0],
+            wholes: &[],
+        },
+        all: Kind::Left {
+            rows: 2,
+            columns: 3,
+            point: &[0, 0, 0],
+            wholes: &[],
+        },
+    },
 ];
 
 /// So many zeros.
@@ -116,15 +152,14 @@ fn are(values: &[Frac], numbers: &[i64]) -> bool {
 }
 
 /// A point of zeros of a reduced program with so many columns comes back as these.
-fn point_is(
-    alloc: Global,
-    steps: &Steps,
-    columns: usize,
-    point: &[i64],
-) -> Result<bool, AllocError> {
-    let left = zeros(alloc, columns)?;
-    let whole = postsolve(alloc, steps, left.as_slice())?;
-    Ok(are(whole.as_slice(), point))
+fn point_is(alloc: Global, steps: &Steps, columns: usize, point: &[i64]) -> bool {
+    let Ok(left) = zeros(alloc, columns) else {
+        return false;
+    };
+    match postsolve(alloc, steps, left.as_slice()) {
+        Ok(whole) => are(whole.as_slice(), point),
+        Err(_) => false,
+    }
 }
 
 /// Zeros of all whole columns that are left come back as these.
@@ -135,6 +170,9 @@ fn wholes_are(
     wholes: &[i64],
 ) -> Result<bool, AllocError> {
     let left = zeros(alloc, columns)?;
+    if !leaf_fits(alloc, steps, left.as_slice())? {
+        return Ok(false);
+    }
     let whole = whole_part(alloc, steps, left.as_slice())?;
     Ok(are(whole.as_slice(), wholes))
 }
@@ -153,7 +191,7 @@ fn is_left(alloc: Global, presolved: &Presolved, kind: Kind) -> bool {
     if presolved.reduced.rows().len() != rows || presolved.reduced.columns() != columns {
         return false;
     }
-    matches!(point_is(alloc, &presolved.steps, columns, point), Ok(true))
+    point_is(alloc, &presolved.steps, columns, point)
         && matches!(
             wholes_are(alloc, &presolved.steps, columns, wholes),
             Ok(true)
@@ -206,7 +244,7 @@ fn is_same(alloc: Global, program: &Program, presolved: &Presolved) -> bool {
     presolved.reduced.rows().len() == program.rows().len()
         && presolved.reduced.bounds().as_slice() == program.bounds().as_slice()
         && presolved.kept.as_slice() == [0u32, 1, 2].as_slice()
-        && matches!(point_is(alloc, &presolved.steps, 3, &[0, 0, 0]), Ok(true))
+        && point_is(alloc, &presolved.steps, 3, &[0, 0, 0])
 }
 
 fn stays_same(alloc: Global) -> bool {

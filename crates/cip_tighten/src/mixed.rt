@@ -12,7 +12,7 @@ use cip_row_sums::{
 use std::alloc::{AllocError, Global};
 
 // The most cuts of a round.
-const MOST_CUTS: usize = 5;
+const MOST_CUTS: usize = 3;
 
 // The most rows of a sum.
 const MOST_ROWS: usize = 6;

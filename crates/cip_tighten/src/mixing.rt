@@ -167,37 +167,19 @@ pub(crate) fn best_division(
     found(best_of(shifted, &more, Some(first), terms)?)
 }
 
-/// Adds the sizes of coefficients of whole columns to a list, those between their sides alone or the others, as long as
-/// there are fewer than so many.
-fn list_sizes(
-    items: &[Shift],
-    between: bool,
-    most: usize,
-    divisors: &mut Vec<i64>,
-) -> Result<(), Stop> {
-    for shift in items {
-        if divisors.len() >= most {
-            return Ok(());
-        }
-        let size = shift.coef.saturating_abs();
-        if shift.is_whole
-            && shift.is_between() == between
-            && !divisors.iter().any(|by| *by == size)
-        {
-            divisors.push(size)?;
-        }
-    }
-    Ok(())
-}
-
-/// Lists the numbers that a row is tried with: 1, and the sizes of the coefficients of its whole columns, of a long row
-/// of those between their sides alone.
+/// Lists the numbers that a row is tried with: 1, and the sizes of the coefficients of its whole columns that lie
+/// between their sides, at most 32 in all.
 pub(crate) fn list_divisors(items: &[Shift], divisors: &mut Vec<i64>) -> Result<(), Stop> {
     divisors.clear();
     divisors.push(1)?;
-    list_sizes(items, true, 32, divisors)?;
-    if items.len() <= 200 {
-        list_sizes(items, false, 64, divisors)?;
+    for shift in items {
+        if divisors.len() >= 32 {
+            return Ok(());
+        }
+        let size = shift.coef.saturating_abs();
+        if shift.is_whole && shift.is_between() && !divisors.iter().any(|by| *by == size) {
+            divisors.push(size)?;
+        }
     }
     Ok(())
 }

@@ -4,7 +4,7 @@ use Rattle.cip_problem.specs.Program.{Program}
 use Rattle.cip_reductions.specs.NarrowedPrograms.{IsExactStep, IsInfeasible}
 use Rattle.cip_steps.specs.DraftParts.{unnamed}
 use Rattle.cip_presolve.proofs.Chained.{is_step}
-use Rattle.cip_presolve.proofs.Compacted.{infeasible_exactly}
+use Rattle.cip_compaction.proofs.LeftPairs.{infeasible_exactly}
 use Rattle.cip_presolve.proofs.presolved.presolve_all.Goals as goal
 
 pub returns-in-NoPoint : goal.returns-in-NoPoint
@@ -16,5 +16,5 @@ returns-in-NoPoint c =
 pub reduce_exactly-requires : goal.reduce_exactly-requires
 reduce_exactly-requires c = subst (λ (p : Program). length p.rows ≤ most_rows) (sym c.in_ok-draft.ensures) c.columns-columns.ensures.formed.few_rows
 
-pub finished-requires-clause-step : goal.finished-requires-clause-step
-finished-requires-clause-step c = is_step _ _ (subst (λ (p : Program). IsExactStep p c.reduce_exactly.new.draft) c.in_ok-draft.ensures c.reduce_exactly.ensures.step)
+pub compacted-requires-clause-step : goal.compacted-requires-clause-step
+compacted-requires-clause-step c = is_step _ _ (subst (λ (p : Program). IsExactStep p c.reduce_exactly.new.draft) c.in_ok-draft.ensures c.reduce_exactly.ensures.step)

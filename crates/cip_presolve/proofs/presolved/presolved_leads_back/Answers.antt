@@ -1,4 +1,4 @@
-use Rattle.cip_presolve.proofs.Compacted.{leads_back}
+use Rattle.cip_presolve.proofs.LeadsBack.{leads_back}
 use Rattle.cip_presolve.proofs.presolved.presolved_leads_back.Goals as goal
 
 pub returns : goal.returns

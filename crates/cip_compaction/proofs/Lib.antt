@@ -1,0 +1,7 @@
+pub mod CopiedParts
+pub mod Gone
+pub mod LeavesFit
+pub mod LeftPairs
+pub mod Leftovers
+pub mod MovedRows
+pub mod Unchanged

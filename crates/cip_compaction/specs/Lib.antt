@@ -1,0 +1,3 @@
+pub mod EntriesLeft
+pub mod LeftProgram
+pub mod PresolvedPrograms

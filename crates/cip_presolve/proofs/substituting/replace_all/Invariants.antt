@@ -1,0 +1,11 @@
+use Rattle.std.proofs.Common.{◌≡◌, length}
+use Rattle.cip_reductions.specs.NarrowedPrograms.{IsExactStep}
+use Rattle.cip_presolve.specs.Substitutions.{IsFound}
+use Rattle.cip_presolve.proofs.substituting.replace_all.Given as goal
+
+abbrev pub invariant-loop-at : goal.invariant-loop-at
+invariant-loop-at l = record {
+  step : IsExactStep l.initial.draft l.draft;
+  found : IsFound l.draft l.found;
+  rows : length l.draft.rows ≡ length l.initial.draft.rows;
+}
