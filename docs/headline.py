@@ -7,8 +7,8 @@ record or a data type; lemmas that definitions rest on are not followed, since t
 
 Without a word it prints each definition with the line that says it in words, file by file. --files prints the files
 with their counts, --table a table of crates for docs/ARCHITECTURE.md. A definition that is reached only through these
-fields (`Runs.work` and `Runs.kit` where nothing is said: how a search worked, and what became of the plugins, two parts
-of the contract beside the headline) has a star.
+fields (`Runs.work`, `Runs.kit` and `SelfClause.told` where nothing is said: how a search worked, and what became of the
+plugins, beside the headline) has a star.
 Types of code, and words of std and clap, end the way; they are named at the end."""
 import argparse
 import re
@@ -281,7 +281,7 @@ def main():
     reader = argparse.ArgumentParser(description=__doc__, formatter_class=argparse.RawDescriptionHelpFormatter)
     reader.add_argument("--files", dest="how", action="store_const", const="files", default="all")
     reader.add_argument("--table", dest="how", action="store_const", const="table")
-    reader.add_argument("--apart", nargs="*", default=["Runs.work", "Runs.kit"])
+    reader.add_argument("--apart", nargs="*", default=["Runs.work", "Runs.kit", "SelfClause.told"])
     asked = reader.parse_args()
     starts = list(roots())
     reached, figures = follow(starts), follow(starts, tuple(asked.apart))

@@ -73,7 +73,10 @@ left_of program start nodes asked log marked answer r s =
         is_least = subst (λ held. IsLeast program start log held answer.bound) costs (is_least n m);
       };
       no_bound = λ n m e. none_least program start log (ends.cost_of_held answer.held) (subst (IsOneOf program start log (ends.cost_of_held answer.held)) (none_before program answer.bound e) (is_least n m).one);
-      empty = λ e. ap (status_of rows) (r.searched e);
+      empty = λ e. elim (r.searched e) [
+        | inl m ↦ inl (ap (status_of rows) m)
+        | inr i ↦ inr (ap (status_of rows) i)
+      ];
       ray = λ ray e. r.ray ray (is_unbounded rows answer.ended ray e);
       shown = λ ray e. subst (λ point. IsShownBeside program point ray) (points_held program answer.held) (s ray (is_unbounded rows answer.ended ray e));
     }

@@ -1,12 +1,11 @@
 -- What a search has answered has its figures told.
-use Rattle.std.specs.Prelude.{◌≡◌, ◌⊎◌, ℕ, Bool, true, false, List, [], Option, None, refl}
+use Rattle.std.specs.Prelude.{◌≡◌, ◌⊎◌, ℕ, ◌<◌, Bool, true, false, List, [], Option, None, refl}
 use Rattle.std.proofs.Common.{sym, ap, subst, inl, inr}
 use Rattle.cip_events.specs.declared.traces.Trace.{Trace}
 use Rattle.cip_io.specs.Sink.{SinkTells}
 use Rattle.cip_problem.specs.Program.{Program}
 use Rattle.cip_problem.specs.Log.{Entry}
-use Rattle.cip_answers.specs.Figures.{exit_status, names_of}
-use Rattle.cip_trace_texts.specs.TraceTexts.{traced_text}
+use Rattle.cip_answers.specs.Figures.{exit_status}
 use Rattle.cip_input.specs.LimitedModels.{IsLimited}
 use Rattle.cip_report.specs.Answers.{AnswerFits, figures_of, status_of}
 use Rattle.cip_report.specs.declared.figures.Ended.{Ended}
@@ -21,7 +20,7 @@ use Rattle.cip_solve.specs.KitsServed.{is_alone, IsLeftAlone, IsKitAfter}
 use Rattle.cip_solve.specs.Solved.{IsSolved}
 use Rattle.cip_solve.specs.declared.logs.Log.{Log}
 use Rattle.cip_solve.proofs.Fits.{answer_fits}
-use Rattle.cip_answering.specs.Answering.{AddsLog, AddsNone, IsLogged}
+use Rattle.cip_answering.specs.Answering.{Telling, AddsLog, AddsNone, IsLogged}
 use Rattle.cip_answering.specs.Work.{Searched, TellsWhatIsLeft, Works}
 use Rattle.cip_words.specs.Jobs.{Limits}
 use Rattle.cip_answering.specs.Saying.{Says}
@@ -46,9 +45,9 @@ not_searched : (program : Program) (limits : Limits) (logs : List Log) (stock : 
 not_searched program limits logs stock answer r untold = record {
   entries = [];
   marks = [];
-  right = record { start = r.start; root = r.root; right = r.right; shown = r.shown; met = λ e. r.met refl };
+  right = record { start = r.start; root = r.root; right = r.right; shown = r.shown; taken = λ e. r.taken refl; met = λ e. r.met refl };
   kit = left_alone (is_alone limits.plain stock) limits.trace stock answer.trace untold;
-  logged = inr (record { same = refl; no_entries = refl }, lacks answer.ended (r.right.searched refl));
+  logged = inr (record { same = refl; no_entries = refl }, lacks answer.ended (r.taken refl refl));
   marked = inr (record { same = refl; no_marks = refl });
 }
 
@@ -66,14 +65,14 @@ printed_log rows old new entries ended (inl l) = inl l
 printed_log rows old new entries ended (inr n) = inr (n.0, ap (status_of rows) n.1)
 
 -- what a search has answered, with its figures told
-pub works_of : (program : Program) (limits : Limits) (old new : List Log) (stock stock_after : Stock) (answer : Answer) (sink sink_after : SinkTells) (result : ℕ) → IsLimited program → Searched program limits old new stock stock_after answer → Says sink sink_after (traced_text (names_of program) (figures_of program answer) (kept_lines answer.trace)) (exit_status (figures_of program answer).status) result → Works program limits sink sink_after old new stock stock_after result
-works_of program limits old new stock stock_after answer sink sink_after result l s told = record {
+pub works_of : (program : Program) (limits : Limits) (text_of : Telling) (old new : List Log) (stock stock_after : Stock) (answer : Answer) (sink sink_after : SinkTells) (result : ℕ) → IsLimited program → 0 < limits.nodes → Searched program limits old new stock stock_after answer → Says sink sink_after (text_of (figures_of program answer) (kept_lines answer.trace)) (exit_status (figures_of program answer).status) result → Works program limits text_of sink sink_after old new stock stock_after result
+works_of program limits text_of old new stock stock_after answer sink sink_after result l some s told = record {
   answers = record {
     figures = figures_of program answer;
     box = root_value program;
     start = s.right.start;
     entries = s.entries;
-    are_true = are_true program limits.nodes limits.gap (is_alone limits.plain stock) s.entries s.marks answer l.well_formed s.right;
+    are_true = are_true program limits.nodes limits.gap limits.plain s.entries s.marks answer some l.well_formed s.right;
     lines = kept_lines answer.trace;
     told = told;
     untraced = λ e. ap kept_lines (none_told (is_alone limits.plain stock) limits.trace s.entries stock stock_after answer.trace s.kit e);

@@ -1,5 +1,5 @@
 -- The figures that are printed of an answer of the code are those of the answer that it stands for.
-use Rattle.std.proofs.Common.{◌≡◌, ◌≢◌, ℕ, Bool, List, Option, None, Some, refl, ap, subst}
+use Rattle.std.proofs.Common.{◌≡◌, ◌≢◌, ℕ, ◌<◌, Bool, List, Option, None, Some, refl, ap, subst}
 use Rattle.std.specs.Prelude.{option_map}
 use Rattle.cip_rational.specs.Rational.{ℚ}
 use Rattle.cip_problem.specs.Program.{Program}
@@ -76,11 +76,12 @@ lacks (Wide leaf on shown) e = absurd (cc)
 lacks NoMemory e = refl
 
 -- a right answer has true figures
-pub are_true : (program : Program) (nodes : ℕ) (asked : Option ℚ) (alone : Bool) (log : List Entry) (marks : List (ℕ × Mark)) (answer : Answer) → IsWellFormed program → (r : IsSolvedBy program nodes asked alone log marks (answer_of answer)) → AreTrue program (root_value program) r.start nodes asked log (figures_of program answer)
-are_true program nodes asked alone log marks answer formed r =
+pub are_true : (program : Program) (nodes : ℕ) (asked : Option ℚ) (plain : Bool) (log : List Entry) (marks : List (ℕ × Mark)) (answer : Answer) → 0 < nodes → IsWellFormed program → (r : IsSolvedBy program nodes asked plain log marks (answer_of answer)) → AreTrue program (root_value program) r.start nodes asked log (figures_of program answer)
+are_true program nodes asked plain log marks answer some formed r =
     let box = root_value program in
     let least : NoMore box r.start = root_no_less program box r.start r.root.whole r.root.plain in
     let printable : IsPrintable program box r.start nodes asked log (answer_of answer) = record {
+      some = some;
       right = r.right.right;
       bound = λ n m. no_more box r.start answer.bound least (tells r.start answer.bound (ended_of answer.ended) n m r.right.bound);
       ray = r.right.long;

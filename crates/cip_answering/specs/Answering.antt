@@ -5,8 +5,9 @@ use Rattle.cip_io.specs.Sink.{SinkTells}
 use Rattle.cip_rational.specs.Rational.{ℚ}
 use Rattle.cip_problem.specs.Program.{Program}
 use Rattle.cip_problem.specs.Log.{Entry}
-use Rattle.cip_answers.specs.Figures.{Status, NoMemory, Figures, exit_status, names_of}
-use Rattle.cip_trace_texts.specs.TraceTexts.{Traced, traced_text}
+use Rattle.cip_answers.specs.Figures.{Status, NoMemory, Figures, exit_status}
+use Rattle.cip_trace_texts.specs.TraceTexts.{Traced}
+use Rattle.cip_trace_texts.specs.SelfTexts.{Drawn, self_text}
 use Rattle.cip_search.specs.Headline.{AreTrue}
 use Rattle.cip_solve.specs.Logs.{entries_of}
 use Rattle.cip_solve.specs.declared.logs.Log.{Log}
@@ -18,6 +19,14 @@ use Rattle.cip_answering.specs.Saying.{Says}
 -- what is asked of a search, as its options say
 abbrev pub limits_of : Options → Limits
 limits_of options = record { nodes = options.nodes; gap = options.gap; plain = options.plain; trace = options.trace }
+
+-- how figures are told, with the lines of a trace: their text
+abbrev pub Telling : Type 0
+Telling = Figures → List Traced → List ℕ
+
+-- how those of a program that is drawn are told: without the point and the lines
+abbrev pub self_told : Drawn → Telling
+self_told drawn figures lines = self_text drawn figures
 
 -- one log was added, and these are its entries
 pub record AddsLog (logs logs_after : List Log) (entries : List Entry) : Type 0 where
@@ -36,18 +45,18 @@ IsLogged logs logs_after entries status =
     AddsLog logs logs_after entries ⊎ (AddsNone logs logs_after entries × (status ≡ NoMemory))
 
 -- there are figures that are true of the program beside the log that was added, if one was, within these limits, and
--- the sink was told them, with the lines of the trace, if they are asked for. The search began at the box bound, or at
--- that rounded up where all costs are whole, and took no more nodes than the budget allows
+-- the sink was told them by this text of theirs, with the lines of the trace, if they are asked for. The search began
+-- at the box bound, or at that rounded up where all costs are whole, and took no more nodes than the budget allows
 pub record Answers
-    (program : Program) (limits : Limits) (sink sink_after : SinkTells) (logs logs_after : List Log) (result : ℕ)
-    : Type 0 where
+    (program : Program) (limits : Limits) (text_of : Telling) (sink sink_after : SinkTells)
+    (logs logs_after : List Log) (result : ℕ) : Type 0 where
   pub figures : Figures
   pub box : Option ℚ
   pub start : Option ℚ
   pub entries : List Entry
   pub are_true : AreTrue program box start limits.nodes limits.gap entries figures
   pub lines : List Traced
-  pub told : Says sink sink_after (traced_text (names_of program) figures lines) (exit_status figures.status) result
+  pub told : Says sink sink_after (text_of figures lines) (exit_status figures.status) result
   pub untraced : limits.trace ≡ false → lines ≡ []
   pub logged : IsLogged logs logs_after entries figures.status
   pub is_box : IsBoxBound program box

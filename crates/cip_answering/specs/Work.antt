@@ -24,7 +24,7 @@ use Rattle.cip_solve.specs.KitsServed.{is_alone, IsKitAfter}
 use Rattle.cip_solve.specs.Solved.{IsShownBeside, IsSolvedBy}
 use Rattle.cip_solve.specs.declared.logs.Log.{Log}
 use Rattle.cip_words.specs.Jobs.{Limits}
-use Rattle.cip_answering.specs.Answering.{AddsLog, AddsNone, Answers}
+use Rattle.cip_answering.specs.Answering.{Telling, AddsLog, AddsNone, Answers}
 
 -- ---- the marks of a log
 
@@ -50,8 +50,7 @@ pub record Searched
     : Type 0 where
   pub entries : List Entry
   pub marks : List (ℕ × Mark)
-  pub right :
-      IsSolvedBy program limits.nodes limits.gap (is_alone limits.plain stock) entries marks (answer_of answer)
+  pub right : IsSolvedBy program limits.nodes limits.gap limits.plain entries marks (answer_of answer)
   pub logged : AddsLog logs logs_after entries ⊎ (AddsNone logs logs_after entries × (answer.ended ≡ LacksMemory))
   pub marked : AreMarks logs logs_after marks
   pub kit : IsKitAfter (is_alone limits.plain stock) limits.trace entries stock stock_after answer.trace
@@ -83,8 +82,8 @@ pub record TellsWhatIsLeft (program : Program) (start : Option ℚ) (log : List 
   -- it is left out only where an open node or a parked leaf has none
   pub no_bound :
       figures.status ≢ Infeasible → HasNoRay figures.status → figures.bound ≡ None → HasNoBound program start log
-  -- a log is empty only where memory was refused
-  pub empty : log ≡ [] → figures.status ≡ NoMemory
+  -- a log is empty only where memory was refused, or where presolve showed that no point is feasible
+  pub empty : log ≡ [] → (figures.status ≡ NoMemory) ⊎ (figures.status ≡ Infeasible)
   -- a ray comes with the node that showed it, which was put aside, as the last one taken
   pub ray : (ray : List ℚ) → figures.status ≡ Unbounded ray → IsParkedLast log
   -- and the check of rays accepts it beside the printed point
@@ -93,21 +92,21 @@ pub record TellsWhatIsLeft (program : Program) (start : Option ℚ) (log : List 
 
 -- ---- the figures of a search
 
--- true figures were told, and they are those of an answer that is right beside the log that was added, with the box
--- bound as it was summed up. Of how it was searched `solved` says: from the root's bound on, with no more nodes than
--- the budget allows; and nodes were split by bounds that are as good as those of their linear programs, unless a mark
--- says what a linear program met that showed nothing. The lines that are told are those of the trace, and `kit` says
--- what became of the plugins
+-- true figures were told by this text of theirs, and they are those of an answer that is right beside the log that was
+-- added, with the box bound as it was summed up. Of how it was searched `solved` says: from the root's bound on, with
+-- no more nodes than the budget allows; and nodes were split by bounds that are as good as those of their linear
+-- programs, unless a mark says what a linear program met that showed nothing. The lines that are told are those of the
+-- trace, and `kit` says what became of the plugins
 pub record Works
-    (program : Program) (limits : Limits) (sink sink_after : SinkTells) (logs logs_after : List Log)
-    (stock stock_after : Stock) (result : ℕ) : Type 0 where
-  pub answers : Answers program limits sink sink_after logs logs_after result
+    (program : Program) (limits : Limits) (text_of : Telling) (sink sink_after : SinkTells)
+    (logs logs_after : List Log) (stock stock_after : Stock) (result : ℕ) : Type 0 where
+  pub answers : Answers program limits text_of sink sink_after logs logs_after result
   pub same_box : answers.box ≡ root_value program
   pub marks : List (ℕ × Mark)
   pub marked : AreMarks logs logs_after marks
   pub found : ends.Answer
   pub is_printed : answers.figures ≡ figures_of program found
-  pub solved : IsSolvedBy program limits.nodes limits.gap (is_alone limits.plain stock) answers.entries marks found
+  pub solved : IsSolvedBy program limits.nodes limits.gap limits.plain answers.entries marks found
   pub same_start : solved.start ≡ answers.start
   pub left : TellsWhatIsLeft program answers.start answers.entries answers.figures
   pub trace : Option Trace

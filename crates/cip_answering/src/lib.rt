@@ -7,4 +7,4 @@ mod solving;
 
 pub use checking::check_and_report;
 pub use laws::{bounds_are_told, points_are_told};
-pub use solving::solve_and_report;
+pub use solving::{solve_and_report, solve_drawn};

@@ -3,18 +3,22 @@ ghost use Rattle.std.specs.Prelude.{◌≡◌, ◌<◌};
 ghost use Rattle.cip_input.specs.LimitedModels.{IsLimited};
 ghost use Rattle.cip_answers.specs.Figures.{exit_status, names_of};
 ghost use Rattle.cip_trace_texts.specs.TraceTexts.{traced_text};
+ghost use Rattle.cip_trace_texts.specs.SelfTexts.{self_text};
+ghost use Rattle.cip_words.specs.Jobs.{usual_limits};
 ghost use Rattle.cip_report.specs.Answers.{figures_of, AnswerFits};
+ghost use Rattle.cip_report.specs.Drawn.{drawn_of};
 ghost use Rattle.cip_report.specs.Traces.{kept_lines};
 ghost use Rattle.cip_kits.specs.Kits.{stock_of, IsFew};
-ghost use Rattle.cip_answering.specs.Answering.{limits_of};
+ghost use Rattle.cip_answering.specs.Answering.{limits_of, self_told};
 ghost use Rattle.cip_answering.specs.Saying.{Says};
 ghost use Rattle.cip_answering.specs.Work.{Searched, Works};
 
 use cip_io::{Failed, Sink};
 use cip_model::Program;
 use cip_plugin::{AnyPlugin, Kit, Tells};
-use cip_report::{Answer, report};
+use cip_report::{Answer, Drawn, report, report_self};
 use cip_solve::{Log, Options, solve, unsearched};
+use cip_words::USUAL_NODES;
 use std::alloc::Global;
 
 /// Searches a program with the plugins of a kit, and adds the log.
@@ -53,11 +57,25 @@ fn tell<K: Sink>(program: &Program, answer: &Answer, out: &mut K) -> u8
     }
 }
 
+/// Writes an answer of a program that is drawn; the status that goes with its end, or 5 where the sink failed.
+fn tell_drawn<K: Sink>(drawn: Drawn, program: &Program, answer: &Answer, out: &mut K) -> u8
+    ensures { let figures = figures_of program.now answer.now in
+        Says (K.tells out.old) (K.tells out.new) (self_text (drawn_of drawn) figures) (exit_status figures.status)
+        result }
+{
+    let status = answer.ended.status();
+    match report_self(drawn, program, answer, out) {
+        Ok(()) => status,
+        Err(Failed) => 5,
+    }
+}
+
 /// Solves a program as the options say, and writes what the search found, whatever the end: the point held, and the
 /// bound as the least of what is left, with the lines of the trace, if they are asked for. It answers the status of the
 /// end, or 5 where the sink failed. A search adds one log to `logs`, or none where memory was refused before it had
-/// room for one: then the answer is want of memory, with the bound of the root. The plugins of the kit are done with
-/// behind it, unless the search goes without them, or memory was refused before a node was taken.
+/// room for one: then the answer is want of memory, with the bound of the root. The log is empty where presolve shows
+/// that no point is feasible. The plugins of the kit are done with behind a search, unless it goes without them, or
+/// memory was refused or presolve found no feasible point before a node was taken.
 pub fn solve_and_report<K: Sink>(
     alloc: Global,
     program: &Program,
@@ -69,10 +87,38 @@ pub fn solve_and_report<K: Sink>(
     requires limited { IsLimited program.now }
     requires some { 0 < options.now.nodes }
     requires few { IsFew (stock_of ⟦<AnyPlugin as Tells>⟧.who kit.old) }
-    ensures { Works program.now (limits_of options.now) (K.tells out.old) (K.tells out.new)
+    ensures { Works program.now (limits_of options.now) (traced_text (names_of program.now))
+        (K.tells out.old) (K.tells out.new)
         logs.old.items logs.new.items (stock_of ⟦<AnyPlugin as Tells>⟧.who kit.old)
         (stock_of ⟦<AnyPlugin as Tells>⟧.who kit.new) result }
 {
     let answer = search(alloc, program, options, kit, logs);
     tell(program, &answer, out)
+}
+
+/// Solves a program that is drawn, with the usual limits and without a trace, and writes what is told of it and of what
+/// the search found: the word of the end, the cost and the bound, whatever the end. All else is as at
+/// `solve_and_report`.
+pub fn solve_drawn<K: Sink>(
+    alloc: Global,
+    drawn: Drawn,
+    program: &Program,
+    kit: &mut Kit,
+    out: &mut K,
+    logs: &mut Vec<Log>,
+) -> u8
+    requires limited { IsLimited program.now }
+    requires few { IsFew (stock_of ⟦<AnyPlugin as Tells>⟧.who kit.old) }
+    ensures { Works program.now usual_limits (self_told (drawn_of drawn)) (K.tells out.old) (K.tells out.new)
+        logs.old.items logs.new.items (stock_of ⟦<AnyPlugin as Tells>⟧.who kit.old)
+        (stock_of ⟦<AnyPlugin as Tells>⟧.who kit.new) result }
+{
+    let options = Options {
+        nodes: USUAL_NODES,
+        gap: None,
+        plain: false,
+        trace: false,
+    };
+    let answer = search(alloc, program, &options, kit, logs);
+    tell_drawn(drawn, program, &answer, out)
 }

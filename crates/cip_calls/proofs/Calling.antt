@@ -1,5 +1,5 @@
 -- What the roster's calls come to.
-use Rattle.std.proofs.Common.{◌≡◌, ℕ, ◌+◌, ◌*◌, List, [], ◌∷◌, ◌++◌, map, length, take, drop, Option, None, Some, true, cond, sym, ◌∙◌, ap, subst, refl, arith, append-nil, All}
+use Rattle.std.proofs.Common.{◌≡◌, ℕ, ◌+◌, List, [], ◌∷◌, ◌++◌, map, length, take, drop, Option, None, Some, true, cond, sym, ◌∙◌, ap, subst, refl, append-nil, All}
 use Rattle.std.specs.Prelude.{slice_get, ◌&&◌, Result, Ok, Err, IfOk, OnOk, OnErr}
 use Rattle.std.proofs.lemmas.List.{map-append, take-append-drop}
 use Rattle.cip_plugin.specs.Asking.{asks, answer_of, first_part}
@@ -7,8 +7,7 @@ use Rattle.cip_plugin.specs.Calls.{Ask, Separate, Propagate, Search, Branch, Enf
 use Rattle.cip_plugin.specs.declared.asking.Given.{Given}
 use Rattle.cip_plugin.specs.declared.kinds.Kind.{Kind}
 use Rattle.cip_plugin.specs.declared.kinds.Kind.TheVariants as kinds
-use Rattle.cip_seats.specs.declared.keys.Key.{Key}
-use Rattle.cip_seats.specs.Seats.{Seat, State, is_on, is_settled, live_count}
+use Rattle.cip_seats.specs.Seats.{Seat, State, is_on, is_settled}
 use Rattle.cip_seats.specs.Steps.{Step, Runs, calls_of, asks_in}
 use Rattle.cip_seats.specs.Calling.{same_kind, is_ready, is_answer, turn_of, all_turns, given_of}
 use Rattle.cip_events.specs.declared.events.Event.{Event}

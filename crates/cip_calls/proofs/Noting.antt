@@ -99,7 +99,7 @@ pub ready_later : (old new : CoreState) (had has : TakenNode) (scratches : Scrat
     → HaveRoom scratches (columns (reduced_of old)) → IsReady new has scratches
 ready_later old new had has scratches l room = record {
   at_work = l.at_work;
-  room = subst (λ (p : Program). HaveRoom scratches (columns p)) (sym l.later.program) room;
+  room = subst (λ (p : Program). HaveRoom scratches (columns p)) (sym l.later.reduced) room;
 }
 
 -- ---- steps of a node in work

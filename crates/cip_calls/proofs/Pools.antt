@@ -1,5 +1,5 @@
 -- What judged proposals leave of the pool, and of the node's region.
-use Rattle.std.proofs.Common.{◌≡◌, ◌≢◌, ℕ, Bool, true, false, List, [], ◌∷◌, ◌++◌, Option, None, Some, Result, Ok, Err, IfOk, sym, ◌∙◌, ap, subst, refl, append_assoc, append-nil}
+use Rattle.std.proofs.Common.{◌≡◌, ◌≢◌, ℕ, Bool, List, [], ◌++◌, Option, None, Some, Result, Ok, Err, sym, ◌∙◌, ap, subst, refl, append_assoc, append-nil}
 use Rattle.std.specs.Prelude.{MatchResult}
 use Rattle.cip_rational.specs.Rational.{ℚ}
 use Rattle.cip_lin.specs.declared.combos.Combo.{Combo}
@@ -59,6 +59,7 @@ row_after old new combo round local judged.NotBetter h = absurd h
 row_after old new combo round local (judged.Refused fault.Full) h = after_same old.pool new.pool (judged.Refused fault.Full) h.is_added.2
 row_after old new combo round local (judged.Refused (fault.Check of)) h = after_same old.pool new.pool (judged.Refused (fault.Check of)) (ap (λ (k : CoreState). k.pool) h.same)
 row_after old new combo round local (judged.Refused (fault.Node of)) h = absurd h
+row_after old new combo round local (judged.Refused (fault.Postsolve of)) h = absurd h
 row_after old new combo round local (judged.Refused (fault.Offer of)) h = absurd h
 row_after old new combo round local (judged.Refused (fault.Split of)) h = absurd h
 row_after old new combo round local (judged.Refused (fault.SplitForm of)) h = absurd h
@@ -72,6 +73,7 @@ split_after old new cut local (judged.Refused fault.Full) h = after_same old.poo
 split_after old new cut local (judged.Refused (fault.SplitForm of)) h = after_same old.pool new.pool (judged.Refused (fault.SplitForm of)) (ap (λ (k : CoreState). k.pool) h.1)
 split_after old new cut local (judged.Refused (fault.Check of)) h = absurd h
 split_after old new cut local (judged.Refused (fault.Node of)) h = absurd h
+split_after old new cut local (judged.Refused (fault.Postsolve of)) h = absurd h
 split_after old new cut local (judged.Refused (fault.Offer of)) h = absurd h
 split_after old new cut local (judged.Refused (fault.Split of)) h = absurd h
 

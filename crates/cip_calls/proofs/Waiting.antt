@@ -1,5 +1,5 @@
 -- Who waits behind a plugin that had its turn.
-use Rattle.std.proofs.Common.{◌≡◌, ◌⊎◌, inl, inr, ℕ, zero, suc, ◌+◌, ◌<◌, ◌≤◌, Bool, true, false, eqb, cond, List, [], ◌∷◌, ◌++◌, length, map, get_or, take, drop, filter, Contains, count_by, sum_by, Option, None, Some, refl, sym, ap, ◌∙◌, subst, arith, add-zero, true≢false}
+use Rattle.std.proofs.Common.{◌≡◌, ◌⊎◌, inl, inr, ℕ, zero, suc, ◌+◌, ◌<◌, ◌≤◌, Bool, true, false, cond, List, [], ◌∷◌, ◌++◌, length, map, get_or, take, drop, filter, Contains, count_by, sum_by, Option, None, Some, refl, sym, ap, ◌∙◌, subst, arith, add-zero, true≢false}
 use Rattle.std.specs.Prelude.{slice_get, ◌&&◌, ℤ}
 use Rattle.std.specs.Cmp.{IsTotalOrder, IsStrictWeakOrder}
 use Rattle.std.specs.List.{AllByRecursion, find}
@@ -28,8 +28,7 @@ use Rattle.cip_seats.specs.Steps.{Step, calls_of, asks_in}
 use Rattle.cip_roster.specs.Nexts.{IsNext, AskedNext, CalledNext, is_behind, key_at, key_of}
 use Rattle.cip_roster.specs.Turns.{HadTurn}
 use Rattle.cip_roster.proofs.Calm.{Face, face, run_calm, turn_calm}
-use Rattle.cip_calls.specs.Asked.{told_next, HasAskedSome}
-use Rattle.cip_calls.specs.Waiting.{is_asked, waiting, IsTurnOf, IsNextTurn, HasAskedNext}
+use Rattle.cip_calls.specs.Waiting.{is_asked, waiting, IsTurnOf, HasAskedNext}
 use Rattle.cip_calls.proofs.Calling.{turn_some, some_none}
 
 -- ---- the order of keys

@@ -13,7 +13,7 @@ ghost use Rattle.cip_calls.specs.declared.asks.Round.TheVariants.{Cuts as OfCuts
 ghost use Rattle.cip_calls.specs.declared.judging.Came.TheVariants.{Quiet, Accepted, Emptied};
 
 use crate::asks::{Asks, Round};
-use crate::plugins::Plugins;
+use crate::plugins::{Plugins, keep_guess};
 use cip_core::Core;
 use cip_domain::Side;
 use cip_events::{Event, EventKind};
@@ -200,7 +200,7 @@ impl<R: Asks> Plugins<R> {
         Ok(came)
     }
 
-    /// Judges a point of a plugin, as `take_cut` does.
+    /// Judges a point of a plugin, as `take_cut` does, and keeps one that was accepted.
     pub(crate) fn take_point(
         &mut self,
         core: &mut Core<'_>,
@@ -218,8 +218,9 @@ impl<R: Asks> Plugins<R> {
         ensures pool { core.new.pool ≡ core.old.pool }
     {
         self.judged.reserve(1)?;
-        let came = judge_guess(core, node, guess);
+        let came = judge_guess(self.alloc, core, node, guess)?;
         self.finish(id, &came, point_event(node.id(), &came))?;
+        keep_guess(self.alloc, &mut self.guess, guess, &came)?;
         Ok(came)
     }
 

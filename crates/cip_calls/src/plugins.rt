@@ -1,6 +1,8 @@
 //! The plugins of a search, beside its core.
-ghost use Rattle.std.specs.Prelude.{◌≡◌, ◌<◌, ◌++◌, ◌∷◌, [], false, OnOk, IsSome, slice_get, vec_len, vec_capacity};
+ghost use Rattle.std.specs.Prelude.{◌≡◌, ◌<◌, ◌++◌, ◌∷◌, [], false, Some, OnOk, IsSome, slice_get, vec_len, vec_capacity};
 ghost use Rattle.cip_roster.specs.Turns.{IsSound};
+ghost use Rattle.cip_core.specs.CoreStates.{reduced_of, held_of};
+ghost use Rattle.cip_core.specs.CutoffRow.{cutoff_of};
 ghost use Rattle.cip_calls.specs.Noted.{HasNoted, HasJudged};
 
 use crate::asks::Asks;
@@ -9,12 +11,13 @@ use cip_events::{Event, EventKind, EventQueue};
 use cip_frac::Frac;
 use cip_judge::{Judged, Scratches};
 use cip_lin::Combo;
-use cip_plugin::View;
+use cip_plugin::{Guess, View};
 use std::alloc::{AllocError, Global};
 use std::mem;
 
-/// The plugins of a search, with the events that wait to be told them, what checks of their proposals work in, and what
-/// became of the proposals of the node in work, each with the number of who made it.
+/// The plugins of a search, with the events that wait to be told them, what checks of their proposals work in, what
+/// became of the proposals of the node in work, each with the number of who made it, and the last guess that was
+/// accepted.
 #[derive(Drop)]
 pub struct Plugins<R> {
     /// The plugins.
@@ -25,6 +28,10 @@ pub struct Plugins<R> {
     pub scratches: Scratches,
     /// What became of proposals.
     pub judged: Vec<(u32, Judged)>,
+    /// The last guess that was accepted, a point of the reduced program.
+    pub guess: Option<Vec<Frac>>,
+    /// The memory in which guesses come back, and in which the last one is kept.
+    pub alloc: Global,
 }
 
 /// What the last linear program of a node came to, as plugins see it: its point, if it has one and that was found, and
@@ -47,21 +54,35 @@ impl<'p> Last<'p> {
     }
 }
 
-/// The point held, if there is one.
-fn held_point<'v>(core: &'v Core<'_>) -> Option<&'v [Frac]> {
-    match core.incumbent().held() {
+/// A guess that was accepted, if there is one.
+fn point_in(guess: &Option<Vec<Frac>>) -> Option<&[Frac]> {
+    match guess {
         None => None,
-        Some((_, point)) => Some(point),
+        Some(values) => Some(values.as_slice()),
     }
 }
 
 /// What plugins see of a core while the node of this number is in work, or after it was, with what its last linear
-/// program came to. As the last guess that was accepted they see the point held, which is no dearer.
-pub fn view_of<'v>(core: &'v Core<'_>, node: u64, last: Last<'v>) -> View<'v>
-    ensures { result.node ≡ node }
+/// program came to and the last guess that was accepted: all is of the reduced program, and no more of the program as
+/// read than the cost held.
+pub fn view_of<'v>(
+    core: &'v Core<'_>,
+    node: u64,
+    last: Last<'v>,
+    guess: &'v Option<Vec<Frac>>,
+) -> View<'v>
+    ensures node { result.node ≡ node }
+    ensures bounds { result.bounds.now ≡ core.now.tree.work.box }
+    ensures root { result.root.now ≡ (reduced_of core.now).bounds }
+    ensures own { result.own.now ≡ (reduced_of core.now).rows }
+    ensures pool { result.pool.now ≡ core.now.pool.rows }
+    ensures cutoff { result.cutoff.now ≡ Some (cutoff_of (reduced_of core.now) (held_of core.now)) }
+    ensures whole { result.whole.now ≡ (reduced_of core.now).integral }
+    ensures costs { result.costs.now ≡ (reduced_of core.now).costs }
+    ensures held { result.held ≡ held_of core.now }
 {
     let rows = core.rows();
-    let program = core.program();
+    let program = core.reduced();
     View {
         node,
         bounds: core.bounds(),
@@ -74,9 +95,22 @@ pub fn view_of<'v>(core: &'v Core<'_>, node: u64, last: Last<'v>) -> View<'v>
         point: last.point,
         combo: last.combo,
         held: core.held_cost(),
-        guess: held_point(core),
+        guess: point_in(guess),
         blocks: None,
     }
+}
+
+/// Keeps a guess that was accepted. `Err` comes where memory was refused.
+pub(crate) fn keep_guess(
+    alloc: Global,
+    kept: &mut Option<Vec<Frac>>,
+    guess: &Guess,
+    came: &Judged,
+) -> Result<(), AllocError> {
+    if let Judged::Accepted = came {
+        *kept = Some(Vec::from_slice(alloc, guess.values.as_slice())?);
+    }
+    Ok(())
 }
 
 /// Puts an event behind those that wait, unless nobody is to be told. `Err` comes where memory was refused.
@@ -109,6 +143,8 @@ impl<R: Asks> Plugins<R> {
             queue: EventQueue::new(alloc),
             scratches,
             judged: Vec::new(alloc),
+            guess: None,
+            alloc,
         }
     }
 

@@ -69,7 +69,7 @@ impl<R: Asks> Plugins<R> {
         }
         let gave = self
             .roster
-            .ask_all(alloc, round, &view_of(core, node.id(), last))?;
+            .ask_all(alloc, round, &view_of(core, node.id(), last, &self.guess))?;
         self.take_all(core, node, round, gave.as_slice())
     }
 
@@ -121,7 +121,7 @@ impl<R: Asks> Plugins<R> {
         if self.roster.has_none() {
             return Ok(());
         }
-        let view = view_of(core, node, last);
+        let view = view_of(core, node, last, &self.guess);
         self.roster.tell(alloc, &mut self.queue, &view)
     }
 

@@ -14,7 +14,7 @@ use Rattle.cip_problem.specs.Points.{IsSatisfied, IsFeasible}
 use Rattle.cip_problem.proofs.Points.AtPlaces.{IsInBox-long}
 use Rattle.cip_reductions.specs.NarrowedPrograms.{AllSatisfied, IsTightened, IsStep, IsExactStep, IsInfeasible}
 use Rattle.cip_reductions.specs.Forms.{Form, spread, gathered, kept_at, kept_from, renumbered}
-use Rattle.cip_reductions.specs.Pairs.{IsPair, IsExactPair}
+use Rattle.cip_reductions.specs.Pairs.{IsHeldFast, IsPair, IsExactPair}
 use Rattle.cip_reductions.specs.Compacting.{IsCompacted, AreLeft, HoldsBack, rows_left}
 use Rattle.cip_reductions.proofs.Inside.{all_long}
 use Rattle.cip_reductions.proofs.Pairing.{exact_step, infeasible_before, step_pair, pair_after, exact_step_pair, exact_pair_after}
@@ -215,12 +215,19 @@ renamed_point program draft x h = record { within = h.within; whole = h.whole; c
 unnamed_point : (program : Program) (y : List ℚ) → IsFeasible program y → IsFeasible (unnamed program) y
 unnamed_point program y h = record { within = h.within; whole = h.whole; choices = h.choices; rows = h.rows }
 
+renamed_held : (program draft : Program) (column : ℕ) → IsHeldFast draft column → IsHeldFast (renamed program draft) column
+renamed_held program draft column h = record { value = h.value; inside = h.inside }
+
+renamed_near : (program draft : Program) (column : ℕ) (a b : ℚ) → (a ≡ b) ⊎ IsHeldFast draft column → (a ≡ b) ⊎ IsHeldFast (renamed program draft) column
+renamed_near program draft column a b (inl e) = inl e
+renamed_near program draft column a b (inr h) = inr (renamed_held program draft column h)
+
 renamed_step : (program draft : Program) → IsStep (unnamed program) draft → IsStep program (renamed program draft)
 renamed_step program draft s = record {
   narrowed = renamed_tightened program draft s.narrowed;
   none_lost = λ y h.
       let k = s.none_lost y (unnamed_point program y h) in
-      record { point = k.point; feasible = renamed_point program draft k.point k.feasible; no_dearer = k.no_dearer };
+      record { other = k.other; feasible = renamed_point program draft k.other k.feasible; no_dearer = k.no_dearer; near = λ column l. renamed_near program draft column _ _ (k.near column l); semi = k.semi };
 }
 
 renamed_exact : (program draft : Program) → IsExactStep (unnamed program) draft → IsExactStep program (renamed program draft)

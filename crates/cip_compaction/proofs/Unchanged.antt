@@ -1,35 +1,51 @@
 -- A program of which nothing is taken out.
-use Rattle.std.proofs.Common.{◌≡◌, ℕ, zero, suc, ◌+◌, ◌-◌, ◌<◌, Bool, List, [], ◌∷◌, ◌++◌, length, Option, None, Some, slice_get, refl, sym, ap, ◌∙◌, subst, arith, add-one}
+use Rattle.std.proofs.Common.{◌≡◌, ◌⊎◌, ℕ, zero, suc, ◌+◌, ◌-◌, ◌<◌, Bool, List, [], ◌∷◌, ◌++◌, length, Option, None, Some, slice_get, refl, sym, ap, ◌∙◌, subst, arith, inl, inr, add-one}
 use Rattle.std.specs.Prelude.{replicate, true}
-use Rattle.std.proofs.lemmas.Option.{none-some, same_Some, slice_get_within}
+use Rattle.std.proofs.lemmas.Option.{none-some, same_Some}
 use Rattle.cip_rational.specs.Rational.{ℚ}
 use Rattle.cip_problem.specs.Program.{Program}
 use Rattle.cip_problem.specs.WellFormed.{IsWellFormed, columns}
 use Rattle.cip_problem.specs.Activity.{value_at}
 use Rattle.cip_problem.specs.Box.{sides_at, sides_inside}
+use Rattle.cip_problem.specs.Choices.{choice_at}
 use Rattle.cip_problem.specs.Points.{cost_of}
 use Rattle.cip_problem.proofs.Points.AtPlaces.{IsInBox-long}
 use Rattle.cip_cuts.specs.Reduced.{IsRelaxed}
 use Rattle.cip_reductions.specs.Forms.{Form, placed, filled, spread, gathered, kept_at, kept_from}
-use Rattle.cip_reductions.specs.Pairs.{IsLong, IsKept, HasForm, IsAssignment, semi_values, IsExactPair}
+use Rattle.cip_reductions.specs.Pairs.{IsLong, IsKept, HasForm, IsAssignment, semi_values, IsHeldFast, HasNear, IsExactPair}
 use Rattle.cip_reductions.proofs.Pairing.{exact_self, exact_step_pair}
 use Rattle.cip_postsolve.specs.StepsBack.{WholesFit}
 use Rattle.cip_compaction.specs.PresolvedPrograms.{counted}
 
 -- ---- a pair by which points come back as they are
 
-module _ (program reduced : Program) (post : List ℚ → List ℚ) (kept : ℕ → ℕ) (e : IsExactPair program reduced (λ x. x) (λ n. n)) (same : (x : List ℚ) → IsLong reduced x → post x ≡ x) (number : (n : ℕ) → slice_get reduced.integral n ≡ Some true → kept n ≡ n) where
+module _ (program reduced : Program) (post : List ℚ → List ℚ) (kept : ℕ → ℕ) (e : IsExactPair program reduced (λ x. x) (λ n. n)) (same : (x : List ℚ) → IsLong reduced x → post x ≡ x) (number : (n : ℕ) → n < length reduced.bounds → kept n ≡ n) where
   long_of : (x : List ℚ) → IsRelaxed reduced x → IsLong reduced x
   long_of x h = IsInBox-long reduced.bounds x h.within
 
-  same_kept : (n : ℕ) → slice_get reduced.integral n ≡ Some true → IsKept program reduced post kept n
+  same_kept : (n : ℕ) → n < length reduced.bounds → IsKept program reduced post kept n
   same_kept n h =
-      let k = e.pair.whole n h in
+      let k = e.pair.columns n h in
       record {
-        whole = subst (λ m. slice_get program.integral m ≡ Some true) (sym (number n h)) k.whole;
+        within = subst (λ m. m < length program.bounds) (sym (number n h)) k.within;
+        whole = ap (λ m. slice_get program.integral m) (number n h) ∙ k.whole;
+        choice = ap (λ m. choice_at program.choices m) (number n h) ∙ k.choice;
         inside = subst (λ m. sides_inside (sides_at reduced.bounds n) (sides_at program.bounds m) ≡ true) (sym (number n h)) k.inside;
-        value = λ x l. ap (value_at (post x)) (number n h) ∙ ap (λ (t : List ℚ). value_at t n) (same x l);
+        value = λ x l. ap (value_at (post x)) (number n h) ∙ ap (λ (t : List ℚ). value_at t n) (same x l) ∙ k.value x l;
       }
+
+  same_near : (y : List ℚ) (other : List ℚ) (n : ℕ) → n < length reduced.bounds → (value_at other n ≡ value_at y n) ⊎ IsHeldFast reduced n → (value_at other n ≡ value_at y (kept n)) ⊎ IsHeldFast reduced n
+  same_near y other n h (inl d) = inl (d ∙ ap (value_at y) (sym (number n h)))
+  same_near y other n h (inr d) = inr d
+
+  same_lost : (y : List ℚ) → HasNear program reduced (λ n. n) y → HasNear program reduced kept y
+  same_lost y f = record {
+    other = f.other;
+    feasible = f.feasible;
+    no_dearer = f.no_dearer;
+    near = λ n h. same_near y f.other n h (f.near n h);
+    semi = λ n h o. f.semi n h o ∙ ap (value_at y) (sym (number n h));
+  }
 
   same_form : (n : ℕ) → HasForm reduced (λ x. x) n → HasForm reduced post n
   same_form n f = record {
@@ -46,8 +62,8 @@ module _ (program reduced : Program) (post : List ℚ → List ℚ) (kept : ℕ 
       long = λ x h. ap (λ (t : List ℚ). length t) (same x h) ∙ e.pair.long x h;
       relaxed = λ x h. subst (λ (t : List ℚ). IsRelaxed program t) (sym (same x (long_of x h))) (e.pair.relaxed x h);
       cost = λ x h. ap (cost_of program) (same x (long_of x h)) ∙ e.pair.cost x h;
-      none_lost = e.pair.none_lost;
-      whole = same_kept;
+      none_lost = λ y h. same_lost y (e.pair.none_lost y h);
+      columns = same_kept;
       forms = λ n h. same_form n (e.pair.forms n h);
       assigned = λ x h. subst (λ (t : List ℚ). IsAssignment program t) (sym (same x h.long)) (e.pair.assigned x h);
       fewer = e.pair.fewer;
@@ -107,7 +123,7 @@ same_exact program reduced forms formed r e =
     (same_pair program program (spread forms) (kept_at forms)
     (exact_step_pair program program (exact_self program))
     (λ x h. none_changes program forms x formed e h)
-    (λ n h. ap (λ (fs : List (Option Form)). kept_at fs n) e ∙ none_number (columns program) n (let k = slice_get_within program.integral n true h in omega (arith, k, formed.integral))))
+    (λ n h. ap (λ (fs : List (Option Form)). kept_at fs n) e ∙ none_number (columns program) n (omega (arith, h, formed.bounds))))
 
 -- one more column that isn't gone
 abbrev nothing : Option Form

@@ -160,7 +160,8 @@ impl Presolved {
     /// The program itself, without steps, for a run that doesn't presolve. `Err` comes where a growth was refused.
     #[tactic(auto, using(crate::proofs::Unchanged::unchanged))]
     pub fn same(alloc: Global, program: &Program) -> Result<Presolved, AllocError>
-        ensures presolved { IfOk result (IsExactlyPresolved program.now) }
+        ensures pair { IfOk result (IsPresolved program.now) }
+        ensures exact { IfOk result (IsExactlyPresolved program.now) }
         ensures unchanged { IfOk result (IsUnchanged program.now) }
     {
         let whole = program.whole().to_vec(alloc)?;

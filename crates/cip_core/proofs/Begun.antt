@@ -1,7 +1,7 @@
 -- A search begins with its root.
 use Rattle.std.proofs.Common.{◌≡◌, ℕ, ◌^◌, Bool, true, false, List, [], ◌∷◌, Option, None, Some, IfSome, Result, Ok, Err, IfOk, refl, sym, ap, ◌∙◌, subst, arith}
 use Rattle.std.specs.Prelude.{option_map, MatchBool}
-use Rattle.cip_rational.specs.Rational.{ℚ}
+use Rattle.cip_rational.specs.Rational.{ℚ, ◌≤ℚ◌}
 use Rattle.cip_problem.specs.Program.{Program}
 use Rattle.cip_problem.specs.Box.{sides_at}
 use Rattle.cip_problem.specs.BoxBound.{box_bound}
@@ -10,18 +10,18 @@ use Rattle.cip_problem.specs.Log.{Entry, Node}
 use Rattle.cip_problem.proofs.BoxBound.BelowCosts.{root_bound_holds}
 use Rattle.cip_cuts.specs.Cuts.{HasWholeCosts}
 use Rattle.cip_cuts.specs.Improving.{IsBoundIn}
-use Rattle.cip_cuts.proofs.Reductions.{reduction_itself}
 use Rattle.cip_leaves.specs.WideLeaf.{IsWideLeaf}
 use Rattle.cip_lin.specs.declared.outcomes.Least.{Least}
 use Rattle.cip_lin.specs.declared.outcomes.Least.TheVariants.{Value, NoBound, Wide}
 use Rattle.cip_model.specs.Least.{least_cost_from}
 use Rattle.cip_model.specs.Meaning.{BoundHolds}
 use Rattle.cip_leaves.specs.Searched.{first_node}
-use Rattle.cip_search.specs.SearchState.{stay, IsWayBack, HasGivenBoxes}
+use Rattle.cip_search.specs.SearchState.{IsWayBack, HasGivenBoxes}
 use Rattle.cip_search.proofs.Kept as searching
 use Rattle.cip_search.proofs.AsGiven as giving
 use Rattle.cip_search.proofs.GivenBoxes as boxing
 use Rattle.cip_search.proofs.Members.{only_one}
+use Rattle.cip_postsolve.specs.StepsBack.{StepsTaken, point_back, way_back}
 use Rattle.cip_tree.specs.Nodes.{Nodes}
 use Rattle.cip_tree.specs.Moves.{IsNew}
 use Rattle.cip_node_rules.specs.RootBounds.{least_value, rounded_if}
@@ -65,38 +65,47 @@ pub if_ok : {A E : Type 0} (P Q : A → Type 0) (r : Result A E) → ((a : A) �
 if_ok P Q (Ok a) f h = f a h
 if_ok P Q (Err e) f h = tt
 
-way : (program : Program) → IsWayBack program program stay
-way program = record { reduction = reduction_itself program; leaves = λ point h. refl; choices = λ on point h. h }
+-- a bound below the costs of a program's points is one below those of the reduced program's
+module _ (program reduced : Program) (steps : StepsTaken) (back : IsWayBack program reduced (way_back steps)) where
+  comes_down : (bound : ℚ) → IsBoundIn program None program.bounds bound → IsBoundIn reduced None reduced.bounds bound
+  comes_down bound h point i within =
+      let relaxed = back.reduction.relaxed point (record { within = i.feasible.within; rows = i.feasible.rows }) in
+      subst (λ c. bound ≤ℚ c) (back.reduction.cost point (record { within = i.feasible.within; rows = i.feasible.rows }))
+      (h (point_back steps point) (record { feasible = back.reduction.feasible point i.feasible; cheaper = tt }) relaxed.within)
+
+  pub holds_reduced : (start : Option ℚ) → IfSome start (IsBoundIn program None program.bounds) → IfSome start (IsBoundIn reduced None reduced.bounds)
+  holds_reduced None h = tt
+  holds_reduced (Some bound) h = comes_down bound h
 
 -- a new tree is the root alone
-module _ (program : Program) (tree : Nodes) (start : Option ℚ) (new : IsNew tree (own_region program) program.integral start) where
+module _ (program reduced : Program) (steps : StepsTaken) (tree : Nodes) (start : Option ℚ) (new : IsNew tree (own_region reduced) reduced.integral start) where
   first : Node
-  first = first_node program start
+  first = first_node reduced start
 
   made : Node → List Bool → List Node → List Node → ℕ → List Entry → Nodes
   made root integral open_ parked ids log = record { root = root; integral = integral; open_ = open_; parked = parked; taken = tree.taken; ids = ids; log = log; work = tree.work }
 
-  is_tree : tree ≡ made (first_node program start) program.integral (first_node program start ∷ []) [] 1 []
+  is_tree : tree ≡ made (first_node reduced start) reduced.integral (first_node reduced start ∷ []) [] 1 []
   unfolding first made
   is_tree =
       ap (λ r. made r tree.integral tree.open_ tree.parked tree.ids tree.log) new.root
       ∙ ap (λ i. made first i tree.open_ tree.parked tree.ids tree.log) new.integral_is
-      ∙ ap (λ o. made first program.integral o tree.parked tree.ids tree.log) (new.open_ ∙ ap (λ r. r ∷ []) new.root)
-      ∙ ap (λ p. made first program.integral (first ∷ []) p tree.ids tree.log) new.parked
-      ∙ ap (λ n. made first program.integral (first ∷ []) [] n tree.log) new.ids
-      ∙ ap (λ l. made first program.integral (first ∷ []) [] 1 l) new.log
+      ∙ ap (λ o. made first reduced.integral o tree.parked tree.ids tree.log) (new.open_ ∙ ap (λ r. r ∷ []) new.root)
+      ∙ ap (λ p. made first reduced.integral (first ∷ []) p tree.ids tree.log) new.parked
+      ∙ ap (λ n. made first reduced.integral (first ∷ []) [] n tree.log) new.ids
+      ∙ ap (λ l. made first reduced.integral (first ∷ []) [] 1 l) new.log
 
-  pub begun : AreNearColumns program → IfSome start (IsBoundIn program None program.bounds) → IsKept program program stay tree None []
+  pub begun : AreNearColumns reduced → IsWayBack program reduced (way_back steps) → IfSome start (IsBoundIn program None program.bounds) → IsKept program reduced (way_back steps) tree None []
   unfolding made
-  begun near holds =
-      subst (λ t. IsKept program program stay t None []) (sym is_tree) (record {
-        searched = searching.begun program program stay IsWideLeaf start None (way program) tt holds;
-        as_given = giving.begun program start None;
+  begun near back holds =
+      subst (λ t. IsKept program reduced (way_back steps) t None []) (sym is_tree) (record {
+        searched = searching.begun program reduced (way_back steps) IsWideLeaf start None back tt (holds_reduced program reduced steps back start holds);
+        as_given = giving.begun reduced start None;
         root = refl;
         integral = refl;
-        near = λ node c. subst (λ (n : Node). IsNearBox program 1 n.box) (only_one (first_node program start) node c) (near_box program near);
+        near = λ node c. subst (λ (n : Node). IsNearBox reduced 1 n.box) (only_one (first_node reduced start) node c) (near_box reduced near);
       })
 
-  pub begun_boxes : HasGivenBoxes program tree.root.bound (state_of tree None [])
+  pub begun_boxes : HasGivenBoxes reduced tree.root.bound (state_of tree None [])
   unfolding made
-  begun_boxes = subst (λ (t : Nodes). HasGivenBoxes program t.root.bound (state_of t None [])) (sym is_tree) (boxing.begun program start None)
+  begun_boxes = subst (λ (t : Nodes). HasGivenBoxes reduced t.root.bound (state_of t None [])) (sym is_tree) (boxing.begun reduced start None)

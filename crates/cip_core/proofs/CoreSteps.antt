@@ -45,6 +45,8 @@ kept_in_same core tree other work e k = subst (λ t. IsKeptIn (with_tree core t)
 later_tree : (core : CoreState) (tree : Nodes) → tree.root ≡ core.tree.root → tree.integral ≡ core.tree.integral → core.tree.ids ≤ tree.ids → IsLater core (with_tree core tree)
 later_tree core tree r i n = record {
   program = refl;
+  reduced = refl;
+  steps = refl;
   root = r;
   integral = i;
   ids = n;
@@ -218,17 +220,19 @@ module _ (core : CoreState) (node : TakenNode) (holding : Holding) (tree : Nodes
   regions_there : region_of tree node ≡ region_of core.tree node
   regions_there = ap region_in shown_there
 
-  boxes_there : HasGivenBoxes core.program core.tree.root.bound (state_of core.tree (held_of core) (shown core.tree node ∷ [])) → HasGivenBoxes core.program tree.root.bound (state_of tree (cost_held holding) (shown tree node ∷ []))
-  boxes_there b = trimmed_boxes core.tree tree core.program (cost_held holding) (held_of core) (shown core.tree node) (shown tree node) shown_there t b
+  boxes_there : HasGivenBoxes (reduced_of core) core.tree.root.bound (state_of core.tree (held_of core) (shown core.tree node ∷ [])) → HasGivenBoxes (reduced_of core) tree.root.bound (state_of tree (cost_held holding) (shown tree node ∷ []))
+  boxes_there b = trimmed_boxes core.tree tree (reduced_of core) (cost_held holding) (held_of core) (shown core.tree node) (shown tree node) shown_there t b
 
-  module _ (k : IsKept core.program core.program (way_of core) core.tree (cost_held holding) (shown core.tree node ∷ [])) where
-    kept_there : IsKept core.program core.program (way_of core) tree (cost_held holding) (shown tree node ∷ [])
-    kept_there = subst (λ n. IsKept core.program core.program (way_of core) tree (cost_held holding) (n ∷ [])) (sym shown_there) (trimmed_kept core.tree tree core.program core.program core (cost_held holding) (shown core.tree node ∷ []) t k)
+  module _ (k : IsKept core.program (reduced_of core) (way_of core) core.tree (cost_held holding) (shown core.tree node ∷ [])) where
+    kept_there : IsKept core.program (reduced_of core) (way_of core) tree (cost_held holding) (shown tree node ∷ [])
+    kept_there = subst (λ n. IsKept core.program (reduced_of core) (way_of core) tree (cost_held holding) (n ∷ [])) (sym shown_there) (trimmed_kept core.tree tree core.program (reduced_of core) core (cost_held holding) (shown core.tree node ∷ []) t k)
 
     pub later_offered : IsLaterAt core node now node
     later_offered = record {
       later = record {
         program = refl;
+        reduced = refl;
+        steps = refl;
         root = root_same;
         integral = ap (λ (n : Nodes). n.integral) same_tree;
         ids = omega (arith, ap (λ (n : Nodes). n.ids) same_tree);
@@ -320,7 +324,7 @@ module _ (core : CoreState) (node : TakenNode) (bound : Option ℚ) (back tree :
     kept = record {
       kept = trimmed_kept back tree core.program (reduced_of core) core (held_of core) [] t back_kept;
       matter = trimmed_matter back tree (held_of core) t;
-      boxes = λ u. trimmed_idle back tree core.program (held_of core) t (back_boxes (up.nodes.boxes u));
+      boxes = λ u. trimmed_idle back tree (reduced_of core) (held_of core) t (back_boxes (up.nodes.boxes u));
     };
     log = ap (λ (n : Nodes). n.log) all_same;
     parked = ap (λ (n : Nodes). n.parked) all_same;
@@ -357,7 +361,7 @@ module _ (core : CoreState) (node : TakenNode) (column : ℕ) (at : ℤ) (low hi
     kept = record {
       kept = trimmed_kept halved tree core.program (reduced_of core) core (held_of core) [] t (kept_split core.program (reduced_of core) (way_of core) core.tree halved (held_of core) node column at low high s up.nodes.kept place logged);
       matter = trimmed_matter halved tree (held_of core) t;
-      boxes = λ u. trimmed_idle halved tree core.program (held_of core) t (split_boxes (up.nodes.boxes u));
+      boxes = λ u. trimmed_idle halved tree (reduced_of core) (held_of core) t (split_boxes (up.nodes.boxes u));
     };
     later = later_tree core tree (ap (λ (n : Nodes). n.root) same_halved) (ap (λ (n : Nodes). n.integral) same_halved) (omega (arith, ap (λ (n : Nodes). n.ids) same_halved));
     few = omega (arith, ap (λ (n : Nodes). n.ids) same_halved);
@@ -410,6 +414,7 @@ sound_aged core s =
       valid = last_valid (reduced_of core) (held_of core) core.pool.rows n s.valid;
       same = s.same;
       bare = λ u. drop_none n core.pool.rows (s.bare u);
+      back = s.back;
     }
 
 -- the point held may be cheaper
@@ -419,6 +424,7 @@ sound_offered core tree holding h d s = record {
   valid = later_valid (reduced_of core) (cost_held holding) (held_of core) core.pool.rows d s.valid;
   same = s.same;
   bare = s.bare;
+  back = s.back;
 }
 
 pub fitted_offered : (program : Program) (held now : Option ℚ) (cutoff : Option Row) (whole_costs : Bool) (room : ℕ) → IsFitted program held cutoff whole_costs room → IsFitted program now (with_high cutoff (cutoff_side program now)) whole_costs room

@@ -9,3 +9,5 @@ pub mod RowsAdded
 pub mod SidesTightened
 pub mod OwnChoices
 pub mod NearColumns
+pub mod LedBack
+pub mod OfferedBack

@@ -22,6 +22,8 @@ no_dearer_trans (Some x) (Some y) (Some z) h k = ≤ℚ_trans h k
 pub later_itself : (core : CoreState) → IsLater core core
 later_itself core = record {
   program = refl;
+  reduced = refl;
+  steps = refl;
   root = refl;
   integral = refl;
   ids = omega arith;
@@ -32,6 +34,8 @@ later_itself core = record {
 pub later_further : (old mid new : CoreState) → IsLater old mid → IsLater mid new → IsLater old new
 later_further old mid new h k = record {
   program = k.program ∙ h.program;
+  reduced = k.reduced ∙ h.reduced;
+  steps = k.steps ∙ h.steps;
   root = k.root ∙ h.root;
   integral = k.integral ∙ h.integral;
   ids = omega (arith, h.ids, k.ids);
@@ -51,7 +55,7 @@ narrower_itself core node = record {
 
 pub narrower_further : (mid new : CoreState) (was node now : Node) → IsLater mid new → IsNarrower mid was node → IsNarrower new node now → IsNarrower new was now
 narrower_further mid new was node now l h k =
-    let same : reduced_of new ≡ reduced_of mid = l.program in
+    let same : reduced_of new ≡ reduced_of mid = l.reduced in
     record {
       number = k.number ∙ h.number;
       choices = k.choices ∙ h.choices;

@@ -64,7 +64,7 @@ abbrev pub with_pool : CoreState → Pool → CoreState
 with_pool core pool = record core { pool = pool; touched = true }
 
 same_pool : (core : CoreState) (pool : Pool) → pool ≡ core.pool → IsSound core → IsSound (with_pool core pool)
-same_pool core pool e s = subst (λ p. IsSound (with_pool core p)) (sym e) (record { is_held = s.is_held; valid = s.valid; same = s.same; bare = λ u. absurd (true≢false u) })
+same_pool core pool e s = subst (λ p. IsSound (with_pool core p)) (sym e) (record { is_held = s.is_held; valid = s.valid; same = s.same; bare = λ u. absurd (true≢false u); back = s.back })
 
 pub sound_added : (core : CoreState) (pool : Pool) (row : Inequality) (box : List Sides) (rests : Bool) (added : Added) → IsAdded core.pool (row_of row) box rests pool added → ArePoolRowsValid (reduced_of core) (held_of core) (with_row core.pool (row_of row) box rests).rows → IsSound core → IsSound (with_pool core pool)
 sound_added core pool row box rests (New id) a v s =
@@ -73,6 +73,7 @@ sound_added core pool row box rests (New id) a v s =
       valid = v;
       same = s.same;
       bare = λ u. absurd (true≢false u);
+      back = s.back;
     })
 sound_added core pool row box rests (Known id) a v s = same_pool core pool a.1 s
 sound_added core pool row box rests Full a v s = same_pool core pool a.2 s
@@ -89,7 +90,7 @@ sound_given core pool row box rests (Err e) a v s = same_pool core pool a s
 -- a node in work stays so with another pool
 pub later_pooled : (core : CoreState) (pool : Pool) (node : TakenNode) → IsAtWork core node → IsLaterAt core node (with_pool core pool) node
 later_pooled core pool node w = record {
-  later = record { program = refl; root = refl; integral = refl; ids = omega arith; no_dearer = itself (held_of core); untouched = λ u. absurd (true≢false u) };
+  later = record { program = refl; reduced = refl; steps = refl; root = refl; integral = refl; ids = omega arith; no_dearer = itself (held_of core); untouched = λ u. absurd (true≢false u) };
   at_work = record {
     up = record {
       nodes = record { kept = w.up.nodes.kept; matter = w.up.nodes.matter; boxes = λ u. absurd (true≢false u) };

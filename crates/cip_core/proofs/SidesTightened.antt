@@ -128,6 +128,8 @@ module _ (core : CoreState) (node has : TakenNode) (column : ℕ) (side : Side) 
   later_tightened = record {
     later = record {
       program = refl;
+      reduced = refl;
+      steps = refl;
       root = ap (λ (t : Nodes). t.root) n.tree;
       integral = ap (λ (t : Nodes). t.integral) n.tree;
       ids = omega (arith, ap (λ (t : Nodes). t.ids) n.tree);

@@ -11,6 +11,7 @@ use Rattle.cip_node_rules.specs.OpenColumns.{is_whole_at}
 use Rattle.cip_node_rules.specs.RootBounds.{least_value}
 use Rattle.cip_node_rules.specs.SplitRules.{AreNear}
 use Rattle.cip_tree.specs.Moves.{IsNew}
+use Rattle.cip_postsolve.specs.StepsBack.{StepsTaken}
 use Rattle.cip_core.specs.Entering.{own_region}
 use Rattle.cip_core.specs.CoreStates.{CoreState, IsKeptIn}
 
@@ -28,13 +29,15 @@ abbrev pub AreNearColumns : Program → Type 0
 AreNearColumns program =
     (column : ℕ) → is_whole_at program.integral column ≡ true → AreNear (2 ^ 100) (sides_at program.bounds column)
 
--- a search of a program that has not begun: its root is open with the box bound, no row is in the pool, and no point is
--- held
-pub record HasNotBegun (program : Program) (core : CoreState) : Type 0 where
+-- a search that has not begun of a program that was reduced: its root is open, with the reduced program's box and the
+-- box bound of the program as read, no row is in the pool, and no point is held
+pub record HasNotBegun (program reduced : Program) (steps : StepsTaken) (core : CoreState) : Type 0 where
   pub program_is : core.program ≡ program
+  pub reduced_is : core.reduced ≡ reduced
+  pub steps_are : core.steps ≡ steps
   pub root : IsRootBound program core.tree.root.bound
-  pub new : IsNew core.tree (own_region program) program.integral core.tree.root.bound
+  pub new : IsNew core.tree (own_region reduced) reduced.integral core.tree.root.bound
   pub kept : IsKeptIn core []
-  pub pool : core.pool ≡ record { columns = columns program; rows = []; next = 0 }
+  pub pool : core.pool ≡ record { columns = columns reduced; rows = []; next = 0 }
   pub nothing : core.incumbent ≡ nothing_held (columns program)
   pub untouched : core.touched ≡ false

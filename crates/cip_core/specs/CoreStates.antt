@@ -8,7 +8,10 @@ use Rattle.cip_problem.specs.WellFormed.{columns}
 use Rattle.cip_problem.specs.Log.{Node, node_of}
 use Rattle.cip_cuts.specs.Cuts.{HasWholeCosts}
 use Rattle.cip_leaves.specs.Searched.{nodes_given}
-use Rattle.cip_search.specs.SearchState.{WayBack, stay, HasGivenBoxes}
+use Rattle.cip_search.specs.SearchState.{WayBack, HasGivenBoxes}
+use Rattle.cip_reductions.specs.Pairs.{IsAssignment, IsPair}
+use Rattle.cip_postsolve.specs.StepsBack.{StepsTaken, steps_code, way_back}
+use Rattle.cip_postsolve.specs.StepsBack.{point_back, old_number, whole_of_left, whole_point, LeafFitsBack}
 use Rattle.cip_incumbent.specs.HeldPoint.{Holding, holding_code}
 use Rattle.cip_cert.specs.Lent.{Lent}
 use Rattle.cip_cert.specs.Resting.{ArePoolRowsValid}
@@ -18,10 +21,13 @@ use Rattle.cip_tree.specs.Nodes.{TakenNode, Nodes, nodes_code, IsTaken, region_o
 use Rattle.cip_core.specs.CutoffRow.{cutoff_of}
 use Rattle.cip_core.specs.KeptNodes.{cost_held, state_of, IsKept, AllMatter, IsHolding}
 
--- a core: the program as read; the rows that are valid in their scopes; the nodes with the log, and the region in work;
--- the point held; and whether a row was added or a side tightened since the search began
+-- a core: the program as read; the reduced program, which is searched in its place, and the steps by which its points
+-- and leaves come back; the rows that are valid in their scopes; the nodes with the log, and the region in work; the
+-- point held; and whether a row was added or a side tightened since the search began
 pub record CoreState : Type 0 where
   pub program : Program
+  pub reduced : Program
+  pub steps : StepsTaken
   pub pool : Pool
   pub tree : Nodes
   pub incumbent : Holding
@@ -30,23 +36,26 @@ pub record CoreState : Type 0 where
 -- all fields, in pairs
 abbrev pub core_code : Coded CoreState
 core_code =
-    code_by (Program × (Pool × (Nodes × (Holding × Bool))))
-    (coded× program_code (coded× pool_code (coded× nodes_code (coded× holding_code coded_bool))))
-    (λ c. (c.program, (c.pool, (c.tree, (c.incumbent, c.touched)))))
+    code_by (Program × (Program × (StepsTaken × (Pool × (Nodes × (Holding × Bool))))))
+    (coded× program_code
+    (coded× program_code (coded× steps_code (coded× pool_code (coded× nodes_code (coded× holding_code coded_bool))))))
+    (λ c. (c.program, (c.reduced, (c.steps, (c.pool, (c.tree, (c.incumbent, c.touched)))))))
     (λ p. record {
       program = p.0;
-      pool = p.1.0;
-      tree = p.1.1.0;
-      incumbent = p.1.1.1.0;
-      touched = p.1.1.1.1;
+      reduced = p.1.0;
+      steps = p.1.1.0;
+      pool = p.1.1.1.0;
+      tree = p.1.1.1.1.0;
+      incumbent = p.1.1.1.1.1.0;
+      touched = p.1.1.1.1.1.1;
     }) (λ _. refl)
 
--- the program that is searched, and the way back from it: the program itself, and all stays as it is
+-- the program that is searched, and the way back from it
 abbrev pub reduced_of : CoreState → Program
-reduced_of core = core.program
+reduced_of core = core.reduced
 
 abbrev pub way_of : CoreState → WayBack
-way_of core = stay
+way_of core = way_back core.steps
 
 -- the cost held, if a point is
 abbrev pub held_of : CoreState → Option ℚ
@@ -62,13 +71,23 @@ all_lent core = record (rows_lent core) { cutoff = Some (cutoff_of (reduced_of c
 
 -- ---- what holds always
 
--- the point held is one of the program; each row of the pool is valid in its scope, below the cost held where it rests
--- on that, and has the program's columns; and the pool has no row before one was added
+-- a program may be searched in place of another, and these steps lead back from it: points come back at equal cost, the
+-- steps know the whole columns of both, and whole values in range and within bounds come back without overflow
+pub record IsReducedBy (program reduced : Program) (steps : StepsTaken) : Type 0 where
+  pub pair : IsPair program reduced (point_back steps) (old_number steps)
+  pub whole : steps.whole ≡ program.integral
+  pub left : whole_of_left steps ≡ reduced.integral
+  pub leaves : (wholes : List ℚ) → IsAssignment reduced (whole_point steps wholes) → LeafFitsBack steps wholes
+
+-- the point held is one of the program as read; each row of the pool is valid in its scope, below the cost held where
+-- it rests on that, and has the reduced program's columns; the pool has no row before one was added; and the reduced
+-- program leads back
 pub record IsSound (core : CoreState) : Type 0 where
   pub is_held : IsHolding core.program core.incumbent
   pub valid : ArePoolRowsValid (reduced_of core) (held_of core) core.pool.rows
   pub same : core.pool.columns ≡ columns (reduced_of core)
   pub bare : core.touched ≡ false → core.pool.rows ≡ []
+  pub back : IsReducedBy core.program core.reduced core.steps
 
 -- what is kept beside fits: the cutoff row is that of the cost held, it is known whether costs are whole, and there is
 -- room for all columns

@@ -9,10 +9,12 @@ use Rattle.cip_leaves.specs.Searched.{NoMore}
 use Rattle.cip_tree.specs.Nodes.{TakenNode, region_of, shown}
 use Rattle.cip_core.specs.CoreStates.{CoreState, reduced_of, held_of, IsAtWork}
 
--- the program, the root and the columns stay, numbers are only added, the point held is no dearer, and what was touched
--- stays so
+-- both programs, the steps, the root and the columns stay, numbers are only added, the point held is no dearer, and
+-- what was touched stays so
 pub record IsLater (old new : CoreState) : Type 0 where
   pub program : new.program ≡ old.program
+  pub reduced : new.reduced ≡ old.reduced
+  pub steps : new.steps ≡ old.steps
   pub root : new.tree.root ≡ old.tree.root
   pub integral : new.tree.integral ≡ old.tree.integral
   pub ids : old.tree.ids ≤ new.tree.ids

@@ -15,6 +15,9 @@ use Rattle.cip_incumbent.specs.declared.offers.Offered.{Offered}
 use Rattle.cip_rows.specs.RowPools.{Pool, kept_pool_rows}
 use Rattle.cip_tree.specs.Moves.{is_cheaper}
 use Rattle.cip_tree.specs.Nodes.{TakenNode, Nodes, base_at, shown}
+use Rattle.cip_postsolve.specs.StepsBack.{point_back, FitsBack}
+use Rattle.cip_postsolve.specs.PostsolveFaults.{IsPostsolveFault}
+use Rattle.cip_postsolve.specs.declared.faults.PostsolveFault.{PostsolveFault}
 use Rattle.cip_core.specs.CoreStates.{CoreState, reduced_of, held_of, IsKeptIn}
 use Rattle.cip_core.specs.Later.{IsLater}
 
@@ -73,6 +76,22 @@ pub record IsOffered (old new : CoreState) (point : List ℚ) (answer : Offered)
   pub is_answer : answer ≡ offered old.incumbent.best (verdict_of old.program point)
   pub after : new.incumbent ≡ after_offer answer old.program point old.incumbent
   pub trimmed : IsTrimmed old.tree new.tree (held_of new)
+
+-- where a point of the reduced program comes back in range, and the test of that finds it feasible, what is held costs
+-- no more
+abbrev pub IsTriedBack : CoreState → List ℚ → Type 0
+IsTriedBack core point =
+    FitsBack core.steps point → IsTried core.program (held_of core) (point_back core.steps point)
+
+-- a point of the reduced program came back in range, and what it came back as was offered
+pub record IsOfferedBack (old new : CoreState) (point : List ℚ) (answer : Offered) : Type 0 where
+  pub fits : FitsBack old.steps point
+  pub offered : IsOffered old new (point_back old.steps point) answer
+
+-- it doesn't come back, for this reason, and nothing has changed
+pub record IsNotBack (old new : CoreState) (point : List ℚ) (fault : PostsolveFault) : Type 0 where
+  pub why : IsPostsolveFault old.steps point fault
+  pub same : new ≡ old
 
 -- a pool after it aged: its oldest rows have gone, where it had too many
 abbrev pub aged : Pool → Pool

@@ -34,10 +34,11 @@ fn scope<'x>(work: &'x Bounds, root: &'x Bounds, local: bool) -> &'x Bounds
 }
 
 impl<'a> Core<'a> {
-    /// Adds the row, while a node is in work, that a combination of the program's rows, the pool's, the cutoff row and
-    /// the sides of a box adds up to, with `round` rounded up. The box is that in work where the row is `local`, and
-    /// else the root's: there the row is valid, and it is its scope. `Refused` comes exactly where the check refuses
-    /// the combination, and changes nothing. `Err` comes where memory was refused, and leaves the pool as it was.
+    /// Adds the row, while a node is in work, that a combination of the reduced program's rows, the pool's, the cutoff
+    /// row and the sides of a box adds up to, with `round` rounded up. The box is that in work where the row is
+    /// `local`, and else the root's: there the row is valid, and it is its scope. `Refused` comes exactly where the
+    /// check refuses the combination, and changes nothing. `Err` comes where memory was refused, and leaves the pool
+    /// as it was.
     pub fn add_row(
         &mut self,
         node: &Node,
@@ -51,14 +52,14 @@ impl<'a> Core<'a> {
         ensures later { IsLaterAt self.old node.now self.new node.now }
         ensures frame { self.new ≡ record self.old { pool = self.new.pool; touched = self.new.touched } }
     {
-        let _columns = self.program.columns();
+        let _columns = self.reduced.columns();
         let lent = Rows {
-            own: self.program.rows(),
+            own: self.reduced.rows(),
             pool: self.pool.rows(),
             cutoff: &self.cutoff,
-            whole: self.program.whole(),
+            whole: self.reduced.whole(),
         };
-        let bounds = scope(self.tree.bounds(), self.program.bounds(), local);
+        let bounds = scope(self.tree.bounds(), self.reduced.bounds(), local);
         match derive(&lent, bounds, combo, round, &mut self.scratch) {
             Err(fault) => Ok(Asked::Refused(fault)),
             Ok(least) => {
@@ -92,9 +93,9 @@ impl<'a> Core<'a> {
         ensures frame { self.new ≡ record self.old { pool = self.new.pool; touched = self.new.touched } }
     {
         let _ = node;
-        let _columns = self.program.columns();
+        let _columns = self.reduced.columns();
         self.touched = true;
-        let bounds = scope(self.tree.bounds(), self.program.bounds(), local);
+        let bounds = scope(self.tree.bounds(), self.reduced.bounds(), local);
         self.pool.add(scratch, least, bounds, rests)
     }
 }

@@ -4,7 +4,9 @@ ghost use Rattle.cip_problem.specs.WellFormed.{columns};
 ghost use Rattle.cip_cuts.specs.Cuts.{HasWholeCosts};
 ghost use Rattle.cip_cuts.specs.Improving.{IsBoundIn};
 ghost use Rattle.cip_tree.specs.Moves.{IsNew};
-ghost use Rattle.cip_search.specs.SearchState.{stay, HasGivenBoxes};
+ghost use Rattle.cip_search.specs.SearchState.{HasGivenBoxes};
+ghost use Rattle.cip_postsolve.specs.StepsBack.{way_back};
+ghost use Rattle.cip_compaction.specs.PresolvedPrograms.{IsPresolved};
 ghost use Rattle.cip_core.specs.Beginning.{IsRootBound, AreNearColumns, HasNotBegun};
 ghost use Rattle.cip_core.specs.Entering.{own_region};
 ghost use Rattle.cip_core.specs.KeptNodes.{IsKept, state_of};
@@ -12,6 +14,7 @@ ghost use Rattle.cip_core.specs.KeptNodes.{IsKept, state_of};
 use crate::cores::Core;
 use crate::costs::{are_costs_whole, open_cutoff};
 use cip_cert::Scratch;
+use cip_compaction::Presolved;
 use cip_domain::Region;
 use cip_frac::Frac;
 use cip_incumbent::Incumbent;
@@ -49,39 +52,54 @@ fn region_of(alloc: Global, program: &Program) -> Result<Region, AllocError>
     Ok(Region::new(bounds, choices))
 }
 
-/// The tree of one open node, the root of the program.
-fn rooted_tree(alloc: Global, program: &Program) -> Result<Tree, AllocError>
-    requires near { AreNearColumns program.now }
-    ensures new { IfOk result (λ tree. IsNew tree (own_region program.now) program.now.integral tree.root.bound) }
+/// The tree of one open node, the root of the reduced program, with the bound of the program as read.
+fn rooted_tree(alloc: Global, program: &Program, presolved: &Presolved) -> Result<Tree, AllocError>
+    requires near { AreNearColumns presolved.now.reduced }
+    requires back { IsPresolved program.now presolved.now }
+    ensures new { IfOk result (λ tree.
+        IsNew tree (own_region presolved.now.reduced) presolved.now.reduced.integral tree.root.bound) }
     ensures root { IfOk result (λ tree. IsRootBound program.now tree.root.bound) }
-    ensures kept { IfOk result (λ tree. IsKept program.now program.now stay tree None []) }
-    ensures boxes { IfOk result (λ tree. HasGivenBoxes program.now tree.root.bound (state_of tree None [])) }
+    ensures kept { IfOk result (λ tree.
+        IsKept program.now presolved.now.reduced (way_back presolved.now.steps) tree None []) }
+    ensures boxes { IfOk result (λ tree.
+        HasGivenBoxes presolved.now.reduced tree.root.bound (state_of tree None [])) }
 {
+    let reduced = &presolved.reduced;
     let _columns = program.columns();
+    let _left = reduced.columns();
     let bound = root_bound(program);
-    let root = region_of(alloc, program)?;
-    Tree::new(alloc, root, program.whole(), bound)
+    let root = region_of(alloc, reduced)?;
+    Tree::new(alloc, root, reduced.whole(), bound)
 }
 
 impl<'a> Core<'a> {
-    /// What a search of a program begins with: its root is open, with the box bound, rounded up where all costs are
-    /// whole, or without a bound where a side is open or a sum of it overflows; the pool has no row, and no point is
-    /// held. The sides of whole columns have sizes of at most 2^100, those of other columns any. `Err` comes where
+    /// What a search begins with of the program that presolve made of one, and which is searched in its place: its root
+    /// is open, with the box bound of the program as read, rounded up where all costs of that are whole, or without a
+    /// bound where a side is open or a sum of it overflows; the pool has no row, and no point is held. The sides of
+    /// whole columns of the reduced program have sizes of at most 2^100, those of other columns any. `Err` comes where
     /// memory was refused.
-    pub fn new(alloc: Global, program: &'a Program) -> Result<Core<'a>, AllocError>
-        requires { AreNearColumns program.now }
-        ensures { IfOk result (HasNotBegun program.now) }
+    pub fn new(
+        alloc: Global,
+        program: &'a Program,
+        presolved: &'a Presolved,
+    ) -> Result<Core<'a>, AllocError>
+        requires near { AreNearColumns presolved.now.reduced }
+        requires back { IsPresolved program.now presolved.now }
+        ensures { IfOk result (HasNotBegun program.now presolved.now.reduced presolved.now.steps) }
     {
-        let columns = program.columns();
+        let reduced = &presolved.reduced;
+        let columns = reduced.columns();
         let incumbent = Incumbent::new(alloc, program)?;
-        let Ok(cutoff) = open_cutoff(alloc, program.costs()) else {
+        let Ok(cutoff) = open_cutoff(alloc, reduced.costs()) else {
             return Err(AllocError);
         };
         let scratch = Scratch::new(alloc, columns)?;
-        let tree = rooted_tree(alloc, program)?;
+        let tree = rooted_tree(alloc, program, presolved)?;
         Ok(Core {
             program,
-            whole_costs: are_costs_whole(program),
+            reduced,
+            steps: &presolved.steps,
+            whole_costs: are_costs_whole(reduced),
             pool: RowPool::new(alloc, columns),
             cutoff: Some(cutoff),
             scratch,

@@ -14,16 +14,20 @@ use cip_frac::Frac;
 use cip_incumbent::Incumbent;
 use cip_lin::{Bounds, Choices, Row};
 use cip_model::Program;
+use cip_postsolve::Steps;
 use cip_rows::RowPool;
 use cip_tree::{Logged, Tree};
 use std::marker::Model;
 
-/// What a search over a program works with: the nodes with the log, the point held, the pool of rows, and the region in
+/// What a search works with: the program as read, and the reduced program that is searched in its place, with the steps
+/// by which points and leaves come back; the nodes with the log, the point held, the pool of rows, and the region in
 /// work, which is the box of a node with its choices. Contracts see these, and whether a row was added or a side
 /// tightened since the search began.
 #[derive(Drop)]
 pub struct Core<'a> {
     pub(crate) program: &'a Program,
+    pub(crate) reduced: &'a Program,
+    pub(crate) steps: &'a Steps,
     // whether costs are whole, so that bounds are rounded up
     pub(crate) whole_costs: bool,
     pub(crate) pool: RowPool,
@@ -48,6 +52,8 @@ impl<'a> Model for Core<'a> {
 
     ghost view = { λ c. record {
       program = c.program.now;
+      reduced = c.reduced.now;
+      steps = c.steps.now;
       pool = c.pool;
       tree = c.tree;
       incumbent = c.incumbent;
@@ -57,12 +63,14 @@ impl<'a> Model for Core<'a> {
     ghost invariant = { λ c.
         IsSound (record {
           program = c.program.now;
+          reduced = c.reduced.now;
+          steps = c.steps.now;
           pool = c.pool;
           tree = c.tree;
           incumbent = c.incumbent;
           touched = c.touched;
         })
-        × IsFitted c.program.now (cost_held c.incumbent) c.cutoff c.whole_costs (length c.scratch.row.entries) };
+        × IsFitted c.reduced.now (cost_held c.incumbent) c.cutoff c.whole_costs (length c.scratch.row.entries) };
 }
 
 impl<'a> Core<'a> {
@@ -70,17 +78,33 @@ impl<'a> Core<'a> {
     pub fn is_sound(&self)
         ensures sound { IsSound self.now }
         ensures formed { IsWellFormed self.now.program }
+        ensures reduced { IsWellFormed (reduced_of self.now) }
         ensures pool { IsSoundPool self.now.pool }
     {
         let _columns = self.program.columns();
+        let _left = self.reduced.columns();
         let _rows = self.pool.rows();
     }
 
-    /// The program.
+    /// The program as read.
     pub fn program(&self) -> &'a Program
         ensures { result.now ≡ self.now.program }
     {
         self.program
+    }
+
+    /// The reduced program, which is searched.
+    pub fn reduced(&self) -> &'a Program
+        ensures { result.now ≡ reduced_of self.now }
+    {
+        self.reduced
+    }
+
+    /// The steps by which points and leaves of the reduced program come back.
+    pub fn steps(&self) -> &'a Steps
+        ensures { result.now ≡ self.now.steps }
+    {
+        self.steps
     }
 
     /// The box of the region in work.
@@ -97,16 +121,16 @@ impl<'a> Core<'a> {
         self.tree.choices()
     }
 
-    /// What a check may cite: the program's rows, those of the pool, and the cutoff row.
+    /// What a check may cite: the reduced program's rows, those of the pool, and the cutoff row.
     pub fn rows(&self) -> Rows<'_>
         ensures lent { lent_of result ≡ all_lent self.now }
         ensures whole { result.whole.now ≡ (reduced_of self.now).integral }
     {
         Rows {
-            own: self.program.rows(),
+            own: self.reduced.rows(),
             pool: self.pool.rows(),
             cutoff: &self.cutoff,
-            whole: self.program.whole(),
+            whole: self.reduced.whole(),
         }
     }
 

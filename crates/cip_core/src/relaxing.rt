@@ -11,8 +11,8 @@ use cip_tree::Node;
 use std::alloc::{AllocError, Global};
 
 impl<'a> Core<'a> {
-    /// Solves the linear program of the box in work, over the rows of the program and those of the pool that may be
-    /// used there, from a start, if one is given; where it ended is answered, too. `Err` comes where memory was
+    /// Solves the linear program of the box in work, over the rows of the reduced program and those of the pool that
+    /// may be used there, from a start, if one is given; where it ended is answered, too. `Err` comes where memory was
     /// refused.
     pub fn relax(
         &mut self,
@@ -27,10 +27,10 @@ impl<'a> Core<'a> {
         ensures frame { self.new ≡ self.old }
     {
         let _ = node;
-        let _columns = self.program.columns();
+        let _columns = self.reduced.columns();
         relax_from(
             alloc,
-            self.program,
+            self.reduced,
             &self.pool,
             &None,
             self.tree.bounds(),

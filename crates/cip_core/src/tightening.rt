@@ -28,7 +28,7 @@ impl<'a> Core<'a> {
             (λ _. (self.new ≡ self.old) × (node.new ≡ node.old)) }
         ensures later { IsLaterAt self.old node.old self.new node.new }
     {
-        let _columns = self.program.columns();
+        let _columns = self.reduced.columns();
         match self.tree.tighten(node, col, side, value)? {
             Tightened::Yes => {
                 self.touched = true;

@@ -16,7 +16,7 @@ Maximize
  4 a + 3 b + 2 c
 Subject To
  2 a + 2 b + 2 c <= 5
- 3 a + b <= 5
+ 3 a + 2 b <= 4
 Generals
  a b c
 End

@@ -1,5 +1,5 @@
 -- Columns that are free after a term, and after a row.
-use Rattle.std.proofs.Common.{◌≡◌, ℕ, zero, suc, ◌+◌, ◌<◌, ◌≤◌, Bool, true, false, List, [], ◌∷◌, length, take, Option, Some, IfSome, slice_get, refl, sym, ap, ◌∙◌, subst, arith, true≢false}
+use Rattle.std.proofs.Common.{◌≡◌, ℕ, zero, suc, ◌+◌, ◌<◌, ◌≤◌, Bool, true, false, List, [], ◌∷◌, length, take, Option, Some, IfSome, slice_get, refl, sym, ap, ◌∙◌, subst, arith, inl, inr, true≢false}
 use Rattle.std.specs.Prelude.{slice_set, All, not, IsTrue, ◌↔◌}
 use Rattle.std.specs.Bool.{OnTrue}
 use Rattle.std.specs.List.{AllByRecursion}
@@ -10,7 +10,9 @@ use Rattle.cip_rational.proofs.Rational.Order.{le_of_not_lt}
 use Rattle.cip_problem.specs.Program.{Term, Row}
 use Rattle.cip_problem.specs.Activity.{StandsBelow}
 use Rattle.cip_reductions.specs.Moving.{LetsFall}
-use Rattle.cip_global_steps.specs.FreeColumns.{turned, FreeFewer, TermFree, TermsFree, RowsFree}
+use Rattle.cip_reductions.specs.Forms.{Form}
+use Rattle.cip_leaving.specs.SpentRows.{IsSpent}
+use Rattle.cip_global_steps.specs.FreeColumns.{turned, FreeFewer, TermFree, TermsFree, RowFree, RowsFree}
 
 -- ---- flags
 
@@ -44,9 +46,13 @@ terms_stay : (rising : Bool) (old new : List Bool) (low high : Option ℚ) (term
 terms_stay rising old new low high [] f h = tt
 terms_stay rising old new low high (t ∷ ts) f h = (λ e. h.0 (f.free t.column e), terms_stay rising old new low high ts f h.1)
 
-rows_stay : (rising : Bool) (old new : List Bool) (rows : List Row) → FreeFewer old new → RowsFree rising old rows → RowsFree rising new rows
-rows_stay rising old new [] f h = tt
-rows_stay rising old new (r ∷ rs) f h = (terms_stay rising old new r.low r.high r.terms f h.0, rows_stay rising old new rs f h.1)
+row_stays : (rising : Bool) (old new : List Bool) (forms : List (Option Form)) (row : Row) → FreeFewer old new → RowFree rising old forms row → RowFree rising new forms row
+row_stays rising old new forms row f (inl s) = inl s
+row_stays rising old new forms row f (inr h) = inr (terms_stay rising old new row.low row.high row.terms f h)
+
+rows_stay : (rising : Bool) (old new : List Bool) (forms : List (Option Form)) (rows : List Row) → FreeFewer old new → RowsFree rising old forms rows → RowsFree rising new forms rows
+rows_stay rising old new forms [] f h = tt
+rows_stay rising old new forms (r ∷ rs) f h = (row_stays rising old new forms r f h.0, rows_stay rising old new forms rs f h.1)
 
 all_more : {X : Type 0} (P : X → Type 0) (xs : List X) (n : ℕ) (x : X) → slice_get xs n ≡ Some x → AllByRecursion P (take n xs) → P x → AllByRecursion P (take (suc n) xs)
 all_more P [] n x e h p = absurd (none-some x e)
@@ -115,27 +121,37 @@ lock_fewer free new n e = subst (λ (f : List Bool). FreeFewer free f) (sym e) (
 
 pub ruleset locked_term = (fewer_self, term_lets, term_locks, lock_fewer)
 
+-- ---- a row
+
+pub row_spent : (rising : Bool) (free : List Bool) (forms : List (Option Form)) (row : Row) → IsSpent forms row → RowFree rising free forms row
+row_spent rising free forms row s = inl s
+
+pub row_free : (rising : Bool) (free : List Bool) (forms : List (Option Form)) (row : Row) → TermsFree rising free row.low row.high row.terms → RowFree rising free forms row
+row_free rising free forms row h = inr h
+
+pub ruleset locked_row = (fewer_self, row_spent)
+
 -- ---- after so many rows
 
-pub record RowsLockedTo (rising : Bool) (old free : List Bool) (rows : List Row) (n : ℕ) : Type 0 where
+pub record RowsLockedTo (rising : Bool) (old free : List Bool) (forms : List (Option Form)) (rows : List Row) (n : ℕ) : Type 0 where
   pub fewer : FreeFewer old free
-  pub stay : RowsFree rising free (take n rows)
+  pub stay : RowsFree rising free forms (take n rows)
 
-pub no_rows : (rising : Bool) (old : List Bool) (rows : List Row) → RowsLockedTo rising old old rows 0
-no_rows rising old rows = record { fewer = fewer_self old; stay = tt }
+pub no_rows : (rising : Bool) (old : List Bool) (forms : List (Option Form)) (rows : List Row) → RowsLockedTo rising old old forms rows 0
+no_rows rising old forms rows = record { fewer = fewer_self old; stay = tt }
 
-pub row_locked : (rising : Bool) (old free new : List Bool) (rows : List Row) (n : ℕ) (row : Row) → RowsLockedTo rising old free rows n → n < length rows → row ≡ get_or rows n row → FreeFewer free new → TermsFree rising new row.low row.high row.terms → RowsLockedTo rising old new rows (n + 1)
-row_locked rising old free new rows n row k below is f t = record {
+pub row_locked : (rising : Bool) (old free new : List Bool) (forms : List (Option Form)) (rows : List Row) (n : ℕ) (row : Row) → RowsLockedTo rising old free forms rows n → n < length rows → row ≡ get_or rows n row → FreeFewer free new → RowFree rising new forms row → RowsLockedTo rising old new forms rows (n + 1)
+row_locked rising old free new forms rows n row k below is f t = record {
   fewer = fewer_after old free new k.fewer f;
-  stay = all_more_one (λ r. TermsFree rising new r.low r.high r.terms) rows n row (slice_get_read rows (length rows) n row refl below is) (rows_stay rising free new (take n rows) f k.stay) t;
+  stay = all_more_one (λ r. RowFree rising new forms r) rows n row (slice_get_read rows (length rows) n row refl below is) (rows_stay rising free new forms (take n rows) f k.stay) t;
 }
 
-pub row_stands : (rising : Bool) (old free : List Bool) (rows : List Row) (n : ℕ) (row : Row) → RowsLockedTo rising old free rows n → All (λ r. StandsBelow (length old) r.terms) rows → n < length rows → row ≡ get_or rows n row → StandsBelow (length free) row.terms
-row_stands rising old free rows n row k s below is =
+pub row_stands : (rising : Bool) (old free : List Bool) (forms : List (Option Form)) (rows : List Row) (n : ℕ) (row : Row) → RowsLockedTo rising old free forms rows n → All (λ r. StandsBelow (length old) r.terms) rows → n < length rows → row ≡ get_or rows n row → StandsBelow (length free) row.terms
+row_stands rising old free forms rows n row k s below is =
     let g : slice_get rows n ≡ Some row = slice_get_read rows (length rows) n row refl below is in
     subst (λ m. StandsBelow m row.terms) (sym k.fewer.long) (all_at (λ r. StandsBelow (length old) r.terms) rows n row s g)
 
-pub all_rows : (rising : Bool) (old free : List Bool) (rows : List Row) (n : ℕ) → RowsLockedTo rising old free rows n → length rows ≤ n → RowsFree rising free rows
-all_rows rising old free rows n k e = subst (λ (rs : List Row). RowsFree rising free rs) (take_whole rows n e) k.stay
+pub all_rows : (rising : Bool) (old free : List Bool) (forms : List (Option Form)) (rows : List Row) (n : ℕ) → RowsLockedTo rising old free forms rows n → length rows ≤ n → RowsFree rising free forms rows
+all_rows rising old free forms rows n k e = subst (λ (rs : List Row). RowsFree rising free forms rs) (take_whole rows n e) k.stay
 
 pub ruleset locked_rows = (no_rows, row_locked, row_stands, all_rows)

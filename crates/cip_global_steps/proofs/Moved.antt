@@ -1,60 +1,19 @@
--- A column that goes where it costs least.
-use Rattle.std.proofs.Common.{◌≡◌, ℕ, ◌<◌, Bool, true, false, List, [], ◌∷◌, length, Option, None, Some, IfSome, slice_get, refl, sym, ap, ◌∙◌, subst}
+-- The value that a column goes to.
+use Rattle.std.proofs.Common.{◌≡◌, ℕ, ◌<◌, Bool, true, false, List, length, Option, None, Some, IfSome, slice_get, refl, sym, ap, ◌∙◌, subst}
 use Rattle.std.proofs.lemmas.Bool.{false≢true}
 use Rattle.std.proofs.lemmas.Option.{none-some, same_Some}
 use Rattle.cip_rational.specs.Rational.{ℚ, zeroℚ, negate, ◌≤ℚ◌, ◌<ℚ◌, IsWhole, integer, ceil, floor}
 use Rattle.cip_rational.proofs.Rational.Order.{le_of_not_lt}
-use Rattle.cip_rational.proofs.Rational.Ring.{negate_zero, negate_negate}
+use Rattle.cip_rational.proofs.Rational.Ring.{negate_zero}
 use Rattle.cip_rational.proofs.Rational.Monotone.{negate_mono}
 use Rattle.cip_rational.proofs.Rational.Whole.{IsWhole-integer}
-use Rattle.cip_problem.specs.Program.{Term, Sides, Row, Program}
+use Rattle.cip_problem.specs.Program.{Sides, Program}
 use Rattle.cip_problem.specs.Activity.{value_at}
 use Rattle.cip_problem.specs.Box.{Between, sides_at}
-use Rattle.cip_problem.specs.Points.{IsFeasible}
-use Rattle.cip_problem.proofs.Points.AtPlaces.{in_box_at, whole_at}
 use Rattle.cip_cuts.specs.Cuts.{rounded_low, rounded_high}
 use Rattle.cip_cuts.proofs.Rounding.{sides_rounded}
-use Rattle.std.specs.List.{AllByRecursion}
-use Rattle.cip_reductions.specs.NarrowedPrograms.{IsStep, with_sides}
-use Rattle.cip_reductions.specs.Moving.{LetsFall, LetsRise, RowLetsFall, RowLetsRise, CanFallTo, CanRiseTo, fixed_sides}
-use Rattle.cip_reductions.proofs.Moving.{falls, rises}
-use Rattle.cip_reductions.proofs.Pairing.{exact_self, exact_step}
-use Rattle.cip_global_steps.specs.FreeColumns.{TermsFree, RowsFree, MayTake, least_value, greatest_value}
-
--- ---- rows
-
-row_falls : (free : List Bool) (low high : Option ℚ) (terms : List Term) (column : ℕ) → slice_get free column ≡ Some true → TermsFree false free low high terms → AllByRecursion (λ t. t.column ≡ column → LetsFall low high t.coefficient) terms
-row_falls free low high [] column e h = tt
-row_falls free low high (t ∷ ts) column e h = (λ k. h.0 (ap (slice_get free) k ∙ e), row_falls free low high ts column e h.1)
-
-rows_fall : (free : List Bool) (rows : List Row) (column : ℕ) → slice_get free column ≡ Some true → RowsFree false free rows → AllByRecursion (RowLetsFall column) rows
-rows_fall free [] column e h = tt
-rows_fall free (r ∷ rs) column e h = (row_falls free r.low r.high r.terms column e h.0, rows_fall free rs column e h.1)
-
-up_of : (c : ℚ) → negate c ≤ℚ zeroℚ → zeroℚ ≤ℚ c
-up_of c h = subst (λ t. zeroℚ ≤ℚ t) (negate_negate c) (subst (λ t. t ≤ℚ negate (negate c)) negate_zero (negate_mono h))
-
-down_of : (c : ℚ) → zeroℚ ≤ℚ negate c → c ≤ℚ zeroℚ
-down_of c h = subst (λ t. t ≤ℚ zeroℚ) (negate_negate c) (subst (λ t. negate (negate c) ≤ℚ t) negate_zero (negate_mono h))
-
-turned_rise : (low high : Option ℚ) (c : ℚ) → LetsFall low high (negate c) → LetsRise low high c
-turned_rise low high c h = record { low = lower low h.low; high = upper high h.high }
-  where
-    lower : (low : Option ℚ) → IfSome low (λ side. negate c ≤ℚ zeroℚ) → IfSome low (λ side. zeroℚ ≤ℚ c)
-    lower None k = tt
-    lower (Some low) k = up_of c k
-
-    upper : (high : Option ℚ) → IfSome high (λ side. zeroℚ ≤ℚ negate c) → IfSome high (λ side. c ≤ℚ zeroℚ)
-    upper None k = tt
-    upper (Some high) k = down_of c k
-
-row_rises : (free : List Bool) (low high : Option ℚ) (terms : List Term) (column : ℕ) → slice_get free column ≡ Some true → TermsFree true free low high terms → AllByRecursion (λ t. t.column ≡ column → LetsRise low high t.coefficient) terms
-row_rises free low high [] column e h = tt
-row_rises free low high (t ∷ ts) column e h = (λ k. turned_rise low high t.coefficient (h.0 (ap (slice_get free) k ∙ e)), row_rises free low high ts column e h.1)
-
-rows_rise : (free : List Bool) (rows : List Row) (column : ℕ) → slice_get free column ≡ Some true → RowsFree true free rows → AllByRecursion (RowLetsRise column) rows
-rows_rise free [] column e h = tt
-rows_rise free (r ∷ rs) column e h = (row_rises free r.low r.high r.terms column e h.0, rows_rise free rs column e h.1)
+use Rattle.cip_reductions.specs.Moving.{fixed_sides, CanTake}
+use Rattle.cip_global_steps.specs.Moves.{MayTake, least_value, greatest_value, CanBe, MovesTo}
 
 -- ---- the value
 
@@ -82,40 +41,30 @@ greatest_whole false high value e w = absurd (false≢true w)
 greatest_whole true None value e w = absurd (none-some value e)
 greatest_whole true (Some high) value e w = subst IsWhole (same_Some (integer (floor high)) value e) (IsWhole-integer (floor high))
 
--- ---- the steps
+-- ---- where a column goes
 
-module _ (program : Program) (column : ℕ) (whole : Bool) (value : ℚ) (inside : column < length program.bounds) (is : slice_get program.integral column ≡ Some whole) (take : MayTake program column (fixed_sides value)) where
+module _ (program : Program) (column : ℕ) (whole : Bool) (value : ℚ) (free : List Bool) (inside : column < length program.bounds) (is : slice_get program.integral column ≡ Some whole) (take : MayTake program column (fixed_sides value)) (f : slice_get free column ≡ Some true) where
   whole_if : (slice_get program.integral column ≡ Some true) → whole ≡ true
   whole_if h = same_Some whole true (sym is ∙ h)
 
-  whole_value : (y : List ℚ) → IsFeasible program y → whole ≡ true → IsWhole (value_at y column)
-  whole_value y h e = whole_at program.integral y column h.whole (is ∙ ap Some e)
+  whole_be : (other : ℚ) → CanBe program column other → whole ≡ true → IsWhole other
+  whole_be other c e = c.whole (is ∙ ap Some e)
 
-  can_fall : least_value whole (sides_at program.bounds column).low ≡ Some value → zeroℚ ≤ℚ value_at program.costs column → AllByRecursion (RowLetsFall column) program.rows → CanFallTo program column value
-  can_fall e cost rows = record {
-    takes = record { within = inside; plain = take.plain; whole = λ h. least_whole whole (sides_at program.bounds column).low value e (whole_if h); inside = take.inside };
-    cost = cost;
-    rows = rows;
-    least = λ y h. least_is whole (sides_at program.bounds column) value (value_at y column) e (whole_value y h) (in_box_at program.bounds y column h.within);
+  takes : (whole ≡ true → IsWhole value) → CanTake program column value
+  takes w = record { within = inside; plain = take.plain; whole = λ h. w (whole_if h); inside = take.inside }
+
+  pub fall_is : least_value whole (sides_at program.bounds column).low ≡ Some value → ¬ (value_at program.costs column <ℚ zeroℚ) → MovesTo false free program column value
+  fall_is e cost = record {
+    lets = f;
+    takes = takes (least_whole whole (sides_at program.bounds column).low value e);
+    cost = le_of_not_lt (value_at program.costs column) zeroℚ cost;
+    last = λ other c. least_is whole (sides_at program.bounds column) value other e (whole_be other c) c.between;
   }
 
-  can_rise : greatest_value whole (sides_at program.bounds column).high ≡ Some value → value_at program.costs column ≤ℚ zeroℚ → AllByRecursion (RowLetsRise column) program.rows → CanRiseTo program column value
-  can_rise e cost rows = record {
-    takes = record { within = inside; plain = take.plain; whole = λ h. greatest_whole whole (sides_at program.bounds column).high value e (whole_if h); inside = take.inside };
-    cost = cost;
-    rows = rows;
-    greatest = λ y h. greatest_is whole (sides_at program.bounds column) value (value_at y column) e (whole_value y h) (in_box_at program.bounds y column h.within);
+  pub rise_is : greatest_value whole (sides_at program.bounds column).high ≡ Some value → ¬ (zeroℚ <ℚ value_at program.costs column) → MovesTo true free program column value
+  rise_is e cost = record {
+    lets = f;
+    takes = takes (greatest_whole whole (sides_at program.bounds column).high value e);
+    cost = subst (λ t. t ≤ℚ negate (value_at program.costs column)) negate_zero (negate_mono (le_of_not_lt zeroℚ (value_at program.costs column) cost));
+    last = λ other c. negate_mono (greatest_is whole (sides_at program.bounds column) value other e (whole_be other c) c.between);
   }
-
-pub stays : (program : Program) → IsStep program program
-stays program = exact_step program program (exact_self program)
-
-pub fallen : (program changed : Program) (column : ℕ) (whole : Bool) (value : ℚ) (free : List Bool) → column < length program.bounds → slice_get program.integral column ≡ Some whole → MayTake program column (fixed_sides value) → least_value whole (sides_at program.bounds column).low ≡ Some value → ¬ (value_at program.costs column <ℚ zeroℚ) → slice_get free column ≡ Some true → RowsFree false free program.rows → changed ≡ with_sides program column (fixed_sides value) → IsStep program changed
-fallen program changed column whole value free inside is take e cost f rows k =
-    subst (λ p. IsStep program p) (sym k)
-    (falls program column value (can_fall program column whole value inside is take e (le_of_not_lt (value_at program.costs column) zeroℚ cost) (rows_fall free program.rows column f rows)))
-
-pub risen : (program changed : Program) (column : ℕ) (whole : Bool) (value : ℚ) (free : List Bool) → column < length program.bounds → slice_get program.integral column ≡ Some whole → MayTake program column (fixed_sides value) → greatest_value whole (sides_at program.bounds column).high ≡ Some value → ¬ (zeroℚ <ℚ value_at program.costs column) → slice_get free column ≡ Some true → RowsFree true free program.rows → changed ≡ with_sides program column (fixed_sides value) → IsStep program changed
-risen program changed column whole value free inside is take e cost f rows k =
-    subst (λ p. IsStep program p) (sym k)
-    (rises program column value (can_rise program column whole value inside is take e (le_of_not_lt zeroℚ (value_at program.costs column) cost) (rows_rise free program.rows column f rows)))

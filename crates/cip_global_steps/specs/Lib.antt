@@ -1,2 +1,3 @@
 pub mod FreeColumns
+pub mod Moves
 pub mod RowsMet

@@ -5,7 +5,7 @@
 mod locks;
 mod merging;
 mod moves;
+mod spent;
 
-pub use locks::free_columns;
 pub use merging::try_merge;
-pub use moves::try_move;
+pub use moves::try_moves;

@@ -4,8 +4,10 @@ ghost use Rattle.std.specs.Bool.{OnTrue};
 ghost use Rattle.cip_rational.specs.Rational.{zeroℚ, ◌≤ℚ◌};
 ghost use Rattle.cip_problem.specs.Activity.{StandsBelow};
 ghost use Rattle.cip_reductions.specs.Moving.{LetsFall};
-ghost use Rattle.cip_global_steps.specs.FreeColumns.{turned, FreeFewer, TermFree, TermsFree, RowsFree};
+ghost use Rattle.cip_global_steps.specs.FreeColumns.{turned, FreeFewer, TermFree, TermsFree, RowFree, RowsFree};
 
+use crate::spent::is_spent;
+use cip_equalities::ColumnForm;
 use cip_frac::Frac;
 use cip_lin::{Row, Term};
 use std::alloc::{AllocError, Global};
@@ -102,30 +104,46 @@ fn lock_terms(
     }
 }
 
-/// The columns that one of these rows keeps from falling, or from rising, are free no more.
+/// The columns that a row keeps from falling, or from rising, are free no more, unless it gives a column its form.
+#[tactic(auto, using(crate::proofs::Free::locked_row))]
+fn lock_row(free: &mut Vec<bool>, row: &Row, forms: &[Option<ColumnForm>], rising: bool)
+    requires { StandsBelow (length free.old.items) row.now.terms }
+    ensures fewer { FreeFewer free.old.items free.new.items }
+    ensures row { RowFree rising free.new.items forms.now row.now }
+{
+    if is_spent(forms, row) {
+        return;
+    }
+    let low = row.low();
+    let high = row.high();
+    lock_terms(free, row.terms(), &low, &high, rising);
+}
+
+/// The columns that one of these rows keeps from falling, or from rising, are free no more, but for rows that give a
+/// column its form.
 #[tactic(auto, using(crate::proofs::Free::locked_rows))]
-fn lock_rows(free: &mut Vec<bool>, rows: &[Row], rising: bool)
+fn lock_rows(free: &mut Vec<bool>, rows: &[Row], forms: &[Option<ColumnForm>], rising: bool)
     requires { All (λ row. StandsBelow (length free.old.items) row.terms) rows.now }
-    ensures { RowsFree rising free.new.items rows.now }
+    ensures { RowsFree rising free.new.items forms.now rows.now }
 {
     for row in rows {
-        let low = row.low();
-        let high = row.high();
-        lock_terms(free, row.terms(), &low, &high, rising);
+        lock_row(free, row, forms, rising);
     }
 }
 
-/// Which of so many columns no row keeps from falling, or from rising; `Err` where the memory for it was refused.
-pub fn free_columns(
+/// Which of so many columns no row keeps from falling, or from rising, but for rows that give a column that is left out
+/// its form; `Err` where the memory for it was refused.
+pub(crate) fn free_columns(
     alloc: Global,
     rows: &[Row],
+    forms: &[Option<ColumnForm>],
     columns: usize,
     rising: bool,
 ) -> Result<Vec<bool>, AllocError>
     requires { All (λ row. StandsBelow columns row.terms) rows.now }
-    ensures { IfOk result (λ free. RowsFree rising free.items rows.now) }
+    ensures { IfOk result (λ free. RowsFree rising free.items forms.now rows.now) }
 {
     let mut free = vec![in alloc; true; columns]?;
-    lock_rows(&mut free, rows, rising);
+    lock_rows(&mut free, rows, forms, rising);
     Ok(free)
 }

@@ -1,17 +1,12 @@
 -- A node goes on after a proposal was judged, or goes back where memory was refused.
-use Rattle.std.proofs.Common.{◌≡◌, ◌≢◌, ◌==◌, Bool, true, false, length, List, Option, None, Some, Result, Ok, Err, IfOk, if◌then◌else◌, refl, sym, ap, ◌∙◌, subst}
+use Rattle.std.proofs.Common.{◌≡◌, ◌≢◌, List, Option, None, Some, Result, Ok, Err, IfOk, refl, sym, ap, ◌∙◌, subst}
 use Rattle.std.specs.Prelude.{MatchResult, OnErr}
 use Rattle.std.proofs.lemmas.Option.{same_Some}
 use Rattle.cip_rational.specs.Rational.{ℚ}
 use Rattle.cip_problem.specs.Log.{Node, node_of}
-use Rattle.cip_problem.specs.WellFormed.{columns}
 use Rattle.cip_leaves.specs.Searched.{nodes_given}
 use Rattle.cip_cert.specs.Lent.{multiples_of}
 use Rattle.cip_cert.specs.declared.splits.SplitCut.{SplitCut}
-use Rattle.cip_incumbent.specs.HeldPoint.{offered}
-use Rattle.cip_incumbent.specs.declared.offers.Offered.{Offered}
-use Rattle.cip_incumbent.specs.declared.offers.Offered.TheVariants.{Taken, NotBetter, Breaks}
-use Rattle.cip_model.specs.Verdicts.{verdict_of}
 use Rattle.cip_plugin.specs.declared.proposals.Cut.{Cut}
 use Rattle.cip_plugin.specs.declared.proposals.Reduction.{Reduction}
 use Rattle.cip_plugin.specs.declared.proposals.Split.{Split}
@@ -24,14 +19,12 @@ use Rattle.cip_core.specs.CoreStates.{CoreState, reduced_of, IsAtWork, IsGivenBo
 use Rattle.cip_core.specs.Later.{IsLaterAt}
 use Rattle.cip_core.specs.Steps.{IsBack}
 use Rattle.cip_core.proofs.Relations.{later_further, later_at_itself}
-use Rattle.cip_judge.specs.GuessesJudged.{judged_as, guess_answer, IsAfterGuess}
+use Rattle.cip_judge.specs.GuessesJudged.{IsGuessJudged, IsAfterGuess}
 use Rattle.cip_judge.specs.ReductionsJudged.{reduction_answer, IsAfterReduction}
 use Rattle.cip_judge.specs.ProposalsJudged.{IsCutBy, IsJudgedCut, IsJudgedSide, IsKeptWhole, IsSaid, IsJudged, IsShownEmpty, GoesOn, split_said, split_in}
 use Rattle.cip_judge.specs.declared.judged.Judged.{Judged}
 use Rattle.cip_judge.specs.declared.judged.Judged.TheVariants as judged
-use Rattle.cip_judge.specs.declared.judged.NodeFault.TheVariants.{BadLength}
 use Rattle.cip_judge.specs.declared.judged.JudgeFault.{JudgeFault}
-use Rattle.cip_judge.specs.declared.judged.JudgeFault.TheVariants.{Node as OfNode}
 
 -- ---- the node goes back
 
@@ -39,7 +32,7 @@ use Rattle.cip_judge.specs.declared.judged.JudgeFault.TheVariants.{Node as OfNod
 pub given_after : (old mid : CoreState) (node has : TakenNode) (bound : Option ℚ) → IsLaterAt old node mid has → IsGivenBound old node.number bound → IsGivenBound mid has.number bound
 given_after old mid node has bound l h = λ given e.
     let same : nodes_given (reduced_of mid) mid.tree.root.bound mid.tree.log ≡ nodes_given (reduced_of old) old.tree.root.bound old.tree.log =
-    ap (λ p. nodes_given p mid.tree.root.bound mid.tree.log) l.later.program
+    ap (λ p. nodes_given p mid.tree.root.bound mid.tree.log) l.later.reduced
     ∙ ap (λ (r : Node). nodes_given (reduced_of old) r.bound mid.tree.log) l.later.root
     ∙ ap (nodes_given (reduced_of old) old.tree.root.bound) l.log in
     h given (sym (ap (λ ns. node_of ns has.number) same ∙ ap (node_of (nodes_given (reduced_of old) old.tree.root.bound old.tree.log)) l.narrower.number) ∙ e)
@@ -68,15 +61,6 @@ cut_goes_on old new node cut came l frame h = record {
   emptied = λ e. absurd (cut_by old new cut cut.split (subst (IsCutBy old new cut cut.split) e h));
 }
 
-offer_shows : (offer : Offered) → judged_as offer ≡ judged.Emptied → ⊥
-offer_shows Taken e = cc
-offer_shows NotBetter e = cc
-offer_shows (Breaks verdict) e = cc
-
-guess_shows : (fits : Bool) (offer : Offered) → (if fits then judged_as offer else judged.Refused (OfNode BadLength)) ≡ judged.Emptied → ⊥
-guess_shows true offer e = offer_shows offer e
-guess_shows false offer e = cc
-
 guess_same : (old new : CoreState) (values : List ℚ) (came : Judged) → IsAfterGuess came old new values → came ≢ judged.Accepted → new ≡ old
 guess_same old new values judged.Accepted h other = absurd (other refl)
 guess_same old new values judged.Emptied h other = h
@@ -84,11 +68,11 @@ guess_same old new values judged.Known h other = h
 guess_same old new values judged.NotBetter h other = h
 guess_same old new values (judged.Refused fault) h other = h
 
-pub guess_goes_on : (old new : CoreState) (node : TakenNode) (values : List ℚ) (came : Judged) → IsLaterAt old node new node → came ≡ guess_answer old values → IsAfterGuess came old new values → GoesOn old new node node came
-guess_goes_on old new node values came l h a = record {
+pub guess_goes_on : (old new : CoreState) (node : TakenNode) (values point : List ℚ) (came : Judged) → IsLaterAt old node new node → IsGuessJudged old values came → IsAfterGuess came old new point → GoesOn old new node node came
+guess_goes_on old new node values point came l h a = record {
   later = l;
-  region = λ other. ap (λ (k : CoreState). region_of k.tree node) (guess_same old new values came a other);
-  emptied = λ e. absurd (guess_shows (length values == columns old.program) (offered old.incumbent.best (verdict_of old.program values)) (sym h ∙ e));
+  region = λ other. ap (λ (k : CoreState). region_of k.tree node) (guess_same old new point came a other);
+  emptied = λ e. absurd (subst (IsGuessJudged old values) e h);
 }
 
 -- ---- a side that leaves no value does
@@ -150,6 +134,18 @@ cut_judged (Err error) old new node cut h = tt
 pub cut_err : {E : Type 0} (r : Result Judged E) (old new : CoreState) (node : TakenNode) (cut : Cut) → new ≡ record old { pool = new.pool; touched = new.touched } → MatchResult r (IsJudgedCut old new cut) (λ _. new.pool ≡ old.pool) → OnErr r ((new ≡ record old { touched = new.touched }) × (node ≡ node))
 cut_err (Ok came) old new node cut frame h = tt
 cut_err (Err error) old new node cut frame h = (row_kept old new frame h, refl)
+
+pub guess_result : {E : Type 0} (r : Result Judged E) (old new : CoreState) (node : TakenNode) (values point : List ℚ) → IsLaterAt old node new node → IfOk r (IsGuessJudged old values) → MatchResult r (λ came. IsAfterGuess came old new point) (λ _. new ≡ old) → IfOk r (GoesOn old new node node)
+guess_result (Ok came) old new node values point l h a = guess_goes_on old new node values point came l h a
+guess_result (Err error) old new node values point l h a = tt
+
+pub guess_judged : {E : Type 0} (r : Result Judged E) (old new : CoreState) (node : TakenNode) (values point : List ℚ) → IfOk r (IsGuessJudged old values) → MatchResult r (λ came. IsAfterGuess came old new point) (λ _. new ≡ old) → IfOk r (λ came. (node ≡ node) × IsGuessJudged old values came × IsAfterGuess came old new point)
+guess_judged (Ok came) old new node values point h a = (refl, h, a)
+guess_judged (Err error) old new node values point h a = tt
+
+pub guess_err : {E : Type 0} (r : Result Judged E) (old new : CoreState) (node : TakenNode) (point : List ℚ) → MatchResult r (λ came. IsAfterGuess came old new point) (λ _. new ≡ old) → OnErr r ((new ≡ record old { touched = new.touched }) × (node ≡ node))
+guess_err (Ok came) old new node point a = tt
+guess_err (Err error) old new node point a = (same_kept old new a, refl)
 
 -- ---- what a handler says of a point
 

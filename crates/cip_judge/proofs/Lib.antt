@@ -1,3 +1,4 @@
+pub mod ComingBack
 pub mod Going
 pub mod LentRows
 pub mod SidesJudged

@@ -12,11 +12,12 @@ use Rattle.cip_plugin.specs.declared.proposals.Enforced.TheVariants as said
 use Rattle.cip_plugin.specs.declared.proposals.Proposal.{Proposal}
 use Rattle.cip_plugin.specs.declared.proposals.Proposal.TheVariants as by
 use Rattle.cip_tree.specs.Nodes.{TakenNode, region_of, box_of}
+use Rattle.cip_postsolve.specs.StepsBack.{point_back}
 use Rattle.cip_core.specs.CoreStates.{CoreState, reduced_of, held_of}
 use Rattle.cip_core.specs.Later.{IsLaterAt}
 use Rattle.cip_core.specs.Steps.{HasLeft}
 use Rattle.cip_judge.specs.CutoffsJudged.{cutoff_answer}
-use Rattle.cip_judge.specs.GuessesJudged.{guess_answer, IsAfterGuess}
+use Rattle.cip_judge.specs.GuessesJudged.{IsGuessJudged, IsAfterGuess}
 use Rattle.cip_judge.specs.ReductionsJudged.{reduction_answer, IsAfterReduction}
 use Rattle.cip_judge.specs.RowsJudged.{IsRowJudged}
 use Rattle.cip_judge.specs.SplitCutsJudged.{IsCutJudged}
@@ -76,7 +77,8 @@ abbrev pub IsJudged : CoreState → CoreState → TakenNode → TakenNode → Pr
 IsJudged old new had has (by.Cut cut) came = (has ≡ had) × IsJudgedCut old new cut came
 IsJudged old new had has (by.Reduction told) came = IsJudgedSide old new had has told came
 IsJudged old new had has (by.Guess guess) came =
-    (has ≡ had) × (came ≡ guess_answer old guess.values.items) × IsAfterGuess came old new guess.values.items
+    (has ≡ had) × IsGuessJudged old guess.values.items came
+    × IsAfterGuess came old new (point_back old.steps guess.values.items)
 IsJudged old new had has (by.Split split) came = IsKeptWhole old new had has split came
 IsJudged old new had has (by.Enforcement said) came = IsSaid old new had has said came
 

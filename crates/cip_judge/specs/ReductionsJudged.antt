@@ -25,7 +25,7 @@ use Rattle.cip_judge.specs.declared.judged.Judged.TheVariants as judged
 abbrev pub is_far : ℚ → Bool
 is_far value = nat_lt (2 ^ 100) (unsigned_abs (ceil value)) || nat_lt (2 ^ 100) (unsigned_abs (floor value))
 
--- the column isn't one of the program's; or it is whole, and the value is too far away
+-- the column isn't one of this program's; or it is whole, and the value is too far away
 abbrev pub side_fault : Program → ℕ → ℚ → Option NodeFault
 side_fault program column value =
     if nat_lt column (columns program)

@@ -14,6 +14,7 @@ abbrev pub IsRowRefused : CoreState → CoreState → Combo → Bool → Bool �
 IsRowRefused old new combo round local fault.Full = IsTold old new combo round local added.Full
 IsRowRefused old new combo round local (fault.Check of) = IsRefused old new combo round local of
 IsRowRefused old new combo round local (fault.Node of) = ⊥
+IsRowRefused old new combo round local (fault.Postsolve of) = ⊥
 IsRowRefused old new combo round local (fault.Offer of) = ⊥
 IsRowRefused old new combo round local (fault.Split of) = ⊥
 IsRowRefused old new combo round local (fault.SplitForm of) = ⊥

@@ -34,6 +34,7 @@ IsCutRefused old new cut local fault.Full = IsSplitTold old new cut local added.
 IsCutRefused old new cut local (fault.SplitForm of) = (split_in old cut local ≡ Err of) × (new ≡ old)
 IsCutRefused old new cut local (fault.Check of) = ⊥
 IsCutRefused old new cut local (fault.Node of) = ⊥
+IsCutRefused old new cut local (fault.Postsolve of) = ⊥
 IsCutRefused old new cut local (fault.Offer of) = ⊥
 IsCutRefused old new cut local (fault.Split of) = ⊥
 

@@ -20,7 +20,7 @@ use Rattle.cip_judge.specs.declared.judged.JudgeFault.TheVariants as fault
 use Rattle.cip_judge.specs.declared.splits.Parted.{Parted}
 use Rattle.cip_judge.specs.declared.splits.Parted.TheVariants.{Halves, Whole}
 
--- the column is one of the program's, and the number has a size of at most 2^100
+-- the column is one of the reduced program's, and the number has a size of at most 2^100
 pub record IsNamed (core : CoreState) (column : ℕ) (at : ℤ) : Type 0 where
   pub inside : column < columns (reduced_of core)
   pub near : unsigned_abs at ≤ 2 ^ 100
@@ -47,6 +47,7 @@ IsSplitRefused core column at (fault.Node of) = IsMisnamed core column at of
 IsSplitRefused core column at (fault.Split of) = IsNamed core column at × IsNoPlace core column at of
 IsSplitRefused core column at (fault.Check of) = ⊥
 IsSplitRefused core column at fault.Full = ⊥
+IsSplitRefused core column at (fault.Postsolve of) = ⊥
 IsSplitRefused core column at (fault.Offer of) = ⊥
 IsSplitRefused core column at (fault.SplitForm of) = ⊥
 

@@ -1,14 +1,15 @@
 //! What judging a proposal comes to.
 use cip_cert::{CutFault, SplitFormFault};
 use cip_model::Verdict;
+use cip_postsolve::PostsolveFault;
 use cip_tree::SplitFault;
 
 /// What a proposal names that isn't there, or is too far away. It is looked at before all else.
 #[derive(Clone, Copy, Debug, PartialEq, Eq)]
 pub enum NodeFault {
-    /// A point hasn't as many values as the program that is searched has columns.
+    /// A point hasn't as many values as the reduced program has columns.
     BadLength,
-    /// That program has no column of this number.
+    /// The reduced program has no column of this number.
     NoSuchColumn,
     /// A number for a whole column has a size above 2^100.
     TooFar,
@@ -23,7 +24,9 @@ pub enum JudgeFault {
     Check(CutFault),
     /// The pool has no room for its row.
     Full,
-    /// By the test of its point.
+    /// By the way back of its point to the program as read.
+    Postsolve(PostsolveFault),
+    /// By the test of what its point comes back as.
     Offer(Verdict),
     /// By where it splits.
     Split(SplitFault),
@@ -40,7 +43,7 @@ pub enum Judged {
     Emptied,
     /// Its row is held already.
     Known,
-    /// Its point is feasible, and no cheaper than the point held.
+    /// What its point comes back as is feasible, and no cheaper than the point held.
     NotBetter,
     /// It was refused.
     Refused(JudgeFault),

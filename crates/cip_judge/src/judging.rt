@@ -19,7 +19,7 @@ use cip_core::Core;
 use cip_frac::Frac;
 use cip_plugin::{Enforced, Proposal, Split};
 use cip_tree::Node;
-use std::alloc::AllocError;
+use std::alloc::{AllocError, Global};
 
 /// What a proposal came to, and what is left of the node in work.
 #[derive(Debug, Drop)]
@@ -82,6 +82,7 @@ fn judge_said(
 /// work. `Feasible` and `Infeasible` are accepted, and change nothing. `Err` comes where memory was refused: all is as
 /// it was, but that a row may count as asked for.
 pub fn judge_in_work(
+    alloc: Global,
     core: &mut Core<'_>,
     node: &mut Node,
     proposal: &Proposal,
@@ -99,7 +100,7 @@ pub fn judge_in_work(
     match proposal {
         Proposal::Cut(cut) => judge_cut(core, node, cut, scratches),
         Proposal::Reduction(told) => judge_reduction(core, node, told, &mut scratches.first),
-        Proposal::Guess(guess) => Ok(judge_guess(core, node, guess)),
+        Proposal::Guess(guess) => judge_guess(alloc, core, node, guess),
         Proposal::Split(_) => unreachable!(),
         Proposal::Enforcement(said) => judge_said(core, node, said, scratches),
     }
@@ -109,6 +110,7 @@ pub fn judge_in_work(
 /// is accepted ends the node; after every other answer it is in work still, and is given back. Nothing changes but at
 /// `Accepted`. `Err` comes where memory was refused: the node is open again then, with the bound that the log gave it.
 pub fn judge(
+    alloc: Global,
     core: &mut Core<'_>,
     node: Node,
     given: Option<Frac>,
@@ -130,7 +132,7 @@ pub fn judge(
             Parted::Whole(node, fault) => Ok(Ruled::Kept(node, Judged::Refused(fault))),
         };
     }
-    match judge_in_work(core, &mut node, proposal, scratches) {
+    match judge_in_work(alloc, core, &mut node, proposal, scratches) {
         Ok(judged) => Ok(Ruled::Kept(node, judged)),
         Err(error) => {
             core.go_back(node, given);

@@ -2,6 +2,7 @@
 use crate::judged::{JudgeFault, NodeFault};
 use cip_cert::{CutFault, SplitFormFault};
 use cip_model::Verdict;
+use cip_postsolve::PostsolveFault;
 use cip_tree::SplitFault;
 
 fn node_fault_name(fault: NodeFault) -> &'static str {
@@ -48,6 +49,13 @@ fn split_fault_name(fault: SplitFault) -> &'static str {
     }
 }
 
+fn postsolve_fault_name(fault: PostsolveFault) -> &'static str {
+    match fault {
+        PostsolveFault::Wide => "Wide",
+        PostsolveFault::NoMemory => "NoMemory",
+    }
+}
+
 fn verdict_name(verdict: Verdict) -> &'static str {
     match verdict {
         Verdict::Feasible(_) => "Feasible",
@@ -65,6 +73,7 @@ impl JudgeFault {
             JudgeFault::Node(inner) => node_fault_name(inner),
             JudgeFault::Check(inner) => cut_fault_name(inner),
             JudgeFault::Full => "Full",
+            JudgeFault::Postsolve(inner) => postsolve_fault_name(inner),
             JudgeFault::Offer(inner) => verdict_name(inner),
             JudgeFault::Split(inner) => split_fault_name(inner),
             JudgeFault::SplitForm(inner) => form_fault_name(inner),

@@ -72,11 +72,11 @@ fn checked(core: &Core<'_>, told: &Reduction, scratch: &mut Scratch) -> Result<F
 }
 
 /// Judges a side that is proposed while a node is in work. `Accepted` comes exactly where the column is one of the
-/// program's, its value isn't too far away where that is whole, the check of its combination accepts it in the node's
-/// box, and it leaves the column a value: then the side of the node's box is at least as strong. `Emptied` comes
-/// exactly where it leaves none: the node has no improving point. `Refused` comes with what it names first, and else
-/// with the fault of the check. Nothing changes but at `Accepted`; nor does it at `Err`, which comes where memory was
-/// refused.
+/// reduced program's, its value isn't too far away where that is whole, the check of its combination accepts it in the
+/// node's box, and it leaves the column a value: then the side of the node's box is at least as strong. `Emptied`
+/// comes exactly where it leaves none: the node has no improving point. `Refused` comes with what it names first, and
+/// else with the fault of the check. Nothing changes but at `Accepted`; nor does it at `Err`, which comes where memory
+/// was refused.
 pub fn judge_reduction(
     core: &mut Core<'_>,
     node: &mut Node,
@@ -95,7 +95,7 @@ pub fn judge_reduction(
     ensures scratch { length scratch.new.row.entries ≡ length scratch.old.row.entries }
 {
     core.is_sound();
-    if let Some(fault) = side_fault(core.program(), told.col, told.value) {
+    if let Some(fault) = side_fault(core.reduced(), told.col, told.value) {
         return Ok(Judged::Refused(JudgeFault::Node(fault)));
     }
     if let Err(fault) = checked(core, told, scratch) {

@@ -44,7 +44,7 @@ pub fn judge_split_cut(
         × (length second.new.row.entries ≡ length second.old.row.entries) }
 {
     core.is_sound();
-    let bounds = scope(core.bounds(), core.program().bounds(), local);
+    let bounds = scope(core.bounds(), core.reduced().bounds(), local);
     let rests = split_rests_on_cutoff(core.rows().pool, cut);
     match split_row(&core.rows(), bounds, cut, first, second) {
         Err(fault) => Ok(Judged::Refused(JudgeFault::SplitForm(fault))),

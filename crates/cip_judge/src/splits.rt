@@ -35,7 +35,7 @@ fn is_near(at: i128) -> bool
 fn misnamed(core: &Core<'_>, split: Split) -> Option<NodeFault>
     ensures { MatchOption result (IsNamed core.now split.col split.at) (IsMisnamed core.now split.col split.at) }
 {
-    if split.col as usize >= core.program().columns() {
+    if split.col as usize >= core.reduced().columns() {
         return Some(NodeFault::NoSuchColumn);
     }
     if !is_near(split.at) {
@@ -51,7 +51,7 @@ fn no_place(core: &Core<'_>, split: Split) -> Option<SplitFault>
     ensures { MatchOption result (IsPlace core.now split.col split.at)
         (IsNoPlace core.now split.col split.at) }
 {
-    let whole = core.program().whole()[split.col as usize];
+    let whole = core.reduced().whole()[split.col as usize];
     let choice = core.choices().at(split.col);
     if whole && choice.is_plain() {
         if can_halve(core.bounds().sides(split.col), split.at) {
@@ -81,8 +81,8 @@ fn refusal(core: &Core<'_>, split: Split) -> Option<JudgeFault>
     }
 }
 
-/// Why a node in work can't be split at a place. `None` comes exactly where the column is one of the program's, the
-/// number has a size of at most 2^100, and the column is whole and plain with a whole value on both sides of the
+/// Why a node in work can't be split at a place. `None` comes exactly where the column is one of the reduced program's,
+/// the number has a size of at most 2^100, and the column is whole and plain with a whole value on both sides of the
 /// number, or isn't whole and its choice is open; else the first of these that fails. Nothing changes.
 pub fn split_refusal(core: &Core<'_>, node: &Node, split: Split) -> Option<JudgeFault>
     requires at_work { IsAtWork core.now node.now }
@@ -95,10 +95,10 @@ pub fn split_refusal(core: &Core<'_>, node: &Node, split: Split) -> Option<Judge
 }
 
 /// Judges a split of a node in work, each of whose whole columns has a whole value. It is made exactly where the column
-/// is one of the program's, the number has a size of at most 2^100, and the column is whole and plain with a whole
-/// value on both sides of the number, or isn't whole and its choice is open: the node has ended then, and its halves
-/// are open, unless they don't matter. Else `Whole` comes with the first of these that fails, and nothing has changed.
-/// `Err` comes where memory was refused; the node is open again then, with the bound that the log gave it.
+/// is one of the reduced program's, the number has a size of at most 2^100, and the column is whole and plain with a
+/// whole value on both sides of the number, or isn't whole and its choice is open: the node has ended then, and its
+/// halves are open, unless they don't matter. Else `Whole` comes with the first of these that fails, and nothing has
+/// changed. `Err` comes where memory was refused; the node is open again then, with the bound that the log gave it.
 pub fn judge_split(
     core: &mut Core<'_>,
     node: Node,

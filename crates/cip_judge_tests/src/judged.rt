@@ -9,6 +9,7 @@ use crate::programs::{
 };
 use crate::proposals::{Told, made};
 use cip_cert::{CutFault, SplitFormFault};
+use cip_compaction::Presolved;
 use cip_core::Core;
 use cip_frac::Frac;
 use cip_judge::{JudgeFault, Judged, NodeFault, Scratches, judge_in_work};
@@ -161,7 +162,7 @@ fn comes_to(
 {
     match made(alloc, step.0) {
         Err(_) => false,
-        Ok(proposal) => match judge_in_work(core, node, &proposal, scratches) {
+        Ok(proposal) => match judge_in_work(alloc, core, node, &proposal, scratches) {
             Ok(judged) => judged == judged_as(step.1),
             Err(_) => false,
         },
@@ -192,7 +193,7 @@ fn are_judged(alloc: Global, core: &mut Core<'_>, node: Node, case: &Case) -> Op
     requires { IsTakenUp core.old node }
 {
     let mut node = node;
-    let mut scratches = Scratches::new(alloc, core.program()).ok()?;
+    let mut scratches = Scratches::new(alloc, core.reduced()).ok()?;
     match core.enter(&node) {
         Ok(true) => Some(first_wrong(alloc, core, &mut node, &mut scratches, case.steps)),
         _ => None,
@@ -210,10 +211,13 @@ fn are_taken(alloc: Global, core: &mut Core<'_>, case: &Case) -> Option<usize>
 }
 
 fn are_begun(alloc: Global, program: &Program, case: &Case) -> Option<usize> {
-    if !has_near_columns(program) {
+    let Ok(presolved) = Presolved::same(alloc, program) else {
+        return None;
+    };
+    if !has_near_columns(&presolved.reduced) {
         return None;
     }
-    match Core::new(alloc, program) {
+    match Core::new(alloc, program, &presolved) {
         Ok(mut core) => are_taken(alloc, &mut core, case),
         Err(_) => None,
     }

@@ -6,6 +6,7 @@ ghost use Rattle.cip_core.specs.CoreStates.{reduced_of, IsKeptIn, IsTakenUp, IsA
 ghost use Rattle.cip_judge.specs.ProposalsJudged.{HaveRoom};
 
 use crate::programs::{MIXED_COLUMNS, TWO_COLUMNS, has_near_columns, program_of};
+use cip_compaction::Presolved;
 use cip_core::Core;
 use cip_judge::{JudgeFault, Judged, NodeFault, Ruled, Scratches, judge};
 use cip_model::Program;
@@ -109,7 +110,7 @@ fn has_wholes(core: &Core<'_>, node: &Node) -> bool
     ensures { IsTrue result → AllHaveWholes (reduced_of core.now).integral core.now.tree.work.box }
 {
     core.is_sound();
-    let program = core.program();
+    let program = core.reduced();
     let _columns = program.columns();
     matches!(
         look_at(program.whole(), core.bounds(), core.choices()),
@@ -137,6 +138,7 @@ fn has_entry(core: &Core<'_>, came: &Result<Ruled, AllocError>) -> bool {
 
 /// A split comes to what is expected, and then the log has an entry or none.
 fn comes_to(
+    alloc: Global,
     core: &mut Core<'_>,
     node: Node,
     scratches: &mut Scratches,
@@ -151,7 +153,14 @@ fn comes_to(
         return false;
     }
     let given = node.bound();
-    let came = judge(core, node, given, &proposal_of(case, is_rule), scratches);
+    let came = judge(
+        alloc,
+        core,
+        node,
+        given,
+        &proposal_of(case, is_rule),
+        scratches,
+    );
     is_expected(&came, fault_as(case.expected)) && has_entry(core, &came)
 }
 
@@ -160,11 +169,11 @@ fn is_split(alloc: Global, core: &mut Core<'_>, node: Node, case: &Case, is_rule
     requires up { IsTakenUp core.old node }
     requires given { IsGivenBound core.old node.number node.bound }
 {
-    let Ok(mut scratches) = Scratches::new(alloc, core.program()) else {
+    let Ok(mut scratches) = Scratches::new(alloc, core.reduced()) else {
         return false;
     };
     match core.enter(&node) {
-        Ok(true) => comes_to(core, node, &mut scratches, case, is_rule),
+        Ok(true) => comes_to(alloc, core, node, &mut scratches, case, is_rule),
         _ => false,
     }
 }
@@ -180,10 +189,13 @@ fn is_taken(alloc: Global, core: &mut Core<'_>, case: &Case, is_rule: bool) -> b
 }
 
 fn is_begun(alloc: Global, program: &Program, case: &Case, is_rule: bool) -> bool {
-    if !has_near_columns(program) {
+    let Ok(presolved) = Presolved::same(alloc, program) else {
+        return false;
+    };
+    if !has_near_columns(&presolved.reduced) {
         return false;
     }
-    match Core::new(alloc, program) {
+    match Core::new(alloc, program, &presolved) {
         Ok(mut core) => is_taken(alloc, &mut core, case, is_rule),
         Err(_) => false,
     }

@@ -67,7 +67,7 @@ module _ (program : Program) (start : Option ℚ) (log : List Entry) (held : Opt
     | inl o ↦ absurd (no_open (open_matters o))
     | inr o ↦
         let leaf = (true_entries o.entry o.node o.leaf.among o.leaf.given).parked o.leaf.parked in
-        record { leaf = leaf.leaf; is_point = leaf.only point i o.within; wide = leaf.wide }
+        record { leaf = leaf.leaf; has = leaf.leads point i o.within; wide = leaf.wide }
   ]
 
 -- a point that costs less than the cost held improves

@@ -5,6 +5,7 @@ use Rattle.std.specs.List.{Contains}
 use Rattle.cip_rational.specs.Rational.{ℚ, ◌≤ℚ◌}
 use Rattle.cip_problem.specs.Program.{Program}
 use Rattle.cip_problem.specs.Box.{IsInBox}
+use Rattle.cip_problem.specs.Points.{cost_of}
 use Rattle.cip_problem.specs.Choices.{decided}
 use Rattle.cip_problem.specs.Log.{Parked, Entry, Node, node_of, given_after, matters}
 use Rattle.cip_cuts.specs.Improving.{HoldsInBox, IsImproving, IsBoundIn}
@@ -113,20 +114,27 @@ pub record IsCovered (program : Program) (start : Option ℚ) (log : List Entry)
 
 -- ---- entries, by what `Wide` says of the program of a leaf and its values
 
--- each improving point in the box of a node is one of this leaf
-abbrev pub HoldsOnly : Program → Option ℚ → Node → Leaf → Type 0
-HoldsOnly program held node leaf = HoldsInBox program held node.box (IsPointOfLeaf program leaf)
+-- a point of this leaf costs no more than this
+pub record HasPointOfLeaf (program : Program) (leaf : Leaf) (cost : ℚ) : Type 0 where
+  pub point : List ℚ
+  pub is_point : IsPointOfLeaf program leaf point
+  pub no_dearer : cost_of program point ≤ℚ cost
 
--- each improving point in the box of a node is one of the same leaf of the program, which is wide
+-- each improving point in the box of a node has a point of this leaf that is no dearer
+abbrev pub LeadsTo : Program → Option ℚ → Node → Leaf → Type 0
+LeadsTo program held node leaf =
+    HoldsInBox program held node.box (λ point. HasPointOfLeaf program leaf (cost_of program point))
+
+-- the improving points in the box of a node lead to the same leaf of the program, which is wide
 pub record HasWideLeaf
     (program : Program) (Wide : Program → List ℚ → Type 0) (held : Option ℚ) (node : Node) : Type 0 where
   pub leaf : Leaf
   pub is_leaf : IsLeafOf program leaf
-  pub only : HoldsOnly program held node leaf
+  pub leads : LeadsTo program held node leaf
   pub wide : Wide (decided program leaf.on) leaf.values
 
 -- an entry is a true one of its node: its bound is at least the node's and holds in the node's box, and where it says
--- that the node was parked, its improving points are those of a wide leaf
+-- that the node was parked, its improving points lead to a wide leaf
 pub record IsTrueEntry
     (program : Program) (Wide : Program → List ℚ → Type 0) (held : Option ℚ) (node : Node) (entry : Entry)
     : Type 0 where
@@ -152,7 +160,8 @@ pub record IsFirstLeast (log : List Entry) (entry : Entry) : Type 0 where
   pub least : (other : Entry) → Contains log other → other.end ≡ Parked → NoMore entry.bound other.bound
   pub first : (other : Entry) → Contains before other → other.end ≡ Parked → ¬ NoMore other.bound entry.bound
 
--- a leaf that is shown for an overflow: that of the parked node of least bound, which is wide at this place
+-- a leaf that is shown for an overflow: the improving points of the parked node of least bound lead to it, and it is
+-- wide at this place
 pub record IsShown
     (program : Program) (start : Option ℚ) (log : List Entry) (held : Option ℚ) (leaf : Leaf) (place : Place) : Type 0
   where
@@ -160,6 +169,6 @@ pub record IsShown
     pub node : Node
     pub chosen : IsFirstLeast log entry
     pub given : node_of (nodes_given program start log) entry.node ≡ Some node
-    pub only : HoldsOnly program held node leaf
+    pub leads : LeadsTo program held node leaf
     pub is_leaf : IsLeafOf program leaf
     pub wide : IsWideAt (decided program leaf.on) leaf.values place

@@ -3,13 +3,13 @@ use Rattle.std.specs.Prelude.{◌≡◌, true, Bool, All, List, Option, None, So
 use Rattle.cip_rational.specs.Rational.{ℚ}
 use Rattle.cip_problem.specs.Program.{Sides, Program}
 use Rattle.cip_problem.specs.Box.{IsInBox}
-use Rattle.cip_problem.specs.Points.{AreWhole, IsFeasible, IsLowerBound}
+use Rattle.cip_problem.specs.Points.{AreWhole, IsFeasible, cost_of, IsLowerBound}
 use Rattle.cip_problem.specs.Choices.{decided}
 use Rattle.cip_problem.specs.Log.{Entry, Node}
 use Rattle.cip_problem.specs.Statements.{IsNodeOf}
 use Rattle.cip_cuts.specs.Improving.{IsImproving}
 use Rattle.cip_leaves.specs.Leaf.{at_wholes, IsLeafIn, IsPointOf, IsOnlyLeaf, Leaf, IsLeafOf, IsPointOfLeaf, IsOnlyLeafOf}
-use Rattle.cip_leaves.specs.Searched.{OpenMatters, ParkedMatters, IsCovered, IsLeast, AreTrueEntries}
+use Rattle.cip_leaves.specs.Searched.{OpenMatters, ParkedMatters, IsCovered, IsLeast, HasPointOfLeaf, AreTrueEntries}
 use Rattle.cip_leaves.specs.Wide.{IsWide}
 
 -- a feasible point has this leaf
@@ -35,14 +35,15 @@ pub record PointsHaveLeaves : Type 0 where
       → All (λ whole. whole ≡ true) program.integral → length program.integral ≡ length program.bounds
       → IsPointOf program values point → point ≡ values
 
--- an improving point is one of a wide leaf
+-- an improving point has one that is no dearer in a wide leaf
 pub record HasWideLeafAt (program : Program) (point : List ℚ) : Type 0 where
   pub leaf : Leaf
-  pub is_point : IsPointOfLeaf program leaf point
+  pub has : HasPointOfLeaf program leaf (cost_of program point)
   pub wide : IsWide (decided program leaf.on) leaf.values
 
 -- what a cover says: the least bound is a bound of all feasible points; where nothing matters, no feasible point is
--- cheaper than what is held, or there is none; and where no open node matters, each improving point has a wide leaf
+-- cheaper than what is held, or there is none; and where no open node matters, each improving point has one that is no
+-- dearer in a wide leaf
 pub record CoversTell : Type 0 where
   pub bound : (program : Program) (start : Option ℚ) (log : List Entry) (held : Option ℚ) (b : ℚ)
       → IsCovered program start log held → IsLeast program start log held (Some b) → IsLowerBound program b

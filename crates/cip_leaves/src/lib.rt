@@ -17,7 +17,7 @@ pub fn points_have_leaves()
 
 /// The least bound of a cover is a bound of all feasible points; where no open node and no parked leaf matters, no
 /// feasible point is cheaper than what is held, or there is none; and where no open node matters, each improving point
-/// is one of a wide leaf.
+/// has one that is no dearer in a wide leaf.
 pub fn covers_tell()
     ensures { CoversTell }
 {}

@@ -1,5 +1,5 @@
 -- The clauses of `run`, each from what the call does.
-use Rattle.std.specs.Prelude.{◌≡◌, ◌≢◌, ◌⊎◌, ⊤, refl, ℕ, Bool, true, false, List, Option, None, Some, IfSome, length, ◌*◌, ◌-◌, ◌≤◌, ◌<◌, max}
+use Rattle.std.specs.Prelude.{◌≡◌, ◌≢◌, ◌⊎◌, ⊤, refl, ℕ, Bool, true, false, List, Option, None, Some, IfSome, IsSomeAnd, length, ◌*◌, ◌-◌, ◌≤◌, ◌<◌, max}
 use Rattle.std.proofs.Common.{sym, ap, ◌∙◌, subst, inl, inr, arith}
 use Rattle.cip_io.specs.Faults.{Rose}
 use Rattle.cip_io.specs.Store.{StoreTells}
@@ -18,27 +18,29 @@ use Rattle.cip_blocks.specs.BlockKinds.{kind_number as block_kind_number}
 use Rattle.cip_blocks.specs.declared.faults.BlockFault.{BlockFault}
 use Rattle.cip_point.specs.PointKinds.{kind_number as point_kind_number}
 use Rattle.cip_point.specs.declared.faults.PointFault.{PointFault}
-use Rattle.cip_words.specs.Jobs.{Limits, Job, Solve, Check}
+use Rattle.cip_words.specs.Jobs.{Limits, Job, Solve, Check, Generate, usual_limits}
+use Rattle.cip_generator.specs.Generated.{generated}
+use Rattle.cip_trace_texts.specs.TraceTexts.{traced_text}
 use Rattle.cip_answers.specs.Checks.{check_status}
 use Rattle.cip_model.specs.Verdicts.{verdict_of}
 use Rattle.cip_tasks.specs.declared.refusals.TextFault.{TextFault}
 use Rattle.cip_tasks.specs.declared.refusals.TextFault.TheVariants.{Model, Blocks, Point}
-use Rattle.cip_answers.specs.Figures.{NodeLimit, Gap, Wide, NoMemory as LacksMemory, exit_status}
+use Rattle.cip_answers.specs.Figures.{NodeLimit, Gap, Wide, NoMemory as LacksMemory, exit_status, names_of}
 use Rattle.cip_search.specs.SearchEnds.{ReachesGap}
 use Rattle.cip_search.specs.Headline.{IsSpent, EndsWith, EndsItself}
 use Rattle.cip_search.proofs.Ends.{budgets_suffice}
 use Rattle.cip_tasks.specs.declared.plain.Plain.{Plain}
 use Rattle.cip_tasks.specs.declared.plain.Plain.TheVariants.{Usage, ReadFault, Refused, NoMemory}
-use Rattle.cip_answering.specs.Answering.{IsLogged}
+use Rattle.cip_answering.specs.Answering.{Telling, self_told, IsLogged}
 use Rattle.cip_answering.specs.Checking.{checked}
 use Rattle.cip_tasks.specs.Plain.{plain_status}
 use Rattle.cip_events.specs.declared.traces.Trace.{Trace}
 use Rattle.cip_problem.specs.Log.{Entry}
 use Rattle.cip_kits.specs.Kits.{Stock}
 use Rattle.cip_solve.specs.KitsServed.{is_alone, IsKitAfter}
-use Rattle.cip_main.specs.Running.{Call, model_in, HasProgram, HasFault, IsStoreSound, IsSinkSound, GivesPlain, IsAnswered, IsChecked, TellsVerdict, ArePulled, BlocksAreRead, Ran, gives_plain, gives_figures, gives_verdict, IsStatus, write_fault, TellsTruth, Asks, AsksOf, AsksWith, AsksToCheck, RefusesBlocks, IsCutShort, Headline, BreaksSome, CheckClause, HasBlocksFault, HasPointFault, IsFirstFault, TellsModelFault, TellsBlockFault, TellsPointFault, UsageClause, behind_up_to, PullsToFault, ReadFaultClause, RefusedClause, WriteFaultClause, SpentLog, FiguresReachGap, GapLog, OverflowClause, MemoryClause, TellsWork, WorkClause, TellsKit, KitClause, Runs}
+use Rattle.cip_main.specs.Running.{Call, HasProgram, HasFault, IsStoreSound, IsSinkSound, GivesPlain, IsOfText, IsOfSeed, drawn_as, IsAnswered, IsChecked, TellsVerdict, ArePulled, BlocksAreRead, Ran, gives_plain, gives_figures, gives_verdict, IsStatus, write_fault, TellsBy, TellsTruth, Asks, AsksOf, AsksWith, AsksToCheck, RefusesBlocks, IsCutShort, Headline, BreaksSome, CheckClause, HasBlocksFault, HasPointFault, IsFirstFault, TellsModelFault, TellsBlockFault, TellsPointFault, UsageClause, behind_up_to, PullsToFault, ReadFaultClause, RefusedClause, WriteFaultClause, SpentLog, FiguresReachGap, GapLog, OverflowClause, MemoryClause, WorksBy, TellsWork, WorkClause, TellsKit, AsksForSearch, KitClause, SelfClause, Runs}
 use Rattle.cip_answering.specs.Saying.{Says}
-use Rattle.cip_tasks.specs.Tasks.{TaskCause, model_of, second_of, FailsBehind, HasFaultyModel, HasFaultyBlocks, HasFaultyPoint}
+use Rattle.cip_tasks.specs.Tasks.{TaskCause, model_of, model_in, second_of, FailsBehind, HasFaultyModel, HasFaultyBlocks, HasFaultyPoint}
 use Rattle.cip_tasks.proofs.Readings.{told, some_job}
 use Rattle.cip_main.proofs.Statuses.{says_usage, says_read_fault, says_refused, says_no_memory, plain_below_five, plain_not_one, plain_not_ten, plain_not_eleven, plain_not_thirteen, plain_is, is_breach, is_overflow, figures_not_one, figures_not_two, figures_not_three, figures_not_four, figures_not_five, is_spent, is_near, gap_by_word, is_wide, exit_is, verdict_not_two, verdict_not_three, verdict_not_four, verdict_not_five, verdict_not_six, verdict_not_ten, verdict_not_thirteen, verdict_is}
 
@@ -110,6 +112,41 @@ one_job h e = cc
 solve_check : {model other name : List ℕ} {blocks : Option (List ℕ)} {limits : Limits} {job : Option Job} → job ≡ Some (Solve model blocks limits) → job ≡ Some (Check other name) → ⊥
 solve_check h e = cc
 
+-- neither is a job to solve a program that is drawn
+solve_drawn : {model : List ℕ} {blocks : Option (List ℕ)} {limits : Limits} {seed columns rows : ℕ} {job : Option Job} → job ≡ Some (Solve model blocks limits) → job ≡ Some (Generate seed columns rows) → ⊥
+solve_drawn h e = cc
+
+check_drawn : {model name : List ℕ} {seed columns rows : ℕ} {job : Option Job} → job ≡ Some (Check model name) → job ≡ Some (Generate seed columns rows) → ⊥
+check_drawn h e = cc
+
+same_seed : {seed columns rows other counts others : ℕ} {job : Option Job} → job ≡ Some (Generate seed columns rows) → job ≡ Some (Generate other counts others) → seed ≡ other
+same_seed h e = cc
+
+same_columns : {seed columns rows other counts others : ℕ} {job : Option Job} → job ≡ Some (Generate seed columns rows) → job ≡ Some (Generate other counts others) → columns ≡ counts
+same_columns h e = cc
+
+same_rows : {seed columns rows other counts others : ℕ} {job : Option Job} → job ≡ Some (Generate seed columns rows) → job ≡ Some (Generate other counts others) → rows ≡ others
+same_rows h e = cc
+
+no_name : {name : List ℕ} → None ≡ Some name → ⊥
+no_name e = cc
+
+-- a job to solve a program that is drawn names no model
+none_named : {model : List ℕ} {seed columns rows : ℕ} {job : Option Job} → job ≡ Some (Generate seed columns rows) → model_in job ≡ Some model → ⊥
+none_named h e = no_name (sym (ap model_in h) ∙ e)
+
+-- the program of figures is that of a text, where the words ask for one
+text_source : (call : Call) {model : List ℕ} {blocks : Option (List ℕ)} {limits : Limits} → (a : IsAnswered call) → call.job ≡ Some (Solve model blocks limits) → IsOfText call a.program a.limits a.text_of
+text_source call a e = elim a.source [ inl t ↦ t | inr d ↦ absurd (solve_drawn e d.asked) ]
+
+-- it is the one that is drawn, where they ask for that
+seed_source : (call : Call) {seed columns rows : ℕ} → (a : IsAnswered call) → call.job ≡ Some (Generate seed columns rows) → IsOfSeed call a.program a.limits a.text_of
+seed_source call a e = elim a.source [ inl t ↦ absurd (solve_drawn t.asked e) | inr d ↦ d ]
+
+-- figures are told of no point that is to be checked
+not_checked : (call : Call) {model name : List ℕ} → (a : IsAnswered call) → call.job ≡ Some (Check model name) → ⊥
+not_checked call a e = elim a.source [ inl t ↦ solve_check t.asked e | inr d ↦ check_drawn e d.asked ]
+
 same_model : {model other : List ℕ} {blocks others : Option (List ℕ)} {limits more : Limits} {job : Option Job} → job ≡ Some (Solve model blocks limits) → job ≡ Some (Solve other others more) → model ≡ other
 same_model h e = cc
 
@@ -168,52 +205,72 @@ one_fault_as true text line kind other_line other_kind h e =
     (same.0, sym h.is_kind ∙ ap told_kind same.1 ∙ e.is_kind)
 one_fault_as false text line kind other_line other_kind h e = one_fault mps_reading text line kind other_line other_kind h e
 
+one_program_in : (model : Option (List ℕ)) (text : List ℕ) (program other : Program) → IsSomeAnd model (λ name. HasModel name text program) → IsSomeAnd model (λ name. HasModel name text other) → program ≡ other
+one_program_in None text program other h e = absurd h
+one_program_in (Some name) text program other h e = one_program_as (is_lp_name name) text program other h e
+
 one_program : (call : Call) (text : List ℕ) (program other : Program) → HasProgram call text program → HasProgram call text other → program ≡ other
-one_program call = one_program_as (is_lp_name (model_in call.job))
+one_program call = one_program_in (model_in call.job)
+
+no_fault_in : (model : Option (List ℕ)) (text : List ℕ) (program : Program) (line kind : ℕ) → IsSomeAnd model (λ name. HasModel name text program) → IsSomeAnd model (λ name. HasModelFault name text line kind) → ⊥
+no_fault_in None text program line kind h e = h
+no_fault_in (Some name) text program line kind h e = no_fault_as (is_lp_name name) text program line kind h e
 
 no_fault : (call : Call) (text : List ℕ) (program : Program) (line kind : ℕ) → HasProgram call text program → HasFault call text line kind → ⊥
-no_fault call = no_fault_as (is_lp_name (model_in call.job))
+no_fault call = no_fault_in (model_in call.job)
+
+one_fault_in : (model : Option (List ℕ)) (text : List ℕ) (line kind other_line other_kind : ℕ) → IsSomeAnd model (λ name. HasModelFault name text line kind) → IsSomeAnd model (λ name. HasModelFault name text other_line other_kind) → (line ≡ other_line) × (kind ≡ other_kind)
+one_fault_in None text line kind other_line other_kind h e = absurd h
+one_fault_in (Some name) text line kind other_line other_kind h e = one_fault_as (is_lp_name name) text line kind other_line other_kind h e
+
+-- what holds of a name and its text, where the text is told, holds of the model that the words name
+of_model : (call : Call) (P : List ℕ → List ℕ → Type 0) (model text : List ℕ) → IfSome (call.store.holds model) (λ bytes. P model bytes) → model_in call.job ≡ Some model → AsksOf call text → IsSomeAnd (model_in call.job) (λ name. P name text)
+of_model call P model text h e asks =
+    subst (λ (named : Option (List ℕ)). IsSomeAnd named (λ name. P name text)) (sym e)
+    (of_text (λ bytes. P model bytes) _ text h (ap call.store.holds (same_name (sym e ∙ asks.named)) ∙ asks.held))
 
 -- the program that was read is the one of the text
-asked_program : (call : Call) (asked : Job) (text : List ℕ) (program : Program) → IfSome (call.store.holds (model_of asked)) (λ bytes. HasModel (model_of asked) bytes program) → call.job ≡ Some asked → (asks : AsksOf call text) → HasProgram call text program
-asked_program call asked text program h e asks =
-    subst (λ (job : Option Job). HasModel (model_in job) text program) (sym e)
-    (of_text (λ bytes. HasModel (model_of asked) bytes program) _ text h (ap (λ job. call.store.holds (model_of job)) (one_job e asks.job) ∙ asks.held))
+asked_program : (call : Call) (asked : Job) (model text : List ℕ) (program : Program) → IfSome (call.store.holds model) (λ bytes. HasModel model bytes program) → call.job ≡ Some asked → model_of asked ≡ Some model → AsksOf call text → HasProgram call text program
+asked_program call asked model text program h e n asks =
+    of_model call (λ name bytes. HasModel name bytes program) model text h (ap model_in e ∙ n) asks
 
 fault_asked : (call : Call) (text : List ℕ) (fault : ModelFault) → AsksOf call text → HasFaultyModel call.job call.store call.store_after fault → HasFault call text (model_line fault) (model_kind fault)
 fault_asked call text fault asks f =
-    subst (λ (job : Option Job). HasModelFault (model_in job) text (model_line fault) (model_kind fault)) (sym f.is_asked)
-    (of_text (λ bytes. HasModelFault (model_of f.asked) bytes (model_line fault) (model_kind fault)) _ text f.refuses.first (ap (λ job. call.store.holds (model_of job)) (one_job f.is_asked asks.job) ∙ asks.held))
+    of_model call (λ name bytes. HasModelFault name bytes (model_line fault) (model_kind fault)) f.model text f.refuses.first (ap model_in f.is_asked ∙ f.named) asks
 
-own_fault : (call : Call) (fault : ModelFault) → HasFaultyModel call.job call.store call.store_after fault → is_lp_fault fault ≡ is_lp_name (model_in call.job)
-own_fault call fault f = subst (λ (job : Option Job). is_lp_fault fault ≡ is_lp_name (model_in job)) (sym f.is_asked) f.refuses.own
+own_fault : (call : Call) (fault : ModelFault) → HasFaultyModel call.job call.store call.store_after fault → IsSomeAnd (model_in call.job) (λ model. is_lp_fault fault ≡ is_lp_name model)
+own_fault call fault f =
+    subst (λ (named : Option (List ℕ)). IsSomeAnd named (λ model. is_lp_fault fault ≡ is_lp_name model)) (sym (ap model_in f.is_asked ∙ f.named)) f.refuses.own
 
 of_solve : (call : Call) (text : List ℕ) (limits : Limits) → Asks call text limits → AsksOf call text
-of_solve call text limits asks = record { asked = Solve asks.model asks.blocks limits; job = asks.job; held = asks.held }
+of_solve call text limits asks = record { model = asks.model; named = ap model_in asks.job; held = asks.held }
 
 of_blocks : (call : Call) (text blocks_text : List ℕ) → AsksWith call text blocks_text → AsksOf call text
-of_blocks call text blocks_text asks = record { asked = Solve asks.model (Some asks.name) asks.limits; job = asks.job; held = asks.held }
+of_blocks call text blocks_text asks = record { model = asks.model; named = ap model_in asks.job; held = asks.held }
 
 of_check : (call : Call) (text point_text : List ℕ) → AsksToCheck call text point_text → AsksOf call text
-of_check call text point_text asks = record { asked = Check asks.model asks.name; job = asks.job; held = asks.held }
+of_check call text point_text asks = record { model = asks.model; named = ap model_in asks.job; held = asks.held }
 
 program_asked : (call : Call) (text : List ℕ) → AsksOf call text → (a : IsAnswered call) → HasProgram call text a.program
-program_asked call text asks a = asked_program call (Solve a.model a.blocks a.limits) text a.program a.is_read a.asked asks
+program_asked call text asks a = elim a.source [
+  | inl t ↦ asked_program call (Solve t.model t.blocks a.limits) t.model text a.program t.is_read t.asked refl asks
+  | inr d ↦ absurd (none_named d.asked asks.named)
+]
 
 program_checked : (call : Call) (text : List ℕ) → AsksOf call text → (c : IsChecked call) → HasProgram call text c.program
-program_checked call text asks c = asked_program call (Check c.model c.name) text c.program c.is_read c.asked asks
+program_checked call text asks c = asked_program call (Check c.model c.name) c.model text c.program c.is_read c.asked refl asks
 
 -- the fault of the blocks that were read is one of the text, for the text's program
 blocks_fault_asked : (call : Call) (text blocks_text : List ℕ) (program : Program) (line kind : ℕ) → AsksWith call text blocks_text → HasProgram call text program → HasFaultyBlocks call.job call.store call.store_after line kind → HasLineFault (block_reading program) blocks_text line kind
 blocks_fault_asked call text blocks_text program line kind asks h f =
     let named : Some f.name ≡ Some asks.name = same_blocks f.is_asked asks.job in
-    let found : HasProgram call text f.program = asked_program call (Solve f.model (Some f.name) f.limits) text f.program (told _ _ f.program f.reads.is_read) f.is_asked (of_blocks call text blocks_text asks) in
+    let found : HasProgram call text f.program = asked_program call (Solve f.model (Some f.name) f.limits) f.model text f.program (told _ _ f.program f.reads.is_read) f.is_asked refl (of_blocks call text blocks_text asks) in
     subst (λ p. HasLineFault (block_reading p) blocks_text line kind) (one_program call text f.program program found h)
     (of_text (λ bytes. HasLineFault (block_reading f.program) bytes line kind) _ blocks_text f.refuses.fault (ap call.store.holds (same_name named) ∙ asks.blocks_held))
 
 point_fault_asked : (call : Call) (text point_text : List ℕ) (program : Program) (line kind : ℕ) → AsksToCheck call text point_text → HasProgram call text program → HasFaultyPoint call.job call.store call.store_after line kind → HasLineFault (point_reading program) point_text line kind
 point_fault_asked call text point_text program line kind asks h f =
-    let found : HasProgram call text f.program = asked_program call (Check f.model f.name) text f.program (told _ _ f.program f.reads.is_read) f.is_asked (of_check call text point_text asks) in
+    let found : HasProgram call text f.program = asked_program call (Check f.model f.name) f.model text f.program (told _ _ f.program f.reads.is_read) f.is_asked refl (of_check call text point_text asks) in
     subst (λ p. HasLineFault (point_reading p) point_text line kind) (one_program call text f.program program found h)
     (of_text (λ bytes. HasLineFault (point_reading f.program) bytes line kind) _ point_text f.refuses.fault (ap call.store.holds (same_point f.is_asked asks.job) ∙ asks.point_held))
 
@@ -223,7 +280,7 @@ point_fault_asked call text point_text program line kind asks h f =
 refuses_blocks : (call : Call) (text : List ℕ) (program : Program) (fault : BlockFault) → AsksOf call text → HasProgram call text program → GivesPlain call (Refused (Blocks fault)) → RefusesBlocks call program
 refuses_blocks call text program fault asks h g =
     let f = g.cause in
-    let found : HasProgram call text f.program = asked_program call (Solve f.model (Some f.name) f.limits) text f.program (told _ _ f.program f.reads.is_read) f.is_asked asks in
+    let found : HasProgram call text f.program = asked_program call (Solve f.model (Some f.name) f.limits) f.model text f.program (told _ _ f.program f.reads.is_read) f.is_asked refl asks in
     record {
       model = f.model;
       name = f.name;
@@ -246,8 +303,9 @@ headline_plain call NoMemory g text limits program asks h = inr (inr g)
 
 headline_figures : (call : Call) (text : List ℕ) (limits : Limits) (program : Program) → Asks call text limits → HasProgram call text program → (a : IsAnswered call) → TellsTruth call program limits
 headline_figures call text limits program asks h a =
+    let t = text_source call a asks.job in
     subst (λ p. TellsTruth call p limits) (one_program call text a.program program (program_asked call text (of_solve call text limits asks) a) h)
-    (subst (λ n. TellsTruth call a.program n) (same_limits a.asked asks.job) a.answers)
+    (subst (λ n. TellsTruth call a.program n) (same_limits t.asked asks.job) (subst (TellsBy call a.program a.limits) t.told a.answers))
 
 headline : (call : Call) → Ran call → Headline call
 headline call (gives_plain answer g) text limits program asks h = inr (headline_plain call answer g text limits program asks h)
@@ -259,13 +317,14 @@ headline call (gives_verdict c) text limits program asks h = absurd (solve_check
 -- where figures are told, they are those of what a search found
 abbrev pub WorkOf : (call : Call) → Ran call → Type 0
 WorkOf call (gives_plain answer g) = ⊤
-WorkOf call (gives_figures a) = TellsWork call a.program a.limits
+WorkOf call (gives_figures a) = WorksBy call a.program a.limits a.text_of
 WorkOf call (gives_verdict c) = ⊤
 
-work_figures : (call : Call) (text : List ℕ) (limits : Limits) (program : Program) → Asks call text limits → HasProgram call text program → (a : IsAnswered call) → TellsWork call a.program a.limits → TellsWork call program limits
+work_figures : (call : Call) (text : List ℕ) (limits : Limits) (program : Program) → Asks call text limits → HasProgram call text program → (a : IsAnswered call) → WorksBy call a.program a.limits a.text_of → TellsWork call program limits
 work_figures call text limits program asks h a w =
+    let t = text_source call a asks.job in
     subst (λ p. TellsWork call p limits) (one_program call text a.program program (program_asked call text (of_solve call text limits asks) a) h)
-    (subst (λ n. TellsWork call a.program n) (same_limits a.asked asks.job) w)
+    (subst (λ n. TellsWork call a.program n) (same_limits t.asked asks.job) (subst (WorksBy call a.program a.limits) t.told w))
 
 work_clause : (call : Call) (r : Ran call) → WorkOf call r → WorkClause call
 work_clause call (gives_plain answer g) w text limits program asks h = inr (headline_plain call answer g text limits program asks h)
@@ -290,17 +349,53 @@ kit_served call (gives_verdict c) w text limits program asks h = absurd (solve_c
 plain_kit : (call : Call) (r : Ran call) → WorkOf call r → (model : List ℕ) (blocks : Option (List ℕ)) (limits : Limits) → call.job ≡ Some (Solve model blocks limits) → limits.plain ≡ true → call.kit_after ≡ call.kit
 plain_kit call (gives_plain answer g) w model blocks limits e plain = g.same_kit
 plain_kit call (gives_figures a) w model blocks limits e plain =
-    let k = tells_kit call a.program a.limits w in
-    left_alone a.limits.plain a.limits.trace k.truth.entries call.kit call.kit_after k.trace k.served (ap (λ (l : Limits). l.plain) (same_limits a.asked e) ∙ plain)
+    left_alone a.limits.plain a.limits.trace w.answers.entries call.kit call.kit_after w.trace w.kit (ap (λ (l : Limits). l.plain) (same_limits (text_source call a e).asked e) ∙ plain)
 plain_kit call (gives_verdict c) w model blocks limits e plain = absurd (solve_check e c.asked)
 
-kit_unsearched : (call : Call) → Ran call → ((model : List ℕ) (blocks : Option (List ℕ)) (limits : Limits) → call.job ≢ Some (Solve model blocks limits)) → call.kit_after ≡ call.kit
+searched : (call : Call) → (a : IsAnswered call) → AsksForSearch call.job
+searched call a = elim a.source [
+  | inl t ↦ subst AsksForSearch (sym t.asked) tt
+  | inr d ↦ subst AsksForSearch (sym d.asked) tt
+]
+
+kit_unsearched : (call : Call) → Ran call → ¬ AsksForSearch call.job → call.kit_after ≡ call.kit
 kit_unsearched call (gives_plain answer g) n = g.same_kit
-kit_unsearched call (gives_figures a) n = absurd (n a.model a.blocks a.limits a.asked)
+kit_unsearched call (gives_figures a) n = absurd (n (searched call a))
 kit_unsearched call (gives_verdict c) n = c.verdict.same_kit
 
 kit_clause : (call : Call) (r : Ran call) → WorkOf call r → KitClause call
 kit_clause call r w = record { served = kit_served call r w; plain = plain_kit call r w; no_search = kit_unsearched call r }
+
+-- ---- programs that are drawn
+
+-- of one that is drawn no text is faulty, and none was read
+self_plain : (call : Call) (answer : Plain) → GivesPlain call answer → (seed columns rows : ℕ) → call.job ≡ Some (Generate seed columns rows) → GivesPlain call NoMemory
+self_plain call Usage g seed columns rows e = absurd (some_job e g.cause.0)
+self_plain call ReadFault g seed columns rows e = absurd (none_named e (ap model_in g.cause.is_asked ∙ g.cause.named))
+self_plain call (Refused (Model fault)) g seed columns rows e = absurd (none_named e (ap model_in g.cause.is_asked ∙ g.cause.named))
+self_plain call (Refused (Blocks fault)) g seed columns rows e = absurd (solve_drawn g.cause.is_asked e)
+self_plain call (Refused (Point fault)) g seed columns rows e = absurd (check_drawn g.cause.is_asked e)
+self_plain call NoMemory g seed columns rows e = g
+
+-- the figures are those of the program that the words ask for
+drawn_works : (call : Call) (a : IsAnswered call) → WorksBy call a.program a.limits a.text_of → IsOfSeed call a.program a.limits a.text_of → (seed columns rows : ℕ) → call.job ≡ Some (Generate seed columns rows) → WorksBy call (generated seed columns rows) usual_limits (self_told (drawn_as seed columns rows))
+drawn_works call a w d seed columns rows e =
+    subst (λ n. WorksBy call (generated seed columns n) usual_limits (self_told (drawn_as seed columns n))) (same_rows d.asked e)
+    (subst (λ n. WorksBy call (generated seed n d.rows) usual_limits (self_told (drawn_as seed n d.rows))) (same_columns d.asked e)
+    (subst (λ n. WorksBy call (generated n d.columns d.rows) usual_limits (self_told (drawn_as n d.columns d.rows))) (same_seed d.asked e)
+    (subst (WorksBy call (generated d.seed d.columns d.rows) usual_limits) d.told
+    (subst (λ l. WorksBy call (generated d.seed d.columns d.rows) l a.text_of) d.usual
+    (subst (λ p. WorksBy call p a.limits a.text_of) d.is_drawn w)))))
+
+self_told_of : (call : Call) (r : Ran call) → WorkOf call r → (seed columns rows : ℕ) → call.job ≡ Some (Generate seed columns rows) → WorksBy call (generated seed columns rows) usual_limits (self_told (drawn_as seed columns rows)) ⊎ GivesPlain call NoMemory
+self_told_of call (gives_plain answer g) w seed columns rows e = inr (self_plain call answer g seed columns rows e)
+self_told_of call (gives_figures a) w seed columns rows e = inl (drawn_works call a w (seed_source call a e) seed columns rows e)
+self_told_of call (gives_verdict c) w seed columns rows e = absurd (check_drawn c.asked e)
+
+self_untouched : (call : Call) → Ran call → (seed columns rows : ℕ) → call.job ≡ Some (Generate seed columns rows) → call.store_after ≡ call.store
+self_untouched call (gives_plain answer g) seed columns rows e = (self_plain call answer g seed columns rows e).cause.untouched (ap model_in e)
+self_untouched call (gives_figures a) seed columns rows e = (seed_source call a e).untouched
+self_untouched call (gives_verdict c) seed columns rows e = absurd (check_drawn c.asked e)
 
 -- ---- checks
 
@@ -323,7 +418,7 @@ check_verdict call c text point_text program point asks h p =
 
 check_always : (call : Call) → Ran call → (text point_text : List ℕ) (program : Program) (point : List ℚ) → AsksToCheck call text point_text → HasProgram call text program → HasResult (point_reading program) point_text point → TellsVerdict call program point ⊎ IsCutShort call
 check_always call (gives_plain answer g) text point_text program point asks h p = inr (check_plain call answer g text point_text program point asks h p)
-check_always call (gives_figures a) text point_text program point asks h p = absurd (solve_check a.asked asks.job)
+check_always call (gives_figures a) text point_text program point asks h p = absurd (not_checked call a asks.job)
 check_always call (gives_verdict c) text point_text program point asks h p = inl (check_verdict call c text point_text program point asks h p)
 
 own_verdict : (call : Call) (c : IsChecked call) → call.status ≢ 5 → call.status ≡ check_status (checked c.program c.point)
@@ -337,7 +432,7 @@ no_plain call NoMemory g e not_3 not_4 not_5 not_6 = not_own call 6 (said_plain 
 
 check_exact : (call : Call) → Ran call → (model name : List ℕ) → call.job ≡ Some (Check model name) → call.status ≢ 3 → call.status ≢ 4 → call.status ≢ 5 → call.status ≢ 6 → (c : IsChecked call) × (call.status ≡ check_status (checked c.program c.point))
 check_exact call (gives_plain answer g) model name e not_3 not_4 not_5 not_6 = absurd (no_plain call answer g e not_3 not_4 not_5 not_6)
-check_exact call (gives_figures a) model name e not_3 not_4 not_5 not_6 = absurd (solve_check a.asked e)
+check_exact call (gives_figures a) model name e not_3 not_4 not_5 not_6 = absurd (not_checked call a e)
 check_exact call (gives_verdict c) model name e not_3 not_4 not_5 not_6 = (c, own_verdict call c not_5)
 
 check_broken : (call : Call) → Ran call → call.status ≡ 1 → BreaksSome call
@@ -369,24 +464,24 @@ refuses_words call NoMemory g e = inr g
 
 usage_always : (call : Call) → Ran call → call.job ≡ None → GivesPlain call Usage ⊎ GivesPlain call NoMemory
 usage_always call (gives_plain answer g) e = refuses_words call answer g e
-usage_always call (gives_figures a) e = absurd (some_job a.asked e)
+usage_always call (gives_figures a) e = elim a.source [ inl t ↦ absurd (some_job t.asked e) | inr d ↦ absurd (some_job d.asked e) ]
 usage_always call (gives_verdict c) e = absurd (some_job c.asked e)
 
 untouched : (call : Call) → Ran call → call.job ≡ None → call.store_after ≡ call.store
-untouched call r e = elim (usage_always call r e) [ inl g ↦ g.cause.1 | inr g ↦ g.cause.untouched e ]
+untouched call r e = elim (usage_always call r e) [ inl g ↦ g.cause.1 | inr g ↦ g.cause.untouched (ap model_in e) ]
 
 usage_clause : (call : Call) → Ran call → UsageClause call
 usage_clause call r = record { only = usage_only call r; always = usage_always call r; untouched = untouched call r }
 
 -- ---- read faults
 
-rose_behind : (asked : Job) (old new : StoreTells) → FailsBehind asked old new → Rose old.faults new.faults
-rose_behind asked old new f = subst (λ n. Rose n new.faults) f.reads.sound f.rose
+rose_behind : (asked : Job) (model : List ℕ) (old new : StoreTells) → FailsBehind asked model old new → Rose old.faults new.faults
+rose_behind asked model old new f = subst (λ n. Rose n new.faults) f.reads.sound f.rose
 
 rose : (call : Call) → Ran call → call.status ≡ 3 → Rose call.store.faults call.store_after.faults
 rose call (gives_plain answer g) e =
     let cause = subst (TaskCause call.job call.store call.store_after) (says_read_fault answer (own_answer call _ 3 (said_plain call answer g) e three_five)) g.cause in
-    elim cause.fails [ inl h ↦ h | inr f ↦ rose_behind cause.asked call.store call.store_after f ]
+    elim cause.fails [ inl h ↦ h | inr f ↦ rose_behind cause.asked cause.model call.store call.store_after f ]
 rose call (gives_figures a) e = absurd (figures_not_three a.answers.figures.status (own_answer call _ 3 (said_figures call a) e three_five))
 rose call (gives_verdict c) e = absurd (verdict_not_three (checked c.program c.point) (own_answer call _ 3 (said_verdict call c) e three_five))
 
@@ -403,16 +498,22 @@ store_sound call (gives_plain answer g) not_3 not_5 = plain_sound call answer g 
 store_sound call (gives_figures a) not_3 not_5 = a.sound
 store_sound call (gives_verdict c) not_3 not_5 = c.sound
 
+none_pulled : (old new : StoreTells) → new ≡ old → ArePulled None None old new
+none_pulled old new e = record { between = old; model_pulled = refl; second_pulled = e }
+
 pulled : (call : Call) → Ran call → (asked : Job) → call.job ≡ Some asked → call.status ≢ 3 → call.status ≢ 4 → call.status ≢ 5 → call.status ≢ 6 → ArePulled (model_of asked) (second_of asked) call.store call.store_after
 pulled call (gives_plain answer g) asked h not_3 not_4 not_5 not_6 = absurd (no_plain call answer g h not_3 not_4 not_5 not_6)
-pulled call (gives_figures a) asked h not_3 not_4 not_5 not_6 = subst (λ job. ArePulled (model_of job) (second_of job) call.store call.store_after) (one_job a.asked h) a.pulled
+pulled call (gives_figures a) asked h not_3 not_4 not_5 not_6 = elim a.source [
+  | inl t ↦ subst (λ job. ArePulled (model_of job) (second_of job) call.store call.store_after) (one_job t.asked h) t.pulled
+  | inr d ↦ subst (λ job. ArePulled (model_of job) (second_of job) call.store call.store_after) (one_job d.asked h) (none_pulled call.store call.store_after d.untouched)
+]
 pulled call (gives_verdict c) asked h not_3 not_4 not_5 not_6 = subst (λ job. ArePulled (model_of job) (second_of job) call.store call.store_after) (one_job c.asked h) c.pulled
 
 -- of a refusal
 pulled_to : (call : Call) (fault : TextFault) → GivesPlain call (Refused fault) → (asked : Job) → call.job ≡ Some asked → ArePulled (model_of asked) (behind_up_to fault asked) call.store call.store_after
 pulled_to call (Model fault) g asked h =
     subst (λ job. ArePulled (model_of job) None call.store call.store_after) (one_job g.cause.is_asked h)
-    (record { between = call.store_after; model_pulled = g.cause.refuses.pulled; second_pulled = refl })
+    (subst (λ named. ArePulled named None call.store call.store_after) (sym g.cause.named) (record { between = call.store_after; model_pulled = g.cause.refuses.pulled; second_pulled = refl }))
 pulled_to call (Blocks fault) g asked h =
     subst (λ job. ArePulled (model_of job) (second_of job) call.store call.store_after) (one_job g.cause.is_asked h)
     (record { between = g.cause.between; model_pulled = g.cause.reads.pulled; second_pulled = g.cause.refuses.pulled })
@@ -441,13 +542,13 @@ read_fault_clause call r = record { rose = rose call r; sound = store_sound call
 blocks_first : (call : Call) (fault : BlockFault) → GivesPlain call (Refused (Blocks fault)) → (text blocks_text : List ℕ) → AsksWith call text blocks_text → HasBlocksFault call text blocks_text fault.line (block_kind_number fault.kind)
 blocks_first call fault g text blocks_text asks =
     let f = g.cause in
-    let found : HasProgram call text f.program = asked_program call (Solve f.model (Some f.name) f.limits) text f.program (told _ _ f.program f.reads.is_read) f.is_asked (of_blocks call text blocks_text asks) in
+    let found : HasProgram call text f.program = asked_program call (Solve f.model (Some f.name) f.limits) f.model text f.program (told _ _ f.program f.reads.is_read) f.is_asked refl (of_blocks call text blocks_text asks) in
     record { program = f.program; is_program = found; first = blocks_fault_asked call text blocks_text f.program fault.line (block_kind_number fault.kind) asks found f }
 
 point_first : (call : Call) (fault : PointFault) → GivesPlain call (Refused (Point fault)) → (text point_text : List ℕ) → AsksToCheck call text point_text → HasPointFault call text point_text fault.line (point_kind_number fault.kind)
 point_first call fault g text point_text asks =
     let f = g.cause in
-    let found : HasProgram call text f.program = asked_program call (Check f.model f.name) text f.program (told _ _ f.program f.reads.is_read) f.is_asked (of_check call text point_text asks) in
+    let found : HasProgram call text f.program = asked_program call (Check f.model f.name) f.model text f.program (told _ _ f.program f.reads.is_read) f.is_asked refl (of_check call text point_text asks) in
     record { program = f.program; is_program = found; first = point_fault_asked call text point_text f.program fault.line (point_kind_number fault.kind) asks found f }
 
 first_fault : (call : Call) (fault : TextFault) → GivesPlain call (Refused fault) → IsFirstFault call fault
@@ -459,15 +560,15 @@ refused_only : (call : Call) → Ran call → call.status ≡ 4 → (fault : Tex
 refused_only call r e = let refuses = refusal call r e in (refuses.0, refuses.1, first_fault call refuses.0 refuses.1)
 
 model_plain : (call : Call) (answer : Plain) → GivesPlain call answer → (text : List ℕ) (line kind : ℕ) → AsksOf call text → HasFault call text line kind → TellsModelFault call line kind ⊎ IsCutShort call
-model_plain call Usage g text line kind asks h = absurd (some_job asks.job g.cause.0)
+model_plain call Usage g text line kind asks h = absurd (no_name (sym (ap model_in g.cause.0) ∙ asks.named))
 model_plain call ReadFault g text line kind asks h = inr (inl g)
 model_plain call (Refused (Model fault)) g text line kind asks h =
-    let same = one_fault_as (is_lp_name (model_in call.job)) text (model_line fault) (model_kind fault) line kind (fault_asked call text fault asks g.cause) h in
+    let same = one_fault_in (model_in call.job) text (model_line fault) (model_kind fault) line kind (fault_asked call text fault asks g.cause) h in
     inl (record { fault = fault; is_line = same.0; is_kind = same.1; own = own_fault call fault g.cause; given = g })
 model_plain call (Refused (Blocks fault)) g text line kind asks h =
-    absurd (no_fault call text g.cause.program line kind (asked_program call _ text g.cause.program (told _ _ g.cause.program g.cause.reads.is_read) g.cause.is_asked asks) h)
+    absurd (no_fault call text g.cause.program line kind (asked_program call _ g.cause.model text g.cause.program (told _ _ g.cause.program g.cause.reads.is_read) g.cause.is_asked refl asks) h)
 model_plain call (Refused (Point fault)) g text line kind asks h =
-    absurd (no_fault call text g.cause.program line kind (asked_program call _ text g.cause.program (told _ _ g.cause.program g.cause.reads.is_read) g.cause.is_asked asks) h)
+    absurd (no_fault call text g.cause.program line kind (asked_program call _ g.cause.model text g.cause.program (told _ _ g.cause.program g.cause.reads.is_read) g.cause.is_asked refl asks) h)
 model_plain call NoMemory g text line kind asks h = inr (inr g)
 
 model_always : (call : Call) → Ran call → (text : List ℕ) (line kind : ℕ) → AsksOf call text → HasFault call text line kind → TellsModelFault call line kind ⊎ IsCutShort call
@@ -489,7 +590,8 @@ blocks_plain call NoMemory g text blocks_text program line kind asks h f = inr (
 -- blocks that were read have no fault
 blocks_answered : (call : Call) (a : IsAnswered call) (text blocks_text : List ℕ) (program : Program) (line kind : ℕ) → AsksWith call text blocks_text → HasProgram call text program → HasLineFault (block_reading program) blocks_text line kind → ⊥
 blocks_answered call a text blocks_text program line kind asks h f =
-    let named : BlocksAreRead a.program (Some asks.name) call.store = subst (λ b. BlocksAreRead a.program b call.store) (same_blocks a.asked asks.job) a.are_read in
+    let t = text_source call a asks.job in
+    let named : BlocksAreRead a.program (Some asks.name) call.store = subst (λ b. BlocksAreRead a.program b call.store) (same_blocks t.asked asks.job) t.are_read in
     let found = of_text (λ bytes. (parts : _) × HasResult (block_reading a.program) bytes parts) _ blocks_text named asks.blocks_held in
     let same = one_program call text a.program program (program_asked call text (of_blocks call text blocks_text asks) a) h in
     no_line_fault (block_reading a.program) blocks_text found.0 line kind found.1 (subst (λ q. HasLineFault (block_reading q) blocks_text line kind) (sym same) f)
@@ -519,7 +621,7 @@ point_checked call c text point_text program line kind asks h f =
 
 point_always : (call : Call) → Ran call → (text point_text : List ℕ) (program : Program) (line kind : ℕ) → AsksToCheck call text point_text → HasProgram call text program → HasLineFault (point_reading program) point_text line kind → TellsPointFault call line kind ⊎ IsCutShort call
 point_always call (gives_plain answer g) text point_text program line kind asks h f = point_plain call answer g text point_text program line kind asks h f
-point_always call (gives_figures a) text point_text program line kind asks h f = absurd (solve_check a.asked asks.job)
+point_always call (gives_figures a) text point_text program line kind asks h f = absurd (not_checked call a asks.job)
 point_always call (gives_verdict c) text point_text program line kind asks h f = absurd (point_checked call c text point_text program line kind asks h f)
 
 refused_clause : (call : Call) → Ran call → RefusedClause call
@@ -601,8 +703,14 @@ gap_always call a near itself n =
 no_gap_asked : (call : Call) → Ran call → (text : List ℕ) (limits : Limits) → Asks call text limits → limits.gap ≡ None → call.status ≢ 13
 no_gap_asked call r text limits asks none e =
     let g = gap_log call r e in
-    let same : g.answered.limits ≡ limits = same_limits g.answered.asked asks.job in
+    let same : g.answered.limits ≡ limits = same_limits (text_source call g.answered asks.job).asked asks.job in
     subst (λ asked. ReachesGap asked (Some g.near.cost) (Some g.near.least)) (ap (λ (l : Limits). l.gap) same ∙ none) g.near.reached
+
+-- nor is one asked for of a program that is drawn
+self_no_gap : (call : Call) → Ran call → (seed columns rows : ℕ) → call.job ≡ Some (Generate seed columns rows) → call.status ≢ 13
+self_no_gap call r seed columns rows e s =
+    let g = gap_log call r s in
+    subst (λ asked. ReachesGap asked (Some g.near.cost) (Some g.near.least)) (ap (λ (l : Limits). l.gap) (seed_source call g.answered e).usual) g.near.reached
 
 -- ---- overflows, and want of memory
 
@@ -637,6 +745,7 @@ runs call r w = record {
   headline = headline call r;
   work = work_clause call r w;
   kit = kit_clause call r w;
+  self = record { told = self_told_of call r w; untouched = self_untouched call r; no_gap = self_no_gap call r };
   check = check_clause call r;
   usage = usage_clause call r;
   read_fault = read_fault_clause call r;

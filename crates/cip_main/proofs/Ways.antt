@@ -9,12 +9,18 @@ use Rattle.cip_point_rules.specs.PointRules.{point_reading}
 use Rattle.cip_parts.specs.BlockParts.{Blocks as Parts}
 use Rattle.cip_input.specs.TextsRead.{ReadsText}
 use Rattle.cip_tasks.specs.declared.plain.Plain.{Plain}
-use Rattle.cip_words.specs.Jobs.{Limits}
-use Rattle.cip_tasks.specs.Tasks.{TakesBlocks, IsSolve, IsCheck}
-use Rattle.cip_main.specs.Running.{Call, BlocksAreRead, IsPulledBehind, TellsWork, TellsVerdict, GivesPlain, gives_plain, gives_figures, gives_verdict, Runs}
+use Rattle.cip_words.specs.Jobs.{Limits, usual_limits}
+use Rattle.cip_generator.specs.Generated.{entries_of}
+use Rattle.cip_trace_texts.specs.SelfTexts.{Drawn as Told}
+use Rattle.cip_trace_texts.specs.TraceTexts.{traced_text}
+use Rattle.cip_answers.specs.Figures.{names_of}
+use Rattle.cip_answering.specs.Answering.{Telling, self_told}
+use Rattle.cip_report.specs.Drawn.{drawn_of}
+use Rattle.cip_tasks.specs.Tasks.{TakesBlocks, IsSolve, IsCheck, IsDrawn}
+use Rattle.cip_main.specs.Running.{Call, BlocksAreRead, IsPulledBehind, drawn_as, WorksBy, TellsWork, TellsVerdict, GivesPlain, gives_plain, gives_figures, gives_verdict, Runs}
 use Rattle.cip_tasks.proofs.Readings.{told, value_told}
 use Rattle.cip_main.proofs.Clauses.{runs}
-use Rattle.std.proofs.Common.{◌∙◌, ap, subst}
+use Rattle.std.proofs.Common.{◌∙◌, ap, subst, inl, inr, refl}
 
 -- blocks that were read are those of their text
 blocks_told : (program : Program) (text : Option (List ℕ)) (old new : StoreTells) (parts : Parts) → ReadsText (HasResult (block_reading program)) text old new parts → IfSome text (λ bytes. (parts : Parts) × HasResult (block_reading program) bytes parts)
@@ -36,16 +42,43 @@ none_failed program (Some name) old between new t = t.1.sound
 -- a program was read and solved
 pub answered : (call : Call) (program : Program) (limits : Limits) → IsSolve call.job call.store call.store_after program limits → TellsWork call program limits → Runs call
 answered call program limits s w = runs call (gives_figures (record {
-  model = s.model;
-  blocks = s.blocks;
-  limits = limits;
-  asked = s.asked;
   program = program;
-  is_read = told _ _ program s.reads.is_read;
-  are_read = are_read program s.blocks call.store s.between call.store_after s.takes_blocks;
+  limits = limits;
+  text_of = traced_text (names_of program);
+  source = inl (record {
+    model = s.model;
+    blocks = s.blocks;
+    asked = s.asked;
+    is_read = told _ _ program s.reads.is_read;
+    are_read = are_read program s.blocks call.store s.between call.store_after s.takes_blocks;
+    pulled = record { between = s.between; model_pulled = s.reads.pulled; second_pulled = behind program s.blocks call.store s.between call.store_after s.takes_blocks };
+    told = refl;
+  });
   answers = w.answers;
-  pulled = record { between = s.between; model_pulled = s.reads.pulled; second_pulled = behind program s.blocks call.store s.between call.store_after s.takes_blocks };
   sound = none_failed program s.blocks call.store s.between call.store_after s.takes_blocks ∙ s.reads.sound;
+})) w
+
+-- a program was drawn and solved
+abbrev drawn_with : (seed columns rows entries : ℕ) → Told
+drawn_with seed columns rows entries = record { seed = seed; columns = columns; rows = rows; entries = entries }
+
+pub drawn_answered : (call : Call) (program : Program) (seed columns rows entries : ℕ) → IsDrawn call.job call.store call.store_after program seed columns rows entries → WorksBy call program usual_limits (self_told (record { seed = seed; columns = columns; rows = rows; entries = entries })) → Runs call
+drawn_answered call program seed columns rows entries d w = runs call (gives_figures (record {
+  program = program;
+  limits = usual_limits;
+  text_of = self_told (record { seed = seed; columns = columns; rows = rows; entries = entries });
+  source = inr (record {
+    seed = seed;
+    columns = columns;
+    rows = rows;
+    asked = d.asked;
+    is_drawn = d.is_drawn;
+    usual = refl;
+    told = ap (λ n. self_told (drawn_with seed columns rows n)) (d.counted ∙ ap entries_of d.is_drawn);
+    untouched = d.untouched;
+  });
+  answers = w.answers;
+  sound = ap (λ (store : StoreTells). store.faults) d.untouched;
 })) w
 
 -- a point was read and checked

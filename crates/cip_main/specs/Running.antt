@@ -1,6 +1,6 @@
 -- What a call of `run` does: by the words, what the store tells, what the sink took, the kit of plugins, and the logs.
 use Rattle.std.specs.Prelude.{◌≡◌, ◌≢◌, ◌⊎◌, ⊤, true, ℕ, ◌*◌, ◌-◌, ◌≤◌, max, List, [], ◌∷◌, ◌++◌, length}
-use Rattle.std.specs.Prelude.{Option, None, Some, IfSome}
+use Rattle.std.specs.Prelude.{Option, None, Some, IfSome, IsSomeAnd}
 use Rattle.cip_io.specs.Faults.{Rose}
 use Rattle.cip_io.specs.Store.{StoreTells}
 use Rattle.cip_io.specs.Sink.{SinkTells}
@@ -12,11 +12,14 @@ use Rattle.cip_line_texts.specs.LineTexts.{HasResult, HasFault as HasLineFault}
 use Rattle.cip_parts.specs.BlockParts.{Blocks as Parts}
 use Rattle.cip_block_rules.specs.BlockRules.{block_reading}
 use Rattle.cip_point_rules.specs.PointRules.{point_reading}
-use Rattle.cip_words.specs.Jobs.{Limits, Job, Solve, Check}
+use Rattle.cip_generator.specs.Generated.{generated, entries_of as coefficients_of}
+use Rattle.cip_trace_texts.specs.SelfTexts.{Drawn}
+use Rattle.cip_trace_texts.specs.TraceTexts.{traced_text}
+use Rattle.cip_words.specs.Jobs.{Limits, Job, Solve, Check, Generate, usual_limits}
 use Rattle.cip_input.specs.Models.{is_lp_name, HasModel, HasModelFault, is_lp_fault, model_line, model_kind}
 use Rattle.cip_input.specs.TextPulls.{IsAllPulled}
 use Rattle.cip_input.specs.declared.model_faults.ModelFault.{ModelFault}
-use Rattle.cip_answers.specs.Figures.{NodeLimit, Gap, Wide, Overflow}
+use Rattle.cip_answers.specs.Figures.{NodeLimit, Gap, Wide, Overflow, names_of}
 use Rattle.cip_search.specs.Headline.{ShowsGap, IsSpent, ShowsOverflow, EndsItself}
 use Rattle.cip_answers.specs.Checks.{check_text, check_status}
 use Rattle.cip_model.specs.Verdicts.{verdict_of}
@@ -38,12 +41,12 @@ use Rattle.cip_tasks.specs.declared.refusals.TextFault.{TextFault}
 use Rattle.cip_tasks.specs.declared.refusals.TextFault.TheVariants.{Model, Blocks, Point}
 use Rattle.cip_tasks.specs.declared.plain.Plain.{Plain}
 use Rattle.cip_tasks.specs.declared.plain.Plain.TheVariants.{Usage, ReadFault, Refused, NoMemory}
-use Rattle.cip_answering.specs.Answering.{Answers}
+use Rattle.cip_answering.specs.Answering.{Telling, self_told, Answers}
 use Rattle.cip_answering.specs.Checking.{checked}
 use Rattle.cip_answering.specs.Work.{Works}
 use Rattle.cip_tasks.specs.Plain.{plain_text, plain_status}
 use Rattle.cip_answering.specs.Saying.{Says}
-use Rattle.cip_tasks.specs.Tasks.{TaskCause, model_of, second_of}
+use Rattle.cip_tasks.specs.Tasks.{TaskCause, model_of, model_in, second_of}
 
 -- a call: the job that its words mean, if they are accepted; store, sink, kit and logs before and after it; its status
 pub record Call : Type 0 where
@@ -74,18 +77,13 @@ call_of job store store_after sink sink_after kit kit_after logs logs_after stat
   status = status;
 }
 
--- the name of the text of the model that the words name
-abbrev pub model_in : Option Job → List ℕ
-model_in None = []
-model_in (Some asked) = model_of asked
-
 -- a text describes a program, or has its first fault at this line, of this kind: as an LP text where the name of the
--- model's text ends in `.lp`, and else as one of free MPS
+-- model's text that the words name ends in `.lp`, and else as one of free MPS
 abbrev pub HasProgram : Call → (text : List ℕ) → Program → Type 0
-HasProgram call text program = HasModel (model_in call.job) text program
+HasProgram call text program = IsSomeAnd (model_in call.job) (λ model. HasModel model text program)
 
 abbrev pub HasFault : Call → (text : List ℕ) → (line kind : ℕ) → Type 0
-HasFault call text line kind = HasModelFault (model_in call.job) text line kind
+HasFault call text line kind = IsSomeAnd (model_in call.job) (λ model. HasModelFault model text line kind)
 
 -- no call of the store has failed, unless its count of faults stands at its last value
 abbrev pub IsStoreSound : Call → Type 0
@@ -104,10 +102,15 @@ pub record GivesPlain (call : Call) (answer : Plain) : Type 0 where
   pub no_search : call.logs_after ≡ call.logs
   pub same_kit : call.kit_after ≡ call.kit
 
--- true figures of the program were told to the sink, beside the log of a search within these limits
+-- true figures of the program were told to the sink by this text of theirs, beside the log of a search within these
+-- limits
+abbrev pub TellsBy : Call → Program → Limits → Telling → Type 0
+TellsBy call program limits text_of =
+    Answers program limits text_of call.sink call.sink_after call.logs call.logs_after call.status
+
+-- they were told as an answer to `solve`, with the lines of a trace, if they are asked for
 abbrev pub TellsTruth : Call → Program → Limits → Type 0
-TellsTruth call program limits =
-    Answers program limits call.sink call.sink_after call.logs call.logs_after call.status
+TellsTruth call program limits = TellsBy call program limits (traced_text (names_of program))
 
 -- what the test of a point says was told to the sink: exactly its text, with its status; it holds of the program and
 -- the point, no search was made, and the kit is as it was
@@ -124,29 +127,57 @@ BlocksAreRead program None store = ⊤
 BlocksAreRead program (Some name) store =
     IfSome (store.holds name) (λ text. (parts : Parts) × HasResult (block_reading program) text parts)
 
--- the second text, if there is one, was pulled behind the model's
+-- the text of this name, if there is one, was pulled, from `between` on; and where there is none, nothing was
 abbrev pub IsPulledBehind : (name : Option (List ℕ)) → (old between new : StoreTells) → Type 0
 IsPulledBehind None old between new = new ≡ between
 IsPulledBehind (Some name) old between new = IsAllPulled (old.holds name) new
 
--- the text of a model was pulled whole, and behind it the second text, if there is one; `between` is the store between
--- the two. What a store tells is left of a text is of the last one alone
-pub record ArePulled (model : List ℕ) (second : Option (List ℕ)) (old new : StoreTells) : Type 0 where
+-- the text of a model, if there is one, was pulled whole, and behind it the second text, if there is one; `between` is
+-- the store between the two. What a store tells is left of a text is of the last one alone
+pub record ArePulled (model second : Option (List ℕ)) (old new : StoreTells) : Type 0 where
   pub between : StoreTells
-  pub model_pulled : IsAllPulled (old.holds model) between
+  pub model_pulled : IsPulledBehind model old old between
   pub second_pulled : IsPulledBehind second old between new
 
--- an answer with figures of the program of the text that the words name
-pub record IsAnswered (call : Call) : Type 0 where
+-- the program is that of the text that the words name, which was read with the blocks that they name; its figures are
+-- told as an answer to `solve`
+pub record IsOfText (call : Call) (program : Program) (limits : Limits) (text_of : Telling) : Type 0 where
   pub model : List ℕ
   pub blocks : Option (List ℕ)
-  pub limits : Limits
   pub asked : call.job ≡ Some (Solve model blocks limits)
-  pub program : Program
   pub is_read : IfSome (call.store.holds model) (λ text. HasModel model text program)
   pub are_read : BlocksAreRead program blocks call.store
-  pub answers : TellsTruth call program limits
-  pub pulled : ArePulled model blocks call.store call.store_after
+  pub pulled : ArePulled (Some model) blocks call.store call.store_after
+  pub told : text_of ≡ traced_text (names_of program)
+
+-- what is told of the program that is drawn from a seed, with so many columns and rows
+abbrev pub drawn_as : (seed columns rows : ℕ) → Drawn
+drawn_as seed columns rows = record {
+  seed = seed;
+  columns = columns;
+  rows = rows;
+  entries = coefficients_of (generated seed columns rows);
+}
+
+-- the program is the one that is drawn from the seed that the words name, and the limits are the usual ones; its
+-- figures are told as an answer to `self`. Nothing was pulled
+pub record IsOfSeed (call : Call) (program : Program) (limits : Limits) (text_of : Telling) : Type 0 where
+  pub seed : ℕ
+  pub columns : ℕ
+  pub rows : ℕ
+  pub asked : call.job ≡ Some (Generate seed columns rows)
+  pub is_drawn : program ≡ generated seed columns rows
+  pub usual : limits ≡ usual_limits
+  pub told : text_of ≡ self_told (drawn_as seed columns rows)
+  pub untouched : call.store_after ≡ call.store
+
+-- an answer with figures of a program: of the one of the text that the words name, or of the one that is drawn
+pub record IsAnswered (call : Call) : Type 0 where
+  pub program : Program
+  pub limits : Limits
+  pub text_of : Telling
+  pub source : IsOfText call program limits text_of ⊎ IsOfSeed call program limits text_of
+  pub answers : TellsBy call program limits text_of
   pub sound : IsStoreSound call
 
 -- an answer with the verdict on the point of a text in the program of a text, both of which the words name
@@ -159,7 +190,7 @@ pub record IsChecked (call : Call) : Type 0 where
   pub point : List ℚ
   pub is_point : IfSome (call.store.holds name) (λ text. HasResult (point_reading program) text point)
   pub verdict : TellsVerdict call program point
-  pub pulled : ArePulled model (Some name) call.store call.store_after
+  pub pulled : ArePulled (Some model) (Some name) call.store call.store_after
   pub sound : IsStoreSound call
 
 -- what a call does
@@ -190,11 +221,11 @@ pub record Asks (call : Call) (text : List ℕ) (limits : Limits) : Type 0 where
   pub job : call.job ≡ Some (Solve model blocks limits)
   pub held : call.store.holds model ≡ Some text
 
--- the words ask for a job, whose model has this text
+-- the words name a model, which has this text
 pub record AsksOf (call : Call) (text : List ℕ) : Type 0 where
-  pub asked : Job
-  pub job : call.job ≡ Some asked
-  pub held : call.store.holds (model_of asked) ≡ Some text
+  pub model : List ℕ
+  pub named : model_in call.job ≡ Some model
+  pub held : call.store.holds model ≡ Some text
 
 -- the words ask to solve, with the blocks of a text
 pub record AsksWith (call : Call) (text blocks_text : List ℕ) : Type 0 where
@@ -226,7 +257,7 @@ pub record RefusesBlocks (call : Call) (program : Program) : Type 0 where
   pub asked : call.job ≡ Some (Solve model (Some name) limits)
   pub fault : BlockFault
   pub given : GivesPlain call (Refused (Blocks fault))
-  pub pulled : ArePulled model (Some name) call.store call.store_after
+  pub pulled : ArePulled (Some model) (Some name) call.store call.store_after
   pub first : IfSome (call.store.holds name)
       (λ text. HasLineFault (block_reading program) text fault.line (block_kind_number fault.kind))
 
@@ -326,7 +357,7 @@ pub record TellsModelFault (call : Call) (line kind : ℕ) : Type 0 where
   pub fault : ModelFault
   pub is_line : model_line fault ≡ line
   pub is_kind : model_kind fault ≡ kind
-  pub own : is_lp_fault fault ≡ is_lp_name (model_in call.job)
+  pub own : IsSomeAnd (model_in call.job) (λ model. is_lp_fault fault ≡ is_lp_name model)
   pub given : GivesPlain call (Refused (Model fault))
 
 pub record TellsBlockFault (call : Call) (line kind : ℕ) : Type 0 where
@@ -420,11 +451,15 @@ OverflowClause call = call.status ≡ 11 → OverflowLog call ⊎ PointOverflows
 abbrev pub MemoryClause : Call → Type 0
 MemoryClause call = call.status ≡ 6 → GivesPlain call NoMemory ⊎ IsAnswered call
 
--- true figures of the program were told to the sink, and they are those of what a search of it found: the point that it
--- held, and as the bound the least of what it left
+-- true figures of the program were told to the sink by this text of theirs, and they are those of what a search of it
+-- found: the point that it held, and as the bound the least of what it left
+abbrev pub WorksBy : Call → Program → Limits → Telling → Type 0
+WorksBy call program limits text_of =
+    Works program limits text_of call.sink call.sink_after call.logs call.logs_after call.kit call.kit_after call.status
+
+-- they were told as an answer to `solve`
 abbrev pub TellsWork : Call → Program → Limits → Type 0
-TellsWork call program limits =
-    Works program limits call.sink call.sink_after call.logs call.logs_after call.kit call.kit_after call.status
+TellsWork call program limits = WorksBy call program limits (traced_text (names_of program))
 
 -- where the words ask for the program of a text, the figures that are told are those of what a search found; and where
 -- none are told, that is for what the headline says
@@ -435,13 +470,21 @@ WorkClause call =
 
 -- true figures of the program were told to the sink, with the lines of a trace, if they are asked for. Where the words
 -- ask for a search without plugins, or the kit has none, nobody was called, the kit is as it was, and no line is told;
--- else its plugins served in the search, and all are done with: or memory was refused before a node was taken
+-- else its plugins served in the search, and all are done with: or memory was refused before a node was taken, or
+-- presolve showed then that no point is feasible
 pub record TellsKit (call : Call) (program : Program) (limits : Limits) : Type 0 where
   pub truth : TellsTruth call program limits
   pub trace : Option Trace
   pub lines_are : truth.lines ≡ kept_lines trace
   pub served :
       IsKitAfter (is_alone limits.plain call.kit) limits.trace truth.entries call.kit call.kit_after trace
+
+-- the words ask for a search: of the program of a text, or of one that is drawn
+abbrev pub AsksForSearch : Option Job → Type 0
+AsksForSearch None = ⊥
+AsksForSearch (Some (Solve model blocks limits)) = ⊤
+AsksForSearch (Some (Check model point)) = ⊥
+AsksForSearch (Some (Generate seed columns rows)) = ⊤
 
 -- where the words ask for the program of a text, that became of the kit; and where no figures are told, that is for
 -- what the headline says. Where they ask for a search without plugins, or for none, the kit is as it was
@@ -450,9 +493,19 @@ pub record KitClause (call : Call) : Type 0 where
       → HasProgram call text program → TellsKit call program limits ⊎ (RefusesBlocks call program ⊎ IsCutShort call)
   pub plain : (model : List ℕ) (blocks : Option (List ℕ)) (limits : Limits)
       → call.job ≡ Some (Solve model blocks limits) → limits.plain ≡ true → call.kit_after ≡ call.kit
-  pub no_search :
-      ((model : List ℕ) (blocks : Option (List ℕ)) (limits : Limits) → call.job ≢ Some (Solve model blocks limits))
-      → call.kit_after ≡ call.kit
+  pub no_search : ¬ AsksForSearch call.job → call.kit_after ≡ call.kit
+
+-- where the words ask for a program that is drawn, true figures of exactly that program are told, as an answer to
+-- `self`: they are those of what a search found, with the usual limits, and that says what became of the kit, too; or
+-- want of memory is answered without figures, before the program was there. Nothing is pulled, and no gap ends the
+-- search
+pub record SelfClause (call : Call) : Type 0 where
+  pub told : (seed columns rows : ℕ) → call.job ≡ Some (Generate seed columns rows)
+      → WorksBy call (generated seed columns rows) usual_limits (self_told (drawn_as seed columns rows))
+      ⊎ GivesPlain call NoMemory
+  pub untouched : (seed columns rows : ℕ) → call.job ≡ Some (Generate seed columns rows)
+      → call.store_after ≡ call.store
+  pub no_gap : (seed columns rows : ℕ) → call.job ≡ Some (Generate seed columns rows) → call.status ≢ 13
 
 -- what holds of every call, part by part
 pub record Runs (call : Call) : Type 0 where
@@ -461,6 +514,7 @@ pub record Runs (call : Call) : Type 0 where
   pub headline : Headline call
   pub work : WorkClause call
   pub kit : KitClause call
+  pub self : SelfClause call
   pub check : CheckClause call
   pub usage : UsageClause call
   pub read_fault : ReadFaultClause call

@@ -5,9 +5,10 @@ ghost use Rattle.cip_kits.specs.Kits.{stock_of, IsFew};
 ghost use Rattle.cip_answering.specs.Saying.{Says};
 ghost use Rattle.cip_main.specs.Running.{Runs, call_of};
 
-use cip_answering::{check_and_report, solve_and_report};
+use cip_answering::{check_and_report, solve_and_report, solve_drawn};
 use cip_io::{Failed, Sink, Store};
 use cip_plugin::{AnyPlugin, Kit, Tells};
+use cip_report::Drawn;
 use cip_solve::{Log, Options};
 use cip_tasks::{Plain, Task, read_task};
 use cip_words::Words;
@@ -40,12 +41,17 @@ pub fn say<K: Sink>(out: &mut K, answer: Plain) -> u8
 /// - 13: the gap that the words ask for is reached: the cost less the bound, in the minimised form, is above 0 and at
 ///   most that.
 ///
-/// The texts are the model's, and then that of the blocks or of the point. A search adds one log to `logs`, or none
+/// The texts are the model's, and then that of the blocks or of the point; at `self` there are none, and the program is
+/// drawn from the seed. A search adds one log to `logs`, or none
 /// where memory was refused before it had room for one. Blocks change nothing of the search.
 ///
+/// Presolve reduces the program first, and what it makes of it is searched; all that is printed, and the log, are of
+/// the program itself. Where presolve shows that no point is feasible, no node is taken. With `--plain` the program
+/// itself is searched, without presolve and without plugins.
+///
 /// The plugins of the kit serve in the search, whatever they answer, and all are done with behind it: what the answer
-/// says holds for every kit. With `--plain`, at `check`, and where no node is taken the kit stays as it is. With
-/// `--trace` the lines of what the plugins were called for are printed behind the figures.
+/// says holds for every kit. With `--plain`, at `check`, and where the search doesn't begin the kit stays as it is.
+/// With `--trace` the lines of what the plugins were called for are printed behind the figures.
 pub fn run<S: Store, K: Sink>(
     alloc: Global,
     words: &Words,
@@ -79,6 +85,23 @@ pub fn run<S: Store, K: Sink>(
             solve_and_report(alloc, &program, &options, kit, out, logs)
         }
         Ok(Task::Check { program, point }) => check_and_report(&program, point.as_slice(), out),
+        Ok(
+            Task::Generate {
+                program,
+                seed,
+                columns,
+                rows,
+                entries,
+            },
+        ) => {
+            let drawn = Drawn {
+                seed,
+                columns,
+                rows,
+                entries,
+            };
+            solve_drawn(alloc, drawn, &program, kit, out, logs)
+        }
         Err(answer) => say(out, answer),
     }
 }

@@ -111,7 +111,6 @@ pub(crate) fn emptied(
     requires empty { IsEmptyBy (program_in master.now) combo.now }
     ensures { IfOk result (λ answer. (limit : ℕ) → IsMasterAnswer limit (task_of task.entry.now) answer) }
 {
-    let _ids = master.ids.len();
     let zeros = zeros(alloc, task.program.columns())?;
     let mut shown = shown_by(alloc, task.blocks, combo, zeros)?;
     let Ok(sum) = show(task, Frac::zero(), &mut shown) else {

@@ -7,13 +7,12 @@ use Rattle.cip_problem.specs.Log.{End, Split, Closed, Parked, Node, matters}
 use Rattle.cip_cuts.specs.Improving.{HasNoImproving, IsImproving}
 use Rattle.cip_cuts.proofs.Improving.{fewer}
 use Rattle.cip_domain.specs.Changes.{Region}
-use Rattle.cip_leaves.specs.Leaf.{Leaf, IsPointOfLeaf, IsOnlyLeafOf}
-use Rattle.cip_leaves.specs.WideNodes.{IsWideAs}
+use Rattle.cip_leaves.specs.Leaf.{Leaf, IsPointOfLeaf}
 use Rattle.cip_leaf.specs.LeafAnswers.{shown_as}
 use Rattle.cip_leaf.specs.declared.answers.Shown.{Shown}
 use Rattle.cip_node_bounds.specs.declared.relaxed.Mark.{Mark}
 use Rattle.cip_tree.specs.Nodes.{TakenNode, Nodes, region_of, box_of, shown}
-use Rattle.cip_core.specs.CoreStates.{CoreState, reduced_of, held_of, IsTakenUp}
+use Rattle.cip_core.specs.CoreStates.{CoreState, reduced_of, way_of, held_of, IsTakenUp}
 use Rattle.cip_core.specs.Later.{IsLater, IsNarrower, IsLaterAt}
 use Rattle.cip_core.specs.Steps.{parked_after, LeavesEntry, HasLeft, IsBack}
 use Rattle.cip_core.proofs.CoreSteps.{with_tree}
@@ -22,6 +21,9 @@ use Rattle.cip_rows.specs.RowPools.{Pool}
 use Rattle.cip_core.proofs.Relations.{later_further, narrower_itself, narrower_further}
 use Rattle.cip_node.specs.Bounding.{IsMarkOf, IsAsGood, point_of, IsFound, IsSplitBy}
 use Rattle.cip_node.specs.NodeEnds.{IsAside, IsEnd, HasEnded}
+use Rattle.cip_node.specs.LeavesBack.{IsOnlyLeafBack}
+use Rattle.cip_search.specs.SearchState.{IsWideBack}
+use Rattle.cip_node.proofs.LeavesBack.{back_later}
 use Rattle.cip_node.specs.declared.bounding.Found.{Found}
 use Rattle.cip_node.specs.declared.ends.NodeEnd.{NodeEnd}
 use Rattle.cip_node.specs.declared.ends.NodeRecord.{NodeRecord}
@@ -58,7 +60,7 @@ looked_core core pool work = record core { pool = pool; tree = record core.tree 
 
 pub leads_looked : (core : CoreState) (pool : Pool) (work : Region) (node : TakenNode) → Leads core node (looked_core core pool work) node
 leads_looked core pool work node = record {
-  later = record { program = refl; root = refl; integral = refl; ids = omega arith; no_dearer = itself (held_of core); untouched = λ u. u };
+  later = record { program = refl; reduced = refl; steps = refl; root = refl; integral = refl; ids = omega arith; no_dearer = itself (held_of core); untouched = λ u. u };
   narrower = narrower_itself (looked_core core pool work) (shown core.tree node);
   log = refl;
   parked = refl;
@@ -70,7 +72,7 @@ leads_looked core pool work node = record {
 module _ (old mid new : CoreState) (node has : TakenNode) (l : Leads old node mid has) (later : IsLater mid new) where
   none_before : HasNoImproving (reduced_of new) (held_of new) (box_of mid.tree has) → HasNoImproving (reduced_of new) (held_of new) (box_of old.tree node)
   none_before h point i w =
-      let i' : IsImproving (reduced_of mid) (held_of mid) point = fewer (reduced_of mid) (held_of new) (held_of mid) point later.no_dearer (subst (λ p. IsImproving p (held_of new) point) later.program i) in
+      let i' : IsImproving (reduced_of mid) (held_of mid) point = fewer (reduced_of mid) (held_of new) (held_of mid) point later.no_dearer (subst (λ p. IsImproving p (held_of new) point) later.reduced i) in
       h point i (l.narrower.keeps point i' w)
 
   pub entry_before : (ended : Node) (end : End) → LeavesEntry mid.tree new.tree ended end → LeavesEntry old.tree new.tree ended end
@@ -86,7 +88,7 @@ module _ (old mid new : CoreState) (node has : TakenNode) (l : Leads old node mi
     entry = entry_before ended Closed h.entry;
     kept = h.kept;
     leaf = h.leaf;
-    only = h.only;
+    there = h.there;
     point = h.point;
     is_point = h.is_point;
     settled = none_before h.settled;
@@ -106,7 +108,7 @@ module _ (old mid new : CoreState) (node has : TakenNode) (l : Leads old node mi
     entry = entry_before ended Parked h.entry;
     kept = h.kept;
     bound_is = h.bound_is;
-    wide_as = h.wide_as;
+    wide = h.wide;
   }
   end_before ended mark (by.Ray point ray) h = record {
     entry = entry_before ended Parked h.entry;
@@ -160,7 +162,7 @@ emptied core new node h e = ended_here core new node None by.Empty h.later h.few
 -- what has no improving point has none later
 pub none_kept : (mid new : CoreState) (box : List Sides) → IsLater mid new → HasNoImproving (reduced_of mid) (held_of mid) box → HasNoImproving (reduced_of new) (held_of new) box
 none_kept mid new box later h = λ point i w.
-    h point (fewer (reduced_of mid) (held_of new) (held_of mid) point later.no_dearer (subst (λ p. IsImproving p (held_of new) point) later.program i)) w
+    h point (fewer (reduced_of mid) (held_of new) (held_of mid) point later.no_dearer (subst (λ p. IsImproving p (held_of new) point) later.reduced i)) w
 
 -- nor has the box that it is narrowed to
 pub none_now : (old mid : CoreState) (node has : TakenNode) → IsLaterAt old node mid has → HasNoImproving (reduced_of mid) (held_of mid) (box_of old.tree node) → HasNoImproving (reduced_of mid) (held_of mid) (box_of mid.tree has)
@@ -199,25 +201,25 @@ module _ (core : CoreState) (tree : Nodes) (node : TakenNode) (found : Found) (i
 -- ---- leaves
 
 -- a leaf was closed after its best point was offered
-pub solved_ended : (core mid new : CoreState) (node : TakenNode) (leaf : Leaf) (point : List ℚ) → IsLaterAt core node mid node → HasLeft mid new node Closed → IsOnlyLeafOf core.program (shown core.tree node) leaf → IsPointOfLeaf core.program leaf point → HasNoImproving (reduced_of mid) (held_of mid) (box_of core.tree node) → HasEnded core new node None by.Solved
+pub solved_ended : (core mid new : CoreState) (node : TakenNode) (leaf : Leaf) (point : List ℚ) → IsLaterAt core node mid node → HasLeft mid new node Closed → IsOnlyLeafBack core.program (reduced_of core) core.steps (shown core.tree node) leaf → IsPointOfLeaf core.program leaf point → HasNoImproving (reduced_of mid) (held_of mid) (box_of core.tree node) → HasEnded core new node None by.Solved
 solved_ended core mid new node leaf point l h only is none =
-    let program : new.program ≡ core.program = h.later.program ∙ l.later.program in
-    ended_here core new node None by.Solved (later_further core mid new l.later h.later) (subst (λ n. new.tree.ids ≤ n + 2) l.ids h.few) (record {
+    let later = later_further core mid new l.later h.later in
+    ended_here core new node None by.Solved later (subst (λ n. new.tree.ids ≤ n + 2) l.ids h.few) (record {
       entry = record {
         logged = subst (λ log. new.tree.log ≡ log ++ record { node = node.number; bound = node.bound; end = Closed } ∷ []) l.log h.entry.logged;
         parked = subst (λ p. new.tree.parked ≡ p) l.parked h.entry.parked;
       };
       kept = h.kept;
       leaf = leaf;
-      only = subst (λ p. IsOnlyLeafOf p (shown core.tree node) leaf) (sym program) only;
+      there = back_later core new (shown core.tree node) leaf later only;
       point = point;
-      is_point = subst (λ p. IsPointOfLeaf p leaf point) (sym program) is;
+      is_point = subst (λ p. IsPointOfLeaf p leaf point) (sym later.program) is;
       settled = none_kept mid new (box_of core.tree node) h.later none;
     }) tt
 
 -- a leaf was put aside as a wide one
-pub aside_ended : (core : CoreState) (tree : Nodes) (node : TakenNode) (leaf : Leaf) (bound : Option ℚ) (by_this : Shown) → HasLeft core (with_tree core tree) node Parked → bound ≡ node.bound → IsWideAs core.program (shown core.tree node) leaf (shown_as by_this) → IsAside core (with_tree core tree) (shown core.tree node) leaf bound (shown_as by_this)
-aside_ended core tree node leaf bound by_this h b w = record { entry = h.entry; kept = h.kept; bound_is = sym b; wide_as = w }
+pub aside_ended : (core : CoreState) (tree : Nodes) (node : TakenNode) (leaf : Leaf) (bound : Option ℚ) (by_this : Shown) → HasLeft core (with_tree core tree) node Parked → bound ≡ node.bound → IsWideBack core.program (reduced_of core) (way_of core) (shown core.tree node) leaf (shown_as by_this) → IsAside core (with_tree core tree) (shown core.tree node) leaf bound (shown_as by_this)
+aside_ended core tree node leaf bound by_this h b w = record { entry = h.entry; kept = h.kept; bound_is = sym b; wide = w }
 
 -- it was put aside, as the cost falls from a point of it that was offered
 pub endless_ended : (core mid new : CoreState) (node : TakenNode) (end : NodeEnd) → IsLaterAt core node mid node → IsLater mid new → new.tree.ids ≡ mid.tree.ids → IsEnd mid new node (shown mid.tree node) None end → HasEnded core new node None end

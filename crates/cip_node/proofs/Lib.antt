@@ -1,6 +1,7 @@
 pub mod EndLaws
 pub mod GivenLater
 pub mod LeafSettled
+pub mod LeavesBack
 pub mod Looked
 pub mod MadeChoices
 pub mod NodeBound

@@ -43,7 +43,7 @@ look_entered core node looked e l =
 -- an open node whose region stays the same is still open after steps of its work
 pub open_after : (old mid : CoreState) (node has : TakenNode) → IsLaterAt old node mid has → region_of mid.tree has ≡ region_of old.tree node → IsOpenNode old node → IsOpenNode mid has
 open_after old mid node has l e o =
-    let integral = ap (λ (p : Program). p.integral) l.later.program in
+    let integral = ap (λ (p : Program). p.integral) l.later.reduced in
     record {
       full = record {
         region = l.at_work.region;

@@ -1,5 +1,5 @@
 -- The choices of a leaf: for each semi-continuous column of the program, whether it is on.
-use Rattle.std.proofs.Common.{◌≡◌, inl, inr, ℕ, zero, suc, ◌+◌, ◌<◌, Bool, true, false, if◌then◌else◌, List, [], ◌∷◌, ◌++◌, take, get_or, length, Option, Some, slice_get, refl, sym, ap, ◌∙◌, subst, arith, true≢false}
+use Rattle.std.proofs.Common.{◌≡◌, inl, inr, ℕ, zero, suc, ◌+◌, ◌<◌, Bool, true, false, if◌then◌else◌, List, [], ◌∷◌, ◌++◌, take, get_or, length, Option, Some, slice_get, refl, sym, ap, ◌∙◌, arith, true≢false}
 use Rattle.std.proofs.lemmas.Option.{same_Some, slice_get_past, none-some}
 use Rattle.std.proofs.lemmas.Bool.{cases_lt}
 use Rattle.cip_problem.specs.Program.{Sides, Choice, Plain, Open, Off, On, Program}
@@ -7,9 +7,7 @@ use Rattle.cip_problem.specs.Box.{sides_at}
 use Rattle.cip_problem.specs.Choices.{choice_at, is_open, is_on, AreMade, AreStillOpen, decided_box, made_on}
 use Rattle.cip_problem.specs.Log.{Node}
 use Rattle.cip_problem.specs.WellFormed.{IsChoice, IsWellFormed}
-use Rattle.cip_problem.proofs.Choices.Decided.{length-made_on}
-use Rattle.std.specs.List.{AllZip}
-use Rattle.cip_leaves.specs.Leaf.{at_wholes, IsWholeBetween, IsLeaf, IsOnlyLeaf, Leaf, IsLeafOf, IsOnlyLeafOf}
+use Rattle.cip_leaves.specs.Leaf.{at_wholes, IsOnlyLeaf, Leaf, IsOnlyLeafOf}
 use Rattle.cip_node_rules.specs.OpenColumns.{PassesNowhere}
 use Rattle.cip_node_rules.specs.OpenChoices.{is_choice_open}
 
@@ -90,7 +88,7 @@ all_made program now formed still none column = elim (cases_lt column (length pr
 -- ---- the leaf
 
 -- whole columns keep their sides where the choices are made
-wholes_stay : (choices : List Choice) (integral : List Bool) (box : List Sides) (on : List Bool) → ((column : ℕ) → IsChoice (choice_at choices column) (slice_get integral column) (sides_at box column)) → at_wholes integral (decided_box choices box on) ≡ at_wholes integral box
+pub wholes_stay : (choices : List Choice) (integral : List Bool) (box : List Sides) (on : List Bool) → ((column : ℕ) → IsChoice (choice_at choices column) (slice_get integral column) (sides_at box column)) → at_wholes integral (decided_box choices box on) ≡ at_wholes integral box
 wholes_stay [] integral box on f = refl
 wholes_stay (c ∷ cs) integral [] on f = refl
 wholes_stay (c ∷ cs) [] (s ∷ ss) on f = refl
@@ -102,12 +100,6 @@ wholes_stay (Open own ∷ cs) (false ∷ ws) (s ∷ ss) (o ∷ on) f = wholes_st
 wholes_stay (Off ∷ cs) (w ∷ ws) (s ∷ ss) on f = absurd (f 0)
 wholes_stay (On ∷ cs) (w ∷ ws) (s ∷ ss) on f = absurd (f 0)
 
--- whole values and the choices of a node are a leaf
-pub leaf_there : (program : Program) (now : List Choice) (leaf : Leaf) → IsWellFormed program → leaf.on ≡ made_on program.choices now → IsLeaf program leaf.values → IsLeafOf program leaf
-leaf_there program now leaf formed e h = record {
-  each = ap length e ∙ length-made_on program.choices now;
-  values = subst (λ sides. AllZip IsWholeBetween sides leaf.values) (sym (wholes_stay program.choices program.integral program.bounds leaf.on formed.choices)) h;
-}
-
+-- a leaf of whole values and of the choices of a node is its only one
 pub only_there : (program : Program) (node : Node) (leaf : Leaf) → AreMade node.choices → leaf.on ≡ made_on program.choices node.choices → IsOnlyLeaf program.integral node.box leaf.values → IsOnlyLeafOf program node leaf
 only_there program node leaf made e h = record { made = made; on = e; values = h }

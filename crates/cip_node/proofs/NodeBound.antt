@@ -24,8 +24,7 @@ use Rattle.cip_node_bounds.proofs.Told.{told}
 use Rattle.cip_node_bounds.specs.declared.relaxed.Mark.{Mark}
 use Rattle.cip_core.specs.CoreStates.{CoreState, reduced_of, held_of, rows_lent, IsSound, IsAtWork}
 use Rattle.cip_core.proofs.CoreSteps.{work_long}
-use Rattle.cip_core.specs.KeptNodes.{cost_held}
-use Rattle.cip_core.specs.Steps.{IsTried}
+use Rattle.cip_core.specs.Steps.{IsTriedBack}
 use Rattle.cip_node.specs.Bounding.{IsMarkOf, IsAsGood, HasTried, point_of, IsFound}
 use Rattle.cip_node.specs.declared.bounding.Found.{Found}
 
@@ -65,12 +64,12 @@ safe_if core box own None e t h = tt
 safe_if core box own (Some b) e t h = subst (λ x. IsBoundIn (reduced_of core) (held_of core) x b) e (t.safe b h)
 
 -- a point that was offered beside a mark, if there is one
-pub tried_if : {X : Type 0} (f : X → List ℚ) (core : CoreState) (box : List Sides) (point : Option X) (mark : Mark) → IfSome point (λ v. IsPoint (node_program (reduced_of core) (rows_lent core) box) (f v)) → IfSome point (λ v. IsTried core.program (held_of core) (f v)) → HasTried core box (option_map f point) (Some mark)
+pub tried_if : {X : Type 0} (f : X → List ℚ) (core : CoreState) (box : List Sides) (point : Option X) (mark : Mark) → IfSome point (λ v. IsPoint (node_program (reduced_of core) (rows_lent core) box) (f v)) → IfSome point (λ v. IsTriedBack core (f v)) → HasTried core box (option_map f point) (Some mark)
 tried_if f core box None mark h k = λ e. cc
 tried_if f core box (Some v) mark h k = (h, k)
 
 -- what was found by a point of least cost, beside a bound that is no less
-found_least : (core : CoreState) (held : Option ℚ) (box : List Sides) (bound : Option ℚ) (point : List ℚ) (b : ℚ) (found : Found) → point_of found ≡ Some point → found.mark ≡ None → NodeProgramsTell (reduced_of core) held (rows_lent core) box → ShowsLeast (reduced_of core) (rows_lent core) box point b → NoMore (Some b) bound → IsTried core.program (held_of core) point → IsFound core box bound found
+found_least : (core : CoreState) (held : Option ℚ) (box : List Sides) (bound : Option ℚ) (point : List ℚ) (b : ℚ) (found : Found) → point_of found ≡ Some point → found.mark ≡ None → NodeProgramsTell (reduced_of core) held (rows_lent core) box → ShowsLeast (reduced_of core) (rows_lent core) box point b → NoMore (Some b) bound → IsTriedBack core point → IsFound core box bound found
 found_least core held box bound point b found p m t s l tried = record {
   long = subst (λ o. IfSome o (λ v. length v ≡ length box)) (sym p) (point_long core box point s.optimal.is_point);
   good = subst (IsAsGood core box bound) (sym m) (greater (reduced_of core) (usable_rows box core.pool.rows) box (Some b) bound l (t.relaxed point b s));
@@ -78,7 +77,7 @@ found_least core held box bound point b found p m t s l tried = record {
 }
 
 -- and by one from which the cost falls
-found_falling : (core : CoreState) (held : Option ℚ) (box : List Sides) (bound : Option ℚ) (point : List ℚ) (found : Found) → point_of found ≡ Some point → found.mark ≡ None → NodeProgramsTell (reduced_of core) held (rows_lent core) box → ShowsFalling (reduced_of core) (rows_lent core) box point → IsTried core.program (held_of core) point → IsFound core box bound found
+found_falling : (core : CoreState) (held : Option ℚ) (box : List Sides) (bound : Option ℚ) (point : List ℚ) (found : Found) → point_of found ≡ Some point → found.mark ≡ None → NodeProgramsTell (reduced_of core) held (rows_lent core) box → ShowsFalling (reduced_of core) (rows_lent core) box point → IsTriedBack core point → IsFound core box bound found
 found_falling core held box bound point found p m t s tried = record {
   long = subst (λ o. IfSome o (λ v. length v ≡ length box)) (sym p) (point_long core box point s.is_point);
   good = subst (IsAsGood core box bound) (sym m) (t.falling point bound s);
@@ -97,17 +96,17 @@ module _ (core : CoreState) (tree : Nodes) (holding : Holding) (node now : Taken
   own_tells : NodeProgramsTell (reduced_of core) (held_of core) (rows_lent core) (box_of tree now)
   own_tells = subst (NodeProgramsTell (reduced_of core) (held_of core) (rows_lent core)) own_box (tells core w sound kept formed)
 
-  pub least_found : (point : List ℚ) (b : ℚ) (found : Found) → point_of found ≡ Some point → found.mark ≡ None → ShowsLeast (reduced_of core) (rows_lent core) core.tree.work.box point b → NoMore (Some b) now.bound → IsTried core.program (cost_held holding) point → IsFound (offered_core core tree holding) (box_of tree now) now.bound found
+  pub least_found : (point : List ℚ) (b : ℚ) (found : Found) → point_of found ≡ Some point → found.mark ≡ None → ShowsLeast (reduced_of core) (rows_lent core) core.tree.work.box point b → NoMore (Some b) now.bound → IsTriedBack (offered_core core tree holding) point → IsFound (offered_core core tree holding) (box_of tree now) now.bound found
   least_found point b found p m s l tried =
       found_least (offered_core core tree holding) (held_of core) (box_of tree now) now.bound point b found p m own_tells
       (subst (λ box. ShowsLeast (reduced_of core) (rows_lent core) box point b) own_box s) l tried
 
-  pub falling_found : (point : List ℚ) (found : Found) → point_of found ≡ Some point → found.mark ≡ None → ShowsFalling (reduced_of core) (rows_lent core) core.tree.work.box point → IsTried core.program (cost_held holding) point → IsFound (offered_core core tree holding) (box_of tree now) now.bound found
+  pub falling_found : (point : List ℚ) (found : Found) → point_of found ≡ Some point → found.mark ≡ None → ShowsFalling (reduced_of core) (rows_lent core) core.tree.work.box point → IsTriedBack (offered_core core tree holding) point → IsFound (offered_core core tree holding) (box_of tree now) now.bound found
   falling_found point found p m s tried =
       found_falling (offered_core core tree holding) (held_of core) (box_of tree now) now.bound point found p m own_tells
       (subst (λ box. ShowsFalling (reduced_of core) (rows_lent core) box point) own_box s) tried
 
-  pub unsolved_found : {X : Type 0} (f : X → List ℚ) (point : Option X) (mark : Mark) (found : Found) → point_of found ≡ option_map f point → found.mark ≡ Some mark → IsMarkOf core core.tree.work.box mark → IfSome point (λ v. IsPoint (node_program (reduced_of core) (rows_lent core) core.tree.work.box) (f v)) → IfSome point (λ v. IsTried core.program (cost_held holding) (f v)) → IsFound (offered_core core tree holding) (box_of tree now) now.bound found
+  pub unsolved_found : {X : Type 0} (f : X → List ℚ) (point : Option X) (mark : Mark) (found : Found) → point_of found ≡ option_map f point → found.mark ≡ Some mark → IsMarkOf core core.tree.work.box mark → IfSome point (λ v. IsPoint (node_program (reduced_of core) (rows_lent core) core.tree.work.box) (f v)) → IfSome point (λ v. IsTriedBack (offered_core core tree holding) (f v)) → IsFound (offered_core core tree holding) (box_of tree now) now.bound found
   unsolved_found f point mark found p m marked is_point tried =
       let new = offered_core core tree holding in
       let box = box_of tree now in

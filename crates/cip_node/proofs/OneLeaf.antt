@@ -1,6 +1,9 @@
 -- The only leaf of a box in which each whole column has one whole value.
-use Rattle.std.proofs.Common.{◌≡◌, ℕ, zero, suc, ◌+◌, ◌<◌, Bool, true, false, if◌then◌else◌, List, [], ◌∷◌, ◌++◌, take, get_or, length, Option, None, Some, refl, ap, ◌∙◌, arith}
-use Rattle.cip_rational.specs.Rational.{ℚ, ceil, floor}
+use Rattle.std.proofs.Common.{◌≡◌, ℕ, zero, suc, ◌+◌, ◌<◌, ◌≤◌, ℤ, Bool, true, false, if◌then◌else◌, List, [], ◌∷◌, ◌++◌, take, get_or, length, Option, None, Some, refl, ap, ◌∙◌, subst, arith}
+use Rattle.std.specs.Prelude.{pos}
+use Rattle.cip_rational.specs.Rational.{ℚ, numerator, denominator, ceil, floor}
+use Rattle.cip_rational.specs.Range.{largest, magnitude, fits_range}
+use Rattle.cip_rational.proofs.Range.InRange.{fits_in}
 use Rattle.cip_rational.proofs.Rational.Order.{≤ℚ_trans}
 use Rattle.cip_rational.proofs.Rational.Whole.{IsWhole-integer}
 use Rattle.cip_rational.proofs.Rational.Rounding.{le_ceil, integer_le, floor_le}
@@ -88,3 +91,7 @@ pub least_false : (whole : List Bool) (sides : List Sides) (n : ℕ) (d : Sides)
 least_false whole sides n d l m e =
     ap (λ k. least_values (take k whole) (take k sides)) (one_later n) ∙ least_next whole sides n d l m
     ∙ ap (λ (t : Bool). if t then least_values (take n whole) (take n sides) ++ least_above (get_or sides n d).low ∷ [] else least_values (take n whole) (take n sides)) e
+
+-- a number whose parts are small is in range
+pub fits_by : (q : ℚ) (n d : ℤ) → n ≡ numerator q → magnitude n ≤ largest → d ≡ pos (denominator q) → magnitude d ≤ largest → fits_range q ≡ true
+fits_by q n d e h k l = fits_in q (record { top = subst (λ t. magnitude t ≤ largest) e h; bottom = subst (λ t. magnitude t ≤ largest) k l })

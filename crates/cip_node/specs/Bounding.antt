@@ -1,5 +1,5 @@
--- What the last linear program of a node leaves of it: that of its box over the rows of the program and those of the
--- pool that may be used there.
+-- What the last linear program of a node leaves of it: that of its box over the rows of the reduced program and those
+-- of the pool that may be used there.
 use Rattle.std.specs.Prelude.{◌≡◌, ℕ, ℤ, Bool, List, length, Option, None, Some, IfSome, option_map}
 use Rattle.cip_rational.specs.Rational.{ℚ}
 use Rattle.cip_problem.specs.Program.{Sides}
@@ -15,7 +15,7 @@ use Rattle.cip_node_bounds.specs.Relaxing.{node_program, IsMark, IsRelaxed}
 use Rattle.cip_node_bounds.specs.declared.relaxed.Mark.{Mark}
 use Rattle.cip_node_bounds.specs.declared.relaxed.Relaxed.{Relaxed}
 use Rattle.cip_core.specs.CoreStates.{CoreState, reduced_of, held_of, rows_lent}
-use Rattle.cip_core.specs.Steps.{IsTried}
+use Rattle.cip_core.specs.Steps.{IsTriedBack}
 use Rattle.cip_node.specs.declared.bounding.Found.{Found}
 use Rattle.cip_node.specs.declared.bounding.Bounded.{Bounded}
 use Rattle.cip_node.specs.declared.bounding.Bounded.TheVariants.{Empty, Open}
@@ -34,11 +34,12 @@ abbrev pub IsAsGood : CoreState → List Sides → Option ℚ → Option Mark �
 IsAsGood core box bound None = IsRelaxedBound (reduced_of core) (usable_rows box core.pool.rows) box bound
 IsAsGood core box bound (Some mark) = IsMarkOf core box mark
 
--- a point of the linear program of a box, which was offered; there is one, unless a mark says what was met
+-- a point of the linear program of a box, and what it comes back as was offered; there is one, unless a mark says what
+-- was met
 abbrev pub HasTried : CoreState → List Sides → Option (List ℚ) → Option Mark → Type 0
 HasTried core box None mark = ¬ (mark ≡ None)
 HasTried core box (Some point) mark =
-    IsPoint (node_program (reduced_of core) (rows_lent core) box) point × IsTried core.program (held_of core) point
+    IsPoint (node_program (reduced_of core) (rows_lent core) box) point × IsTriedBack core point
 
 -- the point that was found, if one was
 abbrev pub point_of : Found → Option (List ℚ)

@@ -6,18 +6,19 @@ use Rattle.cip_rational.specs.Rational.{ℚ}
 use Rattle.cip_problem.specs.Points.{IsFeasible}
 use Rattle.cip_problem.specs.Log.{Split, Closed, Parked, Node, AllFollow, matters}
 use Rattle.cip_cuts.specs.Improving.{HasNoImproving}
-use Rattle.cip_leaves.specs.Leaf.{Leaf, IsPointOfLeaf, IsOnlyLeafOf}
+use Rattle.cip_leaves.specs.Leaf.{Leaf, IsPointOfLeaf}
 use Rattle.cip_leaves.specs.Searched.{first_node}
 use Rattle.cip_leaves.specs.WideLeaf.{Shown}
-use Rattle.cip_leaves.specs.WideNodes.{IsWideAs}
 use Rattle.cip_leaf.specs.LeafAnswers.{shown_as}
+use Rattle.cip_search.specs.SearchState.{IsWideBack}
 use Rattle.cip_model.specs.Rays.{IsShownRay}
 use Rattle.cip_node_bounds.specs.declared.relaxed.Mark.{Mark}
 use Rattle.cip_tree.specs.Nodes.{TakenNode, region_in, box_of, shown}
-use Rattle.cip_core.specs.CoreStates.{CoreState, reduced_of, held_of, IsKeptIn}
+use Rattle.cip_core.specs.CoreStates.{CoreState, reduced_of, way_of, held_of, IsKeptIn}
 use Rattle.cip_core.specs.Later.{IsLater, IsNarrower}
 use Rattle.cip_core.specs.Steps.{LeavesEntry, IsTried}
 use Rattle.cip_node.specs.Bounding.{IsMarkOf, IsAsGood, HasTried, IsSplitBy}
+use Rattle.cip_node.specs.LeavesBack.{IsOnlyLeafBack}
 use Rattle.cip_node.specs.declared.ends.NodeEnd.{NodeEnd}
 use Rattle.cip_node.specs.declared.ends.NodeEnd.TheVariants as by
 
@@ -35,13 +36,13 @@ pub record IsEmptied (old new : CoreState) (node : TakenNode) (ended : Node) : T
   pub kept : IsKeptIn new []
   pub empty : HasNoImproving (reduced_of new) (held_of new) (box_of old.tree node)
 
--- it was closed; its box has one leaf of the program as read, which has a point, and as it was taken up none that is
--- cheaper than what is held
+-- it was closed; its box has one leaf, which comes back as a leaf of the program as read that has a point, and as it
+-- was taken up it has no point that is cheaper than what is held
 pub record IsSolvedLeaf (old new : CoreState) (node : TakenNode) (ended : Node) : Type 0 where
   pub entry : LeavesEntry old.tree new.tree ended Closed
   pub kept : IsKeptIn new []
   pub leaf : Leaf
-  pub only : IsOnlyLeafOf new.program ended leaf
+  pub there : IsOnlyLeafBack new.program (reduced_of new) new.steps ended leaf
   pub point : List ℚ
   pub is_point : IsPointOfLeaf new.program leaf point
   pub settled : HasNoImproving (reduced_of new) (held_of new) (box_of old.tree node)
@@ -49,8 +50,8 @@ pub record IsSolvedLeaf (old new : CoreState) (node : TakenNode) (ended : Node) 
 -- ---- split nodes
 
 -- its bound is below the cost held, and it was split by the rules, with a bound that is as good as that of its last
--- linear program, unless a mark says what that met; the point by which it was split is one of that program, and was
--- offered. Where that has no point, it was split by the values of another
+-- linear program, unless a mark says what that met; the point by which it was split is one of that program, and what
+-- it comes back as was offered. Where that has no point, it was split by the values of another
 pub record IsHalved
     (old new : CoreState) (ended : Node) (mark : Option Mark) (low high : ℕ) : Type 0 where
   pub column : ℕ
@@ -65,16 +66,16 @@ pub record IsHalved
 
 -- ---- leaves that can't be closed
 
--- it was put aside as a wide leaf of the program as read
+-- it was put aside: its box has one leaf, which comes back as this leaf of the program as read, and that is wide
 pub record IsAside
     (old new : CoreState) (ended : Node) (leaf : Leaf) (bound : Option ℚ) (by_this : Shown) : Type 0 where
   pub entry : LeavesEntry old.tree new.tree ended Parked
   pub kept : IsKeptIn new []
   pub bound_is : ended.bound ≡ bound
-  pub wide_as : IsWideAs new.program ended leaf by_this
+  pub wide : IsWideBack new.program (reduced_of new) (way_of new) ended leaf by_this
 
--- it was put aside, as the cost falls from a feasible point along a ray that is shown; the point was offered. The log
--- is one of the program
+-- it was put aside, as the cost falls from a feasible point of the program as read along a ray that is shown; the point
+-- was offered. The log is one of the reduced program
 pub record IsEndless (old new : CoreState) (ended : Node) (point ray : List ℚ) : Type 0 where
   pub entry : LeavesEntry old.tree new.tree ended Parked
   pub logged : AllFollow (reduced_of new).integral (first_node (reduced_of new) new.tree.root.bound ∷ []) []

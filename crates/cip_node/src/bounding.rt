@@ -5,7 +5,7 @@ ghost use Rattle.cip_cuts.specs.Improving.{IsBoundIn};
 ghost use Rattle.cip_tree.specs.Nodes.{region_of, box_of};
 ghost use Rattle.cip_core.specs.CoreStates.{reduced_of, held_of, IsAtWork};
 ghost use Rattle.cip_core.specs.Later.{IsLaterAt};
-ghost use Rattle.cip_core.specs.Steps.{IsTried};
+ghost use Rattle.cip_core.specs.Steps.{IsTriedBack};
 ghost use Rattle.cip_node.specs.Bounding.{IsRelaxedOf, IsBounded};
 ghost use Rattle.cip_node.specs.SameRows.{HasSameRows};
 
@@ -15,6 +15,7 @@ use cip_frac::Frac;
 use cip_lin::Combo;
 use cip_node_bounds::{Mark, Relaxed};
 use cip_node_rules::are_whole;
+use cip_postsolve::PostsolveFault;
 use cip_tree::Node;
 use std::alloc::{AllocError, Global};
 
@@ -39,34 +40,50 @@ pub enum Bounded {
     Open(Found),
 }
 
-/// Offers a point of a linear program, if it has whole values on whole columns.
-fn offer_whole(core: &mut Core<'_>, node: &Node, point: &[Frac])
+/// Offers what a point of a linear program comes back as, if it has whole values on whole columns; a point that doesn't
+/// come back in range is passed over. `Err` comes where memory was refused.
+fn offer_whole(
+    core: &mut Core<'_>,
+    alloc: Global,
+    node: &Node,
+    point: &[Frac],
+) -> Result<(), AllocError>
     requires at_work { IsAtWork core.old node.now }
-    requires values { length point.now ≡ columns core.old.program }
+    requires values { length point.now ≡ columns (reduced_of core.old) }
     ensures later { IsLaterAt core.old node.now core.new node.now }
-    ensures tried { IsTried core.new.program (held_of core.new) point.now }
+    ensures tried { IfOk result (λ _. IsTriedBack core.new point.now) }
     ensures region { region_of core.new.tree node.now ≡ region_of core.old.tree node.now }
     ensures frame { core.new ≡ record core.old { tree = core.new.tree; incumbent = core.new.incumbent } }
 {
     core.is_sound();
-    let program = core.program();
-    if are_whole(program.whole(), point) {
-        let _answer = core.offer(node, point);
+    let reduced = core.reduced();
+    if !are_whole(reduced.whole(), point) {
+        return Ok(());
+    }
+    match core.offer_back(alloc, node, point) {
+        Ok(_) => Ok(()),
+        Err(PostsolveFault::Wide) => Ok(()),
+        Err(PostsolveFault::NoMemory) => Err(AllocError),
     }
 }
 
-/// Offers a point, if there is one and it has whole values on whole columns.
-fn offer_if(core: &mut Core<'_>, node: &Node, point: &Option<Vec<Frac>>)
+/// Offers what a point comes back as, if there is one and it has whole values on whole columns, as `offer_whole` does.
+fn offer_if(
+    core: &mut Core<'_>,
+    alloc: Global,
+    node: &Node,
+    point: &Option<Vec<Frac>>,
+) -> Result<(), AllocError>
     requires at_work { IsAtWork core.old node.now }
-    requires values { IfSome point.now (λ values. length values.items ≡ columns core.old.program) }
+    requires values { IfSome point.now (λ values. length values.items ≡ columns (reduced_of core.old)) }
     ensures later { IsLaterAt core.old node.now core.new node.now }
-    ensures tried { IfSome point.now (λ values. IsTried core.new.program (held_of core.new) values.items) }
+    ensures tried { IfOk result (λ _. IfSome point.now (λ values. IsTriedBack core.new values.items)) }
     ensures region { region_of core.new.tree node.now ≡ region_of core.old.tree node.now }
     ensures frame { core.new ≡ record core.old { tree = core.new.tree; incumbent = core.new.incumbent } }
 {
     match point {
-        None => {}
-        Some(values) => offer_whole(core, node, values.as_slice()),
+        None => Ok(()),
+        Some(values) => offer_whole(core, alloc, node, values.as_slice()),
     }
 }
 
@@ -99,8 +116,9 @@ impl<'a> NodeWork<'a> {
         Ok(relaxed)
     }
 
-    /// Solves the linear program of a node in work: its bound rises to what that shows, also beside a mark, and a point
-    /// that is whole on whole columns is offered. `Err` comes where memory was refused; the node is in work then.
+    /// Solves the linear program of a node in work: its bound rises to what that shows, also beside a mark, and what a
+    /// point that is whole on whole columns comes back as is offered. `Err` comes where memory was refused; the node is
+    /// in work then.
     pub fn bound(&mut self, alloc: Global, node: &mut Node) -> Result<Bounded, AllocError>
         requires { IsAtWork self.old.core node.old }
         ensures later { IsLaterAt self.old.core node.old self.new.core node.new }
@@ -117,7 +135,7 @@ impl<'a> NodeWork<'a> {
                 combo,
             } => {
                 self.core.raise(node, bound);
-                offer_whole(&mut self.core, node, point.as_slice());
+                offer_whole(&mut self.core, alloc, node, point.as_slice())?;
                 Ok(Bounded::Open(Found {
                     point: Some(point),
                     combo: Some(combo),
@@ -125,7 +143,7 @@ impl<'a> NodeWork<'a> {
                 }))
             }
             Relaxed::Falls { point } => {
-                offer_whole(&mut self.core, node, point.as_slice());
+                offer_whole(&mut self.core, alloc, node, point.as_slice())?;
                 Ok(Bounded::Open(Found {
                     point: Some(point),
                     combo: None,
@@ -134,7 +152,7 @@ impl<'a> NodeWork<'a> {
             }
             Relaxed::Unsolved { mark, point, bound } => {
                 raise_if(&self.core, node, bound);
-                offer_if(&mut self.core, node, &point);
+                offer_if(&mut self.core, alloc, node, &point)?;
                 Ok(Bounded::Open(Found {
                     point,
                     combo: None,

@@ -24,16 +24,16 @@ use std::alloc::AllocError;
 /// values, if a linear program had a point. `None` exactly where no whole column has two whole values and no choice is
 /// open.
 fn place_by(core: &Core<'_>, starts: &Starts, found: &Found) -> Option<SplitPlace>
-    requires columns { length core.now.tree.work.box ≡ columns core.now.program }
+    requires columns { length core.now.tree.work.box ≡ columns (reduced_of core.now) }
     requires values { IfSome (point_of found.now) (λ values. length values ≡ length core.now.tree.work.box) }
     ensures { MatchOption result
         (IsSettledBox (reduced_of core.now).integral core.now.tree.work.box core.now.tree.work.choices)
         (λ place. IsSplitBy (reduced_of core.now).integral core.now.tree.work (point_of found.now) place.col place.at) }
 {
     core.is_sound();
-    let program = core.program();
-    let columns = program.columns();
-    let (whole, bounds, choices) = (program.whole(), core.bounds(), core.choices());
+    let reduced = core.reduced();
+    let columns = reduced.columns();
+    let (whole, bounds, choices) = (reduced.whole(), core.bounds(), core.choices());
     match &found.point {
         Some(own) => chosen_place(whole, bounds, choices, Some(own.as_slice())),
         None => chosen_place(whole, bounds, choices, starts.last_values(columns)),

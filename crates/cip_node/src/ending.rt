@@ -33,7 +33,15 @@ pub fn end_leaf(
     ensures rows { HasSameRows core.old core.new }
 {
     core.is_sound();
-    match solve_leaf(alloc, core.program(), core.bounds(), core.choices()) {
+    let (program, reduced) = (core.program(), core.reduced());
+    match solve_leaf(
+        alloc,
+        program,
+        reduced,
+        core.steps(),
+        core.bounds(),
+        core.choices(),
+    ) {
         Err(error) => {
             core.go_back(node, given);
             Err(error)

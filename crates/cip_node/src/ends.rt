@@ -10,19 +10,19 @@ pub enum NodeEnd {
     Pruned,
     /// Its box has no improving point.
     Empty,
-    /// It is a leaf with a point, and its least cost isn't below the cost held.
+    /// It is a leaf that comes back as one with a point, and its least cost isn't below the cost held.
     Solved,
     /// It was split into halves with these numbers, the low one first.
     Split(u64, u64),
-    /// It is the leaf of these whole values and choices, which is wide by what is shown, and was put aside with this
-    /// bound.
+    /// It is a leaf that comes back as that of these whole values and choices of the program as read, which is wide by
+    /// what is shown, and was put aside with this bound.
     Parked {
         leaf: Vec<Frac>,
         on: Vec<bool>,
         bound: Option<Frac>,
         shown: Shown,
     },
-    /// It was put aside: from this point of it the cost falls without end along this ray.
+    /// It was put aside: from this point of the leaf that it comes back as the cost falls without end along this ray.
     Ray {
         point: Vec<Frac>,
         ray: Vec<Frac>,

@@ -20,7 +20,7 @@ pub(crate) fn look(core: &mut Core<'_>, node: &Node) -> Result<Looked, AllocErro
         return Ok(Looked::Empty);
     }
     core.is_sound();
-    let program = core.program();
-    let _columns = program.columns();
-    Ok(look_at(program.whole(), core.bounds(), core.choices()))
+    let reduced = core.reduced();
+    let _columns = reduced.columns();
+    Ok(look_at(reduced.whole(), core.bounds(), core.choices()))
 }

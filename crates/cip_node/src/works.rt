@@ -1,8 +1,10 @@
 //! What works on nodes.
 ghost use Rattle.std.specs.Prelude.{IfOk};
+ghost use Rattle.cip_compaction.specs.PresolvedPrograms.{IsPresolved};
 ghost use Rattle.cip_core.specs.Beginning.{AreNearColumns, HasNotBegun};
 
 use crate::starts::Starts;
+use cip_compaction::Presolved;
 use cip_core::Core;
 use cip_model::Program;
 use cip_node_bounds::NodeSolver;
@@ -20,13 +22,19 @@ pub struct NodeWork<'a> {
 }
 
 impl<'a> NodeWork<'a> {
-    /// What works on the nodes of a program, before a node was taken up. The sides of whole columns have sizes of at
-    /// most 2^100. `Err` comes where memory was refused.
-    pub fn new(alloc: Global, program: &'a Program) -> Result<NodeWork<'a>, AllocError>
-        requires { AreNearColumns program.now }
-        ensures { IfOk result (λ work. HasNotBegun program.now work.core) }
+    /// What works on the nodes of the program that presolve made of one, before a node was taken up. The sides of whole
+    /// columns of the reduced program have sizes of at most 2^100. `Err` comes where memory was refused.
+    pub fn new(
+        alloc: Global,
+        program: &'a Program,
+        presolved: &'a Presolved,
+    ) -> Result<NodeWork<'a>, AllocError>
+        requires near { AreNearColumns presolved.now.reduced }
+        requires back { IsPresolved program.now presolved.now }
+        ensures { IfOk result (λ work.
+            HasNotBegun program.now presolved.now.reduced presolved.now.steps work.core) }
     {
-        let core = Core::new(alloc, program)?;
+        let core = Core::new(alloc, program, presolved)?;
         Ok(NodeWork {
             core,
             solver: NodeSolver::new(alloc),

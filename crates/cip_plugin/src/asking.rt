@@ -27,7 +27,7 @@ pub enum Question<'a> {
 }
 
 /// What a plugin gives.
-#[derive(Debug, Drop)]
+#[derive(Drop)]
 pub enum Given {
     /// Cuts.
     Cuts(Vec<Cut>),

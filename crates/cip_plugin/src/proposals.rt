@@ -4,7 +4,7 @@ use cip_frac::Frac;
 use cip_lin::{Combo, Side};
 
 /// A row that a combination implies; or a split, where there is one, and the combination counts for nothing.
-#[derive(Debug, Drop)]
+#[derive(Drop)]
 pub struct Cut {
     /// The combination.
     pub combo: Combo,
@@ -17,7 +17,7 @@ pub struct Cut {
 }
 
 /// A side of a column that a combination implies in the node's box.
-#[derive(Debug, Drop)]
+#[derive(Drop)]
 pub struct Reduction {
     /// The column.
     pub col: u32,
@@ -30,7 +30,7 @@ pub struct Reduction {
 }
 
 /// A point of the reduced program.
-#[derive(Debug, Drop)]
+#[derive(Drop)]
 pub struct Guess {
     /// A value for each column.
     pub values: Vec<Frac>,
@@ -46,7 +46,7 @@ pub struct Split {
 }
 
 /// What a handler answers about the point of the last linear program.
-#[derive(Debug, Drop)]
+#[derive(Drop)]
 pub enum Enforced {
     /// The node has no improving point, by this combination.
     Cutoff(Combo),
@@ -63,7 +63,7 @@ pub enum Enforced {
 }
 
 /// What the search judges.
-#[derive(Debug, Drop)]
+#[derive(Drop)]
 pub enum Proposal {
     /// A separator's or a handler's cut.
     Cut(Cut),

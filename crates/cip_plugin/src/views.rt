@@ -17,7 +17,7 @@ pub struct View<'a> {
     pub own: &'a [Row],
     /// The rows of the pool, by rising id.
     pub pool: &'a [PoolRow],
-    /// The cutoff row, where a cost is held.
+    /// The cutoff row; before a cost is held it has no side.
     pub cutoff: &'a Option<Row>,
     /// Whether each column is whole.
     pub whole: &'a [bool],

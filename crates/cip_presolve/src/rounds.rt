@@ -2,14 +2,14 @@
 ghost use Rattle.std.specs.Prelude.{IfOk, length, ◌<◌, ◌≤◌, ◌≡◌};
 ghost use Rattle.cip_problem.specs.Limits.{most_rows};
 ghost use Rattle.cip_reductions.specs.NarrowedPrograms.{IsStep, IsExactStep};
-ghost use Rattle.cip_global_steps.specs.FreeColumns.{RowsFree};
 ghost use Rattle.cip_presolve.specs.RoundEnds.{RoundEndsRightly};
 
 use crate::keys::sorted_keys;
 use crate::queues::Work;
 use crate::row_looks::{Place, RoundEnd, look_at, merge_pair};
 use crate::substituting::substitute_all;
-use cip_global_steps::{free_columns, try_move};
+use cip_global_steps::try_moves;
+use cip_leaving::forms_out;
 use cip_steps::{Draft, Outcome};
 use std::alloc::{AllocError, Global};
 
@@ -122,29 +122,16 @@ pub(crate) fn reduce_exactly(alloc: Global, draft: &mut Draft) -> Result<RoundEn
     settle(alloc, draft, &mut work)
 }
 
-/// Moves a column that no row holds; its rows wait from then on. `Err` comes where a growth was refused.
-#[tactic(auto, using(crate::proofs::Chained::dual_chains))]
-fn move_column(
-    draft: &mut Draft,
-    column: u32,
-    free: &[bool],
-    rising: bool,
-    work: &mut Work,
-) -> Result<(), AllocError>
-    requires inside { column < length draft.old.bounds }
-    requires free { RowsFree rising free.now draft.old.rows }
-    ensures step { IsStep draft.old draft.new }
-    ensures rows { draft.new.rows ≡ draft.old.rows }
-    ensures columns { length draft.new.bounds ≡ length draft.old.bounds }
-{
-    match try_move(draft, column, free, rising) {
-        Outcome::Tightened(moved) => work.column_changed(moved),
-        _ => Ok(()),
+/// The rows of columns that were moved wait from now on. `Err` comes where a growth was refused.
+fn tell_moved(work: &mut Work, moved: &[u32]) -> Result<(), AllocError> {
+    for column in moved {
+        work.column_changed(*column)?;
     }
+    Ok(())
 }
 
-/// Moves the columns that no row keeps from rising, or from falling, to where they cost least; their rows wait from
-/// then on. `Err` comes where a growth was refused.
+/// Moves the columns that no row keeps from rising, or from falling, to where they cost least, with those that follow
+/// them; their rows wait from then on. `Err` comes where a growth was refused.
 #[tactic(auto, using(crate::proofs::Chained::dual_chains))]
 fn move_columns(
     alloc: Global,
@@ -155,12 +142,9 @@ fn move_columns(
     ensures step { IsStep draft.old draft.new }
     ensures rows { draft.new.rows ≡ draft.old.rows }
 {
-    let columns = draft.bounds().len();
-    let free = free_columns(alloc, draft.rows(), columns, rising)?;
-    for column in 0..columns {
-        move_column(draft, column as u32, free.as_slice(), rising, work)?;
-    }
-    Ok(())
+    let forms = forms_out(alloc, draft, true)?;
+    let moved = try_moves(alloc, draft, forms.as_slice(), rising)?;
+    tell_moved(work, moved.as_slice())
 }
 
 /// Moves the columns that no row holds: those that may fall, and then those that may rise. `Err` comes where a growth

@@ -43,16 +43,29 @@ fn found_for(draft: &Draft, row: u32, column: u32) -> Option<Substitution>
     Some(Substitution { row, column, form })
 }
 
-/// The substitution by a row: of its first column, or else of the second one; `None` where it gives neither.
-fn found_by(draft: &Draft, row: u32) -> Option<Substitution>
+/// Two columns of a row, the one first that may stand in fewer rows.
+fn fewer_first(work: &Work, first: u32, second: u32) -> (u32, u32) {
+    if work.count_of(second) < work.count_of(first) {
+        (second, first)
+    } else {
+        (first, second)
+    }
+}
+
+/// The substitution by a row: of the column that stands in fewer rows, or else of the other one; `None` where it gives
+/// neither.
+fn found_by(draft: &Draft, row: u32, work: &Work) -> Option<Substitution>
     requires { row < length draft.now.rows }
     ensures { IfSome result (IsFound draft.now) }
 {
     match draft.row(row as usize).terms() {
-        [first, second] => match found_for(draft, row, first.col) {
-            Some(found) => Some(found),
-            None => found_for(draft, row, second.col),
-        },
+        [first, second] => {
+            let (own, other) = fewer_first(work, first.col, second.col);
+            match found_for(draft, row, own) {
+                Some(found) => Some(found),
+                None => found_for(draft, row, other),
+            }
+        }
         _ => None,
     }
 }
@@ -192,7 +205,7 @@ fn substitute_by(
     if work.is_used(row) {
         return Ok(RoundEnd::Open);
     }
-    match found_by(draft, row) {
+    match found_by(draft, row, work) {
         Some(found) => {
             work.mark_used(row);
             substitute(alloc, draft, &found, work)

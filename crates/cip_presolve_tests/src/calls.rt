@@ -96,13 +96,14 @@ const CASES: &[Case] = &[
         },
     },
     // for whole x and y, y is 2x + 3, which is from 3 to 9 as x + y <= 9 says, so x is at most 3; y leaves that row,
-    // which then says 3x <= 6, and the cost 4x - y, which is 2x - 3; at last it leaves with its equality
+    // which then says 3x <= 6, and the cost 4x - y, which is 2x - 3; the equality alone has both, so x goes to 0, and y
+    // with it to 3
     Case {
         text: "ROWS\n N COST\n E R\n L S\nCOLUMNS\n M 'MARKER' 'INTORG'\n x COST 4 R 2\n x S 1\n\
             \x20y COST -1 R -1\n y S 1\nRHS\n RHS R -3 S 9\nBOUNDS\n UI B x 5\n UI B y 20\nENDATA\n",
         any: Kind::Left {
             rows: 0,
-            columns: 1,
+            columns: 0,
             point: &[0, 3],
             wholes: &[0, 3],
         },
@@ -113,15 +114,15 @@ const CASES: &[Case] = &[
             wholes: &[0, 0],
         },
     },
-    // x is 2y - 2, so y is from 1 to 5/2, and x + 2z <= 4 says 2y + 2z <= 6; no column moves, as each costs less the
-    // greater it is
+    // y is x / 2 + 1, which is from 0 to 9 wherever x is from 0 to 3; it stands in no other row and costs nothing, so
+    // it leaves with the equality; no column moves, as each costs less the greater it is
     Case {
         text: "ROWS\n N COST\n E R\n L S\nCOLUMNS\n x COST -1 R 1\n x S 1\n y R -2\n z COST -3 S 2\n\
             RHS\n RHS R -2 S 4\nBOUNDS\n UP B x 3\n UP B y 9\n UP B z 7\nENDATA\n",
         any: Kind::Left {
             rows: 1,
             columns: 2,
-            point: &[-2, 0, 0],
+            point: &[0, 1, 0],
             wholes: &[],
         },
         all: Kind::Left {

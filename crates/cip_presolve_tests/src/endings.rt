@@ -1,5 +1,6 @@
 //! What searches of programs end with.
 use crate::programs::has_near_columns;
+use cip_compaction::Presolved;
 use cip_frac::Frac;
 use cip_model::Program;
 use cip_report::{Answer, Ended, Held};
@@ -24,9 +25,12 @@ fn ending_of(answer: &Answer) -> Ending {
     }
 }
 
-/// What a search of a program ends with, and what it holds then; nothing where a side is too far.
+/// What a search of a program by itself ends with, and what it holds then; nothing where a side is too far.
 pub(crate) fn searched(alloc: Global, program: &Program) -> (Ending, Option<Held>) {
-    if !has_near_columns(program) {
+    let Ok(same) = Presolved::same(alloc, program) else {
+        return (Ending::Other, None);
+    };
+    if !has_near_columns(&same.reduced) {
         return (Ending::Other, None);
     }
     let options = Options {
@@ -35,6 +39,13 @@ pub(crate) fn searched(alloc: Global, program: &Program) -> (Ending, Option<Held
         plain: true,
         trace: false,
     };
-    let answer = solve_by(alloc, program, &options, &mut Alone, &mut Log::new(alloc));
+    let answer = solve_by(
+        alloc,
+        program,
+        &same,
+        &options,
+        &mut Alone,
+        &mut Log::new(alloc),
+    );
     (ending_of(&answer), answer.best)
 }

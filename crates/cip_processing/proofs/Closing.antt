@@ -9,7 +9,7 @@ use Rattle.cip_cuts.specs.Improving.{HasNoImproving}
 use Rattle.cip_domain.specs.Changes.{Region}
 use Rattle.cip_node_bounds.specs.declared.relaxed.Mark.{Mark}
 use Rattle.cip_rows.specs.RowPools.{Pool}
-use Rattle.cip_tree.specs.Nodes.{TakenNode, Nodes, region_of, box_of, shown}
+use Rattle.cip_tree.specs.Nodes.{TakenNode, Nodes, box_of, shown}
 use Rattle.cip_core.specs.CoreStates.{CoreState, reduced_of, held_of, IsTakenUp, IsGivenBound}
 use Rattle.cip_core.specs.Later.{IsLater, IsLaterAt}
 use Rattle.cip_core.specs.Steps.{HasLeft, IsBack, aged}
@@ -17,7 +17,7 @@ use Rattle.cip_core.proofs.CoreSteps.{with_tree}
 use Rattle.cip_core.proofs.Relations.{later_further, narrower_itself, narrower_further}
 use Rattle.cip_leaves.specs.Searched.{nodes_given}
 use Rattle.cip_problem.specs.Log.{node_of}
-use Rattle.cip_node.specs.Bounding.{IsMarkOf, IsAsGood, point_of, IsFound}
+use Rattle.cip_node.specs.Bounding.{IsMarkOf, IsAsGood, point_of}
 use Rattle.cip_node.specs.NodeEnds.{HasEnded}
 use Rattle.cip_node.specs.declared.bounding.Found.{Found}
 use Rattle.cip_node.specs.declared.ends.NodeEnd.{NodeEnd}
@@ -61,7 +61,7 @@ moved_further old mid new had node has h k = record {
 pub given_moved : (old new : CoreState) (had has : TakenNode) (bound : Option ℚ) → HasMoved old had new has → IsGivenBound old had.number bound → IsGivenBound new has.number bound
 given_moved old new had has bound l h = λ given e.
     let same : nodes_given (reduced_of new) new.tree.root.bound new.tree.log ≡ nodes_given (reduced_of old) old.tree.root.bound old.tree.log =
-    ap (λ p. nodes_given p new.tree.root.bound new.tree.log) l.later.program
+    ap (λ p. nodes_given p new.tree.root.bound new.tree.log) l.later.reduced
     ∙ ap (λ (r : Node). nodes_given (reduced_of old) r.bound new.tree.log) l.later.root
     ∙ ap (nodes_given (reduced_of old) old.tree.root.bound) l.log in
     h given (sym (ap (λ ns. node_of ns has.number) same ∙ ap (node_of (nodes_given (reduced_of old) old.tree.root.bound old.tree.log)) l.narrower.number) ∙ e)
@@ -151,7 +151,7 @@ later_done old new node bound (Err error) h = h.later
 
 pub aged_further : (old mid new : CoreState) (a b c : State) (first second : Scratches) (some room : Room) → HasAged old a mid first b some → IsLater mid new → new.pool ≡ mid.pool → second ≡ first → IsSound c room → Ran b c → HasAged old a new second c room
 aged_further old mid new a b c first second some room h later pool same sound run = record {
-  space = subst (λ (p : Program). HaveRoom second (columns p)) (sym later.program) (subst (λ (t : Scratches). HaveRoom t (columns (reduced_of mid))) (sym same) h.space);
+  space = subst (λ (p : Program). HaveRoom second (columns p)) (sym later.reduced) (subst (λ (t : Scratches). HaveRoom t (columns (reduced_of mid))) (sym same) h.space);
   sound = sound;
   run = record { steps = h.run.steps ++ run.steps; run = Runs-append h.run.steps run.steps a b c h.run.run run.run };
   rows = subst (HasMoreRows (aged old.pool)) (sym pool) h.rows;

@@ -1,19 +1,18 @@
 -- Steps of a node in work, beside which plugins are asked, one after the other.
-use Rattle.std.proofs.Common.{◌≡◌, [], refl, sym, ap, ◌∙◌, subst}
+use Rattle.std.proofs.Common.{◌≡◌, [], refl, sym, subst}
 use Rattle.cip_problem.specs.Program.{Program}
 use Rattle.cip_problem.specs.WellFormed.{columns}
-use Rattle.cip_rows.specs.RowPools.{Pool}
 use Rattle.cip_seats.specs.Seats.{State}
 use Rattle.cip_roster.specs.KeptRankings.{Room}
 use Rattle.cip_roster.specs.Turns.{IsSound}
 use Rattle.cip_roster.specs.Wished.{Ran}
-use Rattle.cip_tree.specs.Nodes.{TakenNode, region_of}
+use Rattle.cip_tree.specs.Nodes.{TakenNode}
 use Rattle.cip_core.specs.CoreStates.{CoreState, reduced_of}
 use Rattle.cip_core.specs.Later.{IsLaterAt}
 use Rattle.cip_core.proofs.Relations.{later_at_itself}
 use Rattle.cip_judge.specs.ProposalsJudged.{HaveRoom}
 use Rattle.cip_judge.specs.declared.scratches.Scratches.{Scratches}
-use Rattle.cip_calls.specs.Noted.{IsReady, HasMoreRows, IsSameNode, HasCome}
+use Rattle.cip_calls.specs.Noted.{IsReady, HasCome}
 use Rattle.cip_calls.proofs.Pools.{more_none, more_same}
 
 pub ran_none : (a : State) → Ran a a
@@ -25,7 +24,7 @@ come_silent state room x y old new had has first second e s l p ready sound = re
   later = l;
   ready = record {
     at_work = l.at_work;
-    room = subst (λ (q : Program). HaveRoom second (columns q)) (sym l.later.program) (subst (λ (t : Scratches). HaveRoom t (columns (reduced_of old))) (sym s) ready.room);
+    room = subst (λ (q : Program). HaveRoom second (columns q)) (sym l.later.reduced) (subst (λ (t : Scratches). HaveRoom t (columns (reduced_of old))) (sym s) ready.room);
   };
   sound = subst (λ z. IsSound (state z) (room z)) (sym e) sound;
   rows = more_same old.pool new.pool p;

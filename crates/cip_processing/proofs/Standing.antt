@@ -5,17 +5,17 @@ use Rattle.cip_rational.specs.Rational.{ℚ}
 use Rattle.cip_problem.specs.Program.{Sides, Program}
 use Rattle.cip_problem.specs.WellFormed.{columns, IsWellFormed}
 use Rattle.cip_linear.specs.LinearProgram.{IsPoint}
-use Rattle.cip_cuts.specs.Improving.{IsNoDearer}
 use Rattle.cip_search.specs.Relaxation.{IsRelaxedBound}
 use Rattle.cip_domain.specs.Changes.{Region}
 use Rattle.cip_rows.specs.RowPools.{Pool}
-use Rattle.cip_tree.specs.Nodes.{TakenNode, region_of, box_of}
+use Rattle.cip_tree.specs.Nodes.{TakenNode, box_of}
 use Rattle.cip_node_bounds.specs.NodeRows.{usable_rows}
 use Rattle.cip_node_bounds.specs.Relaxing.{node_program, IsMark}
 use Rattle.cip_node_bounds.specs.declared.relaxed.Mark.{Mark}
 use Rattle.cip_core.specs.CoreStates.{CoreState, reduced_of, held_of, rows_lent, IsAtWork}
-use Rattle.cip_core.specs.Later.{IsLaterAt}
-use Rattle.cip_core.specs.Steps.{IsTried}
+use Rattle.cip_postsolve.specs.StepsBack.{StepsTaken, point_back, FitsBack}
+use Rattle.cip_core.specs.Later.{IsLater, IsLaterAt}
+use Rattle.cip_core.specs.Steps.{IsTried, IsTriedBack}
 use Rattle.cip_core.proofs.CoreSteps.{work_long}
 use Rattle.cip_core.proofs.Relations.{no_dearer_trans}
 use Rattle.cip_node.specs.Bounding.{IsAsGood, HasTried, point_of, IsFound}
@@ -30,33 +30,37 @@ use Rattle.cip_calls.specs.declared.judging.Came.{Came}
 use Rattle.cip_calls.specs.declared.judging.Came.TheVariants as came
 use Rattle.cip_processing.specs.NodesReached.{IsFoundAt, IsFoundBy, IsSeen}
 
-module _ (old new : CoreState) (program : new.program ≡ old.program) (pool : new.pool ≡ old.pool) (box : List Sides) where
+module _ (old new : CoreState) (later : IsLater old new) (pool : new.pool ≡ old.pool) (box : List Sides) where
   good_later : (bound : Option ℚ) (mark : Option Mark) → IsAsGood old box bound mark → IsAsGood new box bound mark
   good_later bound None h =
-      subst (λ (p : Program). IsRelaxedBound p (usable_rows box new.pool.rows) box bound) (sym program)
+      subst (λ (p : Program). IsRelaxedBound p (usable_rows box new.pool.rows) box bound) (sym later.reduced)
       (subst (λ (q : Pool). IsRelaxedBound (reduced_of old) (usable_rows box q.rows) box bound) (sym pool) h)
   good_later bound (Some mark) h =
-      subst (λ (p : Program). IsMark p (record { own = p.rows; pool = new.pool.rows; cutoff = None }) box (columns p) mark) (sym program)
+      subst (λ (p : Program). IsMark p (record { own = p.rows; pool = new.pool.rows; cutoff = None }) box (columns p) mark) (sym later.reduced)
       (subst (λ (q : Pool). IsMark (reduced_of old) (record { own = (reduced_of old).rows; pool = q.rows; cutoff = None }) box (columns (reduced_of old)) mark) (sym pool) h)
 
   point_later : (point : List ℚ) → IsPoint (node_program (reduced_of old) (rows_lent old) box) point → IsPoint (node_program (reduced_of new) (rows_lent new) box) point
   point_later point h =
-      subst (λ (p : Program). IsPoint (node_program p (record { own = p.rows; pool = new.pool.rows; cutoff = None }) box) point) (sym program)
+      subst (λ (p : Program). IsPoint (node_program p (record { own = p.rows; pool = new.pool.rows; cutoff = None }) box) point) (sym later.reduced)
       (subst (λ (q : Pool). IsPoint (node_program (reduced_of old) (record { own = (reduced_of old).rows; pool = q.rows; cutoff = None }) box) point) (sym pool) h)
 
-  tried_later : (point : Option (List ℚ)) (mark : Option Mark) → IsNoDearer (held_of new) (held_of old) → HasTried old box point mark → HasTried new box point mark
-  tried_later None mark less h = h
-  tried_later (Some point) mark less h = (
-    point_later point h.0,
-    λ cost e. no_dearer_trans (held_of new) (held_of old) (Some cost) less
-        (subst (λ (p : Program). IsTried p (held_of old) point) (sym program) h.1 cost e),
-  )
+  back_later : (point : List ℚ) → IsTriedBack old point → IsTriedBack new point
+  back_later point h = λ fits cost e.
+      let fitted : FitsBack old.steps point = subst (λ (s : StepsTaken). FitsBack s point) later.steps fits in
+      let tried : IsTried new.program (held_of old) (point_back new.steps point) =
+      subst (λ (p : Program). IsTried p (held_of old) (point_back new.steps point)) (sym later.program)
+      (subst (λ (s : StepsTaken). IsTried old.program (held_of old) (point_back s point)) (sym later.steps) (h fitted)) in
+      no_dearer_trans (held_of new) (held_of old) (Some cost) later.no_dearer (tried cost e)
 
-  pub found_later : (bound : Option ℚ) (found : Found) → IsNoDearer (held_of new) (held_of old) → IsFound old box bound found → IsFound new box bound found
-  found_later bound found less h = record {
+  tried_later : (point : Option (List ℚ)) (mark : Option Mark) → HasTried old box point mark → HasTried new box point mark
+  tried_later None mark h = h
+  tried_later (Some point) mark h = (point_later point h.0, back_later point h.1)
+
+  pub found_later : (bound : Option ℚ) (found : Found) → IsFound old box bound found → IsFound new box bound found
+  found_later bound found h = record {
     long = h.long;
     good = good_later bound found.mark h.good;
-    tried = tried_later (point_of found) found.mark less h.tried;
+    tried = tried_later (point_of found) found.mark h.tried;
   }
 
 -- the node and the pool are as they were
@@ -65,7 +69,7 @@ found_stays old new had has found l pool same h =
     let box : box_of new.tree has ≡ box_of old.tree had = ap (λ (r : Region). r.box) same.region in
     subst (λ b. IsFound new b has.bound found) (sym box)
     (subst (λ (n : TakenNode). IsFound new (box_of old.tree had) n.bound found) (sym same.node)
-    (found_later old new l.later.program pool (box_of old.tree had) had.bound found l.later.no_dearer h))
+    (found_later old new l.later pool (box_of old.tree had) had.bound found h))
 
 pub open_stays : (old new : CoreState) (had has : TakenNode) → IsLaterAt old had new has → IsSameNode old new had has → IsOpenNode old had → IsOpenNode new has
 open_stays old new had has l same h = open_after old new had has l same.region h
@@ -75,7 +79,7 @@ some_map None f Q h = tt
 some_map (Some a) f Q h = h
 
 -- the point that was found has a value for each column
-pub found_long : (core : CoreState) (node : TakenNode) (found : Found) → IsWellFormed core.program → IsAtWork core node → IsFoundAt core node found → IfSome (point_of found) (λ values. length values ≡ columns core.program)
+pub found_long : (core : CoreState) (node : TakenNode) (found : Found) → IsWellFormed (reduced_of core) → IsAtWork core node → IsFoundAt core node found → IfSome (point_of found) (λ values. length values ≡ columns (reduced_of core))
 found_long core node found formed at_work h =
     subst (λ (n : ℕ). IfSome (point_of found) (λ values. length values ≡ n))
     (sym (ap (λ (r : Region). length r.box) at_work.region) ∙ work_long core node formed at_work) h.long

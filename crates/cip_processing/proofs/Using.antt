@@ -1,5 +1,5 @@
 -- Plugins are used by one part of the work on a node and the next.
-use Rattle.std.proofs.Common.{◌≡◌, ◌≢◌, ℕ, ◌+◌, List, [], ◌∷◌, ◌++◌, map, All, Bool, true, false, Option, None, Some, Result, Ok, Err, refl, sym, ap, subst, arith}
+use Rattle.std.proofs.Common.{◌≡◌, ℕ, List, [], ◌∷◌, ◌++◌, All, Bool, true, false, Option, None, Some, Result, Ok, Err, refl, sym, subst, arith}
 use Rattle.std.specs.Prelude.{IfOk, OnOk}
 use Rattle.cip_events.specs.Events.{event_at}
 use Rattle.cip_events.specs.declared.events.EventKind.TheVariants.{NodeFocused}

@@ -32,7 +32,8 @@ use Rattle.cip_processing.specs.declared.reached.Reached.TheVariants as stage
 -- ---- ends
 
 -- it was split where a plugin wanted it, with a bound that is as good as that of its last linear program, unless a mark
--- says what that met; the point of that program, if it has one, was offered. The box of each is the node's as it ended
+-- says what that met; what the point of that program comes back as, if it has one and comes back in range, was offered.
+-- The box of each is the node's as it ended
 pub record HasParted (old new : CoreState) (node : TakenNode) (mark : Option Mark) (end : NodeEnd) : Type 0 where
   pub ended : Node
   pub narrower : IsNarrower new (shown old.tree node) ended

@@ -23,7 +23,7 @@ fn look_again(core: &Core<'_>, node: &Node) -> Looked
 {
     let _ = node;
     core.is_sound();
-    let program = core.program();
+    let program = core.reduced();
     let _columns = program.columns();
     look_at(program.whole(), core.bounds(), core.choices())
 }
@@ -45,7 +45,7 @@ pub(crate) fn narrow<R: Asks>(
         plugins.old.judged.items (R.state plugins.new.roster) plugins.new.judged.items) }
     ensures seen { IfOk result (IsSeen work.new.core node.new) }
 {
-    let columns = work.core.program().columns();
+    let columns = work.core.reduced().columns();
     let last = last_kept(&work.starts, columns);
     match plugins.propagate(alloc, &mut work.core, node, last)? {
         Came::Emptied => Ok(Looked::Empty),

@@ -20,8 +20,8 @@ use std::alloc::{AllocError, Global};
 const MOST_ROUNDS: u32 = 20;
 
 /// Solves the linear program of a node in work, from where its last one ended; this waits to be told, if it is given,
-/// and behind it that its point was taken, or that it is feasible and no cheaper than the point held. `Err` comes where
-/// memory was refused.
+/// and behind it that what its point comes back as was taken, or that this is feasible and no cheaper than the point
+/// held. `Err` comes where memory was refused.
 fn solve_lp<R: Asks>(
     alloc: Global,
     work: &mut NodeWork<'_>,
@@ -41,7 +41,7 @@ fn solve_lp<R: Asks>(
     let before = work.core.held_cost();
     let bounded = work.bound(alloc, node)?;
     let is_silent = plugins.roster.has_none();
-    let offered = offered_kind(&work.core, node, before, &bounded, is_silent);
+    let offered = offered_kind(alloc, &work.core, node, before, &bounded, is_silent)?;
     queue_both(plugins, node.id(), solved, offered)?;
     Ok(bounded)
 }

@@ -3,7 +3,7 @@ ghost use Rattle.std.specs.Prelude.{◌≡◌, [], length, IfSome, OnOk};
 ghost use Rattle.cip_problem.specs.WellFormed.{columns};
 ghost use Rattle.cip_roster.specs.Turns.{IsSound};
 ghost use Rattle.cip_roster.specs.Wished.{Ran};
-ghost use Rattle.cip_core.specs.CoreStates.{IsAtWork};
+ghost use Rattle.cip_core.specs.CoreStates.{reduced_of, IsAtWork};
 ghost use Rattle.cip_node.specs.Bounding.{IsBounded};
 ghost use Rattle.cip_calls.specs.Noted.{IsReady, HasCome};
 ghost use Rattle.cip_calls.specs.Served.{Used};
@@ -15,6 +15,7 @@ use cip_events::EventKind;
 use cip_frac::Frac;
 use cip_model::Verdict;
 use cip_node::{Bounded, Found, NodeEnd, Starts};
+use cip_postsolve::{PostsolveFault, postsolve};
 use cip_tree::Node;
 use std::alloc::{AllocError, Global};
 
@@ -42,51 +43,67 @@ pub(crate) fn last_kept(starts: &Starts, columns: usize) -> Last<'_> {
     }
 }
 
-/// What is told of a point that was offered and not taken: that it is no cheaper than the point held, if it is
-/// feasible.
-fn told_of(core: &Core<'_>, point: &[Frac]) -> Option<EventKind>
-    requires { length point.now ≡ columns core.now.program }
-{
-    match core.program().check(point) {
+/// What is told of a point that was offered and not taken, by its test: that it is no cheaper than the point held, if
+/// it is feasible.
+fn poor_kind(verdict: Verdict) -> Option<EventKind> {
+    match verdict {
         Verdict::Feasible(_) => Some(EventKind::PoorSolFound),
         _ => None,
     }
 }
 
-/// So it is of a point, if there is one.
-fn told_if(core: &Core<'_>, point: &Option<Vec<Frac>>) -> Option<EventKind>
-    requires { IfSome point.now (λ values. length values.items ≡ columns core.now.program) }
+/// What is told of a point of the reduced program that was offered and not taken, by the test of what it comes back as;
+/// nothing, where a number on the way back isn't in range. `Err` comes where memory was refused.
+fn told_of(alloc: Global, core: &Core<'_>, point: &[Frac]) -> Result<Option<EventKind>, AllocError>
+    requires { length point.now ≡ columns (reduced_of core.now) }
 {
-    match point {
-        None => None,
-        Some(values) => told_of(core, values.as_slice()),
+    core.is_sound();
+    match postsolve(alloc, core.steps(), point) {
+        Ok(values) => Ok(poor_kind(core.program().check(values.as_slice()))),
+        Err(PostsolveFault::Wide) => Ok(None),
+        Err(PostsolveFault::NoMemory) => Err(AllocError),
     }
 }
 
-/// What is told of the point of the linear program of a node in work, which was offered if it was feasible, where the
-/// cost held was this before: that it was taken, or that it is no cheaper than the point held. Nothing, where nobody is
-/// to be told.
+/// So it is of a point, if there is one.
+fn told_if(
+    alloc: Global,
+    core: &Core<'_>,
+    point: &Option<Vec<Frac>>,
+) -> Result<Option<EventKind>, AllocError>
+    requires { IfSome point.now (λ values. length values.items ≡ columns (reduced_of core.now)) }
+{
+    match point {
+        None => Ok(None),
+        Some(values) => told_of(alloc, core, values.as_slice()),
+    }
+}
+
+/// What is told of the point of the linear program of a node in work, a point of the reduced program, which was offered
+/// if it was whole, where the cost held was this before: that what it comes back as was taken, or that this is feasible
+/// and no cheaper than the point held. Nothing, where nobody is to be told. `Err` comes where memory was refused.
 pub(crate) fn offered_kind(
+    alloc: Global,
     core: &Core<'_>,
     node: &Node,
     before: Option<Frac>,
     bounded: &Bounded,
     is_silent: bool,
-) -> Option<EventKind>
+) -> Result<Option<EventKind>, AllocError>
     requires at_work { IsAtWork core.now node.now }
     requires bounded { IsBounded core.now node.now bounded.now }
 {
     let _ = node;
     if is_silent {
-        return None;
+        return Ok(None);
     }
     if core.held_cost() != before {
-        return Some(EventKind::BestSolFound);
+        return Ok(Some(EventKind::BestSolFound));
     }
     core.is_sound();
     match bounded {
-        Bounded::Empty => None,
-        Bounded::Open(found) => told_if(core, &found.point),
+        Bounded::Empty => Ok(None),
+        Bounded::Open(found) => told_if(alloc, core, &found.point),
     }
 }
 

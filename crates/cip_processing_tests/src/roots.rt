@@ -10,6 +10,7 @@ use crate::fakes::{Lent, add, empty_kit};
 use crate::programs::{has_near_columns, program_of};
 use cip_calls::Plugins;
 use cip_cert::CutFault;
+use cip_compaction::Presolved;
 use cip_core::Core;
 use cip_events::{TraceLine, Word};
 use cip_frac::Frac;
@@ -241,11 +242,12 @@ fn is_begun(
 ) -> Result<bool, AllocError>
     requires few { length kit.old.start.items + length kit.old.shelf.items < 2 ^ 32 }
 {
-    if !has_near_columns(program) {
+    let presolved = Presolved::same(alloc, program)?;
+    if !has_near_columns(&presolved.reduced) {
         return Ok(false);
     }
-    let scratches = Scratches::new(alloc, program)?;
-    let mut work = NodeWork::new(alloc, program)?;
+    let scratches = Scratches::new(alloc, &presolved.reduced)?;
+    let mut work = NodeWork::new(alloc, program, &presolved)?;
     is_asked(alloc, &mut work, scratches, kit, view, case)
 }
 

@@ -9,6 +9,7 @@ ghost use Rattle.cip_judge.specs.ProposalsJudged.{HaveRoom};
 
 use crate::programs::{TWO_COLUMNS, has_near_columns, program_of};
 use cip_calls::{Asks, Plugins, Round, Turn};
+use cip_compaction::Presolved;
 use cip_core::Core;
 use cip_events::{EventQueue, TraceLine};
 use cip_judge::Scratches;
@@ -139,13 +140,16 @@ fn comes_to(
 }
 
 fn is_starved(alloc: Global, program: &Program, left: u32) -> bool {
-    if !has_near_columns(program) {
-        return false;
-    }
-    let Ok(scratches) = Scratches::new(alloc, program) else {
+    let Ok(presolved) = Presolved::same(alloc, program) else {
         return false;
     };
-    let Ok(mut work) = NodeWork::new(alloc, program) else {
+    if !has_near_columns(&presolved.reduced) {
+        return false;
+    }
+    let Ok(scratches) = Scratches::new(alloc, &presolved.reduced) else {
+        return false;
+    };
+    let Ok(mut work) = NodeWork::new(alloc, program, &presolved) else {
         return false;
     };
     let mut plugins = Plugins::new(alloc, scratches, Starved { left });

@@ -1,6 +1,6 @@
 -- A compacted program and the program that it was are an exact pair.
 use borrow.Author.Differences.{le_out}
-use Rattle.std.proofs.Common.{◌≡◌, ◌⊎◌, ℕ, zero, suc, ◌*◌, ◌≤◌, ℤ, Bool, true, false, List, [], ◌∷◌, length, Option, None, Some, slice_get, refl, sym, ap, ◌∙◌, subst, arith, inl, inr, true≢false, add-mul}
+use Rattle.std.proofs.Common.{◌≡◌, ◌⊎◌, ℕ, zero, suc, ◌*◌, ◌<◌, ◌≤◌, ℤ, Bool, true, false, List, [], ◌∷◌, length, Option, None, Some, slice_get, refl, sym, ap, ◌∙◌, subst, arith, inl, inr, true≢false, add-mul}
 use Rattle.std.proofs.lemmas.Option.{none-some, same_Some, slice_get_within, slice_get-get_or, slice_get_past}
 use Rattle.cip_rational.specs.Rational.{ℚ, ◌+ℚ◌, ◌*ℚ◌, zeroℚ, oneℚ, integer, floor, ceil}
 use Rattle.cip_rational.specs.Sums.{dot}
@@ -10,7 +10,7 @@ use Rattle.cip_rational.proofs.Rational.Whole.{IsWhole-zero, IsWhole-one}
 use Rattle.cip_problem.specs.Program.{Sides, Choice, Plain, Open, Off, On, Program}
 use Rattle.cip_problem.specs.WellFormed.{IsWellFormed, IsChoice}
 use Rattle.cip_problem.specs.Activity.{value_at}
-use Rattle.cip_problem.specs.Box.{Between, IsInBox, sides_at, sides_inside}
+use Rattle.cip_problem.specs.Box.{Between, IsInBox, no_sides, sides_at, sides_inside}
 use Rattle.cip_problem.specs.Points.{AreWhole, IsFeasible, cost_of}
 use Rattle.cip_problem.specs.Choices.{choice_at, KeepsChoices, is_open}
 use Rattle.cip_problem.specs.Wholes.{wholes_between, times, assignments, AtMost, HasWhole}
@@ -60,13 +60,27 @@ fewer_gathered (Some g ∷ forms) (false ∷ ws) (s ∷ ss) e l f = fewer_gather
 
 -- ---- sides and whole values
 
-sides_kept : (forms : List (Option Form)) (integral : List Bool) (box : List Sides) (number : ℕ) → length integral ≡ length box → slice_get (gathered forms integral) number ≡ Some true → sides_at (gathered forms box) number ≡ sides_at box (kept_at forms number)
-sides_kept [] integral box number l h = absurd (none-some true h)
-sides_kept (f ∷ forms) [] box number l h = absurd (none-some true h)
-sides_kept (f ∷ forms) (w ∷ ws) [] number l h = absurd (omega (arith, l))
-sides_kept (None ∷ forms) (w ∷ ws) (s ∷ ss) zero l h = refl
-sides_kept (None ∷ forms) (w ∷ ws) (s ∷ ss) (suc number) l h = sides_kept forms ws ss number (omega (arith, l)) h
-sides_kept (Some f ∷ forms) (w ∷ ws) (s ∷ ss) number l h = sides_kept forms ws ss number (omega (arith, l)) h
+sides_kept : (forms : List (Option Form)) (box : List Sides) (number : ℕ) → number < length (gathered forms box) → sides_at (gathered forms box) number ≡ sides_at box (kept_at forms number)
+sides_kept [] box number h = absurd (omega (arith, h))
+sides_kept (f ∷ forms) [] number h = absurd (omega (arith, h))
+sides_kept (None ∷ forms) (s ∷ ss) zero h = refl
+sides_kept (None ∷ forms) (s ∷ ss) (suc number) h = sides_kept forms ss number (omega (arith, h))
+sides_kept (Some f ∷ forms) (s ∷ ss) number h = sides_kept forms ss number h
+
+choice_kept : (forms : List (Option Form)) (box : List Sides) (choices : List Choice) (number : ℕ) → number < length (gathered forms box) → choice_at choices (kept_at forms number) ≡ choice_at (gathered forms choices) number
+choice_kept [] box cs number h = absurd (omega (arith, h))
+choice_kept (f ∷ forms) [] cs number h = absurd (omega (arith, h))
+choice_kept (f ∷ forms) (s ∷ ss) [] number h = refl
+choice_kept (None ∷ forms) (s ∷ ss) (c ∷ cs) zero h = refl
+choice_kept (None ∷ forms) (s ∷ ss) (c ∷ cs) (suc number) h = choice_kept forms ss cs number (omega (arith, h))
+choice_kept (Some f ∷ forms) (s ∷ ss) (c ∷ cs) number h = choice_kept forms ss cs number h
+
+whole_kept : (forms : List (Option Form)) (integral : List Bool) (number : ℕ) → number < length (gathered forms integral) → slice_get integral (kept_at forms number) ≡ slice_get (gathered forms integral) number
+whole_kept [] integral number h = absurd (omega (arith, h))
+whole_kept (f ∷ forms) [] number h = absurd (omega (arith, h))
+whole_kept (None ∷ forms) (w ∷ ws) zero h = refl
+whole_kept (None ∷ forms) (w ∷ ws) (suc number) h = whole_kept forms ws number (omega (arith, h))
+whole_kept (Some f ∷ forms) (w ∷ ws) number h = whole_kept forms ws number h
 
 pub sides_number : (forms : List (Option Form)) (box : List Sides) (column : ℕ) → length forms ≡ length box → Stays forms column → sides_at (gathered forms box) (number_in forms column) ≡ sides_at box column
 sides_number [] box column e h = absurd (none-some None h)
@@ -204,24 +218,35 @@ module _ (program reduced : Program) (forms : List (Option Form)) (formed : IsWe
   cost_onward : (y : List ℚ) → IsFeasible program y → cost_of reduced (gathered forms y) ≡ cost_of program y
   cost_onward y h = sym (cost_same (gathered forms y) (feasible_long (gathered forms y) (feasible_onward y h))) ∙ ap (cost_of program) (comes_back y h)
 
-  whole_at_new : (number : ℕ) → slice_get reduced.integral number ≡ Some true → slice_get (gathered forms program.integral) number ≡ Some true
-  whole_at_new number h = subst (λ (ws : List Bool). slice_get ws number ≡ Some true) c.integral h
-
   whole_onward : (column : ℕ) → Stays forms column → slice_get program.integral column ≡ Some true → slice_get reduced.integral (number_in forms column) ≡ Some true
   whole_onward column h k = subst (λ (ws : List Bool). slice_get ws (number_in forms column) ≡ Some true) (sym c.integral) (gathered_at forms program.integral column true h k)
 
-  kept_column : (number : ℕ) → slice_get reduced.integral number ≡ Some true → IsKept program reduced (spread forms) (kept_at forms) number
+  among : (number : ℕ) → number < length reduced.bounds → number < length (gathered forms program.bounds)
+  among number h = subst (λ (b : List Sides). number < length b) c.bounds h
+
+  among_wholes : (number : ℕ) → number < length reduced.bounds → number < length (gathered forms program.integral)
+  among_wholes number h = subst (λ n. number < n) (length-gathered_same forms program.bounds program.integral (sym wholes_long)) (among number h)
+
+  kept_column : (number : ℕ) → number < length reduced.bounds → IsKept program reduced (spread forms) (kept_at forms) number
   kept_column number h =
-      let k = whole_at_new number h in
+      let k = slice_get-get_or (gathered forms program.bounds) number no_sides (among number h) in
       record {
-        whole = kept_value forms program.integral number true k;
+        within = slice_get_within program.bounds (kept_at forms number) _ (kept_value forms program.bounds number _ k);
+        whole = whole_kept forms program.integral number (among_wholes number h) ∙ ap (λ (ws : List Bool). slice_get ws number) (sym c.integral);
+        choice = choice_kept forms program.bounds program.choices number (among number h) ∙ ap (λ (cs : List Choice). choice_at cs number) (sym c.choices);
         inside = subst (λ (s : Sides). sides_inside s (sides_at program.bounds (kept_at forms number)) ≡ true)
-            (sym (ap (λ (b : List Sides). sides_at b number) c.bounds ∙ sides_kept forms program.integral program.bounds number wholes_long k))
+            (sym (ap (λ (b : List Sides). sides_at b number) c.bounds ∙ sides_kept forms program.bounds number (among number h)))
             (inside_self (sides_at program.bounds (kept_at forms number)));
         value = λ x l.
-            spread_value forms x (kept_at forms number) (kept_stays forms program.integral number true k)
-            ∙ ap (value_at x) (number_kept forms program.integral number true k);
+            spread_value forms x (kept_at forms number) (kept_stays forms program.bounds number _ k)
+            ∙ ap (value_at x) (number_kept forms program.bounds number _ k);
       }
+
+  -- the values of columns that stay are the same
+  value_onward : (y : List ℚ) (number : ℕ) → IsFeasible program y → number < length reduced.bounds → value_at (gathered forms y) number ≡ value_at y (kept_at forms number)
+  value_onward y number h l =
+      sym ((kept_column number l).value (gathered forms y) (feasible_long (gathered forms y) (feasible_onward y h)))
+      ∙ ap (λ (t : List ℚ). value_at t (kept_at forms number)) (comes_back y h)
 
   form_left : (column : ℕ) → Stays forms column → slice_get program.integral column ≡ Some true → HasForm reduced (spread forms) column
   form_left column h k = record {
@@ -315,8 +340,14 @@ module _ (program reduced : Program) (forms : List (Option Form)) (formed : IsWe
     long = λ x h. length-spread forms x ∙ c.long;
     relaxed = relaxed_back;
     cost = λ x h. cost_same x (IsInBox-long reduced.bounds x h.within);
-    none_lost = λ y h. record { point = gathered forms y; feasible = feasible_onward y h; no_dearer = ≤ℚ_of_eq (cost_onward y h) };
-    whole = kept_column;
+    none_lost = λ y h. record {
+      other = gathered forms y;
+      feasible = feasible_onward y h;
+      no_dearer = ≤ℚ_of_eq (cost_onward y h);
+      near = λ number l. inl (value_onward y number h l);
+      semi = λ number l o. value_onward y number h l;
+    };
+    columns = kept_column;
     forms = λ column k. form_of column k (entry_of forms column (slice_get forms column) refl);
     assigned = λ x a. record {
       long = length-spread forms x ∙ c.long;

@@ -1,3 +1,4 @@
+pub mod Apart
 pub mod CompactPairs
 pub mod Equalities
 pub mod Inside

@@ -1,5 +1,5 @@
 -- A column goes to the side at which it costs least.
-use Rattle.std.proofs.Common.{◌≡◌, ◌≢◌, ℕ, zero, suc, ◌<◌, Bool, true, false, List, [], ◌∷◌, length, Option, None, Some, IfSome, slice_get, refl, sym, ap, ◌∙◌, subst, arith, true≢false}
+use Rattle.std.proofs.Common.{◌≡◌, ◌⊎◌, ◌≢◌, ℕ, zero, suc, ◌<◌, Bool, true, false, List, [], ◌∷◌, length, Option, None, Some, IfSome, slice_get, refl, sym, ap, ◌∙◌, subst, arith, inl, inr, true≢false}
 use Rattle.std.specs.Prelude.{slice_set}
 use Rattle.std.specs.List.{AllByRecursion}
 use Rattle.cip_rational.specs.Rational.{ℚ, ◌*ℚ◌, zeroℚ, ◌≤ℚ◌, IsWhole}
@@ -9,30 +9,31 @@ use Rattle.cip_rational.proofs.Rational.Monotone.{+ℚ_mono, *ℚ_mono}
 use Rattle.cip_rational.proofs.Rational.Inverse.{*ℚ_antitone}
 use Rattle.cip_problem.specs.Program.{Term, Sides, Row, Choice, Plain, Open, Off, On, Program}
 use Rattle.cip_problem.specs.Activity.{value_at, activity}
-use Rattle.cip_problem.specs.Box.{IsInBox}
+use Rattle.cip_problem.specs.Box.{IsInBox, sides_at, sides_inside}
 use Rattle.cip_problem.specs.Choices.{choice_at, Allows, KeepsChoices, is_open}
 use Rattle.cip_problem.specs.Points.{AreWhole, IsFeasible, cost_of}
 use Rattle.cip_problem.proofs.Points.AtPlaces.{IsInBox-long}
-use Rattle.cip_cuts.specs.Reduced.{HasNoDearer}
 use Rattle.cip_reductions.specs.NarrowedPrograms.{AllSatisfied, IsStep, with_sides}
+use Rattle.cip_reductions.specs.Pairs.{IsHeldFast, HasNear}
 use Rattle.cip_reductions.specs.Moving.{LetsFall, LetsRise, RowLetsFall, RowLetsRise, fixed_sides, CanTake, CanFallTo, CanRiseTo}
+use Rattle.cip_reductions.proofs.Inside.{inside_self}
 use Rattle.cip_reductions.proofs.Replacing.{sides_chosen}
 
 -- ---- a value is set
 
-set_same : (y : List ℚ) (column : ℕ) (v : ℚ) → column < length y → value_at (slice_set y column v) column ≡ v
+pub set_same : (y : List ℚ) (column : ℕ) (v : ℚ) → column < length y → value_at (slice_set y column v) column ≡ v
 set_same [] column v h = absurd (omega (arith, h))
 set_same (w ∷ y) zero v h = refl
 set_same (w ∷ y) (suc column) v h = set_same y column v (omega (arith, h))
 
-set_other : (y : List ℚ) (column place : ℕ) (v : ℚ) → place ≢ column → value_at (slice_set y column v) place ≡ value_at y place
+pub set_other : (y : List ℚ) (column place : ℕ) (v : ℚ) → place ≢ column → value_at (slice_set y column v) place ≡ value_at y place
 set_other [] column place v h = refl
 set_other (w ∷ y) zero zero v h = absurd (h refl)
 set_other (w ∷ y) zero (suc place) v h = refl
 set_other (w ∷ y) (suc column) zero v h = refl
 set_other (w ∷ y) (suc column) (suc place) v h = set_other y column place v (λ e. h (ap (λ n. suc n) e))
 
-data Same (a b : ℕ) : Type 0 where
+pub data Same (a b : ℕ) : Type 0 where
   same : a ≡ b → Same a b
   other : a ≢ b → Same a b
 
@@ -40,7 +41,7 @@ same_next : (a b : ℕ) → Same a b → Same (suc a) (suc b)
 same_next a b (same e) = same (ap (λ n. suc n) e)
 same_next a b (other h) = other (λ e. h (omega (arith, e)))
 
-same_or : (a b : ℕ) → Same a b
+pub same_or : (a b : ℕ) → Same a b
 same_or zero zero = same refl
 same_or zero (suc b) = other (λ e. absurd (omega (arith, e)))
 same_or (suc a) zero = other (λ e. absurd (omega (arith, e)))
@@ -69,6 +70,29 @@ not_open_allows On v e = tt
 choice_set : (choices : List Choice) (y : List ℚ) (column place : ℕ) (v : ℚ) → Same place column → is_open (choice_at choices column) ≡ false → KeepsChoices choices y → Allows (choice_at choices place) (value_at (slice_set y column v) place)
 choice_set choices y column place v (same e) o k = not_open_allows (choice_at choices place) _ (subst (λ c. is_open (choice_at choices c) ≡ false) (sym e) o)
 choice_set choices y column place v (other h) o k = subst (λ t. Allows (choice_at choices place) t) (sym (set_other y column place v h)) (k place)
+
+sides_set : (box : List Sides) (column : ℕ) (sides : Sides) → column < length box → sides_at (slice_set box column sides) column ≡ sides
+sides_set [] column sides h = absurd (omega (arith, h))
+sides_set (s ∷ ss) zero sides h = refl
+sides_set (s ∷ ss) (suc column) sides h = sides_set ss column sides (omega (arith, h))
+
+-- only the column that is moved has another value, and that is held fast
+module _ (program : Program) (column : ℕ) (v : ℚ) (within : column < length program.bounds) (plain : is_open (choice_at program.choices column) ≡ false) (y : List ℚ) where
+  held_fast : (place : ℕ) → place ≡ column → IsHeldFast (with_sides program column (fixed_sides v)) place
+  held_fast place e = record {
+    value = v;
+    inside = subst (λ (s : Sides). sides_inside s (fixed_sides v) ≡ true)
+        (sym (ap (λ n. sides_at (slice_set program.bounds column (fixed_sides v)) n) e ∙ sides_set program.bounds column (fixed_sides v) within))
+        (inside_self (fixed_sides v));
+  }
+
+  near_set : (place : ℕ) → Same place column → (value_at (slice_set y column v) place ≡ value_at y place) ⊎ IsHeldFast (with_sides program column (fixed_sides v)) place
+  near_set place (same e) = inr (held_fast place e)
+  near_set place (other h) = inl (set_other y column place v h)
+
+  open_set : (place : ℕ) → Same place column → is_open (choice_at program.choices place) ≡ true → value_at (slice_set y column v) place ≡ value_at y place
+  open_set place (same e) o = absurd (true≢false (sym o ∙ ap (λ n. is_open (choice_at program.choices n)) e ∙ plain))
+  open_set place (other h) o = set_other y column place v h
 
 -- ---- activities and costs
 
@@ -152,9 +176,9 @@ module _ (y : List ℚ) (column : ℕ) (v : ℚ) (inside : column < length y) wh
 -- ---- the steps
 
 module _ (program : Program) (column : ℕ) (v : ℚ) (c : CanTake program column v) where
-  taken : (y : List ℚ) → IsFeasible program y → AllSatisfied program.rows (slice_set y column v) → value_at program.costs column *ℚ v ≤ℚ value_at program.costs column *ℚ value_at y column → HasNoDearer (with_sides program column (fixed_sides v)) (cost_of program y)
+  taken : (y : List ℚ) → IsFeasible program y → AllSatisfied program.rows (slice_set y column v) → value_at program.costs column *ℚ v ≤ℚ value_at program.costs column *ℚ value_at y column → HasNear program (with_sides program column (fixed_sides v)) (λ number. number) y
   taken y h rows k = record {
-    point = slice_set y column v;
+    other = slice_set y column v;
     feasible = record {
       within = box_set program.bounds y column v h.within;
       whole = whole_set program.integral y column v c.whole h.whole;
@@ -162,6 +186,8 @@ module _ (program : Program) (column : ℕ) (v : ℚ) (c : CanTake program colum
       rows = rows;
     };
     no_dearer = +ℚ_mono (≤ℚ_refl program.constant) (dot_set program.costs y column v k);
+    near = λ place l. near_set program column v c.within c.plain y place (same_or place column);
+    semi = λ place l o. open_set program column v c.within c.plain y place (same_or place column) o;
   }
 
   within_point : (y : List ℚ) → IsFeasible program y → column < length y

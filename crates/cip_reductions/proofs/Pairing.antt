@@ -1,19 +1,20 @@
 -- Pairs: a step is one, and they follow one another.
-use Rattle.std.proofs.Common.{◌≡◌, ℕ, Bool, true, List, length, Some, slice_get, refl, sym, ap, ◌∙◌, subst, inl, inr}
+use Rattle.std.proofs.Common.{◌≡◌, ◌⊎◌, ℕ, ◌<◌, Bool, true, List, length, Some, slice_get, refl, sym, ap, ◌∙◌, subst, arith, inl, inr}
 use Rattle.cip_rational.specs.Rational.{ℚ, ◌+ℚ◌, ◌*ℚ◌, zeroℚ, oneℚ}
 use Rattle.cip_rational.proofs.Rational.Order.{≤ℚ_trans, ≤ℚ_of_eq}
 use Rattle.cip_rational.proofs.Rational.Ring.{*ℚ-zero, zero-+ℚ, one-*ℚ, zero-*ℚ, *ℚ-add, *ℚ_assoc, +ℚ_assoc}
 use Rattle.cip_rational.proofs.Rational.Whole.{IsWhole-zero, IsWhole-one, IsWhole-add, IsWhole-mul}
-use Rattle.cip_problem.specs.Program.{Program}
+use Rattle.cip_problem.specs.Program.{Choice, Program}
 use Rattle.cip_problem.specs.Activity.{value_at}
-use Rattle.cip_problem.specs.Box.{sides_at}
+use Rattle.cip_problem.specs.Box.{sides_at, sides_inside}
+use Rattle.cip_problem.specs.Choices.{choice_at, is_open}
 use Rattle.cip_problem.specs.Points.{IsFeasible, cost_of}
 use Rattle.cip_problem.specs.Wholes.{assignments, AtMost}
 use Rattle.cip_problem.proofs.Box.SideTests.{sides_inside_holds}
-use Rattle.cip_cuts.specs.Reduced.{IsRelaxed, HasNoDearer}
+use Rattle.cip_cuts.specs.Reduced.{IsRelaxed}
 use Rattle.cip_reductions.specs.NarrowedPrograms.{IsTightened, IsStep, IsExactStep, IsInfeasible}
 use Rattle.cip_reductions.specs.Forms.{Form}
-use Rattle.cip_reductions.specs.Pairs.{HasSource, IsKept, HasForm, IsWholeIn, own_sides, semi_values, IsPair, IsBack, IsExactPair}
+use Rattle.cip_reductions.specs.Pairs.{HasSource, IsKept, HasForm, IsWholeIn, own_sides, semi_values, IsHeldFast, HasNear, IsPair, IsBack, IsExactPair}
 use Rattle.cip_reductions.proofs.Inside.{inside_chain, all_self, all_chain, all_long, all_at, all_hold, at_most_chain, fewer_assignments}
 
 -- ---- steps
@@ -43,15 +44,44 @@ narrowed_after first second third a b = record {
   cost = λ point h. a.cost point (narrowed_relaxed second third point b h) ∙ b.cost point h;
 }
 
-no_dearer_after : (first second third : Program) (point : List ℚ) → IsStep second third → HasNoDearer second (cost_of first point) → HasNoDearer third (cost_of first point)
-no_dearer_after first second third point b f =
-    let g = b.none_lost f.point f.feasible in
-    record { point = g.point; feasible = g.feasible; no_dearer = ≤ℚ_trans g.no_dearer f.no_dearer }
+-- a column held fast stays so where its sides are narrowed
+held_inside : (outer inner : Program) (column number : ℕ) → sides_inside (sides_at inner.bounds column) (sides_at outer.bounds number) ≡ true → IsHeldFast outer number → IsHeldFast inner column
+held_inside outer inner column number i h = record {
+  value = h.value;
+  inside = inside_chain (sides_at inner.bounds column) (sides_at outer.bounds number) (record { low = Some h.value; high = Some h.value }) i h.inside;
+}
+
+-- a point near one that is near another
+module _ (first second third : Program) (kept later : ℕ → ℕ) (point : List ℚ) (f : HasNear first second kept point) (g : HasNear second third later f.other) (within : (column : ℕ) → column < length third.bounds → later column < length second.bounds) (inside : (column : ℕ) → column < length third.bounds → sides_inside (sides_at third.bounds column) (sides_at second.bounds (later column)) ≡ true) (choice : (column : ℕ) → column < length third.bounds → choice_at second.choices (later column) ≡ choice_at third.choices column) where
+  near_first : (column : ℕ) → column < length third.bounds → value_at g.other column ≡ value_at f.other (later column) → (value_at f.other (later column) ≡ value_at point (kept (later column))) ⊎ IsHeldFast second (later column) → (value_at g.other column ≡ value_at point (kept (later column))) ⊎ IsHeldFast third column
+  near_first column l e (inl d) = inl (e ∙ d)
+  near_first column l e (inr h) = inr (held_inside second third column (later column) (inside column l) h)
+
+  near_at : (column : ℕ) → column < length third.bounds → (value_at g.other column ≡ value_at f.other (later column)) ⊎ IsHeldFast third column → (value_at g.other column ≡ value_at point (kept (later column))) ⊎ IsHeldFast third column
+  near_at column l (inl e) = near_first column l e (f.near (later column) (within column l))
+  near_at column l (inr h) = inr h
+
+  near_after : HasNear first third (λ column. kept (later column)) point
+  near_after = record {
+    other = g.other;
+    feasible = g.feasible;
+    no_dearer = ≤ℚ_trans g.no_dearer f.no_dearer;
+    near = λ column l. near_at column l (g.near column l);
+    semi = λ column l o. g.semi column l o ∙ f.semi (later column) (within column l) (subst (λ (c : Choice). is_open c ≡ true) (sym (choice column l)) o);
+  }
+
+narrowed_within : (program narrowed : Program) (column : ℕ) → IsTightened program narrowed → column < length narrowed.bounds → column < length program.bounds
+narrowed_within program narrowed column n h = let e = all_long narrowed.bounds program.bounds n.inside in omega (arith, h, e)
 
 pub step_after : (first second third : Program) → IsStep first second → IsStep second third → IsStep first third
 step_after first second third a b = record {
   narrowed = narrowed_after first second third a.narrowed b.narrowed;
-  none_lost = λ point h. no_dearer_after first second third point b (a.none_lost point h);
+  none_lost = λ point h.
+      let f = a.none_lost point h in
+      near_after first second third (λ column. column) (λ column. column) point f (b.none_lost f.other f.feasible)
+      (λ column l. narrowed_within second third column b.narrowed l)
+      (λ column l. all_at third.bounds second.bounds column b.narrowed.inside)
+      (λ column l. ap (λ (cs : List Choice). choice_at cs column) (sym b.narrowed.choices));
 }
 
 pub exact_after : (first second third : Program) → IsExactStep first second → IsExactStep second third → IsExactStep first third
@@ -71,15 +101,17 @@ pub exact_step : (program narrowed : Program) → IsExactStep program narrowed �
 exact_step program narrowed s = record {
   narrowed = s.narrowed;
   none_lost = λ point h. record {
-    point = point;
+    other = point;
     feasible = s.keeps point h;
     no_dearer = ≤ℚ_of_eq (sym (s.narrowed.cost point (feasible_relaxed narrowed point (s.keeps point h))));
+    near = λ column l. inl refl;
+    semi = λ column l o. refl;
   };
 }
 
 -- where the narrowed program has no point, the program has none
 pub infeasible_before : (program narrowed : Program) → IsStep program narrowed → IsInfeasible narrowed → IsInfeasible program
-infeasible_before program narrowed s h point k = let f = s.none_lost point k in h f.point f.feasible
+infeasible_before program narrowed s h point k = let f = s.none_lost point k in h f.other f.feasible
 
 -- ---- a step is a pair
 
@@ -108,8 +140,10 @@ step_pair program narrowed s =
       relaxed = λ point h. narrowed_relaxed program narrowed point n h;
       cost = n.cost;
       none_lost = s.none_lost;
-      whole = λ column h. record {
-        whole = subst (λ (ws : List Bool). slice_get ws column ≡ Some true) n.integral h;
+      columns = λ column h. record {
+        within = narrowed_within program narrowed column n h;
+        whole = ap (λ (ws : List Bool). slice_get ws column) (sym n.integral);
+        choice = ap (λ (cs : List Choice). choice_at cs column) (sym n.choices);
         inside = all_at narrowed.bounds program.bounds column n.inside;
         value = λ point k. refl;
       };
@@ -184,23 +218,27 @@ module _ (first second third : Program) (post more : List ℚ → List ℚ) (kep
 
   after_kept : (column : ℕ) (k : IsKept second third more later column) → IsKept first second post kept (later column) → IsKept first third (λ point. post (more point)) (λ column. kept (later column)) column
   after_kept column k j = record {
-    whole = j.whole;
+    within = j.within;
+    whole = j.whole ∙ k.whole;
+    choice = j.choice ∙ k.choice;
     inside = inside_chain (sides_at third.bounds column) (sides_at second.bounds (later column)) (sides_at first.bounds (kept (later column))) k.inside j.inside;
     value = λ point h. j.value (more point) (b.long point h) ∙ k.value point h;
   }
 
-  after_no_dearer : (point : List ℚ) → HasNoDearer second (cost_of first point) → HasNoDearer third (cost_of first point)
-  after_no_dearer point f =
-      let g = b.none_lost f.point f.feasible in
-      record { point = g.point; feasible = g.feasible; no_dearer = ≤ℚ_trans g.no_dearer f.no_dearer }
+  after_near : (point : List ℚ) → HasNear first second kept point → HasNear first third (λ column. kept (later column)) point
+  after_near point f =
+      near_after first second third kept later point f (b.none_lost f.other f.feasible)
+      (λ column l. (b.columns column l).within)
+      (λ column l. (b.columns column l).inside)
+      (λ column l. (b.columns column l).choice)
 
   pub pair_after : IsPair first third (λ point. post (more point)) (λ column. kept (later column))
   pair_after = record {
     long = λ point h. a.long (more point) (b.long point h);
     relaxed = λ point h. a.relaxed (more point) (b.relaxed point h);
     cost = λ point h. a.cost (more point) (b.relaxed point h) ∙ b.cost point h;
-    none_lost = λ point h. after_no_dearer point (a.none_lost point h);
-    whole = λ column h. after_kept column (b.whole column h) (a.whole (later column) (b.whole column h).whole);
+    none_lost = λ point h. after_near point (a.none_lost point h);
+    columns = λ column h. let k = b.columns column h in after_kept column k (a.columns (later column) k.within);
     forms = λ column h. after_forms column (a.forms column h) (a.forms column h).source;
     assigned = λ point h. a.assigned (more point) (b.assigned point h);
     fewer = at_most_chain _ _ _ b.fewer a.fewer;

@@ -8,8 +8,9 @@ use Rattle.cip_problem.specs.Activity.{value_at}
 use Rattle.cip_problem.specs.Box.{Between, sides_at, sides_inside}
 use Rattle.cip_problem.specs.Points.{IsSatisfied, IsFeasible, cost_of}
 use Rattle.cip_problem.proofs.Choices.Meeting.{set_in_box}
-use Rattle.cip_cuts.specs.Reduced.{IsRelaxed, HasNoDearer}
+use Rattle.cip_cuts.specs.Reduced.{IsRelaxed}
 use Rattle.cip_reductions.specs.NarrowedPrograms.{AllSatisfied, IsTightened, IsStep, IsExactStep, with_row, with_sides, with_cost}
+use Rattle.cip_reductions.specs.Pairs.{HasNear}
 use Rattle.cip_reductions.proofs.Inside.{all_self, set_inside}
 
 -- where the new row's program is satisfied and the old row is, all old rows are
@@ -62,8 +63,8 @@ sides_replaced program column sides i f = record {
   };
 }
 
--- sides of a column are taken at which some feasible point costs no more
-pub sides_chosen : (program : Program) (column : ℕ) (sides : Sides) → sides_inside sides (sides_at program.bounds column) ≡ true → ((point : List ℚ) → IsFeasible program point → HasNoDearer (with_sides program column sides) (cost_of program point)) → IsStep program (with_sides program column sides)
+-- sides of a column are taken at which some feasible point near costs no more
+pub sides_chosen : (program : Program) (column : ℕ) (sides : Sides) → sides_inside sides (sides_at program.bounds column) ≡ true → ((point : List ℚ) → IsFeasible program point → HasNear program (with_sides program column sides) (λ number. number) point) → IsStep program (with_sides program column sides)
 sides_chosen program column sides i f = record { narrowed = sides_narrowed program column sides i; none_lost = f }
 
 -- a cost is replaced by one that comes to the same wherever bounds and rows are kept

@@ -190,7 +190,12 @@ module _ (program reduced : Program) (post : List ℚ → List ℚ) (kept : ℕ 
       record { within = r.within; whole = wholes_back x l h.whole; choices = choices_back x l h.choices; rows = r.rows }
 
   pub pair_reduction : IsReduction program reduced post
-  pair_reduction = record { feasible = feasible_back; relaxed = pair.relaxed; cost = pair.cost; none_lost = pair.none_lost }
+  pair_reduction = record {
+    feasible = feasible_back;
+    relaxed = pair.relaxed;
+    cost = pair.cost;
+    none_lost = λ y h. let n = pair.none_lost y h in record { point = n.other; feasible = n.feasible; no_dearer = n.no_dearer };
+  }
 
   decided_back : (on : List Bool) (x : List ℚ) → IsFeasible (decided reduced on) x → IsFeasible (decided program on) (post x)
   decided_back on x h =

@@ -5,7 +5,8 @@ use Rattle.cip_rational.specs.Rational.{ℚ}
 use Rattle.cip_problem.specs.Program.{Sides, Row, Program}
 use Rattle.cip_problem.specs.Box.{sides_inside}
 use Rattle.cip_problem.specs.Points.{IsSatisfied, IsFeasible, cost_of}
-use Rattle.cip_cuts.specs.Reduced.{IsRelaxed, HasNoDearer}
+use Rattle.cip_cuts.specs.Reduced.{IsRelaxed}
+use Rattle.cip_reductions.specs.Pairs.{HasNear}
 
 -- all rows are satisfied
 abbrev pub AllSatisfied : List Row → List ℚ → Type 0
@@ -20,10 +21,11 @@ pub record IsTightened (program tightened : Program) : Type 0 where
   pub rows : (point : List ℚ) → IsRelaxed tightened point → AllSatisfied program.rows point
   pub cost : (point : List ℚ) → IsRelaxed tightened point → cost_of program point ≡ cost_of tightened point
 
--- a step: for each feasible point of the program the narrowed one has a feasible point that costs no more
+-- a step: for each feasible point of the program the narrowed one has a feasible point that costs no more, with the same
+-- value in each column that isn't held fast
 pub record IsStep (program tightened : Program) : Type 0 where
   pub narrowed : IsTightened program tightened
-  pub none_lost : (point : List ℚ) → IsFeasible program point → HasNoDearer tightened (cost_of program point)
+  pub none_lost : (point : List ℚ) → IsFeasible program point → HasNear program tightened (λ column. column) point
 
 -- an exact step: each feasible point of the program stays one
 pub record IsExactStep (program tightened : Program) : Type 0 where

@@ -1,25 +1,29 @@
 -- Reduction pairs: a program that may be solved in place of another, and how its points, its whole columns, its
 -- semi-continuous columns and the values of its whole columns come back (presolve and postsolve).
-use Rattle.std.specs.Prelude.{◌≡◌, ◌⊎◌, ℕ, Bool, true, List, [], ◌∷◌, length, Some, slice_get}
-use Rattle.cip_rational.specs.Rational.{ℚ, zeroℚ, IsWhole}
+use Rattle.std.specs.Prelude.{◌≡◌, ◌⊎◌, ℕ, ◌<◌, Bool, true, List, [], ◌∷◌, length, Some, slice_get}
+use Rattle.cip_rational.specs.Rational.{ℚ, ◌≤ℚ◌, zeroℚ, IsWhole}
 use Rattle.cip_rational.specs.Range.{fits_range}
 use Rattle.cip_problem.specs.Program.{Sides, Choice, Plain, Open, Off, On, Program}
 use Rattle.cip_problem.specs.Activity.{value_at}
 use Rattle.cip_problem.specs.Box.{Between, sides_at, sides_inside}
+use Rattle.cip_problem.specs.Choices.{choice_at, is_open}
 use Rattle.cip_problem.specs.Points.{IsFeasible, cost_of}
 use Rattle.cip_problem.specs.Wholes.{assignments, AtMost}
-use Rattle.cip_cuts.specs.Reduced.{IsRelaxed, HasNoDearer}
+use Rattle.cip_cuts.specs.Reduced.{IsRelaxed}
 use Rattle.cip_reductions.specs.Forms.{Form, form_value}
 
 -- a point has a value for each column
 abbrev pub IsLong : Program → List ℚ → Type 0
 IsLong program point = length point ≡ length program.bounds
 
--- ---- whole columns
+-- ---- columns
 
--- a whole column of the reduced program is one of the program, with bounds inside, and its value comes back
+-- a column of the reduced program is one of the program, as whole as that and with its choice, with bounds inside, and
+-- its value comes back
 pub record IsKept (program reduced : Program) (post : List ℚ → List ℚ) (kept : ℕ → ℕ) (column : ℕ) : Type 0 where
-  pub whole : slice_get program.integral (kept column) ≡ Some true
+  pub within : kept column < length program.bounds
+  pub whole : slice_get program.integral (kept column) ≡ slice_get reduced.integral column
+  pub choice : choice_at program.choices (kept column) ≡ choice_at reduced.choices column
   pub inside : sides_inside (sides_at reduced.bounds column) (sides_at program.bounds (kept column)) ≡ true
   pub value : (point : List ℚ) → IsLong reduced point → value_at (post point) (kept column) ≡ value_at point column
 
@@ -80,6 +84,24 @@ pub record KeepsSemi (program reduced : Program) (post : List ℚ → List ℚ) 
   pub values : (point : List ℚ)
       → IsLong reduced point → semi_values program.choices (post point) ≡ semi_values reduced.choices point
 
+-- ---- points that aren't lost
+
+-- the sides of a column leave it one value
+pub record IsHeldFast (reduced : Program) (column : ℕ) : Type 0 where
+  pub value : ℚ
+  pub inside : sides_inside (sides_at reduced.bounds column) (record { low = Some value; high = Some value }) ≡ true
+
+-- for a point the reduced program has a feasible one that costs no more, with the same value in each column that the
+-- reduced program doesn't hold fast, and in each semi-continuous one
+pub record HasNear (program reduced : Program) (kept : ℕ → ℕ) (point : List ℚ) : Type 0 where
+  pub other : List ℚ
+  pub feasible : IsFeasible reduced other
+  pub no_dearer : cost_of reduced other ≤ℚ cost_of program point
+  pub near : (column : ℕ) → column < length reduced.bounds
+      → (value_at other column ≡ value_at point (kept column)) ⊎ IsHeldFast reduced column
+  pub semi : (column : ℕ) → column < length reduced.bounds → is_open (choice_at reduced.choices column) ≡ true
+      → value_at other column ≡ value_at point (kept column)
+
 -- ---- pairs
 
 -- a reduction pair: `post` is how points of the reduced program come back, `kept` the old number of each of its columns
@@ -89,10 +111,11 @@ pub record IsPair (program reduced : Program) (post : List ℚ → List ℚ) (ke
   -- a point that keeps bounds and rows comes back as one that does, at equal cost
   pub relaxed : (point : List ℚ) → IsRelaxed reduced point → IsRelaxed program (post point)
   pub cost : (point : List ℚ) → IsRelaxed reduced point → cost_of program (post point) ≡ cost_of reduced point
-  -- for each feasible point of the program the reduced one has one that costs no more
-  pub none_lost : (point : List ℚ) → IsFeasible program point → HasNoDearer reduced (cost_of program point)
-  -- whole columns of the reduced program are the program's, with bounds inside and the same values
-  pub whole : (column : ℕ) → slice_get reduced.integral column ≡ Some true → IsKept program reduced post kept column
+  -- for each feasible point of the program the reduced one has one that costs no more, with the same values where
+  -- columns aren't held fast
+  pub none_lost : (point : List ℚ) → IsFeasible program point → HasNear program reduced kept point
+  -- columns of the reduced program are the program's, with bounds inside and the same values
+  pub columns : (column : ℕ) → column < length reduced.bounds → IsKept program reduced post kept column
   -- each whole column of the program has a whole affine form of the reduced program's whole columns
   pub forms : (column : ℕ) → slice_get program.integral column ≡ Some true → HasForm reduced post column
   -- whole values in range and within the reduced program's bounds come back in range and within bounds

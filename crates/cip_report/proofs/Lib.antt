@@ -1,4 +1,5 @@
 pub mod LeafLines
+pub mod SelfLines
 pub mod ToldSides
 pub mod TraceLemmas
 pub mod WritingLemmas

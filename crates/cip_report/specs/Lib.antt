@@ -1,4 +1,5 @@
 pub mod Answers
 pub mod Checks
+pub mod Drawn
 pub mod Traces
 pub mod Writing

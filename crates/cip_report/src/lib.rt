@@ -3,10 +3,12 @@
 
 mod buffer;
 mod checks;
+mod drawn;
 mod figures;
 mod traces;
 mod writing;
 
 pub use checks::{check_status, report_check};
+pub use drawn::{Drawn, report_self};
 pub use figures::{Answer, Ended, Held};
 pub use writing::report;

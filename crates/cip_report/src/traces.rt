@@ -27,7 +27,7 @@ fn write_both<K: Sink>(
 }
 
 /// Writes a text, and a number in decimal digits behind it.
-fn write_digits<K: Sink>(
+pub(crate) fn write_digits<K: Sink>(
     out: &mut K,
     buffer: &mut Buffer,
     text: &[u8],

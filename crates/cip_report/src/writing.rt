@@ -123,7 +123,7 @@ fn printed_bound(program: &Program, bound: Option<Frac>) -> Option<Frac>
 }
 
 /// Writes the lines of cost and bound.
-fn write_costs<K: Sink>(
+pub(crate) fn write_costs<K: Sink>(
     out: &mut K,
     buffer: &mut Buffer,
     program: &Program,

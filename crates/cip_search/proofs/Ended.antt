@@ -18,12 +18,13 @@ use Rattle.cip_cuts.specs.Cover.{IsCover}
 use Rattle.cip_cuts.proofs.Covers as covers
 use Rattle.cip_cuts.proofs.Emptiness.{closed_by_bound}
 use Rattle.cip_leaves.specs.Searched.{first_node, nodes_given, IsLeftOpen}
-use Rattle.cip_search.specs.SearchState.{State, WayBack, HasNoEntry, IsGiven, AreApart, HasNumber, IsRightEntry, parked_entry, is_parked_end, parked_entries, IsStuck, IsSearch}
+use Rattle.cip_search.specs.SearchState.{State, WayBack, HasNoEntry, IsGiven, AreApart, HasNumber, IsRightEntry, parked_entry, is_parked_end, parked_entries, LeadsToWide, IsStuck, IsSearch}
 use Rattle.cip_search.specs.Statements.{closed_entry, split_entry, AreHalves}
 use Rattle.cip_search.proofs.Members.{none_in, here, later, here_or_later, only_one, mapped, hits, hit, missed, none_hits, others_apart, rest_apart}
 use Rattle.cip_search.proofs.Bounds.{HoldsThere, no_more_same, there_inside}
 use Rattle.cip_search.proofs.Told.{given_node_of}
 use Rattle.cip_search.proofs.Kept.{same_cover, with_more}
+use Rattle.cip_search.proofs.Leading.{leads_to_wide}
 use Rattle.cip_search.proofs.OneMore.{none_or_some, node_of_kept, node_of_new, node_of_here, node_of_later, node_of_among, given_more, follow_more, taken_more, taken_before, taken_last, taken_given}
 
 -- ---- the last entry of a log
@@ -139,7 +140,7 @@ module _ (program reduced : Program) (way : WayBack) (Wide : Program → List �
 
     -- ---- it gives no nodes
 
-    pub ended : ((given : Node) → IsRightEnd reduced.integral before given end) → more ≡ [] → (aside : List Node) → IsCover reduced held (rest ++ aside) → ((other : Node) → Contains aside other → Contains (node ∷ parked) other) → parked_entries (log ++ entry ∷ []) ≡ map parked_entry aside → ((other : Node) → Contains aside other → IsStuck program reduced way Wide other) → At held work open_ aside (log ++ entry ∷ [])
+    pub ended : ((given : Node) → IsRightEnd reduced.integral before given end) → more ≡ [] → (aside : List Node) → IsCover reduced held (rest ++ aside) → ((other : Node) → Contains aside other → Contains (node ∷ parked) other) → parked_entries (log ++ entry ∷ []) ≡ map parked_entry aside → ((other : Node) → Contains aside other → LeadsToWide program reduced Wide held other) → At held work open_ aside (log ++ entry ∷ [])
     ended right none aside cover known entries stuck =
         let same : after ≡ before = after_is ∙ ap (λ t. before ++ t) none ∙ append-nil before in
         record {
@@ -206,7 +207,7 @@ module _ (program reduced : Program) (way : WayBack) (Wide : Program → List �
       (parked_more log (parked_entry node) ∙ ap (λ t. t ++ parked_entry node ∷ []) s.parked ∙ sym (map-append parked_entry parked (node ∷ [])))
       (λ other c. elim (Contains-push_cases parked node other c) [
         | inl k ↦ s.stuck other k
-        | inr e ↦ subst (IsStuck program reduced way Wide) e h
+        | inr e ↦ subst (LeadsToWide program reduced Wide held) e (leads_to_wide program reduced way start Wide log held node s.back s.logged (s.given node (here node (rest ++ parked))) h)
       ])
 
   -- with the first node in work written out

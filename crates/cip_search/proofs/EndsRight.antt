@@ -58,7 +58,7 @@ cheaper_there : (program : Program) (held : Option Held) (point : List ℚ) → 
 cheaper_there program None point h = tt
 cheaper_there program (Some held) point h = h
 
-module _ (program : Program) (start : Option ℚ) (nodes : ℕ) (asked : Option ℚ) (state : State) (answer : Answer) (s : IsSearch program program stay IsWideLeaf start state) (g : IsAsGiven program start state) (a : IsAnswerOf program nodes asked state answer) where
+module _ (program : Program) (start : Option ℚ) (nodes : ℕ) (asked : Option ℚ) (state : State) (answer : Answer) (s : IsSearch program program stay IsWideLeaf start state) (g : IsAsGiven program start state) (a : IsAnswerOf program program nodes asked state answer) where
   idle_nodes : unended state ≡ state.open_
   idle_nodes = ap (λ w. w ++ state.open_) a.idle
 
@@ -111,11 +111,11 @@ module _ (program : Program) (start : Option ℚ) (nodes : ℕ) (asked : Option 
   bound_of (Wide leaf shown) e = bound_below answer.bound (least_there (λ f. absurd (let t = sym e ∙ f in cc)))
   bound_of NoMemory e = bound_below answer.bound (least_there (λ f. absurd (let t = sym e ∙ f in cc)))
 
-  ends_as : (ended : Ended) → ComesTo program nodes state ended → EndsAs program start nodes state.log answer.held ended
+  ends_as : (ended : Ended) → ComesTo program program nodes state ended → EndsAs program start nodes state.log answer.held ended
   ends_as Optimal c = (record { none_open = quiet_open c.0; none_parked = quiet_parked c.1 }, some_there answer.held (subst IsSome a.held c.2))
   ends_as Infeasible c =
       let parts = empty_parts state.work state.open_ state.parked c.0 in
-      (record { none_open = quiet_open (empty_list state.open_ parts.0); none_parked = quiet_parked (empty_list state.parked parts.1) }, none_there answer.held (sym a.held ∙ c.1))
+      (inl (record { none_open = quiet_open (empty_list state.open_ parts.0); none_parked = quiet_parked (empty_list state.parked parts.1) }), none_there answer.held (sym a.held ∙ c.1))
   ends_as (Unbounded ray) c = absurd c
   ends_as NodeLimit c = (c.0, loud_open c.1)
   ends_as Gap c = some_there answer.held (subst IsSome a.held c)
@@ -124,20 +124,20 @@ module _ (program : Program) (start : Option ℚ) (nodes : ℕ) (asked : Option 
 
   agrees : answer.ended ≡ Optimal → Agrees answer
   agrees e =
-      let c : ComesTo program nodes state Optimal = subst (ComesTo program nodes state) e a.comes in
+      let c : ComesTo program program nodes state Optimal = subst (ComesTo program program nodes state) e a.comes in
       let h = held_there answer.held (subst IsSome a.held c.2) in
       let cost : state.held ≡ Some h.0.cost = a.held ∙ ap cost_of_held h.1 in
       record { held = h.0; is_held = h.1; bound = least_is_cost state.held h.0.cost (all_nodes state) answer.bound cost (all_quiet c.0 c.1) (a.least (λ f. absurd (let t = sym e ∙ f in cc))) }
 
   wide_points : (leaf : Leaf) (shown : Shown) → answer.ended ≡ Wide leaf shown → (point : List ℚ) → IsFeasible program point → IsCheaper program answer.held point → HasWidePoint program IsWideLeaf (cost_of program point)
   wide_points leaf shown e point f h =
-      let c : ComesTo program nodes state (Wide leaf shown) = subst (ComesTo program nodes state) e a.comes in
+      let c : ComesTo program program nodes state (Wide leaf shown) = subst (ComesTo program program nodes state) e a.comes in
       wide program program stay IsWideLeaf start state point s (subst (NoneMatters state.held) (sym idle_nodes) c.0) f
       (subst (λ t. IfSome t (λ cost. cost_of program point <ℚ cost)) (sym a.held) (cheaper_there program answer.held point h))
 
   infeasible_is : answer.ended ≡ Infeasible → (point : List ℚ) → ¬ IsFeasible program point
   infeasible_is e =
-      let c : ComesTo program nodes state Infeasible = subst (ComesTo program nodes state) e a.comes in
+      let c : ComesTo program program nodes state Infeasible = subst (ComesTo program program nodes state) e a.comes in
       no_point program program stay IsWideLeaf start state s c.1 c.0
 
   settled : IsSettled program start nodes asked state.log answer
@@ -154,7 +154,7 @@ module _ (program : Program) (start : Option ℚ) (nodes : ℕ) (asked : Option 
     entries = subst (AreTrueEntries program IsWideLeaf start state.log) a.held (true_entries program IsWideLeaf start state s);
   }
 
-  end_holds : (ended : Ended) → ComesTo program nodes state ended → EndHolds program start nodes asked state.log answer ended
+  end_holds : (ended : Ended) → ComesTo program program nodes state ended → EndHolds program start nodes asked state.log answer ended
   end_holds Optimal c = settled
   end_holds Infeasible c = settled
   end_holds (Unbounded ray) c = absurd c

@@ -14,7 +14,7 @@ use Rattle.cip_linear.specs.LinearProgram.{LinearProgram, moved}
 use Rattle.cip_linear.proofs.Rays.{ray_cost}
 use Rattle.cip_leaves.specs.Leaf.{IsLeafIn}
 use Rattle.cip_leaves.specs.Wide.{InRow, InCost}
-use Rattle.cip_leaves.specs.Searched.{first_node, nodes_given, OpenMatters, NoMore, IsFirstLeast, HoldsOnly}
+use Rattle.cip_leaves.specs.Searched.{first_node, nodes_given, OpenMatters, NoMore, IsFirstLeast, LeadsTo}
 use Rattle.cip_leaves.proofs.Points.{only_leaf_of}
 use Rattle.cip_problem.proofs.Log.Given.{node_of_log}
 use Rattle.cip_search.proofs.Members.{none_in}
@@ -120,10 +120,13 @@ one_leaf [] h = refl
 one_leaf (value ∷ values) h = absurd h
 
 -- each feasible point is one of the leaf of no values and no choices
-only_here : HoldsOnly steep None (first_node steep (Some zeroℚ)) no_choices
-only_here point i w =
-    only_leaf_of steep (first_node steep (Some zeroℚ)) no_choices point (node_of_log steep (Some zeroℚ) [] 0 (first_node steep (Some zeroℚ)) tt refl)
-    (record { made = λ column. refl; on = refl; values = record { is_leaf = tt; only = one_leaf } }) w i.feasible
+leads_here : LeadsTo steep None (first_node steep (Some zeroℚ)) no_choices
+leads_here point i w = record {
+  point = point;
+  is_point = only_leaf_of steep (first_node steep (Some zeroℚ)) no_choices point (node_of_log steep (Some zeroℚ) [] 0 (first_node steep (Some zeroℚ)) tt refl)
+      (record { made = λ column. refl; on = refl; values = record { is_leaf = tt; only = one_leaf } }) w i.feasible;
+  no_dearer = ≤ℚ_refl (cost_of steep point);
+}
 
 by_one_move : ShowsOverflow steep (Some zeroℚ) root_parked None no_choices (AtMoves 1)
 by_one_move = record {
@@ -136,7 +139,7 @@ by_one_move = record {
     node = first_node steep (Some zeroℚ);
     chosen = chosen;
     given = refl;
-    only = only_here;
+    leads = leads_here;
     is_leaf = record { each = refl; values = tt };
     wide = leaves.examples.wide;
   };

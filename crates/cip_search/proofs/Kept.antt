@@ -19,6 +19,7 @@ use Rattle.cip_search.proofs.Members.{none_in, here, later, here_or_later, only_
 use Rattle.cip_search.proofs.Bounds.{HoldsThere, no_more_itself, there_inside, there_later, at_point, matters_at, matters_before}
 use Rattle.cip_search.proofs.Relaxed.{no_more_trans}
 use Rattle.cip_search.proofs.OneMore.{node_of_among}
+use Rattle.cip_search.proofs.Leading.{still_leads}
 
 -- ---- members
 
@@ -158,7 +159,7 @@ module _ (program reduced : Program) (way : WayBack) (Wide : Program → List �
     unlogged = s.unlogged;
     apart = s.apart;
     parked = s.parked;
-    stuck = s.stuck;
+    stuck = λ node c. still_leads program reduced Wide (Some cost) state.held node l (s.stuck node c);
     bounds = λ number node e. there_later reduced (Some cost) state.held node.bound node.box l (s.bounds number node e);
     entries = λ entry node c e. let r = s.entries entry node c e in record { kept = r.kept; holds = there_later reduced (Some cost) state.held entry.bound node.box l r.holds };
     complete = λ node k m. s.complete node k (matters_before (Some cost) state.held node.bound l m);

@@ -1,5 +1,6 @@
 pub mod Alike
 pub mod AsGiven
+pub mod AtOnce
 pub mod Bounds
 pub mod Ended
 pub mod Endless
@@ -9,6 +10,7 @@ pub mod Fitting
 pub mod GivenBoxes
 mod HeadlineTried
 pub mod Kept
+pub mod Leading
 pub mod Logs
 pub mod Members
 pub mod OneMore

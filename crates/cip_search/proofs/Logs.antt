@@ -6,20 +6,18 @@ use Rattle.std.proofs.lemmas.List.Elements.{Contains-append_left, Contains-appen
 use Rattle.cip_rational.specs.Rational.{ℚ, lt_test}
 use Rattle.cip_rational.proofs.Rational.Order.{le_or_lt, test_of_lt}
 use Rattle.cip_problem.specs.Program.{Program}
-use Rattle.cip_problem.specs.Log.{Closed, Parked, Entry, Node, AllFollow, root, leaf_count, node_of, IsLog, matters}
+use Rattle.cip_problem.specs.Log.{Closed, Parked, Entry, Node, root, leaf_count, node_of, IsLog, matters}
 use Rattle.cip_problem.proofs.Log.Length.{log_is_short}
-use Rattle.cip_leaves.specs.Leaf.{Leaf, IsOnlyLeafOf}
+use Rattle.cip_leaves.specs.Leaf.{Leaf}
 use Rattle.cip_leaves.specs.Wide.{IsWide}
-use Rattle.cip_leaves.specs.Searched.{first_node, nodes_given, IsLeftOpen, OpenMatters, ParkedMatters, NoMore, IsOneOf, IsLeast, IsCovered, AreTrueEntries, HoldsOnly}
-use Rattle.cip_leaves.proofs.Points.{only_leaf_of}
-use Rattle.cip_search.specs.SearchState.{State, WayBack, stay, unended, all_nodes, HasNoEntry, IsGiven, parked_entry, is_parked_end, IsSearch, IsAsGiven}
+use Rattle.cip_leaves.specs.Searched.{first_node, nodes_given, IsLeftOpen, OpenMatters, ParkedMatters, NoMore, IsOneOf, IsLeast, IsCovered, AreTrueEntries, LeadsTo}
+use Rattle.cip_search.specs.SearchState.{State, WayBack, stay, unended, all_nodes, HasNoEntry, IsGiven, parked_entry, is_parked_end, LeadsBackTo, IsSearch, IsAsGiven}
 use Rattle.cip_search.specs.Endings.{OneMatters, IsBoundOfOne, IsLeastBound}
 use Rattle.cip_search.specs.Statements.{EntriesAreTrue}
 use Rattle.cip_search.proofs.Members.{none_in, kept_was_there, is_kept, mapped, ComesFrom, of_mapped}
 use Rattle.cip_search.proofs.Relaxed.{no_more_trans}
 use Rattle.cip_search.proofs.Alike as alike
 use Rattle.cip_search.proofs.OneMore.{node_of_among, follow_more}
-use Rattle.cip_search.proofs.Told.{given_node_of}
 
 -- a bound that doesn't matter is no less than the cost held
 not_below : (held bound other : Option ℚ) → ((cost : ℚ) → held ≡ Some cost → NoMore bound (Some cost)) → matters held other ≡ false → NoMore bound other
@@ -157,10 +155,9 @@ module _ (program reduced : Program) (way : WayBack) (Wide : Program → List �
 
 -- ---- the program itself
 
--- the improving points of a node as the log gave it are those of the node's leaf
-pub only_points : (program : Program) (start : Option ℚ) (log : List Entry) (held : Option ℚ) (node : Node) (leaf : Leaf) → AllFollow program.integral (first_node program start ∷ []) [] log → (g : IsGiven program start log held node) → IsOnlyLeafOf program node leaf → HoldsOnly program held g.given leaf
-only_points program start log held node leaf f g h point i w =
-    only_leaf_of program node leaf point (given_node_of program start log held node f g) h (g.keeps point i w) i.feasible
+-- the improving points of a node as the log gave it lead to the leaf that the node's own lead to
+pub given_leads : (program : Program) (start : Option ℚ) (log : List Entry) (held : Option ℚ) (node : Node) (leaf : Leaf) → (g : IsGiven program start log held node) → LeadsBackTo program program held node leaf → LeadsTo program held g.given leaf
+given_leads program start log held node leaf g h point i w = h point i (g.keeps point i w)
 
 -- the log gave the node that an entry is of
 pub given_entry : (program : Program) (start : Option ℚ) (log : List Entry) (held : Option ℚ) (parked node : Node) (entry : Entry) (g : IsGiven program start log held parked) → parked_entry parked ≡ entry → node_of (nodes_given program start log) entry.node ≡ Some node → g.given ≡ node
@@ -178,12 +175,11 @@ true_entries program Wide start state s entry node c e =
           let f = parked_from program program stay Wide start state s entry c p in
           let k = s.stuck f.from f.among in
           let g = parked_given program program stay Wide start state s f.from f.among in
-          let only : IsOnlyLeafOf program f.from k.leaf = subst (IsOnlyLeafOf program f.from) (sym k.at_leaf.is) k.at_leaf.only in
           record {
             leaf = k.leaf;
-            is_leaf = k.at_leaf.is_leaf;
-            only = subst (λ n. HoldsOnly program state.held n k.leaf) (given_entry program start state.log state.held f.from node entry g f.is e) (only_points program start state.log state.held f.from k.leaf s.logged g only);
-            wide = k.at_leaf.wide;
+            is_leaf = k.is_leaf;
+            leads = subst (λ n. LeadsTo program state.held n k.leaf) (given_entry program start state.log state.held f.from node entry g f.is e) (given_leads program start state.log state.held f.from k.leaf g k.leads);
+            wide = k.wide;
           };
     }
 

@@ -9,7 +9,7 @@ use Rattle.cip_leaves.specs.Leaf.{Leaf}
 use Rattle.cip_leaves.specs.Searched.{NoMore}
 use Rattle.cip_leaves.specs.WideLeaf.{Shown, IsWideLeaf}
 use Rattle.cip_search.specs.SearchState.{State, stay, unended, all_nodes, IsSearch, parked_entry, is_parked_end, parked_entries}
-use Rattle.cip_search.proofs.Logs.{parked_from, only_points}
+use Rattle.cip_search.proofs.Logs.{parked_from, given_leads}
 use Rattle.cip_search.proofs.Members.{ComesFrom, here, of_mapped, is_kept}
 use Rattle.cip_search.specs.SearchEnds.{IsShownLeaf}
 use Rattle.cip_search.specs.EndLaws.{IsShownNode}
@@ -67,11 +67,11 @@ module _ (program : Program) (start : Option ℚ) (state : State) (s : IsSearch 
   from_parked : (entry : Entry) → Contains state.log entry → entry.end ≡ Parked → ComesFrom parked_entry state.parked entry
   from_parked = parked_from program program stay IsWideLeaf start state s
 
-  pub shown_leaf : (leaf : Leaf) (shown : Shown) → IsShownNode program state.parked leaf shown → IsShownLeaf program start state.log state.held leaf shown
+  pub shown_leaf : (leaf : Leaf) (shown : Shown) → IsShownNode program program state.held state.parked leaf shown → IsShownLeaf program start state.log state.held leaf shown
   shown_leaf leaf shown h =
-      let there : parked_entries state.log ≡ map parked_entry h.before ++ parked_entry h.node ∷ map parked_entry h.after = s.parked ∙ (ap (map parked_entry) h.placed ∙ map_parts h.before h.after h.node) in
-      let at = stands state.log (map parked_entry h.before) (map parked_entry h.after) (parked_entry h.node) there in
-      let among : Contains state.parked h.node = subst (λ t. Contains t h.node) (sym h.placed) (Contains-append_right h.before (h.node ∷ h.after) h.node (here h.node h.after)) in
+      let there : parked_entries state.log ≡ map parked_entry h.chosen.before ++ parked_entry h.node ∷ map parked_entry h.chosen.after = s.parked ∙ (ap (map parked_entry) h.chosen.placed ∙ map_parts h.chosen.before h.chosen.after h.node) in
+      let at = stands state.log (map parked_entry h.chosen.before) (map parked_entry h.chosen.after) (parked_entry h.node) there in
+      let among : Contains state.parked h.node = subst (λ t. Contains t h.node) (sym h.chosen.placed) (Contains-append_right h.chosen.before (h.node ∷ h.chosen.after) h.node (here h.node h.chosen.after)) in
       let every : Contains (all_nodes state) h.node = Contains-append_right (unended state) state.parked h.node among in
       let given = s.given h.node every in
       record {
@@ -82,14 +82,14 @@ module _ (program : Program) (start : Option ℚ) (state : State) (s : IsSearch 
           after = at.after;
           placed = at.placed;
           parked = refl;
-          least = λ other c p. (let f = from_parked other c p in subst (NoMore h.node.bound) (ap (λ (t : Entry). t.bound) f.is) (h.least f.from f.among));
+          least = λ other c p. (let f = from_parked other c p in subst (NoMore h.node.bound) (ap (λ (t : Entry). t.bound) f.is) (h.chosen.least f.from f.among));
           first = λ other c p n. (
               let k = subst (λ t. Contains t other) at.fronts (is_kept (λ (t : Entry). is_parked_end t.end) at.before other c (ap is_parked_end p)) in
-              let f = of_mapped parked_entry h.before other k in
-              h.first f.from f.among (subst (λ b. NoMore b h.node.bound) (ap (λ (t : Entry). t.bound) (sym f.is)) n));
+              let f = of_mapped parked_entry h.chosen.before other k in
+              h.chosen.first f.from f.among (subst (λ b. NoMore b h.node.bound) (ap (λ (t : Entry). t.bound) (sym f.is)) n));
         };
         given = given.found;
-        only = only_points program start state.log state.held h.node leaf s.logged given h.only;
+        leads = given_leads program start state.log state.held h.node leaf given h.leads;
         is_leaf = h.is_leaf;
         wide = h.wide;
       }

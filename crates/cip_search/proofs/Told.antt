@@ -1,9 +1,9 @@
 -- What a search says of the program as read.
-use Rattle.std.proofs.Common.{◌≡◌, inl, inr, true, List, [], ◌∷◌, Option, None, Some, IfSome, Contains, sym, ap, ◌∙◌, subst}
+use Rattle.std.proofs.Common.{◌≡◌, inl, inr, true, List, [], ◌∷◌, Option, None, Some, IfSome, Contains, sym, subst}
 use Rattle.std.proofs.lemmas.Bool.{both_ways}
-use Rattle.std.proofs.lemmas.List.Elements.{Contains-append_cases, Contains-append_right}
+use Rattle.std.proofs.lemmas.List.Elements.{Contains-append_cases}
 use Rattle.cip_rational.specs.Rational.{ℚ, ◌≤ℚ◌, ◌<ℚ◌}
-use Rattle.cip_rational.proofs.Rational.Order.{le_or_lt, <ℚ_of_le_of_lt}
+use Rattle.cip_rational.proofs.Rational.Order.{le_or_lt, ≤ℚ_trans, <ℚ_of_le_of_lt}
 use Rattle.cip_problem.specs.Program.{Program}
 use Rattle.cip_problem.specs.Points.{IsFeasible, cost_of, IsLowerBound}
 use Rattle.cip_problem.specs.Box.{IsInBox}
@@ -16,9 +16,7 @@ use Rattle.cip_cuts.specs.Cover.{IsInOneOf, IsCover, HasBoundFrom}
 use Rattle.cip_cuts.specs.Reduced.{HasNoDearer}
 use Rattle.cip_cuts.proofs.Covers as covers
 use Rattle.cip_cuts.proofs.Reductions.{reduction_bound, reduction_no_point}
-use Rattle.cip_leaves.specs.Leaf.{Leaf}
 use Rattle.cip_leaves.specs.Searched.{first_node}
-use Rattle.cip_leaves.proofs.Points.{only_leaf_of}
 use Rattle.cip_search.specs.SearchState.{State, WayBack, unended, all_nodes, IsGiven, IsSearch}
 use Rattle.cip_search.specs.Endings.{NoneMatters, HasWidePoint}
 use Rattle.cip_search.proofs.Bounds.{at_point, matters_at}
@@ -65,23 +63,18 @@ module _ (program reduced : Program) (way : WayBack) (Wide : Program → List �
   pub bound : (state : State) (b : ℚ) → IsSearch program reduced way Wide start state → IfSome state.held (λ cost. b ≤ℚ cost) → ((node : Node) → Contains (all_nodes state) node → HasBoundFrom b node) → IsLowerBound program b
   bound state b s h f = reduction_bound program reduced way.point b s.back.reduction (covers.cover_bound reduced state.held (all_nodes state) b s.cover h f)
 
-  -- a feasible point of the reduced program in the box of a parked node comes back to a wide leaf
-  parked_point : (state : State) (point : List ℚ) (cost : ℚ) → IsSearch program reduced way Wide start state → (none : HasNoDearer reduced cost) → (r : IsInOneOf (all_nodes state) none.point) → Contains state.parked r.node → HasWidePoint program Wide cost
-  parked_point state point cost s none r c =
+  -- an improving point of the reduced program in the box of a parked node leads back to a wide leaf
+  parked_point : (state : State) (cost : ℚ) → IsSearch program reduced way Wide start state → (none : HasNoDearer reduced cost) → IsImproving reduced state.held none.point → (r : IsInOneOf (all_nodes state) none.point) → Contains state.parked r.node → HasWidePoint program Wide cost
+  parked_point state cost s none i r c =
       let k = s.stuck r.node c in
-      let there = s.given r.node (Contains-append_right (unended state) state.parked r.node c) in
-      let left = k.at_leaf.left in
-      let is_left = only_leaf_of reduced r.node left none.point (given_node_of reduced start state.log state.held r.node s.logged there) k.at_leaf.only r.within none.feasible in
+      let p = k.leads none.point i r.within in
       record {
         leaf = k.leaf;
-        is_leaf = k.at_leaf.is_leaf;
-        wide = k.at_leaf.wide;
-        point = way.point none.point;
-        is_point = record {
-          feasible = subst (λ on. IsFeasible (decided program on) (way.point none.point)) (sym (ap (λ (l : Leaf). l.on) k.at_leaf.is)) (s.back.choices left.on none.point is_left.feasible);
-          values = s.back.leaves none.point none.feasible ∙ ap way.leaf is_left.values ∙ sym (ap (λ (l : Leaf). l.values) k.at_leaf.is);
-        };
-        no_dearer = subst (λ t. t ≤ℚ cost) (sym (s.back.reduction.cost none.point (record { within = none.feasible.within; rows = none.feasible.rows }))) none.no_dearer;
+        is_leaf = k.is_leaf;
+        wide = k.wide;
+        point = p.point;
+        is_point = p.is_point;
+        no_dearer = ≤ℚ_trans p.no_dearer none.no_dearer;
       }
 
   pub wide : (state : State) (point : List ℚ) → IsSearch program reduced way Wide start state → NoneMatters state.held (unended state) → IsFeasible program point → IfSome state.held (λ cost. cost_of program point <ℚ cost) → HasWidePoint program Wide (cost_of program point)
@@ -91,5 +84,5 @@ module _ (program reduced : Program) (way : WayBack) (Wide : Program → List �
       let r = s.cover.reached none.point i in
       elim (Contains-append_cases (unended state) state.parked r.node r.among) [
         | inl k ↦ absurd (both_ways (matters state.held r.node.bound) (n r.node k) (there_matters reduced state.held (all_nodes state) none.point s.cover i r))
-        | inr k ↦ parked_point state point (cost_of program point) s none r k
+        | inr k ↦ parked_point state (cost_of program point) s none i r k
       ]

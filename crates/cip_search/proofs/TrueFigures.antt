@@ -1,5 +1,5 @@
 -- The figures that are printed of a right answer are true.
-use Rattle.std.proofs.Common.{◌≡◌, ◌≢◌, inl, inr, ℕ, Bool, true, false, List, Option, None, Some, IfSome, refl, sym, ap, ◌∙◌, subst}
+use Rattle.std.proofs.Common.{◌≡◌, ◌≢◌, ◌⊎◌, inl, inr, ℕ, Bool, true, false, List, [], Option, None, Some, IfSome, refl, sym, ap, ◌∙◌, subst}
 use Rattle.std.specs.Prelude.{IsSome, option_map, if◌then◌else◌}
 use Rattle.std.proofs.lemmas.Option.{same_Some}
 use Rattle.cip_rational.specs.Rational.{ℚ, ◌≤ℚ◌, ◌<ℚ◌, negate, lt_test}
@@ -218,6 +218,10 @@ module _ (program : Program) (start : Option ℚ) (nodes : ℕ) (asked : Option 
   left_there : NothingIsLeft program start log (cost_of_held answer.held) → NothingIsLeft program start log (cost_of_printed program (figures_of program answer).held)
   left_there = subst (NothingIsLeft program start log) (costs_held program answer.held point)
 
+  left_or_none : NothingIsLeft program start log (cost_of_held answer.held) ⊎ (log ≡ []) → NothingIsLeft program start log (cost_of_printed program (figures_of program answer).held) ⊎ (log ≡ [])
+  left_or_none (inl h) = inl (left_there h)
+  left_or_none (inr e) = inr e
+
   -- the gap isn't reached, as it is printed, by an answer of another end
   far_there : (ended : Ended) → answer.ended ≡ ended → ended ≢ NoMemory → ended ≢ Gap → ends.IsSettled program start nodes asked log answer → ¬ ShowsGap program asked (figures_of program answer)
   far_there ended e n m h g = m (sym e ∙ (h.gap (λ f. n (sym e ∙ f))).1 (gap_back program asked answer g))
@@ -228,7 +232,7 @@ module _ (program : Program) (start : Option ℚ) (nodes : ℕ) (asked : Option 
       (left_there k.0, some_printed (printed_held program) answer.held k.1)
   ends_with Infeasible e h =
       let k = subst (EndsAs program start nodes log answer.held) e h.ends in
-      (left_there k.0, none_printed (printed_held program) answer.held k.1)
+      (left_or_none k.0, none_printed (printed_held program) answer.held k.1)
   ends_with (Unbounded ray) e h = endless program answer ray h
   ends_with NodeLimit e h =
       let k = subst (EndsAs program start nodes log answer.held) e h.ends in
@@ -336,7 +340,7 @@ module _ (program : Program) (box start : Option ℚ) (nodes : ℕ) (asked : Opt
             let w = is_wide program.row_names answer.ended leaf place e in
             wide_of w.0 w.1 w.2;
         ends = ends;
-        exact = λ status a b h. ends_exclude program start nodes asked log (figures_of program answer) status (figures_of program answer).status (last b) a b h ends;
+        exact = λ status a b h. ends_exclude program start nodes asked log (figures_of program answer) status (figures_of program answer).status p.some (last b) a b h ends;
         logged = p.right.logged;
         fit = fit;
         told = λ other f e. answer_text_injective (names_of program) other (figures_of program answer) f fit e;

@@ -2,7 +2,7 @@
 -- and with a gap that was asked for, or none.
 -- Costs and bounds that no figure shows are those of the minimised form. `box` is the box bound of the program, which
 -- is none where a side is open or a sum overflows, and `start` the bound of the search's root.
-use Rattle.std.specs.Prelude.{◌≡◌, ◌≢◌, ℕ, List, [], Option, None, Some, IfSome, IsSome, option_map, length, slice_index_or, ⊤}
+use Rattle.std.specs.Prelude.{◌≡◌, ◌≢◌, ◌⊎◌, ℕ, List, [], Option, None, Some, IfSome, IsSome, option_map, length, slice_index_or, ⊤}
 use Rattle.cip_rational.specs.Rational.{ℚ}
 use Rattle.cip_problem.specs.Program.{Program}
 use Rattle.cip_problem.specs.Points.{IsFeasible, cost_of, printed}
@@ -79,13 +79,14 @@ pub record ShowsOverflow
   pub is_printed : overflow ≡ overflow_at program.row_names by
   pub shown : IsShownLeaf program start log (cost_of_printed program held) leaf by
 
--- what each end says; those by a spent budget and by a shown overflow come only where the gap isn't reached
+-- what each end says; infeasible may have been shown before a node was taken; the ends by a spent budget and by a shown
+-- overflow come only where the gap isn't reached
 abbrev pub EndsWith : Program → (start : Option ℚ) → (nodes : ℕ) → (asked : Option ℚ) → List Entry → Figures → Status
     → Type 0
 EndsWith program start nodes asked log figures Optimal =
     NothingIsLeft program start log (cost_of_printed program figures.held) × IsSome figures.held
 EndsWith program start nodes asked log figures Infeasible =
-    NothingIsLeft program start log (cost_of_printed program figures.held) × (figures.held ≡ None)
+    (NothingIsLeft program start log (cost_of_printed program figures.held) ⊎ (log ≡ [])) × (figures.held ≡ None)
 EndsWith program start nodes asked log figures (Unbounded ray) = IsEndless program figures ray
 EndsWith program start nodes asked log figures NodeLimit =
     IsSpent program start nodes log figures.held × (¬ ShowsGap program asked figures)

@@ -18,11 +18,13 @@ FiguresAreTrue =
     → IsWellFormed program → IsPrintable program box start nodes asked log answer
     → AreTrue program box start nodes asked log (figures_of program answer)
 
--- no two ends that come by themselves say what holds, as long as cost and bound agree where nothing is left
+-- no two ends that come by themselves say what holds, as long as cost and bound agree where nothing is left, and a node
+-- may be taken
 abbrev pub EndsExclude : Type 0
 EndsExclude =
     (program : Program) (start : Option ℚ) (nodes : ℕ) (asked : Option ℚ) (log : List Entry) (figures : Figures)
-    (status other : Status) → AgreeAtLast program start log figures → EndsItself status → EndsItself other
+    (status other : Status)
+    → 0 < nodes → AgreeAtLast program start log figures → EndsItself status → EndsItself other
     → EndsWith program start nodes asked log figures status → EndsWith program start nodes asked log figures other
     → status_word status ≡ status_word other
 

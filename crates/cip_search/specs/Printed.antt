@@ -1,5 +1,5 @@
 -- The figures that are printed of what a search answers: of a program that maximises, cost and bound are negated again.
-use Rattle.std.specs.Prelude.{◌≡◌, ◌≢◌, ℕ, List, Option, option_map, length}
+use Rattle.std.specs.Prelude.{◌≡◌, ◌≢◌, ℕ, ◌<◌, List, Option, option_map, length}
 use Rattle.cip_rational.specs.Rational.{ℚ}
 use Rattle.cip_problem.specs.Program.{Program}
 use Rattle.cip_problem.specs.WellFormed.{columns}
@@ -34,11 +34,12 @@ figures_of program answer = record {
   bound = option_map (printed program) answer.bound;
 }
 
--- an answer is right beside its log; its bound is not below the box bound, after infeasible and unbounded aside; and a
--- ray has a change for each column
+-- an answer within a budget of at least one node is right beside its log; its bound is not below the box bound, after
+-- infeasible and unbounded aside; and a ray has a change for each column
 pub record IsPrintable
     (program : Program) (box start : Option ℚ) (nodes : ℕ) (asked : Option ℚ) (log : List Entry) (answer : Answer)
     : Type 0 where
+  pub some : 0 < nodes
   pub right : IsAnswer program start nodes asked log answer
   pub bound : answer.ended ≢ Infeasible → ((ray : List ℚ) → answer.ended ≢ Unbounded ray) → NoMore box answer.bound
   pub ray : (ray : List ℚ) → answer.ended ≡ Unbounded ray → length ray ≡ columns program

@@ -1,9 +1,10 @@
 -- What a search of a program answers, with its log, as one statement. `start` is the bound of the root, `nodes` the
 -- budget, and `marked` the numbers of the nodes whose linear programs showed nothing.
-use Rattle.std.specs.Prelude.{◌≡◌, ◌⊎◌, ℕ, ◌≤◌, List, [], ◌∷◌, ◌++◌, Option, Some, length, ⊤}
+use Rattle.std.specs.Prelude.{◌≡◌, ◌⊎◌, ℕ, ◌≤◌, List, [], ◌∷◌, ◌++◌, Option, None, Some, length, ⊤}
 use Rattle.std.specs.List.{Contains}
 use Rattle.cip_rational.specs.Rational.{ℚ}
 use Rattle.cip_problem.specs.Program.{Program}
+use Rattle.cip_problem.specs.Points.{IsFeasible}
 use Rattle.cip_problem.specs.WellFormed.{columns}
 use Rattle.cip_problem.specs.Log.{End, Split, Closed, Parked, Entry, Node, node_of}
 use Rattle.cip_leaves.specs.Searched.{NoMore, nodes_given}
@@ -59,11 +60,18 @@ pub record IsSearchAnswer
   pub within : length log ≤ nodes
   -- the bound is not below that of the root; so it is left out only where the root has none
   pub bound : TellsBound answer.ended → NoMore start answer.bound
-  -- unless memory was refused, a node was taken
-  pub searched : log ≡ [] → answer.ended ≡ NoMemory
+  -- unless memory was refused, or no point is feasible, a node was taken
+  pub searched : log ≡ [] → (answer.ended ≡ NoMemory) ⊎ (answer.ended ≡ Infeasible)
   -- a ray has a change for each column; the search ended with the node that showed it, which was put aside
   pub long : (ray : List ℚ) → answer.ended ≡ Unbounded ray → length ray ≡ columns program
   pub ray : (ray : List ℚ) → answer.ended ≡ Unbounded ray → IsParkedLast log
   -- nodes were split by bounds that are as good as their linear programs', unless a mark says why not
   pub work : AreRelaxed program start log marked
   pub marks : AreOfEntries log marked
+
+-- where no point is feasible, that is a right answer without a search
+abbrev pub EndsAtOnce : Type 0
+EndsAtOnce =
+    (program : Program) (start : Option ℚ) (nodes : ℕ) (asked : Option ℚ)
+    → ((point : List ℚ) → ¬ IsFeasible program point)
+    → IsSearchAnswer program start nodes asked [] [] (record { ended = Infeasible; held = None; bound = None })

@@ -1,7 +1,7 @@
 -- How a search over a program with continuous columns ends, and what its answer says: of the point, the cost, the bound
 -- and the end. All figures are those of the minimised form; `start` is the bound of the root, `nodes` the budget, and
 -- `asked` the gap that was asked for, if one was.
-use Rattle.std.specs.Prelude.{◌≡◌, ◌≢◌, ◌↔◌, ℕ, false, List, Option, None, Some, IfSome, IsSome, option_map, length, ⊤}
+use Rattle.std.specs.Prelude.{◌≡◌, ◌≢◌, ◌⊎◌, ◌↔◌, ℕ, false, List, [], Option, None, Some, IfSome, IsSome, option_map, length, ⊤}
 use Rattle.cip_rational.specs.Rational.{ℚ, ◌-ℚ◌, ◌≤ℚ◌, ◌<ℚ◌}
 use Rattle.cip_rational.specs.Range.{difference_overflows}
 use Rattle.cip_problem.specs.Program.{Program}
@@ -10,7 +10,7 @@ use Rattle.cip_problem.specs.Choices.{decided}
 use Rattle.cip_problem.specs.Log.{Entry, Node, node_of, IsLog}
 use Rattle.cip_linear.specs.Falling.{FallsWithoutEnd}
 use Rattle.cip_leaves.specs.Leaf.{Leaf, IsLeafOf}
-use Rattle.cip_leaves.specs.Searched.{nodes_given, OpenMatters, ParkedMatters, IsLeast, IsCovered, AreTrueEntries, HoldsOnly, IsFirstLeast}
+use Rattle.cip_leaves.specs.Searched.{nodes_given, OpenMatters, ParkedMatters, IsLeast, IsCovered, AreTrueEntries, LeadsTo, IsFirstLeast}
 use Rattle.cip_leaves.specs.WideLeaf.{Shown, IsWideBy, IsWideLeaf}
 use Rattle.cip_search.specs.Endings.{HasWidePoint}
 
@@ -43,8 +43,8 @@ pub record IsHeldPoint (program : Program) (held : Held) : Type 0 where
   pub feasible : IsFeasible program held.point
   pub cost : held.cost ≡ cost_of program held.point
 
--- the leaf of the parked node of least bound, the first of these, is shown: the node's improving points are those of
--- the leaf, which is wide by what is shown
+-- a leaf of the parked node of least bound, the first of these, is shown: each improving point of the node has one of
+-- the leaf that is no dearer, and the leaf is wide by what is shown
 pub record IsShownLeaf
     (program : Program) (start : Option ℚ) (log : List Entry) (held : Option ℚ) (leaf : Leaf) (shown : Shown) : Type 0
   where
@@ -52,7 +52,7 @@ pub record IsShownLeaf
     pub node : Node
     pub chosen : IsFirstLeast log entry
     pub given : node_of (nodes_given program start log) entry.node ≡ Some node
-    pub only : HoldsOnly program held node leaf
+    pub leads : LeadsTo program held node leaf
     pub is_leaf : IsLeafOf program leaf
     pub wide : IsWideBy (decided program leaf.on) leaf.values shown
 
@@ -74,12 +74,12 @@ pub record NothingIsLeft (program : Program) (start : Option ℚ) (log : List En
   pub none_open : ¬ OpenMatters program start log held
   pub none_parked : ¬ ParkedMatters log held
 
--- what the end says
+-- what the end says: infeasible may have been shown before a node was taken
 abbrev pub EndsAs : Program → Option ℚ → (nodes : ℕ) → List Entry → Option Held → Ended → Type 0
 EndsAs program start nodes log held Optimal =
     NothingIsLeft program start log (cost_of_held held) × IsSome held
 EndsAs program start nodes log held Infeasible =
-    NothingIsLeft program start log (cost_of_held held) × (held ≡ None)
+    (NothingIsLeft program start log (cost_of_held held) ⊎ (log ≡ [])) × (held ≡ None)
 EndsAs program start nodes log held (Unbounded ray) = ⊥
 EndsAs program start nodes log held NodeLimit =
     (length log ≡ nodes) × OpenMatters program start log (cost_of_held held)

@@ -1,7 +1,7 @@
 -- What holds of a search between two steps. A tree of boxes is searched for points of a program `reduced`, which may be
 -- another one than the program as read: `way` leads back. The log, the boxes, the bounds and the cover are those of the
--- reduced program; the program as read is what points are held of, and what parked nodes are leaves of. `start` is the
--- bound that the root has, if it has one; `Wide` says which whole values of a program can't be solved in range.
+-- reduced program; the program as read is what points are held of, and to whose leaves parked nodes lead back. `start`
+-- is the bound that the root has, if it has one; `Wide` says which whole values of a program can't be solved in range.
 use Rattle.std.specs.Prelude.{◌≡◌, ℕ, ◌==◌, ◌≤◌, Bool, true, false, List, [], ◌∷◌, ◌++◌, map, count_by, Option, Some, IfSome}
 use Rattle.std.specs.List.{Contains, filter}
 use Rattle.cip_rational.specs.Rational.{ℚ}
@@ -14,7 +14,8 @@ use Rattle.cip_cuts.specs.Improving.{HoldsInBox, IsBoundIn}
 use Rattle.cip_cuts.specs.Cover.{IsCover}
 use Rattle.cip_cuts.specs.Reduced.{IsReduction}
 use Rattle.cip_leaves.specs.Leaf.{at_wholes, Leaf, IsLeafOf, IsOnlyLeafOf}
-use Rattle.cip_leaves.specs.Searched.{first_node, nodes_given, IsLeftOpen, NoMore}
+use Rattle.cip_leaves.specs.Searched.{first_node, nodes_given, IsLeftOpen, NoMore, HasPointOfLeaf}
+use Rattle.cip_leaves.specs.WideLeaf.{Shown, IsWideBy}
 
 -- where a search stands: the cost held, if a point is; the nodes in work, the open and the parked ones, each with the
 -- box and the bound that it has now; and the log
@@ -111,7 +112,22 @@ pub record IsAttained (program : Program) (cost : ℚ) : Type 0 where
   pub feasible : IsFeasible program point
   pub is_cost : cost ≡ cost_of program point
 
--- the box of a node has one leaf, which comes back as this leaf of the program, and that is wide
+-- each improving point of the reduced program in the box of a node has a point of this leaf of the program, which costs
+-- no more than it does in the reduced program
+abbrev pub LeadsBackTo : (program reduced : Program) → (held : Option ℚ) → Node → Leaf → Type 0
+LeadsBackTo program reduced held node leaf =
+    HoldsInBox reduced held node.box (λ point. HasPointOfLeaf program leaf (cost_of reduced point))
+
+-- the improving points in the box of a node lead back to a leaf of the program, which is wide
+pub record LeadsToWide
+    (program reduced : Program) (Wide : Program → List ℚ → Type 0) (held : Option ℚ) (node : Node) : Type 0 where
+  pub leaf : Leaf
+  pub is_leaf : IsLeafOf program leaf
+  pub leads : LeadsBackTo program reduced held node leaf
+  pub wide : Wide (decided program leaf.on) leaf.values
+
+-- the box of a node has one leaf, which comes back as this leaf of the program, and that is wide: by this a node is put
+-- aside
 pub record IsStuckAt
     (program reduced : Program) (way : WayBack) (Wide : Program → List ℚ → Type 0) (leaf : Leaf)
     (node : Node) : Type 0 where
@@ -126,6 +142,15 @@ pub record IsStuck
     (program reduced : Program) (way : WayBack) (Wide : Program → List ℚ → Type 0) (node : Node) : Type 0 where
   pub leaf : Leaf
   pub at_leaf : IsStuckAt program reduced way Wide leaf node
+
+-- the box of a node has one leaf, which comes back as this leaf of the program, and that is wide by what is shown
+pub record IsWideBack
+    (program reduced : Program) (way : WayBack) (node : Node) (leaf : Leaf) (shown : Shown) : Type 0 where
+  pub left : Leaf
+  pub only : IsOnlyLeafOf reduced node left
+  pub is : leaf ≡ record { values = way.leaf left.values; on = left.on }
+  pub is_leaf : IsLeafOf program leaf
+  pub wide : IsWideBy (decided program leaf.on) leaf.values shown
 
 -- ---- the search
 
@@ -149,8 +174,9 @@ pub record IsSearch
   pub apart : AreApart (unended state)
   -- the entries of parked nodes are those of the nodes that are parked, in their order
   pub parked : parked_entries state.log ≡ map parked_entry state.parked
-  -- and each of these is a wide leaf of the program
-  pub stuck : (node : Node) → Contains state.parked node → IsStuck program reduced way Wide node
+  -- and each of these leads back to a wide leaf of the program
+  pub stuck : (node : Node)
+      → Contains state.parked node → LeadsToWide program reduced Wide state.held node
   -- the bound that the log gives a node holds in the box that it gives it
   pub bounds : (number : ℕ) (node : Node)
       → node_of (nodes_given reduced start state.log) number ≡ Some node

@@ -218,6 +218,17 @@ pub record StepsKeepBoxes
       → state.work ≡ node ∷ work → IsPermutation (node ∷ state.open_) open_
       → HasGivenBoxes reduced start state → HasGivenBoxes reduced start (record state { work = work; open_ = open_ })
 
+-- ---- ways back
+
+-- a program that is searched itself stays as it is, and a search is one by each way back that there is
+pub record WaysAreFree
+    (program reduced : Program) (way other : WayBack) (Wide : Program → List ℚ → Type 0)
+    (start : Option ℚ) : Type 0 where
+  pub stays : IsWayBack program program stay
+  pub by_other : (state : State)
+      → IsWayBack program reduced other → IsSearch program reduced way Wide start state
+      → IsSearch program reduced other Wide start state
+
 -- ---- ends
 
 -- what a search says of the program as read

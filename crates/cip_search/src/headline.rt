@@ -5,12 +5,14 @@
 ghost use Rattle.cip_search.specs.HeadlineExamples.{Examples};
 ghost use Rattle.cip_search.specs.HeadlineStatements.{FiguresAreTrue, EndsExclude, BudgetsSuffice, RaysExcludeBounds};
 
-/// The figures that are printed of a right answer of a search are true of the program, beside the log of the search.
+/// The figures that are printed of a right answer of a search within a budget of at least one node are true of the
+/// program, beside the log of the search.
 pub fn figures_are_true()
     ensures { FiguresAreTrue }
 {}
 
-/// Optimal, infeasible, spent node budget, reached gap and shown overflow: what two of these say never holds at once.
+/// Optimal, infeasible, spent node budget, reached gap and shown overflow: what two of these say never holds at once,
+/// where the budget is at least one node.
 pub fn ends_exclude()
     ensures { EndsExclude }
 {}

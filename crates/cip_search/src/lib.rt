@@ -11,7 +11,7 @@ ghost use Rattle.cip_rational.specs.Rational.{ℚ};
 ghost use Rattle.cip_problem.specs.Program.{Program};
 ghost use Rattle.cip_leaves.specs.Wide.{IsWide};
 ghost use Rattle.cip_search.specs.SearchState.{WayBack};
-ghost use Rattle.cip_search.specs.Statements.{StepsKeepSearches, StepsKeepGiven, StepsKeepBoxes, SearchesTell, SearchLogsTell, EntriesAreTrue, RelaxedBoundsHold};
+ghost use Rattle.cip_search.specs.Statements.{StepsKeepSearches, StepsKeepGiven, StepsKeepBoxes, WaysAreFree, SearchesTell, SearchLogsTell, EntriesAreTrue, RelaxedBoundsHold};
 
 /// A search begins with its root open, and what holds of it goes on holding as nodes are taken up, their bounds rise
 /// and their boxes shrink, as they are closed, put aside, split and made open again, as a cheaper point is held, and
@@ -31,6 +31,13 @@ pub fn steps_keep_given()
 pub fn steps_keep_boxes()
     ensures { (program reduced : Program) (way : WayBack) (start : Option ℚ)
         → StepsKeepBoxes program reduced way IsWide start }
+{}
+
+/// A program that is searched itself stays as it is, and a search is one by each way back that there is: of the way it
+/// says no more than that there is one.
+pub fn ways_are_free()
+    ensures { (program reduced : Program) (way other : WayBack) (start : Option ℚ)
+        → WaysAreFree program reduced way other IsWide start }
 {}
 
 /// Of the program as read a search says that it has no feasible point, that none is cheaper than the cost held, what

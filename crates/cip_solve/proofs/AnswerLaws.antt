@@ -4,29 +4,32 @@ use Rattle.std.specs.Prelude.{option_map}
 use Rattle.cip_rational.specs.Rational.{ℚ, ◌≤ℚ◌}
 use Rattle.cip_rational.proofs.Rational.Order.{≤ℚ_antisymm}
 use Rattle.cip_problem.specs.Program.{Program}
-use Rattle.cip_problem.specs.Points.{IsLowerBound}
+use Rattle.cip_problem.specs.Points.{IsLowerBound, cost_of}
 use Rattle.cip_problem.specs.Log.{Entry, Node}
 use Rattle.cip_cuts.specs.Improving.{IsNoDearer}
 use Rattle.cip_cuts.proofs.Improving.{holds_later}
-use Rattle.cip_leaves.specs.Leaf.{IsPointOfLeaf}
-use Rattle.cip_leaves.specs.Searched.{NoMore, IsOneOf, IsLeast, IsCovered, HasWideLeaf, AreTrueEntries}
+use Rattle.cip_leaves.specs.Searched.{NoMore, IsOneOf, IsLeast, IsCovered, HasPointOfLeaf, HasWideLeaf, AreTrueEntries}
 use Rattle.cip_leaves.proofs.Covers.{bound_holds}
 use Rattle.cip_leaves.specs.WideLeaf.{IsWideLeaf}
 use Rattle.cip_incumbent.specs.HeldPoint.{HeldPoint, HoldsPointOf}
-use Rattle.cip_search.specs.SearchState.{State, stay, all_nodes, IsSearch, IsAsGiven}
+use Rattle.cip_search.specs.SearchState.{State, WayBack, stay, all_nodes, IsSearch, IsAsGiven}
 use Rattle.cip_search.specs.Endings.{IsLeastBound}
 use Rattle.cip_search.proofs.Bounds.{there_later, no_more_same}
 use Rattle.cip_search.proofs.Logs as logs
+use Rattle.cip_search.proofs.Logs.{true_entries}
 use Rattle.cip_search.proofs.Relaxed.{no_more_trans}
 use Rattle.cip_search.specs.SearchEnds as ends
 use Rattle.cip_search.specs.SearchEnds.{IsAnswer}
 use Rattle.cip_search.specs.EndLaws.{ComesTo}
 use Rattle.cip_search.proofs.EndsRight.{ends_are_right}
 use Rattle.cip_report.specs.declared.figures.Held.{Held}
+use Rattle.cip_seen.specs.SeenLogs.{log_seen, state_seen}
 use Rattle.cip_endings.specs.AnswerOf.{held_of}
 use Rattle.cip_endings.specs.LeastBounds.{is_no_more, capped}
 use Rattle.cip_solve.specs.Stopping.{WasLeast, BestIs}
 use Rattle.cip_endings.proofs.BoundLaws.{no_more_tells, more_below}
+use Rattle.cip_solve.specs.Searching.{CanBeSeen}
+use Rattle.cip_solve.proofs.SeenLaws.{search_law, seen_idle, seen_least}
 
 -- ---- the point
 
@@ -45,11 +48,18 @@ is_point program columns best (Some held) h e =
 
 -- ---- refused memory
 
+-- a bound was the least by a log, and the entries were true, beside a cost held before
+pub record WasLeastOf (program : Program) (start : Option ℚ) (log : List Entry) (held bound : Option ℚ) : Type 0 where
+  pub before : Option ℚ
+  pub no_dearer : IsNoDearer held before
+  pub least : IsLeast program start log before bound
+  pub entries : AreTrueEntries program IsWideLeaf start log before
+
 still_wide : (program : Program) (now before : Option ℚ) (node : Node) → IsNoDearer now before → HasWideLeaf program IsWideLeaf before node → HasWideLeaf program IsWideLeaf now node
 still_wide program now before node d w = record {
   leaf = w.leaf;
   is_leaf = w.is_leaf;
-  only = holds_later program now before node.box (IsPointOfLeaf program w.leaf) d w.only;
+  leads = holds_later program now before node.box (λ point. HasPointOfLeaf program w.leaf (cost_of program point)) d w.leads;
   wide = w.wide;
 }
 
@@ -108,8 +118,8 @@ module _ (program : Program) (start : Option ℚ) (nodes : ℕ) (asked : Option 
   bound_below held (Some b) e l = bound_holds program start state.log (ends.cost_of_held held) b (cover_there held e) l
 
   -- where memory was refused
-  pub refused_is_right : (held : Option ends.Held) (bound : Option ℚ) → state.held ≡ ends.cost_of_held held → IfSome held (ends.IsHeldPoint program) → WasLeast program start state.log state.held bound → IsAnswer program start nodes asked state.log (record { ended = ends.NoMemory; held = held; bound = capped (ends.cost_of_held held) bound })
-  refused_is_right held bound e p was =
+  pub refused_itself : (held : Option ends.Held) (bound : Option ℚ) → state.held ≡ ends.cost_of_held held → IfSome held (ends.IsHeldPoint program) → WasLeastOf program start state.log state.held bound → IsAnswer program start nodes asked state.log (record { ended = ends.NoMemory; held = held; bound = capped (ends.cost_of_held held) bound })
+  refused_itself held bound e p was =
       let d : IsNoDearer (ends.cost_of_held held) was.before = subst (λ h. IsNoDearer h was.before) e was.no_dearer in
       let l = capped_least program start state.log (ends.cost_of_held held) was.before bound d was.least in
       record {
@@ -129,8 +139,31 @@ module _ (program : Program) (start : Option ℚ) (nodes : ℕ) (asked : Option 
         logged = logs.is_log program program stay IsWideLeaf start state s;
       }
 
--- where it stands still
-pub still_is_right : (program : Program) (start : Option ℚ) (nodes : ℕ) (asked : Option ℚ) (state : State) (held : Option ends.Held) (bound : Option ℚ) (ended : ends.Ended) → IsSearch program program stay IsWideLeaf start state → IsAsGiven program start state → state.work ≡ [] → state.held ≡ ends.cost_of_held held → IfSome held (ends.IsHeldPoint program) → ComesTo program nodes state ended → (ended ≢ ends.Infeasible → IsLeastBound state.held (all_nodes state) bound) → (ended ≡ ends.Infeasible → bound ≡ None) → (ended ≢ ends.NoMemory → (ended ≡ ends.Gap) ↔ ends.ReachesGap asked (ends.cost_of_held held) bound) → IsAnswer program start nodes asked state.log (record { ended = ended; held = held; bound = bound })
-still_is_right program start nodes asked state held bound ended s g idle e p comes least none gap =
-    ends_are_right program start nodes asked state (record { ended = ended; held = held; bound = bound }) s g
-    (record { idle = idle; held = e; point = p; comes = comes; least = least; no_bound = none; gap = gap })
+-- ---- a search of a reduced program, as it is seen in the program as read
+
+module _ (program reduced : Program) (way : WayBack) (kept : ℕ → ℕ) (start : Option ℚ) (c : CanBeSeen program reduced kept) where
+  was_least_seen : (log : List Entry) (held bound : Option ℚ) → WasLeast program reduced way start log held bound → WasLeastOf program start (log_seen kept log) held bound
+  was_least_seen log held bound was =
+      let state = state_seen program start kept was.before in
+      let s = search_law program reduced kept start c way was.before was.searched in
+      let l = logs.least program program stay IsWideLeaf start state bound s.searched (s.as_given was.as_given) (seen_idle program start kept was.before was.idle) (seen_least program start kept was.before bound was.least) in
+      record {
+        before = was.before.held;
+        no_dearer = was.no_dearer;
+        least = subst (λ t. IsLeast program start (log_seen kept t) was.before.held bound) was.logged l;
+        entries = subst (λ t. AreTrueEntries program IsWideLeaf start (log_seen kept t) was.before.held) was.logged (true_entries program IsWideLeaf start state s.searched);
+      }
+
+  module _ (nodes : ℕ) (asked : Option ℚ) (state : State) (s : IsSearch program reduced way IsWideLeaf start state) where
+    -- where memory was refused
+    pub refused_is_right : (held : Option ends.Held) (bound : Option ℚ) → state.held ≡ ends.cost_of_held held → IfSome held (ends.IsHeldPoint program) → WasLeast program reduced way start state.log state.held bound → IsAnswer program start nodes asked (log_seen kept state.log) (record { ended = ends.NoMemory; held = held; bound = capped (ends.cost_of_held held) bound })
+    refused_is_right held bound e p was =
+        refused_itself program start nodes asked (state_seen program start kept state) (search_law program reduced kept start c way state s).searched held bound e p (was_least_seen state.log state.held bound was)
+
+    -- where it stands still
+    pub still_is_right : (held : Option ends.Held) (bound : Option ℚ) (ended : ends.Ended) → IsAsGiven reduced start state → state.work ≡ [] → state.held ≡ ends.cost_of_held held → IfSome held (ends.IsHeldPoint program) → ComesTo program reduced nodes state ended → (ended ≢ ends.Infeasible → IsLeastBound state.held (all_nodes state) bound) → (ended ≡ ends.Infeasible → bound ≡ None) → (ended ≢ ends.NoMemory → (ended ≡ ends.Gap) ↔ ends.ReachesGap asked (ends.cost_of_held held) bound) → IsAnswer program start nodes asked (log_seen kept state.log) (record { ended = ended; held = held; bound = bound })
+    still_is_right held bound ended g idle e p comes least none gap =
+        let answer : ends.Answer = record { ended = ended; held = held; bound = bound } in
+        let k = search_law program reduced kept start c way state s in
+        ends_are_right program start nodes asked (state_seen program start kept state) answer k.searched (k.as_given g)
+        (k.answers nodes asked answer (record { idle = idle; held = e; point = p; comes = comes; least = least; no_bound = none; gap = gap }))

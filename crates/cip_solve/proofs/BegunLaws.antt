@@ -1,19 +1,25 @@
 -- What a search begins with.
-use Rattle.std.proofs.Common.{◌≡◌, inr, ℕ, Bool, List, [], ◌∷◌, Option, None, Some, IfSome, refl, sym, ◌∙◌, subst, arith}
+use Rattle.std.proofs.Common.{◌≡◌, inl, inr, ℕ, Bool, false, true≢false, List, [], ◌∷◌, Option, None, Some, IfSome, refl, sym, ◌∙◌, subst, arith}
 use Rattle.cip_rational.specs.Rational.{ℚ}
+use Rattle.cip_rational.proofs.Rational.Order.{≤ℚ_trans}
 use Rattle.cip_problem.specs.Program.{Program}
 use Rattle.cip_problem.specs.Points.{IsLowerBound}
-use Rattle.cip_problem.specs.WellFormed.{columns}
+use Rattle.cip_problem.specs.WellFormed.{IsWellFormed, columns}
 use Rattle.cip_problem.specs.Log.{Entry, Node, node_of}
 use Rattle.cip_cuts.specs.Improving.{IsBoundIn}
 use Rattle.cip_cuts.proofs.Reductions.{reduction_itself}
 use Rattle.cip_leaves.specs.Searched.{NoMore, first_node, nodes_given}
 use Rattle.cip_leaves.specs.WideLeaf.{IsWideLeaf}
 use Rattle.cip_incumbent.specs.HeldPoint.{Holding, nothing_held}
-use Rattle.cip_search.specs.SearchState.{State, stay, IsWayBack, IsSearch, IsAsGiven}
+use Rattle.cip_reductions.specs.NarrowedPrograms.{IsInfeasible}
+use Rattle.cip_postsolve.specs.StepsBack.{StepsTaken}
+use Rattle.cip_compaction.specs.declared.presolved.Presolved.{Presolved}
+use Rattle.cip_compaction.specs.PresolvedPrograms.{IsPresolved}
+use Rattle.cip_search.specs.SearchState.{State, WayBack, stay, IsWayBack, IsSearch, IsAsGiven}
 use Rattle.cip_search.specs.Endings.{IsLeastBound}
 use Rattle.cip_search.proofs.Kept as searching
 use Rattle.cip_search.proofs.AsGiven as giving
+use Rattle.cip_search.proofs.AtOnce.{ends_at_once}
 use Rattle.cip_search.proofs.Bounds.{no_more_itself}
 use Rattle.cip_search.proofs.Logs as logs
 use Rattle.cip_search.proofs.Members.{none_in, here, only_one}
@@ -23,70 +29,85 @@ use Rattle.cip_search.proofs.Logs.{true_entries}
 use Rattle.cip_search.proofs.WorkLogs.{none_relaxed, none_marked}
 use Rattle.cip_tree.specs.Nodes.{Nodes}
 use Rattle.cip_core.specs.Beginning.{IsRootBound, HasNotBegun}
-use Rattle.cip_core.specs.CoreStates.{CoreState}
-use Rattle.cip_core.specs.KeptNodes.{cost_held, IsKept, IsHolding}
+use Rattle.cip_core.specs.CoreStates.{CoreState, reduced_of, way_of, IsSound}
+use Rattle.cip_core.specs.KeptNodes.{cost_held, IsKept}
 use Rattle.cip_node_bounds.specs.declared.relaxed.Mark.{Mark}
+use Rattle.cip_solve.specs.Reducing.{IsOfReduced}
 use Rattle.cip_solve.specs.Solved.{AreMet, IsSolved, IsSolvedBy}
-use Rattle.cip_solve.specs.Searching.{IsStill, IsAtRoot, IsTold, IsWritten}
-use Rattle.cip_solve.specs.Stopping.{WasLeast}
-use Rattle.cip_solve.proofs.AnswerLaws.{refused_is_right}
+use Rattle.cip_solve.specs.Searching.{IsStillAt, IsAtRoot, IsTold, IsWritten, CanBeSeen}
+use Rattle.cip_solve.proofs.AnswerLaws.{WasLeastOf, refused_itself}
 
 -- ---- the root's bound
 
-bound_lower : (program : Program) (bound : Option ℚ) → IfSome bound (IsBoundIn program None program.bounds) → IfSome bound (IsLowerBound program)
-bound_lower program None h = tt
-bound_lower program (Some b) h = λ point f. h point (record { feasible = f; cheaper = tt }) f.within
+-- a bound of the reduced program is one of the program as read
+bound_lower : (program reduced : Program) (kept : ℕ → ℕ) (bound : Option ℚ) → CanBeSeen program reduced kept → IfSome bound (IsBoundIn reduced None reduced.bounds) → IfSome bound (IsLowerBound program)
+bound_lower program reduced kept None c h = tt
+bound_lower program reduced kept (Some b) c h = λ point f.
+    let n = c.pair.none_lost point f in
+    ≤ℚ_trans (h n.other (record { feasible = n.feasible; cheaper = tt }) n.feasible.within) n.no_dearer
 
-root_holds : (program : Program) (tree : Nodes) → tree.log ≡ [] → IsKept program program stay tree None [] → IfSome tree.root.bound (IsBoundIn program None program.bounds)
-root_holds program tree e k =
-    let first = first_node program tree.root.bound in
-    let P : List Entry → Type 0 = λ l. node_of (nodes_given program tree.root.bound l) 0 ≡ Some first in
+root_holds : (program reduced : Program) (way : WayBack) (tree : Nodes) → tree.log ≡ [] → IsKept program reduced way tree None [] → IfSome tree.root.bound (IsBoundIn reduced None reduced.bounds)
+root_holds program reduced way tree e k =
+    let first = first_node reduced tree.root.bound in
+    let P : List Entry → Type 0 = λ l. node_of (nodes_given reduced tree.root.bound l) 0 ≡ Some first in
     k.searched.bounds 0 first (subst P (sym e) refl)
 
-pub start_lower : (program : Program) (tree : Nodes) (holding : Holding) (columns : ℕ) → holding ≡ nothing_held columns → tree.log ≡ [] → IsKept program program stay tree (cost_held holding) [] → IfSome tree.root.bound (IsLowerBound program)
-start_lower program tree holding columns h e k =
-    bound_lower program tree.root.bound (root_holds program tree e (subst (λ t. IsKept program program stay tree (cost_held t) []) h k))
+start_lower : (program reduced : Program) (way : WayBack) (kept : ℕ → ℕ) (tree : Nodes) (holding : Holding) (columns : ℕ) → CanBeSeen program reduced kept → holding ≡ nothing_held columns → tree.log ≡ [] → IsKept program reduced way tree (cost_held holding) [] → IfSome tree.root.bound (IsLowerBound program)
+start_lower program reduced way kept tree holding columns c h e k =
+    bound_lower program reduced kept tree.root.bound c
+    (root_holds program reduced way tree e (subst (λ t. IsKept program reduced way tree (cost_held t) []) h k))
 
 -- ---- the search
 
-still_begun : (program : Program) (core : CoreState) → HasNotBegun program core → IsHolding core.program core.incumbent → IsStill core.program core.tree.root.bound core.tree core.incumbent None
-still_begun program core b h = record {
-  kept = b.kept.kept;
-  matter = b.kept.matter;
-  start_is = refl;
-  is_held = h;
-  is_worst = b.new.parked;
-  counted = omega (arith, b.new.ids);
-  begun = λ e f. absurd (let g : core.tree.root ∷ [] ≡ [] = sym b.new.open_ ∙ f in cc);
-}
+module _ (program reduced : Program) (steps : StepsTaken) (core : CoreState) (b : HasNotBegun program reduced steps core) (s : IsSound core) (formed : IsWellFormed core.program) (left : IsWellFormed (reduced_of core)) where
+  still_begun : IsStillAt core None
+  still_begun = record {
+    kept = b.kept.kept;
+    matter = b.kept.matter;
+    start_is = refl;
+    is_held = s.is_held;
+    is_worst = b.new.parked;
+    counted = omega (arith, b.new.ids);
+    begun = λ e f. absurd (let g : core.tree.root ∷ [] ≡ [] = sym b.new.open_ ∙ f in cc);
+  }
 
--- the root's bound holds
-lower_begun : (program : Program) (core : CoreState) → HasNotBegun program core → IfSome core.tree.root.bound (IsLowerBound core.program)
-lower_begun program core b =
-    start_lower core.program core.tree core.incumbent (columns program) b.nothing b.new.log b.kept.kept
+  -- the root's bound holds
+  lower_begun : IfSome core.tree.root.bound (IsLowerBound core.program)
+  lower_begun =
+      start_lower core.program (reduced_of core) (way_of core) _ core.tree core.incumbent (columns program)
+      (record { post = _; pair = s.back.pair; formed = formed; left = left }) b.nothing b.new.log b.kept.kept
 
-pub at_root : (program : Program) (core : CoreState) → HasNotBegun program core → IsHolding core.program core.incumbent → IsAtRoot core
-at_root program core b h = record {
-  standing = record { still = still_begun program core b h; boxes = b.kept.boxes };
-  empty = b.new.log;
-  plain = b.untouched;
-  root = subst (λ (p : Program). IsRootBound p core.tree.root.bound) (sym b.program_is) b.root;
-  lower = lower_begun program core b;
+  pub at_root : IsAtRoot core
+  at_root = record {
+    standing = record { still = still_begun; boxes = b.kept.boxes };
+    empty = b.new.log;
+    plain = b.untouched;
+    root = subst (λ (p : Program). IsRootBound p core.tree.root.bound) (sym b.program_is) b.root;
+    lower = lower_begun;
+  }
+
+pub of_reduced : (program : Program) (presolved : Presolved) (core : CoreState) → HasNotBegun program presolved.reduced presolved.steps core → IsPresolved program presolved → IsWellFormed core.program → IsWellFormed (reduced_of core) → IsOfReduced core presolved
+of_reduced program presolved core b back formed left = record {
+  back = subst (λ (p : Program). IsPresolved p presolved) (sym b.program_is) back;
+  reduced_is = b.reduced_is;
+  steps_are = b.steps_are;
+  formed = formed;
+  left = left;
 }
 
 pub none_met : (program : Program) (start : Option ℚ) (log : List Entry) → AreMet program start log []
 none_met program start log marked c = absurd (none_in marked c)
 
-told_begun : (program : Program) (start : Option ℚ) (log : List Entry) → log ≡ [] → IsTold program start log []
-told_begun program start log e = subst (λ l. IsTold program start l []) (sym e) (record {
-  work = none_relaxed program start [];
+told_begun : (reduced : Program) (start : Option ℚ) (log : List Entry) → log ≡ [] → IsTold reduced start log []
+told_begun reduced start log e = subst (λ l. IsTold reduced start l []) (sym e) (record {
+  work = none_relaxed reduced start [];
   are_of = none_marked [];
 })
 
 pub written_begun : (core : CoreState) → core.tree.log ≡ [] → IsWritten core []
 written_begun core e = record {
-  told = told_begun core.program core.tree.root.bound core.tree.log e;
-  met = λ u. none_met core.program core.tree.root.bound core.tree.log;
+  told = told_begun (reduced_of core) core.tree.root.bound core.tree.log e;
+  met = λ u. none_met (reduced_of core) core.tree.root.bound core.tree.log;
 }
 
 -- ---- memory was refused before a node was taken
@@ -114,7 +135,7 @@ module _ (program : Program) (start : Option ℚ) (holds : IfSome start (IsBound
     each = λ node c. subst (λ (n : Node). NoMore start n.bound) (only_one first node c) (no_more_itself start);
   }
 
-  was_least : WasLeast program start [] None start
+  was_least : WasLeastOf program start [] None start
   was_least = record {
     before = None;
     no_dearer = tt;
@@ -124,10 +145,10 @@ module _ (program : Program) (start : Option ℚ) (holds : IfSome start (IsBound
 
   pub nothing_searched : (nodes : ℕ) (asked : Option ℚ) → IsSearchAnswer program start nodes asked [] [] (record { ended = ends.NoMemory; held = None; bound = start })
   nothing_searched nodes asked = record {
-    right = refused_is_right program start nodes asked state searched None start refl tt was_least;
+    right = refused_itself program start nodes asked state searched None start refl tt was_least;
     within = omega arith;
     bound = λ t. no_more_itself start;
-    searched = λ e. refl;
+    searched = λ e. inl refl;
     long = λ ray e. absurd (cc);
     ray = λ ray e. absurd (cc);
     work = none_relaxed program start [];
@@ -135,13 +156,33 @@ module _ (program : Program) (start : Option ℚ) (holds : IfSome start (IsBound
   }
 
 -- nor by whatever would have worked on nodes
-pub unsearched_by : (program : Program) (nodes : ℕ) (asked : Option ℚ) (alone : Bool) (log : List Entry) (marks : List (ℕ × Mark)) (answer : ends.Answer) → log ≡ [] → marks ≡ [] → IsSolved program nodes asked [] [] answer → IsSolvedBy program nodes asked alone log marks answer
-unsearched_by program nodes asked alone log marks answer l m s =
-    subst (λ entries. IsSolvedBy program nodes asked alone entries marks answer) (sym l)
-    (subst (λ of_them. IsSolvedBy program nodes asked alone [] of_them answer) (sym m) (record {
+pub unsearched_by : (program : Program) (nodes : ℕ) (asked : Option ℚ) (plain : Bool) (log : List Entry) (marks : List (ℕ × Mark)) (answer : ends.Answer) → log ≡ [] → marks ≡ [] → IsSolved program nodes asked [] [] answer → IsSolvedBy program nodes asked plain log marks answer
+unsearched_by program nodes asked plain log marks answer l m s =
+    subst (λ entries. IsSolvedBy program nodes asked plain entries marks answer) (sym l)
+    (subst (λ of_them. IsSolvedBy program nodes asked plain [] of_them answer) (sym m) (record {
       start = s.start;
       root = s.root;
       right = s.right;
       shown = s.shown;
+      taken = λ e. s.taken refl;
       met = λ e. s.met refl;
     }))
+
+-- ---- presolve showed that no point is feasible
+
+pub infeasible_at_once : (program : Program) (start : Option ℚ) (nodes : ℕ) (asked : Option ℚ) → IsRootBound program start → IsInfeasible program → IsSolvedBy program nodes asked false [] [] (record { ended = ends.Infeasible; held = None; bound = None })
+infeasible_at_once program start nodes asked root none = record {
+  start = start;
+  root = root;
+  right = ends_at_once program start nodes asked none;
+  shown = λ ray e. absurd (cc);
+  taken = λ e. absurd (true≢false (sym e));
+  met = λ e. absurd (true≢false (sym e));
+}
+
+-- nobody was asked, so the search wasn't plain
+pub infeasible_by : (program : Program) (nodes : ℕ) (asked : Option ℚ) (plain : Bool) (log : List Entry) (marks : List (ℕ × Mark)) (answer : ends.Answer) → plain ≡ false → log ≡ [] → marks ≡ [] → IsSolvedBy program nodes asked false [] [] answer → IsSolvedBy program nodes asked plain log marks answer
+infeasible_by program nodes asked plain log marks answer p l m s =
+    subst (λ test. IsSolvedBy program nodes asked test log marks answer) (sym p)
+    (subst (λ entries. IsSolvedBy program nodes asked false entries marks answer) (sym l)
+    (subst (λ of_them. IsSolvedBy program nodes asked false [] of_them answer) (sym m) s))

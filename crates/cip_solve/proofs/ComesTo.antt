@@ -10,10 +10,12 @@ use Rattle.cip_leaves.specs.Leaf.{Leaf}
 use Rattle.cip_leaves.specs.Searched.{NoMore, IsCostHeld}
 use Rattle.cip_tree.specs.Bounds.{IsBoundAtMost}
 use Rattle.cip_tree.specs.Moves as tree
-use Rattle.cip_search.specs.SearchState.{State}
+use Rattle.cip_leaves.specs.WideLeaf.{IsWideLeaf}
+use Rattle.cip_search.specs.SearchState.{State, WayBack, IsSearch}
 use Rattle.cip_search.specs.Endings.{OneMatters, NoneMatters, IsBoundOfOne, IsLeastBound}
 use Rattle.cip_search.proofs.Members.{none_in, here}
 use Rattle.cip_search.specs.EndLaws.{IsShownNode, ComesTo}
+use Rattle.cip_search.proofs.Leading.{shown_node}
 use Rattle.cip_leaf.specs.declared.answers.Shown.{Shown}
 use Rattle.cip_report.specs.declared.figures.Ended.{Ended}
 use Rattle.cip_report.specs.declared.figures.Ended.TheVariants.{Optimal, Infeasible, Unbounded, NodeLimit, Gap, Wide, NoMemory}
@@ -47,19 +49,20 @@ open_least nodes (Some bound) h = (
     all_at bound nodes h node c = All-contains (λ other. IsBoundAtMost bound other.bound) nodes node h c
 
 -- the worst parked leaf has the least
-among_parked : (program : Program) (parked : List Node) (worst : Worst) → IsFirstWorst program parked (leaf_of worst) worst.bound (shown_as worst.shown) → IsLeastAmong (IsBoundOfOne parked) (Some worst.bound)
-among_parked program parked worst w = (
-  record {
-    node = w.at.node;
-    among = subst (λ l. Contains l w.at.node) (sym w.at.placed) (Contains-append_right w.at.before (w.at.node ∷ w.at.after) w.at.node (here w.at.node w.at.after));
-    is_bound = sym w.is_bound;
-  },
-  λ other b. subst (NoMore worst.bound) (sym b.is_bound) (subst (λ t. NoMore t b.node.bound) w.is_bound (w.at.least b.node b.among)),
-)
+module _ (program reduced : Program) (way : WayBack) where
+  among_parked : (parked : List Node) (worst : Worst) → IsFirstWorst program reduced way parked (leaf_of worst) worst.bound (shown_as worst.shown) → IsLeastAmong (IsBoundOfOne parked) (Some worst.bound)
+  among_parked parked worst w = (
+    record {
+      node = w.node;
+      among = subst (λ l. Contains l w.node) (sym w.chosen.placed) (Contains-append_right w.chosen.before (w.node ∷ w.chosen.after) w.node (here w.node w.chosen.after));
+      is_bound = sym w.is_bound;
+    },
+    λ other b. subst (NoMore worst.bound) (sym b.is_bound) (subst (λ t. NoMore t b.node.bound) w.is_bound (w.chosen.least b.node b.among)),
+  )
 
-pub parked_least : (program : Program) (parked : List Node) (worst : Option Worst) → IsWorst program parked worst → IsLeastAmong (IsBoundOfOne parked) (worst_bound worst)
-parked_least program parked None w = nothing_among parked w
-parked_least program parked (Some worst) w = among_parked program parked worst w
+  pub parked_least : (parked : List Node) (worst : Option Worst) → IsWorst program reduced way parked worst → IsLeastAmong (IsBoundOfOne parked) (worst_bound worst)
+  parked_least parked None w = nothing_among parked w
+  parked_least parked (Some worst) w = among_parked parked worst w
 
 -- ---- the least bound of all
 
@@ -109,23 +112,24 @@ none_left held (node ∷ nodes) e n = absurd (true≢false (ap (λ h. matters h 
 
 -- ---- ends
 
-module _ (program : Program) (nodes : ℕ) (state : State) (idle : state.work ≡ []) (open_ : Option (Option ℚ)) (worst : Option Worst) (o : IsLeastAmong (IsBoundOfOne state.open_) open_) (w : IsWorst program state.parked worst) (spent : state.open_ ≢ [] → length state.log ≡ nodes) where
+module _ (program reduced : Program) (way : WayBack) (start : Option ℚ) (nodes : ℕ) (state : State) (s : IsSearch program reduced way IsWideLeaf start state) (idle : state.work ≡ []) (open_ : Option (Option ℚ)) (worst : Option Worst) (o : IsLeastAmong (IsBoundOfOne state.open_) open_) (w : IsWorst program reduced way state.parked worst) (spent : state.open_ ≢ [] → length state.log ≡ nodes) where
   p : IsLeastAmong (IsBoundOfOne state.parked) (worst_bound worst)
-  p = parked_least program state.parked worst w
+  p = parked_least program reduced way state.parked worst w
 
   some_open : OneMatters state.held state.open_ → state.open_ ≢ []
   some_open m e = none_in m.node (subst (λ l. Contains l m.node) e m.among)
 
-  shown_there : (leaf : Leaf) (shown : Shown) → IsShownWorst state.held worst leaf shown → IsShownNode program state.parked leaf (shown_as shown)
-  shown_there leaf shown s =
-      let k : IsFirstWorst program state.parked (leaf_of s.found) s.found.bound (shown_as s.found.shown) = subst (IsWorst program state.parked) s.is_worst w in
-      subst (λ l. IsShownNode program state.parked l (shown_as shown)) (sym s.leaf_is)
-      (subst (λ t. IsShownNode program state.parked (leaf_of s.found) (shown_as t)) (sym s.shown_is) k.at)
+  shown_there : (leaf : Leaf) (shown : Shown) → IsShownWorst state.held worst leaf shown → IsShownNode program reduced state.held state.parked leaf (shown_as shown)
+  shown_there leaf shown k =
+      let f : IsFirstWorst program reduced way state.parked (leaf_of k.found) k.found.bound (shown_as k.found.shown) = subst (IsWorst program reduced way state.parked) k.is_worst w in
+      subst (λ l. IsShownNode program reduced state.held state.parked l (shown_as shown)) (sym k.leaf_is)
+      (subst (λ t. IsShownNode program reduced state.held state.parked (leaf_of k.found) (shown_as t)) (sym k.shown_is)
+      (shown_node program reduced way start IsWideLeaf state f.node (leaf_of k.found) (shown_as k.found.shown) s f.chosen f.wide))
 
   worst_loud : (leaf : Leaf) (shown : Shown) → IsShownWorst state.held worst leaf shown → one_matters state.held (worst_bound worst) ≡ true
   worst_loud leaf shown s = ap (λ t. one_matters state.held (worst_bound t)) s.is_worst ∙ s.matter
 
-  pub comes_to : (ended : Ended) → EndsBy state.held open_ worst ended → ComesTo program nodes state (ended_of ended)
+  pub comes_to : (ended : Ended) → EndsBy state.held open_ worst ended → ComesTo program reduced nodes state (ended_of ended)
   comes_to Optimal h = (quiet state.held state.open_ open_ o h.0, quiet state.held state.parked (worst_bound worst) p h.1, h.2)
   comes_to Infeasible h = (
     subst (λ l. (l ++ state.open_) ++ state.parked ≡ []) (sym idle)

@@ -1,12 +1,16 @@
 -- The answers of a search, by how it stops.
-use Rattle.std.proofs.Common.{◌≡◌, ◌≢◌, ℕ, ◌<◌, true, false, Bool, inl, inr, List, [], ◌++◌, length, Option, None, Some, IfSome, MatchOption, refl, sym, ap, ◌∙◌, subst, arith, true≢false}
+use Rattle.std.proofs.Common.{◌≡◌, ◌≢◌, ℕ, ◌<◌, true, false, Bool, inl, inr, List, [], ◌∷◌, ◌++◌, length, Option, None, Some, IfSome, MatchOption, refl, sym, ap, ◌∙◌, subst, arith, true≢false}
 use Rattle.std.specs.Prelude.{option_map}
 use Rattle.cip_rational.specs.Rational.{ℚ}
 use Rattle.std.proofs.lemmas.Slice.Zip.{AllZip-long}
 use Rattle.cip_problem.specs.Program.{Sides, Program}
 use Rattle.cip_problem.specs.WellFormed.{IsWellFormed, columns}
 use Rattle.cip_problem.specs.Points.{cost_of}
-use Rattle.cip_problem.specs.Log.{Entry}
+use Rattle.cip_problem.specs.Log.{Entry, AllFollow}
+use Rattle.cip_leaves.specs.Searched.{first_node}
+use Rattle.cip_leaves.specs.WideLeaf.{IsWideLeaf}
+use Rattle.cip_search.specs.SearchState.{WayBack, IsSearch}
+use Rattle.cip_search.proofs.Alike as alike
 use Rattle.cip_linear.specs.LinearProgram.{StaysBetween}
 use Rattle.cip_problem.proofs.Points.AtPlaces.{IsInBox-long}
 use Rattle.cip_model.specs.Rays.{IsShownRay}
@@ -16,6 +20,7 @@ use Rattle.cip_search.specs.Endings.{IsLeastBound}
 use Rattle.cip_search.specs.SearchEnds as ends
 use Rattle.cip_search.specs.SearchEnds.{IsAnswer}
 use Rattle.cip_search.specs.SearchAnswers.{IsParkedLast, IsSearchAnswer}
+use Rattle.cip_seen.specs.SeenLogs.{log_seen}
 use Rattle.cip_search.proofs.StartBounds.{answer_above}
 use Rattle.cip_tree.specs.Moves as tree
 use Rattle.cip_tree.specs.Nodes.{Nodes}
@@ -30,15 +35,17 @@ use Rattle.cip_endings.specs.Gaps.{reaches_gap}
 use Rattle.cip_solve.specs.Logs.{numbers_of}
 use Rattle.cip_solve.specs.Solved.{RayIsShown}
 use Rattle.cip_endings.specs.Ends.{one_matters, EndsBy}
-use Rattle.cip_solve.specs.Stopping.{WasLeast, BestIs}
+use Rattle.cip_solve.specs.Stopping.{BestIs}
 use Rattle.cip_endings.specs.Worst.{worst_bound}
-use Rattle.cip_solve.specs.Searching.{IsEndless, HasReachedGap, StopsStill, StopsEndless, StopsRefused, IsWithin}
+use Rattle.cip_solve.specs.Answered.{IsAnswered}
+use Rattle.cip_solve.specs.Searching.{IsEndless, ReachesGapAt, StopsStill, StopsEndless, StopsRefused, IsWithin, CanBeSeen}
 use Rattle.cip_endings.specs.declared.worst.Worst.{Worst}
 use Rattle.cip_solve.proofs.AnswerLaws.{same_cost, is_point, refused_is_right, still_is_right}
 use Rattle.cip_solve.proofs.ComesTo.{open_least, parked_least, least_of_all, comes_to}
 use Rattle.cip_endings.proofs.GapLaws.{gap_reached, reached_gap}
 use Rattle.cip_solve.proofs.LeastBounds.{same_least}
-use Rattle.cip_solve.proofs.TurnLaws.{flat_least, not_empty, some_held, held_there, least_there}
+use Rattle.cip_solve.proofs.SeenLaws.{none_seen, log_law}
+use Rattle.cip_solve.proofs.OpenBounds.{flat_least, not_empty, some_held, held_there, least_there}
 
 -- ---- room for the point held
 
@@ -51,17 +58,23 @@ held_room program holding n formed h e = held_long program holding.best n formed
 
 -- ---- what each answer has
 
-within_right : (program : Program) (start : Option ℚ) (nodes : ℕ) (asked : Option ℚ) (log : List Entry) (marks : List (ℕ × Mark)) (answer : ends.Answer) → IsWithin program start nodes log marks → IsAnswer program start nodes asked log answer → (log ≡ [] → answer.ended ≡ ends.NoMemory) → ((ray : List ℚ) → answer.ended ≡ ends.Unbounded ray → (length ray ≡ columns program) × IsParkedLast log) → IsSearchAnswer program start nodes asked log (numbers_of marks) answer
-within_right program start nodes asked log marks answer w a s r = record {
-  right = a;
-  within = w.most;
-  bound = answer_above program start nodes asked log answer w.lower a;
-  searched = s;
-  long = λ ray e. (r ray e).0;
-  ray = λ ray e. (r ray e).1;
-  work = w.told.work;
-  marks = w.told.are_of;
-}
+module _ (program reduced : Program) (kept : ℕ → ℕ) (start : Option ℚ) (nodes : ℕ) (asked : Option ℚ) (log : List Entry) (marks : List (ℕ × Mark)) (answer : ends.Answer) (c : CanBeSeen program reduced kept) (w : IsWithin program reduced start nodes log marks) (f : AllFollow reduced.integral (first_node reduced start ∷ []) [] log) where
+  within_right : IsAnswer program start nodes asked (log_seen kept log) answer → (log ≡ [] → answer.ended ≡ ends.NoMemory) → ((ray : List ℚ) → answer.ended ≡ ends.Unbounded ray → (length ray ≡ columns program) × IsParkedLast log) → IsSearchAnswer program start nodes asked (log_seen kept log) (numbers_of marks) answer
+  within_right a s r =
+      let k = log_law program reduced kept start c log f in
+      record {
+        right = a;
+        within = omega (arith, w.most, k.long);
+        bound = answer_above program start nodes asked (log_seen kept log) answer w.lower a;
+        searched = λ e. inl (s (none_seen kept log e));
+        long = λ ray e. (r ray e).0;
+        ray = λ ray e. k.last (r ray e).1;
+        work = k.relaxed (numbers_of marks) w.told.work;
+        marks = k.entries (numbers_of marks) w.told.are_of;
+      }
+
+  answered : IsAnswer program start nodes asked (log_seen kept log) answer → (log ≡ [] → answer.ended ≡ ends.NoMemory) → ((ray : List ℚ) → answer.ended ≡ ends.Unbounded ray → (length ray ≡ columns program) × IsParkedLast log) → RayIsShown program answer → IsAnswered program start nodes asked (log_seen kept log) marks answer
+  answered a s r shown = record { right = within_right a s r; shown = shown; taken = λ e. s (none_seen kept log e) }
 
 -- ---- it stands still
 
@@ -135,7 +148,7 @@ not_endless held waiting worst NoMemory ray h e = h
 
 -- ---- it stands still: what each end says of the gap that was asked for
 
-module _ (program : Program) (nodes : ℕ) (asked : Option ℚ) (tree_ : Nodes) (holding : Holding) (worst : Option Worst) (waiting : Option (Option ℚ)) (best : Option Held) (bound : Option ℚ) (k : StopsStill program tree_.root.bound nodes asked tree_ holding worst) (m : MatchOption waiting (tree_.open_ ≡ []) (λ b. tree.IsLeastBound b tree_.open_)) (b : bound ≡ flat (least_of (bound_held (cost_held holding)) (least_of waiting (worst_bound worst)))) (is : BestIs holding.best best) where
+module _ (program reduced : Program) (way : WayBack) (kept : ℕ → ℕ) (nodes : ℕ) (asked : Option ℚ) (tree_ : Nodes) (holding : Holding) (worst : Option Worst) (waiting : Option (Option ℚ)) (best : Option Held) (bound : Option ℚ) (c : CanBeSeen program reduced kept) (k : StopsStill program reduced way tree_.root.bound nodes asked tree_ holding worst) (m : MatchOption waiting (tree_.open_ ≡ []) (λ b. tree.IsLeastBound b tree_.open_)) (b : bound ≡ flat (least_of (bound_held (cost_held holding)) (least_of waiting (worst_bound worst)))) (is : BestIs holding.best best) where
   abbrev held : Option ℚ
   held = cost_held holding
 
@@ -158,36 +171,36 @@ module _ (program : Program) (nodes : ℕ) (asked : Option ℚ) (tree_ : Nodes) 
     | inr near ↦ absurd (true≢false (sym (near_there near.1) ∙ f))
   ]
     where
-      near_there : HasReachedGap asked tree_ holding → reaches_gap asked held bound ≡ true
+      near_there : ReachesGapAt asked tree_ holding → reaches_gap asked held bound ≡ true
       near_there near =
-          let l = least_there program tree_ holding worst waiting bound (held_there asked held near.bound near.reached) k.still.is_worst m b in
+          let l = least_there program reduced way tree_ holding worst waiting bound (held_there asked held near.bound near.reached) k.still.is_worst m b in
           ap (reaches_gap asked held) (same_least held (tree_.open_ ++ tree_.parked) bound near.bound l near.least) ∙ near.reached
 
-  far_right : (ended : Ended) → reaches_gap asked held bound ≡ false → EndsBy held waiting worst ended → IsAnswer program tree_.root.bound nodes asked tree_.log (record { ended = ended_of ended; held = told; bound = bound })
+  far_right : (ended : Ended) → reaches_gap asked held bound ≡ false → EndsBy held waiting worst ended → IsAnswer program tree_.root.bound nodes asked (log_seen kept tree_.log) (record { ended = ended_of ended; held = told; bound = bound })
   far_right ended f e =
       let state = state_of tree_ held [] in
       let all = least_of (bound_held held) (least_of waiting (worst_bound worst)) in
       let o = open_least tree_.open_ waiting m in
-      still_is_right program tree_.root.bound nodes asked state told bound (ended_of ended) k.still.kept.searched k.still.kept.as_given refl same (is_point program holding.columns holding.best best k.still.is_held.feasible is)
-      (comes_to program nodes state refl waiting worst o k.still.is_worst (spent_there f) ended e)
+      still_is_right program reduced way kept tree_.root.bound c nodes asked state k.still.kept.searched told bound (ended_of ended) k.still.kept.as_given refl same (is_point program holding.columns holding.best best k.still.is_held.feasible is)
+      (comes_to program reduced way tree_.root.bound nodes state k.still.kept.searched refl waiting worst o k.still.is_worst (spent_there f) ended e)
       (λ n. subst (IsLeastBound held (tree_.open_ ++ tree_.parked)) (sym b)
       (flat_least held tree_.open_ tree_.parked all (λ g. n (ended_none held waiting worst ended g e))
-      (least_of_all held tree_.open_ tree_.parked waiting (worst_bound worst) o (parked_least program tree_.parked worst k.still.is_worst))))
+      (least_of_all held tree_.open_ tree_.parked waiting (worst_bound worst) o (parked_least program reduced way tree_.parked worst k.still.is_worst))))
       (λ g. b ∙ no_bound held waiting worst ended g e)
       (λ n. (λ g. absurd (not_gap held waiting worst ended e g), λ r. absurd (true≢false (sym (reached_back r) ∙ f))))
 
-  near_right : reaches_gap asked held bound ≡ true → IsAnswer program tree_.root.bound nodes asked tree_.log (record { ended = ends.Gap; held = told; bound = bound })
+  near_right : reaches_gap asked held bound ≡ true → IsAnswer program tree_.root.bound nodes asked (log_seen kept tree_.log) (record { ended = ends.Gap; held = told; bound = bound })
   near_right t =
-      still_is_right program tree_.root.bound nodes asked (state_of tree_ held []) told bound ends.Gap k.still.kept.searched k.still.kept.as_given refl same (is_point program holding.columns holding.best best k.still.is_held.feasible is)
+      still_is_right program reduced way kept tree_.root.bound c nodes asked (state_of tree_ held []) k.still.kept.searched told bound ends.Gap k.still.kept.as_given refl same (is_point program holding.columns holding.best best k.still.is_held.feasible is)
       (some_held held (held_there asked held bound t))
-      (λ n. least_there program tree_ holding worst waiting bound (held_there asked held bound t) k.still.is_worst m b)
+      (λ n. least_there program reduced way tree_ holding worst waiting bound (held_there asked held bound t) k.still.is_worst m b)
       (λ g. absurd (cc))
       (λ n. (λ g. reached_there t, λ r. refl))
 
   -- by the test
-  by_test : (ended : Ended) (test : Bool) → reaches_gap asked held bound ≡ test → (reaches_gap asked held bound ≡ true → ended ≡ Gap) → (reaches_gap asked held bound ≡ false → EndsBy held waiting worst ended) → IsAnswer program tree_.root.bound nodes asked tree_.log (record { ended = ended_of ended; held = told; bound = bound })
+  by_test : (ended : Ended) (test : Bool) → reaches_gap asked held bound ≡ test → (reaches_gap asked held bound ≡ true → ended ≡ Gap) → (reaches_gap asked held bound ≡ false → EndsBy held waiting worst ended) → IsAnswer program tree_.root.bound nodes asked (log_seen kept tree_.log) (record { ended = ended_of ended; held = told; bound = bound })
   by_test ended true t n f =
-      subst (λ e. IsAnswer program tree_.root.bound nodes asked tree_.log (record { ended = ended_of e; held = told; bound = bound })) (sym (n t)) (near_right t)
+      subst (λ e. IsAnswer program tree_.root.bound nodes asked (log_seen kept tree_.log) (record { ended = ended_of e; held = told; bound = bound })) (sym (n t)) (near_right t)
   by_test ended false t n f = far_right ended t (f t)
 
   -- and it isn't unbounded
@@ -196,33 +209,33 @@ module _ (program : Program) (nodes : ℕ) (asked : Option ℚ) (tree_ : Nodes) 
   no_ray ended false t n f ray e = not_endless held waiting worst ended ray (f t) e
 
 -- a node was taken
-some_taken : (program : Program) (start : Option ℚ) (nodes : ℕ) (asked : Option ℚ) (tree_ : Nodes) (holding : Holding) (worst : Option Worst) → 0 < nodes → StopsStill program start nodes asked tree_ holding worst → tree_.log ≢ []
-some_taken program start nodes asked tree_ holding worst l k e = elim (k.spent (k.still.begun e)) [
+some_taken : (program reduced : Program) (way : WayBack) (start : Option ℚ) (nodes : ℕ) (asked : Option ℚ) (tree_ : Nodes) (holding : Holding) (worst : Option Worst) → 0 < nodes → StopsStill program reduced way start nodes asked tree_ holding worst → tree_.log ≢ []
+some_taken program reduced way start nodes asked tree_ holding worst l k e = elim (k.spent (k.still.begun e)) [
   | inl f ↦ omega (arith, l, f, ap length e)
   | inr near ↦ near.0 e
 ]
 
-pub still_right : (program : Program) (nodes : ℕ) (asked : Option ℚ) (marks : List (ℕ × Mark)) (tree_ : Nodes) (holding : Holding) (worst : Option Worst) (waiting : Option (Option ℚ)) (best : Option Held) (bound : Option ℚ) (ended : Ended) → StopsStill program tree_.root.bound nodes asked tree_ holding worst → IsWithin program tree_.root.bound nodes tree_.log marks → MatchOption waiting (tree_.open_ ≡ []) (λ b. tree.IsLeastBound b tree_.open_) → bound ≡ flat (least_of (bound_held (cost_held holding)) (least_of waiting (worst_bound worst))) → (reaches_gap asked (cost_held holding) bound ≡ true → ended ≡ Gap) → (reaches_gap asked (cost_held holding) bound ≡ false → EndsBy (cost_held holding) waiting worst ended) → BestIs holding.best best → IsSearchAnswer program tree_.root.bound nodes asked tree_.log (numbers_of marks) (record { ended = ended_of ended; held = option_map held_of best; bound = bound }) × RayIsShown program (record { ended = ended_of ended; held = option_map held_of best; bound = bound })
-still_right program nodes asked marks tree_ holding worst waiting best bound ended k w m b n f is =
-    let test = reaches_gap asked (cost_held holding) bound in (
-      within_right program tree_.root.bound nodes asked tree_.log marks (record { ended = ended_of ended; held = option_map held_of best; bound = bound }) w
-          (by_test program nodes asked tree_ holding worst waiting best bound k m b is ended test refl n f)
-          (λ g. absurd (some_taken program tree_.root.bound nodes asked tree_ holding worst w.some k g))
-          (λ ray g. absurd (no_ray program nodes asked tree_ holding worst waiting best bound k m b is ended test refl n f ray g)),
-      λ ray g. absurd (no_ray program nodes asked tree_ holding worst waiting best bound k m b is ended test refl n f ray g),
-    )
+pub still_right : (program reduced : Program) (way : WayBack) (kept : ℕ → ℕ) (nodes : ℕ) (asked : Option ℚ) (marks : List (ℕ × Mark)) (tree_ : Nodes) (holding : Holding) (worst : Option Worst) (waiting : Option (Option ℚ)) (best : Option Held) (bound : Option ℚ) (ended : Ended) → CanBeSeen program reduced kept → StopsStill program reduced way tree_.root.bound nodes asked tree_ holding worst → IsWithin program reduced tree_.root.bound nodes tree_.log marks → MatchOption waiting (tree_.open_ ≡ []) (λ b. tree.IsLeastBound b tree_.open_) → bound ≡ flat (least_of (bound_held (cost_held holding)) (least_of waiting (worst_bound worst))) → (reaches_gap asked (cost_held holding) bound ≡ true → ended ≡ Gap) → (reaches_gap asked (cost_held holding) bound ≡ false → EndsBy (cost_held holding) waiting worst ended) → BestIs holding.best best → IsAnswered program tree_.root.bound nodes asked (log_seen kept tree_.log) marks (record { ended = ended_of ended; held = option_map held_of best; bound = bound })
+still_right program reduced way kept nodes asked marks tree_ holding worst waiting best bound ended c k w m b n f is =
+    let test = reaches_gap asked (cost_held holding) bound in
+    let answer : ends.Answer = record { ended = ended_of ended; held = option_map held_of best; bound = bound } in
+    answered program reduced kept tree_.root.bound nodes asked tree_.log marks answer c w k.still.kept.searched.logged
+    (by_test program reduced way kept nodes asked tree_ holding worst waiting best bound c k m b is ended test refl n f)
+    (λ g. absurd (some_taken program reduced way tree_.root.bound nodes asked tree_ holding worst w.some k g))
+    (λ ray g. absurd (no_ray program reduced way kept nodes asked tree_ holding worst waiting best bound c k m b is ended test refl n f ray g))
+    (λ ray g. absurd (no_ray program reduced way kept nodes asked tree_ holding worst waiting best bound c k m b is ended test refl n f ray g))
 
 -- ---- the other stops
 
 parked_some : (log : List Entry) → IsParkedLast log → log ≢ []
 parked_some log p e = not_empty p.before p.entry (sym p.placed ∙ e)
 
-endless_there : (program : Program) (start : Option ℚ) (nodes : ℕ) (asked : Option ℚ) (log : List Entry) (cost : ℚ) (point ray : List ℚ) → IsWellFormed program → StopsEndless program log point ray → cost ≡ cost_of program point → IsAnswer program start nodes asked log (record { ended = ends.Unbounded ray; held = Some (record { cost = cost; point = point }); bound = None })
-endless_there program start nodes asked log cost point ray formed k e =
+endless_there : (program reduced : Program) (kept : ℕ → ℕ) (start : Option ℚ) (nodes : ℕ) (asked : Option ℚ) (log : List Entry) (cost : ℚ) (point ray : List ℚ) → CanBeSeen program reduced kept → StopsEndless program reduced start log point ray → cost ≡ cost_of program point → IsAnswer program start nodes asked (log_seen kept log) (record { ended = ends.Unbounded ray; held = Some (record { cost = cost; point = point }); bound = None })
+endless_there program reduced kept start nodes asked log cost point ray c k e =
     record {
       point = record { feasible = k.falls.feasible; cost = e };
-      end_ = record { held = record { cost = cost; point = point }; is_held = refl; falls = falls_along program point ray formed k.falls.feasible k.falls.shown.is_ray; no_bound = refl };
-      logged = k.logged;
+      end_ = record { held = record { cost = cost; point = point }; is_held = refl; falls = falls_along program point ray c.formed k.falls.feasible k.falls.shown.is_ray; no_bound = refl };
+      logged = alike.is_log program start (log_seen kept log) (log_law program reduced kept start c log k.logged).followed;
     }
 
 ray_long : (program : Program) (point ray : List ℚ) → IsWellFormed program → IsEndless program point ray → length ray ≡ columns program
@@ -232,27 +245,28 @@ ray_long program point ray formed e =
 same_ray : (ray other : List ℚ) → ends.Unbounded ray ≡ ends.Unbounded other → ray ≡ other
 same_ray ray other e = cc
 
-pub endless_right : (program : Program) (start : Option ℚ) (nodes : ℕ) (asked : Option ℚ) (log : List Entry) (marks : List (ℕ × Mark)) (cost : ℚ) (point ray : List ℚ) → IsWellFormed program → StopsEndless program log point ray → IsWithin program start nodes log marks → cost ≡ cost_of program point → IsSearchAnswer program start nodes asked log (numbers_of marks) (record { ended = ends.Unbounded ray; held = Some (record { cost = cost; point = point }); bound = None }) × RayIsShown program (record { ended = ends.Unbounded ray; held = Some (record { cost = cost; point = point }); bound = None })
-endless_right program start nodes asked log marks cost point ray formed k w e = (
-  within_right program start nodes asked log marks (record { ended = ends.Unbounded ray; held = Some (record { cost = cost; point = point }); bound = None }) w
-      (endless_there program start nodes asked log cost point ray formed k e)
-      (λ f. absurd (parked_some log k.last f))
-      (λ other f. (subst (λ r. length r ≡ columns program) (same_ray ray other f) (ray_long program point ray formed k.falls), k.last)),
-  λ other f. record { point = point; is_held = refl; shown = subst (IsShownRay program point) (same_ray ray other f) k.falls.shown },
-)
+pub endless_right : (program reduced : Program) (kept : ℕ → ℕ) (start : Option ℚ) (nodes : ℕ) (asked : Option ℚ) (log : List Entry) (marks : List (ℕ × Mark)) (cost : ℚ) (point ray : List ℚ) → CanBeSeen program reduced kept → StopsEndless program reduced start log point ray → IsWithin program reduced start nodes log marks → cost ≡ cost_of program point → IsAnswered program start nodes asked (log_seen kept log) marks (record { ended = ends.Unbounded ray; held = Some (record { cost = cost; point = point }); bound = None })
+endless_right program reduced kept start nodes asked log marks cost point ray c k w e =
+    let answer : ends.Answer = record { ended = ends.Unbounded ray; held = Some (record { cost = cost; point = point }); bound = None } in
+    answered program reduced kept start nodes asked log marks answer c w k.logged
+    (endless_there program reduced kept start nodes asked log cost point ray c k e)
+    (λ f. absurd (parked_some log k.last f))
+    (λ other f. (subst (λ r. length r ≡ columns program) (same_ray ray other f) (ray_long program point ray c.formed k.falls), k.last))
+    (λ other f. record { point = point; is_held = refl; shown = subst (IsShownRay program point) (same_ray ray other f) k.falls.shown })
 
-refused_there : (program : Program) (start : Option ℚ) (nodes : ℕ) (asked : Option ℚ) (tree_ : Nodes) (holding : Holding) (best : Option Held) (bound last : Option ℚ) → StopsRefused program start tree_ holding bound → IsHolding program holding → BestIs holding.best best → last ≡ capped (cost_held holding) bound → IsAnswer program start nodes asked tree_.log (record { ended = ends.NoMemory; held = option_map held_of best; bound = last })
-refused_there program start nodes asked tree_ holding best bound last k h is e =
+refused_there : (program reduced : Program) (way : WayBack) (kept : ℕ → ℕ) (start : Option ℚ) (nodes : ℕ) (asked : Option ℚ) (tree_ : Nodes) (holding : Holding) (best : Option Held) (bound last : Option ℚ) → CanBeSeen program reduced kept → StopsRefused program reduced way start tree_ holding bound → IsHolding program holding → BestIs holding.best best → last ≡ capped (cost_held holding) bound → IsAnswer program start nodes asked (log_seen kept tree_.log) (record { ended = ends.NoMemory; held = option_map held_of best; bound = last })
+refused_there program reduced way kept start nodes asked tree_ holding best bound last c k h is e =
     let held = option_map held_of best in
     let same : cost_held holding ≡ ends.cost_of_held held = same_cost holding.best best is in
-    let right = refused_is_right program tree_.root.bound nodes asked (state_of tree_ (cost_held holding) []) k.searched held bound same (is_point program holding.columns holding.best best h.feasible is) (subst (λ s. WasLeast program s tree_.log (cost_held holding) bound) (sym k.start_is) k.was_least) in
-    subst (λ s. IsAnswer program s nodes asked tree_.log (record { ended = ends.NoMemory; held = held; bound = last })) k.start_is
-    (subst (λ t. IsAnswer program tree_.root.bound nodes asked tree_.log (record { ended = ends.NoMemory; held = held; bound = t })) (sym (e ∙ ap (λ t. capped t bound) same)) right)
+    let right = refused_is_right program reduced way kept start c nodes asked (state_of tree_ (cost_held holding) [])
+    (subst (λ s. IsSearch program reduced way IsWideLeaf s (state_of tree_ (cost_held holding) [])) k.start_is k.searched)
+    held bound same (is_point program holding.columns holding.best best h.feasible is) k.was_least in
+    subst (λ t. IsAnswer program start nodes asked (log_seen kept tree_.log) (record { ended = ends.NoMemory; held = held; bound = t })) (sym (e ∙ ap (λ t. capped t bound) same)) right
 
-pub refused_right : (program : Program) (start : Option ℚ) (nodes : ℕ) (asked : Option ℚ) (marks : List (ℕ × Mark)) (tree_ : Nodes) (holding : Holding) (best : Option Held) (bound last : Option ℚ) → StopsRefused program start tree_ holding bound → IsHolding program holding → IsWithin program start nodes tree_.log marks → BestIs holding.best best → last ≡ capped (cost_held holding) bound → IsSearchAnswer program start nodes asked tree_.log (numbers_of marks) (record { ended = ends.NoMemory; held = option_map held_of best; bound = last }) × RayIsShown program (record { ended = ends.NoMemory; held = option_map held_of best; bound = last })
-refused_right program start nodes asked marks tree_ holding best bound last k h w is e = (
-  within_right program start nodes asked tree_.log marks (record { ended = ends.NoMemory; held = option_map held_of best; bound = last }) w
-      (refused_there program start nodes asked tree_ holding best bound last k h is e)
-      (λ f. refl) (λ ray f. absurd (cc)),
-  λ ray f. absurd (cc),
-)
+pub refused_right : (program reduced : Program) (way : WayBack) (kept : ℕ → ℕ) (start : Option ℚ) (nodes : ℕ) (asked : Option ℚ) (marks : List (ℕ × Mark)) (tree_ : Nodes) (holding : Holding) (best : Option Held) (bound last : Option ℚ) → CanBeSeen program reduced kept → StopsRefused program reduced way start tree_ holding bound → IsHolding program holding → IsWithin program reduced start nodes tree_.log marks → BestIs holding.best best → last ≡ capped (cost_held holding) bound → IsAnswered program start nodes asked (log_seen kept tree_.log) marks (record { ended = ends.NoMemory; held = option_map held_of best; bound = last })
+refused_right program reduced way kept start nodes asked marks tree_ holding best bound last c k h w is e =
+    let answer : ends.Answer = record { ended = ends.NoMemory; held = option_map held_of best; bound = last } in
+    answered program reduced kept start nodes asked tree_.log marks answer c w
+    (subst (λ s. AllFollow reduced.integral (first_node reduced s ∷ []) [] tree_.log) k.start_is k.searched.logged)
+    (refused_there program reduced way kept start nodes asked tree_ holding best bound last c k h is e)
+    (λ f. refl) (λ ray f. absurd (cc)) (λ ray f. absurd (cc))

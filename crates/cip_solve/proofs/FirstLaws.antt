@@ -7,36 +7,36 @@ use Rattle.cip_problem.specs.Log.{Entry}
 use Rattle.cip_incumbent.specs.HeldPoint.{Holding}
 use Rattle.cip_tree.specs.Moves as tree
 use Rattle.cip_tree.specs.Nodes.{Nodes}
-use Rattle.cip_search.specs.SearchState.{HasGivenBoxes}
-use Rattle.cip_core.specs.KeptNodes.{cost_held, state_of}
+use Rattle.cip_search.specs.SearchState.{WayBack}
+use Rattle.cip_core.specs.KeptNodes.{cost_held}
 use Rattle.cip_endings.specs.LeastBounds.{least_of, bound_held, flat}
 use Rattle.cip_endings.specs.Gaps.{reaches_gap}
 use Rattle.cip_endings.specs.Worst.{worst_bound}
 use Rattle.cip_endings.specs.declared.worst.Worst.{Worst}
-use Rattle.cip_solve.specs.FirstStops.{IsLongerLog, IsShortAt, IsFirstStop}
-use Rattle.cip_solve.specs.Searching.{IsStill, HasReachedGap}
+use Rattle.cip_solve.specs.FirstStops.{IsLongerLog, IsFirstStop}
+use Rattle.cip_solve.specs.Searching.{IsStill, ReachesGapAt, WasShortAt, WasShort}
 use Rattle.cip_solve.proofs.LeastBounds.{same_least}
-use Rattle.cip_solve.proofs.TurnLaws.{held_there, least_there}
+use Rattle.cip_solve.proofs.OpenBounds.{held_there, least_there}
 
 -- no gap was asked for
-pub none_asked : (asked : Option ℚ) (none : Bool) (tree_ : Nodes) (holding : Holding) → is_some asked ≡ not none → none ≡ true → HasReachedGap asked tree_ holding → ⊥
+pub none_asked : (asked : Option ℚ) (none : Bool) (tree_ : Nodes) (holding : Holding) → is_some asked ≡ not none → none ≡ true → ReachesGapAt asked tree_ holding → ⊥
 none_asked None none tree_ holding e f near = true≢false (sym near.reached)
 none_asked (Some gap) none tree_ holding e f near = true≢false (e ∙ ap not f)
 
 -- it isn't reached by the bound that was found
-pub far_there : (program : Program) (start : Option ℚ) (asked : Option ℚ) (tree_ : Nodes) (holding : Holding) (worst : Option Worst) (waiting : Option (Option ℚ)) (bound : Option ℚ) → IsStill program start tree_ holding worst → MatchOption waiting (tree_.open_ ≡ []) (λ b. tree.IsLeastBound b tree_.open_) → bound ≡ flat (least_of (bound_held (cost_held holding)) (least_of waiting (worst_bound worst))) → reaches_gap asked (cost_held holding) bound ≡ false → HasReachedGap asked tree_ holding → ⊥
-far_there program start asked tree_ holding worst waiting bound k m e f near =
+pub far_there : (program reduced : Program) (way : WayBack) (start : Option ℚ) (asked : Option ℚ) (tree_ : Nodes) (holding : Holding) (worst : Option Worst) (waiting : Option (Option ℚ)) (bound : Option ℚ) → IsStill program reduced way start tree_ holding worst → MatchOption waiting (tree_.open_ ≡ []) (λ b. tree.IsLeastBound b tree_.open_) → bound ≡ flat (least_of (bound_held (cost_held holding)) (least_of waiting (worst_bound worst))) → reaches_gap asked (cost_held holding) bound ≡ false → ReachesGapAt asked tree_ holding → ⊥
+far_there program reduced way start asked tree_ holding worst waiting bound k m e f near =
     let held = cost_held holding in
-    let l = least_there program tree_ holding worst waiting bound (held_there asked held near.bound near.reached) k.is_worst m e in
+    let l = least_there program reduced way tree_ holding worst waiting bound (held_there asked held near.bound near.reached) k.is_worst m e in
     true≢false (sym (ap (reaches_gap asked held) (same_least held (tree_.open_ ++ tree_.parked) bound near.bound l near.least) ∙ near.reached) ∙ f)
 
 -- logs that grow
 pub same_log_longer : (old new : List Entry) → new ≡ old → IsLongerLog old new
 same_log_longer old new e = λ n h. ap (take n) e
 
-module _ (program : Program) (start asked : Option ℚ) (alone : Bool) where
+module _ (program reduced : Program) (way : WayBack) (start asked : Option ℚ) where
   -- what is so behind a front part of a log is so where entries are added
-  pub short_on : (old new : List Entry) → IsLongerLog old new → (n : ℕ) → n ≤ length old → IsShortAt program start asked alone old n → IsShortAt program start asked alone new n
+  pub short_on : (old new : List Entry) → IsLongerLog old new → (n : ℕ) → n ≤ length old → WasShortAt program reduced way start asked old n → WasShortAt program reduced way start asked new n
   short_on old new f n h s = record {
     tree = s.tree;
     holding = s.holding;
@@ -44,18 +44,17 @@ module _ (program : Program) (start asked : Option ℚ) (alone : Bool) where
     still = s.still;
     logged = s.logged ∙ sym (f n h);
     short = s.short;
-    boxes = s.boxes;
   }
 
   -- behind no node but the last, where a turn stopped
-  pub first_stop : (old new : List Entry) → IsLongerLog old new → length new ≤ length old + 1 → ((n : ℕ) → 0 < n → n ≤ length old → IsShortAt program start asked alone old n) → IsFirstStop program start asked alone new
+  pub first_stop : (old new : List Entry) → IsLongerLog old new → length new ≤ length old + 1 → ((n : ℕ) → 0 < n → n ≤ length old → WasShortAt program reduced way start asked old n) → WasShort program reduced way start asked new
   first_stop old new f h s = λ n p l.
       let b : n ≤ length old = omega (arith, l, h) in
       short_on old new f n b (s n p b)
 
   -- one node more, behind which it isn't reached
-  pub short_more : (old : List Entry) (tree_ : Nodes) (holding : Holding) (worst : Option Worst) → IsLongerLog old tree_.log → length tree_.log ≡ length old + 1 → IsStill program start tree_ holding worst → (HasReachedGap asked tree_ holding → ⊥) → (alone ≡ true → HasGivenBoxes program tree_.root.bound (state_of tree_ (cost_held holding) [])) → ((n : ℕ) → 0 < n → n ≤ length old → IsShortAt program start asked alone old n) → (n : ℕ) → 0 < n → n ≤ length tree_.log → IsShortAt program start asked alone tree_.log n
-  short_more old tree_ holding worst f e k r b s n p h = elim (le_or_next n (length old) (omega (arith, h, e))) [
+  pub short_more : (old : List Entry) (tree_ : Nodes) (holding : Holding) (worst : Option Worst) → IsLongerLog old tree_.log → length tree_.log ≡ length old + 1 → IsStill program reduced way start tree_ holding worst → (ReachesGapAt asked tree_ holding → ⊥) → ((n : ℕ) → 0 < n → n ≤ length old → WasShortAt program reduced way start asked old n) → (n : ℕ) → 0 < n → n ≤ length tree_.log → WasShortAt program reduced way start asked tree_.log n
+  short_more old tree_ holding worst f e k r s n p h = elim (le_or_next n (length old) (omega (arith, h, e))) [
     | inl few ↦ short_on old tree_.log f n few (s n p few)
     | inr same ↦ record {
       tree = tree_;
@@ -64,7 +63,6 @@ module _ (program : Program) (start asked : Option ℚ) (alone : Bool) where
       still = k;
       logged = sym (take_all n tree_.log (omega (arith, same, e)));
       short = r;
-      boxes = b;
     }
   ]
     where
@@ -77,8 +75,8 @@ module _ (program : Program) (start asked : Option ℚ) (alone : Bool) where
       ]
 
   -- nothing was logged yet
-  pub none_short : (log : List Entry) → log ≡ [] → (n : ℕ) → 0 < n → n ≤ length log → IsShortAt program start asked alone log n
+  pub none_short : (log : List Entry) → log ≡ [] → (n : ℕ) → 0 < n → n ≤ length log → WasShortAt program reduced way start asked log n
   none_short log e n p h = absurd (omega (arith, p, h, ap length e))
 
-  pub first_of_none : IsFirstStop program start asked alone []
-  first_of_none = λ n p l. absurd (omega (arith, p, l))
+pub first_of_none : (program : Program) (start asked : Option ℚ) → IsFirstStop program start asked []
+first_of_none program start asked = λ n p l. absurd (omega (arith, p, l))

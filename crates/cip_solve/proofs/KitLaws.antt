@@ -1,5 +1,5 @@
 -- What becomes of a kit: the room for its plugins stays, and it is told by whether anybody is asked.
-use Rattle.std.proofs.Common.{◌≡◌, ℕ, ◌+◌, ◌≤◌, Bool, true, List, Option, None, refl, sym, subst}
+use Rattle.std.proofs.Common.{◌≡◌, inr, ℕ, ◌+◌, ◌≤◌, Bool, true, false, ◌||◌, List, [], Option, None, refl, sym, ◌∙◌, subst, true≢false}
 use Rattle.cip_events.specs.declared.traces.Trace.{Trace}
 use Rattle.cip_problem.specs.Log.{Entry}
 use Rattle.cip_seats.specs.Seats.{State}
@@ -19,3 +19,13 @@ kit_same kept log had has trace a b e k = subst (λ alone. IsKitAfter alone kept
 -- where nobody is asked it is left alone
 pub left_alone : (kept : Bool) (log : List Entry) (stock : Stock) (trace : Option Trace) → trace ≡ None → IsKitAfter true kept log stock stock trace
 left_alone kept log stock trace e = record { same = refl; untold = e }
+
+-- before a node was taken nobody was called
+pub nobody_called : (alone kept : Bool) (log : List Entry) (stock : Stock) (trace : Option Trace) → log ≡ [] → trace ≡ None → IsKitAfter alone kept log stock stock trace
+nobody_called true kept log stock trace l e = record { same = refl; untold = e }
+nobody_called false kept log stock trace l e = inr (record { same = refl; untold = e }, l)
+
+-- where somebody is asked, the search isn't plain
+pub not_plain : (plain bare alone : Bool) → alone ≡ (plain || bare) → alone ≡ false → plain ≡ false
+not_plain true bare alone e f = absurd (true≢false (sym e ∙ f))
+not_plain false bare alone e f = refl

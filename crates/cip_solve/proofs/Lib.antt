@@ -5,8 +5,16 @@ pub mod FinishLaws
 pub mod FirstRows
 pub mod FirstLaws
 pub mod Fits
+pub mod KeptPairs
 pub mod LeastBounds
+pub mod OpenBounds
+pub mod Reduced
+pub mod Renamed
+pub mod SameColumns
+pub mod SameSearches
+pub mod SeenLaws
 pub mod Serving
+pub mod SolvedLaws
 pub mod TurnLaws
 pub mod Working
 pub mod WorkedNodes

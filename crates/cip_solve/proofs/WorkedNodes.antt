@@ -7,7 +7,7 @@ use Rattle.cip_problem.specs.Program.{Sides, Program}
 use Rattle.cip_problem.specs.WellFormed.{columns}
 use Rattle.cip_problem.specs.Box.{IsInBox}
 use Rattle.cip_problem.specs.Log.{End, Split, Closed, Parked, Entry, Node}
-use Rattle.cip_search.specs.SearchState.{IsGiven}
+use Rattle.cip_search.specs.SearchState.{WayBack, IsGiven, IsWideBack}
 use Rattle.cip_search.specs.Relaxation.{IsRelaxedBound}
 use Rattle.cip_search.proofs.Members.{here}
 use Rattle.cip_search.proofs.Relaxed.{wider}
@@ -17,18 +17,18 @@ use Rattle.cip_tree.specs.Nodes.{TakenNode, shown}
 use Rattle.cip_node_bounds.specs.NodeRows.{usable_rows}
 use Rattle.cip_node_bounds.specs.Relaxing.{IsMark}
 use Rattle.cip_node_bounds.specs.declared.relaxed.Mark.{Mark}
-use Rattle.cip_core.specs.CoreStates.{CoreState, held_of, IsTakenUp}
+use Rattle.cip_core.specs.CoreStates.{CoreState, reduced_of, held_of, IsTakenUp}
 use Rattle.cip_core.specs.Steps.{LeavesEntry}
 use Rattle.cip_node.specs.Bounding.{IsMarkOf, IsAsGood}
 use Rattle.cip_leaves.specs.Leaf.{Leaf}
-use Rattle.cip_leaves.specs.WideNodes.{IsWideAs}
 use Rattle.cip_node.specs.declared.ends.NodeEnd.{NodeEnd}
 use Rattle.cip_node.specs.declared.ends.NodeEnd.TheVariants as by
 use Rattle.cip_leaves.specs.WideLeaf.{Shown}
 use Rattle.cip_solve.specs.Logs.{numbers_of, marks_by}
 use Rattle.cip_solve.specs.NodesWorked.{IsWorkedEnd, HasWorked}
 use Rattle.cip_solve.specs.Solved.{own_rows, IsMet, AreMet}
-use Rattle.cip_solve.specs.Searching.{IsTold, IsWorseOf}
+use Rattle.cip_solve.specs.Searching.{IsTold}
+use Rattle.cip_solve.specs.Stops.{IsWorseOf}
 use Rattle.cip_endings.specs.Worst.{leaf_of, IsWorst}
 use Rattle.cip_endings.specs.declared.worst.Worst.{Worst}
 
@@ -56,16 +56,16 @@ one_longer mid new ended end e =
 -- ---- what is told
 
 -- the log gave the node that was taken up
-pub given_taken : (core : CoreState) (node : TakenNode) → IsTakenUp core node → IsGiven core.program core.tree.root.bound core.tree.log (held_of core) (shown core.tree node)
+pub given_taken : (core : CoreState) (node : TakenNode) → IsTakenUp core node → IsGiven (reduced_of core) core.tree.root.bound core.tree.log (held_of core) (shown core.tree node)
 given_taken core node up = up.nodes.kept.searched.given (shown core.tree node) (here (shown core.tree node) (core.tree.open_ ++ core.tree.parked))
 
 -- the numbers of the marks, with that of a node that may have one
 numbers_more : (marks more : List (ℕ × Mark)) → numbers_of (marks ++ more) ≡ numbers_of marks ++ numbers_of more
 numbers_more marks more = map-append (λ (mark : ℕ × Mark). mark.0) marks more
 
-good_relaxed : (mid new : CoreState) (inner outer : List Sides) (bound : Option ℚ) (mark : Option Mark) (marked : List ℕ) (number : ℕ) → new.program ≡ mid.program → ((point : List ℚ) → IsInBox inner point → IsInBox outer point) → IsAsGood new inner bound mark → ¬ Contains (marked ++ numbers_of (marks_by number mark)) number → IsRelaxedBound mid.program [] outer bound
+good_relaxed : (mid new : CoreState) (inner outer : List Sides) (bound : Option ℚ) (mark : Option Mark) (marked : List ℕ) (number : ℕ) → reduced_of new ≡ reduced_of mid → ((point : List ℚ) → IsInBox inner point → IsInBox outer point) → IsAsGood new inner bound mark → ¬ Contains (marked ++ numbers_of (marks_by number mark)) number → IsRelaxedBound (reduced_of mid) [] outer bound
 good_relaxed mid new inner outer bound None marked number p f h n =
-    wider mid.program (usable_rows inner new.pool.rows) inner outer bound f (subst (λ q. IsRelaxedBound q (usable_rows inner new.pool.rows) inner bound) p h)
+    wider (reduced_of mid) (usable_rows inner new.pool.rows) inner outer bound f (subst (λ q. IsRelaxedBound q (usable_rows inner new.pool.rows) inner bound) p h)
 good_relaxed mid new inner outer bound (Some mark) marked number p f h n = absurd (n (Contains-push marked number))
 
 marks_more : (log : List Entry) (marked : List ℕ) (entry : Entry) (mark : Option Mark) → AreOfEntries log marked → AreOfEntries (log ++ entry ∷ []) (marked ++ numbers_of (marks_by entry.node mark))
@@ -92,16 +92,16 @@ met_more program start log entry marks (Some mark) h m marked c =
     ])
 
 -- a mark of the node's own box over the program's rows alone is one of the box that the log gave
-met_here : (mid new : CoreState) (node : TakenNode) (ended : Node) (mark : Option Mark) (g : IsGiven mid.program mid.tree.root.bound mid.tree.log (held_of mid) (shown mid.tree node)) → new.program ≡ mid.program → new.pool.rows ≡ [] → ended.box ≡ g.given.box → IfSome mark (IsMarkOf new ended.box) → IfSome mark (IsMet mid.program mid.tree.root.bound mid.tree.log node.number)
+met_here : (mid new : CoreState) (node : TakenNode) (ended : Node) (mark : Option Mark) (g : IsGiven (reduced_of mid) mid.tree.root.bound mid.tree.log (held_of mid) (shown mid.tree node)) → reduced_of new ≡ reduced_of mid → new.pool.rows ≡ [] → ended.box ≡ g.given.box → IfSome mark (IsMarkOf new ended.box) → IfSome mark (IsMet (reduced_of mid) mid.tree.root.bound mid.tree.log node.number)
 met_here mid new node ended None g p bare b m = tt
 met_here mid new node ended (Some mark) g p bare b m = record {
   node = g.given;
   given = g.found;
-  room = columns mid.program;
+  room = columns (reduced_of mid);
   wide = omega arith;
   is_mark =
       subst (λ (q : Program). IsMark q (own_rows q) g.given.box (columns q) mark) p
-      (subst (λ rows. IsMark new.program (record { own = new.program.rows; pool = rows; cutoff = None }) g.given.box (columns new.program) mark) bare
+      (subst (λ rows. IsMark (reduced_of new) (record { own = (reduced_of new).rows; pool = rows; cutoff = None }) g.given.box (columns (reduced_of new)) mark) bare
       (subst (λ box. IsMarkOf new box mark) b m));
 }
 
@@ -114,9 +114,9 @@ module _ (mid new : CoreState) (node : TakenNode) (mark : Option Mark) (end : No
   logged_more e =
       subst (λ n. new.tree.log ≡ mid.tree.log ++ record { node = n; bound = h.ended.bound; end = e.end } ∷ []) h.narrower.number e.entry.logged
 
-  pub told_more : IsTold mid.program mid.tree.root.bound mid.tree.log marks → IsTold mid.program mid.tree.root.bound new.tree.log (marks ++ more)
+  pub told_more : IsTold (reduced_of mid) mid.tree.root.bound mid.tree.log marks → IsTold (reduced_of mid) mid.tree.root.bound new.tree.log (marks ++ more)
   told_more t =
-      let program = mid.program in
+      let program = reduced_of mid in
       let start = mid.tree.root.bound in
       let e = entry_of_end mid new h.ended mark end h.end_ in
       let entry : Entry = record { node = node.number; bound = h.ended.bound; end = e.end } in
@@ -125,28 +125,29 @@ module _ (mid new : CoreState) (node : TakenNode) (mark : Option Mark) (end : No
       subst (λ log. IsTold program start log (marks ++ more)) (sym (logged_more e)) (record {
         work = subst (AreRelaxed program start (mid.tree.log ++ entry ∷ [])) numbers
             (relaxed_more program start mid.tree.log (numbers_of marks) (numbers_of more) entry g.given up.nodes.kept.searched.logged g.found t.work
-            (λ s n. good_relaxed mid new h.ended.box g.given.box h.ended.bound mark (numbers_of marks) node.number h.later.program (λ point w. g.holds point (h.narrower.inside point w)) (e.good s) n));
+            (λ s n. good_relaxed mid new h.ended.box g.given.box h.ended.bound mark (numbers_of marks) node.number h.later.reduced (λ point w. g.holds point (h.narrower.inside point w)) (e.good s) n));
         are_of = subst (AreOfEntries (mid.tree.log ++ entry ∷ [])) numbers (marks_more mid.tree.log (numbers_of marks) entry mark t.are_of);
       })
 
-  pub met_taken : new.pool.rows ≡ [] → new.touched ≡ false → AreMet mid.program mid.tree.root.bound mid.tree.log marks → AreMet mid.program mid.tree.root.bound new.tree.log (marks ++ more)
+  pub met_taken : new.pool.rows ≡ [] → new.touched ≡ false → AreMet (reduced_of mid) mid.tree.root.bound mid.tree.log marks → AreMet (reduced_of mid) mid.tree.root.bound new.tree.log (marks ++ more)
   met_taken bare u t =
-      let program = mid.program in
+      let program = reduced_of mid in
       let start = mid.tree.root.bound in
       let e = entry_of_end mid new h.ended mark end h.end_ in
       let entry : Entry = record { node = node.number; bound = h.ended.bound; end = e.end } in
       let g = given_taken mid node up in
       let box = h.same u ∙ (up.nodes.boxes (h.later.untouched u)).boxes (shown mid.tree node) g.given (here (shown mid.tree node) (mid.tree.open_ ++ mid.tree.parked)) g.found in
       subst (λ log. AreMet program start log (marks ++ more)) (sym (logged_more e))
-      (met_more program start mid.tree.log entry marks mark t (met_here mid new node h.ended mark g h.later.program bare box h.met))
+      (met_more program start mid.tree.log entry marks mark t (met_here mid new node h.ended mark g h.later.reduced bare box h.met))
 
 -- ---- the worst leaf
 
-same_wide : (program : Program) (node : Node) (leaf other : Leaf) (shown by_ : Shown) → other ≡ leaf → by_ ≡ shown → IsWideAs program node leaf shown → IsWideAs program node other by_
-same_wide program node leaf other shown by_ e g p =
-    subst (λ t. IsWideAs program node t by_) (sym e) (subst (IsWideAs program node leaf) (sym g) p)
+module _ (program reduced : Program) (way : WayBack) where
+  same_wide : (node : Node) (leaf other : Leaf) (shown by_ : Shown) → other ≡ leaf → by_ ≡ shown → IsWideBack program reduced way node leaf shown → IsWideBack program reduced way node other by_
+  same_wide node leaf other shown by_ e g p =
+      subst (λ t. IsWideBack program reduced way node t by_) (sym e) (subst (IsWideBack program reduced way node leaf) (sym g) p)
 
-pub worst_more : (program : Program) (parked now : List Node) (ended : Node) (leaf : Leaf) (bound : Option ℚ) (shown : Shown) (worst next : Option Worst) → now ≡ parked ++ ended ∷ [] → ended.bound ≡ bound → IsWideAs program ended leaf shown → IsWorst program parked worst → IsWorseOf worst leaf bound shown next → IsWorst program now next
-worst_more program parked now ended leaf bound shown worst next e b a w k =
-    subst (λ l. IsWorst program l next) (sym e)
-    (k.worse program parked ended w (b ∙ sym k.bound_is) (same_wide program ended leaf (leaf_of k.parked) shown _ k.leaf_is k.shown_is a))
+  pub worst_more : (parked now : List Node) (ended : Node) (leaf : Leaf) (bound : Option ℚ) (shown : Shown) (worst next : Option Worst) → now ≡ parked ++ ended ∷ [] → ended.bound ≡ bound → IsWideBack program reduced way ended leaf shown → IsWorst program reduced way parked worst → IsWorseOf worst leaf bound shown next → IsWorst program reduced way now next
+  worst_more parked now ended leaf bound shown worst next e b a w k =
+      subst (λ l. IsWorst program reduced way l next) (sym e)
+      (k.worse program reduced way parked ended w (b ∙ sym k.bound_is) (same_wide ended leaf (leaf_of k.parked) shown _ k.leaf_is k.shown_is a))

@@ -27,7 +27,7 @@ pub record HasServedKit (kept : Bool) (log : List Entry) (had has : Stock) (trac
   pub ends : HasEnded kept left between has trace
 
 -- where nobody is asked the kit is left alone; else its plugins served, unless memory was refused before a node was
--- taken
+-- taken, or presolve showed then that no point is feasible
 abbrev pub IsKitAfter : (alone kept : Bool) → List Entry → (had has : Stock) → Option Trace → Type 0
 IsKitAfter true kept log had has trace = IsLeftAlone had has trace
 IsKitAfter false kept log had has trace =

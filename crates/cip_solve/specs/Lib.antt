@@ -1,9 +1,12 @@
+pub mod Answered
 pub mod FirstStops
 pub mod Logs
 pub mod NodesWorked
+pub mod Reducing
 pub mod Searching
 pub mod Solved
 pub mod SplitsServed
 pub mod Statements
 pub mod Stopping
+pub mod Stops
 pub mod KitsServed

@@ -1,5 +1,5 @@
 -- What a search did, as the definitions have it.
-use Rattle.std.specs.Prelude.{ℕ, List, [], ◌∷◌, map, Option, None, Some}
+use Rattle.std.specs.Prelude.{ℕ, List, [], ◌∷◌, map, slice_index_or, Option, None, Some}
 use Rattle.cip_problem.specs.Log.{Entry}
 use Rattle.cip_tree.specs.Entries as tree
 use Rattle.cip_node_bounds.specs.declared.relaxed.Mark.{Mark}
@@ -20,3 +20,7 @@ marked_in log = numbers_of log.marks.items
 abbrev pub marks_by : ℕ → Option Mark → List (ℕ × Mark)
 marks_by number None = []
 marks_by number (Some mark) = (number, mark) ∷ []
+
+-- the number that a list has for another; one that isn't below the list's length stays
+abbrev pub renamed : List ℕ → ℕ → ℕ
+renamed numbers column = slice_index_or numbers column column

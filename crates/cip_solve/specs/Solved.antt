@@ -8,7 +8,7 @@ use Rattle.cip_problem.specs.Log.{Entry, Node, node_of}
 use Rattle.cip_cert.specs.Lent.{Lent}
 use Rattle.cip_leaves.specs.Searched.{nodes_given}
 use Rattle.cip_model.specs.Rays.{IsShownRay}
-use Rattle.cip_search.specs.SearchEnds.{Unbounded, Answer}
+use Rattle.cip_search.specs.SearchEnds.{Unbounded, NoMemory, Answer}
 use Rattle.cip_search.specs.SearchAnswers.{IsSearchAnswer}
 use Rattle.cip_node_bounds.specs.Relaxing.{IsMark}
 use Rattle.cip_node_bounds.specs.declared.relaxed.Mark.{Mark}
@@ -45,19 +45,23 @@ RayIsShown program answer =
     → IsShownBeside program (option_map (λ held. held.point) answer.held) ray
 
 -- the answer of a search from the root's bound on, with its log and the marks of nodes by their numbers; `nodes` is the
--- budget, `asked` the gap that was asked for, if one was, and `alone` says that there were no plugins
+-- budget, `asked` the gap that was asked for, if one was, and `plain` says that the search was plain: no plugin was
+-- asked, and the program was searched itself, without presolve
 pub record IsSolvedBy
-    (program : Program) (nodes : ℕ) (asked : Option ℚ) (alone : Bool) (log : List Entry) (marks : List (ℕ × Mark))
+    (program : Program) (nodes : ℕ) (asked : Option ℚ) (plain : Bool) (log : List Entry) (marks : List (ℕ × Mark))
     (answer : Answer) : Type 0 where
   pub start : Option ℚ
   pub root : IsRootBound program start
   pub right : IsSearchAnswer program start nodes asked log (numbers_of marks) answer
   -- a ray is one that the check of rays accepts beside the point held
   pub shown : RayIsShown program answer
-  -- without plugins, marks say what the linear programs of their nodes met
-  pub met : alone ≡ true → AreMet program start log marks
+  -- where the search was plain, a node was taken, unless memory was refused
+  pub taken : plain ≡ true → log ≡ [] → answer.ended ≡ NoMemory
+  -- and marks say what the linear programs of their nodes met: those of a reduced program, or of one with rows that
+  -- plugins added, aren't the program's
+  pub met : plain ≡ true → AreMet program start log marks
 
--- so it is of a search without plugins
+-- so it is of a plain search
 abbrev pub IsSolved
     : Program → ℕ → Option ℚ → List Entry → List (ℕ × Mark) → Answer → Type 0
 IsSolved program nodes asked log marks answer = IsSolvedBy program nodes asked true log marks answer

@@ -1,26 +1,34 @@
-//! The answer of a search that has stopped.
-ghost use Rattle.std.specs.Prelude.{◌≡◌, ℕ, List, Option, ◌<◌, length, Bool, true, false, None, IfSome};
+//! The answer of a search that has stopped. A log of the reduced program is seen in the program as read, with the old
+//! numbers of its columns.
+ghost use Rattle.std.specs.Prelude.{◌≡◌, ℕ, List, Option, ◌<◌, length, Bool, true, None, IfSome};
 ghost use Rattle.cip_rational.specs.Rational.{ℚ};
+ghost use Rattle.cip_problem.specs.Program.{Program};
 ghost use Rattle.cip_problem.specs.Log.{Entry};
 ghost use Rattle.cip_problem.specs.WellFormed.{columns};
-ghost use Rattle.cip_search.specs.SearchAnswers.{IsSearchAnswer};
+ghost use Rattle.cip_search.specs.SearchState.{WayBack};
+ghost use Rattle.cip_seen.specs.SeenLogs.{log_seen};
 ghost use Rattle.cip_tree.specs.Nodes.{Nodes};
 ghost use Rattle.cip_node_bounds.specs.declared.relaxed.Mark.{Mark};
 ghost use Rattle.cip_core.specs.CoreStates.{reduced_of};
 ghost use Rattle.cip_core.specs.KeptNodes.{IsHolding};
 ghost use Rattle.cip_endings.specs.AnswerOf.{answer_of};
 ghost use Rattle.cip_solve.specs.FirstStops.{StopsFirst};
-ghost use Rattle.cip_solve.specs.Logs.{entries_of, marked_in, numbers_of};
-ghost use Rattle.cip_solve.specs.Searching.{IsAtRoot, IsEndless};
-ghost use Rattle.cip_solve.specs.Searching.{StopsStill, StopsEndless, StopsRefused, StopsAs, IsWithin};
-ghost use Rattle.cip_solve.specs.Solved.{AreMet, RayIsShown, IsSolvedBy};
+ghost use Rattle.cip_solve.specs.Logs.{entries_of};
+ghost use Rattle.cip_solve.specs.Reducing.{IsOfReduced, IsPlain};
+ghost use Rattle.cip_solve.specs.Searching.{IsAtRoot, IsEndless, CanBeSeen};
+ghost use Rattle.cip_solve.specs.Searching.{StopsStill, StopsEndless, StopsRefused, IsWithin, IsWithinAt};
+ghost use Rattle.cip_solve.specs.Stops.{StopsAt};
+ghost use Rattle.cip_solve.specs.Solved.{IsSolvedBy};
+ghost use Rattle.cip_solve.specs.Answered.{IsAnswered};
 ghost use Rattle.cip_solve.specs.SplitsServed.{splits_in, HasServed};
 ghost use Rattle.cip_solve.specs.Stopping.{BestIs};
 
 use crate::logs::Log;
+use crate::outsets::Begun;
 use crate::solving::Options;
 use crate::turns::{Search, Stop};
 use crate::works::Works;
+use cip_compaction::Presolved;
 use cip_core::{Core, cost_of};
 use cip_endings::{Worst, capped, ended_at, flat, least_left};
 use cip_frac::Frac;
@@ -61,11 +69,11 @@ fn still_answer(
     point: Vec<Frac>,
 ) -> Answer
     requires { IfSome incumbent.now.best (λ held. length held.point ≡ length point.items) }
-    ensures right { (program : Program) (nodes : ℕ) (marks : List (ℕ × Mark))
-        → StopsStill program tree.now.root.bound nodes asked.now tree.now incumbent.now worst
-        → IsWithin program tree.now.root.bound nodes tree.now.log marks
-        → IsSearchAnswer program tree.now.root.bound nodes asked.now tree.now.log (numbers_of marks)
-        (answer_of result) × RayIsShown program (answer_of result) }
+    ensures right { (program reduced : Program) (way : WayBack) (kept : ℕ → ℕ) (nodes : ℕ) (marks : List (ℕ × Mark))
+        → CanBeSeen program reduced kept
+        → StopsStill program reduced way tree.now.root.bound nodes asked.now tree.now incumbent.now worst
+        → IsWithin program reduced tree.now.root.bound nodes tree.now.log marks
+        → IsAnswered program tree.now.root.bound nodes asked.now (log_seen kept tree.now.log) marks (answer_of result) }
     ensures nodes { result.nodes ≡ length tree.now.log }
     ensures untraced { result.trace ≡ None }
 {
@@ -86,10 +94,11 @@ fn still_answer(
 /// The answer where the cost falls without end from a point along a ray, after so many nodes.
 fn endless_answer(program: &Program, point: Vec<Frac>, ray: Vec<Frac>, nodes: u64) -> Answer
     requires { IsEndless program.now point.items ray.items }
-    ensures right { (start : Option ℚ) (budget : ℕ) (asked : Option ℚ) (log : List Entry) (marks : List (ℕ × Mark))
-        → StopsEndless program.now log point.items ray.items → IsWithin program.now start budget log marks
-        → IsSearchAnswer program.now start budget asked log (numbers_of marks) (answer_of result)
-        × RayIsShown program.now (answer_of result) }
+    ensures right { (reduced : Program) (kept : ℕ → ℕ) (start : Option ℚ) (budget : ℕ) (asked : Option ℚ)
+        (log : List Entry) (marks : List (ℕ × Mark)) → CanBeSeen program.now reduced kept
+        → StopsEndless program.now reduced start log point.items ray.items
+        → IsWithin program.now reduced start budget log marks
+        → IsAnswered program.now start budget asked (log_seen kept log) marks (answer_of result) }
     ensures nodes { result.nodes ≡ nodes }
     ensures untraced { result.trace ≡ None }
 {
@@ -115,12 +124,11 @@ fn refused_answer(
     nodes: u64,
 ) -> Answer
     requires { IfSome incumbent.now.best (λ held. length held.point ≡ length point.items) }
-    ensures right { (program : Program) (start : Option ℚ) (budget : ℕ) (asked : Option ℚ) (tree : Nodes)
-        (marks : List (ℕ × Mark))
-        → StopsRefused program start tree incumbent.now bound → IsHolding program incumbent.now
-        → IsWithin program start budget tree.log marks
-        → IsSearchAnswer program start budget asked tree.log (numbers_of marks) (answer_of result)
-        × RayIsShown program (answer_of result) }
+    ensures right { (program reduced : Program) (way : WayBack) (kept : ℕ → ℕ) (start : Option ℚ) (budget : ℕ)
+        (asked : Option ℚ) (tree : Nodes) (marks : List (ℕ × Mark)) → CanBeSeen program reduced kept
+        → StopsRefused program reduced way start tree incumbent.now bound → IsHolding program incumbent.now
+        → IsWithin program reduced start budget tree.log marks
+        → IsAnswered program start budget asked (log_seen kept tree.log) marks (answer_of result) }
     ensures nodes { result.nodes ≡ nodes }
     ensures untraced { result.trace ≡ None }
 {
@@ -143,13 +151,13 @@ fn answer_at(
     options: &Options,
     point: Vec<Frac>,
 ) -> Answer
-    requires stop { StopsAs core.now.program core.now.tree.root.bound options.now.nodes options.now.gap
-        core.now.tree core.now.incumbent worst stop }
+    requires stop { StopsAt core.now options.now.nodes options.now.gap worst stop }
     requires point { length point.items ≡ columns core.now.program }
-    ensures right { (marks : List (ℕ × Mark))
-        → IsWithin core.now.program core.now.tree.root.bound options.now.nodes core.now.tree.log marks
-        → IsSearchAnswer core.now.program core.now.tree.root.bound options.now.nodes options.now.gap
-        core.now.tree.log (numbers_of marks) (answer_of result) × RayIsShown core.now.program (answer_of result) }
+    ensures right { (kept : ℕ → ℕ) (marks : List (ℕ × Mark))
+        → CanBeSeen core.now.program (reduced_of core.now) kept
+        → IsWithinAt core.now options.now.nodes marks
+        → IsAnswered core.now.program core.now.tree.root.bound options.now.nodes options.now.gap
+        (log_seen kept core.now.tree.log) marks (answer_of result) }
     ensures nodes { result.nodes ≡ length core.now.tree.log }
     ensures untraced { result.trace ≡ None }
 {
@@ -166,23 +174,19 @@ fn answer_at(
 
 impl<'a> Search<'a> {
     /// The answer of a search that stopped so, its point written to a list of as many values; what it did is left in
-    /// the log.
+    /// the log, with the numbers that columns have in the reduced program.
     fn finish(self, stop: Stop, options: &Options, point: Vec<Frac>, log: &mut Log) -> Answer
-        requires stop { StopsAs self.work.core.program self.work.core.tree.root.bound options.now.nodes options.now.gap
-            self.work.core.tree self.work.core.incumbent self.worst stop }
-        requires within { IsWithin self.work.core.program self.work.core.tree.root.bound options.now.nodes
-            self.work.core.tree.log self.marks.items }
-        requires met { self.work.core.touched ≡ false → AreMet self.work.core.program self.work.core.tree.root.bound
-            self.work.core.tree.log self.marks.items }
+        requires stop { StopsAt self.work.core options.now.nodes options.now.gap self.worst stop }
+        requires within { IsWithinAt self.work.core options.now.nodes self.marks.items }
         requires point { length point.items ≡ columns self.work.core.program }
-        ensures right { IsSearchAnswer self.entry.work.core.program self.entry.work.core.tree.root.bound
-            options.now.nodes options.now.gap (entries_of log.new) (marked_in log.new) (answer_of result) }
-        ensures shown { RayIsShown self.entry.work.core.program (answer_of result) }
+        ensures right { (kept : ℕ → ℕ)
+            → CanBeSeen self.entry.work.core.program (reduced_of self.entry.work.core) kept
+            → IsAnswered self.entry.work.core.program self.entry.work.core.tree.root.bound options.now.nodes
+            options.now.gap (log_seen kept (entries_of log.new)) log.new.marks.items (answer_of result) }
         ensures nodes { result.nodes ≡ length (entries_of log.new) }
         ensures untraced { result.trace ≡ None }
-        ensures met { self.entry.work.core.touched ≡ false → AreMet self.entry.work.core.program
-            self.entry.work.core.tree.root.bound (entries_of log.new) log.new.marks.items }
         ensures logged { entries_of log.new ≡ self.entry.work.core.tree.log }
+        ensures marked { log.new.marks ≡ self.entry.marks }
     {
         let Search { work, worst, marks } = self;
         let NodeWork { core, .. } = work;
@@ -193,35 +197,39 @@ impl<'a> Search<'a> {
     }
 }
 
-/// Searches from what has taken no node, as its options say; the point that is found is written to a
-/// list of as many values, and what was done is left in the log.
+/// Searches what presolve made of a program from before a node was taken, as the options say; the point that is found
+/// is written to a list of as many values. What was done is left in the log, as it is seen in the program as read:
+/// splits have the old numbers of their columns.
 pub(crate) fn search_from<W: Works>(
-    work: NodeWork<'_>,
+    begun: Begun<'_>,
+    presolved: &Presolved,
     works: &mut W,
     alloc: Global,
     options: &Options,
-    point: Vec<Frac>,
     log: &mut Log,
 ) -> Answer
-    requires root { IsAtRoot work.core }
+    requires root { IsAtRoot begun.work.core }
+    requires back { IsOfReduced begun.work.core presolved.now }
     requires some { 0 < options.now.nodes }
-    requires point { length point.items ≡ columns work.core.program }
-    requires ready { W.is_ready works.old (columns (reduced_of work.core)) }
-    ensures solved { (alone : Bool) → (alone ≡ true → W.asks ≡ false)
-        → IsSolvedBy work.entry.core.program options.now.nodes options.now.gap alone (entries_of log.new)
+    requires point { length begun.point.items ≡ columns begun.work.core.program }
+    requires ready { W.is_ready works.old (columns (reduced_of begun.work.core)) }
+    ensures solved { (plain : Bool) → (plain ≡ true → IsPlain W.asks begun.entry.work.core.program presolved.now)
+        → IsSolvedBy begun.entry.work.core.program options.now.nodes options.now.gap plain (entries_of log.new)
         log.new.marks.items (answer_of result) }
     ensures nodes { result.nodes ≡ length (entries_of log.new) }
     ensures untraced { result.trace ≡ None }
-    ensures first { (alone : Bool) → (alone ≡ true → W.asks ≡ false)
-        → StopsFirst work.entry.core.program options.now.gap alone (entries_of log.new) }
-    ensures asked { W.is_ready works.new (columns (reduced_of work.entry.core))
+    ensures first { StopsFirst begun.entry.work.core.program options.now.gap (entries_of log.new) }
+    ensures asked { W.is_ready works.new (columns (reduced_of begun.entry.work.core))
         × HasServed (splits_in (entries_of log.new)) (W.state works.old) (W.state works.new) }
 {
+    let Begun { work, point } = begun;
     let mut search = Search {
         work,
         worst: None,
         marks: Vec::new(alloc),
     };
     let stop = search.explore(alloc, works, options.nodes, &options.gap);
-    search.finish(stop, options, point, log)
+    let answer = search.finish(stop, options, point, log);
+    log.rename(presolved.kept.as_slice());
+    answer
 }

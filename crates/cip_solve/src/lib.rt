@@ -6,6 +6,7 @@ mod finish;
 mod laws;
 mod logs;
 mod outsets;
+mod reducing;
 mod solving;
 mod turns;
 mod works;

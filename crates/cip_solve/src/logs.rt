@@ -1,9 +1,11 @@
 //! What a search did.
 ghost use Rattle.std.specs.Prelude.{◌≡◌, []};
-ghost use Rattle.cip_solve.specs.Logs.{entries_of};
+ghost use Rattle.cip_tree.specs.Entries.{end_of};
+ghost use Rattle.cip_seen.specs.SeenLogs.{end_seen, log_seen};
+ghost use Rattle.cip_solve.specs.Logs.{entries_of, renamed};
 
 use cip_node_bounds::Mark;
-use cip_tree::Logged;
+use cip_tree::{End, Logged};
 use std::alloc::Global;
 
 /// What a search did.
@@ -16,6 +18,32 @@ pub struct Log {
     pub marks: Vec<(u64, Mark)>,
 }
 
+/// The number that a list has for a column; that of one that isn't below the list's length stays.
+fn renamed(column: u32, numbers: &[u32]) -> u32
+    ensures { result ≡ renamed numbers.now column }
+{
+    match numbers.get(column as usize) {
+        Some(number) => *number,
+        None => column,
+    }
+}
+
+/// An end with the number that a list has for the column of its split.
+fn renamed_end(end: End, numbers: &[u32]) -> End
+    ensures { end_of result ≡ end_seen (renamed numbers.now) (end_of end) }
+{
+    match end {
+        End::Split { col, at, low, high } => End::Split {
+            col: renamed(col, numbers),
+            at,
+            low,
+            high,
+        },
+        End::Closed => End::Closed,
+        End::Parked => End::Parked,
+    }
+}
+
 impl Log {
     /// Nothing done yet.
     pub fn new(alloc: Global) -> Log
@@ -25,6 +53,18 @@ impl Log {
         Log {
             taken: Vec::new(alloc),
             marks: Vec::new(alloc),
+        }
+    }
+
+    /// Gives the columns of all splits the numbers that a list has for them.
+    #[tactic(auto, using(crate::proofs::Renamed::renaming))]
+    pub(crate) fn rename(&mut self, numbers: &[u32])
+        ensures taken { entries_of self.new ≡ log_seen (renamed numbers.now) (entries_of self.old) }
+        ensures marks { self.new.marks ≡ self.old.marks }
+    {
+        for place in 0..self.taken.len() {
+            let end = renamed_end(self.taken[place].end, numbers);
+            self.taken[place].end = end;
         }
     }
 }

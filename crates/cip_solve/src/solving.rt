@@ -2,19 +2,24 @@
 ghost use Rattle.std.specs.Prelude.{◌≡◌, ℕ, Bool, true, false, Option, None, [], ◌<◌, length};
 ghost use Rattle.cip_rational.specs.Rational.{ℚ};
 ghost use Rattle.cip_problem.specs.WellFormed.{columns};
+ghost use Rattle.cip_reductions.specs.NarrowedPrograms.{IsInfeasible};
+ghost use Rattle.cip_compaction.specs.PresolvedPrograms.{IsPresolved};
 ghost use Rattle.cip_core.specs.Beginning.{AreNearColumns};
 ghost use Rattle.cip_endings.specs.AnswerOf.{answer_of};
 ghost use Rattle.cip_kits.specs.Kits.{stock_of, IsFew};
 ghost use Rattle.cip_solve.specs.FirstStops.{StopsFirst};
 ghost use Rattle.cip_solve.specs.KitsServed.{is_alone, IsKitAfter};
 ghost use Rattle.cip_solve.specs.Logs.{entries_of};
+ghost use Rattle.cip_solve.specs.Reducing.{CanBeSearched, IsPlain};
 ghost use Rattle.cip_solve.specs.Solved.{IsSolved, IsSolvedBy};
 ghost use Rattle.cip_solve.specs.SplitsServed.{splits_in, HasServed};
 
 use crate::finish::search_from;
 use crate::logs::Log;
-use crate::outsets::{Outset, set_out};
+use crate::outsets::{Begun, Outset, set_out};
+use crate::reducing::reduced_for;
 use crate::works::{Alone, Works};
+use cip_compaction::Presolved;
 use cip_core::root_bound;
 use cip_frac::Frac;
 use cip_kits::{end, is_bare};
@@ -32,7 +37,8 @@ pub struct Options {
     /// The gap that is asked for, if one is, in the units of the cost: the search ends once a point is held, a bound is
     /// there, and the cost less the bound is in range, above 0 and at most this.
     pub gap: Option<Frac>,
-    /// Whether it goes without plugins, and leaves the kit that it is given as it is.
+    /// Whether it goes without presolve and without plugins: it searches the program itself, and leaves the kit that it
+    /// is given as it is.
     pub plain: bool,
     /// Whether what the plugins were called for is told, line by line.
     pub trace: bool,
@@ -43,7 +49,7 @@ pub fn unsearched(program: &Program) -> Answer
     ensures solved { (nodes : ℕ) (asked : Option ℚ) → IsSolved program.now nodes asked [] [] (answer_of result) }
     ensures nodes { result.nodes ≡ 0 }
     ensures trace { result.trace ≡ None }
-    ensures first { (asked : Option ℚ) (alone : Bool) → StopsFirst program.now asked alone [] }
+    ensures first { (asked : Option ℚ) → StopsFirst program.now asked [] }
 {
     Answer {
         ended: Ended::NoMemory,
@@ -54,29 +60,50 @@ pub fn unsearched(program: &Program) -> Answer
     }
 }
 
-/// Searches for a feasible point of least cost, over at most so many nodes, by what works on them: with plugins,
-/// whatever these answer, or without. What was done is left in the log, in place of what it held. After each node has
-/// ended, and before the next is taken, it is seen whether the gap that was asked for is reached, and then the answer
-/// is `Gap`: behind no earlier node does the log settle that it was. Else it is `NodeLimit` exactly where as many nodes
-/// were taken and an open one matters; and `NoMemory` where memory was refused, with the point that was found by then.
+/// The answer where presolve has shown that no point is feasible: no node is taken.
+fn infeasible(program: &Program) -> Answer
+    requires { IsInfeasible program.now }
+    ensures solved { (nodes : ℕ) (asked : Option ℚ)
+        → IsSolvedBy program.now nodes asked false [] [] (answer_of result) }
+    ensures nodes { result.nodes ≡ 0 }
+    ensures trace { result.trace ≡ None }
+    ensures first { (asked : Option ℚ) → StopsFirst program.now asked [] }
+{
+    let _root = root_bound(program);
+    Answer {
+        ended: Ended::Infeasible,
+        best: None,
+        bound: None,
+        nodes: 0,
+        trace: None,
+    }
+}
+
+/// Searches what presolve made of a program for a feasible point of least cost of the program, over at most so many
+/// nodes, by what works on them: with plugins, whatever these answer, or without. What was done is left in the log, in
+/// place of what it held, as it is seen in the program: splits are at its columns. After each node has ended, and
+/// before the next is taken, it is seen whether the gap that was asked for is reached, and then the answer is `Gap`:
+/// behind no earlier node does the log settle that it was. Else it is `NodeLimit` exactly where as many nodes were
+/// taken and an open one matters; and `NoMemory` where memory was refused, with the point that was found by then.
 pub fn solve_by<W: Works>(
     alloc: Global,
     program: &Program,
+    presolved: &Presolved,
     options: &Options,
     works: &mut W,
     log: &mut Log,
 ) -> Answer
-    requires near { AreNearColumns program.now }
+    requires near { AreNearColumns presolved.now.reduced }
+    requires back { IsPresolved program.now presolved.now }
     requires some { 0 < options.now.nodes }
-    requires ready { W.is_ready works.old (columns program.now) }
-    ensures solved { (alone : Bool) → (alone ≡ true → W.asks ≡ false)
-        → IsSolvedBy program.now options.now.nodes options.now.gap alone (entries_of log.new) log.new.marks.items
+    requires ready { W.is_ready works.old (columns presolved.now.reduced) }
+    ensures solved { (plain : Bool) → (plain ≡ true → IsPlain W.asks program.now presolved.now)
+        → IsSolvedBy program.now options.now.nodes options.now.gap plain (entries_of log.new) log.new.marks.items
         (answer_of result) }
     ensures nodes { result.nodes ≡ length (entries_of log.new) }
     ensures trace { result.trace ≡ None }
-    ensures first { (alone : Bool) → (alone ≡ true → W.asks ≡ false)
-        → StopsFirst program.now options.now.gap alone (entries_of log.new) }
-    ensures asked { W.is_ready works.new (columns program.now)
+    ensures first { StopsFirst program.now options.now.gap (entries_of log.new) }
+    ensures asked { W.is_ready works.new (columns presolved.now.reduced)
         × HasServed (splits_in (entries_of log.new)) (W.state works.old) (W.state works.new) }
 {
     log.taken.clear();
@@ -85,11 +112,11 @@ pub fn solve_by<W: Works>(
     let Ok(point) = vec![in alloc; Frac::zero(); columns] else {
         return unsearched(program);
     };
-    match NodeWork::new(alloc, program) {
+    match NodeWork::new(alloc, program, presolved) {
         Err(_) => unsearched(program),
         Ok(work) => {
             work.core.is_sound();
-            search_from(work, works, alloc, options, point, log)
+            search_from(Begun { work, point }, presolved, works, alloc, options, log)
         }
     }
 }
@@ -98,31 +125,29 @@ pub fn solve_by<W: Works>(
 fn solve_with(
     alloc: Global,
     program: &Program,
+    presolved: &Presolved,
     options: &Options,
     kit: &mut Kit,
     log: &mut Log,
 ) -> Answer
-    requires near { AreNearColumns program.now }
+    requires near { AreNearColumns presolved.now.reduced }
+    requires back { IsPresolved program.now presolved.now }
     requires some { 0 < options.now.nodes }
     requires few { IsFew (stock_of ⟦<AnyPlugin as Tells>⟧.who kit.old) }
     ensures solved { IsSolvedBy program.now options.now.nodes options.now.gap false (entries_of log.new)
         log.new.marks.items (answer_of result) }
     ensures nodes { result.nodes ≡ length (entries_of log.new) }
-    ensures first { StopsFirst program.now options.now.gap false (entries_of log.new) }
+    ensures first { StopsFirst program.now options.now.gap (entries_of log.new) }
     ensures kit { IsKitAfter false options.now.trace (entries_of log.new) (stock_of ⟦<AnyPlugin as Tells>⟧.who kit.old)
         (stock_of ⟦<AnyPlugin as Tells>⟧.who kit.new) result.trace }
 {
     log.taken.clear();
     log.marks.clear();
-    let Ok(outset) = set_out(alloc, program, kit, options.trace) else {
+    let Ok(outset) = set_out(alloc, program, presolved, kit, options.trace) else {
         return unsearched(program);
     };
-    let Outset {
-        work,
-        mut asking,
-        point,
-    } = outset;
-    let mut answer = search_from(work, &mut asking, alloc, options, point, log);
+    let Outset { begun, mut asking } = outset;
+    let mut answer = search_from(begun, presolved, &mut asking, alloc, options, log);
     answer.trace = end(alloc, kit, &mut asking.plugins.roster, options.trace);
     answer
 }
@@ -134,9 +159,38 @@ fn goes_alone(options: &Options, kit: &Kit) -> bool
     options.plain || is_bare(kit)
 }
 
-/// Searches so with the plugins of a kit, whatever these answer; without, where that is asked for or the kit has none:
-/// then the kit is left as it is. Else all its plugins are done with behind the search, and the answer has the lines of
-/// the trace, if they are asked for.
+/// Searches what presolve made of a program, with the plugins of a kit or without.
+fn solve_reduced(
+    alloc: Global,
+    program: &Program,
+    presolved: &Presolved,
+    options: &Options,
+    kit: &mut Kit,
+    log: &mut Log,
+) -> Answer
+    requires can { CanBeSearched options.now.plain program.now presolved.now }
+    requires some { 0 < options.now.nodes }
+    requires few { IsFew (stock_of ⟦<AnyPlugin as Tells>⟧.who kit.old) }
+    ensures solved { IsSolvedBy program.now options.now.nodes options.now.gap options.now.plain (entries_of log.new)
+        log.new.marks.items (answer_of result) }
+    ensures nodes { result.nodes ≡ length (entries_of log.new) }
+    ensures first { StopsFirst program.now options.now.gap (entries_of log.new) }
+    ensures kit { IsKitAfter (is_alone options.now.plain (stock_of ⟦<AnyPlugin as Tells>⟧.who kit.old))
+        options.now.trace (entries_of log.new) (stock_of ⟦<AnyPlugin as Tells>⟧.who kit.old)
+        (stock_of ⟦<AnyPlugin as Tells>⟧.who kit.new) result.trace }
+{
+    if goes_alone(options, kit) {
+        return solve_by(alloc, program, presolved, options, &mut Alone, log);
+    }
+    solve_with(alloc, program, presolved, options, kit, log)
+}
+
+/// Searches for a feasible point of least cost: presolve reduces the program, and what it makes of it is searched, with
+/// the plugins of a kit, whatever these answer; the point, the leaf that is shown, a ray, and the log are of the
+/// program itself. Where the options are plain, the program itself is searched, without plugins. Where presolve shows
+/// that no point is feasible, the answer is `Infeasible`, the log is empty, and nobody was called. Without plugins the
+/// kit is left as it is; else all its plugins are done with behind the search, and the answer has the lines of the
+/// trace, if they are asked for.
 pub fn solve(
     alloc: Global,
     program: &Program,
@@ -147,18 +201,19 @@ pub fn solve(
     requires near { AreNearColumns program.now }
     requires some { 0 < options.now.nodes }
     requires few { IsFew (stock_of ⟦<AnyPlugin as Tells>⟧.who kit.old) }
-    ensures solved { IsSolvedBy program.now options.now.nodes options.now.gap
-        (is_alone options.now.plain (stock_of ⟦<AnyPlugin as Tells>⟧.who kit.old)) (entries_of log.new)
+    ensures solved { IsSolvedBy program.now options.now.nodes options.now.gap options.now.plain (entries_of log.new)
         log.new.marks.items (answer_of result) }
     ensures nodes { result.nodes ≡ length (entries_of log.new) }
-    ensures first { StopsFirst program.now options.now.gap
-        (is_alone options.now.plain (stock_of ⟦<AnyPlugin as Tells>⟧.who kit.old)) (entries_of log.new) }
+    ensures first { StopsFirst program.now options.now.gap (entries_of log.new) }
     ensures kit { IsKitAfter (is_alone options.now.plain (stock_of ⟦<AnyPlugin as Tells>⟧.who kit.old))
         options.now.trace (entries_of log.new) (stock_of ⟦<AnyPlugin as Tells>⟧.who kit.old)
         (stock_of ⟦<AnyPlugin as Tells>⟧.who kit.new) result.trace }
 {
-    if goes_alone(options, kit) {
-        return solve_by(alloc, program, options, &mut Alone, log);
+    log.taken.clear();
+    log.marks.clear();
+    match reduced_for(alloc, program, options.plain) {
+        Err(_) => unsearched(program),
+        Ok(None) => infeasible(program),
+        Ok(Some(presolved)) => solve_reduced(alloc, program, &presolved, options, kit, log),
     }
-    solve_with(alloc, program, options, kit, log)
 }

@@ -1,14 +1,15 @@
 //! A search over the nodes, from one to the next.
-ghost use Rattle.std.specs.Prelude.{◌≡◌, ℕ, ◌+◌, ◌<◌, ◌≤◌, Bool, true, false, Option, [], ◌++◌, length, MatchOption};
+ghost use Rattle.std.specs.Prelude.{◌≡◌, ℕ, ◌+◌, ◌<◌, ◌≤◌, true, false, Option, [], ◌++◌, length, MatchOption};
 ghost use Rattle.std.specs.Prelude.{vec_len, vec_capacity};
 ghost use Rattle.cip_rational.specs.Rational.{ℚ};
 ghost use Rattle.cip_problem.specs.WellFormed.{columns};
 ghost use Rattle.cip_seats.specs.Seats.{State};
-ghost use Rattle.cip_core.specs.CoreStates.{reduced_of};
-ghost use Rattle.cip_solve.specs.FirstStops.{IsLongerLog, IsFirstStop};
+ghost use Rattle.cip_core.specs.CoreStates.{reduced_of, way_of};
+ghost use Rattle.cip_solve.specs.FirstStops.{IsLongerLog};
 ghost use Rattle.cip_solve.specs.Logs.{marks_by};
 ghost use Rattle.cip_solve.specs.SplitsServed.{splits_in, HasServed};
-ghost use Rattle.cip_solve.specs.Searching.{IsStill, IsStanding, IsWritten, IsKeptAs, HasReachedGap, StopsAs};
+ghost use Rattle.cip_solve.specs.Searching.{IsSameSearch, IsStillAt, IsStanding, IsWritten, ReachesGapAt, WasShort};
+ghost use Rattle.cip_solve.specs.Stops.{IsKeptAs, StopsAt};
 
 use crate::works::Works;
 use cip_endings::{Worst, flat, least_left, reaches_gap, worse};
@@ -96,8 +97,7 @@ impl<'a> Search<'a> {
         requires standing { IsStanding self.old.work.core self.old.worst }
         requires written { IsWritten self.old.work.core self.old.marks.items }
         requires ready { W.is_ready works.old (columns (reduced_of self.old.work.core)) }
-        ensures same { (self.new.work.core.program ≡ self.old.work.core.program)
-            × (self.new.work.core.tree.root ≡ self.old.work.core.tree.root)
+        ensures same { IsSameSearch self.old.work.core self.new.work.core
             × (W.asks ≡ false → self.new.work.core.touched ≡ self.old.work.core.touched) }
         ensures longer { length self.new.work.core.tree.log ≤ length self.old.work.core.tree.log + 1 }
         ensures grown { IsLongerLog self.old.work.core.tree.log self.new.work.core.tree.log }
@@ -105,8 +105,7 @@ impl<'a> Search<'a> {
         ensures turned { (nodes : ℕ) (asked : Option ℚ) → MatchOption result
             (IsStanding self.new.work.core self.new.worst
             × (length self.new.work.core.tree.log ≡ length self.old.work.core.tree.log + 1))
-            (StopsAs self.new.work.core.program self.new.work.core.tree.root.bound nodes asked self.new.work.core.tree
-            self.new.work.core.incumbent self.new.worst) }
+            (StopsAt self.new.work.core nodes asked self.new.worst) }
         ensures asked { W.is_ready works.new (columns (reduced_of self.new.work.core))
             × ((first : State) → HasServed (splits_in self.old.work.core.tree.log) first (W.state works.old)
             → HasServed (splits_in self.new.work.core.tree.log) first (W.state works.new)) }
@@ -134,10 +133,9 @@ impl<'a> Search<'a> {
 
     /// Whether the gap that was asked for is reached.
     fn has_reached_gap(&self, asked: &Option<Frac>) -> bool
-        requires { IsStill self.now.work.core.program self.now.work.core.tree.root.bound self.now.work.core.tree
-            self.now.work.core.incumbent self.now.worst }
-        ensures reached { result ≡ true → HasReachedGap asked.now self.now.work.core.tree self.now.work.core.incumbent }
-        ensures short { result ≡ false → HasReachedGap asked.now self.now.work.core.tree self.now.work.core.incumbent
+        requires { IsStillAt self.now.work.core self.now.worst }
+        ensures reached { result ≡ true → ReachesGapAt asked.now self.now.work.core.tree self.now.work.core.incumbent }
+        ensures short { result ≡ false → ReachesGapAt asked.now self.now.work.core.tree self.now.work.core.incumbent
             → ⊥ }
     {
         if asked.is_none() {
@@ -162,16 +160,13 @@ impl<'a> Search<'a> {
         requires empty { self.old.work.core.tree.log ≡ [] }
         requires plain { self.old.work.core.touched ≡ false }
         requires ready { W.is_ready works.old (columns (reduced_of self.old.work.core)) }
-        ensures same { (self.new.work.core.program ≡ self.old.work.core.program)
-            × (self.new.work.core.tree.root ≡ self.old.work.core.tree.root)
+        ensures same { IsSameSearch self.old.work.core self.new.work.core
             × (W.asks ≡ false → self.new.work.core.touched ≡ self.old.work.core.touched) }
         ensures most { length self.new.work.core.tree.log ≤ nodes }
         ensures written { IsWritten self.new.work.core self.new.marks.items }
-        ensures stopped { StopsAs self.new.work.core.program self.new.work.core.tree.root.bound nodes asked.now
-            self.new.work.core.tree self.new.work.core.incumbent self.new.worst result }
-        ensures first { (alone : Bool) → (alone ≡ true → W.asks ≡ false)
-            → IsFirstStop self.old.work.core.program self.old.work.core.tree.root.bound asked.now alone
-            self.new.work.core.tree.log }
+        ensures stopped { StopsAt self.new.work.core nodes asked.now self.new.worst result }
+        ensures first { WasShort self.old.work.core.program (reduced_of self.old.work.core)
+            (way_of self.old.work.core) self.old.work.core.tree.root.bound asked.now self.new.work.core.tree.log }
         ensures asked { W.is_ready works.new (columns (reduced_of self.new.work.core))
             × HasServed (splits_in self.new.work.core.tree.log) (W.state works.old) (W.state works.new) }
     {

@@ -1,6 +1,7 @@
 //! Random programs with semi-continuous columns: what a search of each ends with, and what plain enumeration of its
 //! choices does.
 use crate::programs::{has_near_columns, program_of};
+use cip_compaction::Presolved;
 use cip_frac::Frac;
 use cip_model::Program;
 use cip_report::{Answer, Ended};
@@ -219,7 +220,10 @@ fn ending_of(answer: &Answer) -> Ending {
 }
 
 fn searched(alloc: Global, program: &Program) -> Ending {
-    if !has_near_columns(program) {
+    let Ok(same) = Presolved::same(alloc, program) else {
+        return Ending::Other;
+    };
+    if !has_near_columns(&same.reduced) {
         return Ending::Other;
     }
     let options = Options {
@@ -228,7 +232,14 @@ fn searched(alloc: Global, program: &Program) -> Ending {
         plain: true,
         trace: false,
     };
-    ending_of(&solve_by(alloc, program, &options, &mut Alone, &mut Log::new(alloc)))
+    ending_of(&solve_by(
+        alloc,
+        program,
+        &same,
+        &options,
+        &mut Alone,
+        &mut Log::new(alloc),
+    ))
 }
 
 fn searched_text(alloc: Global, text: &str) -> Ending {

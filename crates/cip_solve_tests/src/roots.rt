@@ -7,6 +7,7 @@ ghost use Rattle.cip_judge.specs.ProposalsJudged.{HaveRoom};
 
 use crate::programs::{FREE_COLUMN, has_near_columns, program_of};
 use cip_calls::{NoPlugins, Plugins};
+use cip_compaction::Presolved;
 use cip_core::Core;
 use cip_frac::Frac;
 use cip_judge::Scratches;
@@ -228,10 +229,13 @@ fn is_worked(alloc: Global, work: &mut NodeWork<'_>, case: &Case) -> bool
 
 /// Begins a search of a program, and works on its root.
 fn is_begun(alloc: Global, program: &Program, case: &Case) -> bool {
-    if !has_near_columns(program) {
+    let Ok(same) = Presolved::same(alloc, program) else {
+        return false;
+    };
+    if !has_near_columns(&same.reduced) {
         return false;
     }
-    match NodeWork::new(alloc, program) {
+    match NodeWork::new(alloc, program, &same) {
         Ok(mut work) => is_worked(alloc, &mut work, case),
         Err(_) => false,
     }
@@ -270,13 +274,16 @@ fn is_worked_alone(
 
 /// Begins a search of a program, and works on its root while nobody is asked.
 fn is_begun_alone(alloc: Global, program: &Program, case: &Case) -> bool {
-    if !has_near_columns(program) {
-        return false;
-    }
-    let Ok(scratches) = Scratches::new(alloc, program) else {
+    let Ok(same) = Presolved::same(alloc, program) else {
         return false;
     };
-    let Ok(mut work) = NodeWork::new(alloc, program) else {
+    if !has_near_columns(&same.reduced) {
+        return false;
+    }
+    let Ok(scratches) = Scratches::new(alloc, &same.reduced) else {
+        return false;
+    };
+    let Ok(mut work) = NodeWork::new(alloc, program, &same) else {
         return false;
     };
     let mut plugins = Plugins::new(alloc, scratches, NoPlugins);

@@ -1,9 +1,13 @@
 //! What searches over the work on nodes answer.
+ghost use Rattle.cip_compaction.specs.PresolvedPrograms.{IsPresolved};
+
 use crate::programs::{FREE_COLUMN, THREE_COLUMNS, has_near_columns, program_of};
+use cip_compaction::Presolved;
 use cip_frac::Frac;
 use cip_leaf::Shown;
 use cip_model::{Place, Program};
 use cip_node_bounds::Mark;
+use cip_presolve::{PresolveEnd, presolve};
 use cip_report::{Answer, Ended, Held};
 use cip_solve::{Alone, Log, Options, solve_by, unsearched};
 use cip_tree::{End, Logged};
@@ -244,9 +248,12 @@ fn is_answer(answer: &Answer, case: &Case) -> bool {
         && is_bound(answer.bound, case.bound)
 }
 
-/// Searches a program.
+/// Searches a program, without presolve.
 fn is_searched(alloc: Global, program: &Program, log: &mut Log, case: &Case) -> bool {
-    if !has_near_columns(program) || case.nodes == 0 {
+    let Ok(same) = Presolved::same(alloc, program) else {
+        return false;
+    };
+    if !has_near_columns(&same.reduced) || case.nodes == 0 {
         return false;
     }
     let options = Options {
@@ -255,7 +262,10 @@ fn is_searched(alloc: Global, program: &Program, log: &mut Log, case: &Case) -> 
         plain: true,
         trace: false,
     };
-    is_answer(&solve_by(alloc, program, &options, &mut Alone, log), case) && has(log, case.told)
+    is_answer(
+        &solve_by(alloc, program, &same, &options, &mut Alone, log),
+        case,
+    ) && has(log, case.told)
 }
 
 /// Searches a program, with a log that has nothing yet.
@@ -310,4 +320,60 @@ fn is_left_unsearched(alloc: Global) -> bool {
 #[test]
 fn no_memory_for_a_search(rt: HostRuntime) {
     assert!(rt; is_left_unsearched(rt.alloc()));
+}
+
+/// Minimise f - 2a - b with 2a + 2b <= 3, where a and b are 0 or 1, and f is 5.
+const FIXED_FIRST: &str =
+    "ROWS\n N COST\n L R\nCOLUMNS\n f COST 1\n a COST -2 R 2\n b COST -1 R 2\n\
+    RHS\n RHS R 3\nBOUNDS\n FX B f 5\n BV B a\n BV B b\nENDATA\n";
+
+/// The first node was split at this column.
+fn is_split_first(log: &Log, column: u32) -> bool {
+    match log.taken.as_slice() {
+        [first, ..] => match first.end {
+            End::Split { col, .. } => col == column,
+            _ => false,
+        },
+        [] => false,
+    }
+}
+
+/// Searches what presolve made of the program, which has no column f: the answer and the log are of the program.
+fn is_seen(alloc: Global, program: &Program, presolved: &Presolved, log: &mut Log) -> bool
+    requires { IsPresolved program.now presolved.now }
+{
+    if presolved.reduced.columns() != 2 || !has_near_columns(&presolved.reduced) {
+        return false;
+    }
+    let options = Options {
+        nodes: 10,
+        gap: None,
+        plain: false,
+        trace: false,
+    };
+    let answer = solve_by(alloc, program, presolved, &options, &mut Alone, log);
+    matches!(answer.ended, Ended::Optimal)
+        && answer.bound == Some(Frac::from(3))
+        && is_split_first(log, 2)
+}
+
+fn is_reduced(alloc: Global, program: &Program) -> bool {
+    match presolve(alloc, program) {
+        Ok(PresolveEnd::Reduced(presolved)) => {
+            is_seen(alloc, program, &presolved, &mut Log::new(alloc))
+        }
+        _ => false,
+    }
+}
+
+fn is_told_of_program(alloc: Global) -> bool {
+    match program_of(alloc, FIXED_FIRST) {
+        Some(program) => is_reduced(alloc, &program),
+        None => false,
+    }
+}
+
+#[test]
+fn log_has_columns_of_the_program(rt: HostRuntime) {
+    assert!(rt; is_told_of_program(rt.alloc()));
 }

@@ -4,6 +4,7 @@ ghost use Rattle.cip_core.specs.CoreStates.{IsKeptIn};
 ghost use Rattle.cip_node.specs.Looking.{CanWorkOn};
 
 use crate::programs::{has_near_columns, program_of};
+use cip_compaction::Presolved;
 use cip_core::{Asked, Core};
 use cip_frac::Frac;
 use cip_lin::{Combo, RowId, RowMultiple};
@@ -89,10 +90,13 @@ fn ends_with(alloc: Global, work: &mut NodeWork<'_>, combo: &Option<Combo>, boun
 
 /// So it does in a search that begins.
 fn begins_with(alloc: Global, program: &Program, combo: &Option<Combo>, bound: Frac) -> bool {
-    if !has_near_columns(program) {
+    let Ok(same) = Presolved::same(alloc, program) else {
+        return false;
+    };
+    if !has_near_columns(&same.reduced) {
         return false;
     }
-    match NodeWork::new(alloc, program) {
+    match NodeWork::new(alloc, program, &same) {
         Ok(mut work) => ends_with(alloc, &mut work, combo, bound),
         Err(_) => false,
     }
@@ -156,10 +160,13 @@ fn are_let_go(alloc: Global, work: &mut NodeWork<'_>) -> bool
 }
 
 fn lets_go(alloc: Global, program: &Program) -> bool {
-    if !has_near_columns(program) {
+    let Ok(same) = Presolved::same(alloc, program) else {
+        return false;
+    };
+    if !has_near_columns(&same.reduced) {
         return false;
     }
-    match NodeWork::new(alloc, program) {
+    match NodeWork::new(alloc, program, &same) {
         Ok(mut work) => are_let_go(alloc, &mut work),
         Err(_) => false,
     }

@@ -1,7 +1,7 @@
 -- What is known of programs, blocks and points that were read, and of those that weren't.
-use Rattle.std.specs.Prelude.{◌≡◌, ◌<◌, ℕ, List, length, Option, None, Some, IfSome, Result, Ok, Err, IsErr, MatchResult, refl}
+use Rattle.std.specs.Prelude.{◌≡◌, ◌<◌, ◌≤◌, ℕ, List, length, Option, None, Some, IfSome, Result, Ok, Err, IsErr, MatchResult, refl}
 use Rattle.std.specs.Result.{IsErrAnd}
-use Rattle.std.proofs.Common.{sym, ◌∙◌, subst, inl, inr, arith}
+use Rattle.std.proofs.Common.{sym, ap, ◌∙◌, subst, inl, inr, arith}
 use Rattle.std.proofs.lemmas.Slice.Zip.{AllZip-long}
 use Rattle.cip_rational.specs.Rational.{ℚ}
 use Rattle.cip_problem.specs.Program.{Program}
@@ -25,10 +25,11 @@ use Rattle.cip_input.specs.declared.block_texts.UnreadBlocks.TheVariants as bloc
 use Rattle.cip_input.specs.declared.points.UnreadPoint.{UnreadPoint}
 use Rattle.cip_input.specs.declared.points.UnreadPoint.TheVariants as point
 use Rattle.cip_io.specs.Store.{StoreTells}
-use Rattle.cip_words.specs.Jobs.{Limits, Job, Solve, Check, AsksForSome}
+use Rattle.cip_words.specs.Jobs.{Limits, Job, Solve, Check, Generate, AsksForSome}
+use Rattle.cip_generator.specs.Generated.{most_drawn}
 use Rattle.cip_tasks.specs.declared.plain.Plain.{Plain}
 use Rattle.cip_parts.specs.BlockParts.{Blocks as Parts}
-use Rattle.cip_tasks.specs.Tasks.{plain_of, plain_of_blocks, plain_of_point, model_of, TakesBlocks, IsSolve, IsCheck, TaskCause}
+use Rattle.cip_tasks.specs.Tasks.{plain_of, plain_of_blocks, plain_of_point, model_of, model_in, TakesBlocks, IsSolve, IsCheck, TaskCause}
 
 -- it is that of the text that the store tells
 pub told : (name : List ℕ) (text : Option (List ℕ)) (program : Program) → IsRead name text program → IfSome text (λ bytes. HasModel name bytes program)
@@ -48,21 +49,30 @@ long name text program point_text old new point limited lines r p =
 pub some_job : {asked : Job} {job : Option Job} → job ≡ Some asked → job ≡ None → ⊥
 some_job h e = cc
 
+no_name : {name : List ℕ} → None ≡ Some name → ⊥
+no_name e = cc
+
+-- nor does a job that names a model name none
+some_model : {asked : Job} {model : List ℕ} {job : Option Job} → job ≡ Some asked → model_of asked ≡ Some model → model_in job ≡ None → ⊥
+some_model h e n = no_name (sym n ∙ (ap model_in h ∙ e))
+
 -- a job to solve asks for a node at least
 pub some_asked : (asked : Job) (model : List ℕ) (blocks : Option (List ℕ)) (limits : Limits) → AsksForSome asked → asked ≡ Solve model blocks limits → 0 < limits.nodes
 some_asked asked model blocks limits h e = let range : AsksForSome (Solve model blocks limits) = subst AsksForSome e h in omega (arith, range.0)
 
 -- why there is no task where the text of the model gave no program
-pub unread_cause : (job : Option Job) (asked : Job) (old new : StoreTells) (cause : Unread) → job ≡ Some asked → ReadCause (model_of asked) (old.holds (model_of asked)) old new cause → TaskCause job old new (plain_of cause)
-unread_cause job asked old new StoreFailed e h = record { asked = asked; is_asked = e; fails = inl h }
-unread_cause job asked old new (Faulty fault) e h = record { asked = asked; is_asked = e; refuses = h }
-unread_cause job asked old new NoMemory e h = record { sound = h; untouched = λ none. absurd (some_job e none) }
+pub unread_cause : (job : Option Job) (asked : Job) (model : List ℕ) (old new : StoreTells) (cause : Unread) → job ≡ Some asked → model_of asked ≡ Some model → ReadCause model (old.holds model) old new cause → TaskCause job old new (plain_of cause)
+unread_cause job asked model old new StoreFailed e n h = record { asked = asked; is_asked = e; model = model; named = n; fails = inl h }
+unread_cause job asked model old new (Faulty fault) e n h = record { asked = asked; is_asked = e; model = model; named = n; refuses = h }
+unread_cause job asked model old new NoMemory e n h = record { sound = h; untouched = λ none. absurd (some_model e n none) }
 
 -- why there is none where the text of the blocks gave none
 pub blocks_cause : (job : Option Job) (model name : List ℕ) (limits : Limits) (old between new : StoreTells) (program : Program) (cause : UnreadBlocks) → job ≡ Some (Solve model (Some name) limits) → Reads model (old.holds model) old between program → between.holds ≡ old.holds → BlocksCause program (between.holds name) between new cause → TaskCause job old new (plain_of_blocks cause)
 blocks_cause job model name limits old between new program blocks.StoreFailed e r same h = record {
   asked = Solve model (Some name) limits;
   is_asked = e;
+  model = model;
+  named = refl;
   fails = inr (record { name = name; named = refl; program = program; between = between; reads = r; rose = h });
 }
 blocks_cause job model name limits old between new program (blocks.Faulty fault) e r same h = record {
@@ -75,13 +85,15 @@ blocks_cause job model name limits old between new program (blocks.Faulty fault)
   reads = r;
   refuses = subst (λ holds. RefusesText (HasFault (block_reading program)) (holds name) between new fault.line (block_kind_number fault.kind)) same h;
 }
-blocks_cause job model name limits old between new program blocks.NoMemory e r same h = record { sound = h ∙ r.sound; untouched = λ none. absurd (some_job e none) }
+blocks_cause job model name limits old between new program blocks.NoMemory e r same h = record { sound = h ∙ r.sound; untouched = λ none. absurd (some_model e refl none) }
 
 -- why there is none where the text of the point gave none
 pub point_cause : (job : Option Job) (model name : List ℕ) (old between new : StoreTells) (program : Program) (cause : UnreadPoint) → job ≡ Some (Check model name) → Reads model (old.holds model) old between program → between.holds ≡ old.holds → PointCause program (between.holds name) between new cause → TaskCause job old new (plain_of_point cause)
 point_cause job model name old between new program point.StoreFailed e r same h = record {
   asked = Check model name;
   is_asked = e;
+  model = model;
+  named = refl;
   fails = inr (record { name = name; named = refl; program = program; between = between; reads = r; rose = h });
 }
 point_cause job model name old between new program (point.Faulty fault) e r same h = record {
@@ -93,7 +105,7 @@ point_cause job model name old between new program (point.Faulty fault) e r same
   reads = r;
   refuses = subst (λ holds. RefusesText (HasFault (point_reading program)) (holds name) between new fault.line (point_kind_number fault.kind)) same h;
 }
-point_cause job model name old between new program point.NoMemory e r same h = record { sound = h ∙ r.sound; untouched = λ none. absurd (some_job e none) }
+point_cause job model name old between new program point.NoMemory e r same h = record { sound = h ∙ r.sound; untouched = λ none. absurd (some_model e refl none) }
 
 -- the blocks of a text of this name were read
 pub blocks_taken : (program : Program) (blocks : Option (List ℕ)) (name : List ℕ) (old between new : StoreTells) (parts : Parts) → blocks ≡ Some name → between.holds ≡ old.holds → ReadsBlocks program (between.holds name) between new parts → TakesBlocks program blocks old between new
@@ -133,3 +145,10 @@ is_check job model name old between new program point limited lines asked r same
 pub not_done : {X : Type 0} (Done : X → Type 0) (Cause : Plain → Type 0) (answer : Plain) (result : Result X Plain) → Cause answer → IsErr result × IsErrAnd result (λ given. given ≡ answer) → MatchResult result Done Cause
 not_done Done Cause answer (Ok x) h e = let no : ⊥ = let failed = e.0 in cc in absurd no
 not_done Done Cause answer (Err given) h e = subst Cause (sym e.1) h
+
+-- a job to solve a program that is drawn asks for few columns and rows
+pub few_columns : (asked : Job) (seed columns rows : ℕ) → AsksForSome asked → asked ≡ Generate seed columns rows → columns ≤ most_drawn
+few_columns asked seed columns rows h e = (subst AsksForSome e h).1.0
+
+pub few_rows : (asked : Job) (seed columns rows : ℕ) → AsksForSome asked → asked ≡ Generate seed columns rows → rows ≤ most_drawn
+few_rows asked seed columns rows h e = (subst AsksForSome e h).1.1

@@ -1,5 +1,6 @@
--- What the words and the texts of a job come to: a program to solve within limits, a point to check, or an answer
--- without figures. A job reads the text of the model first, and then a second text, if it names one.
+-- What the words and the texts of a job come to: a program to solve within limits, a point to check, a program that is
+-- drawn, or an answer without figures. A job that names a model reads its text first, and then a second text, if it
+-- names one.
 use Rattle.std.specs.Prelude.{◌≡◌, ◌⊎◌, ◌<◌, ℕ, List, Option, None, Some, length}
 use Rattle.cip_rational.specs.Rational.{ℚ}
 use Rattle.cip_io.specs.Faults.{Rose}
@@ -12,7 +13,8 @@ use Rattle.cip_block_rules.specs.BlockRules.{block_reading}
 use Rattle.cip_point_rules.specs.PointRules.{point_reading}
 use Rattle.cip_blocks.specs.BlockKinds.{kind_number as block_kind_number}
 use Rattle.cip_point.specs.PointKinds.{kind_number as point_kind_number}
-use Rattle.cip_words.specs.Jobs.{Limits, Job, Solve, Check}
+use Rattle.cip_generator.specs.Generated.{generated, entries_of}
+use Rattle.cip_words.specs.Jobs.{Limits, Job, Solve, Check, Generate}
 use Rattle.cip_words.specs.declared.words.WordsFault.{WordsFault}
 use Rattle.cip_words.specs.declared.words.WordsFault.TheVariants as words
 use Rattle.cip_input.specs.LimitedModels.{IsLimited}
@@ -56,15 +58,22 @@ abbrev pub plain_of_words : WordsFault → Plain
 plain_of_words words.Refused = Usage
 plain_of_words words.NoMemory = NoMemory
 
--- the name of the text of the model of a job
-abbrev pub model_of : Job → List ℕ
-model_of (Solve model blocks limits) = model
-model_of (Check model point) = model
+-- the name of the text of the model of a job, if it names one
+abbrev pub model_of : Job → Option (List ℕ)
+model_of (Solve model blocks limits) = Some model
+model_of (Check model point) = Some model
+model_of (Generate seed columns rows) = None
+
+-- the name of the text of the model that words name, if they are accepted and name one
+abbrev pub model_in : Option Job → Option (List ℕ)
+model_in None = None
+model_in (Some asked) = model_of asked
 
 -- the name of the text that is read behind the model's, if there is one
 abbrev pub second_of : Job → Option (List ℕ)
 second_of (Solve model blocks limits) = blocks
 second_of (Check model point) = Some point
+second_of (Generate seed columns rows) = None
 
 -- ---- `old` and `new` are the store before and after the call, and `between` between the two texts
 
@@ -95,32 +104,48 @@ pub record IsCheck (job : Option Job) (old new : StoreTells) (program : Program)
   pub reads_point : ReadsPoint program (old.holds name) between new point
   pub long : length point ≡ columns program
 
+-- the words ask to solve the program that is drawn from a seed; it is that one, so many coefficients of its rows aren't
+-- 0, and nothing was pulled
+pub record IsDrawn (job : Option Job) (old new : StoreTells) (program : Program) (seed columns rows entries : ℕ)
+    : Type 0 where
+  pub asked : job ≡ Some (Generate seed columns rows)
+  pub is_drawn : program ≡ generated seed columns rows
+  pub counted : entries ≡ entries_of program
+  pub untouched : new ≡ old
+  pub limited : IsLimited program
+
 -- what is to be done
 abbrev pub IsTask : Option Job → (old new : StoreTells) → Task → Type 0
 IsTask job old new (task.Solve program nodes gap plain trace) =
     IsSolve job old new program (record { nodes = nodes; gap = gap; plain = plain; trace = trace })
 IsTask job old new (task.Check program point) = IsCheck job old new program point.items
+IsTask job old new (task.Generate program seed columns rows entries) =
+    IsDrawn job old new program seed columns rows entries
 
--- behind the text of the model, which was read, the store failed at the second text
-pub record FailsBehind (asked : Job) (old new : StoreTells) : Type 0 where
+-- behind the text of the model of this name, which was read, the store failed at the second text
+pub record FailsBehind (asked : Job) (model : List ℕ) (old new : StoreTells) : Type 0 where
   pub name : List ℕ
   pub named : second_of asked ≡ Some name
   pub program : Program
   pub between : StoreTells
-  pub reads : Reads (model_of asked) (old.holds (model_of asked)) old between program
+  pub reads : Reads model (old.holds model) old between program
   pub rose : Rose between.faults new.faults
 
--- the words are accepted, and the store failed: at the text of the model, or behind it
+-- the words are accepted and name a model, and the store failed: at the text of the model, or behind it
 pub record IsUnreadable (job : Option Job) (old new : StoreTells) : Type 0 where
   pub asked : Job
   pub is_asked : job ≡ Some asked
-  pub fails : Rose old.faults new.faults ⊎ FailsBehind asked old new
+  pub model : List ℕ
+  pub named : model_of asked ≡ Some model
+  pub fails : Rose old.faults new.faults ⊎ FailsBehind asked model old new
 
 -- this is the first fault of the text of the model
 pub record HasFaultyModel (job : Option Job) (old new : StoreTells) (fault : ModelFault) : Type 0 where
   pub asked : Job
   pub is_asked : job ≡ Some asked
-  pub refuses : Refuses (model_of asked) (old.holds (model_of asked)) old new fault
+  pub model : List ℕ
+  pub named : model_of asked ≡ Some model
+  pub refuses : Refuses model (old.holds model) old new fault
 
 -- the text of the model was read, and that of the blocks has its first fault at this line, of this kind
 pub record HasFaultyBlocks (job : Option Job) (old new : StoreTells) (line kind : ℕ) : Type 0 where
@@ -143,10 +168,10 @@ pub record HasFaultyPoint (job : Option Job) (old new : StoreTells) (line kind :
   pub reads : Reads model (old.holds model) old between program
   pub refuses : RefusesText (HasFault (point_reading program)) (old.holds name) between new line kind
 
--- want of memory: no call of the store has failed, and for words that are not accepted none was made
+-- want of memory: no call of the store has failed, and for words that are not accepted or name no model none was made
 pub record LacksMemory (job : Option Job) (old new : StoreTells) : Type 0 where
   pub sound : new.faults ≡ old.faults
-  pub untouched : job ≡ None → new ≡ old
+  pub untouched : model_in job ≡ None → new ≡ old
 
 -- why there is no task
 abbrev pub TaskCause : Option Job → (old new : StoreTells) → Plain → Type 0

@@ -1,6 +1,7 @@
 //! What the words and the texts of a job come to.
-ghost use Rattle.std.specs.Prelude.{◌≡◌, ◌<◌, ℕ, List, Option, Some, MatchResult, option_map};
-ghost use Rattle.cip_words.specs.Jobs.{Job as Asked, Limits, Solve, Check, job_of};
+ghost use Rattle.std.specs.Prelude.{◌≡◌, ◌<◌, ◌≤◌, ℕ, List, Option, Some, MatchResult, option_map};
+ghost use Rattle.cip_words.specs.Jobs.{Job as Asked, Limits, Solve, Check, Generate, job_of};
+ghost use Rattle.cip_generator.specs.Generated.{most_drawn};
 ghost use Rattle.cip_io.specs.Store.{StoreTells};
 ghost use Rattle.cip_input.specs.ModelsRead.{Reads};
 ghost use Rattle.cip_tasks.specs.Tasks.{TakesBlocks, IsSolve, IsTask, TaskCause};
@@ -8,6 +9,7 @@ ghost use Rattle.cip_tasks.specs.Tasks.{TakesBlocks, IsSolve, IsTask, TaskCause}
 use crate::plain::Plain;
 use crate::refusals::TextFault;
 use cip_frac::Frac;
+use cip_generator::{entries, generate, generated_are_formed};
 use cip_input::{
     Unread, UnreadBlocks, UnreadPoint, programs_are_limited, read_blocks, read_point, read_program,
 };
@@ -28,7 +30,7 @@ pub enum Task {
         nodes: u64,
         /// The gap that is asked for, if one is, at least 0.
         gap: Option<Frac>,
-        /// Whether no plugin is asked.
+        /// Whether no plugin is asked and the program isn't presolved.
         plain: bool,
         /// Whether the lines of the trace are printed.
         trace: bool,
@@ -39,6 +41,19 @@ pub enum Task {
         program: Program,
         /// The point: a value for each column.
         point: Vec<Frac>,
+    },
+    /// To solve a program that is drawn from a seed.
+    Generate {
+        /// The program.
+        program: Program,
+        /// The seed.
+        seed: u64,
+        /// The number of columns, at most 256.
+        columns: u32,
+        /// The number of rows, at most 256.
+        rows: u32,
+        /// How many coefficients of the rows aren't 0.
+        entries: u64,
     },
 }
 
@@ -163,10 +178,34 @@ fn read_check<S: Store>(
     })
 }
 
-/// Reads the words, and the texts that they name, the model's first. An `Err` is the answer that is to be given then,
-/// without figures: `Usage` comes exactly where the words are not accepted, and then nothing is pulled; `ReadFault`
-/// where a call of the store failed; `Refused` exactly where a text is faulty, the texts before it are not, and it was
-/// pulled to its end, or to byte 67,108,865; `NoMemory` where a growth was refused, and no call of the store failed.
+/// Draws the program of a seed. `NoMemory` comes where a growth was refused, and nothing else.
+fn draw(alloc: Global, seed: u64, columns: u32, rows: u32) -> Result<Task, Plain>
+    requires few_columns { columns ≤ most_drawn }
+    requires few_rows { rows ≤ most_drawn }
+    ensures { (job : Option Asked) (store : StoreTells) → job ≡ Some (Generate seed columns rows) →
+        MatchResult result (IsTask job store store) (TaskCause job store store) }
+{
+    generated_are_formed();
+    match generate(alloc, seed, columns as usize, rows as usize) {
+        Ok(program) => {
+            let entries = entries(&program) as u64;
+            Ok(Task::Generate {
+                program,
+                seed,
+                columns,
+                rows,
+                entries,
+            })
+        }
+        Err(_) => Err(Plain::NoMemory),
+    }
+}
+
+/// Reads the words, and the texts that they name, the model's first; or draws the program that they ask for, and then
+/// nothing is pulled. An `Err` is the answer that is to be given then, without figures: `Usage` comes exactly where the
+/// words are not accepted, and then nothing is pulled; `ReadFault` where a call of the store failed; `Refused` exactly
+/// where a text is faulty, the texts before it are not, and it was pulled to its end, or to byte 67,108,865; `NoMemory`
+/// where a growth was refused, and no call of the store failed.
 pub fn read_task<S: Store>(alloc: Global, words: &Words, store: &mut S) -> Result<Task, Plain>
     ensures { MatchResult result
         (IsTask (job_of words.now) (S.tells store.old) (S.tells store.new))
@@ -193,6 +232,13 @@ pub fn read_task<S: Store>(alloc: Global, words: &Words, store: &mut S) -> Resul
             })
         }
         Ok(Job::Check { model, point }) => read_check(alloc, store, model, point),
+        Ok(
+            Job::Generate {
+                seed,
+                columns,
+                rows,
+            },
+        ) => draw(alloc, seed, columns, rows),
         Err(fault) => Err(Plain::from(fault)),
     }
 }

@@ -60,6 +60,7 @@ fn asks(words: &Words, nodes: u64) -> bool {
             },
         ) => model == "M" && told == nodes,
         Ok(Job::Check { .. }) => false,
+        Ok(Job::Generate { .. }) => false,
         Err(fault) => nodes == 0 && fault == WordsFault::Refused,
     }
 }

@@ -18,7 +18,7 @@ use Rattle.cip_trace_texts.specs.Statements.{HasPlainName, HasPlainEnd}
 use Rattle.cip_trace_texts.proofs.TraceTexts.{whole_text, parted, cancelled}
 
 -- no byte is a line feed
-abbrev HasNoFeed : List ℕ → Type 0
+abbrev pub HasNoFeed : List ℕ → Type 0
 HasNoFeed text = AllByRecursion (λ byte. byte ≢ 10) text
 
 abbrev has_feed : List ℕ → Bool
@@ -30,7 +30,7 @@ both_false false false e = (refl, refl)
 both_false false true e = absurd (cc)
 both_false true b e = absurd (cc)
 
-HasNoFeed-from_test : (text : List ℕ) → has_feed text ≡ false → HasNoFeed text
+pub HasNoFeed-from_test : (text : List ℕ) → has_feed text ≡ false → HasNoFeed text
 HasNoFeed-from_test [] test = tt
 HasNoFeed-from_test (byte ∷ bytes) test =
     let parts = both_false (byte == 10) (has_feed bytes) test in
@@ -48,7 +48,7 @@ fraction_text-no_feed x =
 line_then : (word figure rest : List ℕ) → line word figure ++ rest ≡ word ++ 32 ∷ (figure ++ 10 ∷ rest)
 line_then word figure rest = simp append_assoc
 
-line_parted : (word figure other xs ys : List ℕ) → HasNoFeed figure → HasNoFeed other → line word figure ++ xs ≡ line word other ++ ys → (figure ≡ other) × (xs ≡ ys)
+pub line_parted : (word figure other xs ys : List ℕ) → HasNoFeed figure → HasNoFeed other → line word figure ++ xs ≡ line word other ++ ys → (figure ≡ other) × (xs ≡ ys)
 line_parted word figure other xs ys p q e =
     let same = sym (line_then word figure xs) ∙ e ∙ line_then word other ys in
     let blank = cancelled word (32 ∷ (figure ++ 10 ∷ xs)) (32 ∷ (other ++ 10 ∷ ys)) same in
@@ -59,7 +59,7 @@ line_parted word figure other xs ys p q e =
 none-no_feed : HasNoFeed (codes "none")
 none-no_feed = HasNoFeed-from_test (codes "none") refl
 
-figure_text-no_feed : (figure : Option ℚ) → HasNoFeed (figure_text figure)
+pub figure_text-no_feed : (figure : Option ℚ) → HasNoFeed (figure_text figure)
 figure_text-no_feed None = none-no_feed
 figure_text-no_feed (Some figure) = fraction_text-no_feed figure
 
@@ -72,13 +72,13 @@ fraction_is_not_none : (x : ℚ) → fraction_text x ≢ codes "none"
 fraction_is_not_none x =
     none_is_no_fraction (fraction_text x) (recursion_from_All IsFractionByte (fraction_text x) (fraction_text_plain x))
 
-figure_text_injective : (figure other : Option ℚ) → figure_text figure ≡ figure_text other → figure ≡ other
+pub figure_text_injective : (figure other : Option ℚ) → figure_text figure ≡ figure_text other → figure ≡ other
 figure_text_injective None None e = refl
 figure_text_injective None (Some other) e = absurd (fraction_is_not_none other (sym e))
 figure_text_injective (Some figure) None e = absurd (fraction_is_not_none figure e)
 figure_text_injective (Some figure) (Some other) e = ap (λ x. Some x) (fraction_text_injective figure other e)
 
-status_word-no_feed : (status : Status) → HasNoFeed (status_word status)
+pub status_word-no_feed : (status : Status) → HasNoFeed (status_word status)
 status_word-no_feed Optimal = HasNoFeed-from_test (codes "optimal") refl
 status_word-no_feed Infeasible = HasNoFeed-from_test (codes "infeasible") refl
 status_word-no_feed (Unbounded ray) = HasNoFeed-from_test (codes "unbounded") refl
@@ -130,11 +130,11 @@ held_parted names (Some held) (Some other) rest more p q cost e =
 
 -- ---- what is shown
 
-feedless_both : (text other : List ℕ) → HasNoFeed text → HasNoFeed other → HasNoFeed (text ++ other)
+pub feedless_both : (text other : List ℕ) → HasNoFeed text → HasNoFeed other → HasNoFeed (text ++ other)
 feedless_both [] other p q = q
 feedless_both (byte ∷ text) other p q = (p.0, feedless_both text other p.1 q)
 
-digits-no_feed : (n : ℕ) → HasNoFeed (natural_text n)
+pub digits-no_feed : (n : ℕ) → HasNoFeed (natural_text n)
 digits-no_feed n = subst HasNoFeed (whole_text n) (fraction_text-no_feed (integer (pos n)))
 
 overflow-no_feed : (place : Overflow) → HasPlainName place → HasNoFeed (overflow_text place)

@@ -1,2 +1,3 @@
 pub mod FrontTexts
+pub mod SelfLines
 pub mod TraceTexts

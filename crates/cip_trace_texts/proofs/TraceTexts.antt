@@ -26,7 +26,7 @@ no_blank : (text : List ℕ) → AllByRecursion IsFractionByte text → AllByRec
 no_blank [] plain = tt
 no_blank (byte ∷ bytes) plain = (λ e. grind (arith, plain.0), no_blank bytes plain.1)
 
-digits-no_blank : (n : ℕ) → AllByRecursion (λ byte. byte ≢ 32) (natural_text n)
+pub digits-no_blank : (n : ℕ) → AllByRecursion (λ byte. byte ≢ 32) (natural_text n)
 digits-no_blank n =
     subst (λ text. AllByRecursion (λ byte. byte ≢ 32) text) (whole_text n)
     (no_blank (fraction_text (integer (pos n))) (recursion_from_All IsFractionByte (fraction_text (integer (pos n))) (fraction_text_plain (integer (pos n)))))

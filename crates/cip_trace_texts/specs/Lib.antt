@@ -1,2 +1,3 @@
+pub mod SelfTexts
 pub mod Statements
 pub mod TraceTexts

@@ -1,8 +1,10 @@
--- The laws of the texts of traces, each as one statement, and the definitions at values: functions of `src/lib.rt` have
--- them as contracts.
+-- The laws of the texts of traces and of `self`, each as one statement, and the definitions at values: functions of
+-- `src/lib.rt` have them as contracts.
 use lib.Chars.{codes}
-use Rattle.std.specs.Prelude.{◌≡◌, ◌≢◌, ⊤, ℕ, List, [], ◌∷◌, All, None}
-use Rattle.cip_answers.specs.Figures.{Overflow, AtRow, AtCost, AtMoves, Status, Optimal, Infeasible, Unbounded, NodeLimit, Gap, Wide, NoMemory, Figures, FitNames, Names, answer_text}
+use Rattle.std.specs.Prelude.{◌≡◌, ◌≢◌, ⊤, ℕ, pos, List, [], ◌∷◌, All, None, Some}
+use Rattle.cip_rational.specs.Rational.{integer}
+use Rattle.cip_answers.specs.Figures.{Overflow, AtRow, AtCost, AtMoves, Status, Optimal, Infeasible, Unbounded, NodeLimit, Gap, Wide, NoMemory, Figures, FitNames, Names, status_word, held_cost, answer_text}
+use Rattle.cip_trace_texts.specs.SelfTexts.{Drawn, self_text}
 use Rattle.cip_trace_texts.specs.TraceTexts.{Traced, trace_line, traced_text}
 
 -- without lines the text is that of the answer
@@ -59,3 +61,32 @@ pub record TraceExamples : Type 0 where
       (record { status = Infeasible; held = None; bound = None })
       (traced_as 0 (codes "sentry") (codes "init") ∷ traced_as 1 (codes "late") (codes "exit") ∷ [])
       ≡ codes "status infeasible\ntrace 1 0 sentry init\ntrace 2 1 late exit\nend\n"
+
+-- two figures of which the same is printed as an answer to `self`: the word of the status, the cost and the bound
+pub record PrintAlike (figures other : Figures) : Type 0 where
+  pub word : status_word figures.status ≡ status_word other.status
+  pub cost : held_cost figures.held ≡ held_cost other.held
+  pub bound : figures.bound ≡ other.bound
+
+-- two answers to `self` with one text are of one program, and the same is printed of their figures
+abbrev pub SelfIsTold : Type 0
+SelfIsTold =
+    (drawn others : Drawn) (figures other : Figures)
+    → self_text drawn figures ≡ self_text others other → (drawn ≡ others) × PrintAlike figures other
+
+-- a program with a seed, so many columns and rows, and so many entries
+abbrev pub drawn_as : (seed columns rows entries : ℕ) → Drawn
+drawn_as seed columns rows entries = record { seed = seed; columns = columns; rows = rows; entries = entries }
+
+-- the text of `self` at values
+pub record SelfExamples : Type 0 where
+  pub optimal :
+      self_text (drawn_as 0 1 0 0) (record {
+        status = Optimal;
+        held = Some (record { cost = integer (pos 45); point = integer (pos 3) ∷ [] });
+        bound = Some (integer (pos 45));
+      })
+      ≡ codes "self 0 1 0\nentries 0\nstatus optimal\ncost 45\nbound 45\nend\n"
+  pub infeasible :
+      self_text (drawn_as 12 256 30 64) (record { status = Infeasible; held = None; bound = None })
+      ≡ codes "self 12 256 30\nentries 64\nstatus infeasible\ncost none\nbound none\nend\n"

@@ -1,8 +1,8 @@
-//! The lines of a trace, and the texts of answers with them: definitions and laws. `specs/` holds the definitions.
+//! The lines of a trace, the texts of answers with them, and those of `self`: definitions and laws. `specs/` holds the definitions.
 // Each function here does nothing. Its contract is one of the laws of the definitions, so that the check proves it.
 #![tactic(auto)]
 
-ghost use Rattle.cip_trace_texts.specs.Statements.{FiguresAreTold, TraceExamples, TraceIsTold, UntracedIsPlain};
+ghost use Rattle.cip_trace_texts.specs.Statements.{FiguresAreTold, SelfExamples, SelfIsTold, TraceExamples, TraceIsTold, UntracedIsPlain};
 
 /// Without lines of a trace the text is that of the answer.
 pub fn untraced_is_plain()
@@ -24,4 +24,15 @@ pub fn figures_are_told()
 /// Three lines of a trace, and an answer with two, have these texts.
 pub fn trace_examples()
     ensures { TraceExamples }
+{}
+
+/// The text of an answer to `self` tells seed, columns, rows and entries, and the word of the status, the cost and the
+/// bound: of two answers with one text these are the same.
+pub fn self_is_told()
+    ensures { SelfIsTold }
+{}
+
+/// Two answers to `self` have these texts.
+pub fn self_examples()
+    ensures { SelfExamples }
 {}

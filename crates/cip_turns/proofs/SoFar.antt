@@ -1,6 +1,6 @@
 -- Plugins that are asked one at a time, as far as that has come.
 use Rattle.std.proofs.Common.{◌≡◌, ◌⊎◌, inl, inr, ℕ, ◌+◌, ◌<◌, Bool, true, List, [], ◌∷◌, ◌++◌, length, replicate, Contains, Option, None, Some, refl, sym, ap, ◌∙◌, subst, arith, add-zero, append-nil}
-use Rattle.std.specs.Prelude.{slice_get, ◌&&◌}
+use Rattle.std.specs.Prelude.{◌&&◌}
 use Rattle.std.proofs.lemmas.List.Elements.{All-cons, Contains-append_left, Contains-append_right}
 use Rattle.cip_plugin.specs.Asking.{asks}
 use Rattle.cip_plugin.specs.Calls.{Ask, Call}
@@ -16,7 +16,7 @@ use Rattle.cip_judge.specs.declared.judged.Judged.{Judged}
 use Rattle.cip_calls.specs.Asked.{count_of, proposers, told_next}
 use Rattle.cip_calls.specs.Noted.{HasNoted, HasJudged, makers}
 use Rattle.cip_calls.specs.Served.{handed_out, judged_of, is_wanted, Used}
-use Rattle.cip_calls.specs.Waiting.{is_asked, waiting, HasAskedNext}
+use Rattle.cip_calls.specs.Waiting.{waiting, HasAskedNext}
 use Rattle.cip_calls.proofs.Asking.{count_more, handed-append}
 use Rattle.cip_calls.proofs.Serving.{judged_by}
 use Rattle.cip_calls.proofs.Waiting.{keyed, waits_first}

@@ -53,7 +53,7 @@ pub fn enforce<R: Asks>(
         alloc,
         Turn::Verdict,
         after,
-        &view_of(core, node.id(), last),
+        &view_of(core, node.id(), last, &plugins.guess),
     )? {
         let said = said_of(given);
         match take_verdict(plugins, core, node, id, said)? {

@@ -127,9 +127,14 @@ pub fn ask_rules<R: Asks>(
         plugins.old.judged.items (R.state plugins.new.roster) plugins.new.judged.items) }
     ensures place { IfOk result (λ found. IfSome found (λ split. IsPlace core.now split.col split.at)) }
 {
-    let view = view_of(core, node.id(), last);
     let mut after = None;
-    while let Some((id, given)) = plugins.roster.ask_next(alloc, Turn::Split, after, &view)? {
+    while let Some((id, given)) = plugins.roster.ask_next(
+        alloc,
+        Turn::Split,
+        after,
+        // lent anew for each turn, as the guess is
+        &view_of(&*core, node.id(), last, &plugins.guess),
+    )? {
         let split = split_of(given);
         let found = take_rule(plugins, core, node, id, split)?;
         if let Some(place) = found {

@@ -2,7 +2,7 @@
 use Rattle.std.specs.Prelude.{◌≡◌, true, false, [], ◌∷◌, None, Some, refl}
 use lib.Chars.{codes}
 use Rattle.clap.proofs.OnLiterals.{clap_on_literals}
-use Rattle.cip_words.specs.Jobs.{Solve, Check, cip_command, job_of}
+use Rattle.cip_words.specs.Jobs.{Solve, Check, Generate, cip_command, job_of}
 
 -- `solve` and a name ask for the usual number of nodes
 pub usual : job_of (codes "solve" ∷ codes "M" ∷ []) ≡ Some (Solve (codes "M") None (record { nodes = 1000000; gap = None; plain = false; trace = false }))
@@ -99,3 +99,44 @@ check = refl
 pub check_with_nodes : job_of (codes "check" ∷ codes "M" ∷ codes "P" ∷ codes "--nodes" ∷ codes "1" ∷ []) ≡ None
 unfolding clap_on_literals cip_command job_of
 check_with_nodes = refl
+
+-- a program that is drawn: 0 is one digit, and each number has its most
+pub self : job_of (codes "self" ∷ codes "3" ∷ codes "6" ∷ codes "4" ∷ []) ≡ Some (Generate 3 6 4)
+unfolding clap_on_literals cip_command job_of
+self = refl
+
+pub self_zeros : job_of (codes "self" ∷ codes "0" ∷ codes "0" ∷ codes "0" ∷ []) ≡ Some (Generate 0 0 0)
+unfolding clap_on_literals cip_command job_of
+self_zeros = refl
+
+pub self_most : job_of (codes "self" ∷ codes "18446744073709551615" ∷ codes "256" ∷ codes "256" ∷ []) ≡ Some (Generate 18446744073709551615 256 256)
+unfolding clap_on_literals cip_command job_of
+self_most = refl
+
+pub self_past_seed : job_of (codes "self" ∷ codes "18446744073709551616" ∷ codes "1" ∷ codes "1" ∷ []) ≡ None
+unfolding clap_on_literals cip_command job_of
+self_past_seed = refl
+
+pub self_past_columns : job_of (codes "self" ∷ codes "1" ∷ codes "257" ∷ codes "1" ∷ []) ≡ None
+unfolding clap_on_literals cip_command job_of
+self_past_columns = refl
+
+pub self_past_rows : job_of (codes "self" ∷ codes "1" ∷ codes "1" ∷ codes "257" ∷ []) ≡ None
+unfolding clap_on_literals cip_command job_of
+self_past_rows = refl
+
+pub self_zero_in_front : job_of (codes "self" ∷ codes "1" ∷ codes "01" ∷ codes "1" ∷ []) ≡ None
+unfolding clap_on_literals cip_command job_of
+self_zero_in_front = refl
+
+pub self_two_zeros : job_of (codes "self" ∷ codes "00" ∷ codes "1" ∷ codes "1" ∷ []) ≡ None
+unfolding clap_on_literals cip_command job_of
+self_two_zeros = refl
+
+pub self_plus : job_of (codes "self" ∷ codes "+1" ∷ codes "1" ∷ codes "1" ∷ []) ≡ None
+unfolding clap_on_literals cip_command job_of
+self_plus = refl
+
+pub self_alone : job_of (codes "self" ∷ codes "1" ∷ codes "1" ∷ []) ≡ None
+unfolding clap_on_literals cip_command job_of
+self_alone = refl

@@ -1,3 +1,5 @@
 pub mod Commands
 pub mod Examples
+pub mod Naturals
 pub mod Numbers
+pub mod Plus

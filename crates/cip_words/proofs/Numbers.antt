@@ -1,5 +1,5 @@
 -- The number of nodes that a word says.
-use Rattle.std.specs.Prelude.{◌≡◌, ◌==◌, ◌&&◌, Bool, true, false, cond, ℕ, ◌^◌, ◌<◌, ◌≤◌, List, [], ◌∷◌, drop, Option, None, Some, refl, if◌then◌else◌, option_and_then}
+use Rattle.std.specs.Prelude.{◌≡◌, ◌&&◌, Bool, true, false, ℕ, ◌^◌, ◌<◌, ◌≤◌, List, [], ◌∷◌, Option, None, Some, refl, if◌then◌else◌, option_and_then}
 use Rattle.std.proofs.Common.{sym, ap, ap₂, ◌∙◌, arith}
 use lib.Chars.{codes}
 use Rattle.std.specs.Str.{bytes_eq}
@@ -11,24 +11,16 @@ use Rattle.clap.specs.ValueTests.{is_unsigned_in}
 use Rattle.clap.specs.Values.{IsUnsignedIn}
 use Rattle.clap.specs.declared.builder.value_parser.ValueParser.TheVariants as vp
 use Rattle.clap.proofs.ValueTestLemmas.{accepts-Accepts, Accepts-accepts}
-use Rattle.std.proofs.lemmas.Bool.{eqb-true, leb-true}
 use Rattle.std.proofs.lemmas.Option.{same_Some}
+use Rattle.cip_words.proofs.Plus.{no_plus}
+use Rattle.cip_words.proofs.Naturals.{self_ranged}
 use Rattle.cip_rational.specs.Rational.{ℚ, zeroℚ, le_test}
 use Rattle.cip_number_text.specs.Numeral.{value_of}
 use Rattle.cip_number_text.specs.FractionText.{fraction_of}
 use Rattle.cip_text.specs.NumberFaults.{faulty}
 use Rattle.cip_text.specs.declared.number_text.NumberFault.{NumberFault}
 use Rattle.cip_text.specs.declared.number_text.NumberFault.TheVariants.{NotANumber, Huge, TooFine}
-use Rattle.cip_words.specs.Jobs.{Limits, Job, Solve, Check, AsksForSome, at_least_zero, begins_above_zero, gap_of, is_true, cip_command, check_behind, check_with, job_at, job_behind, job_of, solve_with, most_nodes, nodes_of, unless_faulty, usual_nodes}
-
--- a text that begins above 0 has no `+` in front
-plus_kept : (byte : ℕ) (bytes : List ℕ) (same : Bool) → (byte == 43) ≡ same → 49 ≤ byte → drop (cond same 1 0) (byte ∷ bytes) ≡ byte ∷ bytes
-plus_kept byte bytes true e h = absurd (omega (arith, eqb-true _ _ e, h))
-plus_kept byte bytes false e h = refl
-
-no_plus : (text : List ℕ) → begins_above_zero text ≡ true → without_leading_plus text ≡ text
-no_plus [] e = absurd (cc)
-no_plus (byte ∷ bytes) e = plus_kept byte bytes (byte == 43) refl (leb-true _ _ (both _ _ e).0)
+use Rattle.cip_words.specs.Jobs.{Limits, Job, Solve, Check, Generate, AsksForSome, at_least_zero, begins_above_zero, gap_of, is_true, cip_command, check_behind, check_with, self_behind, job_at, job_behind, job_of, solve_with, most_nodes, nodes_of, unless_faulty, usual_nodes}
 
 number_of : (same : Bool) (text : List ℕ) → (begins_above_zero text && is_unsigned_in 1 most_nodes text) ≡ same → nodes_of (Some text) ≡ (if same then Some (digits_value 10 text) else None)
 number_of same text e = ap (λ (b : Bool). if b then Some (digits_value 10 text) else None) e
@@ -155,6 +147,7 @@ job_range (Some model) blocks (Some nodes) (Some gap) plain trace word (Solve to
     let same : nodes ≡ limits.nodes = ap (λ (l : Limits). l.nodes) (limits_same model told blocks others asked limits (same_Some _ _ h)) in
     nodes_range word limits.nodes (w ∙ ap Some same)
 job_range (Some model) blocks (Some nodes) (Some gap) plain trace word (Check told point) w h = tt
+job_range (Some model) blocks (Some nodes) (Some gap) plain trace word (Generate seed columns rows) w h = absurd (cc)
 job_range (Some model) blocks (Some nodes) None plain trace word job w h = absurd (cc)
 job_range (Some model) blocks None gap plain trace word job w h = absurd (cc)
 job_range None blocks nodes gap plain trace word job w h = absurd (cc)
@@ -162,14 +155,19 @@ job_range None blocks nodes gap plain trace word job w h = absurd (cc)
 check_range : (model point : Option (List ℕ)) (job : Job) → check_with model point ≡ Some job → AsksForSome job
 check_range (Some model) (Some point) (Solve told others n) h = absurd (cc)
 check_range (Some model) (Some point) (Check told other) h = tt
+check_range (Some model) (Some point) (Generate seed columns rows) h = absurd (cc)
 check_range (Some model) None job h = absurd (cc)
 check_range None point job h = absurd (cc)
 
-at_check : (entered : Text × List Row) (same : Bool) (job : Job) → (if same then check_behind entered.1 else None) ≡ Some job → AsksForSome job
-at_check entered true job h = check_range _ _ job h
-at_check entered false job h = absurd (cc)
+at_self : (entered : Text × List Row) (same : Bool) (job : Job) → (if same then self_behind entered.1 else None) ≡ Some job → AsksForSome job
+at_self entered true job h = self_ranged entered.1 job h
+at_self entered false job h = absurd (cc)
 
-at_range : (entered : Text × List Row) (same : Bool) (job : Job) → (if same then job_behind entered.1 else (if bytes_eq entered.0 (codes "check") then check_behind entered.1 else None)) ≡ Some job → AsksForSome job
+at_check : (entered : Text × List Row) (same : Bool) (job : Job) → (if same then check_behind entered.1 else (if bytes_eq entered.0 (codes "self") then self_behind entered.1 else None)) ≡ Some job → AsksForSome job
+at_check entered true job h = check_range _ _ job h
+at_check entered false job h = at_self entered (bytes_eq entered.0 (codes "self")) job h
+
+at_range : (entered : Text × List Row) (same : Bool) (job : Job) → (if same then job_behind entered.1 else (if bytes_eq entered.0 (codes "check") then check_behind entered.1 else (if bytes_eq entered.0 (codes "self") then self_behind entered.1 else None))) ≡ Some job → AsksForSome job
 at_range entered true job h = job_range _ _ _ _ _ _ (first_of (codes "nodes") entered.1) job refl h
 at_range entered false job h = at_check entered (bytes_eq entered.0 (codes "check")) job h
 

@@ -1,9 +1,10 @@
 -- The words of a command line, without the program's name, and the jobs that they mean.
 --     cip_command      the command, as `clap` has it: `solve MODEL [--blocks FILE] [--nodes N] [--gap G] [--plain]
---                      [--trace]` and `check MODEL POINT`
+--                      [--trace]`, `check MODEL POINT` and `self SEED COLS ROWS`
 --     job_of words      the job of the words, where they are accepted
 use lib.Chars.{codes}
-use Rattle.std.specs.Prelude.{◌≡◌, ⊤, ℕ, ◌≤◌, nat_le, Bool, true, false, ◌&&◌, List, [], ◌∷◌, Option, None, Some}
+use Rattle.std.specs.Prelude.{◌≡◌, ⊤, ℕ, ◌≤◌, nat_le, Bool, true, false, ◌&&◌, ◌||◌, ◌^◌, ◌-◌, List, [], ◌∷◌}
+use Rattle.std.specs.Prelude.{Option, None, Some}
 use Rattle.std.specs.Prelude.{option_map, option_and_then, if◌then◌else◌}
 use Rattle.std.specs.Str.{bytes_eq}
 use Rattle.std.specs.Str.Parse.{digits_value}
@@ -15,10 +16,12 @@ use Rattle.clap.specs.ValueTests.{is_unsigned_in}
 use Rattle.cip_rational.specs.Rational.{ℚ, zeroℚ, le_test}
 use Rattle.cip_number_text.specs.Numeral.{value_of}
 use Rattle.cip_number_text.specs.FractionText.{fraction_of}
+use Rattle.cip_generator.specs.Generated.{most_drawn}
 use Rattle.clap.specs.declared.builder.action.ArgAction.TheVariants.{SetTrue}
 
 -- how a program is searched: what ends the search early, so many nodes, and a gap, if one is asked for; whether no
--- plugin is asked and the kit is left as it is; and whether the lines of the trace are kept and printed
+-- plugin is asked, the kit is left as it is and the program isn't presolved; and whether the lines of the trace are
+-- kept and printed
 pub record Limits : Type 0 where
   pub nodes : ℕ
   pub gap : Option ℚ
@@ -26,10 +29,12 @@ pub record Limits : Type 0 where
   pub trace : Bool
 
 -- what the words ask for: to solve the program of the text of this name, with the blocks of another text, if one is
--- named, within limits; or to check the point of a text in the program of a text
+-- named, within limits; to check the point of a text in the program of a text; or to solve the program that is drawn
+-- from a seed, with so many columns and rows, for which no text is read
 pub data Job : Type 0 where
   Solve : (model : List ℕ) (blocks : Option (List ℕ)) (limits : Limits) → Job
   Check : (model point : List ℕ) → Job
+  Generate : (seed columns rows : ℕ) → Job
 
 -- the nodes of a search where nothing is said of them, and the most that can be asked for, 2 ^ 40
 abbrev pub usual_nodes : ℕ
@@ -37,6 +42,14 @@ usual_nodes = 1000000
 
 abbrev pub most_nodes : ℕ
 most_nodes = 1099511627776
+
+-- how a program is searched where nothing is said of it
+abbrev pub usual_limits : Limits
+usual_limits = record { nodes = usual_nodes; gap = None; plain = false; trace = false }
+
+-- the greatest seed of a program that is drawn
+abbrev pub most_seed : ℕ
+most_seed = 2 ^ 64 - 1
 
 -- ---- the command
 
@@ -68,6 +81,16 @@ plain_rule = record (new_rule (codes "plain")) { long = Some (codes "plain"); ac
 abbrev pub trace_rule : Rule
 trace_rule = record (new_rule (codes "trace")) { long = Some (codes "trace"); action = Some SetTrue }
 
+-- SEED, COLS and ROWS, which have to be there
+abbrev pub seed_rule : Rule
+seed_rule = record (new_rule (codes "seed")) { required = true }
+
+abbrev pub columns_rule : Rule
+columns_rule = record (new_rule (codes "cols")) { required = true }
+
+abbrev pub rows_rule : Rule
+rows_rule = record (new_rule (codes "rows")) { required = true }
+
 abbrev pub solve_command : App
 solve_command =
     with_rule
@@ -79,6 +102,9 @@ solve_command =
 abbrev pub check_command : App
 check_command = with_rule (with_rule (new_app (codes "check")) model_rule) point_rule
 
+abbrev pub self_command : App
+self_command = with_rule (with_rule (with_rule (new_app (codes "self")) seed_rule) columns_rule) rows_rule
+
 -- the program's name is not one of the words
 abbrev pub bare_command : App
 bare_command = on_top (λ top. record top { no_binary_name = true }) (new_app (codes "cip"))
@@ -89,7 +115,9 @@ IsAddedAs shape command =
     (old new : Command) → AddsSubcommand old command new → app_of new ≡ with_subcommand (app_of old) shape
 
 unfoldable pub cip_command : App
-cip_command = with_subcommand (with_subcommand bare_command solve_command.top) check_command.top
+cip_command =
+    with_subcommand (with_subcommand (with_subcommand bare_command solve_command.top) check_command.top)
+    self_command.top
 
 -- ---- what the words mean
 
@@ -103,6 +131,16 @@ abbrev pub nodes_of : Option Text → Option ℕ
 nodes_of None = Some usual_nodes
 nodes_of (Some text) =
     if begins_above_zero text && is_unsigned_in 1 most_nodes text then Some (digits_value 10 text) else None
+
+-- a text that begins with a digit from 1 to 9, or is 0: the digits of a number, without a sign or a 0 in front
+abbrev pub begins_plainly : List ℕ → Bool
+begins_plainly text = bytes_eq text (codes "0") || begins_above_zero text
+
+-- SEED, COLS or ROWS: decimal digits without a sign or a 0 in front, that say a number of at most so much
+abbrev pub number_up_to : ℕ → Option Text → Option ℕ
+number_up_to most None = None
+number_up_to most (Some text) =
+    if begins_plainly text && is_unsigned_in 0 most text then Some (digits_value 10 text) else None
 
 -- G: a text of a fraction that is at least 0; without a word no gap is asked for
 abbrev pub at_least_zero : Option ℚ → Option ℚ
@@ -131,7 +169,13 @@ check_with (Some model) (Some point) = Some (Check model point)
 check_with (Some model) None = None
 check_with None point = None
 
--- the job of what stands behind `solve`, and of what stands behind `check`
+abbrev pub self_with : (seed columns rows : Option ℕ) → Option Job
+self_with (Some seed) (Some columns) (Some rows) = Some (Generate seed columns rows)
+self_with (Some seed) (Some columns) None = None
+self_with (Some seed) None rows = None
+self_with None columns rows = None
+
+-- the job of what stands behind `solve`, of what stands behind `check`, and of what stands behind `self`
 abbrev pub job_behind : List Row → Option Job
 job_behind rows =
     solve_with (first_of (codes "model") rows) (first_of (codes "blocks") rows)
@@ -141,22 +185,31 @@ job_behind rows =
 abbrev pub check_behind : List Row → Option Job
 check_behind rows = check_with (first_of (codes "model") rows) (first_of (codes "point") rows)
 
+abbrev pub self_behind : List Row → Option Job
+self_behind rows =
+    self_with (number_up_to most_seed (first_of (codes "seed") rows))
+    (number_up_to most_drawn (first_of (codes "cols") rows)) (number_up_to most_drawn (first_of (codes "rows") rows))
+
 -- the job of a subcommand
 abbrev pub job_at : Text × List Row → Option Job
 job_at entered =
     if bytes_eq entered.0 (codes "solve") then job_behind entered.1
-    else (if bytes_eq entered.0 (codes "check") then check_behind entered.1 else None)
+    else (if bytes_eq entered.0 (codes "check") then check_behind entered.1
+    else (if bytes_eq entered.0 (codes "self") then self_behind entered.1 else None))
 
 -- words with a fault have no job
 abbrev pub unless_faulty : Kinds → Option Job → Option Job
 unless_faulty [] job = job
 unless_faulty (kind ∷ kinds) job = None
 
--- the job of the words, where they are accepted: the command takes them, the number of nodes is one, and so is the gap
+-- the job of the words, where they are accepted: the command takes them, and the numbers are numbers, within their
+-- ranges
 unfoldable pub job_of : List (List ℕ) → Option Job
 job_of words = unless_faulty (fault_of cip_command words) (option_and_then job_at (subcommand_of cip_command words))
 
--- a job to solve asks for 1 node at least, and at most the most
+-- a job to solve asks for 1 node at least, and at most the most; one to solve a program that is drawn has a seed, and
+-- columns and rows, of at most the most
 abbrev pub AsksForSome : Job → Type 0
 AsksForSome (Solve model blocks limits) = (1 ≤ limits.nodes) × (limits.nodes ≤ most_nodes)
 AsksForSome (Check model point) = ⊤
+AsksForSome (Generate seed columns rows) = (seed ≤ most_seed) × ((columns ≤ most_drawn) × (rows ≤ most_drawn))

@@ -3,4 +3,4 @@
 
 mod words;
 
-pub use words::{Job, Words, WordsFault};
+pub use words::{Job, USUAL_NODES, Words, WordsFault};

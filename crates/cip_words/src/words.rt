@@ -3,12 +3,14 @@ ghost use Rattle.std.specs.Prelude.{◌≡◌, ◌++◌, ◌∷◌, [], true, fa
 ghost use Rattle.clap.specs.Words.{app_of, kind_of, rows_of, found_of, new_rule, rule_of, subcommand_rows_of};
 ghost use Rattle.clap.specs.declared.builder.action.ArgAction.TheVariants.{SetTrue};
 ghost use Rattle.clap.specs.declared.error.kind.ErrorKind.TheVariants.{OutOfMemory};
-ghost use Rattle.cip_words.specs.Jobs.{AsksForSome, IsAddedAs, solve_command, check_command, cip_command, begins_above_zero, nodes_of, at_least_zero, gap_of, is_true, job_behind, check_behind, job_at, job_of};
+ghost use Rattle.cip_words.specs.Jobs.{AsksForSome, IsAddedAs, solve_command, check_command, self_command, cip_command, begins_above_zero, begins_plainly, nodes_of, number_up_to, at_least_zero, gap_of, is_true, job_behind, check_behind, self_behind, job_at, job_of};
+ghost use Rattle.cip_generator.specs.Generated.{most_drawn};
 ghost use Rattle.cip_number_text.specs.Numeral.{value_of};
 ghost use Rattle.cip_number_text.specs.FractionText.{fraction_of};
 ghost use Rattle.cip_words.specs.WordsRead.{meant, WordsCause};
 
 use cip_frac::Frac;
+use cip_generator::MOST_DRAWN;
 use cip_text::fraction;
 use clap::error::ErrorKind;
 use clap::{Arg, ArgAction, ArgMatches, Command, Error};
@@ -16,10 +18,13 @@ use std::alloc::{AllocError, Global};
 use std::marker::Model;
 
 /// The nodes of a search where nothing is said of them.
-const USUAL_NODES: u64 = 1_000_000;
+pub const USUAL_NODES: u64 = 1_000_000;
 
 /// The most nodes that can be asked for, 2^40.
 const MOST_NODES: u64 = 1_099_511_627_776;
+
+/// The greatest seed of a program that is drawn.
+const MOST_SEED: u64 = u64::MAX;
 
 /// The words of a command line, without the program's name.
 #[derive(Debug, Drop)]
@@ -54,7 +59,7 @@ pub enum Job<'a> {
         nodes: u64,
         /// The gap that is asked for, if one is, at least 0.
         gap: Option<Frac>,
-        /// Whether no plugin is asked.
+        /// Whether no plugin is asked and the program isn't presolved.
         plain: bool,
         /// Whether the lines of the trace are printed.
         trace: bool,
@@ -65,6 +70,15 @@ pub enum Job<'a> {
         model: &'a str,
         /// The name of the text of the point.
         point: &'a str,
+    },
+    /// To solve the program that is drawn from a seed.
+    Generate {
+        /// The seed.
+        seed: u64,
+        /// The number of columns, at most 256.
+        columns: u32,
+        /// The number of rows, at most 256.
+        rows: u32,
     },
 }
 
@@ -134,7 +148,18 @@ fn checking<'a>(alloc: Global) -> Result<Command<'a>, AllocError>
     check.arg(wanted(alloc, "point"))
 }
 
-/// The command: `solve MODEL [--blocks FILE] [--nodes N] [--gap G] [--plain] [--trace]`, and `check MODEL POINT`.
+/// The subcommand `self SEED COLS ROWS`.
+fn drawing<'a>(alloc: Global) -> Result<Command<'a>, AllocError>
+    ensures { IfOk result (IsAddedAs self_command.top) }
+{
+    Command::new(alloc, "self")
+        .arg(wanted(alloc, "seed"))?
+        .arg(wanted(alloc, "cols"))?
+        .arg(wanted(alloc, "rows"))
+}
+
+/// The command: `solve MODEL [--blocks FILE] [--nodes N] [--gap G] [--plain] [--trace]`, `check MODEL POINT`, and
+/// `self SEED COLS ROWS`.
 fn command<'a>(alloc: Global) -> Result<Command<'a>, AllocError>
     ensures { IfOk result (λ command. app_of command ≡ cip_command) }
 {
@@ -142,7 +167,8 @@ fn command<'a>(alloc: Global) -> Result<Command<'a>, AllocError>
     let solver = Command::new(alloc, "cip")
         .no_binary_name(true)
         .subcommand(solve)?;
-    solver.subcommand(checking(alloc)?)
+    let checker = solver.subcommand(checking(alloc)?)?;
+    checker.subcommand(drawing(alloc)?)
 }
 
 /// Whether a text begins with a digit from 1 to 9.
@@ -152,6 +178,46 @@ fn begins_above_zero(text: &[u8]) -> bool
     match text {
         [] => false,
         [first, ..] => b'1' <= *first && *first <= b'9',
+    }
+}
+
+/// Whether a text begins with a digit from 1 to 9, or is 0.
+fn begins_plainly(text: &[u8]) -> bool
+    ensures { result ≡ begins_plainly text.now }
+{
+    text == b"0".as_slice() || begins_above_zero(text)
+}
+
+/// The number that a text says, up to the most, in digits without a sign or a 0 in front.
+fn natural_in(text: &str, most: u64) -> Option<u64>
+    ensures { result ≡ number_up_to most (Some text.now) }
+{
+    if !begins_plainly(text.as_bytes()) {
+        return None;
+    }
+    match text.parse::<u64>() {
+        Ok(number) if number <= most => Some(number),
+        _ => None,
+    }
+}
+
+/// The number that a word says, up to the most; none where there is no word.
+fn number_up_to(word: Option<&str>, most: u64) -> Option<u64>
+    ensures { result ≡ number_up_to most (option_map (λ text. text.now) word.entry) }
+{
+    match word {
+        Some(text) => natural_in(text, most),
+        None => None,
+    }
+}
+
+/// The number of columns or rows that a word says; none where there is no word.
+fn count_in(word: Option<&str>) -> Option<u32>
+    ensures { result ≡ number_up_to most_drawn (option_map (λ text. text.now) word.entry) }
+{
+    match number_up_to(word, MOST_DRAWN as u64) {
+        Some(count) => Some(count as u32),
+        None => None,
     }
 }
 
@@ -261,6 +327,28 @@ fn job_of_check<'a>(check: &ArgMatches<'a>) -> Result<Job<'a>, WordsFault>
     }
 }
 
+/// The job of what stands behind `self`.
+fn job_of_self<'a>(drawn: &ArgMatches<'a>) -> Result<Job<'a>, WordsFault>
+    ensures { MatchResult result
+        (λ job. self_behind (rows_of (found_of drawn.now)) ≡ Some (meant job))
+        (λ fault. (fault ≡ WordsFault.Refused) × (self_behind (rows_of (found_of drawn.now)) ≡ None)) }
+{
+    let Some(seed) = number_up_to(drawn.get_str("seed"), MOST_SEED) else {
+        return Err(WordsFault::Refused);
+    };
+    let Some(columns) = count_in(drawn.get_str("cols")) else {
+        return Err(WordsFault::Refused);
+    };
+    match count_in(drawn.get_str("rows")) {
+        Some(rows) => Ok(Job::Generate {
+            seed,
+            columns,
+            rows,
+        }),
+        None => Err(WordsFault::Refused),
+    }
+}
+
 /// The job of words that the command takes.
 fn job_in<'a>(matches: &ArgMatches<'a>) -> Result<Job<'a>, WordsFault>
     ensures { MatchResult result
@@ -271,7 +359,10 @@ fn job_in<'a>(matches: &ArgMatches<'a>) -> Result<Job<'a>, WordsFault>
         Some(solve) => job_of_solve(solve),
         None => match matches.subcommand_matches("check") {
             Some(check) => job_of_check(check),
-            None => Err(WordsFault::Refused),
+            None => match matches.subcommand_matches("self") {
+                Some(drawn) => job_of_self(drawn),
+                None => Err(WordsFault::Refused),
+            },
         },
     }
 }

@@ -12,13 +12,13 @@ use Rattle.cip_judge.proofs.cutoffs.judge_cutoff.Goals as goal
 pub empties-requires-clause-fits : goal.empties-requires-clause-fits
 empties-requires-clause-fits c =
     let core = c.args.core.now in
-    let long = work_long core c.args.node.now c.is_sound.ensures.formed c.requires.at_work in
+    let long = work_long core c.args.node.now c.is_sound.ensures.reduced c.requires.at_work in
     subst (Fits (length c.bounds.result.now)) (sym c.rows.ensures.lent)
-    (subst (λ n. Fits n (all_lent core)) (sym (ap length c.bounds.ensures ∙ long)) (lent_fits core c.is_sound.ensures.sound c.is_sound.ensures.pool c.is_sound.ensures.formed))
+    (subst (λ n. Fits n (all_lent core)) (sym (ap length c.bounds.ensures ∙ long)) (lent_fits core c.is_sound.ensures.sound c.is_sound.ensures.pool c.is_sound.ensures.reduced))
 
 pub empties-requires-clause-room : goal.empties-requires-clause-room
 empties-requires-clause-room c =
-    let long = work_long c.args.core.now c.args.node.now c.is_sound.ensures.formed c.requires.at_work in
+    let long = work_long c.args.core.now c.args.node.now c.is_sound.ensures.reduced c.requires.at_work in
     omega (arith, ap length c.bounds.ensures, long, c.requires.room)
 
 pub returns-in-Ok-clause-emptied : goal.returns-in-Ok-clause-emptied

@@ -12,7 +12,7 @@ pub reduction-requires-clause-fits : goal.reduction-requires-clause-fits
 reduction-requires-clause-fits c =
     let core = c.args.core.now in
     subst (Fits (length c.bounds.result.now)) (sym c.rows.ensures.lent)
-    (subst (λ n. Fits n (all_lent core)) (sym (ap length c.bounds.ensures ∙ c.requires.long)) (lent_fits core c.is_sound.ensures.sound c.is_sound.ensures.pool c.is_sound.ensures.formed))
+    (subst (λ n. Fits n (all_lent core)) (sym (ap length c.bounds.ensures ∙ c.requires.long)) (lent_fits core c.is_sound.ensures.sound c.is_sound.ensures.pool c.is_sound.ensures.reduced))
 
 pub returns-clause-follows : goal.returns-clause-follows
 returns-clause-follows c =

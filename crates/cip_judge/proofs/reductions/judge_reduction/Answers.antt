@@ -20,13 +20,13 @@ pub returns-in-Err-clause-later : goal.returns-in-Err-clause-later
 returns-in-Err-clause-later c = later_at_itself c.args.core.now c.args.node.now c.requires.at_work
 
 pub checked-requires-clause-long : goal.checked-requires-clause-long
-checked-requires-clause-long c = work_long c.args.core.now c.args.node.now c.is_sound.ensures.formed c.requires.at_work
+checked-requires-clause-long c = work_long c.args.core.now c.args.node.now c.is_sound.ensures.reduced c.requires.at_work
 
 pub tighten-requires-clause-told : goal.tighten-requires-clause-told
 tighten-requires-clause-told c =
     let core = c.args.core.now in
     let told = c.args.told.now in
-    let named : side_fault (reduced_of core) told.col told.value ≡ None = ap (λ p. side_fault p told.col told.value) (sym c.program.ensures) ∙ sym c.side_fault.ensures ∙ c.in_default.is in
+    let named : side_fault (reduced_of core) told.col told.value ≡ None = ap (λ p. side_fault p told.col told.value) (sym c.reduced.ensures) ∙ sym c.side_fault.ensures ∙ c.in_default.is in
     let follows = c.checked.ensures.follows (subst IsOk (sym c.in_default-checked.is) refl) in
     record {
       inside = named_inside (reduced_of core) told.col told.value named;

@@ -19,8 +19,8 @@ pub split_row-requires-clause-fits : goal.split_row-requires-clause-fits
 split_row-requires-clause-fits c =
     let core = c.args.core.now in
     let local = c.args.local in
-    let boxed : c.scope-bounds.result.now ≡ scope_of core local = c.scope-bounds.ensures ∙ ap (λ b. if local then b else c.bounds-2.result.now) c.bounds.ensures ∙ ap (λ b. if local then core.tree.work.box else b) (c.bounds-2.ensures.bounds ∙ ap (λ (p : Program). p.bounds) c.program.ensures) in
-    let formed = c.is_sound.ensures.formed in
+    let boxed : c.scope-bounds.result.now ≡ scope_of core local = c.scope-bounds.ensures ∙ ap (λ b. if local then b else c.bounds-2.result.now) c.bounds.ensures ∙ ap (λ b. if local then core.tree.work.box else b) (c.bounds-2.ensures.bounds ∙ ap (λ (p : Program). p.bounds) c.reduced.ensures) in
+    let formed = c.is_sound.ensures.reduced in
     let long = scope_long core c.args.node.now local formed c.requires.at_work in
     subst (Fits (length c.scope-bounds.result.now)) (sym c.rows-2.ensures.lent)
     (subst (λ n. Fits n (all_lent core)) (sym (ap length boxed ∙ long)) (lent_fits core c.is_sound.ensures.sound c.is_sound.ensures.pool formed))
@@ -29,8 +29,8 @@ pub split_row-requires-clause-room : goal.split_row-requires-clause-room
 split_row-requires-clause-room c =
     let core = c.args.core.now in
     let local = c.args.local in
-    let boxed : c.scope-bounds.result.now ≡ scope_of core local = c.scope-bounds.ensures ∙ ap (λ b. if local then b else c.bounds-2.result.now) c.bounds.ensures ∙ ap (λ b. if local then core.tree.work.box else b) (c.bounds-2.ensures.bounds ∙ ap (λ (p : Program). p.bounds) c.program.ensures) in
-    let formed = c.is_sound.ensures.formed in
+    let boxed : c.scope-bounds.result.now ≡ scope_of core local = c.scope-bounds.ensures ∙ ap (λ b. if local then b else c.bounds-2.result.now) c.bounds.ensures ∙ ap (λ b. if local then core.tree.work.box else b) (c.bounds-2.ensures.bounds ∙ ap (λ (p : Program). p.bounds) c.reduced.ensures) in
+    let formed = c.is_sound.ensures.reduced in
     let long = scope_long core c.args.node.now local formed c.requires.at_work in
     omega (arith, ap length boxed, long, c.requires.room.0)
 
@@ -38,8 +38,8 @@ pub split_row-requires-clause-flags : goal.split_row-requires-clause-flags
 split_row-requires-clause-flags c =
     let core = c.args.core.now in
     let local = c.args.local in
-    let boxed : c.scope-bounds.result.now ≡ scope_of core local = c.scope-bounds.ensures ∙ ap (λ b. if local then b else c.bounds-2.result.now) c.bounds.ensures ∙ ap (λ b. if local then core.tree.work.box else b) (c.bounds-2.ensures.bounds ∙ ap (λ (p : Program). p.bounds) c.program.ensures) in
-    let formed = c.is_sound.ensures.formed in
+    let boxed : c.scope-bounds.result.now ≡ scope_of core local = c.scope-bounds.ensures ∙ ap (λ b. if local then b else c.bounds-2.result.now) c.bounds.ensures ∙ ap (λ b. if local then core.tree.work.box else b) (c.bounds-2.ensures.bounds ∙ ap (λ (p : Program). p.bounds) c.reduced.ensures) in
+    let formed = c.is_sound.ensures.reduced in
     let long = scope_long core c.args.node.now local formed c.requires.at_work in
     ap length c.rows-2.ensures.whole ∙ formed.integral ∙ sym long ∙ sym (ap length boxed)
 
@@ -47,8 +47,8 @@ pub add_valid-requires-clause-valid : goal.add_valid-requires-clause-valid
 add_valid-requires-clause-valid c =
     let core = c.args.core.now in
     let local = c.args.local in
-    let boxed : c.scope-bounds.result.now ≡ scope_of core local = c.scope-bounds.ensures ∙ ap (λ b. if local then b else c.bounds-2.result.now) c.bounds.ensures ∙ ap (λ b. if local then core.tree.work.box else b) (c.bounds-2.ensures.bounds ∙ ap (λ (p : Program). p.bounds) c.program.ensures) in
-    let formed = c.is_sound.ensures.formed in
+    let boxed : c.scope-bounds.result.now ≡ scope_of core local = c.scope-bounds.ensures ∙ ap (λ b. if local then b else c.bounds-2.result.now) c.bounds.ensures ∙ ap (λ b. if local then core.tree.work.box else b) (c.bounds-2.ensures.bounds ∙ ap (λ (p : Program). p.bounds) c.reduced.ensures) in
+    let formed = c.is_sound.ensures.reduced in
     let long = scope_long core c.args.node.now local formed c.requires.at_work in
     let cut = c.args.cut.now in
     let row : Inequality = record { coefficients = c.split_row.new.first.row.entries; least = c.in-Ok.least } in
@@ -64,8 +64,8 @@ pub returns-in-New-clause-judged : goal.returns-in-New-clause-judged
 returns-in-New-clause-judged c =
     let core = c.args.core.now in
     let local = c.args.local in
-    let boxed : c.scope-bounds.result.now ≡ scope_of core local = c.scope-bounds.ensures ∙ ap (λ b. if local then b else c.bounds-2.result.now) c.bounds.ensures ∙ ap (λ b. if local then core.tree.work.box else b) (c.bounds-2.ensures.bounds ∙ ap (λ (p : Program). p.bounds) c.program.ensures) in
-    let formed = c.is_sound.ensures.formed in
+    let boxed : c.scope-bounds.result.now ≡ scope_of core local = c.scope-bounds.ensures ∙ ap (λ b. if local then b else c.bounds-2.result.now) c.bounds.ensures ∙ ap (λ b. if local then core.tree.work.box else b) (c.bounds-2.ensures.bounds ∙ ap (λ (p : Program). p.bounds) c.reduced.ensures) in
+    let formed = c.is_sound.ensures.reduced in
     let long = scope_long core c.args.node.now local formed c.requires.at_work in
     let cut = c.args.cut.now in
     let row : Inequality = record { coefficients = c.split_row.new.first.row.entries; least = c.in-Ok.least } in
@@ -79,8 +79,8 @@ pub returns-in-Known-clause-judged : goal.returns-in-Known-clause-judged
 returns-in-Known-clause-judged c =
     let core = c.args.core.now in
     let local = c.args.local in
-    let boxed : c.scope-bounds.result.now ≡ scope_of core local = c.scope-bounds.ensures ∙ ap (λ b. if local then b else c.bounds-2.result.now) c.bounds.ensures ∙ ap (λ b. if local then core.tree.work.box else b) (c.bounds-2.ensures.bounds ∙ ap (λ (p : Program). p.bounds) c.program.ensures) in
-    let formed = c.is_sound.ensures.formed in
+    let boxed : c.scope-bounds.result.now ≡ scope_of core local = c.scope-bounds.ensures ∙ ap (λ b. if local then b else c.bounds-2.result.now) c.bounds.ensures ∙ ap (λ b. if local then core.tree.work.box else b) (c.bounds-2.ensures.bounds ∙ ap (λ (p : Program). p.bounds) c.reduced.ensures) in
+    let formed = c.is_sound.ensures.reduced in
     let long = scope_long core c.args.node.now local formed c.requires.at_work in
     let cut = c.args.cut.now in
     let row : Inequality = record { coefficients = c.split_row.new.first.row.entries; least = c.in-Ok.least } in
@@ -94,8 +94,8 @@ pub returns-in-Full-clause-judged : goal.returns-in-Full-clause-judged
 returns-in-Full-clause-judged c =
     let core = c.args.core.now in
     let local = c.args.local in
-    let boxed : c.scope-bounds.result.now ≡ scope_of core local = c.scope-bounds.ensures ∙ ap (λ b. if local then b else c.bounds-2.result.now) c.bounds.ensures ∙ ap (λ b. if local then core.tree.work.box else b) (c.bounds-2.ensures.bounds ∙ ap (λ (p : Program). p.bounds) c.program.ensures) in
-    let formed = c.is_sound.ensures.formed in
+    let boxed : c.scope-bounds.result.now ≡ scope_of core local = c.scope-bounds.ensures ∙ ap (λ b. if local then b else c.bounds-2.result.now) c.bounds.ensures ∙ ap (λ b. if local then core.tree.work.box else b) (c.bounds-2.ensures.bounds ∙ ap (λ (p : Program). p.bounds) c.reduced.ensures) in
+    let formed = c.is_sound.ensures.reduced in
     let long = scope_long core c.args.node.now local formed c.requires.at_work in
     let cut = c.args.cut.now in
     let row : Inequality = record { coefficients = c.split_row.new.first.row.entries; least = c.in-Ok.least } in

@@ -1,5 +1,5 @@
 use Rattle.std.proofs.Common.{refl}
-use Rattle.cip_main.proofs.Ways.{answered, verdict_told, plain_told}
+use Rattle.cip_main.proofs.Ways.{answered, drawn_answered, verdict_told, plain_told}
 use Rattle.cip_main.proofs.running.run.Goals as goal
 
 pub returns-in-Ok-Solve : goal.returns-in-Ok-Solve
@@ -10,3 +10,6 @@ returns-in-Ok-Check g c = verdict_told _ _ _ _ (rw c.in-Ok-Check.field-0-is at c
 
 pub returns-in-Err : goal.returns-in-Err
 returns-in-Err g c = plain_told _ c.in-Err.answer (record { cause = c.in-Err.ensures; tells = c.say.ensures; no_search = refl; same_kit = refl })
+
+pub returns-in-Ok-Generate : goal.returns-in-Ok-Generate
+returns-in-Ok-Generate g c = drawn_answered _ _ _ _ _ _ (rw c.in-Ok-Generate.field-0-is at c.in-Ok-Generate.ensures) c.solve_drawn.ensures

@@ -14,8 +14,8 @@ look_at-requires-clause-long c =
     let node = c.args.node.now in
     let e = subst (IsEntered core.tree.work (region_of core.tree node)) c.if-not-branch.false c.in_ok-enter.ensures.entered in
     let w : IsAtWork core node = record { up = c.in_ok-enter.ensures.up; region = e } in
-    let formed = c.is_sound.ensures.formed in
-    ap length (c.whole.ensures.whole ∙ ap (λ (p : Program). p.integral) c.program-program.ensures) ∙ formed.integral ∙ sym (work_long core node formed w) ∙ sym (ap length c.bounds.ensures)
+    let formed = c.is_sound.ensures.reduced in
+    ap length (c.whole.ensures.whole ∙ ap (λ (p : Program). p.integral) c.reduced-reduced.ensures) ∙ formed.integral ∙ sym (work_long core node formed w) ∙ sym (ap length c.bounds.ensures)
 
 pub returns-then-not-branch-clause-look : goal.returns-then-not-branch-clause-look
 returns-then-not-branch-clause-look c =
@@ -28,6 +28,6 @@ returns-clause-look c =
     let node = c.args.node.now in
     let e = subst (IsEntered core.tree.work (region_of core.tree node)) c.if-not-branch.false c.in_ok-enter.ensures.entered in
     look_entered core node c.look_at.result e
-    (subst (λ i. IsBoxLook i core.tree.work.box core.tree.work.choices c.look_at.result) (c.whole.ensures.whole ∙ ap (λ (p : Program). p.integral) c.program-program.ensures)
+    (subst (λ i. IsBoxLook i core.tree.work.box core.tree.work.choices c.look_at.result) (c.whole.ensures.whole ∙ ap (λ (p : Program). p.integral) c.reduced-reduced.ensures)
     (subst (λ b. IsBoxLook c.whole.result.now b core.tree.work.choices c.look_at.result) c.bounds.ensures
     (subst (λ o. IsBoxLook c.whole.result.now c.bounds.result.now o c.look_at.result) c.choices.ensures c.look_at.ensures)))

@@ -1,4 +1,4 @@
-use Rattle.std.proofs.Common.{◌≡◌, false, Option, IfSome, sym, ap, ◌∙◌, subst, refl}
+use Rattle.std.proofs.Common.{Option, IfSome, sym, ap, ◌∙◌, subst, refl}
 use Rattle.cip_problem.specs.Log.{matters}
 use Rattle.cip_core.specs.CoreStates.{CoreState, held_of}
 use Rattle.cip_plugin.specs.declared.proposals.Split.{Split}

@@ -1,8 +1,7 @@
-use Rattle.std.proofs.Common.{◌≡◌, refl, ap, subst}
+use Rattle.std.proofs.Common.{refl, ap, subst}
 use Rattle.cip_core.specs.CoreStates.{CoreState}
 use Rattle.cip_calls.proofs.Serving.{if_ok}
 use Rattle.cip_processing.specs.NodesReached.{IsReached}
-use Rattle.cip_processing.specs.NodesDone.{IsEndUsed}
 use Rattle.cip_processing.proofs.Closing.{emptied_here}
 use Rattle.cip_processing.proofs.Coming.{ran_none}
 use Rattle.cip_processing.proofs.Using.{by_plugin, used_none, ends_empty, ends_leaf, ends_open, ends_place}

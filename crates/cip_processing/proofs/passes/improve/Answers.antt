@@ -1,4 +1,4 @@
-use Rattle.std.proofs.Common.{◌∷◌, [], subst}
+use Rattle.std.proofs.Common.{◌∷◌, []}
 use Rattle.cip_plugin.specs.Calls.{Search}
 use Rattle.cip_calls.proofs.Noting.{come_further}
 use Rattle.cip_calls.proofs.Pools.{points_not_sides}

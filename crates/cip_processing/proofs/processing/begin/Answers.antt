@@ -1,14 +1,12 @@
-use Rattle.std.proofs.Common.{◌≡◌, refl, ap, sym, subst, inl, ◌∙◌}
-use Rattle.cip_problem.specs.Program.{Program}
+use Rattle.std.proofs.Common.{◌≡◌, ap, sym, subst, inl, ◌∙◌}
 use Rattle.cip_problem.specs.WellFormed.{columns}
 use Rattle.cip_tree.specs.Nodes.{region_of}
 use Rattle.cip_tree.specs.Walks.{IsEntered}
-use Rattle.cip_core.specs.CoreStates.{CoreState, reduced_of, held_of, IsTakenUp}
+use Rattle.cip_core.specs.CoreStates.{CoreState, reduced_of, IsTakenUp}
 use Rattle.cip_core.specs.Steps.{aged}
 use Rattle.cip_node.proofs.EndLaws.{looked_core}
 use Rattle.cip_node.proofs.Looked.{look_empty}
 use Rattle.cip_judge.specs.ProposalsJudged.{HaveRoom}
-use Rattle.cip_judge.specs.declared.scratches.Scratches.{Scratches}
 use Rattle.cip_calls.specs.Noted.{IsReady, HasMoreRows}
 use Rattle.cip_calls.proofs.Pools.{more_same}
 use Rattle.cip_processing.specs.NodesReached.{HasMoved}

@@ -1,7 +1,5 @@
-use Rattle.std.proofs.Common.{◌≢◌, ◌∷◌, [], ◌∙◌, sym}
+use Rattle.std.proofs.Common.{◌∷◌, [], ◌∙◌, sym}
 use Rattle.cip_plugin.specs.Calls.{Separate}
-use Rattle.cip_calls.specs.Served.{Used}
-use Rattle.cip_calls.specs.declared.judging.Came.TheVariants.{Emptied}
 use Rattle.cip_calls.proofs.Noting.{come_further}
 use Rattle.cip_calls.proofs.Pools.{cuts_not_sides, quiet_left}
 use Rattle.cip_calls.proofs.Serving.{accepted_open}

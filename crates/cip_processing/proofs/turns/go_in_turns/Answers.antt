@@ -1,4 +1,4 @@
-use Rattle.std.proofs.Common.{◌∷◌, [], subst}
+use Rattle.std.proofs.Common.{[], subst}
 use Rattle.cip_calls.proofs.Noting.{come_further}
 use Rattle.cip_calls.proofs.Serving.{used_further, if_ok}
 use Rattle.cip_processing.specs.NodesReached.{IsReachedIf, IsUsedIf, asks_in_pass}

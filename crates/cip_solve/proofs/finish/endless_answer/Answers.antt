@@ -10,7 +10,7 @@ check-requires c =
     ap length c.as_slice.ensures.value ∙ IsInBox-long c.args.program.now.bounds c.args.point.items c.requires.feasible.within ∙ c.columns-columns.ensures.formed.bounds
 
 pub returns-clause-right : goal.returns-clause-right
-returns-clause-right c = λ start nodes asked log marks k w.
+returns-clause-right c = λ reduced kept start nodes asked log marks seen k w.
     let told = subst (VerdictHolds c.args.program.now c.as_slice.result.now) c.in-Feasible.is c.check.ensures.meaning in
-    endless_right c.args.program.now start nodes asked log marks c.in-Feasible.cost c.args.point.items c.args.ray.items c.columns-columns.ensures.formed k w
+    endless_right c.args.program.now reduced kept start nodes asked log marks c.in-Feasible.cost c.args.point.items c.args.ray.items seen k w
     (told.1 ∙ ap (cost_of c.args.program.now) c.as_slice.ensures.value)

@@ -1,63 +1,71 @@
-use Rattle.std.proofs.Common.{◌∙◌, IfSome, ap, sym, subst}
+use Rattle.std.proofs.Common.{◌≡◌, ◌∙◌, IfSome, ap, length, sym, subst}
 use Rattle.cip_problem.specs.Program.{Program}
 use Rattle.cip_problem.specs.Log.{Node}
 use Rattle.cip_problem.specs.Points.{IsLowerBound}
 use Rattle.cip_problem.specs.WellFormed.{columns}
-use Rattle.cip_search.specs.SearchAnswers.{IsSearchAnswer}
+use Rattle.cip_seen.specs.SeenLogs.{log_seen}
 use Rattle.cip_endings.specs.AnswerOf.{answer_of}
-use Rattle.cip_solve.specs.FirstStops.{IsFirstStop}
-use Rattle.cip_solve.specs.Logs.{entries_of, marked_in}
+use Rattle.cip_solve.specs.Logs.{entries_of, renamed}
 use Rattle.cip_solve.specs.Searching.{IsWritten}
-use Rattle.cip_solve.specs.Solved.{AreMet, RayIsShown}
 use Rattle.cip_solve.specs.SplitsServed.{splits_in, HasServed}
 use Rattle.cip_solve.proofs.BegunLaws.{written_begun}
+use Rattle.cip_solve.proofs.SeenLaws.{length_seen}
+use Rattle.cip_solve.proofs.SolvedLaws.{solved_by, stops_first, splits_seen}
 use Rattle.cip_solve.proofs.finish.search_from.Goals as goal
 
 pub explore-stop-requires-clause-written : goal.explore-stop-requires-clause-written
-explore-stop-requires-clause-written g c = subst (IsWritten c.args.work.core) (sym c.new.ensures.items) (written_begun c.args.work.core c.requires.root.empty)
+explore-stop-requires-clause-written g c =
+    let core = c.args.begun.work.core in
+    subst (IsWritten core) (sym c.new.ensures.items) (written_begun core c.requires.root.empty)
 
-pub finish-requires-clause-within : goal.finish-requires-clause-within
-finish-requires-clause-within g c =
+pub finish-answer-requires-clause-within : goal.finish-answer-requires-clause-within
+finish-answer-requires-clause-within g c =
+    let old = c.args.begun.work.core in
     let core = c.explore-stop.new.self.work.core in
-    let same = c.explore-stop.ensures.same in
+    let same = c.explore-stop.ensures.same.0 in
     record {
       some = c.requires.some;
       most = c.explore-stop.ensures.most;
-      lower = subst (λ (p : Program). IfSome core.tree.root.bound (IsLowerBound p)) (sym same.0)
-          (subst (λ (r : Node). IfSome r.bound (IsLowerBound c.args.work.core.program)) (sym same.1) c.requires.root.lower);
+      lower = subst (λ (p : Program). IfSome core.tree.root.bound (IsLowerBound p)) (sym same.program)
+          (subst (λ (r : Node). IfSome r.bound (IsLowerBound old.program)) (sym same.root) c.requires.root.lower);
       told = c.explore-stop.ensures.written.told;
     }
 
-pub finish-requires-clause-point : goal.finish-requires-clause-point
-finish-requires-clause-point g c = c.requires.point ∙ ap columns (sym c.explore-stop.ensures.same.0)
+pub finish-answer-requires-clause-point : goal.finish-answer-requires-clause-point
+finish-answer-requires-clause-point g c = c.requires.point ∙ ap columns (sym c.explore-stop.ensures.same.0.program)
 
 pub returns-clause-solved : goal.returns-clause-solved
-returns-clause-solved g c = λ alone a.
-    let core = c.explore-stop.new.self.work.core in
+returns-clause-solved g c = λ plain p.
     let same = c.explore-stop.ensures.same in
-    let log = c.finish.new.log in
-    let answer = answer_of c.finish.result in
-    record {
-      start = c.args.work.core.tree.root.bound;
-      root = c.requires.root.root;
-      right = subst (λ (p : Program). IsSearchAnswer p c.args.work.core.tree.root.bound c.args.options.now.nodes c.args.options.now.gap (entries_of log) (marked_in log) answer) same.0
-          (subst (λ (r : Node). IsSearchAnswer core.program r.bound c.args.options.now.nodes c.args.options.now.gap (entries_of log) (marked_in log) answer) same.1 c.finish.ensures.right);
-      shown = subst (λ (p : Program). RayIsShown p answer) same.0 c.finish.ensures.shown;
-      met = λ e. subst (λ (p : Program). AreMet p c.args.work.core.tree.root.bound (entries_of log) log.marks.items) same.0
-          (subst (λ (r : Node). AreMet core.program r.bound (entries_of log) log.marks.items) same.1
-          (c.finish.ensures.met (same.2 (a e) ∙ c.requires.root.plain)));
-    }
+    let before = c.finish-answer.new.log in
+    let after = c.rename.new.self in
+    let taken : entries_of after ≡ log_seen (renamed c.args.presolved.now.kept.items) (entries_of before) =
+    subst (λ numbers. entries_of after ≡ log_seen (renamed numbers) (entries_of before)) c.as_slice.ensures.value c.rename.ensures.taken in
+    solved_by c.args.begun.work.core c.explore-stop.new.self.work.core c.args.presolved.now c.requires.root c.requires.back same.0
+    g.W.Works.asks plain c.args.options.now.nodes c.args.options.now.gap (entries_of before) (entries_of after) before.marks.items after.marks.items (answer_of c.finish-answer.result)
+    same.1 (subst (IsWritten c.explore-stop.new.self.work.core) (sym (ap (λ m. m.items) c.finish-answer.ensures.marked)) c.explore-stop.ensures.written)
+    c.finish-answer.ensures.logged c.finish-answer.ensures.right taken (ap (λ m. m.items) c.rename.ensures.marks) p
+
+pub returns-clause-nodes : goal.returns-clause-nodes
+returns-clause-nodes g c =
+    let before = c.finish-answer.new.log in
+    c.finish-answer.ensures.nodes ∙ (sym (length_seen (renamed c.as_slice.result.now) (entries_of before)) ∙ ap length (sym c.rename.ensures.taken))
 
 pub returns-clause-first : goal.returns-clause-first
-returns-clause-first g c = λ alone a. record {
-  start = c.args.work.core.tree.root.bound;
-  root = c.requires.root.root;
-  first = subst (IsFirstStop c.args.work.core.program c.args.work.core.tree.root.bound c.args.options.now.gap alone) (sym c.finish.ensures.logged) (c.explore-stop.ensures.first alone a);
-}
+returns-clause-first g c =
+    let before = c.finish-answer.new.log in
+    let after = c.rename.new.self in
+    let taken : entries_of after ≡ log_seen (renamed c.args.presolved.now.kept.items) (entries_of before) =
+    subst (λ numbers. entries_of after ≡ log_seen (renamed numbers) (entries_of before)) c.as_slice.ensures.value c.rename.ensures.taken in
+    stops_first c.args.begun.work.core c.explore-stop.new.self.work.core c.args.presolved.now c.requires.root c.requires.back c.explore-stop.ensures.same.0
+    c.args.options.now.gap (entries_of before) (entries_of after) c.finish-answer.ensures.logged taken c.explore-stop.ensures.first
 
 pub returns-clause-asked : goal.returns-clause-asked
 returns-clause-asked g c =
-    let asked = c.explore-stop.ensures.asked in (
-      subst (λ (p : Program). g.W.Works.is_ready c.explore-stop.new.works (columns p)) c.explore-stop.ensures.same.0 asked.0,
-      subst (λ log. HasServed (splits_in log) (g.W.Works.state c.args.works.now) (g.W.Works.state c.explore-stop.new.works)) (sym c.finish.ensures.logged) asked.1,
+    let asked = c.explore-stop.ensures.asked in
+    let before = c.finish-answer.new.log in
+    let splits : splits_in (entries_of c.rename.new.self) ≡ splits_in c.explore-stop.new.self.work.core.tree.log =
+    ap splits_in c.rename.ensures.taken ∙ (splits_seen (renamed c.as_slice.result.now) (entries_of before) ∙ ap splits_in c.finish-answer.ensures.logged) in (
+      subst (λ (r : Program). g.W.Works.is_ready c.explore-stop.new.works (columns r)) c.explore-stop.ensures.same.0.reduced asked.0,
+      subst (λ n. HasServed n (g.W.Works.state c.args.works.now) (g.W.Works.state c.explore-stop.new.works)) (sym splits) asked.1,
     )

@@ -1,33 +1,13 @@
-use Rattle.std.proofs.Common.{◌∙◌, true, refl, sym, subst}
-use Rattle.cip_endings.specs.AnswerOf.{answer_of}
-use Rattle.cip_solve.specs.FirstStops.{StopsFirst}
-use Rattle.cip_solve.specs.Logs.{entries_of}
-use Rattle.cip_solve.specs.Solved.{IsSolvedBy}
-use Rattle.cip_solve.proofs.KitLaws.{left_alone, kit_same}
+use Rattle.std.proofs.Common.{ap}
+use Rattle.cip_tree.specs.Entries as tree
+use Rattle.cip_solve.proofs.BegunLaws.{unsearched_by}
+use Rattle.cip_solve.proofs.KitLaws.{nobody_called}
 use Rattle.cip_solve.proofs.solving.solve.Goals as goal
 
-pub returns-then-goes_alone-clause-solved : goal.returns-then-goes_alone-clause-solved
-returns-then-goes_alone-clause-solved g c =
-    subst (λ alone. IsSolvedBy c.args.program.now c.args.options.now.nodes c.args.options.now.gap alone (entries_of c.solve_by.new.log) c.solve_by.new.log.marks.items (answer_of c.solve_by.result))
-    (sym c.if-goes_alone.true ∙ c.goes_alone.ensures) (c.solve_by.ensures.solved true (λ e. refl))
+pub returns-in-Err-clause-solved : goal.returns-in-Err-clause-solved
+returns-in-Err-clause-solved g c =
+    unsearched_by c.args.program.now c.args.options.now.nodes c.args.options.now.gap c.args.options.now.plain _ _ _ (ap tree.entries_of c.clear.ensures.items) c.clear-2.ensures.items
+    (c.unsearched.ensures.solved c.args.options.now.nodes c.args.options.now.gap)
 
-pub returns-then-goes_alone-clause-first : goal.returns-then-goes_alone-clause-first
-returns-then-goes_alone-clause-first g c =
-    subst (λ alone. StopsFirst c.args.program.now c.args.options.now.gap alone (entries_of c.solve_by.new.log)) (sym c.if-goes_alone.true ∙ c.goes_alone.ensures) (c.solve_by.ensures.first true (λ e. refl))
-
-pub returns-then-goes_alone-clause-kit : goal.returns-then-goes_alone-clause-kit
-returns-then-goes_alone-clause-kit g c =
-    kit_same c.args.options.now.trace (entries_of c.solve_by.new.log) _ _ c.solve_by.result.trace _ _ (sym c.if-goes_alone.true ∙ c.goes_alone.ensures) (left_alone c.args.options.now.trace (entries_of c.solve_by.new.log) _ _ c.solve_by.ensures.trace)
-
-pub returns-clause-solved : goal.returns-clause-solved
-returns-clause-solved g c =
-    subst (λ alone. IsSolvedBy c.args.program.now c.args.options.now.nodes c.args.options.now.gap alone (entries_of c.solve_with.new.log) c.solve_with.new.log.marks.items (answer_of c.solve_with.result))
-    (sym c.if-goes_alone.false ∙ c.goes_alone.ensures) c.solve_with.ensures.solved
-
-pub returns-clause-first : goal.returns-clause-first
-returns-clause-first g c =
-    subst (λ alone. StopsFirst c.args.program.now c.args.options.now.gap alone (entries_of c.solve_with.new.log)) (sym c.if-goes_alone.false ∙ c.goes_alone.ensures) c.solve_with.ensures.first
-
-pub returns-clause-kit : goal.returns-clause-kit
-returns-clause-kit g c =
-    kit_same c.args.options.now.trace (entries_of c.solve_with.new.log) _ _ c.solve_with.result.trace _ _ (sym c.if-goes_alone.false ∙ c.goes_alone.ensures) c.solve_with.ensures.kit
+pub returns-in-Err-clause-kit : goal.returns-in-Err-clause-kit
+returns-in-Err-clause-kit g c = nobody_called _ c.args.options.now.trace _ _ _ (ap tree.entries_of c.clear.ensures.items) c.unsearched.ensures.trace

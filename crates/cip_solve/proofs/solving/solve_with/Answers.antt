@@ -1,5 +1,9 @@
-use Rattle.std.proofs.Common.{ap, false, inl}
+use Rattle.std.proofs.Common.{ap, false, inl, sym, subst, true≢false}
+use Rattle.cip_problem.specs.Program.{Program}
 use Rattle.cip_tree.specs.Entries as tree
+use Rattle.cip_endings.specs.AnswerOf.{answer_of}
+use Rattle.cip_solve.specs.Logs.{entries_of}
+use Rattle.cip_solve.specs.Solved.{IsSolvedBy}
 use Rattle.cip_solve.proofs.BegunLaws.{unsearched_by}
 use Rattle.cip_solve.proofs.KitLaws.{room_there}
 use Rattle.cip_solve.proofs.solving.solve_with.Goals as goal
@@ -11,6 +15,12 @@ returns-in_default-clause-solved g c =
 
 pub end-requires-clause-room : goal.end-requires-clause-room
 end-requires-clause-room g c = room_there _ _ _ _ _ c.in-Ok.ensures.room c.search_from-answer.ensures.asked.1
+
+pub returns-clause-solved : goal.returns-clause-solved
+returns-clause-solved g c =
+    let log = c.search_from-answer.new.log in
+    subst (λ (p : Program). IsSolvedBy p c.args.options.now.nodes c.args.options.now.gap false (entries_of log) log.marks.items (answer_of c.search_from-answer.result))
+    c.in-Ok.ensures.root.1 (c.search_from-answer.ensures.solved false (λ e. absurd (true≢false (sym e))))
 
 pub returns-clause-kit : goal.returns-clause-kit
 returns-clause-kit g c = inl (record {

@@ -1,4 +1,4 @@
-use Rattle.std.proofs.Common.{[]}
+use Rattle.std.proofs.Common.{[], refl}
 use Rattle.cip_solve.proofs.BegunLaws.{nothing_searched, none_met}
 use Rattle.cip_solve.proofs.FirstLaws.{first_of_none}
 use Rattle.cip_solve.proofs.solving.unsearched.Goals as goal
@@ -9,12 +9,13 @@ returns-clause-solved c = λ nodes asked. record {
   root = c.root_bound.ensures.root;
   right = nothing_searched c.args.program.now c.root_bound.result c.root_bound.ensures.holds nodes asked;
   shown = λ ray e. absurd (cc);
+  taken = λ a e. refl;
   met = λ a. none_met c.args.program.now c.root_bound.result [];
 }
 
 pub returns-clause-first : goal.returns-clause-first
-returns-clause-first c = λ asked alone. record {
+returns-clause-first c = λ asked. record {
   start = c.root_bound.result;
   root = c.root_bound.ensures.root;
-  first = first_of_none c.args.program.now c.root_bound.result asked alone;
+  first = first_of_none c.args.program.now c.root_bound.result asked;
 }

@@ -1,4 +1,4 @@
-use Rattle.std.proofs.Common.{ℕ, length}
+use Rattle.std.proofs.Common.{length}
 use Rattle.cip_plugin.specs.Calls.{Enforce}
 use Rattle.cip_calls.specs.Noted.{HasCome}
 use Rattle.cip_calls.specs.Waiting.{waiting}

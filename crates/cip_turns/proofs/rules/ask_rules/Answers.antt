@@ -1,7 +1,5 @@
-use Rattle.std.proofs.Common.{◌≡◌, ℕ, Option, Some, refl, sym, ◌∙◌, subst}
-use Rattle.cip_plugin.specs.Asking.{asks}
+use Rattle.std.proofs.Common.{refl, ◌∙◌, subst}
 use Rattle.cip_plugin.specs.Calls.{Branch}
-use Rattle.cip_plugin.specs.declared.asking.Given.{Given}
 use Rattle.cip_calls.specs.Waiting.{HasAskedNext}
 use Rattle.cip_calls.proofs.Noting.{noted_run, run_further}
 use Rattle.cip_turns.proofs.Said.{run_none}

@@ -1,5 +1,5 @@
 use Rattle.std.proofs.Common.{refl}
-use Rattle.cip_calls.proofs.Noting.{gone_none, noted_none}
+use Rattle.cip_calls.proofs.Noting.{gone_none}
 use Rattle.cip_turns.proofs.Said.{gone_noted, ready_again, ready_same, alone_none}
 use Rattle.cip_turns.proofs.verdicts.take_cutoff.Goals as goal
 

@@ -1,4 +1,4 @@
-use Rattle.std.proofs.Common.{refl, sym, ap, subst}
+use Rattle.std.proofs.Common.{sym, ap, subst}
 use Rattle.cip_problem.specs.WellFormed.{columns}
 use Rattle.cip_core.specs.CoreStates.{CoreState, reduced_of}
 use Rattle.cip_judge.specs.ProposalsJudged.{HaveRoom}
@@ -11,20 +11,37 @@ pub returns-in_err-reserve-clause-gone : goal.returns-in_err-reserve-clause-gone
 returns-in_err-reserve-clause-gone g c =
     gone_none c.args.core.now c.args.node.now (g.R.Seated.state c.args.self.now.roster) (g.R.Seated.room c.args.self.now.roster) c.args.self.now.scratches c.requires.ready c.requires.sound
 
+pub returns-in_err-came-clause-gone : goal.returns-in_err-came-clause-gone
+returns-in_err-came-clause-gone g c =
+    gone_by _ _ _ _ _ _ _ _ c.judge_guess.ensures.later c.requires.ready.room c.requires.sound
+    (more_same _ _ (ap (λ (k : CoreState). k.pool) c.judge_guess.ensures.frame)) (noted_none (g.R.Seated.state c.args.self.now.roster))
+
+pub returns-in_err-came-clause-pool : goal.returns-in_err-came-clause-pool
+returns-in_err-came-clause-pool g c = ap (λ (k : CoreState). k.pool) c.judge_guess.ensures.frame
+
 pub returns-in_err-finish-clause-gone : goal.returns-in_err-finish-clause-gone
 returns-in_err-finish-clause-gone g c =
-    gone_by _ _ _ _ _ _ _ _ c.judge_guess-came.ensures.later
+    gone_by _ _ _ _ _ _ _ _ c.judge_guess.ensures.later
     (subst (λ (s : Scratches). HaveRoom s (columns (reduced_of c.args.core.now))) (sym c.finish.ensures.scratches) c.requires.ready.room) c.finish.ensures.sound
-    (more_same _ _ (ap (λ (k : CoreState). k.pool) c.judge_guess-came.ensures.frame)) c.finish.ensures.noted
+    (more_same _ _ (ap (λ (k : CoreState). k.pool) c.judge_guess.ensures.frame)) c.finish.ensures.noted
 
 pub returns-in_err-finish-clause-pool : goal.returns-in_err-finish-clause-pool
-returns-in_err-finish-clause-pool g c = ap (λ (k : CoreState). k.pool) c.judge_guess-came.ensures.frame
+returns-in_err-finish-clause-pool g c = ap (λ (k : CoreState). k.pool) c.judge_guess.ensures.frame
+
+pub returns-in_err-keep_guess-clause-gone : goal.returns-in_err-keep_guess-clause-gone
+returns-in_err-keep_guess-clause-gone g c =
+    gone_by _ _ _ _ _ _ _ _ c.judge_guess.ensures.later
+    (subst (λ (s : Scratches). HaveRoom s (columns (reduced_of c.args.core.now))) (sym c.finish.ensures.scratches) c.requires.ready.room) c.finish.ensures.sound
+    (more_same _ _ (ap (λ (k : CoreState). k.pool) c.judge_guess.ensures.frame)) c.finish.ensures.noted
+
+pub returns-in_err-keep_guess-clause-pool : goal.returns-in_err-keep_guess-clause-pool
+returns-in_err-keep_guess-clause-pool g c = ap (λ (k : CoreState). k.pool) c.judge_guess.ensures.frame
 
 pub returns-clause-gone : goal.returns-clause-gone
 returns-clause-gone g c =
-    gone_by _ _ _ _ _ _ _ _ c.judge_guess-came.ensures.later
+    gone_by _ _ _ _ _ _ _ _ c.judge_guess.ensures.later
     (subst (λ (s : Scratches). HaveRoom s (columns (reduced_of c.args.core.now))) (sym c.finish.ensures.scratches) c.requires.ready.room) c.finish.ensures.sound
-    (more_same _ _ (ap (λ (k : CoreState). k.pool) c.judge_guess-came.ensures.frame)) c.finish.ensures.noted
+    (more_same _ _ (ap (λ (k : CoreState). k.pool) c.judge_guess.ensures.frame)) c.finish.ensures.noted
 
 pub returns-clause-pool : goal.returns-clause-pool
-returns-clause-pool g c = ap (λ (k : CoreState). k.pool) c.judge_guess-came.ensures.frame
+returns-clause-pool g c = ap (λ (k : CoreState). k.pool) c.judge_guess.ensures.frame

@@ -7,8 +7,8 @@ use Rattle.cip_compaction.specs.PresolvedPrograms.{counted, IsExactlyPresolved}
 use Rattle.cip_compaction.proofs.Unchanged.{same_exact, none_kept, none_changes, same_whole, none_overflows}
 use Rattle.cip_compaction.proofs.presolved.Presolved.same.Goals as goal
 
-pub returns-clause-presolved : goal.returns-clause-presolved
-returns-clause-presolved c =
+pub returns-clause-exact : goal.returns-clause-exact
+returns-clause-exact c =
     let forms : c.in_ok-forms.forms.items ≡ replicate (columns c.args.program.now) None = c.in_ok-forms.ensures ∙ ap (λ n. replicate n None) c.columns.ensures.count in
     let whole : c.in_ok-whole.whole.items ≡ c.args.program.now.integral = search rules in
     subst (λ (s : StepsTaken). IsExactlyPresolved c.args.program.now (record { reduced = c.in_ok-reduced.reduced; steps = s; kept = c.in_ok-kept.kept })) (sym c.new.ensures) (record {
@@ -20,6 +20,9 @@ returns-clause-presolved c =
       };
       leaves = λ wholes a. none_overflows (columns c.args.program.now) c.in_ok-forms.forms.items c.in_ok-whole.whole.items _ forms;
     })
+
+pub returns-clause-pair : goal.returns-clause-pair
+returns-clause-pair c = let e = returns-clause-exact c in record { pair = e.pair.pair; numbers = e.numbers; leaves = e.leaves }
 
 pub returns-clause-unchanged : goal.returns-clause-unchanged
 returns-clause-unchanged c =

@@ -13,7 +13,7 @@ use Rattle.cip_core.proofs.cores.Core.add_valid.Goals as goal
 
 pub add-requires-clause-columns : goal.add-requires-clause-columns
 add-requires-clause-columns c =
-    let core : CoreState = record { program = c.self.inside.program.now; pool = c.self.inside.pool; tree = c.self.inside.tree; incumbent = c.self.inside.incumbent; touched = c.self.inside.touched } in
+    let core : CoreState = record { program = c.self.inside.program.now; reduced = c.self.inside.reduced.now; steps = c.self.inside.steps.now; pool = c.self.inside.pool; tree = c.self.inside.tree; incumbent = c.self.inside.incumbent; touched = c.self.inside.touched } in
     let same : core ≡ c.args.self.now = c.self.view_is in
     let node = c.args.node.now in
     let local = c.args.local in
@@ -23,7 +23,7 @@ add-requires-clause-columns c =
 
 pub invariant_of-self : goal.invariant_of-self
 invariant_of-self c =
-    let core : CoreState = record { program = c.self.inside.program.now; pool = c.self.inside.pool; tree = c.self.inside.tree; incumbent = c.self.inside.incumbent; touched = c.self.inside.touched } in
+    let core : CoreState = record { program = c.self.inside.program.now; reduced = c.self.inside.reduced.now; steps = c.self.inside.steps.now; pool = c.self.inside.pool; tree = c.self.inside.tree; incumbent = c.self.inside.incumbent; touched = c.self.inside.touched } in
     let same : core ≡ c.args.self.now = c.self.view_is in
     let node = c.args.node.now in
     let local = c.args.local in
@@ -35,9 +35,20 @@ invariant_of-self c =
     let valid = subst (λ (o : CoreState). IsValid (reduced_of o) (valid_below (held_of o) rests) (scope_of o local) row) (sym same) c.requires.valid in
     (sound_given core c.add.new.self row (scope_of core local) rests c.add.result added valid c.self.invariant.0, c.self.invariant.1)
 
+pub returns-clause-added : goal.returns-clause-added
+returns-clause-added c =
+    let core : CoreState = record { program = c.self.inside.program.now; reduced = c.self.inside.reduced.now; steps = c.self.inside.steps.now; pool = c.self.inside.pool; tree = c.self.inside.tree; incumbent = c.self.inside.incumbent; touched = c.self.inside.touched } in
+    let same : core ≡ c.args.self.now = c.self.view_is in
+    let local = c.args.local in
+    let boxed : c.scope-bounds.result.now ≡ scope_of core local = c.scope-bounds.ensures ∙ ap (λ b. if local then b else c.bounds-2.result.now) c.bounds.ensures ∙ ap (λ b. if local then core.tree.work.box else b) c.bounds-2.ensures.bounds in
+    let rests = c.args.rests in
+    let row : Inequality = record { coefficients = c.args.scratch.now.row.entries; least = c.args.least } in
+    subst (λ (o : CoreState). MatchResult c.add.result (IsAdded o.pool (row_of row) (scope_of o local) rests c.add.new.self) (λ _. c.add.new.self ≡ o.pool)) same
+    (subst (λ b. MatchResult c.add.result (IsAdded core.pool (row_of row) b rests c.add.new.self) (λ _. c.add.new.self ≡ core.pool)) boxed c.add.ensures.added)
+
 pub returns-clause-later : goal.returns-clause-later
 returns-clause-later c =
-    let core : CoreState = record { program = c.self.inside.program.now; pool = c.self.inside.pool; tree = c.self.inside.tree; incumbent = c.self.inside.incumbent; touched = c.self.inside.touched } in
+    let core : CoreState = record { program = c.self.inside.program.now; reduced = c.self.inside.reduced.now; steps = c.self.inside.steps.now; pool = c.self.inside.pool; tree = c.self.inside.tree; incumbent = c.self.inside.incumbent; touched = c.self.inside.touched } in
     let same : core ≡ c.args.self.now = c.self.view_is in
     let node = c.args.node.now in
     let local = c.args.local in

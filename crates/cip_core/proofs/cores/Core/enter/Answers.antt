@@ -7,7 +7,7 @@ use Rattle.cip_core.proofs.cores.Core.enter.Goals as goal
 
 pub enter-requires : goal.enter-requires
 enter-requires c =
-    let core : CoreState = record { program = c.self.inside.program.now; pool = c.self.inside.pool; tree = c.self.inside.tree; incumbent = c.self.inside.incumbent; touched = c.self.inside.touched } in
+    let core : CoreState = record { program = c.self.inside.program.now; reduced = c.self.inside.reduced.now; steps = c.self.inside.steps.now; pool = c.self.inside.pool; tree = c.self.inside.tree; incumbent = c.self.inside.incumbent; touched = c.self.inside.touched } in
     let same : core ≡ c.args.self.now = c.self.view_is in
     (subst (λ (o : CoreState). IsTakenUp o c.args.node.now) (sym same) c.requires).taken
 
@@ -18,7 +18,7 @@ returns-clause-entered c =
 
 pub returns-clause-up : goal.returns-clause-up
 returns-clause-up c =
-    let core : CoreState = record { program = c.self.inside.program.now; pool = c.self.inside.pool; tree = c.self.inside.tree; incumbent = c.self.inside.incumbent; touched = c.self.inside.touched } in
+    let core : CoreState = record { program = c.self.inside.program.now; reduced = c.self.inside.reduced.now; steps = c.self.inside.steps.now; pool = c.self.inside.pool; tree = c.self.inside.tree; incumbent = c.self.inside.incumbent; touched = c.self.inside.touched } in
     let same : core ≡ c.args.self.now = c.self.view_is in
     let up = subst (λ (o : CoreState). IsTakenUp o c.args.node.now) (sym same) c.requires in
     subst (λ (t : Nodes). IsTakenUp (with_tree core t) c.args.node.now) (sym c.enter.ensures.rest) (up_entered core c.enter.new.self.work c.args.node.now up)

@@ -14,7 +14,7 @@ use Rattle.cip_core.proofs.cores.Core.offer.Goals as goal
 
 pub returns-clause-offered : goal.returns-clause-offered
 returns-clause-offered c =
-    let core : CoreState = record { program = c.self.inside.program.now; pool = c.self.inside.pool; tree = c.self.inside.tree; incumbent = c.self.inside.incumbent; touched = c.self.inside.touched } in
+    let core : CoreState = record { program = c.self.inside.program.now; reduced = c.self.inside.reduced.now; steps = c.self.inside.steps.now; pool = c.self.inside.pool; tree = c.self.inside.tree; incumbent = c.self.inside.incumbent; touched = c.self.inside.touched } in
     let same : core ≡ c.args.self.now = c.self.view_is in
     let node = c.args.node.now in
     let point = c.args.point.now in
@@ -36,7 +36,7 @@ returns-clause-offered c =
 
 pub returns-clause-later : goal.returns-clause-later
 returns-clause-later c =
-    let core : CoreState = record { program = c.self.inside.program.now; pool = c.self.inside.pool; tree = c.self.inside.tree; incumbent = c.self.inside.incumbent; touched = c.self.inside.touched } in
+    let core : CoreState = record { program = c.self.inside.program.now; reduced = c.self.inside.reduced.now; steps = c.self.inside.steps.now; pool = c.self.inside.pool; tree = c.self.inside.tree; incumbent = c.self.inside.incumbent; touched = c.self.inside.touched } in
     let same : core ≡ c.args.self.now = c.self.view_is in
     let node = c.args.node.now in
     let point = c.args.point.now in
@@ -57,7 +57,7 @@ returns-clause-later c =
 
 pub invariant_of-self : goal.invariant_of-self
 invariant_of-self c =
-    let core : CoreState = record { program = c.self.inside.program.now; pool = c.self.inside.pool; tree = c.self.inside.tree; incumbent = c.self.inside.incumbent; touched = c.self.inside.touched } in
+    let core : CoreState = record { program = c.self.inside.program.now; reduced = c.self.inside.reduced.now; steps = c.self.inside.steps.now; pool = c.self.inside.pool; tree = c.self.inside.tree; incumbent = c.self.inside.incumbent; touched = c.self.inside.touched } in
     let same : core ≡ c.args.self.now = c.self.view_is in
     let node = c.args.node.now in
     let point = c.args.point.now in
@@ -71,9 +71,9 @@ invariant_of-self c =
     let feasible = (c.offer-answer.ensures.held c.self.invariant.0.is_held.feasible) in
     let cheaper = no_dearer_after core.program core.incumbent holding answer point (verdict_of core.program point) holds is_answer is_after in
     let room = room_after core.program core.incumbent holding answer point is_after c.self.invariant.0.is_held.room in
-    let side = c.side_of-side.ensures ∙ ap (λ h. cutoff_side core.program h) c.cost_of-held.ensures in (
+    let side = c.side_of-side.ensures ∙ ap (λ h. cutoff_side core.reduced h) c.cost_of-held.ensures in (
       sound_offered core c.let_go.new.tree holding (record { feasible = feasible; room = room }) cheaper c.self.invariant.0,
-      subst (λ k. IsFitted core.program (cost_held holding) k c.self.inside.whole_costs (length c.self.inside.scratch.row.entries))
+      subst (λ k. IsFitted core.reduced (cost_held holding) k c.self.inside.whole_costs (length c.self.inside.scratch.row.entries))
           (sym (c.set_side.ensures ∙ ap (with_high c.self.inside.cutoff) side))
-          (fitted_offered core.program (cost_held core.incumbent) (cost_held holding) c.self.inside.cutoff c.self.inside.whole_costs (length c.self.inside.scratch.row.entries) c.self.invariant.1),
+          (fitted_offered core.reduced (cost_held core.incumbent) (cost_held holding) c.self.inside.cutoff c.self.inside.whole_costs (length c.self.inside.scratch.row.entries) c.self.invariant.1),
     )

@@ -21,7 +21,7 @@ returns-then-is_weaker-clause-later c =
     let node = c.args.node.now in
     let rounded = c.rounded_bound-rounded.result in
     let test = c.self.inside.whole_costs in
-    let whole = subst (λ (o : CoreState). MatchBool test (HasWholeCosts o.program) (¬ HasWholeCosts o.program)) c.self.view_is c.self.invariant.1.whole in
+    let whole = subst (λ (o : CoreState). MatchBool test (HasWholeCosts o.reduced) (¬ HasWholeCosts o.reduced)) c.self.view_is c.self.invariant.1.whole in
     let holds = subst (IsBoundIn (reduced_of core) (held_of core) (box_of core.tree node)) (sym c.rounded_bound-rounded.ensures)
     (rounded_holds (reduced_of core) (held_of core) (box_of core.tree node) c.args.bound test (when_true test whole) c.requires.holds) in
     let weaker = subst (λ b. NoMore b (Some rounded)) c.bound.ensures c.if-is_weaker.ensures in
@@ -33,7 +33,7 @@ returns-then-is_weaker-clause-raised c =
     let core = c.args.self.now in
     let rounded = c.rounded_bound-rounded.result in
     let test = c.self.inside.whole_costs in
-    let whole = subst (λ (o : CoreState). MatchBool test (HasWholeCosts o.program) (¬ HasWholeCosts o.program)) c.self.view_is c.self.invariant.1.whole in
+    let whole = subst (λ (o : CoreState). MatchBool test (HasWholeCosts o.reduced) (¬ HasWholeCosts o.reduced)) c.self.view_is c.self.invariant.1.whole in
     subst (λ (n : TakenNode). IsRaisedTo core c.args.bound n.bound) (sym c.raise.ensures)
     (raised_to core c.args.bound rounded test (Some rounded) whole c.rounded_bound-rounded.ensures (no_more_itself (Some rounded)))
 
@@ -45,5 +45,5 @@ returns-else-is_weaker-clause-raised c =
     let core = c.args.self.now in
     let rounded = c.rounded_bound-rounded.result in
     let test = c.self.inside.whole_costs in
-    let whole = subst (λ (o : CoreState). MatchBool test (HasWholeCosts o.program) (¬ HasWholeCosts o.program)) c.self.view_is c.self.invariant.1.whole in
+    let whole = subst (λ (o : CoreState). MatchBool test (HasWholeCosts o.reduced) (¬ HasWholeCosts o.reduced)) c.self.view_is c.self.invariant.1.whole in
     raised_to core c.args.bound rounded test c.args.node.now.bound whole c.rounded_bound-rounded.ensures (subst (NoMore (Some rounded)) c.bound.ensures c.if-is_weaker.ensures)

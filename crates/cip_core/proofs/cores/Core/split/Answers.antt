@@ -13,7 +13,7 @@ use Rattle.cip_core.proofs.cores.Core.split.Goals as goal
 
 pub returns-in-Ok-clause-split : goal.returns-in-Ok-clause-split
 returns-in-Ok-clause-split c =
-    let core : CoreState = record { program = c.self.inside.program.now; pool = c.self.inside.pool; tree = c.self.inside.tree; incumbent = c.self.inside.incumbent; touched = c.self.inside.touched } in
+    let core : CoreState = record { program = c.self.inside.program.now; reduced = c.self.inside.reduced.now; steps = c.self.inside.steps.now; pool = c.self.inside.pool; tree = c.self.inside.tree; incumbent = c.self.inside.incumbent; touched = c.self.inside.touched } in
     let same : core ≡ c.args.self.now = c.self.view_is in
     let node = c.args.node in
     let at = c.args.at in

@@ -10,13 +10,13 @@ use Rattle.cip_core.proofs.cores.Core.tighten.Goals as goal
 
 pub tighten-requires-clause-work : goal.tighten-requires-clause-work
 tighten-requires-clause-work c =
-    let core : CoreState = record { program = c.self.inside.program.now; pool = c.self.inside.pool; tree = c.self.inside.tree; incumbent = c.self.inside.incumbent; touched = c.self.inside.touched } in
+    let core : CoreState = record { program = c.self.inside.program.now; reduced = c.self.inside.reduced.now; steps = c.self.inside.steps.now; pool = c.self.inside.pool; tree = c.self.inside.tree; incumbent = c.self.inside.incumbent; touched = c.self.inside.touched } in
     let same : core ≡ c.args.self.now = c.self.view_is in
     (subst (λ (o : CoreState). IsAtWork o c.args.node.now) (sym same) c.requires.at_work).region
 
 pub tighten-requires-clause-column : goal.tighten-requires-clause-column
 tighten-requires-clause-column c =
-    let core : CoreState = record { program = c.self.inside.program.now; pool = c.self.inside.pool; tree = c.self.inside.tree; incumbent = c.self.inside.incumbent; touched = c.self.inside.touched } in
+    let core : CoreState = record { program = c.self.inside.program.now; reduced = c.self.inside.reduced.now; steps = c.self.inside.steps.now; pool = c.self.inside.pool; tree = c.self.inside.tree; incumbent = c.self.inside.incumbent; touched = c.self.inside.touched } in
     let same : core ≡ c.args.self.now = c.self.view_is in
     let w = subst (λ (o : CoreState). IsAtWork o c.args.node.now) (sym same) c.requires.at_work in
     let told = subst (λ (o : CoreState). IsSideTold o c.args.node.now c.args.col c.args.side c.args.value) (sym same) c.requires.told in
@@ -24,7 +24,7 @@ tighten-requires-clause-column c =
 
 pub returns-in_err-tighten-clause-later : goal.returns-in_err-tighten-clause-later
 returns-in_err-tighten-clause-later c =
-    let core : CoreState = record { program = c.self.inside.program.now; pool = c.self.inside.pool; tree = c.self.inside.tree; incumbent = c.self.inside.incumbent; touched = c.self.inside.touched } in
+    let core : CoreState = record { program = c.self.inside.program.now; reduced = c.self.inside.reduced.now; steps = c.self.inside.steps.now; pool = c.self.inside.pool; tree = c.self.inside.tree; incumbent = c.self.inside.incumbent; touched = c.self.inside.touched } in
     let same : core ≡ c.args.self.now = c.self.view_is in
     let node = c.args.node.now in
     let has = c.tighten.new.node in
@@ -35,7 +35,7 @@ returns-in_err-tighten-clause-later c =
 
 pub returns-in-Yes-clause-later : goal.returns-in-Yes-clause-later
 returns-in-Yes-clause-later c =
-    let core : CoreState = record { program = c.self.inside.program.now; pool = c.self.inside.pool; tree = c.self.inside.tree; incumbent = c.self.inside.incumbent; touched = c.self.inside.touched } in
+    let core : CoreState = record { program = c.self.inside.program.now; reduced = c.self.inside.reduced.now; steps = c.self.inside.steps.now; pool = c.self.inside.pool; tree = c.self.inside.tree; incumbent = c.self.inside.incumbent; touched = c.self.inside.touched } in
     let same : core ≡ c.args.self.now = c.self.view_is in
     let node = c.args.node.now in
     let has = c.tighten.new.node in
@@ -48,7 +48,7 @@ returns-in-Yes-clause-later c =
 
 pub returns-in-Same-clause-later : goal.returns-in-Same-clause-later
 returns-in-Same-clause-later c =
-    let core : CoreState = record { program = c.self.inside.program.now; pool = c.self.inside.pool; tree = c.self.inside.tree; incumbent = c.self.inside.incumbent; touched = c.self.inside.touched } in
+    let core : CoreState = record { program = c.self.inside.program.now; reduced = c.self.inside.reduced.now; steps = c.self.inside.steps.now; pool = c.self.inside.pool; tree = c.self.inside.tree; incumbent = c.self.inside.incumbent; touched = c.self.inside.touched } in
     let same : core ≡ c.args.self.now = c.self.view_is in
     let node = c.args.node.now in
     let has = c.tighten.new.node in
@@ -60,7 +60,7 @@ returns-in-Same-clause-later c =
 
 pub returns-in-Empty-clause-later : goal.returns-in-Empty-clause-later
 returns-in-Empty-clause-later c =
-    let core : CoreState = record { program = c.self.inside.program.now; pool = c.self.inside.pool; tree = c.self.inside.tree; incumbent = c.self.inside.incumbent; touched = c.self.inside.touched } in
+    let core : CoreState = record { program = c.self.inside.program.now; reduced = c.self.inside.reduced.now; steps = c.self.inside.steps.now; pool = c.self.inside.pool; tree = c.self.inside.tree; incumbent = c.self.inside.incumbent; touched = c.self.inside.touched } in
     let same : core ≡ c.args.self.now = c.self.view_is in
     let node = c.args.node.now in
     let has = c.tighten.new.node in

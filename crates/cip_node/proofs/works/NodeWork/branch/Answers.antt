@@ -23,7 +23,7 @@ split-requires-clause-place c =
     let at = c.in-Some.field-0.at in
     let column = c.in-Some.field-0.col in
     let e : to_z w128 (of_z w128 at) ≡ at = omega (arith, ints) in
-    let place = core_place core node (point_of c.args.found.now) column at c.is_sound.ensures.formed c.requires.up.0 c.requires.open_.full.region c.in-Some.ensures in
+    let place = core_place core node (point_of c.args.found.now) column at c.is_sound.ensures.reduced c.requires.up.0 c.requires.open_.full.region c.in-Some.ensures in
     (c.requires.up.1, place_within (reduced_of core).integral (region_of core.tree node) (farthest core.tree.ids + 1) column at place, subst (IsSplitPlace (reduced_of core).integral (region_of core.tree node) (farthest core.tree.ids + 1) column) (sym e) place)
 
 pub returns-then-not-matters-clause-ended : goal.returns-then-not-matters-clause-ended
@@ -51,4 +51,4 @@ returns-clause-ended c =
 
 pub place_by-requires-clause-columns : goal.place_by-requires-clause-columns
 place_by-requires-clause-columns c =
-    work_long c.args.self.now.core c.args.node c.is_sound.ensures.formed (record { up = c.requires.up.0; region = c.requires.open_.full.region })
+    work_long c.args.self.now.core c.args.node c.is_sound.ensures.reduced (record { up = c.requires.up.0; region = c.requires.open_.full.region })

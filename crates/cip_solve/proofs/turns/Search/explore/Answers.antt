@@ -1,25 +1,23 @@
-use Rattle.std.proofs.Common.{◌≡◌, ◌+◌, ◌∙◌, false, [], None, ap, arith, length, inr, refl, sym, subst}
-use Rattle.cip_problem.specs.Program.{Program}
-use Rattle.cip_problem.specs.Log.{Node}
-use Rattle.cip_search.specs.SearchState.{HasGivenBoxes}
-use Rattle.cip_core.specs.KeptNodes.{cost_held, state_of}
-use Rattle.cip_solve.specs.Searching.{IsStill}
+use Rattle.std.proofs.Common.{◌+◌, ◌∙◌, None, ap, arith, length, inr, refl, sym, subst}
 use Rattle.cip_solve.specs.SplitsServed.{splits_in, HasServed}
+use Rattle.cip_solve.proofs.SameSearches.{same_itself, same_further, still_of}
 use Rattle.cip_solve.proofs.Serving.{served_none}
 use Rattle.cip_solve.proofs.FirstLaws.{first_stop, short_more, none_short}
+use Rattle.cip_core.specs.CoreStates.{reduced_of, way_of}
 use Rattle.cip_solve.proofs.turns.Search.explore.Goals as goal
 
 pub returns-in-Some-clause-same : goal.returns-in-Some-clause-same
 returns-in-Some-clause-same g c =
     let same = c.turn.ensures.same in
-    (same.0 ∙ c.loop.invariant.program, same.1 ∙ c.loop.invariant.root, λ a. same.2 a ∙ c.loop.invariant.plain a)
+    (same_further c.args.self.now.work.core c.loop.self.work.core c.turn.new.self.work.core c.loop.invariant.same same.0, λ a. same.1 a ∙ c.loop.invariant.plain a)
 
 pub returns-in-Some-clause-stopped : goal.returns-in-Some-clause-stopped
 returns-in-Some-clause-stopped g c = c.in-Some.ensures.turned c.args.nodes c.args.asked.now
 
 pub returns-in-Some-clause-first : goal.returns-in-Some-clause-first
-returns-in-Some-clause-first g c = λ alone a.
-    first_stop c.args.self.now.work.core.program c.args.self.now.work.core.tree.root.bound c.args.asked.now alone c.loop.self.work.core.tree.log c.turn.new.self.work.core.tree.log c.turn.ensures.grown c.turn.ensures.longer (c.loop.invariant.short alone a)
+returns-in-Some-clause-first g c =
+    let core = c.args.self.now.work.core in
+    first_stop core.program (reduced_of core) (way_of core) core.tree.root.bound c.args.asked.now c.loop.self.work.core.tree.log c.turn.new.self.work.core.tree.log c.turn.ensures.grown c.turn.ensures.longer c.loop.invariant.short
 
 pub returns-in-Some-clause-asked : goal.returns-in-Some-clause-asked
 returns-in-Some-clause-asked g c =
@@ -28,11 +26,12 @@ returns-in-Some-clause-asked g c =
 pub returns-then-has_reached_gap-clause-same : goal.returns-then-has_reached_gap-clause-same
 returns-then-has_reached_gap-clause-same g c =
     let same = c.turn.ensures.same in
-    (same.0 ∙ c.loop.invariant.program, same.1 ∙ c.loop.invariant.root, λ a. same.2 a ∙ c.loop.invariant.plain a)
+    (same_further c.args.self.now.work.core c.loop.self.work.core c.turn.new.self.work.core c.loop.invariant.same same.0, λ a. same.1 a ∙ c.loop.invariant.plain a)
 
 pub returns-then-has_reached_gap-clause-first : goal.returns-then-has_reached_gap-clause-first
-returns-then-has_reached_gap-clause-first g c = λ alone a.
-    first_stop c.args.self.now.work.core.program c.args.self.now.work.core.tree.root.bound c.args.asked.now alone c.loop.self.work.core.tree.log c.turn.new.self.work.core.tree.log c.turn.ensures.grown c.turn.ensures.longer (c.loop.invariant.short alone a)
+returns-then-has_reached_gap-clause-first g c =
+    let core = c.args.self.now.work.core in
+    first_stop core.program (reduced_of core) (way_of core) core.tree.root.bound c.args.asked.now c.loop.self.work.core.tree.log c.turn.new.self.work.core.tree.log c.turn.ensures.grown c.turn.ensures.longer c.loop.invariant.short
 
 pub returns-then-has_reached_gap-clause-asked : goal.returns-then-has_reached_gap-clause-asked
 returns-then-has_reached_gap-clause-asked g c =
@@ -41,20 +40,17 @@ returns-then-has_reached_gap-clause-asked g c =
 pub loop-preserved : goal.loop-preserved
 loop-preserved g c =
     let next = c.in_default.ensures.turned 0 None in
-    let program = c.args.self.now.work.core.program in
+    let core = c.args.self.now.work.core in
     let new = c.turn.new.self in
-    let same = c.turn.ensures.same in
-    let still = subst (λ (p : Program). IsStill p c.args.self.now.work.core.tree.root.bound new.work.core.tree new.work.core.incumbent new.worst) (same.0 ∙ c.loop.invariant.program)
-    (subst (λ (r : Node). IsStill new.work.core.program r.bound new.work.core.tree new.work.core.incumbent new.worst) (same.1 ∙ c.loop.invariant.root) next.0.still) in
-    let boxes = λ (e : new.work.core.touched ≡ false). subst (λ (p : Program). HasGivenBoxes p new.work.core.tree.root.bound (state_of new.work.core.tree (cost_held new.work.core.incumbent) [])) (same.0 ∙ c.loop.invariant.program) (next.0.boxes e) in
+    let same = same_further core c.loop.self.work.core new.work.core c.loop.invariant.same c.turn.ensures.same.0 in
     record {
-      short = λ alone a. short_more program c.args.self.now.work.core.tree.root.bound c.args.asked.now alone c.loop.self.work.core.tree.log new.work.core.tree new.work.core.incumbent new.worst c.turn.ensures.grown next.1 still
-          (c.has_reached_gap.ensures.short c.if-has_reached_gap.false) (λ e. boxes (same.2 (a e) ∙ (c.loop.invariant.plain (a e) ∙ c.requires.plain))) (c.loop.invariant.short alone a);
+      short = short_more core.program (reduced_of core) (way_of core) core.tree.root.bound c.args.asked.now c.loop.self.work.core.tree.log new.work.core.tree new.work.core.incumbent new.worst c.turn.ensures.grown next.1
+          (still_of core new.work.core new.worst same next.0.still)
+          (c.has_reached_gap.ensures.short c.if-has_reached_gap.false) c.loop.invariant.short;
       standing = next.0;
       written = c.turn.ensures.written;
-      program = same.0 ∙ c.loop.invariant.program;
-      root = same.1 ∙ c.loop.invariant.root;
-      plain = λ a. same.2 a ∙ c.loop.invariant.plain a;
+      same = same;
+      plain = λ a. c.turn.ensures.same.1 a ∙ c.loop.invariant.plain a;
       longer = next.1 ∙ ap (λ n. n + 1) c.loop.invariant.longer;
       ready = c.turn.ensures.asked.0;
       served = c.turn.ensures.asked.1 (g.W.Works.state c.args.works.now) c.loop.invariant.served;
@@ -73,15 +69,15 @@ returns-then-has_reached_gap-clause-stopped g c =
 
 pub loop-init : goal.loop-init
 loop-init g c =
-    let log = c.args.self.now.work.core.tree.log in
+    let core = c.args.self.now.work.core in
+    let log = core.tree.log in
     let a = g.W.Works.state c.args.works.now in
     record {
       standing = c.requires.standing;
       written = c.requires.written;
-      program = refl;
-      root = refl;
+      same = same_itself core;
       plain = λ e. refl;
-      short = λ alone a. none_short c.args.self.now.work.core.program c.args.self.now.work.core.tree.root.bound c.args.asked.now alone log c.requires.empty;
+      short = none_short core.program (reduced_of core) (way_of core) core.tree.root.bound c.args.asked.now log c.requires.empty;
       longer = ap length c.requires.empty;
       ready = c.requires.ready;
       served = subst (λ l. HasServed (splits_in l) a a) (sym c.requires.empty) (served_none a);

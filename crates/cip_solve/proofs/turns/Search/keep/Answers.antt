@@ -1,5 +1,5 @@
 use Rattle.std.proofs.Common.{None, refl, sym, subst}
-use Rattle.cip_solve.specs.Searching.{IsKeptAs}
+use Rattle.cip_solve.specs.Stops.{IsKeptAs}
 use Rattle.cip_endings.specs.Worst.{IsWorse}
 use Rattle.cip_endings.specs.declared.worst.Worst.{Worst}
 use Rattle.cip_solve.proofs.turns.Search.keep.Goals as goal

@@ -4,13 +4,13 @@ use Rattle.cip_endings.specs.Worst.{worst_bound}
 use Rattle.cip_tree.specs.Moves.{IsLeastBound}
 use Rattle.cip_tree.specs.Nodes.{Nodes}
 use Rattle.cip_problem.specs.WellFormed.{columns}
-use Rattle.cip_core.specs.CoreStates.{CoreState, reduced_of}
+use Rattle.cip_core.specs.CoreStates.{CoreState, reduced_of, way_of}
 use Rattle.cip_node.specs.declared.works.NodeWork.{NodeWork}
 use Rattle.cip_solve.specs.Logs.{marks_by}
 use Rattle.cip_solve.specs.FirstStops.{IsLongerLog}
-use Rattle.cip_solve.specs.Searching.{IsWritten}
+use Rattle.cip_solve.specs.Searching.{IsSameSearch, IsWritten}
 use Rattle.cip_solve.proofs.FirstLaws.{same_log_longer}
-use Rattle.cip_solve.proofs.TurnLaws.{longer_log, some_there, none_there, nothing_open, refused_before, same_program, same_root, written_still, no_longer, longer_by, same_log, refused_turn, turned_by, written_turn}
+use Rattle.cip_solve.proofs.TurnLaws.{longer_log, some_there, none_there, nothing_open, refused_before, same_search, written_still, no_longer, longer_by, same_log, refused_turn, turned_by, written_turn}
 use Rattle.cip_solve.specs.SplitsServed.{splits_in, splits_by, HasServed}
 use Rattle.cip_solve.proofs.Serving.{served_further, splits_more}
 use Rattle.cip_solve.proofs.turns.Search.turn.Goals as goal
@@ -21,14 +21,14 @@ pub returns-then-is_none-clause-turned : goal.returns-then-is_none-clause-turned
 returns-then-is_none-clause-turned g c = λ nodes asked.
     let core = c.args.self.now.work.core in
     let waiting = subst (λ (t : Nodes). MatchOption c.bound-waiting.result (t.open_ ≡ []) (λ b. IsLeastBound b t.open_)) c.tree.ensures c.bound-waiting.ensures in
-    nothing_open core.program core.tree.root.bound nodes asked core.tree core.incumbent c.args.self.now.worst
+    nothing_open core.program (reduced_of core) (way_of core) core.tree.root.bound nodes asked core.tree core.incumbent c.args.self.now.worst
     (none_there c.bound-waiting.result c.is_none.result (core.tree.open_ ≡ []) (λ b. IsLeastBound b core.tree.open_) c.is_none.ensures c.if-is_none.true waiting) c.requires.standing.still
 
 pub returns-then-is_err-clause-turned : goal.returns-then-is_err-clause-turned
 returns-then-is_err-clause-turned g c = λ nodes asked.
     let core = c.args.self.now.work.core in
     let waiting = subst (λ (t : Nodes). MatchOption c.bound-waiting.result (t.open_ ≡ []) (λ b. IsLeastBound b t.open_)) c.tree.ensures c.bound-waiting.ensures in
-    refused_before core.program core.tree core.incumbent c.args.self.now.worst c.bound-waiting.result c.flat-bound.result c.requires.standing.still waiting
+    refused_before core.program (reduced_of core) (way_of core) core.tree core.incumbent c.args.self.now.worst c.bound-waiting.result c.flat-bound.result c.requires.standing.still waiting
     (some_there c.bound-waiting.result c.is_none.result c.is_none.ensures c.if-is_none.false)
     (c.flat-bound.ensures ∙ ap flat (c.least_left.ensures ∙ ap (λ h. least_of (bound_held h) (least_of c.bound-waiting.result (worst_bound c.args.self.now.worst))) c.held_cost.ensures))
 
@@ -49,10 +49,10 @@ returns-in-Err-clause-turned g c = λ nodes asked.
     (c.flat-bound.ensures ∙ ap flat (c.least_left.ensures ∙ ap (λ h. least_of (bound_held h) (least_of c.bound-waiting.result (worst_bound c.args.self.now.worst))) c.held_cost.ensures))
 
 pub returns-in-Err-clause-same : goal.returns-in-Err-clause-same
-returns-in-Err-clause-same g c =
-    let program = same_program c.args.self.now.work.core c.take.new.self c.work_on-ended.new.work.core c.in-Some.node c.args.self.now.worst c.take.ensures.frame c.in-Some.ensures.first c.requires.standing.still c.in-Err.ensures.ended.later c.is_sound.ensures.sound.is_held in
-    let root = same_root c.args.self.now.work.core c.take.new.self c.work_on-ended.new.work.core c.in-Some.node c.args.self.now.worst c.take.ensures.frame c.in-Some.ensures.first c.requires.standing.still c.in-Err.ensures.ended.later c.is_sound.ensures.sound.is_held in
-    (program, root, λ a. c.work_on-ended.ensures.plain a ∙ ap (λ (k : CoreState). k.touched) c.take.ensures.frame)
+returns-in-Err-clause-same g c = (
+  same_search c.args.self.now.work.core c.take.new.self c.work_on-ended.new.work.core c.in-Some.node c.args.self.now.worst c.take.ensures.frame c.in-Some.ensures.first c.requires.standing.still c.in-Err.ensures.ended.later c.is_sound.ensures.sound.is_held,
+  λ a. c.work_on-ended.ensures.plain a ∙ ap (λ (k : CoreState). k.touched) c.take.ensures.frame,
+)
 
 pub returns-in-Err-clause-longer : goal.returns-in-Err-clause-longer
 returns-in-Err-clause-longer g c = no_longer c.args.self.now.work.core c.take.new.self c.work_on-ended.new.work.core c.in-Some.node c.args.self.now.worst c.take.ensures.frame c.in-Some.ensures.first c.requires.standing.still c.in-Err.ensures.ended.later c.is_sound.ensures.sound.is_held c.in-Err.ensures.ended.log
@@ -72,11 +72,9 @@ returns-in-Err-clause-written g c =
 
 pub returns-in-Ok-clause-same : goal.returns-in-Ok-clause-same
 returns-in-Ok-clause-same g c =
-    let later = c.in-Ok.ensures.ended.later in
-    let program = same_program c.args.self.now.work.core c.take.new.self c.work_on-ended.new.work.core c.in-Some.node c.args.self.now.worst c.take.ensures.frame c.in-Some.ensures.first c.requires.standing.still later c.is_sound.ensures.sound.is_held in
-    let root = same_root c.args.self.now.work.core c.take.new.self c.work_on-ended.new.work.core c.in-Some.node c.args.self.now.worst c.take.ensures.frame c.in-Some.ensures.first c.requires.standing.still later c.is_sound.ensures.sound.is_held in (
-      ap (λ (w : NodeWork). w.core.program) c.settle.ensures.work ∙ program,
-      ap (λ (w : NodeWork). w.core.tree.root) c.settle.ensures.work ∙ root,
+    let later = c.in-Ok.ensures.ended.later in (
+      subst (λ (w : NodeWork). IsSameSearch c.args.self.now.work.core w.core) (sym c.settle.ensures.work)
+          (same_search c.args.self.now.work.core c.take.new.self c.work_on-ended.new.work.core c.in-Some.node c.args.self.now.worst c.take.ensures.frame c.in-Some.ensures.first c.requires.standing.still later c.is_sound.ensures.sound.is_held),
       λ a. ap (λ (w : NodeWork). w.core.touched) c.settle.ensures.work ∙ (c.work_on-ended.ensures.plain a ∙ ap (λ (k : CoreState). k.touched) c.take.ensures.frame),
     )
 

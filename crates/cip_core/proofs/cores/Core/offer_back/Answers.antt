@@ -1,0 +1,12 @@
+use Rattle.std.proofs.Common.{◌≡◌, ◌≢◌, Err, ap, subst, sym}
+use Rattle.cip_postsolve.specs.PostsolveFaults.{IsPostsolveFault}
+use Rattle.cip_core.specs.CoreStates.{CoreState}
+use Rattle.cip_core.proofs.OfferedBack.{tried_past}
+use Rattle.cip_core.proofs.Relations.{later_at_itself}
+use Rattle.cip_core.proofs.cores.Core.offer_back.Goals as goal
+
+pub returns-in-Err-clause-tried : goal.returns-in-Err-clause-tried
+returns-in-Err-clause-tried c = λ n. tried_past c.args.self.now c.args.point.now c.in-Err.fault (subst (λ (o : CoreState). IsPostsolveFault o.steps c.args.point.now c.in-Err.fault) c.self.view_is c.in-Err.ensures.fault) (λ e. n (ap Err e))
+
+pub returns-in-Err-clause-later : goal.returns-in-Err-clause-later
+returns-in-Err-clause-later c = later_at_itself c.args.self.now c.args.node.now c.requires.at_work

@@ -1,0 +1,6 @@
+use Rattle.cip_node.proofs.OneLeaf.{fits_by}
+use Rattle.cip_node.proofs.leaves.in_range.Goals as goal
+
+pub returns-clause-in_range : goal.returns-clause-in_range
+returns-clause-in_range c =
+    fits_by c.args.value c.numerator-numerator.result c.denominator-denominator.result c.numerator-numerator.ensures.value c.numerator-numerator.ensures.bounded c.denominator-denominator.ensures.value c.denominator-denominator.ensures.bounded

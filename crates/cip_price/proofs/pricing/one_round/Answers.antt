@@ -1,0 +1,44 @@
+use Rattle.std.proofs.Common.{[], Option, Some, refl, ap, ◌∙◌, subst}
+use Rattle.std.proofs.lemmas.Result.{MatchResult-weaker}
+use Rattle.cip_rational.specs.Rational.{ℚ}
+use Rattle.cip_master.specs.MasterAnswers.{IsMasterAnswer}
+use Rattle.cip_master.specs.declared.answers.MasterAnswer.TheVariants.{Prices, Farkas}
+use Rattle.cip_price_rounds.specs.PriceTasks.{task_at}
+use Rattle.cip_price.specs.PricedRounds.{with_cause}
+use Rattle.cip_price.specs.Worked.{IsStep, At_cause, At_round}
+use Rattle.cip_price.specs.declared.answers.PriceCause.TheVariants.{Master}
+use Rattle.cip_price.proofs.pricing.one_round.Goals as goal
+
+pub returns-in-Prices-clause-step : goal.returns-in-Prices-clause-step
+returns-in-Prices-clause-step g c =
+    let task = task_at c.args.task.now [] in
+    let m = subst (IsMasterAnswer c.args.moves (task_at c.args.task.now c.args.pool.now)) c.in-Prices.is
+    c.in_ok-answer.ensures.answer in
+    MatchResult-weaker c.round_at_prices.result c.round_at_prices.ensures.behind
+    (λ found b.
+    subst (λ (best : Option ℚ). IsStep c.args.moves task (g.A.AskPricer.told c.args.asker.now)
+    (g.A.AskPricer.told c.round_at_prices.new.asker) c.args.pool.now c.round_at_prices.new.pool best
+    c.round_at_prices.new.work.best found) c.ask_master.ensures.best
+    (At_round (Prices c.in-Prices.shown c.in-Prices.weights c.in-Prices.cost) c.in-Prices.shown m refl b))
+    (λ _ may. may)
+
+pub returns-in-Farkas-clause-step : goal.returns-in-Farkas-clause-step
+returns-in-Farkas-clause-step g c =
+    let task = task_at c.args.task.now [] in
+    let m = subst (IsMasterAnswer c.args.moves (task_at c.args.task.now c.args.pool.now)) c.in-Farkas.is
+    c.in_ok-answer.ensures.answer in
+    MatchResult-weaker c.round_at_farkas.result c.round_at_farkas.ensures.behind
+    (λ found b.
+    subst (λ (best : Option ℚ). IsStep c.args.moves task (g.A.AskPricer.told c.args.asker.now)
+    (g.A.AskPricer.told c.round_at_farkas.new.asker) c.args.pool.now c.round_at_farkas.new.pool best
+    c.round_at_farkas.new.work.best found) c.ask_master.ensures.best
+    (At_round (Farkas c.in-Farkas.shown) c.in-Farkas.shown m refl b))
+    (λ _ may. may)
+
+pub returns-in-Unsolved-clause-step : goal.returns-in-Unsolved-clause-step
+returns-in-Unsolved-clause-step g c =
+    let m = subst (IsMasterAnswer c.args.moves (task_at c.args.task.now c.args.pool.now)) c.in-Unsolved.is
+    c.in_ok-answer.ensures.answer in
+    At_cause c.in-Unsolved.cause m refl refl c.ask_master.ensures.best
+    (ap Some (c.with_cause.ensures
+    ∙ ap (λ (best : Option ℚ). with_cause best (Master c.in-Unsolved.cause)) c.ask_master.ensures.best))

@@ -1,0 +1,12 @@
+//! Pricing: column generation over the blocks of a program, whose bound is shown at each end.
+#![tactic(auto)]
+
+mod answers;
+mod bounding;
+mod crossing;
+mod pricing;
+mod rounds;
+mod work;
+
+pub use answers::{PriceAnswer, PriceCause, PriceLimits};
+pub use pricing::price;

@@ -1,0 +1,168 @@
+//! Pricing.
+ghost use Rattle.std.specs.Prelude.{[], IfOk, MatchResult};
+ghost use Rattle.cip_master_prices.specs.MasterTasks.{IsTask};
+ghost use Rattle.cip_price_rounds.specs.PriceTasks.{task_at};
+ghost use Rattle.cip_price_rounds.specs.OfferedPoints.{Grows};
+ghost use Rattle.cip_price.specs.PriceAnswers.{PriceHolds};
+ghost use Rattle.cip_price.specs.PricedRounds.{IsPricedBy, IsCutShort};
+ghost use Rattle.cip_master.specs.MasterAnswers.{IsPriced, IsFarkas};
+ghost use Rattle.cip_price.specs.RoundEnds.{IsRoundBehind};
+ghost use Rattle.cip_price.specs.Worked.{IsReady, BestHolds, StandsBehind, IsStep, MayStep};
+
+use crate::answers::{PriceAnswer, PriceCause, PriceLimits};
+use crate::bounding::{Summed, with_cause};
+use crate::crossing::has_crossed;
+use crate::rounds::{decided, raised, sum_at_prices};
+use crate::work::PriceWork;
+use cip_columns::ColumnPool;
+use cip_frac::Frac;
+use cip_master::{MasterAnswer, Weights};
+use cip_master_prices::Shown;
+use cip_price_rounds::{AskPricer, PriceTask, ask_blocks};
+use std::alloc::{AllocError, Global};
+
+/// Prices with a mixture at this cost.
+#[derive(Debug, Drop)]
+struct Mixed {
+    shown: Shown,
+    weights: Weights,
+    cost: Frac,
+}
+
+/// One round at prices: what is answered behind it, if no further one is to be asked.
+fn round_at_prices<A: AskPricer>(
+    alloc: Global,
+    task: &PriceTask<'_>,
+    pool: &mut ColumnPool,
+    asker: &mut A,
+    mixed: Mixed,
+    work: &mut PriceWork,
+) -> Result<Option<PriceAnswer>, AllocError>
+    requires task { IsTask (task_at task.now pool.old) }
+    requires ready { IsReady (task_at task.now pool.old) work.old }
+    requires best { BestHolds (task_at task.now []) work.old.best }
+    requires priced { IsPriced (task_at task.now pool.old) mixed.shown mixed.weights mixed.cost }
+    ensures behind { MatchResult result
+        (IsRoundBehind (task_at task.entry.now []) (MasterAnswer.Prices mixed.shown mixed.weights mixed.cost)
+        mixed.shown (A.told asker.old) (A.told asker.new) pool.old pool.new work.old.best work.new.best)
+        (λ _. MayStep (task_at task.entry.now []) (A.told asker.old) (A.told asker.new)) }
+    ensures stands { IfOk result (StandsBehind (task_at task.entry.now []) pool.new work.new) }
+    ensures grows { Grows pool.old pool.new }
+    ensures task { IsTask (task_at task.entry.now pool.new) }
+{
+    let _columns = task.program.columns();
+    let round = ask_blocks(alloc, task, pool, asker, &mixed.shown, &mut work.scratch)?;
+    let multipliers = mixed.shown.multipliers.as_slice();
+    let summed = sum_at_prices(alloc, task, multipliers, &round, &mut work.lagrange)?;
+    let best = work.best;
+    work.best = raised(&best, &summed);
+    let closed = PriceAnswer::Closed {
+        bound: mixed.cost,
+        weights: mixed.weights,
+    };
+    Ok(decided(&round, &summed, &best, closed))
+}
+
+/// One round where there is no mixture of held points.
+fn round_at_farkas<A: AskPricer>(
+    alloc: Global,
+    task: &PriceTask<'_>,
+    pool: &mut ColumnPool,
+    asker: &mut A,
+    shown: &Shown,
+    work: &mut PriceWork,
+) -> Result<Option<PriceAnswer>, AllocError>
+    requires task { IsTask (task_at task.now pool.old) }
+    requires ready { IsReady (task_at task.now pool.old) work.old }
+    requires best { BestHolds (task_at task.now []) work.old.best }
+    requires farkas { IsFarkas (task_at task.now pool.old) shown.now }
+    ensures behind { MatchResult result
+        (IsRoundBehind (task_at task.entry.now []) (MasterAnswer.Farkas shown.now) shown.now
+        (A.told asker.old) (A.told asker.new) pool.old pool.new work.old.best work.new.best)
+        (λ _. MayStep (task_at task.entry.now []) (A.told asker.old) (A.told asker.new)) }
+    ensures stands { IfOk result (StandsBehind (task_at task.entry.now []) pool.new work.new) }
+    ensures grows { Grows pool.old pool.new }
+    ensures task { IsTask (task_at task.entry.now pool.new) }
+{
+    let _columns = task.program.columns();
+    let round = ask_blocks(alloc, task, pool, asker, shown, &mut work.scratch)?;
+    Ok(decided(&round, &Summed::Nothing, &work.best, PriceAnswer::NoPoint))
+}
+
+/// One round: what is answered behind it, if no further one is to be asked.
+fn one_round<A: AskPricer>(
+    alloc: Global,
+    task: &PriceTask<'_>,
+    pool: &mut ColumnPool,
+    asker: &mut A,
+    moves: u32,
+    work: &mut PriceWork,
+) -> Result<Option<PriceAnswer>, AllocError>
+    requires task { IsTask (task_at task.now pool.old) }
+    requires ready { IsReady (task_at task.now pool.old) work.old }
+    requires best { BestHolds (task_at task.now []) work.old.best }
+    ensures step { MatchResult result
+        (IsStep moves (task_at task.entry.now []) (A.told asker.old) (A.told asker.new) pool.old pool.new work.old.best
+        work.new.best)
+        (λ _. MayStep (task_at task.entry.now []) (A.told asker.old) (A.told asker.new)) }
+    ensures stands { IfOk result (StandsBehind (task_at task.entry.now []) pool.new work.new) }
+    ensures grows { Grows pool.old pool.new }
+    ensures task { IsTask (task_at task.entry.now pool.new) }
+{
+    let answer = work.ask_master(alloc, task, pool, moves)?;
+    match answer {
+        MasterAnswer::Prices {
+            shown,
+            weights,
+            cost,
+        } => {
+            let mixed = Mixed {
+                shown,
+                weights,
+                cost,
+            };
+            round_at_prices(alloc, task, pool, asker, mixed, work)
+        }
+        MasterAnswer::Farkas { shown } => round_at_farkas(alloc, task, pool, asker, &shown, work),
+        MasterAnswer::Unsolved { cause } => {
+            Ok(Some(with_cause(&work.best, PriceCause::Master { cause })))
+        }
+    }
+}
+
+/// Prices the blocks of a program in a box, in rounds: the master program of the points that are held is solved, and
+/// each block is asked for points and a tree at what its multipliers leave of the costs. Points of the block are put
+/// into the pool; a tree counts where its check accepts it.
+///
+/// `Closed` comes where trees show at prices that no point of a block costs less than its price: then the mixture of
+/// the weights is least among all. `NoPoint` comes where the sides of a column or of a master row cross, where a tree
+/// shows that its block has no point, or where all blocks are closed at multipliers that show that no mixture of held
+/// points satisfies the master rows. Else the cause is told, with the greatest Lagrangian bound of the rounds, if there
+/// was one. `Err` comes where memory was refused; what was accepted before it stands.
+pub fn price<A: AskPricer>(
+    alloc: Global,
+    task: &PriceTask<'_>,
+    pool: &mut ColumnPool,
+    asker: &mut A,
+    limits: PriceLimits,
+) -> Result<PriceAnswer, AllocError>
+    requires { IsTask (task_at task.now pool.old) }
+    ensures by { MatchResult result
+        (IsPricedBy limits.moves limits.rounds (task_at task.entry.now []) (A.told asker.old) (A.told asker.new)
+        pool.old pool.new)
+        (λ _. IsCutShort limits.moves (task_at task.entry.now []) (A.told asker.old) (A.told asker.new) pool.old) }
+    ensures holds { IfOk result (PriceHolds (task_at task.entry.now []) pool.new) }
+    ensures grows { Grows pool.old pool.new }
+    ensures task { IsTask (task_at task.entry.now pool.new) }
+{
+    if has_crossed(task) {
+        return Ok(PriceAnswer::NoPoint);
+    }
+    let mut work = PriceWork::new(alloc, task, pool)?;
+    for _round in 0..limits.rounds {
+        if let Some(answer) = one_round(alloc, task, pool, asker, limits.moves, &mut work)? {
+            return Ok(answer);
+        }
+    }
+    Ok(with_cause(&work.best, PriceCause::Rounds))
+}

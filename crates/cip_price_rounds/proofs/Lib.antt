@@ -1,0 +1,4 @@
+pub mod Answered
+pub mod Offered
+pub mod Rounded
+pub mod Checked

@@ -1,0 +1,217 @@
+-- Points that are offered one after another.
+use Rattle.std.proofs.Common.{◌≡◌, ◌≢◌, ℕ, ◌+◌, ◌<◌, ◌≤◌, List, [], ◌∷◌, ◌++◌, length, Option, None, Some, take, drop, get_or, refl, sym, ap, ◌∙◌, subst, arith}
+use Rattle.std.specs.List.{Contains}
+use Rattle.std.proofs.lemmas.List.{append-nil, append_assoc, length-append, length_push, get_or_append_left, get_or-append-add, take-append-drop, take_more}
+use Rattle.std.proofs.lemmas.List.Elements.{All-append, All-cons, All-nil}
+use Rattle.std.proofs.lemmas.List.Quantifiers.{Any-push}
+use Rattle.cip_rational.specs.Rational.{ℚ}
+use Rattle.cip_cert.specs.declared.pricing.BlockPoint.{BlockPoint}
+use Rattle.cip_columns.specs.PoolPoints.{PoolPoint}
+use Rattle.cip_columns.specs.ColumnPools.{Serves, IsKnown}
+use Rattle.cip_columns.specs.declared.pools.Added.{Added}
+use Rattle.cip_columns.specs.declared.pools.Added.TheVariants.{New, Known, Full as NoRoom}
+use Rattle.cip_block_points.specs.TakenPoints.{IsPut}
+use Rattle.cip_master_prices.specs.MasterTasks.{Task}
+use Rattle.cip_price_rounds.specs.OfferedPoints.{Grows, IsIn, IsGood, AreIn, IsLeftOut, IsOffered, growth_of, joint}
+use Rattle.cip_price_rounds.specs.declared.offering.Growth.{Growth}
+use Rattle.cip_price_rounds.specs.declared.offering.Growth.TheVariants.{Same, Grown, Full}
+
+-- ---- pools that grow
+
+pub grows_none : (points : List PoolPoint) → Grows points points
+grows_none points = ([], sym (append-nil points))
+
+pub grows_by : (first middle last : List PoolPoint) → Grows first middle → Grows middle last → Grows first last
+grows_by first middle last (m, e) (n, f) =
+    (m ++ n, f ∙ ap (λ ps. ps ++ n) e ∙ append_assoc first m n)
+
+in_more : (points more : List PoolPoint) (block : ℕ) (values : List ℚ) → IsIn points block values
+    → IsIn (points ++ more) block values
+in_more points more block values (k, x, l, e, p) =
+    (k, x, omega (arith, l, length-append points more), get_or_append_left points more x k l ∙ e, p)
+
+pub in_grown : (before after : List PoolPoint) (block : ℕ) (values : List ℚ) → Grows before after
+    → IsIn before block values → IsIn after block values
+in_grown before after block values (more, e) h =
+    subst (λ ps. IsIn ps block values) (sym e) (in_more before more block values h)
+
+pub all_grown : (task : Task) (block : ℕ) (before after : List PoolPoint) (brought : List BlockPoint)
+    → Grows before after → AreIn task block before brought → AreIn task block after brought
+all_grown task block before after brought g h = λ k d l good.
+    in_grown before after block (get_or brought k d).values.items g (h k d l good)
+
+-- ---- one point
+
+known_in : (points : List PoolPoint) (block : ℕ) (values : List ℚ) (id : ℕ) → IsKnown points block values id
+    → IsIn points block values
+known_in points block values id (k, x, l, e, p) = (k, x, l, e, p.1)
+
+one_in : (task : Task) (block : ℕ) (points : List PoolPoint) (p : BlockPoint)
+    → (IsGood task block p.values.items → IsIn points block p.values.items) → AreIn task block points (p ∷ [])
+one_in task block points p h =
+    All-cons (λ (q : BlockPoint). IsGood task block q.values.items → IsIn points block q.values.items) p [] h
+    (All-nil (λ (q : BlockPoint). IsGood task block q.values.items → IsIn points block q.values.items))
+
+pub dropped : (task : Task) (block : ℕ) (p : BlockPoint) (before after : List PoolPoint)
+    → IsPut task.program task.kept block p.values.items before after None
+    → IsOffered task block (p ∷ []) before after Same
+dropped task block p before after t = (t.1, one_in task block after p (λ good. absurd (t.0 good)))
+
+pub added_new : (task : Task) (block : ℕ) (p : BlockPoint) (before after : List PoolPoint) (id : ℕ)
+    → IsPut task.program task.kept block p.values.items before after (Some (New id))
+    → IsOffered task block (p ∷ []) before after Grown
+added_new task block p before after id t =
+    let e = t.1.3 in
+    let one : PoolPoint = record { id = length before; block = block; point = p.values.items } in
+    let held : IsIn (before ++ one ∷ []) block p.values.items =
+    Any-push (Serves block p.values.items) before one (record { same_block = refl; same_values = refl }) in (
+      (one ∷ [], e),
+      omega (arith, ap length e, length_push before one),
+      one_in task block after p (λ good. subst (λ ps. IsIn ps block p.values.items) (sym e) held),
+    )
+
+pub added_known : (task : Task) (block : ℕ) (p : BlockPoint) (before after : List PoolPoint) (id : ℕ)
+    → IsPut task.program task.kept block p.values.items before after (Some (Known id))
+    → IsOffered task block (p ∷ []) before after Same
+added_known task block p before after id t = (
+  t.1.1,
+  one_in task block after p (λ good. subst (λ ps. IsIn ps block p.values.items) (sym t.1.1)
+      (known_in before block p.values.items id t.1.0)),
+)
+
+pub added_full : (task : Task) (block : ℕ) (p : BlockPoint) (before after : List PoolPoint)
+    → IsPut task.program task.kept block p.values.items before after (Some NoRoom)
+    → IsOffered task block (p ∷ []) before after Full
+added_full task block p before after t =
+    subst (λ (ps : List PoolPoint). IsOffered task block (p ∷ []) before ps Full) (sym t.1.2) (
+      grows_none before,
+      record {
+        full = t.1.1;
+        point = p;
+        is_brought = (0, omega arith, refl);
+        good = t.0;
+        unknown = t.1.0;
+      },
+    )
+
+-- ---- one after another
+
+left_more : (task : Task) (block : ℕ) (points : List PoolPoint) (xs ys : List BlockPoint)
+    → IsLeftOut task block points ys → IsLeftOut task block points (xs ++ ys)
+left_more task block points xs ys h = record {
+  full = h.full;
+  point = h.point;
+  is_brought = further xs ys h.point h.is_brought;
+  good = h.good;
+  unknown = h.unknown;
+}
+  where
+    further : (xs ys : List BlockPoint) (p : BlockPoint) → Contains ys p → Contains (xs ++ ys) p
+    further xs ys p (k, l, e) =
+        (length xs + k, omega (arith, l, length-append xs ys), get_or-append-add xs ys k p ∙ e)
+
+pub left_whole : (task : Task) (block : ℕ) (points : List PoolPoint) (brought : List BlockPoint) (n : ℕ)
+    → IsLeftOut task block points (take n brought) → IsLeftOut task block points brought
+left_whole task block points brought n h = record {
+  full = h.full;
+  point = h.point;
+  is_brought =
+      subst (λ (ps : List BlockPoint). Contains ps h.point) (take-append-drop n brought)
+      (nearer (take n brought) (drop n brought) h.point h.is_brought);
+  good = h.good;
+  unknown = h.unknown;
+}
+  where
+    nearer : (xs ys : List BlockPoint) (p : BlockPoint) → Contains xs p → Contains (xs ++ ys) p
+    nearer xs ys p (k, l, e) =
+        (k, omega (arith, l, length-append xs ys), get_or_append_left xs ys p k l ∙ e)
+
+both_in : (task : Task) (block : ℕ) (points : List PoolPoint) (xs ys : List BlockPoint)
+    → AreIn task block points xs → AreIn task block points ys → AreIn task block points (xs ++ ys)
+both_in task block points xs ys h k =
+    All-append (λ (q : BlockPoint). IsGood task block q.values.items → IsIn points block q.values.items) xs ys h k
+
+same_grows : (before after : List PoolPoint) → after ≡ before → Grows before after
+same_grows before after e = ([], e ∙ sym (append-nil before))
+
+pub offered_grows : (task : Task) (block : ℕ) (brought : List BlockPoint) (before after : List PoolPoint)
+    (growth : Growth) → IsOffered task block brought before after growth → Grows before after
+offered_grows task block brought before after Same h = same_grows before after h.0
+offered_grows task block brought before after Grown h = h.0
+offered_grows task block brought before after Full h = h.0
+
+longer : (first middle : List PoolPoint) → Grows first middle → length first ≤ length middle
+longer first middle (more, e) = omega (arith, ap length e, length-append first more)
+
+pub offered_both : (task : Task) (block : ℕ) (xs ys : List BlockPoint) (first middle last : List PoolPoint)
+    (growth next : Growth) → growth ≢ Full → IsOffered task block xs first middle growth
+    → IsOffered task block ys middle last next → IsOffered task block (xs ++ ys) first last (joint growth next)
+offered_both task block xs ys first middle last Same Same n h k = (
+  k.0 ∙ h.0,
+  both_in task block last xs ys
+      (all_grown task block middle last xs (same_grows middle last k.0) h.1) k.1,
+)
+offered_both task block xs ys first middle last Same Grown n h k = (
+  grows_by first middle last (same_grows first middle h.0) k.0,
+  subst (λ (ps : List PoolPoint). length ps < length last) h.0 k.1,
+  both_in task block last xs ys (all_grown task block middle last xs k.0 h.1) k.2,
+)
+offered_both task block xs ys first middle last Same Full n h k = (
+  grows_by first middle last (same_grows first middle h.0) k.0,
+  left_more task block last xs ys k.1,
+)
+offered_both task block xs ys first middle last Grown Same n h k = (
+  grows_by first middle last h.0 (same_grows middle last k.0),
+  subst (λ (ps : List PoolPoint). length first < length ps) (sym k.0) h.1,
+  both_in task block last xs ys
+      (all_grown task block middle last xs (same_grows middle last k.0) h.2) k.1,
+)
+offered_both task block xs ys first middle last Grown Grown n h k = (
+  grows_by first middle last h.0 k.0,
+  omega (arith, h.1, k.1),
+  both_in task block last xs ys (all_grown task block middle last xs k.0 h.2) k.2,
+)
+offered_both task block xs ys first middle last Grown Full n h k = (
+  grows_by first middle last h.0 k.0,
+  left_more task block last xs ys k.1,
+)
+offered_both task block xs ys first middle last Full next n h k = absurd (n refl)
+
+-- nothing was offered
+pub offered_none : (task : Task) (block : ℕ) (points : List PoolPoint) → IsOffered task block [] points points Same
+offered_none task block points =
+    (refl, All-nil (λ (q : BlockPoint). IsGood task block q.values.items → IsIn points block q.values.items))
+
+-- one point more of a list
+pub offered_more : (task : Task) (block : ℕ) (brought : List BlockPoint) (at : ℕ) (p : BlockPoint)
+    (first middle last : List PoolPoint) (growth next : Growth) → at < length brought → p ≡ get_or brought at p
+    → growth ≢ Full → IsOffered task block (take at brought) first middle growth
+    → IsOffered task block (p ∷ []) middle last next
+    → IsOffered task block (take (at + 1) brought) first last (joint growth next)
+offered_more task block brought at p first middle last growth next l e n h k =
+    subst (λ (ps : List BlockPoint). IsOffered task block ps first last (joint growth next))
+    (sym (take_more brought at p l ∙ ap (λ (q : BlockPoint). take at brought ++ q ∷ []) (sym e)))
+    (offered_both task block (take at brought) (p ∷ []) first middle last growth next n h k)
+
+-- one point, by what adding it came to
+pub offered_one : (task : Task) (block : ℕ) (p : BlockPoint) (before after : List PoolPoint) (put : Option Added)
+    → IsPut task.program task.kept block p.values.items before after put
+    → IsOffered task block (p ∷ []) before after (growth_of put)
+offered_one task block p before after None t = dropped task block p before after t
+offered_one task block p before after (Some (New id)) t = added_new task block p before after id t
+offered_one task block p before after (Some (Known id)) t = added_known task block p before after id t
+offered_one task block p before after (Some NoRoom) t = added_full task block p before after t
+
+same_full : ¬ (Same ≡ Full)
+same_full e = cc
+
+grown_full : ¬ (Grown ≡ Full)
+grown_full e = cc
+
+-- a full pool leaves out a point of the whole list
+pub offered_cut : (task : Task) (block : ℕ) (brought : List BlockPoint) (n : ℕ) (first last : List PoolPoint)
+    (growth : Growth) → growth ≡ Full → IsOffered task block (take n brought) first last growth
+    → IsOffered task block brought first last growth
+offered_cut task block brought n first last Same e h = absurd (same_full e)
+offered_cut task block brought n first last Grown e h = absurd (grown_full e)
+offered_cut task block brought n first last Full e h = (h.0, left_whole task block last brought n h.1)

@@ -1,0 +1,25 @@
+use Rattle.std.proofs.Common.{◌≡◌, ◌∷◌, ◌++◌, List, ℕ, sym, subst, append_assoc}
+use lib.Chars.{codes}
+use Rattle.cip_numerals.specs.NumberText.{natural_text}
+use Rattle.cip_report.specs.Writing.{Writes}
+use Rattle.cip_report.proofs.WritingLemmas.{first_of_three, second_of_three, third_of_three}
+use Rattle.cip_report.proofs.SelfLines.{sizes_parts}
+use Rattle.cip_report.proofs.drawn.write_sizes.Goals as goal
+
+pub returns-in_err-write_digits-clause-taken : goal.returns-in_err-write_digits-clause-taken
+returns-in_err-write_digits-clause-taken g c =
+    rw (sizes_parts c.args.drawn.seed c.args.drawn.columns c.args.drawn.rows)
+    (first_of_three c.from_residual.result _ _ c.args.buffer.now (codes "self " ++ natural_text c.args.drawn.seed) (32 ∷ natural_text c.args.drawn.columns) (32 ∷ natural_text c.args.drawn.rows) _
+    c.from_residual.ensures.0 c.in_err-write_digits.ensures.taken)
+
+pub returns-in_err-write_digits-2-clause-taken : goal.returns-in_err-write_digits-2-clause-taken
+returns-in_err-write_digits-2-clause-taken g c =
+    rw (sizes_parts c.args.drawn.seed c.args.drawn.columns c.args.drawn.rows)
+    (second_of_three c.from_residual-in_err-write_digits-2.result _ _ _ c.args.buffer.now (codes "self " ++ natural_text c.args.drawn.seed) (32 ∷ natural_text c.args.drawn.columns) (32 ∷ natural_text c.args.drawn.rows) _ _
+    c.from_residual-in_err-write_digits-2.ensures.0 c.in_ok-write_digits.ensures.taken c.in_err-write_digits-2.ensures.taken)
+
+pub returns-clause-taken : goal.returns-clause-taken
+returns-clause-taken g c =
+    rw (sizes_parts c.args.drawn.seed c.args.drawn.columns c.args.drawn.rows)
+    (third_of_three c.write_digits-3.result _ _ _ _ c.args.buffer.now (codes "self " ++ natural_text c.args.drawn.seed) (32 ∷ natural_text c.args.drawn.columns) (32 ∷ natural_text c.args.drawn.rows) _ _ _
+    c.in_ok-write_digits.ensures.taken c.in_ok-write_digits-2.ensures.taken c.write_digits-3.ensures.taken)

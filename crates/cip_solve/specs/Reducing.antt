@@ -1,0 +1,33 @@
+-- What is searched in place of a program.
+use Rattle.std.specs.Prelude.{◌≡◌, Bool, true, false, Option, None, Some}
+use Rattle.cip_problem.specs.Program.{Program}
+use Rattle.cip_problem.specs.WellFormed.{IsWellFormed}
+use Rattle.cip_reductions.specs.NarrowedPrograms.{IsInfeasible}
+use Rattle.cip_compaction.specs.declared.presolved.Presolved.{Presolved}
+use Rattle.cip_compaction.specs.PresolvedPrograms.{IsPresolved, IsUnchanged}
+use Rattle.cip_core.specs.Beginning.{AreNearColumns}
+use Rattle.cip_core.specs.CoreStates.{CoreState}
+
+-- a reduced program may be searched in place of a program; where the search is plain it is the program itself
+pub record CanBeSearched (plain : Bool) (program : Program) (presolved : Presolved) : Type 0 where
+  pub back : IsPresolved program presolved
+  pub near : AreNearColumns presolved.reduced
+  pub same : plain ≡ true → IsUnchanged program presolved
+
+-- a reduced program to be searched, or none, as no point is feasible; a plain search always has one
+abbrev pub IsReducedFor : (plain : Bool) → Program → Option Presolved → Type 0
+IsReducedFor plain program None = (plain ≡ false) × IsInfeasible program
+IsReducedFor plain program (Some presolved) = CanBeSearched plain program presolved
+
+-- a core searches what presolve made of its program
+pub record IsOfReduced (core : CoreState) (presolved : Presolved) : Type 0 where
+  pub back : IsPresolved core.program presolved
+  pub reduced_is : core.reduced ≡ presolved.reduced
+  pub steps_are : core.steps ≡ presolved.steps
+  pub formed : IsWellFormed core.program
+  pub left : IsWellFormed core.reduced
+
+-- a search is plain: no plugin is asked, and the program is searched itself
+pub record IsPlain (asks : Bool) (program : Program) (presolved : Presolved) : Type 0 where
+  pub unasked : asks ≡ false
+  pub same : IsUnchanged program presolved
