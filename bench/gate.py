@@ -5,6 +5,8 @@
     bench/gate.py NAME..       the same for these crates and those below them (`rt ci --anew NAME..`)
     bench/gate.py --kept ..    without --anew: only what earlier runs on this machine have not passed
 
+Where the kit's `rt ci` knows no --anew, it proves all from nothing, and takes no names.
+
 Each check is a process of its own. While the gate runs, the processes below it are looked at four times a second, and
 what each has used of a processor is counted for the crate that it is called with: for its wrong bodies where it runs
 in a copy that such a body is tried in, for its tests where it checks or compiles these, else for its proof (with the
@@ -92,7 +94,10 @@ def table(checks, whole):
 
 def main(words):
     given = [it for it in words if it != "--kept"]
-    anew = [] if "--kept" in words else ["--anew"]
+    # (a kit whose `rt ci` keeps nothing has no such word: it takes neither names nor --kept)
+    help_text = subprocess.run(["rt", "help"], capture_output=True, text=True, check=False)
+    knows = "--anew" in help_text.stdout + help_text.stderr
+    anew = ["--anew"] if knows and "--kept" not in words else []
     begun = time.time()
     run = subprocess.Popen(["rt", "ci", *anew, *given], cwd=TOP, stdin=subprocess.DEVNULL)
     checks = watch(run)

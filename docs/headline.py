@@ -58,6 +58,16 @@ class File:
     reexports: dict = field(default_factory=dict)
 
 
+def passed_on(crate, name):
+    """The path that a crate passes on by this name from a crate below it, if it does."""
+    lib = CRATES / crate / "specs" / "Lib.antt"
+    for line in lib.read_text().split("\n") if lib.is_file() else ():
+        found = re.match(r"^pub use (Rattle\.\S+)$", line)
+        if found and found[1].split(".")[-1] == name:
+            return found[1]
+    return None
+
+
 def module_of(path):
     """The crate and the file of a module path, its place in code where it is a type of code, or None for a library."""
     steps = path.split(".")
@@ -65,6 +75,10 @@ def module_of(path):
         return None
     if steps[3] == "declared":
         return ("code", steps[1], ".".join(steps[4:6]))
+    if not (CRATES / steps[1] / "specs" / ("/".join(steps[3:]) + ".antt")).is_file():
+        below = passed_on(steps[1], steps[3])
+        if below:
+            return module_of(".".join([below, *steps[4:]]))
     return ("specs", steps[1], "/".join(steps[3:]))
 
 

@@ -11,10 +11,10 @@ use Rattle.cip_report.specs.Answers.{AnswerFits, figures_of, status_of}
 use Rattle.cip_report.specs.declared.figures.Ended.{Ended}
 use Rattle.cip_report.specs.declared.figures.Ended.TheVariants.{NoMemory as LacksMemory}
 use Rattle.cip_report.specs.declared.figures.Answer.{Answer}
-use Rattle.cip_endings.specs.AnswerOf.{answer_of}
-use Rattle.cip_core.specs.Beginning.{root_value}
+use Rattle.cip_solve.specs.AnswerOf.{answer_of}
+use Rattle.cip_solve.specs.Beginning.{root_value}
 use Rattle.cip_solve.specs.Logs.{numbers_of}
-use Rattle.cip_kits.specs.Kits.{Stock}
+use Rattle.cip_solve.specs.Kits.{Stock}
 use Rattle.cip_report.specs.Traces.{kept_lines}
 use Rattle.cip_solve.specs.KitsServed.{is_alone, IsLeftAlone, IsKitAfter}
 use Rattle.cip_solve.specs.Solved.{IsSolved}

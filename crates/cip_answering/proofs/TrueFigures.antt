@@ -6,7 +6,7 @@ use Rattle.cip_problem.specs.Program.{Program}
 use Rattle.cip_problem.specs.WellFormed.{IsWellFormed}
 use Rattle.cip_problem.specs.Log.{Entry}
 use Rattle.cip_leaves.specs.Searched.{NoMore}
-use Rattle.cip_node_bounds.specs.declared.relaxed.Mark.{Mark}
+use Rattle.cip_solve.specs.Mark.{Mark}
 use Rattle.cip_search.specs.SearchEnds as ends
 use Rattle.cip_search.specs.SearchAnswers.{TellsBound}
 use Rattle.cip_answers.specs.Figures.{Status, Figures, Held as PrintedHeld, Wide as PrintedWide}
@@ -17,14 +17,14 @@ use Rattle.cip_search.proofs.TrueFigures.{figures_are_true}
 use Rattle.cip_model.specs.declared.verdicts.Place.TheVariants.{Row, Cost}
 use Rattle.cip_report.specs.declared.figures.Ended.{Ended}
 use Rattle.cip_report.specs.declared.figures.Ended.TheVariants.{Optimal, Infeasible, Unbounded, Wide, NodeLimit, Gap, NoMemory}
-use Rattle.cip_leaf.specs.declared.answers.Shown.{Shown}
-use Rattle.cip_leaf.specs.declared.answers.Shown.TheVariants.{Place, Moves}
+use Rattle.cip_solve.specs.Shown.{Shown}
+use Rattle.cip_solve.specs.Shown.TheVariants.{Place, Moves}
 use Rattle.cip_report.specs.declared.figures.Held.{Held}
 use Rattle.cip_report.specs.declared.figures.Answer.{Answer}
 use Rattle.cip_report.specs.Answers.{status_of, overflow_of, printed_held, figures_of}
-use Rattle.cip_leaf.specs.LeafAnswers.{shown_as}
-use Rattle.cip_endings.specs.AnswerOf.{ended_of, held_of, answer_of}
-use Rattle.cip_core.specs.Beginning.{root_value}
+use Rattle.cip_solve.specs.LeafAnswers.{shown_as}
+use Rattle.cip_solve.specs.AnswerOf.{ended_of, held_of, answer_of}
+use Rattle.cip_solve.specs.Beginning.{root_value}
 use Rattle.cip_solve.specs.Solved.{IsSolvedBy}
 
 overflow_same : (rows : List (List ℕ)) (shown : Shown) → overflow_at rows (shown_as shown) ≡ overflow_of rows shown

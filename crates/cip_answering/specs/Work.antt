@@ -10,16 +10,16 @@ use Rattle.cip_problem.specs.Log.{Entry}
 use Rattle.cip_leaves.specs.Searched.{IsLeast, IsCovered, IsOfOpen, IsOfParked}
 use Rattle.cip_search.specs.SearchEnds as ends
 use Rattle.cip_search.specs.SearchAnswers.{IsParkedLast}
-use Rattle.cip_node_bounds.specs.declared.relaxed.Mark.{Mark}
+use Rattle.cip_solve.specs.Mark.{Mark}
 use Rattle.cip_answers.specs.Figures.{Status, Infeasible, Unbounded, NoMemory, Figures}
 use Rattle.cip_search.specs.Headline.{cost_of_printed}
 use Rattle.cip_search.specs.Printed.{figures_of}
 use Rattle.cip_report.specs.declared.figures.Ended.TheVariants.{NoMemory as LacksMemory}
 use Rattle.cip_report.specs.declared.figures.Answer.{Answer}
-use Rattle.cip_endings.specs.AnswerOf.{answer_of}
-use Rattle.cip_core.specs.Beginning.{root_value}
+use Rattle.cip_solve.specs.AnswerOf.{answer_of}
+use Rattle.cip_solve.specs.Beginning.{root_value}
 use Rattle.cip_report.specs.Traces.{kept_lines}
-use Rattle.cip_kits.specs.Kits.{Stock}
+use Rattle.cip_solve.specs.Kits.{Stock}
 use Rattle.cip_solve.specs.KitsServed.{is_alone, IsKitAfter}
 use Rattle.cip_solve.specs.Solved.{IsShownBeside, IsSolvedBy}
 use Rattle.cip_solve.specs.declared.logs.Log.{Log}

@@ -8,7 +8,7 @@ ghost use Rattle.cip_words.specs.Jobs.{usual_limits};
 ghost use Rattle.cip_report.specs.Answers.{figures_of, AnswerFits};
 ghost use Rattle.cip_report.specs.Drawn.{drawn_of};
 ghost use Rattle.cip_report.specs.Traces.{kept_lines};
-ghost use Rattle.cip_kits.specs.Kits.{stock_of, IsFew};
+ghost use Rattle.cip_solve.specs.Kits.{stock_of, IsFew};
 ghost use Rattle.cip_answering.specs.Answering.{limits_of, self_told};
 ghost use Rattle.cip_answering.specs.Saying.{Says};
 ghost use Rattle.cip_answering.specs.Work.{Searched, Works};

@@ -1,2 +1,3 @@
 pub mod AnswerTexts
 mod Tried
+pub mod PassedOn

@@ -3,8 +3,8 @@ use lib.Chars.{codes}
 use Rattle.std.specs.Prelude.{◌≡◌, length, map, IfSome, ℕ, Bool, true, false, List, [], ◌∷◌, ◌++◌, Option, None, Some, ⊤}
 use Rattle.cip_rational.specs.Rational.{ℚ}
 use Rattle.cip_numerals.specs.NumberText.{natural_text, fraction_text}
-use Rattle.cip_problem.specs.Program.{Program}
-use Rattle.cip_problem.specs.Choices.{is_open}
+use Rattle.cip_leaves.specs.Program.{Program}
+use Rattle.cip_leaves.specs.Choices.{is_open}
 use Rattle.cip_leaves.specs.Leaf.{at_wholes, Leaf}
 
 -- what overflows of a leaf: a sum of the row of this name, or of the cost; or so many moves come to one out of range

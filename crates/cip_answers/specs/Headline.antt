@@ -1,9 +1,9 @@
 -- What true figures say of a program, one by one: the point, the bound, and that both agree; and the ray.
 use Rattle.std.specs.Prelude.{◌≡◌, Bool, true, false, List, Some}
 use Rattle.cip_rational.specs.Rational.{ℚ, ◌<ℚ◌}
-use Rattle.cip_problem.specs.Program.{Program}
-use Rattle.cip_problem.specs.Points.{IsFeasible, cost_of, printed}
-use Rattle.cip_linear.specs.Falling.{FallsWithoutEnd}
+use Rattle.cip_leaves.specs.Program.{Program}
+use Rattle.cip_leaves.specs.Points.{IsFeasible, cost_of, printed}
+use Rattle.cip_leaves.specs.Falling.{FallsWithoutEnd}
 use Rattle.cip_answers.specs.Figures.{Figures, Held}
 
 -- a printed cost is better than another: it is more where the program maximises, and less where it minimises

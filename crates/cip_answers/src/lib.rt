@@ -5,6 +5,8 @@
 
 ghost use Rattle.cip_answers.specs.Statements.{AnswerTellsFigures, FixedTextsStandApart, Examples};
 
+pub use cip_leaves::{Move, Stand};
+
 /// The text of an answer tells its figures: two figures that have one text, for the same names, are the same, where
 /// the point of each has a value for each column, the leaf one for each whole column and a choice for each
 /// semi-continuous one, and after infeasible there is neither a point nor a bound.

@@ -15,6 +15,10 @@ mod tests;
 mod values;
 
 pub use basis::Basis;
+pub use cip_cert::Scratch;
+pub use cip_frac::Frac;
+pub use cip_guess::Standing;
+pub use cip_rows::RowPool;
 pub use problem::Problem;
 pub use safe::{Safe, safe_bound};
 pub use shown::{Shown, show};

@@ -20,3 +20,4 @@ pub mod StepCases
 pub mod Stretches
 pub mod Tried
 pub mod Turning
+pub mod PassedOn

@@ -2,7 +2,7 @@
 use Rattle.std.proofs.Common.{◌≡◌, ◌≢◌, ◌⊎◌, ℕ, zero, suc, ◌+◌, ◌-◌, ◌^◌, ◌<◌, ◌≤◌, Bool, true, false, cond, List, [], length, get_or, Option, None, Some, refl, sym, ap, ◌∙◌, subst, inl, inr, arith}
 use Rattle.std.proofs.lemmas.Bool.{cases_lt}
 use Rattle.std.proofs.lemmas.Option.{slice_get-get_or}
-use Rattle.cip_linear.specs.LinearProgram.{LinearProgram, IsProper}
+use Rattle.cip_dictionary.specs.LinearProgram.{LinearProgram, IsProper}
 use Rattle.cip_dictionary.specs.Dictionary.{Dictionary, size, stand}
 use Rattle.cip_dictionary.specs.Exchange.{after}
 use Rattle.cip_dictionary.specs.FirstState.{first_operations}

@@ -3,7 +3,7 @@ use Rattle.std.proofs.Common.{◌≡◌, ◌≢◌, ℕ, ◌<◌, Bool, true, fa
 use Rattle.std.proofs.lemmas.Bool.{true≢false, and_parts, eq-eqb, ne_eqb, cases_eq}
 use Rattle.std.proofs.lemmas.Option.{none-some, same_Some}
 use Rattle.cip_rational.specs.Rational.{ℚ, zeroℚ, is_zero}
-use Rattle.cip_problem.specs.Box.{sides_at, is_between}
+use Rattle.cip_dictionary.specs.Box.{sides_at, is_between}
 use Rattle.cip_dictionary.specs.Dictionary.{Dictionary, size, stand, is_basic, entry, cost_entry, value, CanStand, IsConsistent}
 use Rattle.cip_dictionary.specs.Exchange.{CanExchange, CanFlip, CanMove}
 use Rattle.cip_dictionary.specs.declared.moves.Stand.{Stand}

@@ -6,11 +6,11 @@ use Rattle.std.proofs.lemmas.Bool.{lt-ltb, le-ltb}
 use Rattle.cip_rational.specs.Rational.{ℚ, ◌+ℚ◌, ◌*ℚ◌, zeroℚ}
 use Rattle.cip_rational.specs.Sums.{dot}
 use Rattle.cip_rational.proofs.Rational.Ring.{+ℚ-zero, +ℚ_assoc}
-use Rattle.cip_problem.specs.Program.{Sides, Row, no_row}
-use Rattle.cip_problem.specs.Activity.{activity, value_at}
-use Rattle.cip_problem.specs.Box.{sides_at, no_sides}
-use Rattle.cip_linear.specs.LinearProgram.{LinearProgram, IsProper}
-use Rattle.cip_linear.specs.Multipliers.{OnVariables, paired, activities, extended, IsUsed, AllUsed, row_sides, UsesSides, SumsTo}
+use Rattle.cip_dictionary.specs.Program.{Sides, Row, no_row}
+use Rattle.cip_dictionary.specs.Activity.{activity, value_at}
+use Rattle.cip_dictionary.specs.Box.{sides_at, no_sides}
+use Rattle.cip_dictionary.specs.LinearProgram.{LinearProgram, IsProper}
+use Rattle.cip_dictionary.specs.Multipliers.{OnVariables, paired, activities, extended, IsUsed, AllUsed, row_sides, UsesSides, SumsTo}
 use Rattle.cip_dictionary.specs.Tables.{table, total, form}
 use Rattle.cip_dictionary.specs.Dictionary.{size, cost_entry, Solves}
 use Rattle.cip_dictionary.specs.FirstState.{is_column, row_number}

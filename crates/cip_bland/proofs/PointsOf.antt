@@ -7,12 +7,12 @@ use Rattle.std.proofs.lemmas.Bool.{le-ltb}
 use Rattle.cip_rational.specs.Rational.{ℚ, ◌+ℚ◌, ◌*ℚ◌, zeroℚ, ◌<ℚ◌}
 use Rattle.cip_rational.specs.Sums.{dot}
 use Rattle.cip_rational.proofs.Rational.Ring.{+ℚ-zero, zero-+ℚ, +ℚ_assoc}
-use Rattle.cip_problem.specs.Program.{Sides, Row, no_row}
-use Rattle.cip_problem.specs.Activity.{activity, value_at}
-use Rattle.cip_problem.specs.Box.{Between, sides_at, no_sides}
-use Rattle.cip_problem.specs.Points.{IsSatisfied}
-use Rattle.cip_linear.specs.LinearProgram.{LinearProgram, IsProper, IsPoint, IsRay, StaysBetween}
-use Rattle.cip_linear.specs.Multipliers.{row_sides}
+use Rattle.cip_dictionary.specs.Program.{Sides, Row, no_row}
+use Rattle.cip_dictionary.specs.Activity.{activity, value_at}
+use Rattle.cip_dictionary.specs.Box.{Between, sides_at, no_sides}
+use Rattle.cip_dictionary.specs.Points.{IsSatisfied}
+use Rattle.cip_dictionary.specs.LinearProgram.{LinearProgram, IsProper, IsPoint, IsRay, StaysBetween}
+use Rattle.cip_dictionary.specs.Multipliers.{row_sides}
 use Rattle.cip_dictionary.specs.Tables.{table, total, form}
 use Rattle.cip_dictionary.specs.Dictionary.{size, cost_entry, Solves}
 use Rattle.cip_dictionary.specs.FirstState.{first, is_column, row_number, extended}

@@ -8,8 +8,8 @@ use Rattle.cip_rational.proofs.Rational.Ring.{+ℚ-zero, zero-*ℚ, *ℚ_assoc, 
 use Rattle.cip_rational.proofs.Rational.Inverse.{*ℚ-inverse}
 use Rattle.cip_rational.proofs.Rational.Order.{eq-or-lt}
 use Rattle.cip_rational.proofs.Linear.{linear_le, linear_lt, linear_same}
-use Rattle.cip_problem.specs.Program.{Sides}
-use Rattle.cip_problem.specs.Box.{sides_at}
+use Rattle.cip_dictionary.specs.Program.{Sides}
+use Rattle.cip_dictionary.specs.Box.{sides_at}
 use Rattle.cip_dictionary.specs.Dictionary.{Dictionary, size, stand, is_basic, entry, cost_entry, value, standing_value, CanStand, IsConsistent}
 use Rattle.cip_dictionary.specs.Exchange.{moved, moved_cost, step, other_stand, way, after}
 use Rattle.cip_dictionary.specs.declared.moves.Stand.{Stand}

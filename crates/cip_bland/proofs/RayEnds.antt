@@ -6,9 +6,9 @@ use Rattle.cip_rational.specs.Rational.{ℚ, ◌*ℚ◌, zeroℚ, oneℚ, ◌≤
 use Rattle.cip_rational.proofs.Rational.Ring.{zero-*ℚ, *ℚ-zero, *ℚ_comm}
 use Rattle.cip_rational.proofs.Rational.Order.{≤ℚ_of_eq, ≤ℚ_of_lt, lt_of_test, le_of_lt_test, eq-or-lt}
 use Rattle.cip_rational.proofs.Linear.{linear_le, linear_lt}
-use Rattle.cip_problem.specs.Program.{Sides}
-use Rattle.cip_problem.specs.Box.{sides_at}
-use Rattle.cip_linear.specs.LinearProgram.{LinearProgram, IsProper, StaysBetween, IsRay}
+use Rattle.cip_dictionary.specs.Program.{Sides}
+use Rattle.cip_dictionary.specs.Box.{sides_at}
+use Rattle.cip_dictionary.specs.LinearProgram.{LinearProgram, IsProper, StaysBetween, IsRay}
 use Rattle.cip_dictionary.specs.Tables.{form}
 use Rattle.cip_dictionary.specs.Dictionary.{Dictionary, size, is_basic, entry, cost_entry, Solves, IsConsistent}
 use Rattle.cip_dictionary.specs.ProgramState.{first_of_program}

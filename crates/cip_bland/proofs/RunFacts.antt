@@ -2,7 +2,7 @@
 use Rattle.std.proofs.Common.{◌≡◌, ℕ, zero, suc, List, [], ◌∷◌, ◌++◌, length, slice_get, cond, Bool, true, false, Option, None, Some, refl, sym, ap, ◌∙◌, subst, arith}
 use Rattle.std.proofs.lemmas.Option.{none-some, same_Some}
 use Rattle.std.proofs.lemmas.List.{append_assoc}
-use Rattle.cip_linear.specs.LinearProgram.{LinearProgram, IsProper}
+use Rattle.cip_dictionary.specs.LinearProgram.{LinearProgram, IsProper}
 use Rattle.cip_dictionary.specs.Dictionary.{Dictionary}
 use Rattle.cip_dictionary.specs.Exchange.{after}
 use Rattle.cip_dictionary.specs.FirstState.{first_operations}

@@ -1,7 +1,7 @@
 -- Each outcome of the rule with its reasons, and that it is sound.
 use Rattle.std.proofs.Common.{◌≡◌, ℕ, ◌<◌, Option, None, Some, refl, ◌∙◌, subst}
 use Rattle.std.specs.Bool.{⊤}
-use Rattle.cip_linear.specs.LinearProgram.{LinearProgram, IsProper}
+use Rattle.cip_dictionary.specs.LinearProgram.{LinearProgram, IsProper}
 use Rattle.cip_dictionary.specs.Tables.{least}
 use Rattle.cip_dictionary.specs.Dictionary.{Dictionary, size, IsConsistent}
 use Rattle.cip_dictionary.specs.Exchange.{CanMove}

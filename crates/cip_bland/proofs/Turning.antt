@@ -5,9 +5,9 @@ use Rattle.std.proofs.lemmas.Option.{none-some}
 use Rattle.cip_rational.specs.Rational.{◌*ℚ◌, zeroℚ, ◌≤ℚ◌, ◌<ℚ◌}
 use Rattle.cip_rational.proofs.Rational.Ring.{zero-*ℚ}
 use Rattle.cip_rational.proofs.Rational.Order.{≤ℚ_refl, ≤ℚ_trans, ≤ℚ_antisymm, <ℚ_irrefl}
-use Rattle.cip_problem.specs.Box.{Between, sides_at}
-use Rattle.cip_problem.proofs.Box.SideTests.{test_of_between}
-use Rattle.cip_linear.specs.LinearProgram.{LinearProgram, IsProper}
+use Rattle.cip_dictionary.specs.Box.{Between, sides_at}
+use Rattle.cip_dictionary.proofs.PassedOn.{test_of_between}
+use Rattle.cip_dictionary.specs.LinearProgram.{LinearProgram, IsProper}
 use Rattle.cip_dictionary.specs.Dictionary.{Dictionary, size, stand, is_basic, entry, cost_entry, value}
 use Rattle.cip_dictionary.specs.Exchange.{exchanged, after, CanExchange}
 use Rattle.cip_dictionary.specs.ProgramState.{first_of_program}

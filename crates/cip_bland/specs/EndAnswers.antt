@@ -2,11 +2,11 @@
 -- ray and the cost.
 use Rattle.std.specs.Prelude.{ℕ, ◌+◌, ◌-◌, ◌==◌, nat_lt, List, [], ◌∷◌, ◌++◌, length, map, unwrap_or, slice_index_or, if◌then◌else◌}
 use Rattle.cip_rational.specs.Rational.{ℚ, negate, zeroℚ, oneℚ, lt_test, is_zero}
-use Rattle.cip_problem.specs.Program.{Row, no_row}
-use Rattle.cip_problem.specs.Box.{sides_at}
-use Rattle.cip_linear.specs.LinearProgram.{LinearProgram}
-use Rattle.cip_linear.specs.Aggregate.{Part, used_side}
-use Rattle.cip_linear.specs.Multipliers.{column_part}
+use Rattle.cip_dictionary.specs.Program.{Row, no_row}
+use Rattle.cip_dictionary.specs.Box.{sides_at}
+use Rattle.cip_dictionary.specs.LinearProgram.{LinearProgram}
+use Rattle.cip_dictionary.specs.Aggregate.{Part, used_side}
+use Rattle.cip_dictionary.specs.Multipliers.{column_part}
 use Rattle.cip_dictionary.specs.Tables.{table, each}
 use Rattle.cip_dictionary.specs.Dictionary.{Dictionary, is_basic, entry, cost_entry, value}
 use Rattle.cip_dictionary.specs.FirstState.{first_operations}

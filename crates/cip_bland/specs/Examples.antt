@@ -1,8 +1,8 @@
 -- The definitions tried on programs that were worked out by hand.
 use Rattle.std.specs.Prelude.{◌≡◌, ℕ, ◌^◌, pos, negsuc, List, [], ◌∷◌, length, None, Some}
 use Rattle.cip_rational.specs.Rational.{ℚ, integer, ratio, zeroℚ, oneℚ, negate}
-use Rattle.cip_problem.specs.Program.{Term, Sides, Row}
-use Rattle.cip_linear.specs.LinearProgram.{LinearProgram}
+use Rattle.cip_dictionary.specs.Program.{Term, Sides, Row}
+use Rattle.cip_dictionary.specs.LinearProgram.{LinearProgram}
 use Rattle.cip_dictionary.specs.Examples.{from, small, turned}
 use Rattle.cip_dictionary.specs.FirstState.{first}
 use Rattle.cip_dictionary.specs.ProgramState.{first_of_program}

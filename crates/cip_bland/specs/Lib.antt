@@ -6,3 +6,13 @@ pub mod NoRepeat
 pub mod Rule
 pub mod StateEnds
 pub mod Statements
+pub use Rattle.cip_dictionary.specs.Dictionary
+pub use Rattle.cip_dictionary.specs.declared.places.EntryPlace
+pub use Rattle.cip_dictionary.specs.Exchange
+pub use Rattle.cip_dictionary.specs.FirstState
+pub use Rattle.cip_dictionary.specs.declared.places.Line
+pub use Rattle.cip_dictionary.specs.declared.moves.Move
+pub use Rattle.cip_dictionary.specs.Operations
+pub use Rattle.cip_dictionary.specs.ProgramState
+pub use Rattle.cip_dictionary.specs.declared.moves.Stand
+pub use Rattle.cip_dictionary.specs.Tables

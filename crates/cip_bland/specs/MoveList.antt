@@ -3,7 +3,7 @@
 -- the ways are formed first, by rising number; the first whose length is out of range ends the list, with its move.
 -- Where no move may be made any more no way is formed, nor at a state that is an end.
 use Rattle.std.specs.Prelude.{ℕ, zero, suc, ◌==◌, Bool, List, [], ◌∷◌, Option, None, Some, is_some, if◌then◌else◌}
-use Rattle.cip_problem.specs.Box.{sides_at}
+use Rattle.cip_dictionary.specs.Box.{sides_at}
 use Rattle.cip_dictionary.specs.Tables.{least, first_of}
 use Rattle.cip_dictionary.specs.Dictionary.{Dictionary, size, stand, is_basic, value, standing_value}
 use Rattle.cip_dictionary.specs.Exchange.{other_stand, after}

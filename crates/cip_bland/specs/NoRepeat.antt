@@ -1,6 +1,6 @@
 -- No state comes twice in the list of moves from a state of a program: so it ends, whatever the limit.
 use Rattle.std.specs.Prelude.{◌≡◌, ◌≢◌, ℕ, suc, ◌+◌, ◌^◌, ◌<◌, ◌≤◌, None, length}
-use Rattle.cip_linear.specs.LinearProgram.{LinearProgram, IsProper}
+use Rattle.cip_dictionary.specs.LinearProgram.{LinearProgram, IsProper}
 use Rattle.cip_dictionary.specs.Dictionary.{Dictionary, size, stand}
 use Rattle.cip_dictionary.specs.Exchange.{after}
 use Rattle.cip_dictionary.specs.declared.moves.Move.{Move}

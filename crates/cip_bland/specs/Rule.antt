@@ -8,8 +8,8 @@
 --                               at a side, the state is an end
 use Rattle.std.specs.Prelude.{ℕ, zero, suc, ◌==◌, Bool, true, false, ◌&&◌, not, Option, None, Some, if◌then◌else◌}
 use Rattle.cip_rational.specs.Rational.{ℚ, lt_test, is_zero}
-use Rattle.cip_problem.specs.Program.{Sides}
-use Rattle.cip_problem.specs.Box.{sides_at, sides_equal, at_least, is_between}
+use Rattle.cip_dictionary.specs.Program.{Sides}
+use Rattle.cip_dictionary.specs.Box.{sides_at, sides_equal, at_least, is_between}
 use Rattle.cip_dictionary.specs.Tables.{least}
 use Rattle.cip_dictionary.specs.Dictionary.{Dictionary, size, stand, is_basic, entry, cost_entry, value}
 use Rattle.cip_dictionary.specs.Exchange.{step, way}

@@ -1,9 +1,9 @@
 -- The main laws, each as one statement: the functions of `src/lib.rt` have them as contracts.
 use Rattle.std.specs.Prelude.{◌≡◌, ◌≢◌, ℕ, ◌≤◌, ◌<◌, List, length, None, Some, slice_get, All, ⊤}
 use Rattle.cip_rational.specs.Rational.{ℚ, zeroℚ, ◌<ℚ◌}
-use Rattle.cip_linear.specs.LinearProgram.{LinearProgram, IsProper, IsPoint, HasNoPoint, IsOptimal, IsRay}
-use Rattle.cip_linear.specs.Aggregate.{Inequality, aggregate, bound_of, Empties}
-use Rattle.cip_linear.specs.Multipliers.{ArePartsOf}
+use Rattle.cip_dictionary.specs.LinearProgram.{LinearProgram, IsProper, IsPoint, HasNoPoint, IsOptimal, IsRay}
+use Rattle.cip_dictionary.specs.Aggregate.{Inequality, aggregate, bound_of, Empties}
+use Rattle.cip_dictionary.specs.Multipliers.{ArePartsOf}
 use Rattle.cip_dictionary.specs.Dictionary.{Dictionary, IsConsistent}
 use Rattle.cip_dictionary.specs.Exchange.{after, CanMove}
 use Rattle.cip_dictionary.specs.Statements.{KeepsSolutions}

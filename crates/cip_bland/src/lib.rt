@@ -9,6 +9,7 @@ ghost use Rattle.cip_bland.specs.NoRepeat.{ListsEnd, AnswersEnd};
 ghost use Rattle.cip_bland.specs.StateEnds.{EndsAreSound, NamedEndsAreEnds};
 ghost use Rattle.cip_bland.specs.Statements.{FirstIsState, MovesCanBeMade, StepsAreSound, RunsAreRight, AnswersAreRight};
 
+pub use cip_dictionary::{Move, Stand};
 pub use steps::{Heading, Step};
 
 /// The first state of a linear program is one of its states: it is consistent, and has its solutions and its cost.

@@ -1,10 +1,9 @@
 -- What becomes of a point that is offered for a block: it is dropped, with the verdict on it, or added to the pool.
-use Rattle.std.specs.Prelude.{◌≡◌, ◌≢◌, ℕ, List, Option, None, Some}
+use Rattle.std.specs.Prelude.{◌≡◌, ◌≢◌, ℕ, List}
 use Rattle.cip_rational.specs.Rational.{ℚ}
 use Rattle.cip_problem.specs.Program.{Program}
 use Rattle.cip_columns.specs.PoolPoints.{PoolPoint}
 use Rattle.cip_columns.specs.ColumnPools.{IsAdded}
-use Rattle.cip_columns.specs.declared.pools.Added.{Added}
 use Rattle.cip_decomposition.specs.declared.parts.Decomposed.{Decomposed}
 use Rattle.cip_block_points.specs.BlockVerdicts.{block_verdict}
 use Rattle.cip_block_points.specs.declared.verdicts.PointVerdict.TheVariants.{Good}
@@ -17,10 +16,3 @@ IsTaken program kept block values before after (Offered added) =
     (block_verdict program kept block values ≡ Good) × IsAdded before block values after added
 IsTaken program kept block values before after (Dropped verdict) =
     (verdict ≡ block_verdict program kept block values) × (verdict ≢ Good) × (after ≡ before)
-
--- the same with no verdict told: there is no answer where it is dropped
-abbrev pub IsPut : Program → Decomposed → ℕ → List ℚ → List PoolPoint → List PoolPoint → Option Added → Type 0
-IsPut program kept block values before after None =
-    (block_verdict program kept block values ≢ Good) × (after ≡ before)
-IsPut program kept block values before after (Some added) =
-    (block_verdict program kept block values ≡ Good) × IsAdded before block values after added

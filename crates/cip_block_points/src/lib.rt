@@ -6,5 +6,5 @@ mod taking;
 mod verdicts;
 
 pub use checks::check_point;
-pub use taking::{Taken, put_point, take_point};
+pub use taking::{Taken, take_point};
 pub use verdicts::PointVerdict;

@@ -2,7 +2,7 @@
 ghost use Rattle.std.specs.Prelude.{◌≡◌, ◌<◌, length, MatchResult};
 ghost use Rattle.cip_decomposition.specs.Decompositions.{IsDecompositionOf};
 ghost use Rattle.cip_master_program.specs.KeptMasters.{ArePoolPoints};
-ghost use Rattle.cip_block_points.specs.TakenPoints.{IsTaken, IsPut};
+ghost use Rattle.cip_block_points.specs.TakenPoints.{IsTaken};
 
 use crate::checks::check_point;
 use crate::verdicts::PointVerdict;
@@ -45,32 +45,6 @@ pub fn take_point(
     }
     match pool.add(block, point) {
         Ok(added) => Ok(Taken::Offered(added)),
-        Err(error) => Err(error),
-    }
-}
-
-/// The same without the verdict: what adding the point comes to, or `None` where it is dropped.
-pub fn put_point(
-    pool: &mut ColumnPool,
-    program: &Program,
-    blocks: &Decomposed,
-    block: u32,
-    point: &BlockPoint,
-) -> Result<Option<Added>, AllocError>
-    requires made { IsDecompositionOf program.now blocks.now }
-    requires block { block < length blocks.now.subproblems.items }
-    requires points { ArePoolPoints program.now blocks.now pool.old }
-    ensures put { MatchResult result
-        (IsPut program.now blocks.now block point.now.values.items pool.old pool.new)
-        (λ _. pool.new ≡ pool.old) }
-    ensures points { ArePoolPoints program.now blocks.now pool.new }
-{
-    let verdict = check_point(program, blocks, block, point.values.as_slice());
-    if verdict != PointVerdict::Good {
-        return Ok(None);
-    }
-    match pool.add(block, point) {
-        Ok(added) => Ok(Some(added)),
         Err(error) => Err(error),
     }
 }

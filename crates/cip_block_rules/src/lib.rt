@@ -5,3 +5,5 @@
 pub mod block_examples;
 pub mod block_steps;
 pub mod blocks;
+
+pub use cip_mps_steps::numbers_are_of_names;

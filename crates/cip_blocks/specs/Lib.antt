@@ -11,3 +11,4 @@ pub mod OpenColumns
 pub mod OwnersKept
 pub mod SmallNumbers
 pub mod WordPlaces
+pub use Rattle.cip_block_rules.specs.BlockRules

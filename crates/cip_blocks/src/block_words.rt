@@ -13,9 +13,9 @@ ghost use Rattle.cip_blocks.specs.Keywords.{keyword_shown};
 use crate::word_places::{RowPlace, WordPlace};
 use crate::words::{Keyword, block_number, keyword_of};
 use cip_block_rules::block_steps::block_words_have_tests;
+use cip_block_rules::numbers_are_of_names;
 use cip_line_stream::fields_of;
 use cip_model::Program;
-use cip_mps_steps::numbers_are_of_names;
 use cip_text::Fields;
 use std::alloc::{AllocError, Global};
 

@@ -4,3 +4,4 @@ pub mod Noting
 pub mod Pools
 pub mod Serving
 pub mod Waiting
+pub mod PassedOn

@@ -17,9 +17,9 @@ use Rattle.cip_roster.specs.Turns.{IsSound}
 use Rattle.cip_roster.specs.Wished.{Ran}
 use Rattle.cip_roster.proofs.Turning.{seat_stays}
 use Rattle.cip_tree.specs.Nodes.{TakenNode}
-use Rattle.cip_core.specs.CoreStates.{CoreState, reduced_of}
-use Rattle.cip_core.specs.Later.{IsLaterAt}
-use Rattle.cip_core.proofs.Relations.{later_at_itself, later_at_further}
+use Rattle.cip_judge.specs.CoreStates.{CoreState, reduced_of}
+use Rattle.cip_judge.specs.Later.{IsLaterAt}
+use Rattle.cip_judge.proofs.PassedOn.{later_at_itself, later_at_further}
 use Rattle.cip_judge.specs.ProposalsJudged.{HaveRoom}
 use Rattle.cip_judge.specs.declared.judged.Judged.{Judged}
 use Rattle.cip_judge.specs.declared.scratches.Scratches.{Scratches}

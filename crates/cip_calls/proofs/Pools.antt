@@ -4,12 +4,12 @@ use Rattle.std.specs.Prelude.{MatchResult}
 use Rattle.cip_rational.specs.Rational.{ℚ}
 use Rattle.cip_lin.specs.declared.combos.Combo.{Combo}
 use Rattle.cip_lin.specs.declared.sides.Side.{Side}
-use Rattle.cip_cert.specs.declared.rows.PoolRow.{PoolRow}
-use Rattle.cip_cert.specs.declared.splits.SplitCut.{SplitCut}
-use Rattle.cip_rows.specs.RowPools.{Pool}
+use Rattle.cip_judge.specs.PoolRow.{PoolRow}
+use Rattle.cip_judge.specs.SplitCut.{SplitCut}
+use Rattle.cip_judge.specs.RowPools.{Pool}
 use Rattle.cip_plugin.specs.declared.proposals.Cut.{Cut}
 use Rattle.cip_tree.specs.Nodes.{TakenNode, region_of}
-use Rattle.cip_core.specs.CoreStates.{CoreState}
+use Rattle.cip_judge.specs.CoreStates.{CoreState}
 use Rattle.cip_judge.specs.ProposalsJudged.{IsCutBy, IsJudgedCut}
 use Rattle.cip_judge.specs.ReductionsJudged.{IsAfterReduction}
 use Rattle.cip_judge.specs.RowsJudged.{IsRowJudged}

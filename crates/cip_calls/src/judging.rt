@@ -14,10 +14,8 @@ ghost use Rattle.cip_calls.specs.declared.judging.Came.TheVariants.{Quiet, Accep
 
 use crate::asks::{Asks, Round};
 use crate::plugins::{Plugins, keep_guess};
-use cip_core::Core;
-use cip_domain::Side;
 use cip_events::{Event, EventKind};
-use cip_judge::{Judged, judge_cut, judge_guess, judge_reduction};
+use cip_judge::{Core, Judged, Side, judge_cut, judge_guess, judge_reduction};
 use cip_lin::Sides;
 use cip_plugin::{Cut, Given, Guess, Reduction};
 use cip_tree::Node;

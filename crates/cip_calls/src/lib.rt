@@ -10,6 +10,9 @@ mod rounds;
 mod silence;
 
 pub use asks::{Asks, Round, Turn};
+pub use cip_judge::{
+    Core, Judged, Mark, PostsolveFault, Presolved, judge_cutoff, postsolve, split_refusal,
+};
 pub use judging::Came;
 pub use laws::uses_join;
 pub use plugins::{Last, Plugins, view_of};

@@ -15,8 +15,8 @@ ghost use Rattle.cip_calls.specs.declared.judging.Came.TheVariants.{Quiet, Empti
 use crate::asks::{Asks, Round};
 use crate::judging::Came;
 use crate::plugins::{Last, Plugins, put, view_of};
-use cip_core::Core;
 use cip_events::{Event, EventKind};
+use cip_judge::Core;
 use cip_tree::Node;
 use std::alloc::{AllocError, Global};
 

@@ -26,6 +26,8 @@ mod walks;
 pub use calls::{
     aggregate_row, derive, empties, empties_over, lower_bound, lower_bound_over, reduction,
 };
+pub use cip_frac::Frac;
+pub use cip_lin::{Bounds, Row, RowFault, Sides, Term};
 pub use faults::{CutFault, FaultPlace};
 pub use laws::{
     aggregates_are_sums, bounds_are_those, rows_are_rounded_where_they_can, sides_are_those,

@@ -4,7 +4,7 @@ ghost use Rattle.std.specs.Iterator.{YieldsFirstRef, item_count};
 ghost use Rattle.cip_columns.specs.ColumnPools.{is_inside, points_inside};
 
 use crate::points::{HeldPoint, is_inside};
-use cip_lin::Bounds;
+use cip_cert::Bounds;
 use std::marker::Model;
 
 /// Whether a point that is held is one of a block, in a box of its columns.

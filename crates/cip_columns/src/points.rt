@@ -2,8 +2,8 @@
 ghost use Rattle.std.specs.Prelude.{◌≡◌, ◌↔◌, IsTrue};
 ghost use Rattle.cip_columns.specs.ColumnPools.{Serves, is_inside};
 
+use cip_cert::Sides;
 use cip_frac::Frac;
-use cip_lin::Sides;
 use std::marker::Model;
 
 /// A point that a pool holds. Contracts see its id, its block and its values.

@@ -7,9 +7,8 @@ ghost use Rattle.cip_columns.specs.PointChains.{Skips, AreLinked};
 use crate::inside::Inside;
 use crate::points::HeldPoint;
 use crate::prints::{GROUPS, group_of};
-use cip_cert::BlockPoint;
+use cip_cert::{BlockPoint, Bounds};
 use cip_frac::Frac;
-use cip_lin::Bounds;
 use std::alloc::{AllocError, Global};
 use std::marker::Model;
 

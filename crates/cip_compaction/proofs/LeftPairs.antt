@@ -20,8 +20,8 @@ use Rattle.cip_reductions.proofs.Inside.{all_long}
 use Rattle.cip_reductions.proofs.Pairing.{exact_step, infeasible_before, step_pair, pair_after, exact_step_pair, exact_pair_after}
 use Rattle.cip_reductions.proofs.Spreading.{left_back, left_onward, spread_gathered, gathered_at}
 use Rattle.cip_reductions.proofs.CompactPairs.{compacted_exact}
-use Rattle.cip_row_reading.proofs.FixedColumns.{from_rec, to_rec}
-use Rattle.cip_steps.specs.DraftParts.{IsDraft, unnamed}
+use Rattle.cip_leaving.proofs.PassedOn.{from_rec, to_rec}
+use Rattle.cip_leaving.specs.DraftParts.{IsDraft, unnamed}
 use Rattle.cip_leaving.specs.ColumnsOut.{GoesAtValue, GoesByForm, MayGo, MayAllGo, TermsIn, SourcesStay}
 use Rattle.cip_leaving.specs.SpentRows.{RowGoes, RowsGo}
 use Rattle.cip_compaction.specs.EntriesLeft.{gone_of, entries_left, old_numbers, new_numbers}

@@ -5,3 +5,4 @@ pub mod LeftPairs
 pub mod Leftovers
 pub mod MovedRows
 pub mod Unchanged
+pub mod PassedOn

@@ -3,9 +3,9 @@ ghost use Rattle.std.specs.Prelude.{◌≡◌, ◌≤◌, IfOk, length};
 ghost use Rattle.cip_problem.specs.Limits.{most_columns};
 ghost use Rattle.cip_compaction.specs.EntriesLeft.{gone_of, entries_left, old_numbers, new_numbers};
 
-use cip_equalities::ColumnForm;
 use cip_frac::Frac;
 use cip_lin::{Bounds, Choice, Choices, Sides};
+use cip_postsolve::ColumnForm;
 use std::alloc::{AllocError, Global};
 
 /// Whether each column is gone: whether it has a form. `Err` where the memory for it was refused.

@@ -1,9 +1,9 @@
 //! What is left of a program at the end of presolve, and the way back from it.
 ghost use Rattle.std.specs.Prelude.{◌≡◌, ◌≤◌, None, IfOk, length, map, replicate};
 ghost use Rattle.cip_problem.specs.Limits.{most_columns};
-ghost use Rattle.cip_model.specs.Programs.{program_from};
+ghost use Rattle.cip_leaving.specs.Programs.{program_from};
 ghost use Rattle.cip_reductions.specs.NarrowedPrograms.{IsStep, IsExactStep};
-ghost use Rattle.cip_steps.specs.DraftParts.{unnamed};
+ghost use Rattle.cip_leaving.specs.DraftParts.{unnamed};
 ghost use Rattle.cip_compaction.specs.LeftProgram.{left_program, left_columns, staying_rows, moved_row, AllMove, CanLeave};
 ghost use Rattle.cip_compaction.specs.PresolvedPrograms.{IsPresolved, IsExactlyPresolved, IsUnchanged, counted};
 
@@ -12,12 +12,9 @@ use crate::left_lists::{
     bounds_left, choices_left, costs_left, gone_of, numbers_kept, numbers_left, whole_left,
 };
 use crate::left_rows::{dropped_rows, leave_out, move_all};
-use cip_equalities::ColumnForm;
-use cip_leaving::forms_out;
+use cip_leaving::{Draft, Parts, Program, copied_rows, forms_out};
 use cip_lin::Row;
-use cip_model::{Parts, Program};
-use cip_postsolve::Steps;
-use cip_steps::{Draft, copied_rows};
+use cip_postsolve::{ColumnForm, Steps};
 use std::alloc::{AllocError, Global};
 
 /// A reduced program, how its points come back, and for each of its columns the old number.

@@ -11,3 +11,4 @@ pub mod OwnChoices
 pub mod NearColumns
 pub mod LedBack
 pub mod OfferedBack
+pub mod PassedOn

@@ -5,7 +5,7 @@ ghost use Rattle.cip_cuts.specs.Cuts.{HasWholeCosts};
 ghost use Rattle.cip_cuts.specs.Improving.{IsBoundIn};
 ghost use Rattle.cip_tree.specs.Moves.{IsNew};
 ghost use Rattle.cip_search.specs.SearchState.{HasGivenBoxes};
-ghost use Rattle.cip_postsolve.specs.StepsBack.{way_back};
+ghost use Rattle.cip_compaction.specs.StepsBack.{way_back};
 ghost use Rattle.cip_compaction.specs.PresolvedPrograms.{IsPresolved};
 ghost use Rattle.cip_core.specs.Beginning.{IsRootBound, AreNearColumns, HasNotBegun};
 ghost use Rattle.cip_core.specs.Entering.{own_region};

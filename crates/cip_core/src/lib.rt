@@ -18,6 +18,9 @@ mod tightening;
 
 pub use adding::Asked;
 pub use beginning::root_bound;
+pub use cip_compaction::{PostsolveFault, Presolved, Steps, postsolve, whole_part};
+pub use cip_model::{Program, Verdict};
+pub use cip_node_bounds::{Mark, NodeSolver, Relaxed, Start};
 pub use cores::Core;
 pub use laws::steps_compose;
 pub use offering::cost_of;

@@ -5,8 +5,7 @@ ghost use Rattle.cip_node_bounds.specs.Relaxing.{IsRelaxed};
 ghost use Rattle.cip_core.specs.CoreStates.{reduced_of, rows_lent, IsAtWork};
 
 use crate::cores::Core;
-use cip_node_bounds::{NodeSolver, Relaxed, relax_from};
-use cip_simplex::Start;
+use cip_node_bounds::{NodeSolver, Relaxed, Start, relax_from};
 use cip_tree::Node;
 use std::alloc::{AllocError, Global};
 

@@ -7,3 +7,4 @@ pub mod Rounding
 pub mod Rows
 pub mod Tried
 pub mod Splits
+pub mod PassedOn

@@ -10,4 +10,5 @@ mod parts;
 mod picking;
 mod places;
 
+pub use cip_model::Program;
 pub use parts::{Decomposed, Subproblem};

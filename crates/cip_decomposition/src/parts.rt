@@ -1,6 +1,5 @@
 //! What is kept of the blocks of a program.
-use cip_lin::{Bounds, Choices, Row};
-use cip_model::Blocks;
+use cip_model::{Blocks, Bounds, Choices, Row};
 
 /// What a block asks of its points (a pricing subproblem). Its columns are numbered from 0 by rising number in the
 /// program.

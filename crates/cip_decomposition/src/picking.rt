@@ -4,7 +4,7 @@ ghost use Rattle.cip_problem.specs.Activity.{StandsBelow};
 ghost use Rattle.cip_decomposition.specs.Numbers.{found};
 ghost use Rattle.cip_decomposition.specs.Places.{placed_row};
 
-use cip_lin::{Bounds, Choices, Row, Term};
+use cip_model::{Bounds, Choices, Row, Term};
 use std::alloc::{AllocError, Global};
 
 /// The flags at these numbers, as far as they are there.

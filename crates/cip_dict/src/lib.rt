@@ -28,6 +28,7 @@ mod whole_sums;
 mod whole_turns;
 
 pub use cip_dictionary::{EntryPlace, Line, Move, Stand};
+pub use cip_frac::Frac;
 pub use dict::Dict;
 pub use fault::{FirstFault, MoveFault, OutOfRange};
 pub use laws::{sparse_lines_tell, whole_lines_tell};

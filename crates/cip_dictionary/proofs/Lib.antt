@@ -8,3 +8,4 @@ pub mod Tables
 pub mod Tried
 pub mod Values
 pub mod Zeros
+pub mod PassedOn

@@ -7,8 +7,8 @@ use Rattle.std.proofs.lemmas.Option.{none-some, same_Some}
 use Rattle.cip_rational.specs.Rational.{ℚ, ◌+ℚ◌, ◌*ℚ◌, zeroℚ}
 use Rattle.cip_rational.specs.Sums.{dot}
 use Rattle.cip_rational.proofs.Rational.Ring.{+ℚ-zero, zero-+ℚ, zero-*ℚ, add-*ℚ, +ℚ_assoc}
-use Rattle.cip_problem.specs.Program.{Term, Row}
-use Rattle.cip_problem.specs.Activity.{activity, value_at, StandsBelow}
+use Rattle.cip_linear.specs.Program.{Term, Row}
+use Rattle.cip_linear.specs.Activity.{activity, value_at, StandsBelow}
 use Rattle.cip_linear.specs.LinearProgram.{LinearProgram, IsProper}
 use Rattle.cip_linear.specs.Aggregate.{coefficient_on}
 use Rattle.cip_dictionary.specs.Tables.{total, form}

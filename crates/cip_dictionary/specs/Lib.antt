@@ -7,3 +7,11 @@ pub mod Operations
 pub mod ProgramState
 pub mod Statements
 pub mod Tables
+pub use Rattle.cip_linear.specs.Activity
+pub use Rattle.cip_linear.specs.Aggregate
+pub use Rattle.cip_linear.specs.Box
+pub use Rattle.cip_linear.specs.BoxBound
+pub use Rattle.cip_linear.specs.LinearProgram
+pub use Rattle.cip_linear.specs.Multipliers
+pub use Rattle.cip_linear.specs.Points
+pub use Rattle.cip_linear.specs.Program

@@ -6,8 +6,7 @@ ghost use Rattle.cip_problem.specs.Choices.{met};
 ghost use Rattle.cip_domain.specs.Domain.{is_settled as is_settled_lem};
 ghost use Rattle.cip_domain.specs.Changes.{with_side, side_change, is_as_strong, would_cross, choice_after};
 
-use cip_frac::Frac;
-use cip_lin::{Choice, Side, Sides};
+use cip_lin::{Choice, Frac, Side, Sides};
 use std::marker::Model;
 
 /// A change of one column: its sides are met with others, and its choice may be made.

@@ -10,8 +10,7 @@ ghost use Rattle.cip_domain.specs.Domain.{left_sides};
 ghost use Rattle.cip_domain.specs.Halves.{CanHalve, low_sides, high_sides};
 
 use crate::changes::Change;
-use cip_frac::Frac;
-use cip_lin::{Side, Sides};
+use cip_lin::{Frac, Side, Sides};
 
 /// Whether a number isn't too far from 0.
 fn is_near(at: i128) -> bool

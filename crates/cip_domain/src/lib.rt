@@ -9,7 +9,7 @@ mod regions;
 mod stores;
 
 pub use changes::Change;
-pub use cip_lin::Side;
+pub use cip_lin::{Bounds, Choice, Choices, Frac, Side, Sides};
 pub use halves::{can_halve, choice_change, high_change, low_change};
 pub use regions::Region;
 pub use stores::{Checkpoint, DomainStore, Tightened};

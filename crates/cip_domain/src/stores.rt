@@ -12,8 +12,7 @@ ghost use Rattle.cip_domain.specs.declared.stores.Tightened.TheVariants.{Yes, Em
 use crate::changes::{Change, choice_past, crosses, is_settled, is_strong, with_value};
 use crate::halves::choice_change;
 use crate::regions::Region;
-use cip_frac::Frac;
-use cip_lin::{Bounds, Choice, Choices, Side, Sides};
+use cip_lin::{Bounds, Choice, Choices, Frac, Side, Sides};
 use std::alloc::{AllocError, Global};
 use std::marker::Model;
 

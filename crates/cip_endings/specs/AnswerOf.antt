@@ -1,6 +1,6 @@
 -- The answer of the code as one of the definitions.
 use Rattle.std.specs.Prelude.{option_map}
-use Rattle.cip_leaf.specs.LeafAnswers.{shown_as}
+use Rattle.cip_report.specs.LeafAnswers.{shown_as}
 use Rattle.cip_report.specs.declared.figures.Ended.{Ended}
 use Rattle.cip_report.specs.declared.figures.Ended.TheVariants.{Optimal, Infeasible, Unbounded, NodeLimit}
 use Rattle.cip_report.specs.declared.figures.Ended.TheVariants.{Gap, Wide, NoMemory}

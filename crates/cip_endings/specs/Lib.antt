@@ -3,3 +3,7 @@ pub mod Ends
 pub mod Gaps
 pub mod LeastBounds
 pub mod Worst
+pub use Rattle.cip_report.specs.declared.figures.Answer
+pub use Rattle.cip_report.specs.Answers
+pub use Rattle.cip_report.specs.declared.figures.Ended
+pub use Rattle.cip_report.specs.declared.figures.Held

@@ -8,7 +8,7 @@ use Rattle.cip_leaves.specs.Leaf.{Leaf}
 use Rattle.cip_leaves.specs.WideLeaf.{Shown}
 use Rattle.cip_search.specs.SearchState.{WayBack, IsWideBack}
 use Rattle.cip_search.specs.EndLaws.{IsFirstLeastNode}
-use Rattle.cip_leaf.specs.LeafAnswers.{shown_as}
+use Rattle.cip_report.specs.LeafAnswers.{shown_as}
 use Rattle.cip_endings.specs.declared.worst.Worst.{Worst}
 
 -- its whole values and its choices

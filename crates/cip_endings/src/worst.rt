@@ -5,7 +5,7 @@ ghost use Rattle.cip_endings.specs.Worst.{IsWorse, worst_bound};
 
 use crate::bounds::{bound_held, is_no_more, least_of};
 use cip_frac::Frac;
-use cip_leaf::Shown;
+use cip_report::Shown;
 
 /// The parked leaf of least bound, the first of these: its values and choices, its bound, and by what it is shown.
 #[derive(Debug, Drop)]

@@ -4,3 +4,4 @@ pub mod RowsReplaced
 pub mod SourceSides
 pub mod Substituting
 pub mod TermsPut
+pub mod PassedOn

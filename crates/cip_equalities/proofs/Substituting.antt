@@ -13,7 +13,7 @@ use Rattle.cip_problem.specs.Points.{IsSatisfied, IsFeasible, cost_of}
 use Rattle.cip_problem.proofs.Points.AtPlaces.{satisfied_at}
 use Rattle.cip_frac.specs.Outcomes.{product_added}
 use Rattle.cip_frac.proofs.Outcomes.{product_added-value}
-use Rattle.cip_cuts.specs.Reduced.{IsRelaxed}
+use Rattle.cip_implied_sides.specs.Reduced.{IsRelaxed}
 use Rattle.cip_reductions.specs.NarrowedPrograms.{IsExactStep, with_row, with_cost}
 use Rattle.cip_reductions.specs.Forms.{Form, form_value}
 use Rattle.cip_reductions.specs.RowSteps.{side_less}

@@ -1,3 +1,14 @@
 pub mod ColumnForms
 pub mod FormEnds
 pub mod PutTerms
+pub use Rattle.cip_steps.specs.DraftParts
+pub use Rattle.cip_reductions.specs.Forms
+pub use Rattle.cip_implied_sides.specs.Leaf
+pub use Rattle.cip_implied_sides.specs.Programs
+pub use Rattle.cip_implied_sides.specs.Reduced
+pub use Rattle.cip_row_reading.specs.RowReading
+pub use Rattle.cip_steps.specs.RuleEnds
+pub use Rattle.cip_implied_sides.specs.SearchState
+pub use Rattle.cip_reductions.specs.Statements
+pub use Rattle.cip_implied_sides.specs.Taken
+pub use Rattle.cip_reductions.specs.WholeParts

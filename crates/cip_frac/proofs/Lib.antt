@@ -15,3 +15,4 @@ pub mod SumSteps
 pub mod TextParts
 pub mod WholeNumbers
 pub mod WholeSizes
+pub mod PassedOn

@@ -2,3 +2,5 @@ pub mod FractionFault
 pub mod LowestTerms
 pub mod Order
 pub mod Outcomes
+pub use Rattle.cip_rational.specs.Range
+pub use Rattle.cip_rational.specs.Rational

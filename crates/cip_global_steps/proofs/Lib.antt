@@ -4,3 +4,4 @@ pub mod Moved
 pub mod Planned
 pub mod Plans
 pub mod RowsSpent
+pub mod PassedOn

@@ -15,7 +15,7 @@ use Rattle.cip_reductions.specs.NarrowedPrograms.{IsExactStep, IsInfeasible, wit
 use Rattle.cip_reductions.specs.RowSteps.{merged_row}
 use Rattle.cip_reductions.proofs.Pairing.{exact_self}
 use Rattle.cip_reductions.proofs.RowSteps.{merged}
-use Rattle.cip_row_reading.proofs.Enclosing.{past_below}
+use Rattle.cip_leaving.proofs.PassedOn.{past_below}
 use Rattle.cip_global_steps.specs.RowsMet.{sides_of}
 
 pub same_term : (one other : Term) → one.column ≡ other.column → one.coefficient ≡ other.coefficient → one ≡ other

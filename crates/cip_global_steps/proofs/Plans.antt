@@ -11,7 +11,7 @@ use Rattle.cip_problem.specs.Choices.{choice_at, is_open}
 use Rattle.cip_reductions.specs.NarrowedPrograms.{with_sides}
 use Rattle.cip_reductions.specs.Forms.{Form}
 use Rattle.cip_reductions.specs.Moving.{fixed_sides}
-use Rattle.cip_steps.specs.DraftParts.{IsDraft}
+use Rattle.cip_leaving.specs.DraftParts.{IsDraft}
 use Rattle.cip_leaving.specs.ColumnsOut.{IsIn, MayAllGo, SourcesStay}
 use Rattle.cip_global_steps.specs.FreeColumns.{RowsFree}
 use Rattle.cip_global_steps.specs.Moves.{MovesTo, target_at, Follows, AreTargets, IsEntry, AreEntries, IsPlan, IsPlanned, with_target, IsTaken}

@@ -4,7 +4,7 @@ use Rattle.std.specs.Prelude.{slice_index_or}
 use Rattle.std.proofs.lemmas.Option.{none-some}
 use Rattle.cip_problem.specs.Program.{Row}
 use Rattle.cip_reductions.specs.Forms.{Form}
-use Rattle.cip_equalities.specs.ColumnForms.{GivesForm}
+use Rattle.cip_leaving.specs.ColumnForms.{GivesForm}
 use Rattle.cip_leaving.specs.SpentRows.{IsSpentBy, IsSpent}
 
 gone_at : (forms : List (Option Form)) (column : ℕ) (own : Form) → Some own ≡ slice_index_or forms column None → slice_get forms column ≡ Some (Some own)

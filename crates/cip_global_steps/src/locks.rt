@@ -7,8 +7,8 @@ ghost use Rattle.cip_reductions.specs.Moving.{LetsFall};
 ghost use Rattle.cip_global_steps.specs.FreeColumns.{turned, FreeFewer, TermFree, TermsFree, RowFree, RowsFree};
 
 use crate::spent::is_spent;
-use cip_equalities::ColumnForm;
 use cip_frac::Frac;
+use cip_leaving::ColumnForm;
 use cip_lin::{Row, Term};
 use std::alloc::{AllocError, Global};
 

@@ -3,11 +3,11 @@ ghost use Rattle.std.specs.Prelude.{◌≡◌, ◌<◌, length, IfOk};
 ghost use Rattle.std.specs.Bool.{OnTrue};
 ghost use Rattle.cip_problem.specs.Choices.{met};
 ghost use Rattle.cip_reductions.specs.NarrowedPrograms.{IsExactStep};
-ghost use Rattle.cip_steps.specs.RuleEnds.{EndsRightly};
+ghost use Rattle.cip_leaving.specs.RuleEnds.{EndsRightly};
 ghost use Rattle.cip_global_steps.specs.RowsMet.{sides_of};
 
+use cip_leaving::{Draft, Outcome, row_of_terms};
 use cip_lin::{Row, Sides, Term};
-use cip_steps::{Draft, Outcome, row_of_terms};
 use std::alloc::{AllocError, Global};
 
 /// Whether two terms are the same.

@@ -12,10 +12,9 @@ ghost use Rattle.cip_global_steps.specs.Moves.{MayTake, least_value, greatest_va
 ghost use Rattle.cip_global_steps.specs.Moves.{AreTargets, IsEntry, AreEntries, IsPlanned, with_target, IsTaken};
 
 use crate::locks::free_columns;
-use cip_equalities::ColumnForm;
 use cip_frac::{Frac, Wide};
+use cip_leaving::{ColumnForm, Draft};
 use cip_lin::Sides;
-use cip_steps::Draft;
 use std::alloc::{AllocError, Global};
 
 /// The least value that a low side leaves a column.

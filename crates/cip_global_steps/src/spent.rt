@@ -3,7 +3,7 @@ ghost use Rattle.std.specs.Prelude.{◌≡◌, None, slice_index_or};
 ghost use Rattle.std.specs.Bool.{OnTrue};
 ghost use Rattle.cip_leaving.specs.SpentRows.{IsSpentBy, IsSpent};
 
-use cip_equalities::{ColumnForm, form_in};
+use cip_leaving::{ColumnForm, form_in};
 use cip_lin::Row;
 
 /// The form by which a column is left out; `None` where it isn't.

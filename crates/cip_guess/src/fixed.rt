@@ -1,7 +1,7 @@
 //! Numbers over 2^32, in 64 bits. They are rounded, and where one would be too great there is none: nothing is said of
 //! their values.
 use crate::stops::Stop;
-use cip_frac::Frac;
+use cip_lin::Frac;
 
 /// The bits behind the point.
 pub(crate) const BITS: u32 = 32;

@@ -1,6 +1,5 @@
 //! A linear program, lent to be guessed at.
-use cip_frac::Frac;
-use cip_lin::{Bounds, Row, Sides};
+use cip_lin::{Bounds, Frac, Row, Sides};
 
 /// A linear program: rows, others behind them, the sides of each column, and what each column costs. Nothing is copied,
 /// and nothing is asked of it: what is missing counts as 0 or as open.

@@ -2,7 +2,7 @@
 use crate::fixed::{BITS, narrow, raised, short_bit_length};
 use crate::given::number_of;
 use crate::variables::Variables;
-use cip_frac::Frac;
+use cip_lin::Frac;
 use std::alloc::AllocError;
 
 // Multipliers are rounded to multiples of 2^-20.

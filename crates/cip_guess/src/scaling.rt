@@ -3,8 +3,7 @@ use crate::fixed::order;
 use crate::given::Given;
 use crate::stops::Stop;
 use crate::variables::{Standing, Variable, Variables};
-use cip_frac::Frac;
-use cip_lin::Row;
+use cip_lin::{Frac, Row};
 use std::alloc::Global;
 
 // How often rows and columns are scaled in turn.

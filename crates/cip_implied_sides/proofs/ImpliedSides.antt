@@ -12,17 +12,17 @@ use Rattle.cip_problem.specs.RowTerms.{column_at, no_term}
 use Rattle.cip_problem.specs.Points.{IsSatisfied, IsFeasible}
 use Rattle.cip_problem.proofs.Points.AtPlaces.{in_box_at, satisfied_at, whole_at}
 use Rattle.cip_problem.proofs.Choices.Meeting.{between_met}
-use Rattle.cip_reductions.specs.NarrowedPrograms.{IsExactStep, with_sides}
-use Rattle.cip_reductions.specs.RowSteps.{divided_sides}
-use Rattle.cip_reductions.proofs.RowSteps.{divided}
-use Rattle.cip_reductions.proofs.Replacing.{sides_replaced}
-use Rattle.cip_reductions.proofs.Pairing.{exact_self}
-use Rattle.cip_row_reading.specs.SingleRows.{single_sides}
-use Rattle.cip_row_reading.proofs.Enclosing.{past_below}
+use Rattle.cip_steps.specs.NarrowedPrograms.{IsExactStep, with_sides}
+use Rattle.cip_steps.specs.RowSteps.{divided_sides}
+use Rattle.cip_steps.proofs.PassedOn.{divided}
+use Rattle.cip_steps.proofs.PassedOn.{sides_replaced}
+use Rattle.cip_steps.proofs.PassedOn.{exact_self}
+use Rattle.cip_steps.specs.SingleRows.{single_sides}
+use Rattle.cip_steps.proofs.PassedOn.{past_below}
 use Rattle.cip_steps.proofs.Singled.{met_inside, inward_onward}
 use Rattle.cip_implied_sides.specs.Rests.{product_at, IsRestBelow, IsRestAbove, AreRests, IsDifference, Implies}
-use Rattle.cip_row_reading.specs.RowReading.{Encloses}
-use Rattle.cip_reductions.proofs.Inside.{all_hold}
+use Rattle.cip_steps.specs.RowReading.{Encloses}
+use Rattle.cip_steps.proofs.PassedOn.{all_hold}
 use Rattle.cip_implied_sides.specs.Taken.{IsEnclosed, IsImplied}
 
 -- ---- the product at a place

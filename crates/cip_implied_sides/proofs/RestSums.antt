@@ -15,10 +15,10 @@ use Rattle.cip_problem.proofs.Points.AtPlaces.{in_box_at, IsInBox-long}
 use Rattle.cip_frac.specs.Outcomes.{product_added}
 use Rattle.cip_frac.specs.declared.operations.Wide.{Wide}
 use Rattle.cip_frac.proofs.Outcomes.{product_added-value}
-use Rattle.cip_lin.specs.declared.outcomes.Least.TheVariants.{Value}
-use Rattle.cip_lin.specs.RowSums.{least_side, least_of, least_at, least_added}
-use Rattle.cip_row_reading.specs.RowReading.{Encloses}
-use Rattle.cip_row_reading.proofs.FixedColumns.{from_rec, to_rec}
+use Rattle.cip_steps.specs.Least.TheVariants.{Value}
+use Rattle.cip_steps.specs.RowSums.{least_side, least_of, least_at, least_added}
+use Rattle.cip_steps.specs.RowReading.{Encloses}
+use Rattle.cip_steps.proofs.PassedOn.{from_rec, to_rec}
 use Rattle.cip_implied_sides.specs.Rests.{IsLeastProduct, IsGreatestProduct, product_at, IsDifference, IsRestBelow, IsRestAbove, AreRests}
 
 -- ---- products at one side

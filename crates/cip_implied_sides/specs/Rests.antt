@@ -6,7 +6,7 @@ use Rattle.cip_problem.specs.Activity.{activity, value_at}
 use Rattle.cip_problem.specs.Box.{Between, IsInBox}
 use Rattle.cip_problem.specs.RowTerms.{column_at, coefficient_at}
 use Rattle.cip_problem.specs.Points.{IsSatisfied}
-use Rattle.cip_lin.specs.RowSums.{least_side}
+use Rattle.cip_steps.specs.RowSums.{least_side}
 
 -- the least product of a coefficient and a value between two sides, and the greatest one: each at one of the sides
 pub record IsLeastProduct (coefficient : ℚ) (sides : Sides) (product : ℚ) : Type 0 where

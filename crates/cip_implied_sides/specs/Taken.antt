@@ -2,9 +2,9 @@
 use Rattle.std.specs.Prelude.{◌≡◌, ℕ, ◌<◌, true, false, length, Some, slice_get}
 use Rattle.cip_problem.specs.Program.{Sides, Row, Program}
 use Rattle.cip_problem.specs.Choices.{choice_at, is_open}
-use Rattle.cip_lin.specs.MetSides.{is_past}
-use Rattle.cip_reductions.specs.NarrowedPrograms.{IsExactStep, IsInfeasible, with_sides}
-use Rattle.cip_row_reading.specs.RowReading.{Encloses}
+use Rattle.cip_steps.specs.MetSides.{is_past}
+use Rattle.cip_steps.specs.NarrowedPrograms.{IsExactStep, IsInfeasible, with_sides}
+use Rattle.cip_steps.specs.RowReading.{Encloses}
 
 -- the activity of the row of a number lies between these sides at each point of the bounds
 abbrev pub IsEnclosed : Program → ℕ → Sides → Type 0

@@ -4,8 +4,7 @@ ghost use Rattle.cip_problem.specs.Program as problem;
 ghost use Rattle.cip_implied_sides.specs.Rests.{AreRests, Implies};
 
 use crate::rests::{difference, term_at};
-use cip_lin::{Row, Sides};
-use cip_row_reading::single_sides;
+use cip_steps::{Row, Sides, single_sides};
 use std::alloc::Global;
 
 /// The sides that a row and the sides of its other columns imply for the column of the term at a place, rounded

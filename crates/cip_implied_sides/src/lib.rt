@@ -7,5 +7,6 @@ mod open;
 mod rests;
 mod taking;
 
+pub use cip_steps::{Names, Parts, Program};
 pub use open::{OpenPlaces, open_places};
 pub use taking::{row_extent, try_implied};

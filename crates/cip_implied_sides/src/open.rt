@@ -3,8 +3,7 @@ ghost use Rattle.std.specs.Prelude.{◌<◌, length};
 ghost use Rattle.cip_problem.specs.Activity.{StandsBelow};
 
 use cip_frac::Frac;
-use cip_lin::{Bounds, Row, Sides};
-use cip_steps::Draft;
+use cip_steps::{Bounds, Draft, Row, Sides};
 
 /// The one place at which something was found, and how often it was.
 #[derive(Clone, Copy)]

@@ -3,12 +3,11 @@ ghost use Rattle.std.specs.Prelude.{◌≡◌, ◌<◌, length, slice_get, Some,
 ghost use Rattle.std.specs.List.{remove};
 ghost use Rattle.cip_rational.specs.Rational.{zeroℚ};
 ghost use Rattle.cip_problem.specs.Activity.{StandsBelow};
-ghost use Rattle.cip_row_reading.specs.RowReading.{Encloses};
+ghost use Rattle.cip_steps.specs.RowReading.{Encloses};
 ghost use Rattle.cip_implied_sides.specs.Rests.{IsLeastProduct, IsGreatestProduct, IsDifference, IsRestBelow, IsRestAbove, AreRests};
 
 use cip_frac::Frac;
-use cip_lin::{Bounds, Least, Row, RowFault, Sides, Term, add_least};
-use cip_row_reading::extent;
+use cip_steps::{Bounds, Least, Row, RowFault, Sides, Term, add_least, extent};
 use std::alloc::{AllocError, Global};
 
 /// The least product of a coefficient and a value between two sides, where it is there and in range.

@@ -1,15 +1,13 @@
 //! The step of presolve that takes the sides which a row implies for a whole column.
 ghost use Rattle.std.specs.Prelude.{◌≡◌, ◌<◌, length, IfSome, IfOk};
 ghost use Rattle.std.specs.Bool.{OnTrue};
-ghost use Rattle.cip_reductions.specs.NarrowedPrograms.{IsExactStep};
+ghost use Rattle.cip_steps.specs.NarrowedPrograms.{IsExactStep};
 ghost use Rattle.cip_steps.specs.RuleEnds.{EndsRightly};
 ghost use Rattle.cip_implied_sides.specs.Taken.{IsEnclosed, IsPlainWhole, IsImplied};
 
 use crate::implied::implied_sides;
 use crate::rests::{rests, term_at};
-use cip_lin::Sides;
-use cip_row_reading::extent;
-use cip_steps::{Draft, Outcome, is_far};
+use cip_steps::{Draft, Outcome, Sides, extent, is_far};
 use std::alloc::{AllocError, Global};
 
 /// A column, and sides for it.

@@ -5,8 +5,7 @@ ghost use Rattle.cip_model.specs.Verdicts.{verdict_of};
 ghost use Rattle.cip_incumbent.specs.HeldPoint.{nothing_held, is_cheaper, taken_if, offered, after_taking, after_offer, HoldsPointOf};
 
 use crate::offers::Offered;
-use cip_frac::Frac;
-use cip_model::{Program, Verdict};
+use cip_model::{Frac, Program, Verdict};
 use std::alloc::{AllocError, Global};
 use std::marker::Model;
 

@@ -6,7 +6,7 @@ use Rattle.cip_io.specs.Faults.{Rose}
 use Rattle.cip_io.specs.Store.{StoreTells}
 use Rattle.cip_problem.specs.Program.{Program}
 use Rattle.cip_line_texts.specs.LineTexts.{HasResult}
-use Rattle.cip_block_rules.specs.BlockRules.{block_reading}
+use Rattle.cip_blocks.specs.BlockRules.{block_reading}
 use Rattle.cip_blocks.specs.BlockKinds.{kind_number}
 use Rattle.cip_input.specs.TextPulls.{IsAllRead}
 use Rattle.cip_input.specs.BlocksRead.{ReadsBlocks, BlocksCause, BlocksEndCause}

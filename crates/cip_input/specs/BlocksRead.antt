@@ -7,7 +7,7 @@ use Rattle.cip_io.specs.Store.{StoreTells}
 use Rattle.cip_problem.specs.Program.{Program}
 use Rattle.cip_line_texts.specs.LineTexts.{HasResult, HasFault}
 use Rattle.cip_parts.specs.BlockParts.{Blocks}
-use Rattle.cip_block_rules.specs.BlockRules.{block_reading}
+use Rattle.cip_blocks.specs.BlockRules.{block_reading}
 use Rattle.cip_blocks.specs.BlockKinds.{kind_number}
 use Rattle.cip_input.specs.TextsRead.{ReadsText, RefusesText}
 use Rattle.cip_input.specs.declared.block_texts.UnreadBlocks.{UnreadBlocks}

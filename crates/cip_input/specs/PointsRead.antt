@@ -7,7 +7,7 @@ use Rattle.cip_io.specs.Faults.{Rose}
 use Rattle.cip_io.specs.Store.{StoreTells}
 use Rattle.cip_problem.specs.Program.{Program}
 use Rattle.cip_line_texts.specs.LineTexts.{HasResult, HasFault}
-use Rattle.cip_point_rules.specs.PointRules.{point_reading}
+use Rattle.cip_point.specs.PointRules.{point_reading}
 use Rattle.cip_point.specs.PointKinds.{kind_number}
 use Rattle.cip_input.specs.TextsRead.{ReadsText, RefusesText}
 use Rattle.cip_input.specs.declared.points.UnreadPoint.{UnreadPoint}

@@ -1,7 +1,7 @@
 //! Reading a text of blocks from a store.
 ghost use Rattle.std.specs.Prelude.{◌≡◌, ℕ, List, [], MatchResult, length};
 ghost use Rattle.cip_line_texts.specs.LineTexts.{HasResult};
-ghost use Rattle.cip_block_rules.specs.BlockRules.{block_reading};
+ghost use Rattle.cip_blocks.specs.BlockRules.{block_reading};
 ghost use Rattle.cip_input.specs.BlocksTaken.{HasTaken};
 ghost use Rattle.cip_input.specs.BlocksRead.{ReadsBlocks, BlocksCause, BlocksEndCause};
 ghost use Rattle.cip_input.specs.declared.pulling.TheConstants.{PIECE};

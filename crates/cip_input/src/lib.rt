@@ -11,6 +11,9 @@ mod points;
 mod pulling;
 
 pub use block_texts::{UnreadBlocks, read_blocks};
+pub use cip_blocks::BlockFault;
+pub use cip_lp::{LpReader, ReadFault};
+pub use cip_point::PointFault;
 pub use laws::programs_are_limited;
 pub use model_faults::ModelFault;
 pub use models::{Unread, read_program};

@@ -1,7 +1,7 @@
 //! Reading a text of a point from a store.
 ghost use Rattle.std.specs.Prelude.{◌≡◌, ℕ, List, [], MatchResult, length};
 ghost use Rattle.cip_line_texts.specs.LineTexts.{HasResult};
-ghost use Rattle.cip_point_rules.specs.PointRules.{point_reading};
+ghost use Rattle.cip_point.specs.PointRules.{point_reading};
 ghost use Rattle.cip_input.specs.PointsTaken.{HasTaken};
 ghost use Rattle.cip_input.specs.PointsRead.{ReadsPoint, PointCause, PointEndCause};
 ghost use Rattle.cip_input.specs.declared.pulling.TheConstants.{PIECE};

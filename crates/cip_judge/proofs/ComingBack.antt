@@ -2,11 +2,11 @@
 use Rattle.std.proofs.Common.{◌≡◌, ◌∙◌, List, length, refl, sym, ap, subst}
 use Rattle.cip_rational.specs.Rational.{ℚ}
 use Rattle.cip_problem.specs.WellFormed.{IsWellFormed, columns}
-use Rattle.cip_model.specs.Verdicts.{verdict_of}
-use Rattle.cip_postsolve.specs.StepsBack.{point_back, FitsBack}
-use Rattle.cip_incumbent.specs.HeldPoint.{offered}
-use Rattle.cip_incumbent.specs.declared.offers.Offered.{Offered}
-use Rattle.cip_incumbent.specs.declared.offers.Offered.TheVariants.{Taken, NotBetter, Breaks}
+use Rattle.cip_core.specs.Verdicts.{verdict_of}
+use Rattle.cip_core.specs.StepsBack.{point_back, FitsBack}
+use Rattle.cip_core.specs.HeldPoint.{offered}
+use Rattle.cip_core.specs.Offered.{Offered}
+use Rattle.cip_core.specs.Offered.TheVariants.{Taken, NotBetter, Breaks}
 use Rattle.cip_core.specs.CoreStates.{CoreState, reduced_of, IsSound}
 use Rattle.cip_judge.specs.GuessesJudged.{judged_as, IsGuessJudged}
 use Rattle.cip_judge.specs.declared.judged.Judged.{Judged}

@@ -4,7 +4,7 @@ use Rattle.std.specs.Prelude.{MatchResult, OnErr}
 use Rattle.std.proofs.lemmas.Option.{same_Some}
 use Rattle.cip_rational.specs.Rational.{ℚ}
 use Rattle.cip_problem.specs.Log.{Node, node_of}
-use Rattle.cip_leaves.specs.Searched.{nodes_given}
+use Rattle.cip_core.specs.Searched.{nodes_given}
 use Rattle.cip_cert.specs.Lent.{multiples_of}
 use Rattle.cip_cert.specs.declared.splits.SplitCut.{SplitCut}
 use Rattle.cip_plugin.specs.declared.proposals.Cut.{Cut}

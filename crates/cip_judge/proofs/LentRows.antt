@@ -22,7 +22,7 @@ use Rattle.cip_cert.specs.Reductions.{SideFollows}
 use Rattle.cip_cert.specs.Resting.{valid_below, IsLentOf}
 use Rattle.cip_domain.specs.Changes.{side_change}
 use Rattle.cip_domain.specs.Narrowing.{Meets}
-use Rattle.cip_node_rules.specs.OpenColumns.{is_whole_at}
+use Rattle.cip_core.specs.OpenColumns.{is_whole_at}
 use Rattle.cip_core.specs.CoreStates.{CoreState, reduced_of, held_of, all_lent, IsSound}
 use Rattle.cip_core.proofs.RowsAdded.{lent_there}
 

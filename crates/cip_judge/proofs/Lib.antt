@@ -3,3 +3,4 @@ pub mod Going
 pub mod LentRows
 pub mod SidesJudged
 pub mod SplitCutsTold
+pub mod PassedOn

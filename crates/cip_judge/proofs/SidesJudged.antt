@@ -17,8 +17,8 @@ use Rattle.cip_domain.specs.Changes.{with_side, side_change, is_as_strong, would
 use Rattle.cip_domain.specs.Domain.{tightening}
 use Rattle.cip_domain.specs.Narrowing.{Meets}
 use Rattle.cip_domain.specs.declared.stores.Tightened.TheVariants.{Yes, Same, Empty}
-use Rattle.cip_node_rules.specs.OpenColumns.{is_whole_at}
-use Rattle.cip_node_rules.specs.SplitRules.{AreNear}
+use Rattle.cip_core.specs.OpenColumns.{is_whole_at}
+use Rattle.cip_core.specs.SplitRules.{AreNear}
 use Rattle.cip_core.specs.KeptNodes.{farthest}
 use Rattle.cip_judge.specs.ReductionsJudged.{is_far, side_fault}
 use Rattle.cip_judge.specs.declared.judged.NodeFault.TheVariants.{NoSuchColumn, TooFar}

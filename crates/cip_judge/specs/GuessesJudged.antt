@@ -2,13 +2,13 @@
 use Rattle.std.specs.Prelude.{◌≡◌, ◌≢◌, Bool, true, List, length, Option, None, Some}
 use Rattle.cip_rational.specs.Rational.{ℚ, lt_test}
 use Rattle.cip_problem.specs.WellFormed.{columns}
-use Rattle.cip_model.specs.Verdicts.{verdict_of}
-use Rattle.cip_postsolve.specs.StepsBack.{point_back, FitsBack, OverflowsBack}
-use Rattle.cip_postsolve.specs.declared.faults.PostsolveFault.{PostsolveFault}
-use Rattle.cip_postsolve.specs.declared.faults.PostsolveFault.TheVariants.{Wide, NoMemory}
-use Rattle.cip_incumbent.specs.HeldPoint.{offered}
-use Rattle.cip_incumbent.specs.declared.offers.Offered.{Offered}
-use Rattle.cip_incumbent.specs.declared.offers.Offered.TheVariants.{Taken, NotBetter, Breaks}
+use Rattle.cip_core.specs.Verdicts.{verdict_of}
+use Rattle.cip_core.specs.StepsBack.{point_back, FitsBack, OverflowsBack}
+use Rattle.cip_core.specs.PostsolveFault.{PostsolveFault}
+use Rattle.cip_core.specs.PostsolveFault.TheVariants.{Wide, NoMemory}
+use Rattle.cip_core.specs.HeldPoint.{offered}
+use Rattle.cip_core.specs.Offered.{Offered}
+use Rattle.cip_core.specs.Offered.TheVariants.{Taken, NotBetter, Breaks}
 use Rattle.cip_core.specs.CoreStates.{CoreState, reduced_of}
 use Rattle.cip_core.specs.Steps.{IsOffered}
 use Rattle.cip_judge.specs.declared.judged.NodeFault.{NodeFault}

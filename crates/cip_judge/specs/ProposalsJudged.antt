@@ -12,7 +12,7 @@ use Rattle.cip_plugin.specs.declared.proposals.Enforced.TheVariants as said
 use Rattle.cip_plugin.specs.declared.proposals.Proposal.{Proposal}
 use Rattle.cip_plugin.specs.declared.proposals.Proposal.TheVariants as by
 use Rattle.cip_tree.specs.Nodes.{TakenNode, region_of, box_of}
-use Rattle.cip_postsolve.specs.StepsBack.{point_back}
+use Rattle.cip_core.specs.StepsBack.{point_back}
 use Rattle.cip_core.specs.CoreStates.{CoreState, reduced_of, held_of}
 use Rattle.cip_core.specs.Later.{IsLaterAt}
 use Rattle.cip_core.specs.Steps.{HasLeft}

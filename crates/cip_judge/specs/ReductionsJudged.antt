@@ -11,7 +11,7 @@ use Rattle.cip_cert.specs.declared.faults.CutFault.{CutFault}
 use Rattle.cip_domain.specs.Domain.{tightening}
 use Rattle.cip_domain.specs.declared.stores.Tightened.{Tightened}
 use Rattle.cip_domain.specs.declared.stores.Tightened.TheVariants.{Yes, Same, Empty}
-use Rattle.cip_node_rules.specs.OpenColumns.{is_whole_at}
+use Rattle.cip_core.specs.OpenColumns.{is_whole_at}
 use Rattle.cip_tree.specs.Nodes.{TakenNode}
 use Rattle.cip_core.specs.CoreStates.{CoreState, reduced_of, all_lent}
 use Rattle.cip_core.specs.SidesTold.{IsSideTaken}

@@ -1,21 +1,19 @@
 //! Points that are proposed.
 ghost use Rattle.std.specs.Prelude.{◌≡◌, length, IfOk, MatchResult};
 ghost use Rattle.cip_problem.specs.WellFormed.{columns};
-ghost use Rattle.cip_model.specs.Verdicts.{verdict_of};
-ghost use Rattle.cip_model.specs.declared.verdicts.Verdict.TheVariants.{Feasible};
-ghost use Rattle.cip_incumbent.specs.HeldPoint.{offered};
+ghost use Rattle.cip_core.specs.Verdicts.{verdict_of};
+ghost use Rattle.cip_core.specs.Verdict.TheVariants.{Feasible};
+ghost use Rattle.cip_core.specs.HeldPoint.{offered};
 ghost use Rattle.cip_tree.specs.Nodes.{region_of};
-ghost use Rattle.cip_postsolve.specs.StepsBack.{point_back};
+ghost use Rattle.cip_core.specs.StepsBack.{point_back};
 ghost use Rattle.cip_core.specs.CoreStates.{IsAtWork};
 ghost use Rattle.cip_core.specs.Later.{IsLaterAt};
 ghost use Rattle.cip_judge.specs.GuessesJudged.{costs_less, judged_as, IsGuessJudged, IsAfterGuess};
 
 use crate::judged::{JudgeFault, Judged, NodeFault};
-use cip_core::Core;
+use cip_core::{Core, PostsolveFault, Verdict, postsolve};
 use cip_frac::Frac;
-use cip_model::Verdict;
 use cip_plugin::Guess;
-use cip_postsolve::{PostsolveFault, postsolve};
 use cip_tree::Node;
 use std::alloc::{AllocError, Global};
 

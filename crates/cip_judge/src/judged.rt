@@ -1,7 +1,6 @@
 //! What judging a proposal comes to.
 use cip_cert::{CutFault, SplitFormFault};
-use cip_model::Verdict;
-use cip_postsolve::PostsolveFault;
+use cip_core::{PostsolveFault, Verdict};
 use cip_tree::SplitFault;
 
 /// What a proposal names that isn't there, or is too far away. It is looked at before all else.

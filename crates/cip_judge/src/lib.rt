@@ -13,6 +13,8 @@ mod scratches;
 mod split_cuts;
 mod splits;
 
+pub use cip_core::{Core, Mark, PostsolveFault, Presolved, postsolve};
+pub use cip_domain::Side;
 pub use cutoffs::judge_cutoff;
 pub use cuts::judge_cut;
 pub use guesses::judge_guess;

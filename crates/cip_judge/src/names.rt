@@ -1,8 +1,7 @@
 //! The names of faults, as a trace shows them: of a fault that holds another, the inner one's.
 use crate::judged::{JudgeFault, NodeFault};
 use cip_cert::{CutFault, SplitFormFault};
-use cip_model::Verdict;
-use cip_postsolve::PostsolveFault;
+use cip_core::{PostsolveFault, Verdict};
 use cip_tree::SplitFault;
 
 fn node_fault_name(fault: NodeFault) -> &'static str {

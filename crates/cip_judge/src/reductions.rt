@@ -13,10 +13,9 @@ ghost use Rattle.cip_judge.specs.declared.judged.Judged.TheVariants.{Emptied};
 
 use crate::judged::{JudgeFault, Judged, NodeFault};
 use cip_cert::{CutFault, Scratch, reduction};
-use cip_core::Core;
+use cip_core::{Core, Program};
 use cip_domain::Tightened;
 use cip_frac::Frac;
-use cip_model::Program;
 use cip_plugin::Reduction;
 use cip_tree::Node;
 use std::alloc::AllocError;

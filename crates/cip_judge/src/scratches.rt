@@ -4,7 +4,7 @@ ghost use Rattle.cip_problem.specs.WellFormed.{columns};
 ghost use Rattle.cip_judge.specs.ProposalsJudged.{HaveRoom};
 
 use cip_cert::Scratch;
-use cip_model::Program;
+use cip_core::Program;
 use std::alloc::{AllocError, Global};
 
 /// Two scratches: each has room for just the columns of the program that is searched.

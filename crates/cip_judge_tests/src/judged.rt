@@ -1,7 +1,7 @@
 //! What proposals come to that aren't splits.
 ghost use Rattle.std.specs.Prelude.{[]};
 ghost use Rattle.cip_problem.specs.WellFormed.{columns};
-ghost use Rattle.cip_core.specs.CoreStates.{reduced_of, IsKeptIn, IsTakenUp, IsAtWork};
+ghost use Rattle.cip_judge.specs.CoreStates.{reduced_of, IsKeptIn, IsTakenUp, IsAtWork};
 ghost use Rattle.cip_judge.specs.ProposalsJudged.{HaveRoom};
 
 use crate::programs::{
@@ -9,10 +9,8 @@ use crate::programs::{
 };
 use crate::proposals::{Told, made};
 use cip_cert::{CutFault, SplitFormFault};
-use cip_compaction::Presolved;
-use cip_core::Core;
 use cip_frac::Frac;
-use cip_judge::{JudgeFault, Judged, NodeFault, Scratches, judge_in_work};
+use cip_judge::{Core, JudgeFault, Judged, NodeFault, Presolved, Scratches, judge_in_work};
 use cip_lin::Side;
 use cip_model::{Program, Verdict};
 use cip_tree::Node;

@@ -1,7 +1,7 @@
 -- What a kit gets back, where lines are kept.
 use Rattle.std.proofs.Common.{◌≡◌, Bool, true, false, Some, Vec, Global, map, refl, ap}
 use Rattle.cip_events.specs.declared.traces.Trace.{Trace}
-use Rattle.cip_seats.specs.Seats.{State}
+use Rattle.cip_roster.specs.Seats.{State}
 use Rattle.cip_roster.specs.Closed.{IsClosed}
 use Rattle.cip_kits.specs.Kits.{Stock, HasEnded}
 

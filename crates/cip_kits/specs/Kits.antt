@@ -5,7 +5,7 @@ use Rattle.cip_events.specs.declared.traces.Trace.{Trace}
 use Rattle.cip_plugin.specs.Who.{Who}
 use Rattle.cip_plugin.specs.declared.boxed.AnyPlugin.{AnyPlugin}
 use Rattle.cip_plugin.specs.declared.kits.Kit.{Kit}
-use Rattle.cip_seats.specs.Seats.{State, held_count}
+use Rattle.cip_roster.specs.Seats.{State, held_count}
 use Rattle.cip_roster.specs.Begun.{IsBegun}
 use Rattle.cip_roster.specs.Closed.{Back, back, IsClosed}
 

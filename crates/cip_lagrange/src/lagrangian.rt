@@ -15,10 +15,9 @@ use crate::multipliers::use_multipliers;
 use crate::scratches::{BlockScratch, LagrangeScratch};
 use crate::trees::bound_at;
 use cip_cert::{BoundTree, Rows, SparseRow};
-use cip_decomposition::{Decomposed, Subproblem};
+use cip_decomposition::{Decomposed, Program, Subproblem};
 use cip_frac::Frac;
 use cip_lin::Bounds;
-use cip_model::Program;
 
 /// The sum of two bounds; where one block has no point, there is none.
 fn sum_of(bound: TreeBound, more: TreeBound) -> Result<TreeBound, LagrangeFault>

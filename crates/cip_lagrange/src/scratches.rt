@@ -7,10 +7,9 @@ ghost use Rattle.cip_lagrange.specs.Scratches.{FitsBlock, FitsScratch, AreFittin
 
 use crate::regions::TreeRegion;
 use cip_cert::SparseRow;
-use cip_decomposition::{Decomposed, Subproblem};
+use cip_decomposition::{Decomposed, Program, Subproblem};
 use cip_frac::Frac;
 use cip_lin::Bounds;
-use cip_model::Program;
 use std::alloc::{AllocError, Global};
 
 /// The box and the costs of a block, which are set anew for each bound.

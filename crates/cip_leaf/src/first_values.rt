@@ -11,10 +11,10 @@ ghost use Rattle.cip_leaves.specs.WideLeaf.{FirstValueOverflows};
 ghost use Rattle.cip_leaf.specs.FirstPlaces.{line_of, IsValueLine};
 ghost use Rattle.cip_leaf.specs.LeafAnswers.{place_of};
 
-use cip_dict::{Dict, FirstFault, Line, Spare};
 use cip_frac::Frac;
 use cip_lin::{Bounds, Row, Sides, Term};
 use cip_model::Place;
+use cip_simplex::{Dict, FirstFault, Line, Spare};
 use std::alloc::{AllocError, Global};
 
 /// Puts the entries of row r at the end; `Err` where a growth was refused.

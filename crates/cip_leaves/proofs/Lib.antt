@@ -4,3 +4,4 @@ pub mod Merged
 pub mod Points
 mod Tried
 pub mod WholeLeaves
+pub mod PassedOn

@@ -8,3 +8,9 @@ pub mod Statements
 pub mod Wide
 pub mod WideLeaf
 pub mod WideNodes
+pub use Rattle.cip_problem.specs.Choices
+pub use Rattle.cip_linear.specs.Falling
+pub use Rattle.cip_linear.specs.LinearProgram
+pub use Rattle.cip_problem.specs.Points
+pub use Rattle.cip_problem.specs.Program
+pub use Rattle.cip_bland.specs.ProgramState

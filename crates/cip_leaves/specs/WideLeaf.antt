@@ -9,12 +9,12 @@ use Rattle.std.specs.Prelude.{◌≡◌, ◌⊎◌, ℕ, ◌+◌, ◌<◌, List,
 use Rattle.cip_rational.specs.Rational.{ℚ, zeroℚ}
 use Rattle.cip_problem.specs.Program.{Row, Program}
 use Rattle.cip_linear.specs.LinearProgram.{LinearProgram}
-use Rattle.cip_dictionary.specs.Operations.{first_overflow, value_place}
-use Rattle.cip_dictionary.specs.FirstState.{first_operations}
-use Rattle.cip_dictionary.specs.ProgramState.{system_of}
-use Rattle.cip_dictionary.specs.declared.moves.Move.{Move}
-use Rattle.cip_dictionary.specs.declared.places.Line.TheVariants as line
-use Rattle.cip_dictionary.specs.declared.places.EntryPlace as dictionary
+use Rattle.cip_bland.specs.Operations.{first_overflow, value_place}
+use Rattle.cip_bland.specs.FirstState.{first_operations}
+use Rattle.cip_bland.specs.ProgramState.{system_of}
+use Rattle.cip_bland.specs.Move.{Move}
+use Rattle.cip_bland.specs.Line.TheVariants as line
+use Rattle.cip_bland.specs.EntryPlace as dictionary
 use Rattle.cip_bland.specs.EndAnswers.{Answer, Optimal, NoPoint, Unbounded, OutOfRange, LimitReached}
 use Rattle.cip_bland.specs.NoRepeat.{whole_answer}
 use Rattle.cip_leaves.specs.Wide.{Place, InRow, InCost, row_part, cost_part, IsWideAt}

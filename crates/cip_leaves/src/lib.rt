@@ -8,6 +8,8 @@ pub mod leaf_programs;
 ghost use Rattle.cip_leaves.specs.Examples.{Examples};
 ghost use Rattle.cip_leaves.specs.Statements.{PointsHaveLeaves, CoversTell};
 
+pub use cip_bland::{Move, Stand};
+
 /// The whole values of a point are a leaf, and in a box with one whole assignment they are that one; a feasible point
 /// has a leaf, and in the box of a node with one leaf it has that one; and where no column is continuous, values have
 /// at most one point, which is they.

@@ -1,2 +1,3 @@
 pub mod MayLeave
 pub mod StayingColumns
+pub mod PassedOn

@@ -8,9 +8,9 @@ use Rattle.std.proofs.lemmas.Option.{none-some, same_Some, slice_get_within, get
 use Rattle.cip_rational.specs.Rational.{zeroℚ}
 use Rattle.cip_problem.specs.Program.{Term, Row, Program}
 use Rattle.cip_problem.specs.Activity.{StandsBelow}
-use Rattle.cip_reductions.specs.Forms.{Form}
+use Rattle.cip_equalities.specs.Forms.{Form}
 use Rattle.cip_equalities.specs.ColumnForms.{GivesForm}
-use Rattle.cip_steps.specs.DraftParts.{IsDraft}
+use Rattle.cip_equalities.specs.DraftParts.{IsDraft}
 use Rattle.cip_leaving.specs.ColumnsOut.{MayAllGo, IsIn, TermsIn, SourceStays, SourcesStay, GoFewer}
 use Rattle.cip_leaving.specs.SpentRows.{IsSpentBy, TermsInBut, RowGoes, RowsGo}
 use Rattle.cip_leaving.specs.KeptRows.{RowKept, RowsKept}

@@ -2,7 +2,7 @@
 use Rattle.std.specs.Prelude.{◌≡◌, ◌⊎◌, ℕ, List, Option, Some, slice_get}
 use Rattle.std.specs.List.{AllByRecursion}
 use Rattle.cip_problem.specs.Program.{Row}
-use Rattle.cip_reductions.specs.Forms.{Form}
+use Rattle.cip_equalities.specs.Forms.{Form}
 use Rattle.cip_equalities.specs.ColumnForms.{GivesForm}
 use Rattle.cip_leaving.specs.ColumnsOut.{IsIn, TermsIn}
 use Rattle.cip_leaving.specs.SpentRows.{TermsInBut}

@@ -6,8 +6,7 @@ ghost use Rattle.cip_leaving.specs.ColumnsOut.{IsIn, SourceStays, SourcesStay, G
 ghost use Rattle.cip_leaving.specs.SpentRows.{IsSpentBy, TermsInBut};
 ghost use Rattle.cip_leaving.specs.KeptRows.{RowKept, RowsKept};
 
-use cip_equalities::{ColumnForm, form_in};
-use cip_lin::{Row, Term};
+use cip_equalities::{ColumnForm, Row, Term, form_in};
 
 /// A column stays.
 #[tactic(auto, using(crate::proofs::StayingColumns::staying))]

@@ -5,8 +5,7 @@ ghost use Rattle.cip_leaving.specs.SpentRows.{RowsGo};
 
 use crate::candidates::candidates;
 use crate::keeping::{keep_rows, keep_sources};
-use cip_equalities::ColumnForm;
-use cip_steps::Draft;
+use cip_equalities::{ColumnForm, Draft};
 use std::alloc::{AllocError, Global};
 
 /// The forms of the columns that are left out of a program in work: each of them may be, the sources of the forms stay,

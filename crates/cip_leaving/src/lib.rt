@@ -7,4 +7,9 @@ mod keeping;
 mod leaving;
 mod lone;
 
+pub use cip_equalities::{
+    ColumnForm, Draft, Names, Outcome, Parts, Program, copied_rows, form_at, form_in,
+    is_substitute, move_cost, open_places, row_extent, row_of_terms, take_sides, try_implied,
+    try_replace,
+};
 pub use leaving::forms_out;

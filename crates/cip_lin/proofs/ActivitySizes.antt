@@ -1,8 +1,8 @@
 -- The activity of a row of small whole numbers does not overflow.
 use Rattle.std.proofs.Common.{◌≡◌, ℕ, ◌+◌, ◌*◌, suc, ◌≤◌, List, [], ◌∷◌, length, arith, subst}
 use Rattle.std.specs.List.{AllByRecursion}
-use Rattle.cip_rational.specs.Rational.{ℚ}
-use Rattle.cip_rational.specs.Range.{largest}
+use Rattle.cip_frac.specs.Rational.{ℚ}
+use Rattle.cip_frac.specs.Range.{largest}
 use Rattle.cip_frac.specs.Outcomes.{product_added}
 use Rattle.cip_frac.proofs.WholeSizes.{IsWithin, IsOkWithin, within_added, then_within}
 use Rattle.cip_problem.specs.Program.{Term}

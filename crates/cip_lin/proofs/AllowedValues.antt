@@ -1,6 +1,6 @@
 -- What the test of a value that a choice allows says.
 use Rattle.std.proofs.Common.{◌≡◌, inl, inr, Bool, true, false, ◌||◌, refl, sym, ◌∙◌, true≢false}
-use Rattle.cip_rational.specs.Rational.{ℚ, zeroℚ}
+use Rattle.cip_frac.specs.Rational.{ℚ, zeroℚ}
 use Rattle.cip_frac.specs.Order.{same_rational, same_from_equal, equal_from_same}
 use Rattle.cip_problem.specs.Program.{Sides, Choice, Plain, Open, Off, On}
 use Rattle.cip_problem.specs.Box.{is_between}

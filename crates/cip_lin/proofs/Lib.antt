@@ -1,3 +1,4 @@
 pub mod ActivitySizes
 pub mod AllowedValues
 pub mod RowSums
+pub mod PassedOn

@@ -1,6 +1,6 @@
 -- Choices that are made, what is kept of one that is open, and the test of a value that a choice allows.
 use Rattle.std.specs.Prelude.{Bool, true, false, ◌||◌, Option, None, Some}
-use Rattle.cip_rational.specs.Rational.{ℚ, zeroℚ}
+use Rattle.cip_frac.specs.Rational.{ℚ, zeroℚ}
 use Rattle.cip_frac.specs.Order.{same_rational}
 use Rattle.cip_problem.specs.Program.{Sides, Choice, Plain, Open, Off, On}
 use Rattle.cip_problem.specs.Box.{is_between}

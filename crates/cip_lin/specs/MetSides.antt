@@ -1,6 +1,6 @@
 -- Sides that leave no value.
 use Rattle.std.specs.Prelude.{Bool, false, Option, None, Some}
-use Rattle.cip_rational.specs.Rational.{ℚ, lt_test}
+use Rattle.cip_frac.specs.Rational.{ℚ, lt_test}
 
 -- a low side passes a high one
 abbrev pub is_past : Option ℚ → Option ℚ → Bool

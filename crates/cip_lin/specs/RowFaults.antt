@@ -1,6 +1,6 @@
 -- Why a term cannot stand at the end of a row, and why a list of terms makes none.
 use Rattle.std.specs.Prelude.{◌≡◌, ◌≢◌, ℕ, ◌+◌, ◌<◌, ◌≤◌, List, length}
-use Rattle.cip_rational.specs.Rational.{zeroℚ}
+use Rattle.cip_frac.specs.Rational.{zeroℚ}
 use Rattle.cip_problem.specs.Program.{Term}
 use Rattle.cip_problem.specs.RowTerms.{column_at, coefficient_at, AreTermsTo, IsAboveLast, IsNotAboveLast}
 use Rattle.cip_lin.specs.declared.rows.RowFault.{RowFault}

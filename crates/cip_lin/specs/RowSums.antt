@@ -1,7 +1,7 @@
 -- The activity of a row and its least activity in a box, summed up in the order of the terms: the value, or the first
 -- operation that overflows. The module below has the value of the activity.
 use Rattle.std.specs.Prelude.{List, [], ◌∷◌, Option, None, Some, Result, Ok, Err, if◌then◌else◌}
-use Rattle.cip_rational.specs.Rational.{ℚ, zeroℚ, lt_test}
+use Rattle.cip_frac.specs.Rational.{ℚ, zeroℚ, lt_test}
 use Rattle.cip_frac.specs.declared.operations.Wide.{Wide}
 use Rattle.cip_frac.specs.Outcomes.{and_then, product_added}
 use Rattle.cip_problem.specs.Program.{Term, Sides}

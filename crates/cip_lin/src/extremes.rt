@@ -1,6 +1,6 @@
 //! The least activity of a row in a box.
 ghost use Rattle.std.specs.Prelude.{◌≡◌, length};
-ghost use Rattle.cip_rational.specs.Rational.{zeroℚ};
+ghost use Rattle.cip_frac.specs.Rational.{zeroℚ};
 ghost use Rattle.cip_problem.specs.Activity.{StandsBelow};
 ghost use Rattle.cip_lin.specs.RowSums.{least_side, least_added, least_from};
 

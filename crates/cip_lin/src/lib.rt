@@ -11,6 +11,7 @@ mod sides;
 
 pub use boxes::{Bounds, Sides};
 pub use choices::{Choice, Choices};
+pub use cip_frac::Frac;
 pub use combos::{ColumnMultiple, Combo, RowId, RowMultiple};
 pub use extremes::{add_least, least};
 pub use outcomes::Least;

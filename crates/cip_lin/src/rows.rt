@@ -1,6 +1,6 @@
 //! Linear rows: sums of products by rising column, between two sides.
 ghost use Rattle.std.specs.Prelude.{◌≡◌, ◌++◌, ◌∷◌, [], length, MatchResult, IfOk};
-ghost use Rattle.cip_rational.specs.Rational.{zeroℚ};
+ghost use Rattle.cip_frac.specs.Rational.{zeroℚ};
 ghost use Rattle.cip_problem.specs.Activity.{StandsBelow, activity};
 ghost use Rattle.cip_problem.specs.RowTerms.{AreTerms, no_term};
 ghost use Rattle.cip_lin.specs.RowFaults.{CanStandAfter, IsAppendFault, IsBuildFault};

@@ -3,3 +3,10 @@ pub mod LineEnds
 pub mod LineStatements
 pub mod LineStream
 pub mod LineExamples
+pub use Rattle.cip_problem.specs.Activity
+pub use Rattle.cip_problem.specs.Box
+pub use Rattle.cip_problem.specs.Choices
+pub use Rattle.cip_problem.specs.Limits
+pub use Rattle.cip_syntax.specs.Lines
+pub use Rattle.cip_problem.specs.Program
+pub use Rattle.cip_problem.specs.WellFormed

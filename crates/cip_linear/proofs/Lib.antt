@@ -4,3 +4,4 @@ pub mod Certificates
 pub mod Parts
 pub mod Rays
 pub mod Tried
+pub mod PassedOn

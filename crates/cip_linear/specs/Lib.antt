@@ -4,3 +4,8 @@ pub mod Falling
 pub mod LinearProgram
 pub mod Multipliers
 pub mod Statements
+pub use Rattle.cip_problem.specs.Activity
+pub use Rattle.cip_problem.specs.Box
+pub use Rattle.cip_problem.specs.BoxBound
+pub use Rattle.cip_problem.specs.Points
+pub use Rattle.cip_problem.specs.Program

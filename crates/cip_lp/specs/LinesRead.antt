@@ -6,7 +6,7 @@ use Rattle.cip_line_texts.specs.LineStream.{Going}
 use Rattle.cip_lp_rules.specs.LpTokens.{Token}
 use Rattle.cip_lp_rules.specs.LpOutcome.{LpContext, token_fault, context_with, is_end}
 use Rattle.cip_lp_stream.specs.LpBytes.{tokens_read}
-use Rattle.cip_lp_draft.specs.LpEvents.{IsLpKind}
+use Rattle.cip_lp_statements.specs.LpEvents.{IsLpKind}
 use Rattle.cip_lp_statements.specs.LpStages.{context_of}
 use Rattle.cip_lp.specs.declared.line_reader.LineReader.{LineReader}
 

@@ -6,13 +6,12 @@ ghost use Rattle.cip_lp_rules.specs.LpOutcome as text;
 ghost use Rattle.cip_lp_rules.specs.LpOutcome.{LpContext, lp_reading};
 ghost use Rattle.cip_lp_stream.specs.LpBytes.{tokens_read};
 ghost use Rattle.cip_lp_tokens.specs.LpLines.{token_shown, tokens_left};
-ghost use Rattle.cip_lp_draft.specs.LpEvents.{IsLpKind};
+ghost use Rattle.cip_lp_statements.specs.LpEvents.{IsLpKind};
 ghost use Rattle.cip_lp_statements.specs.LpStages.{context_of};
 ghost use Rattle.cip_lp.specs.LinesRead.{stage_of, AreOver, IsTaken};
 
-use cip_lp_statements::Statements;
+use cip_lp_statements::{Program, Statements};
 use cip_lp_tokens::{LineTokens, LpPart, Token};
-use cip_model::Program;
 use std::alloc::{AllocError, Global};
 
 /// What was read of the tokens of a text. Behind End none is looked at.

@@ -15,9 +15,9 @@ ghost use Rattle.cip_lp_stream.specs.LpTakenTexts.{last_line};
 
 use crate::line_reader::LineReader;
 use cip_line_stream::KnownFault;
+use cip_lp_statements::Program;
 use cip_lp_stream::taken_texts_come_out;
 use cip_lp_tokens::{LineTokens, ends_before, hangs};
-use cip_model::Program;
 use std::alloc::{AllocError, Global};
 
 /// The most bytes of a text.

@@ -8,8 +8,8 @@ ghost use Rattle.cip_lp.specs.LpTexts.{stage_of, shown_of};
 
 use crate::faults::{LpFault, ReadFault};
 use crate::lp_text::LpText;
+use cip_lp_statements::Program;
 use cip_lp_stream::taken_faults_stay;
-use cip_model::Program;
 use std::alloc::Global;
 
 /// An LP text as far as it came. The reader keeps the bytes behind the last token that has ended, the statement in hand

@@ -5,7 +5,7 @@ ghost use Rattle.cip_lp.specs.LpReaders.{IsFaultOf};
 
 use crate::faults::ReadFault;
 use crate::reader::LpReader;
-use cip_model::Program;
+use cip_lp_statements::Program;
 use std::alloc::Global;
 
 /// The program of an LP text, or its first fault: that of the first line that breaks a rule, with the least

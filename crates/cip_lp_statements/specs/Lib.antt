@@ -1,2 +1,3 @@
 pub mod LpStages
 pub mod LpTaken
+pub use Rattle.cip_lp_draft.specs.LpEvents

@@ -5,16 +5,15 @@ ghost use Rattle.cip_lp_rules.specs.LpFacts.{facts_with};
 ghost use Rattle.cip_lp_rules.specs.LpGrammar.{bound_read, bound_front, bound_set, bound_value, bound_related, limit_related, limit_in, with_limit, general_read, binary_read};
 ghost use Rattle.cip_lp_tokens.specs.LpKinds.{relation_shown};
 ghost use Rattle.cip_lp_tokens.specs.LpLines.{token_shown};
-ghost use Rattle.cip_lp_values.specs.LpLimits.{limit_shown};
+ghost use Rattle.cip_lp_draft.specs.LpLimits.{limit_shown};
 ghost use Rattle.cip_lp_statements.specs.LpStages.{place_at, where_of};
 ghost use Rattle.cip_lp_statements.specs.LpTaken.{AreTaken};
 
 use crate::places::Stage;
 use crate::statements::Statements;
 use crate::terms::set_name;
-use cip_lp_draft::LpDraft;
+use cip_lp_draft::{Limit, LpDraft, agree, flipped, is_wrong, limit_of};
 use cip_lp_tokens::{Relation, Token};
-use cip_lp_values::{Limit, agree, flipped, is_wrong, limit_of};
 use std::alloc::AllocError;
 
 /// Sets the side, or both, that this relation to a value says of a column.

@@ -8,8 +8,8 @@ ghost use Rattle.cip_lp_statements.specs.LpTaken.{AreTaken};
 
 use crate::places::Stage;
 use crate::statements::Statements;
+use cip_lp_draft::unit;
 use cip_lp_tokens::Token;
-use cip_lp_values::unit;
 use std::alloc::AllocError;
 
 impl Statements {

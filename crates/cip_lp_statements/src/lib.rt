@@ -10,4 +10,5 @@ mod settled;
 mod statements;
 mod terms;
 
+pub use cip_lp_draft::Program;
 pub use statements::Statements;

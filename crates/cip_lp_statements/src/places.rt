@@ -1,6 +1,6 @@
 //! Where a token stands in its statement.
+use cip_lp_draft::{Amount, Limit};
 use cip_lp_tokens::Relation;
-use cip_lp_values::{Amount, Limit};
 
 /// Where a token stands in its statement.
 #[derive(Clone, Copy, PartialEq, Eq, Debug)]

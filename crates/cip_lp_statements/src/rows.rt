@@ -10,8 +10,8 @@ ghost use Rattle.cip_lp_statements.specs.LpTaken.{AreTaken};
 use crate::places::Stage;
 use crate::statements::Statements;
 use crate::terms::set_name;
+use cip_lp_draft::{Amount, agree, is_equality, unit};
 use cip_lp_tokens::{Relation, Token};
-use cip_lp_values::{Amount, agree, is_equality, unit};
 use std::alloc::AllocError;
 
 impl Statements {

@@ -10,8 +10,8 @@ ghost use Rattle.cip_lp_statements.specs.LpTaken.{AreTaken};
 
 use crate::places::Stage;
 use crate::statements::Statements;
+use cip_lp_draft::{agree, high_side, is_equality, low_side, unit};
 use cip_lp_tokens::{LpPart, Token};
-use cip_lp_values::{agree, high_side, is_equality, low_side, unit};
 use std::alloc::AllocError;
 
 /// Whether a token is a name.

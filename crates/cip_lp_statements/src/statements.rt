@@ -9,10 +9,8 @@ ghost use Rattle.cip_lp_statements.specs.LpTaken.{IsTokenTaken};
 
 use crate::places::{Place, Stage};
 use cip_frac::Frac;
-use cip_lp_draft::LpDraft;
+use cip_lp_draft::{Amount, Limit, LpDraft, Program};
 use cip_lp_tokens::{LpPart, Relation, Token};
-use cip_lp_values::{Amount, Limit};
-use cip_model::Program;
 use std::alloc::{AllocError, Global};
 
 /// What the tokens of a text have said, and where the next one stands.

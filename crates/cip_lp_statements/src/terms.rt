@@ -10,8 +10,8 @@ ghost use Rattle.cip_lp_statements.specs.LpTaken.{AreTaken};
 use crate::places::Stage;
 use crate::statements::Statements;
 use cip_frac::Frac;
+use cip_lp_draft::{Amount, amount_of, high_side, low_side};
 use cip_lp_tokens::Relation;
-use cip_lp_values::{Amount, amount_of, high_side, low_side};
 use std::alloc::AllocError;
 
 /// Keeps a name in place of another one. `Err` comes where a growth was refused.

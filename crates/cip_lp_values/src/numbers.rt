@@ -6,8 +6,7 @@ ghost use Rattle.cip_lp_values.specs.LpNumbers.{IsAmount, IsNoAmount, IsLimit, I
 
 use crate::amounts::Amount;
 use cip_frac::Frac;
-use cip_mps_lines::BoundNumber;
-use cip_text::{NumberFault, number};
+use cip_mps_lines::{BoundNumber, NumberFault, number};
 
 /// The value of a bound; where there is none, infinity, upwards or downwards.
 #[derive(Clone, Copy, Debug)]

@@ -12,12 +12,12 @@ use Rattle.cip_line_texts.specs.LineTexts.{Reading, Outcome, outcome_of, HasResu
 use Rattle.cip_line_texts.specs.LineTexts as texts
 use Rattle.cip_block_rules.specs.BlockRules.{block_reading}
 use Rattle.cip_point_rules.specs.PointRules.{point_reading}
-use Rattle.cip_input.specs.Models.{is_lp_name, HasProgramAs, HasFaultAs, HasModel, HasModelFault, is_lp_fault, model_line, model_kind}
-use Rattle.cip_input.specs.declared.model_faults.ModelFault.{ModelFault}
-use Rattle.cip_blocks.specs.BlockKinds.{kind_number as block_kind_number}
-use Rattle.cip_blocks.specs.declared.faults.BlockFault.{BlockFault}
-use Rattle.cip_point.specs.PointKinds.{kind_number as point_kind_number}
-use Rattle.cip_point.specs.declared.faults.PointFault.{PointFault}
+use Rattle.cip_answering.specs.Models.{is_lp_name, HasProgramAs, HasFaultAs, HasModel, HasModelFault, is_lp_fault, model_line, model_kind}
+use Rattle.cip_answering.specs.ModelFault.{ModelFault}
+use Rattle.cip_answering.specs.BlockKinds.{kind_number as block_kind_number}
+use Rattle.cip_answering.specs.BlockFault.{BlockFault}
+use Rattle.cip_answering.specs.PointKinds.{kind_number as point_kind_number}
+use Rattle.cip_answering.specs.PointFault.{PointFault}
 use Rattle.cip_words.specs.Jobs.{Limits, Job, Solve, Check, Generate, usual_limits}
 use Rattle.cip_generator.specs.Generated.{generated}
 use Rattle.cip_trace_texts.specs.TraceTexts.{traced_text}
@@ -36,8 +36,8 @@ use Rattle.cip_answering.specs.Checking.{checked}
 use Rattle.cip_tasks.specs.Plain.{plain_status}
 use Rattle.cip_events.specs.declared.traces.Trace.{Trace}
 use Rattle.cip_problem.specs.Log.{Entry}
-use Rattle.cip_kits.specs.Kits.{Stock}
-use Rattle.cip_solve.specs.KitsServed.{is_alone, IsKitAfter}
+use Rattle.cip_answering.specs.Kits.{Stock}
+use Rattle.cip_answering.specs.KitsServed.{is_alone, IsKitAfter}
 use Rattle.cip_main.specs.Running.{Call, HasProgram, HasFault, IsStoreSound, IsSinkSound, GivesPlain, IsOfText, IsOfSeed, drawn_as, IsAnswered, IsChecked, TellsVerdict, ArePulled, BlocksAreRead, Ran, gives_plain, gives_figures, gives_verdict, IsStatus, write_fault, TellsBy, TellsTruth, Asks, AsksOf, AsksWith, AsksToCheck, RefusesBlocks, IsCutShort, Headline, BreaksSome, CheckClause, HasBlocksFault, HasPointFault, IsFirstFault, TellsModelFault, TellsBlockFault, TellsPointFault, UsageClause, behind_up_to, PullsToFault, ReadFaultClause, RefusedClause, WriteFaultClause, SpentLog, FiguresReachGap, GapLog, OverflowClause, MemoryClause, WorksBy, TellsWork, WorkClause, TellsKit, AsksForSearch, KitClause, SelfClause, Runs}
 use Rattle.cip_answering.specs.Saying.{Says}
 use Rattle.cip_tasks.specs.Tasks.{TaskCause, model_of, model_in, second_of, FailsBehind, HasFaultyModel, HasFaultyBlocks, HasFaultyPoint}

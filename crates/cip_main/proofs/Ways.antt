@@ -7,7 +7,7 @@ use Rattle.cip_line_texts.specs.LineTexts.{HasResult}
 use Rattle.cip_block_rules.specs.BlockRules.{block_reading}
 use Rattle.cip_point_rules.specs.PointRules.{point_reading}
 use Rattle.cip_parts.specs.BlockParts.{Blocks as Parts}
-use Rattle.cip_input.specs.TextsRead.{ReadsText}
+use Rattle.cip_answering.specs.TextsRead.{ReadsText}
 use Rattle.cip_tasks.specs.declared.plain.Plain.{Plain}
 use Rattle.cip_words.specs.Jobs.{Limits, usual_limits}
 use Rattle.cip_generator.specs.Generated.{entries_of}
@@ -15,7 +15,7 @@ use Rattle.cip_trace_texts.specs.SelfTexts.{Drawn as Told}
 use Rattle.cip_trace_texts.specs.TraceTexts.{traced_text}
 use Rattle.cip_answers.specs.Figures.{names_of}
 use Rattle.cip_answering.specs.Answering.{Telling, self_told}
-use Rattle.cip_report.specs.Drawn.{drawn_of}
+use Rattle.cip_answering.specs.Drawn.{drawn_of}
 use Rattle.cip_tasks.specs.Tasks.{TakesBlocks, IsSolve, IsCheck, IsDrawn}
 use Rattle.cip_main.specs.Running.{Call, BlocksAreRead, IsPulledBehind, drawn_as, WorksBy, TellsWork, TellsVerdict, GivesPlain, gives_plain, gives_figures, gives_verdict, Runs}
 use Rattle.cip_tasks.proofs.Readings.{told, value_told}

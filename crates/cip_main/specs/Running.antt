@@ -16,9 +16,9 @@ use Rattle.cip_generator.specs.Generated.{generated, entries_of as coefficients_
 use Rattle.cip_trace_texts.specs.SelfTexts.{Drawn}
 use Rattle.cip_trace_texts.specs.TraceTexts.{traced_text}
 use Rattle.cip_words.specs.Jobs.{Limits, Job, Solve, Check, Generate, usual_limits}
-use Rattle.cip_input.specs.Models.{is_lp_name, HasModel, HasModelFault, is_lp_fault, model_line, model_kind}
-use Rattle.cip_input.specs.TextPulls.{IsAllPulled}
-use Rattle.cip_input.specs.declared.model_faults.ModelFault.{ModelFault}
+use Rattle.cip_answering.specs.Models.{is_lp_name, HasModel, HasModelFault, is_lp_fault, model_line, model_kind}
+use Rattle.cip_answering.specs.TextPulls.{IsAllPulled}
+use Rattle.cip_answering.specs.ModelFault.{ModelFault}
 use Rattle.cip_answers.specs.Figures.{NodeLimit, Gap, Wide, Overflow, names_of}
 use Rattle.cip_search.specs.Headline.{ShowsGap, IsSpent, ShowsOverflow, EndsItself}
 use Rattle.cip_answers.specs.Checks.{check_text, check_status}
@@ -27,16 +27,16 @@ use Rattle.cip_model.specs.Meaning.{VerdictHolds}
 use Rattle.cip_model.specs.declared.verdicts.Place.{Place}
 use Rattle.cip_model.specs.declared.verdicts.Verdict.{Verdict}
 use Rattle.cip_model.specs.declared.verdicts.Verdict.TheVariants as verdicts
-use Rattle.cip_solve.specs.declared.logs.Log.{Log}
-use Rattle.cip_solve.specs.Logs.{entries_of}
+use Rattle.cip_answering.specs.Log.{Log}
+use Rattle.cip_answering.specs.Logs.{entries_of}
 use Rattle.cip_events.specs.declared.traces.Trace.{Trace}
-use Rattle.cip_report.specs.Traces.{kept_lines}
-use Rattle.cip_kits.specs.Kits.{Stock}
-use Rattle.cip_solve.specs.KitsServed.{is_alone, IsKitAfter}
-use Rattle.cip_blocks.specs.BlockKinds.{kind_number as block_kind_number}
-use Rattle.cip_blocks.specs.declared.faults.BlockFault.{BlockFault}
-use Rattle.cip_point.specs.PointKinds.{kind_number as point_kind_number}
-use Rattle.cip_point.specs.declared.faults.PointFault.{PointFault}
+use Rattle.cip_answering.specs.Traces.{kept_lines}
+use Rattle.cip_answering.specs.Kits.{Stock}
+use Rattle.cip_answering.specs.KitsServed.{is_alone, IsKitAfter}
+use Rattle.cip_answering.specs.BlockKinds.{kind_number as block_kind_number}
+use Rattle.cip_answering.specs.BlockFault.{BlockFault}
+use Rattle.cip_answering.specs.PointKinds.{kind_number as point_kind_number}
+use Rattle.cip_answering.specs.PointFault.{PointFault}
 use Rattle.cip_tasks.specs.declared.refusals.TextFault.{TextFault}
 use Rattle.cip_tasks.specs.declared.refusals.TextFault.TheVariants.{Model, Blocks, Point}
 use Rattle.cip_tasks.specs.declared.plain.Plain.{Plain}

@@ -1,15 +1,13 @@
 //! The whole way from the words and the store to the sink.
 ghost use Rattle.cip_words.specs.Jobs.{job_of};
 ghost use Rattle.cip_tasks.specs.Plain.{plain_text, plain_status};
-ghost use Rattle.cip_kits.specs.Kits.{stock_of, IsFew};
+ghost use Rattle.cip_answering.specs.Kits.{stock_of, IsFew};
 ghost use Rattle.cip_answering.specs.Saying.{Says};
 ghost use Rattle.cip_main.specs.Running.{Runs, call_of};
 
-use cip_answering::{check_and_report, solve_and_report, solve_drawn};
+use cip_answering::{Drawn, Log, Options, check_and_report, solve_and_report, solve_drawn};
 use cip_io::{Failed, Sink, Store};
 use cip_plugin::{AnyPlugin, Kit, Tells};
-use cip_report::Drawn;
-use cip_solve::{Log, Options};
 use cip_tasks::{Plain, Task, read_task};
 use cip_words::Words;
 use std::alloc::Global;

@@ -20,7 +20,7 @@ use Rattle.cip_simplex.specs.declared.answers.LpAnswer.{LpAnswer}
 use Rattle.cip_simplex.specs.declared.answers.LpAnswer.TheVariants.{Optimal, Infeasible, Unbounded, Wide, Limit}
 use Rattle.cip_simplex.proofs.Held.{HoldsOr, held}
 use Rattle.cip_simplex.proofs.SlackStart.{slack_is_first}
-use Rattle.cip_lagrange.specs.declared.answers.LagrangeFault.{LagrangeFault}
+use Rattle.cip_master_prices.specs.LagrangeFault.{LagrangeFault}
 use Rattle.cip_columns.specs.PoolPoints.{PoolPoint, held_of}
 use Rattle.cip_master_program.specs.KeptMasters.{program_in}
 use Rattle.cip_master_program.specs.declared.masters.MasterProgram.{MasterProgram}

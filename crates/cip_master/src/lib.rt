@@ -14,5 +14,6 @@ mod starts;
 mod weights;
 
 pub use answers::{MasterAnswer, MasterCause, PointWeight, Weights};
+pub use cip_master_prices::MasterTask;
 pub use kept::Master;
 pub use laws::masters_stay_kept;

@@ -12,10 +12,9 @@ ghost use Rattle.cip_master_program.specs.KeptMasters.{IsMasterOf};
 
 use crate::masters::MasterProgram;
 use crate::sums::owner_at;
-use cip_decomposition::Decomposed;
+use cip_decomposition::{Decomposed, Program};
 use cip_frac::Frac;
 use cip_lin::{Bounds, Row, Term};
-use cip_model::Program;
 use std::alloc::{AllocError, Global};
 
 /// Puts a term on a column with this owner and this place at the end of a row, where it is of no block.

@@ -9,10 +9,9 @@ ghost use Rattle.cip_master_program.specs.KeptMasters.{HasSeen, ArePoolPoints, P
 use crate::masters::{MasterFault, MasterProgram};
 use crate::sums::part_sum;
 use cip_columns::{ColumnPool, HeldPoint};
-use cip_decomposition::Decomposed;
+use cip_decomposition::{Decomposed, Program};
 use cip_frac::Frac;
 use cip_lin::Bounds;
-use cip_model::Program;
 
 /// Whether values lie between the sides of the columns with these numbers, one for each of them.
 #[tactic(auto, using(crate::proofs::NumberSums::inside_opened, crate::proofs::NumberSums::inside_other))]

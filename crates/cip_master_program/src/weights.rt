@@ -12,10 +12,9 @@ ghost use Rattle.cip_master_program.specs.KeptMasters.{IsPointFault, master_row_
 use crate::masters::{MasterFault, MasterProgram};
 use crate::sums::block_sum;
 use cip_columns::HeldPoint;
-use cip_decomposition::Decomposed;
+use cip_decomposition::{Decomposed, Program};
 use cip_frac::{Frac, Wide};
 use cip_lin::{Row, Sides, Term};
-use cip_model::Program;
 use std::alloc::AllocError;
 
 /// Puts a term at the end of a row. `Err` where a growth was refused.

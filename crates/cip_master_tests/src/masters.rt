@@ -1,6 +1,6 @@
 //! What the master program answers.
 ghost use Rattle.cip_decomposition.specs.Decompositions.{IsDecompositionOf};
-ghost use Rattle.cip_master_prices.specs.MasterTasks.{IsTask, task_of};
+ghost use Rattle.cip_master.specs.MasterTasks.{IsTask, task_of};
 ghost use Rattle.cip_master.specs.MasterSolving.{IsKept};
 
 use crate::tasks::{BLOCKS, FAR, LOOSE, MORE, OPEN, PLAIN, TIGHT, fill};
@@ -10,8 +10,7 @@ use cip_decomposition::Decomposed;
 use cip_frac::Frac;
 use cip_lin::{Bounds, Sides};
 use cip_lp::read_lp;
-use cip_master::{Master, MasterAnswer, MasterCause};
-use cip_master_prices::MasterTask;
+use cip_master::{Master, MasterAnswer, MasterCause, MasterTask};
 use cip_model::Program;
 use std::alloc::{AllocError, Global};
 

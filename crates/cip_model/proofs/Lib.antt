@@ -2,3 +2,4 @@ pub mod Meaning
 pub mod NamePlaces
 pub mod SmallPrograms
 pub mod GroupLaws
+pub mod PassedOn

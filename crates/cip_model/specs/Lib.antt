@@ -10,3 +10,4 @@ pub mod Verdicts
 pub mod BlocksInside
 pub mod Grouped
 pub mod NumberLists
+pub use Rattle.cip_lin.specs.declared.sides.Side

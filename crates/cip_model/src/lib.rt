@@ -13,6 +13,8 @@ mod rays;
 mod verdicts;
 
 pub use blocks::{Blocks, MOST_BLOCKS};
+pub use cip_frac::Frac;
+pub use cip_lin::{Bounds, Choices, Combo, Row, Side, Term};
 pub use limits::{LONGEST_NAME, LONGEST_TEXT, MOST_COLUMNS, MOST_ENTRIES, MOST_ROWS, limits_agree};
 pub use names::Names;
 pub use parts::{Parts, Sense};

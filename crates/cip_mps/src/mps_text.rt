@@ -15,7 +15,7 @@ ghost use Rattle.cip_mps_steps.specs.MpsSteps.{mps_steps};
 
 use crate::line_reader::LineReader;
 use cip_line_stream::{KnownFault, Pieces, cut_line};
-use cip_model::Program;
+use cip_mps_draft::Program;
 use cip_mps_steps::texts_are_read;
 use std::alloc::{AllocError, Global};
 

@@ -7,7 +7,7 @@ ghost use Rattle.cip_mps.specs.MpsTexts.{stage_of};
 
 use crate::faults::{MpsFault, ReadFault};
 use crate::mps_text::MpsText;
-use cip_model::Program;
+use cip_mps_draft::Program;
 use cip_mps_steps::faults_of_ended_lines;
 use std::alloc::Global;
 

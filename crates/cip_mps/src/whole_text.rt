@@ -5,7 +5,7 @@ ghost use Rattle.cip_mps.specs.MpsReaders.{IsFaultOf};
 
 use crate::faults::ReadFault;
 use crate::reader::MpsReader;
-use cip_model::Program;
+use cip_mps_draft::Program;
 use std::alloc::Global;
 
 /// The program of a text of free MPS, or its first fault: that of the first line that breaks a rule, with the least

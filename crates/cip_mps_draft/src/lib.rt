@@ -20,4 +20,7 @@ mod semi_sides;
 mod steps;
 mod values;
 
+pub use cip_model::Program;
+pub use cip_mps_lines::{Line, LinePlace, Part, said};
+pub use cip_text::record_of;
 pub use draft::Draft;

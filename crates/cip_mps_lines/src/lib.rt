@@ -12,6 +12,7 @@ mod values;
 mod words;
 
 pub use bound_numbers::BoundNumber;
+pub use cip_text::{NumberFault, number};
 pub use line::{Line, Pair, Pairs};
 pub use numbers::Number;
 pub use place::LinePlace;

@@ -9,8 +9,8 @@ use Rattle.std.proofs.lemmas.List.Folds.{list_any-append}
 use Rattle.std.proofs.lemmas.Int.{ints}
 use Rattle.std.proofs.lemmas.Bool.{eq-eqb, eqb-true, cond-true, cond-false, leb-true, false_from_ne_true}
 use Rattle.cip_rational.specs.Rational.{zeroℚ, ratio}
-use Rattle.cip_problem.specs.Program.{Term}
-use Rattle.cip_syntax.specs.Lines.{Record}
+use Rattle.cip_line_texts.specs.Program.{Term}
+use Rattle.cip_line_texts.specs.Lines.{Record}
 use Rattle.cip_line_texts.specs.LineTexts.{Numbered}
 use Rattle.cip_line_texts.specs.LineStatements.{known_after, AreOpen}
 use Rattle.cip_number_text.specs.Numeral.{Numeral, Exact, NotANumber, Huge, TooFine, signed}

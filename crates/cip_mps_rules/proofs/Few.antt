@@ -7,11 +7,11 @@ use Rattle.std.specs.List.{filter}
 use Rattle.std.proofs.lemmas.List.{length-map, length-append, append-nil}
 use Rattle.std.proofs.lemmas.List.Elements.{All-nil, All-cons, All-append, All-map}
 use Rattle.std.proofs.lemmas.Bool.{leb-false}
-use Rattle.cip_problem.specs.Limits.{most_rows, most_columns}
-use Rattle.cip_problem.specs.Activity.{StandsBelow}
-use Rattle.cip_problem.specs.Program.{Program}
-use Rattle.cip_problem.specs.WellFormed.{columns, IsWellFormed}
-use Rattle.cip_syntax.specs.Lines.{Record}
+use Rattle.cip_line_texts.specs.Limits.{most_rows, most_columns}
+use Rattle.cip_line_texts.specs.Activity.{StandsBelow}
+use Rattle.cip_line_texts.specs.Program.{Program}
+use Rattle.cip_line_texts.specs.WellFormed.{columns, IsWellFormed}
+use Rattle.cip_line_texts.specs.Lines.{Record}
 use Rattle.cip_number_text.specs.Numeral.{Numeral}
 use Rattle.cip_mps_rules.specs.MpsWords.{is_in, number_in, is_zero}
 use Rattle.cip_mps_rules.specs.MpsSayings.{Saying, RowLine, ColumnLine}

@@ -1,7 +1,7 @@
 -- What holds of the facts behind lines that break no rule, and of the program of a text.
 use Rattle.std.proofs.Common.{◌≡◌, inl, inr, ℕ, List, None, subst}
-use Rattle.cip_problem.specs.Program.{Program}
-use Rattle.cip_syntax.specs.Lines.{Record}
+use Rattle.cip_line_texts.specs.Program.{Program}
+use Rattle.cip_line_texts.specs.Lines.{Record}
 use Rattle.cip_line_texts.specs.LineTexts.{Numbered}
 use Rattle.cip_line_texts.specs.LineStatements.{known_after, AreOpen, IsEndReached, NeedsNoEnd}
 use Rattle.cip_line_texts.proofs.LineEnded.{result_found, holds_open}

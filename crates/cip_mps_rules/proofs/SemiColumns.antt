@@ -4,10 +4,10 @@ use Rattle.std.specs.List.{list_any}
 use Rattle.std.proofs.lemmas.Bool.{and_parts}
 use Rattle.cip_rational.specs.Rational.{ℚ, zeroℚ, ◌≤ℚ◌}
 use Rattle.cip_rational.proofs.Rational.Order.{le_of_test}
-use Rattle.cip_problem.specs.Program.{Open, Plain}
-use Rattle.cip_problem.specs.Box.{sides_at}
-use Rattle.cip_problem.specs.Choices.{choice_at, open_sides}
-use Rattle.cip_problem.specs.WellFormed.{IsChoice}
+use Rattle.cip_line_texts.specs.Program.{Open, Plain}
+use Rattle.cip_line_texts.specs.Box.{sides_at}
+use Rattle.cip_line_texts.specs.Choices.{choice_at, open_sides}
+use Rattle.cip_line_texts.specs.WellFormed.{IsChoice}
 use Rattle.cip_mps_rules.specs.MpsBounds.{Bounded, own_sides, is_from_zero, are_semi_sides, is_semi, column_sides, choice_of, choices_of}
 
 from_zero : (o : Option ℚ) → is_from_zero o ≡ true → IsSomeAnd o (λ side. zeroℚ ≤ℚ side)

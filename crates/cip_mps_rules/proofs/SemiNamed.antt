@@ -7,8 +7,8 @@ use Rattle.std.proofs.lemmas.Bool.{cond-true, cond-false}
 use Rattle.std.proofs.lemmas.List.{append-nil}
 use Rattle.std.proofs.lemmas.List.Sums.{fold-append}
 use Rattle.cip_rational.specs.Rational.{zeroℚ, oneℚ}
-use Rattle.cip_problem.specs.Program.{Open, Plain}
-use Rattle.cip_problem.specs.Choices.{choice_at, is_open}
+use Rattle.cip_line_texts.specs.Program.{Open, Plain}
+use Rattle.cip_line_texts.specs.Choices.{choice_at, is_open}
 use Rattle.cip_line_texts.specs.LineStatements.{known_after}
 use Rattle.cip_number_text.specs.Numeral.{Numeral}
 use Rattle.cip_mps_rules.specs.MpsWords.{BoundKind, Low, High, Fixed, WholeLow, WholeHigh, Unbounded, NoLow, NoHigh, Binary, SemiContinuous, End, next, number_in, is_in}

@@ -7,3 +7,4 @@ pub mod MpsRules
 pub mod MpsSayings
 pub mod MpsStatements
 pub mod MpsWords
+pub use Rattle.cip_line_texts.specs.LineTexts

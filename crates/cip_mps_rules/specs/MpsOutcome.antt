@@ -2,8 +2,8 @@
 --     mps_reading      how such a text is read
 --     HasProgram text program, HasFault text line kind
 use Rattle.std.specs.Prelude.{ℕ, Bool, List, Some}
-use Rattle.cip_problem.specs.Program.{Program}
-use Rattle.cip_syntax.specs.Lines.{Record}
+use Rattle.cip_line_texts.specs.Program.{Program}
+use Rattle.cip_line_texts.specs.Lines.{Record}
 use Rattle.cip_line_texts.specs.LineTexts as texts
 use Rattle.cip_line_texts.specs.LineTexts.{Reading, records_of}
 use Rattle.cip_line_texts.specs.LineEnds.{Stage, ending}

@@ -4,7 +4,7 @@ use Rattle.std.specs.Prelude.{ℕ, Bool, true, false, ◌&&◌, not, if◌then�
 use Rattle.std.specs.List.{filter}
 use Rattle.std.specs.Str.{bytes_eq}
 use Rattle.cip_rational.specs.Rational.{ℚ, zeroℚ, negate, ◌+ℚ◌, ◌-ℚ◌}
-use Rattle.cip_problem.specs.Program.{Term, Sides, Row, Program}
+use Rattle.cip_line_texts.specs.Program.{Term, Sides, Row, Program}
 use Rattle.cip_number_text.specs.Numeral.{Numeral, Exact, value_of}
 use Rattle.cip_mps_rules.specs.MpsWords.{RowKind, Free, AtMost, AtLeast, EqualTo, number_in, is_zero, is_negative}
 use Rattle.cip_mps_rules.specs.MpsSayings.{Value}

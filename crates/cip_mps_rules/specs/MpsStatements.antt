@@ -3,10 +3,10 @@ use Rattle.std.specs.Prelude.{◌≡◌, ⊤, ℕ, ◌==◌, ◌≤◌, Bool, tr
 use Rattle.std.specs.List.{AllByRecursion, list_any}
 use Rattle.std.specs.Str.{bytes_eq}
 use Rattle.cip_rational.specs.Rational.{ℚ, zeroℚ}
-use Rattle.cip_problem.specs.Program.{Term, Program}
-use Rattle.cip_problem.specs.Choices.{choice_at, is_open}
-use Rattle.cip_problem.specs.WellFormed.{IsWellFormed}
-use Rattle.cip_syntax.specs.Lines.{Record}
+use Rattle.cip_line_texts.specs.Program.{Term, Program}
+use Rattle.cip_line_texts.specs.Choices.{choice_at, is_open}
+use Rattle.cip_line_texts.specs.WellFormed.{IsWellFormed}
+use Rattle.cip_line_texts.specs.Lines.{Record}
 use Rattle.cip_line_texts.specs.LineTexts.{Numbered}
 use Rattle.cip_line_texts.specs.LineStatements.{OneOutcome, known_after, AreOpen, FaultsBeforeEnds, IsEndReached, ResultsAtEnds}
 use Rattle.cip_mps_rules.specs.MpsWords.{BoundKind, SemiContinuous, number_in, is_in}

@@ -9,8 +9,8 @@ use Rattle.cip_problem.specs.WellFormed.{IsWellFormed, columns}
 use Rattle.cip_problem.proofs.Points.AtPlaces.{whole_at}
 use Rattle.cip_model.specs.Meaning.{VerdictHolds}
 use Rattle.cip_model.proofs.Meaning.Point.{verdict_holds}
-use Rattle.cip_reductions.specs.Pairs.{IsLong, IsPair}
-use Rattle.cip_postsolve.specs.StepsBack.{point_back}
+use Rattle.cip_core.specs.Pairs.{IsLong, IsPair}
+use Rattle.cip_core.specs.StepsBack.{point_back}
 use Rattle.cip_core.specs.CoreStates.{CoreState, reduced_of, IsSound}
 use Rattle.cip_core.specs.Steps.{IsTriedBack}
 

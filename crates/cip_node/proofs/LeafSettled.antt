@@ -21,7 +21,7 @@ use Rattle.cip_model.specs.declared.verdicts.Verdict.TheVariants.{Feasible}
 use Rattle.cip_incumbent.specs.HeldPoint.{HeldPoint, Holding, is_cheaper, taken_if, offered, after_taking, after_offer}
 use Rattle.cip_incumbent.specs.declared.offers.Offered.{Offered}
 use Rattle.cip_search.specs.SearchState.{IsWayBack, IsStuck, IsWideBack}
-use Rattle.cip_postsolve.specs.StepsBack.{StepsTaken, point_back, leaf_back, way_back}
+use Rattle.cip_core.specs.StepsBack.{StepsTaken, point_back, leaf_back, way_back}
 use Rattle.cip_search.proofs.Members.{here}
 use Rattle.cip_search.proofs.Told.{given_node_of}
 use Rattle.cip_tree.specs.Nodes.{TakenNode, region_in, node_changes, box_of, shown}

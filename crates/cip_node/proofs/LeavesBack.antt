@@ -14,9 +14,9 @@ use Rattle.cip_problem.specs.Choices.{AreMade, open_count, made_on}
 use Rattle.cip_problem.specs.WellFormed.{IsWellFormed}
 use Rattle.cip_problem.proofs.Choices.Decided.{length-made_on}
 use Rattle.cip_leaves.specs.Leaf.{at_wholes, IsWholeBetween, IsLeafIn, IsLeaf, IsOnlyLeaf, Leaf, IsLeafOf}
-use Rattle.cip_reductions.specs.Pairs.{IsWholeIn, IsAssignment, own_sides}
-use Rattle.cip_reductions.specs.WholeParts.{with_wholes}
-use Rattle.cip_postsolve.specs.StepsBack.{StepsTaken, point_back, whole_point, leaf_back}
+use Rattle.cip_core.specs.Pairs.{IsWholeIn, IsAssignment, own_sides}
+use Rattle.cip_core.specs.WholeParts.{with_wholes}
+use Rattle.cip_core.specs.StepsBack.{StepsTaken, point_back, whole_point, leaf_back}
 use Rattle.cip_core.specs.CoreStates.{CoreState, IsReducedBy}
 use Rattle.cip_core.specs.Later.{IsLater}
 use Rattle.cip_node.specs.LeavesBack.{leaf_read, IsOnlyLeafBack}

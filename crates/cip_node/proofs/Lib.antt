@@ -8,3 +8,4 @@ pub mod NodeBound
 pub mod OneLeaf
 pub mod Ruled
 pub mod Fractional
+pub mod PassedOn

@@ -17,11 +17,11 @@ use Rattle.cip_rows.specs.RowPools.{IsSoundPool}
 use Rattle.cip_incumbent.specs.HeldPoint.{Holding}
 use Rattle.cip_domain.specs.Changes.{Region}
 use Rattle.cip_tree.specs.Nodes.{TakenNode, Nodes, region_of, box_of}
-use Rattle.cip_node_bounds.specs.NodeRows.{usable_rows}
-use Rattle.cip_node_bounds.specs.Relaxing.{node_program, ShowsLeast, ShowsBound, ShowsFalling}
-use Rattle.cip_node_bounds.specs.Telling.{IsValidPool, NodeProgramsTell}
-use Rattle.cip_node_bounds.proofs.Told.{told}
-use Rattle.cip_node_bounds.specs.declared.relaxed.Mark.{Mark}
+use Rattle.cip_core.specs.NodeRows.{usable_rows}
+use Rattle.cip_core.specs.Relaxing.{node_program, ShowsLeast, ShowsBound, ShowsFalling}
+use Rattle.cip_core.specs.Telling.{IsValidPool, NodeProgramsTell}
+use Rattle.cip_core.proofs.PassedOn.{told}
+use Rattle.cip_core.specs.Mark.{Mark}
 use Rattle.cip_core.specs.CoreStates.{CoreState, reduced_of, held_of, rows_lent, IsSound, IsAtWork}
 use Rattle.cip_core.proofs.CoreSteps.{work_long}
 use Rattle.cip_core.specs.Steps.{IsTriedBack}

@@ -10,7 +10,7 @@ use Rattle.cip_leaves.specs.Leaf.{Leaf}
 use Rattle.cip_leaf.specs.LeafAnswers.{IsLeafAnswer}
 use Rattle.cip_tree.specs.Nodes.{TakenNode, shown}
 use Rattle.cip_tree.specs.Tracked.{IsWithin}
-use Rattle.cip_postsolve.specs.StepsBack.{StepsTaken}
+use Rattle.cip_core.specs.StepsBack.{StepsTaken}
 use Rattle.cip_node_rules.specs.OpenChoices.{IsSettledBox}
 use Rattle.cip_core.specs.CoreStates.{CoreState, reduced_of}
 use Rattle.cip_node.specs.LeavesBack.{IsOnlyLeafBack}

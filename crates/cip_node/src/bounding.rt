@@ -10,12 +10,10 @@ ghost use Rattle.cip_node.specs.Bounding.{IsRelaxedOf, IsBounded};
 ghost use Rattle.cip_node.specs.SameRows.{HasSameRows};
 
 use crate::works::NodeWork;
-use cip_core::Core;
+use cip_core::{Core, Mark, PostsolveFault, Relaxed};
 use cip_frac::Frac;
 use cip_lin::Combo;
-use cip_node_bounds::{Mark, Relaxed};
 use cip_node_rules::are_whole;
-use cip_postsolve::PostsolveFault;
 use cip_tree::Node;
 use std::alloc::{AllocError, Global};
 

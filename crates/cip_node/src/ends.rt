@@ -1,7 +1,7 @@
 //! How the work on a node ends.
+use cip_core::Mark;
 use cip_frac::Frac;
 use cip_leaf::Shown;
-use cip_node_bounds::Mark;
 
 /// How a node ended.
 #[derive(Debug, Drop)]

@@ -5,17 +5,17 @@ ghost use Rattle.cip_rational.specs.Range.{fits_range};
 ghost use Rattle.cip_problem.specs.Choices.{choice_at, is_on, made_on};
 ghost use Rattle.cip_problem.specs.WellFormed.{columns};
 ghost use Rattle.cip_leaves.specs.Leaf.{IsLeaf};
-ghost use Rattle.cip_reductions.specs.Pairs.{IsAssignment};
-ghost use Rattle.cip_postsolve.specs.StepsBack.{whole_of_left, whole_point, LeafFitsBack, leaf_back};
+ghost use Rattle.cip_core.specs.Pairs.{IsAssignment};
+ghost use Rattle.cip_core.specs.StepsBack.{whole_of_left, whole_point, LeafFitsBack, leaf_back};
 ghost use Rattle.cip_core.specs.CoreStates.{IsReducedBy};
 ghost use Rattle.cip_node.specs.LeafValues.{least_above, least_values};
 ghost use Rattle.cip_node.specs.SolvedLeaves.{HasOneLeaf, IsLeafThere};
 
+use cip_core::{Steps, whole_part};
 use cip_frac::Frac;
 use cip_leaf::{LeafAnswer, leaf};
 use cip_lin::{Bounds, Choice, Choices, Sides};
 use cip_model::Program;
-use cip_postsolve::{Steps, whole_part};
 use std::alloc::{AllocError, Global};
 
 /// The least whole number above a low side, 0 where there is none.

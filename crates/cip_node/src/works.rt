@@ -1,13 +1,11 @@
 //! What works on nodes.
 ghost use Rattle.std.specs.Prelude.{IfOk};
-ghost use Rattle.cip_compaction.specs.PresolvedPrograms.{IsPresolved};
+ghost use Rattle.cip_core.specs.PresolvedPrograms.{IsPresolved};
 ghost use Rattle.cip_core.specs.Beginning.{AreNearColumns, HasNotBegun};
 
 use crate::starts::Starts;
-use cip_compaction::Presolved;
-use cip_core::Core;
+use cip_core::{Core, NodeSolver, Presolved};
 use cip_model::Program;
-use cip_node_bounds::NodeSolver;
 use std::alloc::{AllocError, Global};
 
 /// What works on nodes: the core of a search, and what solves the linear programs of its nodes, with where they start.

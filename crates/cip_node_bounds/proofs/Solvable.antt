@@ -9,7 +9,7 @@ use Rattle.cip_problem.specs.Activity.{StandsBelow}
 use Rattle.cip_problem.specs.Box.{box_inside}
 use Rattle.cip_cert.specs.declared.rows.PoolRow.{PoolRow}
 use Rattle.cip_cert.specs.Lent.{KeptFits}
-use Rattle.cip_rows.specs.RowPools.{Pool, IsSoundPool, usable_in}
+use Rattle.cip_basis.specs.RowPools.{Pool, IsSoundPool, usable_in}
 use Rattle.cip_simplex.specs.LpShape.{IsSolvable}
 use Rattle.cip_basis.proofs.Points.{usable_stand}
 use Rattle.cip_node_bounds.specs.NodeRows.{usable_rows}

@@ -11,10 +11,10 @@ use Rattle.cip_problem.specs.Points.{IsSatisfied, cost_of}
 use Rattle.cip_problem.proofs.Box.SideTests.{inner_box_holds}
 use Rattle.cip_linear.specs.LinearProgram.{IsPoint, HasNoPoint}
 use Rattle.cip_linear.proofs.Rays.{ray_unbounded}
-use Rattle.cip_cuts.specs.Improving.{IsImproving, IsBoundIn, HasNoImproving}
+use Rattle.cip_basis.specs.Improving.{IsImproving, IsBoundIn, HasNoImproving}
 use Rattle.cip_cert.specs.declared.rows.PoolRow.{PoolRow}
 use Rattle.cip_cert.specs.Lent.{Lent}
-use Rattle.cip_rows.specs.RowPools.{usable_in}
+use Rattle.cip_basis.specs.RowPools.{usable_in}
 use Rattle.cip_search.specs.Relaxation.{IsRelaxedBound}
 use Rattle.cip_search.proofs.Members.{here, later, kept_was_there, kept_passes, of_mapped}
 use Rattle.cip_node_bounds.specs.NodeRows.{usable_rows}

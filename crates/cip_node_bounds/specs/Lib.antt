@@ -3,3 +3,4 @@ pub mod NodeRows
 pub mod Relaxing
 pub mod Solving
 pub mod Telling
+pub use Rattle.cip_search.specs.Figures

@@ -8,7 +8,7 @@ use Rattle.cip_lin.specs.declared.combos.RowMultiple.{RowMultiple}
 use Rattle.cip_lin.specs.declared.combos.Combo.{Combo}
 use Rattle.cip_bland.specs.EndAnswers.{Certificate}
 use Rattle.cip_cert.specs.declared.rows.PoolRow.{PoolRow}
-use Rattle.cip_rows.specs.RowPools.{usable_in}
+use Rattle.cip_basis.specs.RowPools.{usable_in}
 use Rattle.cip_simplex.specs.LpAnswers.{row_multiple, column_multiple}
 pub use Rattle.cip_basis.specs.Shown.{usable_rows}
 

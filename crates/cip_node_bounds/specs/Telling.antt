@@ -5,7 +5,7 @@ use Rattle.cip_rational.specs.Rational.{ℚ}
 use Rattle.cip_problem.specs.Program.{Sides, Program}
 use Rattle.cip_problem.specs.Box.{IsInBox}
 use Rattle.cip_linear.specs.LinearProgram.{IsPoint, HasNoPoint}
-use Rattle.cip_cuts.specs.Improving.{IsImproving, IsValidRow, IsBoundIn, HasNoImproving}
+use Rattle.cip_basis.specs.Improving.{IsImproving, IsValidRow, IsBoundIn, HasNoImproving}
 use Rattle.cip_cert.specs.declared.rows.PoolRow.{PoolRow}
 use Rattle.cip_cert.specs.Lent.{Lent}
 use Rattle.cip_search.specs.Relaxation.{IsRelaxedBound}

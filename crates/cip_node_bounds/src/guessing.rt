@@ -8,13 +8,11 @@ ghost use Rattle.cip_node_bounds.specs.Guessing.{IsGuessed};
 
 use crate::relaxed::Relaxed;
 use crate::rows::UsableRows;
-use cip_basis::{Basis, Problem, Safe, Shown, safe_bound, show};
+use cip_basis::{Basis, Frac, Problem, Safe, Shown, Standing, safe_bound, show};
 use cip_cert::Scratch;
-use cip_dictionary::Stand;
-use cip_frac::Frac;
-use cip_guess::Standing;
 use cip_lin::Bounds;
 use cip_model::Program;
+use cip_search::Stand;
 use cip_simplex::Start;
 use std::alloc::{AllocError, Global};
 

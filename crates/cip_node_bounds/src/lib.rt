@@ -9,6 +9,7 @@ mod relaxed;
 mod rows;
 mod solvers;
 
+pub use cip_simplex::Start;
 pub use laws::node_programs_tell;
 pub use relaxed::{Mark, Relaxed, relax_from};
 pub use solvers::NodeSolver;

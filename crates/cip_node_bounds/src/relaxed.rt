@@ -15,12 +15,11 @@ use crate::guessing::{Guessed, by_guess, start_at};
 use crate::names::name_combo;
 use crate::rows::UsableRows;
 use crate::solvers::NodeSolver;
+use cip_basis::{Frac, RowPool};
 use cip_cert::{CutFault, FaultPlace, Rows, Scratch, empties, lower_bound};
-use cip_dictionary::Move;
-use cip_frac::Frac;
 use cip_lin::{Bounds, Combo, Row};
 use cip_model::Program;
-use cip_rows::RowPool;
+use cip_search::Move;
 use cip_simplex::{Lp, LpAnswer, Solver, Start};
 use std::alloc::{AllocError, Global};
 

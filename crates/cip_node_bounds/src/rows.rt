@@ -2,8 +2,8 @@
 ghost use Rattle.std.specs.Prelude.{◌≡◌, map, length, IfOk};
 ghost use Rattle.cip_node_bounds.specs.NodeRows.{usable_rows, usable_ids};
 
+use cip_basis::RowPool;
 use cip_lin::{Bounds, Row};
-use cip_rows::RowPool;
 use std::alloc::{AllocError, Global};
 
 /// The rows of a pool that may be used in a box, which are lent, and their ids; beside them the pool.

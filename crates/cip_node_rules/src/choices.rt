@@ -5,8 +5,7 @@ ghost use Rattle.cip_node_rules.specs.OpenColumns.{IsFirstColumn, PassesNowhere}
 ghost use Rattle.cip_node_rules.specs.OpenChoices.{is_choice_open, is_unallowed};
 ghost use Rattle.cip_node_rules.specs.SplitRules.{IsChoiceRule};
 
-use cip_frac::Frac;
-use cip_lin::Choices;
+use cip_lin::{Choices, Frac};
 
 /// How many of the first columns are listed in the choices.
 fn listed(columns: usize, choices: &Choices) -> u32

@@ -5,8 +5,7 @@ ghost use Rattle.cip_problem.specs.Box.{two_wholes_between};
 ghost use Rattle.cip_problem.specs.Wholes.{HasWhole, AllHaveWholes};
 ghost use Rattle.cip_node_rules.specs.OpenColumns.{whole_between, is_open_at, is_fractional, is_fractional_at, IsFirstColumn, PassesNowhere, LacksWhole};
 
-use cip_frac::Frac;
-use cip_lin::{Bounds, Sides};
+use cip_lin::{Bounds, Frac, Sides};
 
 /// Whether a whole number lies between two sides, by their rounded values.
 fn is_whole_between(low: Option<Frac>, high: Option<Frac>) -> bool

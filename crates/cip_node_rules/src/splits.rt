@@ -10,8 +10,7 @@ ghost use Rattle.cip_node_rules.specs.SplitRules.{moved, raised_to, lowered_to, 
 
 use crate::choices::chosen_choice;
 use crate::columns::{fractional_column, open_column};
-use cip_frac::Frac;
-use cip_lin::{Bounds, Choices, Sides};
+use cip_lin::{Bounds, Choices, Frac, Sides};
 
 /// Where a box is split: the column is at most `at`, or at least `at + 1`; or, where its choice is open, that is made,
 /// off or on.

@@ -4,7 +4,7 @@ ghost use Rattle.cip_rational.specs.Rational.{integer, ceil, IsWhole};
 ghost use Rattle.cip_problem.specs.Points.{AreWhole};
 ghost use Rattle.cip_cuts.specs.Cuts.{CanRound, CanRoundAt};
 
-use cip_frac::Frac;
+use cip_lin::Frac;
 
 /// Whether the value of a column of this kind is whole, if the column is.
 fn is_right(whole: bool, value: Frac) -> bool

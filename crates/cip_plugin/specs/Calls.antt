@@ -3,7 +3,7 @@ use Rattle.std.specs.Prelude.{ℕ, List, Option, Bool, ℤ}
 use Rattle.cip_rational.specs.Rational.{ℚ}
 use Rattle.cip_cert.specs.Lent.{Multiples}
 use Rattle.cip_cert.specs.declared.splits.FormTerm.{FormTerm}
-use Rattle.cip_lin.specs.declared.sides.Side.{Side}
+use Rattle.cip_model.specs.Side.{Side}
 use Rattle.cip_events.specs.declared.events.Event.{Event}
 use Rattle.cip_plugin.specs.declared.proposals.Split.{Split}
 use Rattle.cip_plugin.specs.declared.proposals.Wish.{Wish}

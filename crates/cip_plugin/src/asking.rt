@@ -5,7 +5,7 @@ ghost use Rattle.cip_plugin.specs.Asking.{answer_of, first_part, count_past};
 use crate::proposals::{Cut, Enforced, Guess, Reduction, Split, Wish};
 use cip_cert::Priced;
 use cip_events::Event;
-use cip_frac::Frac;
+use cip_model::Frac;
 
 /// What a plugin is asked for, beside the view.
 #[derive(Clone, Copy, Drop)]

@@ -8,7 +8,7 @@ use crate::proposals::{Cut, Enforced, Guess, Reduction, Split, Wish};
 use crate::views::View;
 use cip_cert::Priced;
 use cip_events::{Event, EventMask};
-use cip_frac::Frac;
+use cip_model::Frac;
 use std::alloc::{AllocError, Global};
 
 /// What every plugin has. `Err` of a callback says that memory was refused there: it counts as no answer, and ends

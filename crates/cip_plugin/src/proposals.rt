@@ -1,7 +1,6 @@
 //! What plugins propose and wish. Nothing is checked here: the search judges each proposal before anything changes.
 use cip_cert::SplitCut;
-use cip_frac::Frac;
-use cip_lin::{Combo, Side};
+use cip_model::{Combo, Frac, Side};
 
 /// A row that a combination implies; or a split, where there is one, and the combination counts for nothing.
 #[derive(Drop)]

@@ -1,8 +1,6 @@
 //! What plugins see of the search.
 use cip_cert::PoolRow;
-use cip_frac::Frac;
-use cip_lin::{Bounds, Combo, Row};
-use cip_model::Blocks;
+use cip_model::{Blocks, Bounds, Combo, Frac, Row};
 
 /// The node in work and the program that is solved, lent for one call.
 #[derive(Clone, Copy, Debug, Drop)]

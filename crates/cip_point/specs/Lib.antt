@@ -4,3 +4,4 @@ pub mod PointKinds
 pub mod PointLinesRead
 pub mod PointReaders
 pub mod PointTexts
+pub use Rattle.cip_point_rules.specs.PointRules

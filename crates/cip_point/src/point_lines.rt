@@ -13,7 +13,7 @@ ghost use Rattle.cip_point_rules.specs.PointSteps.{no_values};
 use cip_frac::Frac;
 use cip_line_stream::fields_of;
 use cip_model::Program;
-use cip_mps_steps::numbers_are_of_names;
+use cip_point_rules::numbers_are_of_names;
 use cip_point_rules::point_steps::point_lines_have_tests;
 use cip_text::{Fields, fraction};
 use std::alloc::{AllocError, Global};

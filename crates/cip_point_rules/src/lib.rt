@@ -5,3 +5,5 @@
 pub mod point_examples;
 pub mod point_steps;
 pub mod points;
+
+pub use cip_mps_steps::numbers_are_of_names;

@@ -6,10 +6,10 @@ use Rattle.std.proofs.lemmas.Bool.{cases_lt}
 use Rattle.std.proofs.lemmas.Option.{none-some, same_Some, slice_get-get_or, slice_get_within}
 use Rattle.cip_rational.specs.Rational.{ℚ}
 use Rattle.cip_problem.specs.Activity.{value_at}
-use Rattle.cip_leaves.specs.Leaf.{at_wholes}
+use Rattle.cip_equalities.specs.Leaf.{at_wholes}
 use Rattle.cip_frac.specs.declared.operations.Wide.{Wide}
 use Rattle.cip_frac.proofs.Outcomes.{product_added-value}
-use Rattle.cip_reductions.specs.Forms.{Form, form_value, filled}
+use Rattle.cip_equalities.specs.Forms.{Form, form_value, filled}
 use Rattle.cip_postsolve.specs.StepsBack.{form_outcome, value_outcome, HasOverflow, WholesFit}
 use Rattle.cip_postsolve.specs.FilledPoints.{IsFilled}
 use Rattle.cip_postsolve.proofs.Placed.{next_of, none_next}

@@ -1,3 +1,4 @@
 pub mod FilledPoints
 pub mod Placed
 pub mod PointsBack
+pub mod PassedOn

@@ -7,5 +7,6 @@ mod places;
 mod steps;
 mod values;
 
+pub use cip_equalities::ColumnForm;
 pub use faults::PostsolveFault;
 pub use steps::{Steps, leaf_fits, postsolve, whole_part};

@@ -1,7 +1,7 @@
 //! The values of columns that stay, at the places of all columns.
 ghost use Rattle.std.specs.Prelude.{◌≡◌, ◌+◌, ◌<◌, ◌≤◌, ◌^◌, List, drop, map, IfOk, is_none};
 ghost use Rattle.cip_rational.specs.Rational.{ℚ};
-ghost use Rattle.cip_reductions.specs.WholeParts.{with_wholes};
+ghost use Rattle.cip_equalities.specs.WholeParts.{with_wholes};
 ghost use Rattle.cip_postsolve.specs.Places.{next_value, value_taken, values_behind, is_whole_left, whole_and_left};
 
 use cip_equalities::ColumnForm;

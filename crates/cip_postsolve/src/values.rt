@@ -1,8 +1,8 @@
 //! The values of all columns at a point that has those of the columns that stay at their places.
 ghost use Rattle.std.specs.Prelude.{◌≡◌, ◌<◌, length, IfOk, Ok, IsOk, MatchOption};
 ghost use Rattle.cip_problem.specs.Activity.{value_at};
-ghost use Rattle.cip_leaves.specs.Leaf.{at_wholes};
-ghost use Rattle.cip_reductions.specs.Forms.{filled};
+ghost use Rattle.cip_equalities.specs.Leaf.{at_wholes};
+ghost use Rattle.cip_equalities.specs.Forms.{filled};
 ghost use Rattle.cip_postsolve.specs.StepsBack.{form_outcome, value_outcome, HasOverflow, WholesFit};
 ghost use Rattle.cip_postsolve.specs.FilledPoints.{IsFilled};
 

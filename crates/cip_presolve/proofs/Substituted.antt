@@ -4,7 +4,7 @@ use Rattle.cip_problem.specs.Program.{Choice, Sides, Row, Program}
 use Rattle.cip_problem.specs.Choices.{choice_at, is_open}
 use Rattle.cip_reductions.specs.NarrowedPrograms.{IsExactStep}
 use Rattle.cip_reductions.specs.Forms.{Form}
-use Rattle.cip_equalities.specs.ColumnForms.{RowGives, IsSubstitute}
+use Rattle.cip_compaction.specs.ColumnForms.{RowGives, IsSubstitute}
 use Rattle.cip_presolve.specs.declared.substituting.Substitution.{Substitution}
 use Rattle.cip_presolve.specs.Substitutions.{IsFound}
 use Rattle.cip_presolve.proofs.Chained.{stays, follows}

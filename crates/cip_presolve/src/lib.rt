@@ -8,7 +8,6 @@ mod rounds;
 mod row_looks;
 mod substituting;
 
-pub use cip_compaction::Presolved;
-pub use cip_postsolve::{PostsolveFault, Steps, leaf_fits, postsolve, whole_part};
+pub use cip_compaction::{PostsolveFault, Presolved, Steps, leaf_fits, postsolve, whole_part};
 pub use presolved::{PresolveEnd, presolve, presolve_all, presolved_leads_back};
 pub use row_looks::Place;

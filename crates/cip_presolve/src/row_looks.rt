@@ -1,16 +1,14 @@
 //! What looking at one row, or at two with equal terms, comes to.
 ghost use Rattle.std.specs.Prelude.{IfOk, length, ◌<◌, ◌≡◌};
 ghost use Rattle.cip_reductions.specs.NarrowedPrograms.{IsExactStep};
-ghost use Rattle.cip_implied_sides.specs.Taken.{IsEnclosed};
+ghost use Rattle.cip_compaction.specs.Taken.{IsEnclosed};
 ghost use Rattle.cip_presolve.specs.RoundEnds.{RoundEndsRightly};
 
 use crate::keys::{are_alike, row_of};
 use crate::queues::Work;
-use cip_compaction::says_nothing;
+use cip_compaction::{Draft, Outcome, open_places, row_extent, says_nothing, try_implied};
 use cip_global_steps::try_merge;
-use cip_implied_sides::{open_places, row_extent, try_implied};
 use cip_lin::Sides;
-use cip_steps::{Draft, Outcome};
 use std::alloc::{AllocError, Global};
 
 /// A row or a column at which no point is feasible.

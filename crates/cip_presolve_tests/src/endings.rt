@@ -1,10 +1,9 @@
 //! What searches of programs end with.
 use crate::programs::has_near_columns;
-use cip_compaction::Presolved;
 use cip_frac::Frac;
 use cip_model::Program;
 use cip_report::{Answer, Ended, Held};
-use cip_solve::{Alone, Log, Options, solve_by};
+use cip_solve::{Alone, Log, Options, Presolved, solve_by};
 use std::alloc::Global;
 
 /// What a search ends with: a least cost, or which word.

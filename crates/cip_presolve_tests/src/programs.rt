@@ -2,7 +2,7 @@
 ghost use Rattle.std.specs.Prelude.{IsTrue};
 ghost use Rattle.std.specs.List.{All};
 ghost use Rattle.cip_problem.specs.NearSides.{IsNear, HasNearSides};
-ghost use Rattle.cip_core.specs.Beginning.{AreNearColumns};
+ghost use Rattle.cip_solve.specs.Beginning.{AreNearColumns};
 
 use cip_frac::Frac;
 use cip_lin::Sides;

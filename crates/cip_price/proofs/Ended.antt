@@ -17,7 +17,7 @@ use Rattle.cip_master.specs.MasterAnswers.{IsMasterAnswer}
 use Rattle.cip_master.specs.declared.answers.MasterCause.TheVariants.{Wide}
 use Rattle.cip_master.specs.declared.answers.MasterAnswer.{MasterAnswer}
 use Rattle.cip_master.specs.declared.answers.MasterAnswer.TheVariants.{Prices, Farkas, Unsolved}
-use Rattle.cip_price_rounds.specs.Asks.{Asked}
+use Rattle.cip_price_rounds.specs.Asks.{Asked, Told}
 use Rattle.cip_price_rounds.specs.PriceRounds.{trees_in, AreTrees, IsGrown, IsTold, AreAll, IsRound}
 use Rattle.cip_price_rounds.specs.declared.offering.Growth.{Growth}
 use Rattle.cip_price_rounds.specs.declared.offering.Growth.TheVariants.{Same, Grown, Full}
@@ -93,7 +93,7 @@ open_of Grown false (Some k) block g e f = refl
 
 module _ (limit rounds : ℕ) (task : Task) (first : List PoolPoint) (n : ℕ) (asks : List Asked)
     (points next : List PoolPoint) (best : Option ℚ) (answer : MasterAnswer) (shown : Shown)
-    (told telling : Option (List Asked)) (round : Round) (summed : Summed) (l : n < rounds)
+    (told telling : Option (List Told)) (round : Round) (summed : Summed) (l : n < rounds)
     (ran : Ran limit task first n asks points best) (m : IsMasterAnswer limit (holding task points) answer)
     (s : shown_in answer ≡ Some shown)
     (r : IsRound task shown.rests.items shown.prices.items told telling points next round)

@@ -3,35 +3,35 @@ use Rattle.std.proofs.Common.{◌≡◌, ℕ, suc, ◌<◌, List, [], ◌++◌, 
 use Rattle.cip_rational.specs.Rational.{ℚ}
 use Rattle.cip_columns.specs.PoolPoints.{PoolPoint}
 use Rattle.cip_master_prices.specs.MasterTasks.{Task}
-use Rattle.cip_price_rounds.specs.Asks.{Asked, Tells}
-use Rattle.cip_price_rounds.proofs.Answered.{may_tells, may_from}
-use Rattle.cip_price_rounds.proofs.Rounded.{tells_none, tells_from}
-use Rattle.cip_price.specs.PricedRounds.{Ran, None_asked, with_cause, Ends, Out_of_rounds, Is_unsolved, IsPricedBy, IsCutShort}
+use Rattle.cip_price_rounds.specs.Asks.{Asked, Told, Tells}
+use Rattle.cip_price_rounds.specs.PriceRounds.{told_in}
+use Rattle.cip_price_rounds.proofs.Telling.{tells_none, tells_from, front_none, front_behind, may_none, told_both}
+use Rattle.cip_price.specs.PricedRounds.{Ran, None_asked, with_cause, Ends, Out_of_rounds, Is_unsolved, IsRunBy, IsCutShort}
 use Rattle.cip_price.specs.Worked.{IsStep, At_cause, At_round, MayStep}
 use Rattle.cip_price.specs.declared.answers.PriceAnswer.{PriceAnswer}
 use Rattle.cip_price.specs.declared.answers.PriceCause.TheVariants.{Rounds, Master}
 use Rattle.cip_price.proofs.Ended.{LeadsTo, leads}
 
 -- so many rounds were asked, and told
-pub record IsRanTo (limit : ℕ) (task : Task) (told telling : Option (List Asked)) (first points : List PoolPoint)
+pub record IsRanTo (limit : ℕ) (task : Task) (told telling : Option (List Told)) (first points : List PoolPoint)
     (best : Option ℚ) (n : ℕ) : Type 0 where
   pub asks : List Asked
-  pub tells : Tells told asks telling
+  pub tells : Tells told (told_in task asks) telling
   pub ran : Ran limit task first n asks points best
 
-pub ran_none : (limit : ℕ) (task : Task) (told : Option (List Asked)) (points : List PoolPoint)
+pub ran_none : (limit : ℕ) (task : Task) (told : Option (List Told)) (points : List PoolPoint)
     → IsRanTo limit task told told points points None 0
 ran_none limit task told points = record { asks = []; tells = tells_none told; ran = None_asked }
 
-pub ran_begun : (limit : ℕ) (task : Task) (told : Option (List Asked)) (points : List PoolPoint) (best : Option ℚ)
+pub ran_begun : (limit : ℕ) (task : Task) (told : Option (List Told)) (points : List PoolPoint) (best : Option ℚ)
     → best ≡ None → IsRanTo limit task told told points points best 0
 ran_begun limit task told points best e =
     subst (λ (b : Option ℚ). IsRanTo limit task told told points points b 0) (sym e) (ran_none limit task told points)
 
 -- all rounds were asked
-pub ran_out : (limit rounds : ℕ) (task : Task) (told telling : Option (List Asked)) (first points : List PoolPoint)
+pub ran_out : (limit rounds : ℕ) (task : Task) (told telling : Option (List Told)) (first points : List PoolPoint)
     (best : Option ℚ) (n : ℕ) (answer : PriceAnswer) → n ≡ rounds → answer ≡ with_cause best Rounds
-    → IsRanTo limit task told telling first points best n → IsPricedBy limit rounds task told telling first points answer
+    → IsRanTo limit task told telling first points best n → IsRunBy limit rounds task told telling first points answer
 ran_out limit rounds task told telling first points best n answer e f r = record {
   asks = r.asks;
   tells = r.tells;
@@ -41,14 +41,14 @@ ran_out limit rounds task told telling first points best n answer e f r = record
 }
 
 -- what a step comes to
-abbrev pub ComesTo : (limit rounds : ℕ) → Task → (told telling : Option (List Asked))
+abbrev pub ComesTo : (limit rounds : ℕ) → Task → (told telling : Option (List Told))
     → (first points : List PoolPoint) → (best : Option ℚ) → ℕ → Option PriceAnswer → Type 0
 ComesTo limit rounds task told telling first points best n None =
     IsRanTo limit task told telling first points best (suc n)
 ComesTo limit rounds task told telling first points best n (Some answer) =
-    IsPricedBy limit rounds task told telling first points answer
+    IsRunBy limit rounds task told telling first points answer
 
-module _ (limit rounds : ℕ) (task : Task) (told middle telling : Option (List Asked))
+module _ (limit rounds : ℕ) (task : Task) (told middle telling : Option (List Told))
     (first points next : List PoolPoint) (best after : Option ℚ) (n : ℕ) (found : Option PriceAnswer)
     (l : n < rounds) (r : IsRanTo limit task told middle first points best n) where
   pub step_on : IsStep limit task middle telling points next best after found
@@ -57,7 +57,7 @@ module _ (limit rounds : ℕ) (task : Task) (told middle telling : Option (List 
       subst (ComesTo limit rounds task told telling first next after n) (sym h)
       (record {
         asks = r.asks;
-        tells = subst (Tells told r.asks) (sym e) r.tells;
+        tells = subst (Tells told (told_in task r.asks)) (sym e) r.tells;
         ends =
             subst (λ (ps : List PoolPoint). Ends limit rounds task first r.asks ps (with_cause best (Master cause)))
             (sym f)
@@ -70,24 +70,29 @@ module _ (limit rounds : ℕ) (task : Task) (told middle telling : Option (List 
       (leads limit rounds task first n r.asks points next best answer shown middle telling b.round b.summed l r.ran m s
       b.is_round b.sum_is))
     where
+      all_told : Tells told (told_in task (r.asks ++ b.is_round.asks)) telling
+      all_told =
+          subst (λ (ts : List Told). Tells told ts telling) (sym (told_both task r.asks b.is_round.asks))
+          (tells_from told middle telling (told_in task r.asks) (told_in task b.is_round.asks) r.tells b.is_round.tells)
+
       by_found : (o : Option PriceAnswer)
           → LeadsTo limit rounds task first n r.asks points next best answer shown middle telling b.round b.summed l
           r.ran m s b.is_round b.sum_is o
           → ComesTo limit rounds task told telling first next after n o
       by_found None h = record {
         asks = r.asks ++ b.is_round.asks;
-        tells = tells_from told middle telling r.asks b.is_round.asks r.tells b.is_round.tells;
+        tells = all_told;
         ran =
             subst (Ran limit task first (suc n) (r.asks ++ b.is_round.asks) next) (sym b.after_is) h;
       }
       by_found (Some answer') h = record {
         asks = r.asks ++ b.is_round.asks;
-        tells = tells_from told middle telling r.asks b.is_round.asks r.tells b.is_round.tells;
+        tells = all_told;
         ends = h;
       }
 
 -- want of memory
-pub cut_none : (limit : ℕ) (task : Task) (told : Option (List Asked)) (points : List PoolPoint)
+pub cut_none : (limit : ℕ) (task : Task) (told : Option (List Told)) (points : List PoolPoint)
     → IsCutShort limit task told told points
 cut_none limit task told points = record {
   n = 0;
@@ -99,10 +104,10 @@ cut_none limit task told points = record {
   rests = [];
   are_asks = tt;
   few = omega arith;
-  tells = may_tells told told [] (tells_none told);
+  tells = front_none told told [] (may_none told);
 }
 
-pub cut_short : (limit : ℕ) (task : Task) (told middle telling : Option (List Asked)) (first points : List PoolPoint)
+pub cut_short : (limit : ℕ) (task : Task) (told middle telling : Option (List Told)) (first points : List PoolPoint)
     (best : Option ℚ) (n : ℕ) → IsRanTo limit task told middle first points best n → MayStep task middle telling
     → IsCutShort limit task told telling first
 cut_short limit task told middle telling first points best n r m = record {
@@ -115,5 +120,5 @@ cut_short limit task told middle telling first points best n r m = record {
   rests = m.rests;
   are_asks = m.are_asks;
   few = m.few;
-  tells = may_from told middle telling r.asks m.asks r.tells m.tells;
+  tells = front_behind told middle telling (told_in task r.asks) (told_in task m.asks) r.tells m.tells;
 }

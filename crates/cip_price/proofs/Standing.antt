@@ -22,7 +22,7 @@ use Rattle.cip_master.proofs.Grown.{stay_kept}
 use Rattle.cip_master.specs.MasterAnswers.{point_of, IsPriced, IsFarkas}
 use Rattle.cip_master.specs.declared.answers.Weights.{Weights}
 use Rattle.cip_master.specs.declared.answers.MasterCause.TheVariants.{Wide}
-use Rattle.cip_price_rounds.specs.Asks.{Asked}
+use Rattle.cip_price_rounds.specs.Asks.{Asked, Told}
 use Rattle.cip_price_rounds.specs.BlockAsks.{tree_in, shown_in as asked_shown}
 use Rattle.cip_price_rounds.specs.OfferedPoints.{Grows}
 use Rattle.cip_price_rounds.specs.PriceRounds.{cons_tree, trees_in, AreTrees, AreAll, IsTold, IsRound}
@@ -176,7 +176,7 @@ open_going Same empty gap e f = cc
 open_going Grown empty gap e f = cc
 
 module _ (task : Task) (well : IsWellFormed task.program) (ok : IsTask task) (shown : Shown)
-    (told telling : Option (List Asked)) (points next : List PoolPoint) (round : Round)
+    (told telling : Option (List Told)) (points next : List PoolPoint) (round : Round)
     (long : length shown.rests.items ≡ columns task.program)
     (r : IsRound task shown.rests.items shown.prices.items told telling points next round)
     (going : round.growth ≢ Full) where
@@ -238,7 +238,7 @@ ready_grown task points next before work g h e f fits = record {
 
 module _ (task : Task) (points next : List PoolPoint) (well : IsWellFormed task.program)
     (ok : IsTask (holding task points)) (shown : Shown) (g : Grows points next)
-    (told telling : Option (List Asked)) (round : Round)
+    (told telling : Option (List Told)) (round : Round)
     (r : IsRound (holding task []) shown.rests.items shown.prices.items told telling points next round)
     (best : Option ℚ) (summed : Summed) (h : BestHolds task best) (k : SumHolds task summed) (work : PriceWork)
     (ready : IsReady (holding task next) work) (e : work.best ≡ raised best summed) (found : Option PriceAnswer)

@@ -1,5 +1,5 @@
 -- Rounds of pricing, one after another, and how they end.
-use Rattle.std.specs.Prelude.{◌≡◌, ◌≢◌, ℕ, zero, suc, ◌<◌, ◌≤◌, true, false, List, [], ◌++◌, length, Option, None, Some, Result, Ok, Err}
+use Rattle.std.specs.Prelude.{◌≡◌, ◌≢◌, ℕ, zero, suc, ◌<◌, ◌≤◌, Bool, true, false, List, [], ◌++◌, length, Option, None, Some, Result, Ok, Err}
 use Rattle.cip_rational.specs.Rational.{ℚ}
 use Rattle.cip_problem.specs.Choices.{greater}
 use Rattle.cip_problem.specs.WellFormed.{columns}
@@ -18,8 +18,8 @@ use Rattle.cip_master.specs.declared.answers.MasterCause.{MasterCause}
 use Rattle.cip_master.specs.declared.answers.MasterCause.TheVariants.{Wide}
 use Rattle.cip_master.specs.declared.answers.MasterAnswer.{MasterAnswer}
 use Rattle.cip_master.specs.declared.answers.MasterAnswer.TheVariants.{Prices, Farkas, Unsolved}
-use Rattle.cip_price_rounds.specs.Asks.{Asked, Tells, MayTell}
-use Rattle.cip_price_rounds.specs.PriceRounds.{AreAsks, first_open, shows_none, trees_in, IsGrown}
+use Rattle.cip_price_rounds.specs.Asks.{Asked, Told, Tells, MayTellTo}
+use Rattle.cip_price_rounds.specs.PriceRounds.{AreAsks, told_in, first_open, shows_none, trees_in, IsGrown}
 use Rattle.cip_price_rounds.specs.declared.offering.Growth.{Growth}
 use Rattle.cip_price_rounds.specs.declared.offering.Growth.TheVariants.{Same, Grown, Full}
 use Rattle.cip_price.specs.CrossedSides.{has_crossed}
@@ -115,8 +115,6 @@ with_cause (Some bound) cause = Bounded bound cause
 
 pub data Ends (limit rounds : ℕ) (task : Task) (first : List PoolPoint)
     : List Asked → List PoolPoint → PriceAnswer → Type 0 where
-  -- sides cross, so that nobody was asked
-  Crosses : has_crossed task ≡ true → Ends limit rounds task first [] first NoPoint
   -- as many rounds as are allowed added a point each
   Out_of_rounds : (asks : List Asked) (points : List PoolPoint) (best : Option ℚ)
       → Ran limit task first rounds asks points best
@@ -170,15 +168,28 @@ pub data Ends (limit rounds : ℕ) (task : Task) (first : List PoolPoint)
       → Ends limit rounds task first (asks ++ more) next
       (with_cause (greater best (number_of_round task answer more)) (PricerGap block))
 
--- the asks are told behind those before, and the rounds end so
-pub record IsPricedBy (limit rounds : ℕ) (task : Task) (told telling : Option (List Asked))
+-- the asks, each with its points that are dropped, are told behind what was told before, and the rounds end so
+pub record IsRunBy (limit rounds : ℕ) (task : Task) (told telling : Option (List Told))
     (first points : List PoolPoint) (answer : PriceAnswer) : Type 0 where
   pub asks : List Asked
-  pub tells : Tells told asks telling
+  pub tells : Tells told (told_in task asks) telling
   pub ends : Ends limit rounds task first asks points answer
 
--- want of memory cut a round short
-pub record IsCutShort (limit : ℕ) (task : Task) (told telling : Option (List Asked)) (first : List PoolPoint)
+-- so it is, unless sides cross: then nobody is asked, and there is no point
+abbrev pub IsPricedUnless : Bool → (limit rounds : ℕ) → Task → (told telling : Option (List Told))
+    → (first points : List PoolPoint) → PriceAnswer → Type 0
+IsPricedUnless true limit rounds task told telling first points answer =
+    Tells told [] telling × (points ≡ first) × (answer ≡ NoPoint)
+IsPricedUnless false limit rounds task told telling first points answer =
+    IsRunBy limit rounds task told telling first points answer
+
+abbrev pub IsPricedBy : (limit rounds : ℕ) → Task → (told telling : Option (List Told))
+    → (first points : List PoolPoint) → PriceAnswer → Type 0
+IsPricedBy limit rounds task told telling first points answer =
+    IsPricedUnless (has_crossed task) limit rounds task told telling first points answer
+
+-- want of memory cut a round short: of this one a front part is told of what there is to tell
+pub record IsCutShort (limit : ℕ) (task : Task) (told telling : Option (List Told)) (first : List PoolPoint)
     : Type 0 where
   pub n : ℕ
   pub asks : List Asked
@@ -189,4 +200,4 @@ pub record IsCutShort (limit : ℕ) (task : Task) (told telling : Option (List A
   pub rests : List ℚ
   pub are_asks : AreAsks task rests 0 more
   pub few : length more ≤ length task.kept.subproblems.items
-  pub tells : MayTell told (asks ++ more) telling
+  pub tells : MayTellTo (told_in task asks) (told_in task more) told telling

@@ -8,7 +8,7 @@ use Rattle.cip_master_prices.specs.declared.tasks.Shown.{Shown}
 use Rattle.cip_master.specs.declared.answers.MasterCause.TheVariants.{Wide}
 use Rattle.cip_master.specs.declared.answers.MasterAnswer.{MasterAnswer}
 use Rattle.cip_master.specs.declared.answers.MasterAnswer.TheVariants.{Prices, Farkas, Unsolved}
-use Rattle.cip_price_rounds.specs.Asks.{Asked}
+use Rattle.cip_price_rounds.specs.Asks.{Told}
 use Rattle.cip_price_rounds.specs.PriceRounds.{IsRound}
 use Rattle.cip_price_rounds.specs.declared.offering.Growth.{Growth}
 use Rattle.cip_price_rounds.specs.declared.offering.Growth.TheVariants.{Same, Grown, Full}
@@ -78,7 +78,7 @@ IsSumOf task (Farkas shown) round summed = summed ≡ Nothing
 IsSumOf task (Unsolved cause) round summed = summed ≡ Nothing
 
 -- a round behind an answer of the master program, with what is answered, and the greatest bound then
-pub record IsRoundBehind (task : Task) (answer : MasterAnswer) (shown : Shown) (told telling : Option (List Asked))
+pub record IsRoundBehind (task : Task) (answer : MasterAnswer) (shown : Shown) (told telling : Option (List Told))
     (points next : List PoolPoint) (best after : Option ℚ) (found : Option PriceAnswer) : Type 0 where
   pub round : Round
   pub is_round : IsRound task shown.rests.items shown.prices.items told telling points next round

@@ -1,5 +1,5 @@
 -- What pricing works in is made for a task, and its master program kept for the points that are held.
-use Rattle.std.specs.Prelude.{◌≡◌, ℕ, ◌≤◌, List, length, Option, None, Some, IfSome}
+use Rattle.std.specs.Prelude.{◌≡◌, ℕ, ◌≤◌, List, [], length, Option, None, Some, IfSome}
 use Rattle.cip_rational.specs.Rational.{ℚ}
 use Rattle.cip_problem.specs.WellFormed.{columns}
 use Rattle.cip_columns.specs.PoolPoints.{PoolPoint}
@@ -11,8 +11,8 @@ use Rattle.cip_master.specs.MasterAnswers.{IsMasterAnswer}
 use Rattle.cip_master.specs.declared.answers.MasterCause.{MasterCause}
 use Rattle.cip_master.specs.declared.answers.MasterAnswer.{MasterAnswer}
 use Rattle.cip_master.specs.declared.answers.MasterAnswer.TheVariants.{Unsolved}
-use Rattle.cip_price_rounds.specs.Asks.{Asked, MayTell}
-use Rattle.cip_price_rounds.specs.PriceRounds.{AreAsks}
+use Rattle.cip_price_rounds.specs.Asks.{Asked, Told, MayTellTo}
+use Rattle.cip_price_rounds.specs.PriceRounds.{AreAsks, told_in}
 use Rattle.cip_price.specs.PriceAnswers.{holding, BoundsBox, PriceHolds}
 use Rattle.cip_price.specs.PricedRounds.{with_cause, shown_in}
 use Rattle.cip_price.specs.RoundEnds.{IsRoundBehind}
@@ -26,7 +26,7 @@ pub record IsReady (task : Task) (work : PriceWork) : Type 0 where
   pub fits : FitsScratch task.program task.kept work.lagrange
 
 -- what a round comes to: the master program isn't solved, or the blocks were asked behind its answer
-pub data IsStep (limit : ℕ) (task : Task) (told telling : Option (List Asked)) (points next : List PoolPoint)
+pub data IsStep (limit : ℕ) (task : Task) (told telling : Option (List Told)) (points next : List PoolPoint)
     (best after : Option ℚ) (found : Option PriceAnswer) : Type 0 where
   At_cause : (cause : MasterCause) → IsMasterAnswer limit (holding task points) (Unsolved cause) → telling ≡ told
       → next ≡ points → after ≡ best → found ≡ Some (with_cause best (Master cause))
@@ -36,12 +36,12 @@ pub data IsStep (limit : ℕ) (task : Task) (told telling : Option (List Asked))
       → IsStep limit task told telling points next best after found
 
 -- want of memory cut it short
-pub record MayStep (task : Task) (told telling : Option (List Asked)) : Type 0 where
+pub record MayStep (task : Task) (told telling : Option (List Told)) : Type 0 where
   pub rests : List ℚ
   pub asks : List Asked
   pub are_asks : AreAsks task rests 0 asks
   pub few : length asks ≤ length task.kept.subproblems.items
-  pub tells : MayTell told asks telling
+  pub tells : MayTellTo [] (told_in task asks) told telling
 
 -- the greatest bound, if there is one, is one of the box
 abbrev pub BestHolds : Task → Option ℚ → Type 0

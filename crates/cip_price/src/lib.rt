@@ -9,4 +9,6 @@ mod rounds;
 mod work;
 
 pub use answers::{PriceAnswer, PriceCause, PriceLimits};
+pub use cip_master::MasterCause;
+pub use cip_price_rounds::{AskPricer, PointVerdict, PriceTask};
 pub use pricing::price;

@@ -30,6 +30,7 @@ struct Mixed {
 }
 
 /// One round at prices: what is answered behind it, if no further one is to be asked.
+#[tactic(auto, using(cip_price_rounds::proofs::Telling::front_all))]
 fn round_at_prices<A: AskPricer>(
     alloc: Global,
     task: &PriceTask<'_>,
@@ -132,7 +133,8 @@ fn one_round<A: AskPricer>(
 
 /// Prices the blocks of a program in a box, in rounds: the master program of the points that are held is solved, and
 /// each block is asked for points and a tree at what its multipliers leave of the costs. Points of the block are put
-/// into the pool; a tree counts where its check accepts it.
+/// into the pool, and the others are dropped, of each of which who answered is told right behind the ask; a tree counts
+/// where its check accepts it.
 ///
 /// `Closed` comes where trees show at prices that no point of a block costs less than its price: then the mixture of
 /// the weights is least among all. `NoPoint` comes where the sides of a column or of a master row cross, where a tree

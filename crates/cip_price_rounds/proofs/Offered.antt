@@ -1,20 +1,24 @@
 -- Points that are offered one after another.
-use Rattle.std.proofs.Common.{◌≡◌, ◌≢◌, ℕ, ◌+◌, ◌<◌, ◌≤◌, List, [], ◌∷◌, ◌++◌, length, Option, None, Some, take, drop, get_or, refl, sym, ap, ◌∙◌, subst, arith}
+use Rattle.std.proofs.Common.{◌≡◌, ℕ, ◌+◌, ◌<◌, ◌≤◌, List, [], ◌∷◌, ◌++◌, length, Option, take, get_or, refl, sym, ap, ◌∙◌, subst, arith}
 use Rattle.std.specs.List.{Contains}
-use Rattle.std.proofs.lemmas.List.{append-nil, append_assoc, length-append, length_push, get_or_append_left, get_or-append-add, take-append-drop, take_more}
+use Rattle.std.proofs.lemmas.List.{append-nil, append_assoc, length-append, length_push, get_or_append_left, get_or-append-add, take_more}
 use Rattle.std.proofs.lemmas.List.Elements.{All-append, All-cons, All-nil}
 use Rattle.std.proofs.lemmas.List.Quantifiers.{Any-push}
 use Rattle.cip_rational.specs.Rational.{ℚ}
 use Rattle.cip_cert.specs.declared.pricing.BlockPoint.{BlockPoint}
 use Rattle.cip_columns.specs.PoolPoints.{PoolPoint}
-use Rattle.cip_columns.specs.ColumnPools.{Serves, IsKnown}
+use Rattle.cip_columns.specs.ColumnPools.{most_points, Serves, IsKnown}
 use Rattle.cip_columns.specs.declared.pools.Added.{Added}
 use Rattle.cip_columns.specs.declared.pools.Added.TheVariants.{New, Known, Full as NoRoom}
-use Rattle.cip_block_points.specs.TakenPoints.{IsPut}
+use Rattle.cip_block_points.specs.TakenPoints.{IsTaken}
+use Rattle.cip_block_points.specs.declared.verdicts.PointVerdict.{PointVerdict}
+use Rattle.cip_block_points.specs.declared.taking.Taken.TheVariants.{Offered}
 use Rattle.cip_master_prices.specs.MasterTasks.{Task}
-use Rattle.cip_price_rounds.specs.OfferedPoints.{Grows, IsIn, IsGood, AreIn, IsLeftOut, IsOffered, growth_of, joint}
+use Rattle.cip_price_rounds.specs.Asks.{Told, Tells}
+use Rattle.cip_price_rounds.specs.OfferedPoints.{Grows, IsIn, IsGood, AreIn, IsLeftOut, IsOffered, growth_of, joint, drop_by, drop_of}
 use Rattle.cip_price_rounds.specs.declared.offering.Growth.{Growth}
 use Rattle.cip_price_rounds.specs.declared.offering.Growth.TheVariants.{Same, Grown, Full}
+use Rattle.cip_price_rounds.proofs.Telling.{tells_none}
 
 -- ---- pools that grow
 
@@ -52,13 +56,8 @@ one_in task block points p h =
     All-cons (λ (q : BlockPoint). IsGood task block q.values.items → IsIn points block q.values.items) p [] h
     (All-nil (λ (q : BlockPoint). IsGood task block q.values.items → IsIn points block q.values.items))
 
-pub dropped : (task : Task) (block : ℕ) (p : BlockPoint) (before after : List PoolPoint)
-    → IsPut task.program task.kept block p.values.items before after None
-    → IsOffered task block (p ∷ []) before after Same
-dropped task block p before after t = (t.1, one_in task block after p (λ good. absurd (t.0 good)))
-
 pub added_new : (task : Task) (block : ℕ) (p : BlockPoint) (before after : List PoolPoint) (id : ℕ)
-    → IsPut task.program task.kept block p.values.items before after (Some (New id))
+    → IsTaken task.program task.kept block p.values.items before after (Offered (New id))
     → IsOffered task block (p ∷ []) before after Grown
 added_new task block p before after id t =
     let e = t.1.3 in
@@ -71,7 +70,7 @@ added_new task block p before after id t =
     )
 
 pub added_known : (task : Task) (block : ℕ) (p : BlockPoint) (before after : List PoolPoint) (id : ℕ)
-    → IsPut task.program task.kept block p.values.items before after (Some (Known id))
+    → IsTaken task.program task.kept block p.values.items before after (Offered (Known id))
     → IsOffered task block (p ∷ []) before after Same
 added_known task block p before after id t = (
   t.1.1,
@@ -80,7 +79,7 @@ added_known task block p before after id t = (
 )
 
 pub added_full : (task : Task) (block : ℕ) (p : BlockPoint) (before after : List PoolPoint)
-    → IsPut task.program task.kept block p.values.items before after (Some NoRoom)
+    → IsTaken task.program task.kept block p.values.items before after (Offered NoRoom)
     → IsOffered task block (p ∷ []) before after Full
 added_full task block p before after t =
     subst (λ (ps : List PoolPoint). IsOffered task block (p ∷ []) before ps Full) (sym t.1.2) (
@@ -110,14 +109,12 @@ left_more task block points xs ys h = record {
     further xs ys p (k, l, e) =
         (length xs + k, omega (arith, l, length-append xs ys), get_or-append-add xs ys k p ∙ e)
 
-pub left_whole : (task : Task) (block : ℕ) (points : List PoolPoint) (brought : List BlockPoint) (n : ℕ)
-    → IsLeftOut task block points (take n brought) → IsLeftOut task block points brought
-left_whole task block points brought n h = record {
+left_first : (task : Task) (block : ℕ) (points : List PoolPoint) (xs ys : List BlockPoint)
+    → IsLeftOut task block points xs → IsLeftOut task block points (xs ++ ys)
+left_first task block points xs ys h = record {
   full = h.full;
   point = h.point;
-  is_brought =
-      subst (λ (ps : List BlockPoint). Contains ps h.point) (take-append-drop n brought)
-      (nearer (take n brought) (drop n brought) h.point h.is_brought);
+  is_brought = nearer xs ys h.point h.is_brought;
   good = h.good;
   unknown = h.unknown;
 }
@@ -131,7 +128,7 @@ both_in : (task : Task) (block : ℕ) (points : List PoolPoint) (xs ys : List Bl
 both_in task block points xs ys h k =
     All-append (λ (q : BlockPoint). IsGood task block q.values.items → IsIn points block q.values.items) xs ys h k
 
-same_grows : (before after : List PoolPoint) → after ≡ before → Grows before after
+pub same_grows : (before after : List PoolPoint) → after ≡ before → Grows before after
 same_grows before after e = ([], e ∙ sym (append-nil before))
 
 pub offered_grows : (task : Task) (block : ℕ) (brought : List BlockPoint) (before after : List PoolPoint)
@@ -144,7 +141,7 @@ longer : (first middle : List PoolPoint) → Grows first middle → length first
 longer first middle (more, e) = omega (arith, ap length e, length-append first more)
 
 pub offered_both : (task : Task) (block : ℕ) (xs ys : List BlockPoint) (first middle last : List PoolPoint)
-    (growth next : Growth) → growth ≢ Full → IsOffered task block xs first middle growth
+    (growth next : Growth) → (length middle ≡ most_points → last ≡ middle) → IsOffered task block xs first middle growth
     → IsOffered task block ys middle last next → IsOffered task block (xs ++ ys) first last (joint growth next)
 offered_both task block xs ys first middle last Same Same n h k = (
   k.0 ∙ h.0,
@@ -175,7 +172,9 @@ offered_both task block xs ys first middle last Grown Full n h k = (
   grows_by first middle last h.0 k.0,
   left_more task block last xs ys k.1,
 )
-offered_both task block xs ys first middle last Full next n h k = absurd (n refl)
+offered_both task block xs ys first middle last Full next n h k =
+    subst (λ (ps : List PoolPoint). IsOffered task block (xs ++ ys) first ps Full) (sym (n h.1.full))
+    (h.0, left_first task block middle xs ys h.1)
 
 -- nothing was offered
 pub offered_none : (task : Task) (block : ℕ) (points : List PoolPoint) → IsOffered task block [] points points Same
@@ -185,7 +184,7 @@ offered_none task block points =
 -- one point more of a list
 pub offered_more : (task : Task) (block : ℕ) (brought : List BlockPoint) (at : ℕ) (p : BlockPoint)
     (first middle last : List PoolPoint) (growth next : Growth) → at < length brought → p ≡ get_or brought at p
-    → growth ≢ Full → IsOffered task block (take at brought) first middle growth
+    → (length middle ≡ most_points → last ≡ middle) → IsOffered task block (take at brought) first middle growth
     → IsOffered task block (p ∷ []) middle last next
     → IsOffered task block (take (at + 1) brought) first last (joint growth next)
 offered_more task block brought at p first middle last growth next l e n h k =
@@ -194,24 +193,24 @@ offered_more task block brought at p first middle last growth next l e n h k =
     (offered_both task block (take at brought) (p ∷ []) first middle last growth next n h k)
 
 -- one point, by what adding it came to
-pub offered_one : (task : Task) (block : ℕ) (p : BlockPoint) (before after : List PoolPoint) (put : Option Added)
-    → IsPut task.program task.kept block p.values.items before after put
-    → IsOffered task block (p ∷ []) before after (growth_of put)
-offered_one task block p before after None t = dropped task block p before after t
-offered_one task block p before after (Some (New id)) t = added_new task block p before after id t
-offered_one task block p before after (Some (Known id)) t = added_known task block p before after id t
-offered_one task block p before after (Some NoRoom) t = added_full task block p before after t
+pub offered_one : (task : Task) (block : ℕ) (p : BlockPoint) (before after : List PoolPoint) (added : Added)
+    → IsTaken task.program task.kept block p.values.items before after (Offered added)
+    → IsOffered task block (p ∷ []) before after (growth_of added)
+offered_one task block p before after (New id) t = added_new task block p before after id t
+offered_one task block p before after (Known id) t = added_known task block p before after id t
+offered_one task block p before after NoRoom t = added_full task block p before after t
 
-same_full : ¬ (Same ≡ Full)
-same_full e = cc
+-- a full pool takes no point
+pub full_stays : (task : Task) (block : ℕ) (p : BlockPoint) (before after : List PoolPoint) (added : Added)
+    → IsTaken task.program task.kept block p.values.items before after (Offered added)
+    → length before ≡ most_points → after ≡ before
+full_stays task block p before after (New id) t e = absurd (omega (arith, e, t.1.1))
+full_stays task block p before after (Known id) t e = t.1.1
+full_stays task block p before after NoRoom t e = t.1.2
 
-grown_full : ¬ (Grown ≡ Full)
-grown_full e = cc
-
--- a full pool leaves out a point of the whole list
-pub offered_cut : (task : Task) (block : ℕ) (brought : List BlockPoint) (n : ℕ) (first last : List PoolPoint)
-    (growth : Growth) → growth ≡ Full → IsOffered task block (take n brought) first last growth
-    → IsOffered task block brought first last growth
-offered_cut task block brought n first last Same e h = absurd (same_full e)
-offered_cut task block brought n first last Grown e h = absurd (grown_full e)
-offered_cut task block brought n first last Full e h = (h.0, left_whole task block last brought n h.1)
+-- nothing is told of a point that was offered
+pub offered_tells : (task : Task) (block place : ℕ) (p : BlockPoint) (before after : List PoolPoint) (added : Added)
+    (told : Option (List Told)) → IsTaken task.program task.kept block p.values.items before after (Offered added)
+    → Tells told (drop_of task block place p) told
+offered_tells task block place p before after added told t =
+    subst (λ (v : PointVerdict). Tells told (drop_by block place v) told) (sym t.0) (tells_none told)

@@ -2,7 +2,7 @@
 use Rattle.std.proofs.Common.{◌≡◌, ◌≢◌, ℕ, zero, suc, ◌+◌, ◌<◌, ◌≤◌, Bool, true, false, cond, ◌||◌, List, [], ◌∷◌, ◌++◌, length, Option, None, Some, refl, sym, ap, ◌∙◌, subst, arith, true≢false}
 use Rattle.std.specs.Prelude.{Vec, IfSome, IsSome}
 use Rattle.std.specs.Global.{Global}
-use Rattle.std.proofs.lemmas.List.{append-nil, append_assoc, length_push}
+use Rattle.std.proofs.lemmas.List.{append-nil, length_push}
 use Rattle.cip_rational.specs.Rational.{ℚ}
 use Rattle.cip_problem.specs.Activity.{value_at}
 use Rattle.cip_cert.specs.declared.pricing.BoundTree.{BoundTree}
@@ -10,16 +10,16 @@ use Rattle.cip_cert.specs.declared.pricing.Priced.{Priced}
 use Rattle.cip_columns.specs.PoolPoints.{PoolPoint}
 use Rattle.cip_lagrange.specs.declared.answers.TreeBound.{TreeBound}
 use Rattle.cip_master_prices.specs.MasterTasks.{Task}
-use Rattle.cip_price_rounds.specs.Asks.{Asked, Tells, MayTell}
+use Rattle.cip_price_rounds.specs.Asks.{Asked, Told, Tells, MayTellTo}
 use Rattle.cip_price_rounds.specs.OfferedPoints.{Grows, AreIn, IsOffered, joint}
-use Rattle.cip_price_rounds.specs.BlockAsks.{costs_in, ask_of, points_in, tree_in, shown_by, shown_in, closes, bound_in, AcceptsTree, AnswersBlock, MayAnswer, Not_asked, Was_asked}
-use Rattle.cip_price_rounds.specs.PriceRounds.{AreAsks, first_open, is_empty_bound, shows_none, cons_tree, trees_in, AreHeldOf, IsGrown, first_gap, IsTreePut, AreTrees, IsTold, AreAll, IsRound, MayRound}
+use Rattle.cip_price_rounds.specs.BlockAsks.{costs_in, ask_of, points_in, tree_in, shown_by, shown_in, closes, bound_in, AcceptsTree, told_of, AnswersBlock, MayAnswer}
+use Rattle.cip_price_rounds.specs.PriceRounds.{AreAsks, told_in, first_open, is_empty_bound, shows_none, cons_tree, trees_in, AreHeldOf, IsGrown, first_gap, IsTreePut, AreTrees, IsTold, AreAll, IsRound, MayRound}
 use Rattle.cip_price_rounds.specs.declared.answers.Accepted.{Accepted}
 use Rattle.cip_price_rounds.specs.declared.answers.BlockAnswer.{BlockAnswer}
 use Rattle.cip_price_rounds.specs.declared.offering.Growth.{Growth}
 use Rattle.cip_price_rounds.specs.declared.offering.Growth.TheVariants.{Same, Grown, Full}
 use Rattle.cip_price_rounds.specs.declared.rounds.Round.{Round}
-use Rattle.cip_price_rounds.proofs.Answered.{may_tells, may_from}
+use Rattle.cip_price_rounds.proofs.Telling.{tells_none, tells_from, front_from, front_all, told_more}
 use Rattle.cip_price_rounds.proofs.Offered.{grows_by, all_grown}
 
 -- ---- asks
@@ -40,19 +40,6 @@ asks_more task rests first (suc n) (a ∷ rest) answer e h =
       subst (λ k. AreAsks task rests (suc first) (rest ++ ask_of task rests k answer ∷ [])) next
           (asks_more task rests (suc first) n rest answer (omega (arith, e)) h.1),
     )
-
-pub tells_none : (told : Option (List Asked)) → Tells told [] told
-tells_none None = refl
-tells_none (Some before) = ap Some (sym (append-nil before))
-
-pub tells_from : (told middle last : Option (List Asked)) (asks more : List Asked) → Tells told asks middle
-    → Tells middle more last → Tells told (asks ++ more) last
-tells_from None middle last asks more h k =
-    subst (λ (m : Option (List Asked)). Tells m more last) h k
-tells_from (Some before) middle last asks more h k =
-    let e : last ≡ Some ((before ++ asks) ++ more) =
-    subst (λ (m : Option (List Asked)). Tells m more last) h k in
-    e ∙ ap Some (append_assoc before asks more)
 
 -- ---- what trees show
 
@@ -204,7 +191,7 @@ grown_more task asks a first middle last Full next n h k = absurd (n refl)
 -- ---- the loop over the blocks
 
 -- what is asked of a block is what is left of its costs
-pub answers_at : (task : Task) (rests costs : List ℚ) (block n : ℕ) (told telling : Option (List Asked))
+pub answers_at : (task : Task) (rests costs : List ℚ) (block n : ℕ) (told telling : Option (List Told))
     (before after : List PoolPoint) (found : BlockAnswer) → costs ≡ costs_in task rests n → block ≡ n
     → AnswersBlock task costs block told telling before after found
     → AnswersBlock task (costs_in task rests n) n told telling before after found
@@ -212,7 +199,7 @@ answers_at task rests costs block n told telling before after found e f h =
     subst (λ (b : ℕ). AnswersBlock task (costs_in task rests n) b told telling before after found) f
     (subst (λ (cs : List ℚ). AnswersBlock task cs block told telling before after found) e h)
 
-pub may_at : (task : Task) (rests costs : List ℚ) (block n : ℕ) (told telling : Option (List Asked))
+pub may_at : (task : Task) (rests costs : List ℚ) (block n : ℕ) (told telling : Option (List Told))
     → costs ≡ costs_in task rests n → block ≡ n → MayAnswer task costs block told telling
     → MayAnswer task (costs_in task rests n) n told telling
 may_at task rests costs block n told telling e f h =
@@ -220,12 +207,12 @@ may_at task rests costs block n told telling e f h =
     (subst (λ (cs : List ℚ). MayAnswer task cs block told telling) e h)
 
 -- the round as far as the first so many blocks
-pub record IsRoundTo (task : Task) (rests prices : List ℚ) (told telling : Option (List Asked))
+pub record IsRoundTo (task : Task) (rests prices : List ℚ) (told telling : Option (List Told))
     (before after : List PoolPoint) (round : Round) (n : ℕ) : Type 0 where
   pub asks : List Asked
   pub are_asks : AreAsks task rests 0 asks
   pub long : length asks ≡ n
-  pub tells : Tells told asks telling
+  pub tells : Tells told (told_in task asks) telling
   pub grown : IsGrown task asks before after round.growth
   pub is_told : IsTold task prices asks round
 
@@ -235,7 +222,7 @@ pub record ArePut (block : ℕ) (price : ℚ) (found : BlockAnswer) (before afte
   pub none : after.is_empty ≡ (before.is_empty || is_empty_bound (bound_in found.accepted))
   pub trees : IsTreePut before.trees found.accepted after.trees
 
-module _ (task : Task) (rests prices : List ℚ) (told middle last : Option (List Asked))
+module _ (task : Task) (rests prices : List ℚ) (told middle last : Option (List Told))
     (first pool next : List PoolPoint) (before after : Round) (n : ℕ) (price : ℚ) (found : BlockAnswer)
     (going : before.growth ≢ Full) (r : IsRoundTo task rests prices told middle first pool before n)
     (a : AnswersBlock task (costs_in task rests n) n middle last pool next found) (price_is : price ≡ value_at prices n)
@@ -250,7 +237,9 @@ module _ (task : Task) (rests prices : List ℚ) (told middle last : Option (Lis
         subst (λ k. AreAsks task rests 0 (r.asks ++ ask_of task rests k a.answer ∷ [])) (omega arith)
         (asks_more task rests 0 n r.asks a.answer r.long r.are_asks);
     long = length_push r.asks (ask_of task rests n a.answer) ∙ ap (λ k. k + 1) r.long;
-    tells = tells_from told middle last r.asks (ask_of task rests n a.answer ∷ []) r.tells a.tells;
+    tells =
+        subst (λ (ts : List Told). Tells told ts last) (sym (told_more task r.asks (ask_of task rests n a.answer)))
+        (tells_from told middle last (told_in task r.asks) (told_of task (ask_of task rests n a.answer)) r.tells a.tells);
     grown =
         subst (IsGrown task (r.asks ++ ask_of task rests n a.answer ∷ []) first next) (sym put.growth)
         (grown_more task r.asks (ask_of task rests n a.answer) first pool next before.growth found.growth going r.grown
@@ -276,7 +265,7 @@ module _ (task : Task) (rests prices : List ℚ) (told middle last : Option (Lis
     };
   }
 
-pub round_begun : (task : Task) (rests prices : List ℚ) (told : Option (List Asked)) (pool : List PoolPoint)
+pub round_begun : (task : Task) (rests prices : List ℚ) (told : Option (List Told)) (pool : List PoolPoint)
     (round : Round) → round.growth ≡ Same → round.gap ≡ None → round.is_empty ≡ false
     → IfSome round.trees (λ trees. trees.items ≡ []) × IsSome round.trees
     → IsRoundTo task rests prices told told pool pool round 0
@@ -295,7 +284,7 @@ round_begun task rests prices told pool round e f g h = record {
     no_trees (Some ts) k = ap Some (sym k.0)
 
 -- all blocks were asked
-pub round_whole : (task : Task) (rests prices : List ℚ) (told telling : Option (List Asked))
+pub round_whole : (task : Task) (rests prices : List ℚ) (told telling : Option (List Told))
     (before after : List PoolPoint) (round : Round) (n : ℕ) → n ≡ length task.kept.subproblems.items
     → round.growth ≢ Full → IsRoundTo task rests prices told telling before after round n
     → IsRound task rests prices told telling before after round
@@ -313,7 +302,7 @@ round_whole task rests prices told telling before after round n e going r = reco
     cases Full g = absurd (g refl)
 
 -- the pool is full
-pub round_full : (task : Task) (rests prices : List ℚ) (told telling : Option (List Asked))
+pub round_full : (task : Task) (rests prices : List ℚ) (told telling : Option (List Told))
     (before after : List PoolPoint) (round : Round) (n : ℕ) → n ≤ length task.kept.subproblems.items
     → round.growth ≡ Full → IsRoundTo task rests prices told telling before after round n
     → IsRound task rests prices told telling before after round
@@ -325,42 +314,38 @@ round_full task rests prices told telling before after round n l e r = record {
   all = subst (AreAll task prices r.asks round) (sym e) (omega (arith, r.long, l));
 }
 
--- want of memory cut it short: before a block was asked, behind the ask, or behind the answer
-pub round_stopped : (task : Task) (rests prices : List ℚ) (told telling : Option (List Asked))
+-- want of memory cut it short: before a block was asked, or behind the ask
+pub round_stopped : (task : Task) (rests prices : List ℚ) (told telling : Option (List Told))
     (before after : List PoolPoint) (round : Round) (n : ℕ) → n < length task.kept.subproblems.items
     → IsRoundTo task rests prices told telling before after round n → MayRound task rests told telling
 round_stopped task rests prices told telling before after round n l r = record {
   asks = r.asks;
   are_asks = r.are_asks;
   few = omega (arith, r.long, l);
-  tells = may_tells told telling r.asks r.tells;
+  tells = front_all told telling (told_in task r.asks) r.tells;
 }
 
-pub round_cut : (task : Task) (rests prices : List ℚ) (told middle last : Option (List Asked))
+pub round_cut : (task : Task) (rests prices : List ℚ) (told middle last : Option (List Told))
     (first pool : List PoolPoint) (round : Round) (n : ℕ) → n < length task.kept.subproblems.items
     → IsRoundTo task rests prices told middle first pool round n
     → MayAnswer task (costs_in task rests n) n middle last → MayRound task rests told last
-round_cut task rests prices told middle last first pool round n l r (Not_asked t) = record {
-  asks = r.asks;
-  are_asks = r.are_asks;
-  few = omega (arith, r.long, l);
-  tells =
-      subst (λ (asks : List Asked). MayTell told asks last) (append-nil r.asks)
-      (may_from told middle last r.asks [] r.tells t);
-}
-round_cut task rests prices told middle last first pool round n l r (Was_asked answer t) = record {
-  asks = r.asks ++ ask_of task rests n answer ∷ [];
-  few = omega (arith, r.long, l, length_push r.asks (ask_of task rests n answer));
+round_cut task rests prices told middle last first pool round n l r m = record {
+  asks = r.asks ++ ask_of task rests n m.answer ∷ [];
+  few = omega (arith, r.long, l, length_push r.asks (ask_of task rests n m.answer));
   are_asks =
-      subst (λ k. AreAsks task rests 0 (r.asks ++ ask_of task rests k answer ∷ [])) (omega arith)
-      (asks_more task rests 0 n r.asks answer r.long r.are_asks);
-  tells = may_from told middle last r.asks (ask_of task rests n answer ∷ []) r.tells t;
+      subst (λ k. AreAsks task rests 0 (r.asks ++ ask_of task rests k m.answer ∷ [])) (omega arith)
+      (asks_more task rests 0 n r.asks m.answer r.long r.are_asks);
+  tells =
+      subst (λ (ts : List Told). MayTellTo [] ts told last) (sym (told_more task r.asks (ask_of task rests n m.answer)))
+      (front_from told middle last (told_in task r.asks) (told_of task (ask_of task rests n m.answer)) r.tells m.tells);
 }
 
-pub round_unput : (task : Task) (rests prices : List ℚ) (told middle last : Option (List Asked))
+pub round_unput : (task : Task) (rests prices : List ℚ) (told middle last : Option (List Told))
     (first pool next : List PoolPoint) (round : Round) (n : ℕ) (found : BlockAnswer)
     → n < length task.kept.subproblems.items → IsRoundTo task rests prices told middle first pool round n
     → AnswersBlock task (costs_in task rests n) n middle last pool next found → MayRound task rests told last
 round_unput task rests prices told middle last first pool next round n found l r a =
-    round_cut task rests prices told middle last first pool round n l r
-    (Was_asked a.answer (may_tells middle last (ask_of task rests n a.answer ∷ []) a.tells))
+    round_cut task rests prices told middle last first pool round n l r (record {
+      answer = a.answer;
+      tells = front_all middle last (told_of task (ask_of task rests n a.answer)) a.tells;
+    })

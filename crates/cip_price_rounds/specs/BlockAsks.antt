@@ -15,8 +15,8 @@ use Rattle.cip_lagrange.specs.declared.answers.TreeFault.{TreeFault}
 use Rattle.cip_lagrange.specs.TreeOutcomes.{Asked as TreeAsked, node_in, tree_outcome}
 use Rattle.cip_lagrange.specs.TreeMeaning.{own_rows}
 use Rattle.cip_master_prices.specs.MasterTasks.{Task}
-use Rattle.cip_price_rounds.specs.Asks.{Asked, Tells, MayTell}
-use Rattle.cip_price_rounds.specs.OfferedPoints.{IsOffered}
+use Rattle.cip_price_rounds.specs.Asks.{Asked, Told, Asks, Tells, MayTellTo}
+use Rattle.cip_price_rounds.specs.OfferedPoints.{IsOffered, drops_from}
 use Rattle.cip_price_rounds.specs.declared.answers.Accepted.{Accepted}
 use Rattle.cip_price_rounds.specs.declared.answers.BlockAnswer.{BlockAnswer}
 use Rattle.cip_price_rounds.specs.declared.asks.BlockAsk.{BlockAsk}
@@ -57,6 +57,10 @@ points_in (Some priced) = priced.points.items
 abbrev pub tree_in : Option Priced → Option BoundTree
 tree_in None = None
 tree_in (Some priced) = priced.tree
+
+-- what is told of an ask: it, and right behind it each point of its answer that is dropped, in order
+abbrev pub told_of : Task → Asked → List Told
+told_of task asked = Asks asked ∷ drops_from task asked.block 0 (points_in asked.answer)
 
 -- what a block is asked: it is a block of the program, with a cost for each of its columns, in its part of the box
 pub record IsBlockAsk (task : Task) (ask : BlockAsk) : Type 0 where
@@ -119,15 +123,14 @@ pub record IsBlockAnswer (task : Task) (costs : List ℚ) (block : ℕ) (answer 
   pub offered : IsOffered task block (points_in answer) before after found.growth
   pub accepted : AcceptsTree task costs block (tree_in answer) found.accepted
 
--- a pricer answered this for a block at these costs, told so, and this came of it
-pub record AnswersBlock (task : Task) (costs : List ℚ) (block : ℕ) (told telling : Option (List Asked))
+-- a pricer answered this for a block at these costs, told so, with the points that were dropped, and this came of it
+pub record AnswersBlock (task : Task) (costs : List ℚ) (block : ℕ) (told telling : Option (List Told))
     (before after : List PoolPoint) (found : BlockAnswer) : Type 0 where
   pub answer : Option Priced
-  pub tells : Tells told (ask_at task costs block answer ∷ []) telling
+  pub tells : Tells told (told_of task (ask_at task costs block answer)) telling
   pub comes : IsBlockAnswer task costs block answer before after found
 
--- it was asked and told so, or wasn't, or tells nothing any more
-pub data MayAnswer (task : Task) (costs : List ℚ) (block : ℕ) (told telling : Option (List Asked)) : Type 0 where
-  Not_asked : MayTell told [] telling → MayAnswer task costs block told telling
-  Was_asked : (answer : Option Priced) → MayTell told (ask_at task costs block answer ∷ []) telling
-      → MayAnswer task costs block told telling
+-- it told a front part of that, or tells nothing any more
+pub record MayAnswer (task : Task) (costs : List ℚ) (block : ℕ) (told telling : Option (List Told)) : Type 0 where
+  pub answer : Option Priced
+  pub tells : MayTellTo [] (told_of task (ask_at task costs block answer)) told telling

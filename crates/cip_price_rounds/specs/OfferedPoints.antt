@@ -1,5 +1,5 @@
--- What becomes of a pool as points are offered to it.
-use Rattle.std.specs.Prelude.{◌≡◌, ℕ, ◌<◌, List, ◌++◌, length, Option, None, Some, All}
+-- What becomes of a pool as points are offered to it, and what is told of those that are dropped.
+use Rattle.std.specs.Prelude.{◌≡◌, ℕ, suc, ◌<◌, List, [], ◌∷◌, ◌++◌, length, All}
 use Rattle.std.specs.List.{Any, Contains}
 use Rattle.cip_rational.specs.Rational.{ℚ}
 use Rattle.cip_cert.specs.declared.pricing.BlockPoint.{BlockPoint}
@@ -8,8 +8,10 @@ use Rattle.cip_columns.specs.ColumnPools.{most_points, Serves, IsUnknown}
 use Rattle.cip_columns.specs.declared.pools.Added.{Added}
 use Rattle.cip_columns.specs.declared.pools.Added.TheVariants.{New, Known, Full as NoRoom}
 use Rattle.cip_block_points.specs.BlockVerdicts.{block_verdict}
-use Rattle.cip_block_points.specs.declared.verdicts.PointVerdict.TheVariants.{Good}
+use Rattle.cip_block_points.specs.declared.verdicts.PointVerdict.{PointVerdict}
+use Rattle.cip_block_points.specs.declared.verdicts.PointVerdict.TheVariants.{Good, WrongCount, BreaksBound, BreaksWhole, BreaksRow, Wide}
 use Rattle.cip_master_prices.specs.MasterTasks.{Task}
+use Rattle.cip_price_rounds.specs.Asks.{Told, Drops}
 use Rattle.cip_price_rounds.specs.declared.offering.Growth.{Growth}
 use Rattle.cip_price_rounds.specs.declared.offering.Growth.TheVariants.{Same, Grown, Full}
 
@@ -54,9 +56,33 @@ joint Grown Grown = Grown
 joint Grown Full = Full
 joint Full next = Full
 
--- what became of the pool, by what adding a point came to; there is no answer where it was dropped
-abbrev pub growth_of : Option Added → Growth
-growth_of None = Same
-growth_of (Some (New id)) = Grown
-growth_of (Some (Known id)) = Same
-growth_of (Some NoRoom) = Full
+-- what became of the pool, by what adding a point came to
+abbrev pub growth_of : Added → Growth
+growth_of (New id) = Grown
+growth_of (Known id) = Same
+growth_of NoRoom = Full
+
+-- ---- points that are dropped
+
+-- that the point at a place of an answer is dropped
+abbrev pub drop_at : (block place : ℕ) → PointVerdict → Told
+drop_at block place verdict = Drops (record { block = block; place = place; verdict = verdict })
+
+-- what is told of it, by the verdict: it is dropped unless that is good
+abbrev pub drop_by : (block place : ℕ) → PointVerdict → List Told
+drop_by block place Good = []
+drop_by block place WrongCount = drop_at block place WrongCount ∷ []
+drop_by block place (BreaksBound column) = drop_at block place (BreaksBound column) ∷ []
+drop_by block place (BreaksWhole column) = drop_at block place (BreaksWhole column) ∷ []
+drop_by block place (BreaksRow row value) = drop_at block place (BreaksRow row value) ∷ []
+drop_by block place (Wide row) = drop_at block place (Wide row) ∷ []
+
+abbrev pub drop_of : Task → (block place : ℕ) → BlockPoint → List Told
+drop_of task block place point =
+    drop_by block place (block_verdict task.program task.kept block point.values.items)
+
+-- what is told of points, one after another, from a place on
+abbrev pub drops_from : Task → (block place : ℕ) → List BlockPoint → List Told
+drops_from task block place [] = []
+drops_from task block place (point ∷ points) =
+    drop_of task block place point ++ drops_from task block (suc place) points

@@ -9,9 +9,9 @@ use Rattle.cip_columns.specs.PoolPoints.{PoolPoint}
 use Rattle.cip_lagrange.specs.declared.answers.TreeBound.{TreeBound}
 use Rattle.cip_lagrange.specs.declared.answers.TreeBound.TheVariants.{Finite, NoPoint}
 use Rattle.cip_master_prices.specs.MasterTasks.{Task}
-use Rattle.cip_price_rounds.specs.Asks.{Asked, Tells, MayTell}
+use Rattle.cip_price_rounds.specs.Asks.{Asked, Told, Tells, MayTellTo}
 use Rattle.cip_price_rounds.specs.OfferedPoints.{Grows, AreIn, IsLeftOut}
-use Rattle.cip_price_rounds.specs.BlockAsks.{ask_of, points_in, tree_in, shown_in, closes}
+use Rattle.cip_price_rounds.specs.BlockAsks.{ask_of, points_in, tree_in, told_of, shown_in, closes}
 use Rattle.cip_price_rounds.specs.declared.offering.Growth.{Growth}
 use Rattle.cip_price_rounds.specs.declared.offering.Growth.TheVariants.{Same, Grown, Full}
 use Rattle.cip_price_rounds.specs.declared.answers.Accepted.{Accepted}
@@ -22,6 +22,11 @@ abbrev pub AreAsks : Task → List ℚ → (first : ℕ) → List Asked → Type
 AreAsks task rests first [] = ⊤
 AreAsks task rests first (asked ∷ asks) =
     (asked ≡ ask_of task rests first asked.answer) × AreAsks task rests (suc first) asks
+
+-- what is told of asks: each, with its points that are dropped
+abbrev pub told_in : Task → List Asked → List Told
+told_in task [] = []
+told_in task (asked ∷ asks) = told_of task asked ++ told_in task asks
 
 -- ---- what the trees show
 
@@ -110,17 +115,18 @@ AreAll task prices asks round Grown =
 AreAll task prices asks round Full = length asks ≤ length task.kept.subproblems.items
 
 -- what came of a round: all blocks were asked, unless the pool is full
-pub record IsRound (task : Task) (rests prices : List ℚ) (told telling : Option (List Asked))
+pub record IsRound (task : Task) (rests prices : List ℚ) (told telling : Option (List Told))
     (before after : List PoolPoint) (round : Round) : Type 0 where
   pub asks : List Asked
   pub are_asks : AreAsks task rests 0 asks
-  pub tells : Tells told asks telling
+  pub tells : Tells told (told_in task asks) telling
   pub grown : IsGrown task asks before after round.growth
   pub all : AreAll task prices asks round round.growth
 
--- a round that want of memory cut short: some blocks were asked, and told, if anything is still told
-pub record MayRound (task : Task) (rests : List ℚ) (told telling : Option (List Asked)) : Type 0 where
+-- a round that want of memory cut short: of some blocks a front part is told of what there is to tell, if anything is
+-- still told
+pub record MayRound (task : Task) (rests : List ℚ) (told telling : Option (List Told)) : Type 0 where
   pub asks : List Asked
   pub are_asks : AreAsks task rests 0 asks
   pub few : length asks ≤ length task.kept.subproblems.items
-  pub tells : MayTell told asks telling
+  pub tells : MayTellTo [] (told_in task asks) told telling

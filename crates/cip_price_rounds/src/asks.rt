@@ -6,7 +6,8 @@ ghost use Rattle.cip_decomposition.specs.Numbers.{found};
 ghost use Rattle.cip_lagrange.specs.TreeOutcomes.{node_in};
 ghost use Rattle.cip_master_prices.specs.MasterTasks.{IsTask};
 ghost use Rattle.cip_price_rounds.specs.PriceTasks.{task_at};
-ghost use Rattle.cip_price_rounds.specs.OfferedPoints.{Grows};
+ghost use Rattle.cip_price_rounds.specs.Asks.{Tells, MayTellTo};
+ghost use Rattle.cip_price_rounds.specs.OfferedPoints.{Grows, drops_from};
 ghost use Rattle.cip_price_rounds.specs.BlockAsks.{costs_in, block_node, IsBlockAsk, shown_by, AcceptsTree, IsBlockAnswer, AnswersBlock, MayAnswer};
 
 use crate::answers::{Accepted, BlockAnswer};
@@ -166,11 +167,13 @@ impl BlockAsk {
         }
     }
 
-    /// What comes of an answer: its points are offered, and its tree is checked.
-    fn take_answer(
+    /// What comes of an answer: its points are offered, who answered is told of each that is dropped, and its tree is
+    /// checked.
+    fn take_answer<A: AskPricer>(
         &mut self,
         task: &PriceTask<'_>,
         pool: &mut ColumnPool,
+        asker: &mut A,
         priced: Priced,
         scratch: &mut Scratch,
     ) -> Result<BlockAnswer, AllocError>
@@ -179,18 +182,23 @@ impl BlockAsk {
         requires room { length scratch.old.row.entries ≡ columns task.now.program.now }
         ensures found { IfOk result (IsBlockAnswer (task_at task.entry.now []) self.old.costs.items self.old.block
             (Some priced) pool.old pool.new) }
+        ensures tells { MatchResult result
+            (λ _. Tells (A.told asker.old)
+            (drops_from (task_at task.entry.now []) self.old.block 0 priced.points.items) (A.told asker.new))
+            (λ _. MayTellTo [] (drops_from (task_at task.entry.now []) self.old.block 0 priced.points.items)
+            (A.told asker.old) (A.told asker.new)) }
         ensures grows { Grows pool.old pool.new }
         ensures task { IsTask (task_at task.entry.now pool.new) }
         ensures room { length scratch.new.row.entries ≡ length scratch.old.row.entries }
     {
-        let growth = offer_points(task, pool, self.block, priced.points.as_slice())?;
+        let growth = offer_points(task, pool, asker, self.block, priced.points.as_slice())?;
         let accepted = self.accept(task, priced.tree, scratch);
         Ok(BlockAnswer { growth, accepted })
     }
 
-    /// Asks for points and a tree of the block: the points that are ones of the block are put into the pool, and the
-    /// tree counts where its check accepts it. `Err` comes where memory was refused; what was accepted before it
-    /// stands.
+    /// Asks for points and a tree of the block: the points that are ones of the block are put into the pool, the others
+    /// are dropped, and who answered is told so; the tree counts where its check accepts it. `Err` comes where memory
+    /// was refused; what was accepted before it stands.
     pub(crate) fn ask<A: AskPricer>(
         &mut self,
         alloc: Global,
@@ -218,7 +226,7 @@ impl BlockAsk {
             &self.region.bounds,
         )?;
         match answer {
-            Some(priced) => self.take_answer(task, pool, priced, scratch),
+            Some(priced) => self.take_answer(task, pool, asker, priced, scratch),
             None => Ok(BlockAnswer {
                 growth: Growth::Same,
                 accepted: None,

@@ -10,6 +10,7 @@ mod tasks;
 
 pub use answers::{Accepted, BlockAnswer};
 pub use asker::AskPricer;
+pub use cip_block_points::PointVerdict;
 pub use offering::Growth;
 pub use rounds::{Round, ask_blocks};
 pub use tasks::PriceTask;

@@ -1,11 +1,14 @@
 //! Points that a pricer brought, offered to a pool.
-ghost use Rattle.std.specs.Prelude.{◌≡◌, ◌≢◌, true, false, ◌<◌, [], ◌∷◌, length, IfOk, OnErr};
+ghost use Rattle.std.specs.Prelude.{◌≡◌, ◌≢◌, true, false, ◌<◌, [], ◌∷◌, length, IfOk, MatchResult};
+ghost use Rattle.cip_columns.specs.ColumnPools.{most_points};
 ghost use Rattle.cip_master_prices.specs.MasterTasks.{IsTask};
 ghost use Rattle.cip_price_rounds.specs.PriceTasks.{task_at};
-ghost use Rattle.cip_price_rounds.specs.OfferedPoints.{Grows, IsOffered, growth_of, joint};
+ghost use Rattle.cip_price_rounds.specs.Asks.{Tells, MayTell, MayTellTo};
+ghost use Rattle.cip_price_rounds.specs.OfferedPoints.{Grows, IsOffered, growth_of, joint, drop_of, drops_from};
 
+use crate::asker::AskPricer;
 use crate::tasks::PriceTask;
-use cip_block_points::put_point;
+use cip_block_points::{Taken, take_point};
 use cip_cert::BlockPoint;
 use cip_columns::{Added, ColumnPool};
 use std::alloc::AllocError;
@@ -47,13 +50,10 @@ pub(crate) fn is_full(growth: Growth) -> bool
     }
 }
 
-/// What became of a pool, by what adding a point came to; `None` where it was dropped.
-fn growth_of(put: Option<Added>) -> Growth
-    ensures { result ≡ growth_of put }
+/// What became of a pool, by what adding a point came to.
+fn growth_of(added: Added) -> Growth
+    ensures { result ≡ growth_of added }
 {
-    let Some(added) = put else {
-        return Growth::Same;
-    };
     match added {
         Added::New(_) => Growth::Grown,
         Added::Known(_) => Growth::Same,
@@ -61,28 +61,41 @@ fn growth_of(put: Option<Added>) -> Growth
     }
 }
 
-/// Offers a point for a block.
-fn offer(
+/// Offers the point at a place of an answer for a block. Where it is dropped, who answered is told so.
+fn offer<A: AskPricer>(
     task: &PriceTask<'_>,
     pool: &mut ColumnPool,
+    asker: &mut A,
     block: u32,
+    place: usize,
     point: &BlockPoint,
 ) -> Result<Growth, AllocError>
     requires task { IsTask (task_at task.now pool.old) }
     requires block { block < length task.now.blocks.now.subproblems.items }
     ensures offered { IfOk result
         (IsOffered (task_at task.entry.now []) block (point.now ∷ []) pool.old pool.new) }
-    ensures err { OnErr result (pool.new ≡ pool.old) }
+    ensures tells { MatchResult result
+        (λ _. Tells (A.told asker.old) (drop_of (task_at task.entry.now []) block place point.now) (A.told asker.new))
+        (λ _. MayTell (A.told asker.old) [] (A.told asker.new)) }
+    ensures full { length pool.old ≡ most_points → pool.new ≡ pool.old }
+    ensures grows { Grows pool.old pool.new }
     ensures task { IsTask (task_at task.entry.now pool.new) }
 {
-    let put = put_point(pool, task.program, task.blocks, block, point)?;
-    Ok(growth_of(put))
+    let taken = take_point(pool, task.program, task.blocks, block, point)?;
+    match taken {
+        Taken::Offered(added) => Ok(growth_of(added)),
+        Taken::Dropped(verdict) => {
+            asker.dropped(block, place, verdict)?;
+            Ok(Growth::Same)
+        }
+    }
 }
 
-/// Offers points for a block, one after another, as long as the pool isn't full.
-pub(crate) fn offer_points(
+/// Offers the points of an answer for a block, one after another. Who answered is told of each that is dropped.
+pub(crate) fn offer_points<A: AskPricer>(
     task: &PriceTask<'_>,
     pool: &mut ColumnPool,
+    asker: &mut A,
     block: u32,
     points: &[BlockPoint],
 ) -> Result<Growth, AllocError>
@@ -90,16 +103,17 @@ pub(crate) fn offer_points(
     requires block { block < length task.now.blocks.now.subproblems.items }
     ensures offered { IfOk result
         (IsOffered (task_at task.entry.now []) block points.now pool.old pool.new) }
+    ensures tells { MatchResult result
+        (λ _. Tells (A.told asker.old) (drops_from (task_at task.entry.now []) block 0 points.now) (A.told asker.new))
+        (λ _. MayTellTo [] (drops_from (task_at task.entry.now []) block 0 points.now) (A.told asker.old)
+        (A.told asker.new)) }
     ensures grows { Grows pool.old pool.new }
     ensures task { IsTask (task_at task.entry.now pool.new) }
 {
     let mut growth = Growth::Same;
     for at in 0..points.len() {
-        let next = offer(task, pool, block, &points[at])?;
+        let next = offer(task, pool, asker, block, at, &points[at])?;
         growth = joint(growth, next);
-        if is_full(growth) {
-            return Ok(growth);
-        }
     }
     Ok(growth)
 }

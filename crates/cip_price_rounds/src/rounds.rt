@@ -138,8 +138,9 @@ impl Round {
 }
 
 /// Asks each block in order for points and a tree, at what multipliers leave of the costs: points of the block are put
-/// into the pool, and a tree counts where its check accepts it. A round ends where the pool is full. `Err` comes where
-/// memory was refused; what was accepted before it stands.
+/// into the pool, the others are dropped, of each of which who answered is told right behind the ask; a tree counts
+/// where its check accepts it. A round ends behind the answer for which the pool hasn't room. `Err` comes where memory
+/// was refused; what was accepted before it stands.
 pub fn ask_blocks<A: AskPricer>(
     alloc: Global,
     task: &PriceTask<'_>,

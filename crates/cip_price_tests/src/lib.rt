@@ -2,6 +2,8 @@
 #![tactic(auto)]
 
 #[cfg(test)]
+mod dropping;
+#[cfg(test)]
 mod pricers;
 #[cfg(test)]
 mod pricing;

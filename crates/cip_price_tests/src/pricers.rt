@@ -4,7 +4,7 @@ use cip_cert::{BlockPoint, Priced};
 use cip_decomposition::Decomposed;
 use cip_frac::Frac;
 use cip_lin::Bounds;
-use cip_price_rounds::AskPricer;
+use cip_price::{AskPricer, PointVerdict};
 use std::alloc::{AllocError, Global};
 
 /// Never answers.
@@ -24,6 +24,15 @@ impl AskPricer for Silent {
         _bounds: &Bounds,
     ) -> Result<Option<Priced>, AllocError> {
         Ok(None)
+    }
+
+    fn dropped(
+        &mut self,
+        _block: u32,
+        _place: usize,
+        _verdict: PointVerdict,
+    ) -> Result<(), AllocError> {
+        Ok(())
     }
 }
 
@@ -46,6 +55,15 @@ impl AskPricer for Listed {
         _bounds: &Bounds,
     ) -> Result<Option<Priced>, AllocError> {
         Ok(self.answers.pop())
+    }
+
+    fn dropped(
+        &mut self,
+        _block: u32,
+        _place: usize,
+        _verdict: PointVerdict,
+    ) -> Result<(), AllocError> {
+        Ok(())
     }
 }
 
@@ -102,5 +120,14 @@ impl AskPricer for Branching<'_> {
         _bounds: &Bounds,
     ) -> Result<Option<Priced>, AllocError> {
         branched(alloc, self.blocks, block, costs)
+    }
+
+    fn dropped(
+        &mut self,
+        _block: u32,
+        _place: usize,
+        _verdict: PointVerdict,
+    ) -> Result<(), AllocError> {
+        Ok(())
     }
 }

@@ -1,4 +1,6 @@
 //! What pricing answers.
+ghost use Rattle.std.specs.Prelude.{◌≡◌, length};
+ghost use Rattle.cip_problem.specs.WellFormed.{columns};
 ghost use Rattle.cip_decomposition.specs.Decompositions.{IsDecompositionOf};
 
 use crate::pricers::{Branching, Listed, Silent};
@@ -10,16 +12,15 @@ use cip_cert::{BlockPoint, Priced};
 use cip_columns::ColumnPool;
 use cip_decomposition::Decomposed;
 use cip_frac::Frac;
+use cip_lin::Bounds;
 use cip_lp::read_lp;
-use cip_master::MasterCause;
 use cip_model::Program;
-use cip_price::{PriceAnswer, PriceCause, PriceLimits, price};
-use cip_price_rounds::{AskPricer, PriceTask};
+use cip_price::{AskPricer, MasterCause, PriceAnswer, PriceCause, PriceLimits, PriceTask, price};
 use std::alloc::{AllocError, Global};
 
 /// What is answered; a bound or a cost as numerator and denominator.
 #[derive(Clone, Copy, Debug, PartialEq, Eq)]
-enum Told {
+pub enum Told {
     /// It is closed at this cost.
     Closed(i128, i128),
     /// There is a bound.
@@ -46,7 +47,7 @@ enum Who {
 /// What is asked: a program, its blocks, who prices, and how many rounds and moves are allowed.
 type Ask = (&'static str, &'static str, Who, u32, u32);
 
-const ASKS: [Ask; 13] = [
+const ASKS: [Ask; 14] = [
     (PLAIN, BLOCKS, Who::All, 100, 1000),
     (PLAIN, BLOCKS, Who::Silent, 100, 1000),
     (PLAIN, BLOCKS, Who::Zeros, 100, 1000),
@@ -60,15 +61,17 @@ const ASKS: [Ask; 13] = [
     (FIRST, FIRST_BLOCKS, Who::All, 100, 1000),
     (SECOND, SECOND_BLOCKS, Who::All, 100, 1000),
     (THIRD, THIRD_BLOCKS, Who::All, 100, 1000),
+    (MORE, BLOCKS, Who::Silent, 100, 1000),
 ];
 
 /// What is answered. At PLAIN the first round, without a mixture, brings 0 0 for both blocks, and the second, at prices
-/// 0 and the costs themselves, 1 0 for both, with bounds of -2: the third closes. The last three were worked out by an
-/// exact linear program over all points of their blocks.
+/// 0 and the costs themselves, 1 0 for both, with bounds of -2: the third closes. At MORE no mixture satisfies
+/// R3, as trees of both blocks show; without trees there is a gap. The three at random were worked out by an exact
+/// linear program over all points of their blocks.
 fn want(at: usize) -> Told {
     match at {
         0 => Told::Closed(-4, 1),
-        1 | 2 | 3 => Told::NoBound(PriceCause::PricerGap { block: 0 }),
+        1 | 2 | 3 | 13 => Told::NoBound(PriceCause::PricerGap { block: 0 }),
         4 | 5 => Told::NoBound(PriceCause::Rounds),
         6 => Told::Bounded(-4, PriceCause::Rounds),
         7 | 8 => Told::NoPoint,
@@ -91,8 +94,34 @@ fn outcome_of(answer: PriceAnswer) -> Told {
     }
 }
 
-/// What a pricer comes to on a program, whose blocks were taken apart.
-fn priced<A: AskPricer>(
+/// What a pricer comes to in a box of a program, whose blocks were taken apart.
+pub fn priced_in<A: AskPricer>(
+    alloc: Global,
+    program: &Program,
+    blocks: &Decomposed,
+    bounds: &Bounds,
+    asker: &mut A,
+    limits: PriceLimits,
+) -> Option<Told>
+    requires made { IsDecompositionOf program.now blocks.now }
+    requires box_ { length bounds.now ≡ columns program.now }
+{
+    let Ok(mut pool) = ColumnPool::new(alloc) else {
+        return None;
+    };
+    let task = PriceTask {
+        program,
+        blocks,
+        bounds,
+    };
+    match price(alloc, &task, &mut pool, asker, limits) {
+        Ok(answer) => Some(outcome_of(answer)),
+        Err(_) => None,
+    }
+}
+
+/// The same in its own box.
+pub fn priced<A: AskPricer>(
     alloc: Global,
     program: &Program,
     blocks: &Decomposed,
@@ -101,18 +130,7 @@ fn priced<A: AskPricer>(
 ) -> Option<Told>
     requires { IsDecompositionOf program.now blocks.now }
 {
-    let Ok(mut pool) = ColumnPool::new(alloc) else {
-        return None;
-    };
-    let task = PriceTask {
-        program,
-        blocks,
-        bounds: program.bounds(),
-    };
-    match price(alloc, &task, &mut pool, asker, limits) {
-        Ok(answer) => Some(outcome_of(answer)),
-        Err(_) => None,
-    }
+    priced_in(alloc, program, blocks, program.bounds(), asker, limits)
 }
 
 /// An answer of one point of two equal values, without a tree.

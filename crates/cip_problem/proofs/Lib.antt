@@ -6,3 +6,4 @@ pub mod Points
 mod SemiTried
 pub mod Tried
 pub mod Wholes
+pub mod PassedOn

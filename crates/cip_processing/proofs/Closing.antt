@@ -7,15 +7,15 @@ use Rattle.cip_problem.specs.Program.{Sides, Program}
 use Rattle.cip_problem.specs.WellFormed.{columns}
 use Rattle.cip_cuts.specs.Improving.{HasNoImproving}
 use Rattle.cip_domain.specs.Changes.{Region}
-use Rattle.cip_node_bounds.specs.declared.relaxed.Mark.{Mark}
+use Rattle.cip_turns.specs.Mark.{Mark}
 use Rattle.cip_rows.specs.RowPools.{Pool}
 use Rattle.cip_tree.specs.Nodes.{TakenNode, Nodes, box_of, shown}
-use Rattle.cip_core.specs.CoreStates.{CoreState, reduced_of, held_of, IsTakenUp, IsGivenBound}
-use Rattle.cip_core.specs.Later.{IsLater, IsLaterAt}
-use Rattle.cip_core.specs.Steps.{HasLeft, IsBack, aged}
-use Rattle.cip_core.proofs.CoreSteps.{with_tree}
-use Rattle.cip_core.proofs.Relations.{later_further, narrower_itself, narrower_further}
-use Rattle.cip_leaves.specs.Searched.{nodes_given}
+use Rattle.cip_turns.specs.CoreStates.{CoreState, reduced_of, held_of, IsTakenUp, IsGivenBound}
+use Rattle.cip_turns.specs.Later.{IsLater, IsLaterAt}
+use Rattle.cip_turns.specs.Steps.{HasLeft, IsBack, aged}
+use Rattle.cip_turns.proofs.PassedOn.{with_tree}
+use Rattle.cip_turns.proofs.PassedOn.{later_further, narrower_itself, narrower_further}
+use Rattle.cip_turns.specs.Searched.{nodes_given}
 use Rattle.cip_problem.specs.Log.{node_of}
 use Rattle.cip_node.specs.Bounding.{IsMarkOf, IsAsGood, point_of}
 use Rattle.cip_node.specs.NodeEnds.{HasEnded}

@@ -7,9 +7,9 @@ use Rattle.cip_roster.specs.KeptRankings.{Room}
 use Rattle.cip_roster.specs.Turns.{IsSound}
 use Rattle.cip_roster.specs.Wished.{Ran}
 use Rattle.cip_tree.specs.Nodes.{TakenNode}
-use Rattle.cip_core.specs.CoreStates.{CoreState, reduced_of}
-use Rattle.cip_core.specs.Later.{IsLaterAt}
-use Rattle.cip_core.proofs.Relations.{later_at_itself}
+use Rattle.cip_turns.specs.CoreStates.{CoreState, reduced_of}
+use Rattle.cip_turns.specs.Later.{IsLaterAt}
+use Rattle.cip_turns.proofs.PassedOn.{later_at_itself}
 use Rattle.cip_judge.specs.ProposalsJudged.{HaveRoom}
 use Rattle.cip_judge.specs.declared.scratches.Scratches.{Scratches}
 use Rattle.cip_calls.specs.Noted.{IsReady, HasCome}

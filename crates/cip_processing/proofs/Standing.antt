@@ -5,19 +5,19 @@ use Rattle.cip_rational.specs.Rational.{ℚ}
 use Rattle.cip_problem.specs.Program.{Sides, Program}
 use Rattle.cip_problem.specs.WellFormed.{columns, IsWellFormed}
 use Rattle.cip_linear.specs.LinearProgram.{IsPoint}
-use Rattle.cip_search.specs.Relaxation.{IsRelaxedBound}
+use Rattle.cip_turns.specs.Relaxation.{IsRelaxedBound}
 use Rattle.cip_domain.specs.Changes.{Region}
 use Rattle.cip_rows.specs.RowPools.{Pool}
 use Rattle.cip_tree.specs.Nodes.{TakenNode, box_of}
-use Rattle.cip_node_bounds.specs.NodeRows.{usable_rows}
-use Rattle.cip_node_bounds.specs.Relaxing.{node_program, IsMark}
-use Rattle.cip_node_bounds.specs.declared.relaxed.Mark.{Mark}
-use Rattle.cip_core.specs.CoreStates.{CoreState, reduced_of, held_of, rows_lent, IsAtWork}
-use Rattle.cip_postsolve.specs.StepsBack.{StepsTaken, point_back, FitsBack}
-use Rattle.cip_core.specs.Later.{IsLater, IsLaterAt}
-use Rattle.cip_core.specs.Steps.{IsTried, IsTriedBack}
-use Rattle.cip_core.proofs.CoreSteps.{work_long}
-use Rattle.cip_core.proofs.Relations.{no_dearer_trans}
+use Rattle.cip_turns.specs.NodeRows.{usable_rows}
+use Rattle.cip_turns.specs.Relaxing.{node_program, IsMark}
+use Rattle.cip_turns.specs.Mark.{Mark}
+use Rattle.cip_turns.specs.CoreStates.{CoreState, reduced_of, held_of, rows_lent, IsAtWork}
+use Rattle.cip_turns.specs.StepsBack.{StepsTaken, point_back, FitsBack}
+use Rattle.cip_turns.specs.Later.{IsLater, IsLaterAt}
+use Rattle.cip_turns.specs.Steps.{IsTried, IsTriedBack}
+use Rattle.cip_turns.proofs.PassedOn.{work_long}
+use Rattle.cip_turns.proofs.PassedOn.{no_dearer_trans}
 use Rattle.cip_node.specs.Bounding.{IsAsGood, HasTried, point_of, IsFound}
 use Rattle.cip_node_rules.specs.declared.looks.Looked.{Looked}
 use Rattle.cip_node_rules.specs.declared.looks.Looked.TheVariants as look

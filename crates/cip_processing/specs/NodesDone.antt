@@ -7,11 +7,11 @@ use Rattle.cip_events.specs.Events.{event_at}
 use Rattle.cip_events.specs.declared.events.EventKind.TheVariants.{NodeFocused}
 use Rattle.cip_plugin.specs.Calls.{Ask, Branch, OnEvent}
 use Rattle.cip_seats.specs.Seats.{State}
-use Rattle.cip_node_bounds.specs.declared.relaxed.Mark.{Mark}
+use Rattle.cip_turns.specs.Mark.{Mark}
 use Rattle.cip_tree.specs.Nodes.{TakenNode, box_of, shown}
-use Rattle.cip_core.specs.CoreStates.{CoreState, reduced_of, IsKeptIn}
-use Rattle.cip_core.specs.Later.{IsLater, IsNarrower}
-use Rattle.cip_core.specs.Steps.{LeavesEntry, aged}
+use Rattle.cip_turns.specs.CoreStates.{CoreState, reduced_of, IsKeptIn}
+use Rattle.cip_turns.specs.Later.{IsLater, IsNarrower}
+use Rattle.cip_turns.specs.Steps.{LeavesEntry, aged}
 use Rattle.cip_node.specs.Bounding.{IsMarkOf, IsAsGood, HasTried}
 use Rattle.cip_node.specs.NodeEnds.{IsLeafEnd, HasEnded}
 use Rattle.cip_node.specs.declared.ends.NodeEnd.{NodeEnd}

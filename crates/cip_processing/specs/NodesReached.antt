@@ -3,8 +3,8 @@ use Rattle.std.specs.Prelude.{◌≡◌, ℕ, false, List, [], ◌∷◌, Option
 use Rattle.cip_tree.specs.Nodes.{TakenNode, region_of, box_of, shown}
 use Rattle.cip_plugin.specs.Calls.{Ask, Propagate, Separate, Search}
 use Rattle.cip_seats.specs.Seats.{State}
-use Rattle.cip_core.specs.CoreStates.{CoreState, IsTakenUp}
-use Rattle.cip_core.specs.Later.{IsLater, IsNarrower}
+use Rattle.cip_turns.specs.CoreStates.{CoreState, IsTakenUp}
+use Rattle.cip_turns.specs.Later.{IsLater, IsNarrower}
 use Rattle.cip_node.specs.Bounding.{IsFound}
 use Rattle.cip_node.specs.Looking.{IsLeafNode, IsOpenNode}
 use Rattle.cip_node.specs.declared.bounding.Found.{Found}

@@ -3,8 +3,8 @@ ghost use Rattle.std.specs.Prelude.{◌≡◌, ◌<◌, ◌^◌, false, IfOk, Ma
 ghost use Rattle.cip_roster.specs.Turns.{IsSound};
 ghost use Rattle.cip_roster.specs.Wished.{Ran};
 ghost use Rattle.cip_problem.specs.Log.{matters as log_matters};
-ghost use Rattle.cip_core.specs.CoreStates.{held_of, IsTakenUp, IsGivenBound};
-ghost use Rattle.cip_core.specs.Steps.{IsBack};
+ghost use Rattle.cip_turns.specs.CoreStates.{held_of, IsTakenUp, IsGivenBound};
+ghost use Rattle.cip_turns.specs.Steps.{IsBack};
 ghost use Rattle.cip_node.specs.Looking.{IsLeafNode, IsOpenNode};
 ghost use Rattle.cip_node.specs.NodeEnds.{IsLeafEnd};
 ghost use Rattle.cip_node.specs.declared.ends.NodeEnd.TheVariants.{Pruned};

@@ -3,8 +3,8 @@ ghost use Rattle.std.specs.Prelude.{◌≡◌, ◌<◌, ◌^◌, true, IfOk, Mat
 ghost use Rattle.cip_problem.specs.Log.{Split as SplitEnd};
 ghost use Rattle.cip_problem.specs.Wholes.{AllHaveWholes};
 ghost use Rattle.cip_tree.specs.Nodes.{box_of};
-ghost use Rattle.cip_core.specs.CoreStates.{reduced_of, IsAtWork, IsTakenUp, IsGivenBound};
-ghost use Rattle.cip_core.specs.Steps.{HasLeft, IsBack};
+ghost use Rattle.cip_turns.specs.CoreStates.{reduced_of, IsAtWork, IsTakenUp, IsGivenBound};
+ghost use Rattle.cip_turns.specs.Steps.{HasLeft, IsBack};
 ghost use Rattle.cip_node.specs.Looking.{IsOpenNode};
 ghost use Rattle.cip_judge.specs.SplitsJudged.{IsPlace};
 ghost use Rattle.cip_processing.specs.NodesDone.{IsDone};

@@ -2,23 +2,21 @@
 ghost use Rattle.std.specs.Prelude.{◌+◌, ◌<◌, ◌^◌, [], length};
 ghost use Rattle.cip_problem.specs.WellFormed.{columns};
 ghost use Rattle.cip_roster.specs.Turns.{IsSound};
-ghost use Rattle.cip_core.specs.CoreStates.{reduced_of, IsKeptIn};
-ghost use Rattle.cip_judge.specs.ProposalsJudged.{HaveRoom};
+ghost use Rattle.cip_processing.specs.CoreStates.{reduced_of, IsKeptIn};
+ghost use Rattle.cip_processing.specs.ProposalsJudged.{HaveRoom};
 
 use crate::cases::{CASES, Case, Expected, Kind, Lines};
 use crate::fakes::{Lent, add, empty_kit};
 use crate::programs::{has_near_columns, program_of};
-use cip_calls::Plugins;
 use cip_cert::CutFault;
-use cip_compaction::Presolved;
-use cip_core::Core;
 use cip_events::{TraceLine, Word};
 use cip_frac::Frac;
-use cip_judge::{JudgeFault, Judged, Scratches};
 use cip_model::{Program, Verdict};
-use cip_node::{NodeEnd, NodeWork};
 use cip_plugin::{Kit, View};
-use cip_processing::{Done, process, tell_end};
+use cip_processing::{
+    Core, Done, JudgeFault, Judged, NodeEnd, NodeWork, Plugins, Presolved, Scratches, process,
+    tell_end,
+};
 use cip_roster::{Roster, Seated};
 use cip_tree::{End, SplitFault};
 use std::alloc::{AllocError, Global};

@@ -4,19 +4,16 @@ ghost use Rattle.cip_problem.specs.WellFormed.{columns};
 ghost use Rattle.cip_events.specs.declared.words.Word.TheVariants as say;
 ghost use Rattle.cip_seats.specs.Steps.{Runs, Notes};
 ghost use Rattle.cip_roster.specs.Turns.{IsSound};
-ghost use Rattle.cip_core.specs.CoreStates.{reduced_of, IsKeptIn};
-ghost use Rattle.cip_judge.specs.ProposalsJudged.{HaveRoom};
+ghost use Rattle.cip_processing.specs.CoreStates.{reduced_of, IsKeptIn};
+ghost use Rattle.cip_processing.specs.ProposalsJudged.{HaveRoom};
 
 use crate::programs::{TWO_COLUMNS, has_near_columns, program_of};
-use cip_calls::{Asks, Plugins, Round, Turn};
-use cip_compaction::Presolved;
-use cip_core::Core;
 use cip_events::{EventQueue, TraceLine};
-use cip_judge::Scratches;
 use cip_model::Program;
-use cip_node::NodeWork;
 use cip_plugin::{Given, View};
-use cip_processing::{process, tell_end};
+use cip_processing::{
+    Asks, Core, NodeWork, Plugins, Presolved, Round, Scratches, Turn, process, tell_end,
+};
 use cip_roster::Seated;
 use std::alloc::{AllocError, Global};
 

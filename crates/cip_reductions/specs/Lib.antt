@@ -8,3 +8,7 @@ pub mod Pairs
 pub mod RowSteps
 pub mod Statements
 pub mod WholeParts
+pub use Rattle.cip_linear.specs.Aggregate
+pub use Rattle.cip_cuts.specs.Cuts
+pub use Rattle.cip_search.specs.Leaf
+pub use Rattle.cip_search.specs.SearchState

@@ -21,8 +21,8 @@ pub record IsTightened (program tightened : Program) : Type 0 where
   pub rows : (point : List ℚ) → IsRelaxed tightened point → AllSatisfied program.rows point
   pub cost : (point : List ℚ) → IsRelaxed tightened point → cost_of program point ≡ cost_of tightened point
 
--- a step: for each feasible point of the program the narrowed one has a feasible point that costs no more, with the same
--- value in each column that isn't held fast
+-- a step: for each feasible point of the program the narrowed one has a feasible point that costs no more, with the
+-- same value in each column that isn't held fast
 pub record IsStep (program tightened : Program) : Type 0 where
   pub narrowed : IsTightened program tightened
   pub none_lost : (point : List ℚ) → IsFeasible program point → HasNear program tightened (λ column. column) point

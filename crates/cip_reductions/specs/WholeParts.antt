@@ -2,7 +2,7 @@
 use Rattle.std.specs.Prelude.{Bool, true, false, List, [], ◌∷◌}
 use Rattle.cip_rational.specs.Rational.{ℚ, zeroℚ}
 use Rattle.cip_problem.specs.Program.{Program}
-use Rattle.cip_leaves.specs.Leaf.{at_wholes}
+use Rattle.cip_search.specs.Leaf.{at_wholes}
 use Rattle.cip_search.specs.SearchState.{WayBack}
 
 -- a point with these values on the whole columns, by rising column, and 0 on the others

@@ -10,9 +10,9 @@ use Rattle.cip_problem.specs.Activity.{activity, value_at}
 use Rattle.cip_problem.specs.Box.{Between, IsInBox, sides_at, sides_inside}
 use Rattle.cip_problem.proofs.Points.AtPlaces.{in_box_at}
 use Rattle.cip_problem.proofs.Box.SideTests.{sides_inside_holds}
-use Rattle.cip_frac.specs.Outcomes.{product_added}
-use Rattle.cip_frac.specs.declared.operations.Wide.{Wide}
-use Rattle.cip_frac.proofs.Outcomes.{product_added-value}
+use Rattle.cip_lin.specs.Outcomes.{product_added}
+use Rattle.cip_lin.specs.Wide.{Wide}
+use Rattle.cip_lin.proofs.PassedOn.{product_added-value}
 use Rattle.cip_lin.specs.declared.outcomes.Least.{Least}
 use Rattle.cip_lin.specs.declared.outcomes.Least.TheVariants.{Value, NoBound, Wide as TooWide}
 use Rattle.cip_lin.specs.RowSums.{least_side, least_of, least_at, least_added, least_then, least_from}

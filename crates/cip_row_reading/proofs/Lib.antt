@@ -1,2 +1,3 @@
 pub mod Enclosing
 pub mod FixedColumns
+pub mod PassedOn

@@ -1,2 +1,9 @@
 pub mod RowReading
 pub mod SingleRows
+pub use Rattle.cip_reductions.specs.Leaf
+pub use Rattle.cip_lin.specs.declared.outcomes.Least
+pub use Rattle.cip_lin.specs.MetSides
+pub use Rattle.cip_lin.specs.Outcomes
+pub use Rattle.cip_lin.specs.RowFaults
+pub use Rattle.cip_lin.specs.RowSums
+pub use Rattle.cip_reductions.specs.SearchState

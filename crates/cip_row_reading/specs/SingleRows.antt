@@ -1,7 +1,7 @@
 -- Rows with one term, and what they say of its column.
 use Rattle.std.specs.Prelude.{◌≡◌, Bool, [], ◌∷◌, if◌then◌else◌}
 use Rattle.cip_problem.specs.Program.{Term, Sides, Row}
-use Rattle.cip_cuts.specs.Cuts.{rounded_sides}
+use Rattle.cip_reductions.specs.Cuts.{rounded_sides}
 use Rattle.cip_reductions.specs.RowSteps.{divided_sides}
 
 -- a row has this term alone

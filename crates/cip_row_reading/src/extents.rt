@@ -7,8 +7,7 @@ ghost use Rattle.cip_lin.specs.RowSums.{least_from};
 ghost use Rattle.cip_reductions.specs.RowSteps.{IsBelow, IsAbove};
 ghost use Rattle.cip_row_reading.specs.RowReading.{negated, Encloses, SaysRightly};
 
-use cip_frac::Frac;
-use cip_lin::{Bounds, Least, Row, Sides, Term, add_least, least};
+use cip_lin::{Bounds, Frac, Least, Row, Sides, Term, add_least, least};
 
 /// What the sides of the columns say of a row.
 #[derive(Clone, Copy, Debug, PartialEq, Eq)]

@@ -6,8 +6,7 @@ ghost use Rattle.cip_problem.specs.Activity.{StandsBelow};
 ghost use Rattle.cip_reductions.specs.RowSteps.{side_less};
 ghost use Rattle.cip_row_reading.specs.RowReading.{only_value, with_value, fixed_from, before_others, free_terms, IsLeftRow};
 
-use cip_frac::Frac;
-use cip_lin::{Bounds, Row, RowFault, Sides, Term};
+use cip_lin::{Bounds, Frac, Row, RowFault, Sides, Term};
 use std::alloc::{AllocError, Global};
 
 /// The one value between sides that are equal.

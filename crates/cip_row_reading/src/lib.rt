@@ -6,6 +6,7 @@ mod extents;
 mod fixed_columns;
 mod single_rows;
 
+pub use cip_lin::{Bounds, Choices, Frac, Least, Row, RowFault, Sides, Term, add_least};
 pub use extents::{RowSays, extent, row_says};
 pub use fixed_columns::{less, only_value, without_fixed};
 pub use single_rows::{inward, one_term, single_sides};

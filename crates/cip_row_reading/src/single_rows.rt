@@ -1,12 +1,11 @@
 //! Rows with one term.
 ghost use Rattle.std.specs.Prelude.{◌≡◌, true, IfSome};
 ghost use Rattle.cip_rational.specs.Rational.{zeroℚ};
-ghost use Rattle.cip_linear.specs.Aggregate.{quotient_of};
+ghost use Rattle.cip_reductions.specs.Aggregate.{quotient_of};
 ghost use Rattle.cip_reductions.specs.RowSteps.{divided_sides};
 ghost use Rattle.cip_row_reading.specs.SingleRows.{HasOneTerm, inward_if, single_sides};
 
-use cip_frac::Frac;
-use cip_lin::{Row, Sides, Term};
+use cip_lin::{Frac, Row, Sides, Term};
 
 /// A side divided by a number other than 0: `None` where the quotient isn't in range, `Some(None)` where it is open.
 fn quotient(side: Option<Frac>, coef: Frac) -> Option<Option<Frac>>

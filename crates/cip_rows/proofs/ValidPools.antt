@@ -4,7 +4,7 @@ use Rattle.std.proofs.lemmas.List.Elements.{All-push, All-weaker, All-filter, Al
 use Rattle.cip_rational.specs.Rational.{ℚ}
 use Rattle.cip_problem.specs.Program.{Sides, Row, Program}
 use Rattle.cip_problem.specs.Points.{IsSatisfied, IsFeasible}
-use Rattle.cip_linear.specs.Aggregate.{Inequality}
+use Rattle.cip_cert.specs.Aggregate.{Inequality}
 use Rattle.cip_cuts.specs.Improving.{IsValidRow, IsValid, IsNoDearer}
 use Rattle.cip_cuts.specs.Cuts.{row_of}
 use Rattle.cip_cuts.proofs.Improving.{holds_later}

@@ -4,7 +4,7 @@ use Rattle.std.specs.List.{filter}
 use Rattle.cip_rational.specs.Rational.{ℚ}
 use Rattle.cip_problem.specs.Program.{Sides, Row, Program}
 use Rattle.cip_problem.specs.Points.{IsFeasible}
-use Rattle.cip_linear.specs.Aggregate.{Inequality}
+use Rattle.cip_cert.specs.Aggregate.{Inequality}
 use Rattle.cip_cuts.specs.Improving.{IsValidRow, IsNoDearer}
 use Rattle.cip_cuts.specs.Cuts.{row_of}
 use Rattle.cip_cert.specs.declared.rows.PoolRow.{PoolRow}

@@ -2,10 +2,9 @@
 ghost use Rattle.std.specs.Prelude.{◌≡◌, ◌≤◌, ◌↔◌, IsTrue, length, MatchResult};
 ghost use Rattle.cip_problem.specs.Limits.{most_columns};
 ghost use Rattle.cip_cuts.specs.Cuts.{row_of};
-ghost use Rattle.cip_lin.specs.declared.rows.RowFault.{RowFault};
+ghost use Rattle.cip_cert.specs.RowFault.{RowFault};
 
-use cip_frac::Frac;
-use cip_lin::{Row, RowFault, Term};
+use cip_cert::{Frac, Row, RowFault, Term};
 use std::alloc::Global;
 
 /// The row that says that the sum of the coefficients' products is at least a number; no fault but want of memory.

@@ -2,8 +2,7 @@
 ghost use Rattle.std.specs.Prelude.{◌≡◌, ◌<◌, ◌^◌, ◌%◌};
 ghost use Rattle.cip_rows.specs.Mixed.{modulus, mixed, with_number, with_term, with_terms, with_side, fingerprint};
 
-use cip_frac::Frac;
-use cip_lin::{Row, Term};
+use cip_cert::{Frac, Row, Term};
 
 // A prime below 2^32, so that no product overflows.
 const MODULUS: u64 = 4_294_967_291;

@@ -7,8 +7,7 @@ ghost use Rattle.cip_rows.specs.RowIndex.{AreSorted, IsIndex};
 ghost use Rattle.cip_rows.specs.RowPools.{HaveScopesLike, IsKnown, IsUnknown, Serves};
 
 use crate::built::is_same;
-use cip_cert::PoolRow;
-use cip_lin::{Bounds, Row};
+use cip_cert::{Bounds, PoolRow, Row};
 
 /// A row that is held, by its fingerprint and its id, and whether it rests on the cutoff row.
 #[derive(Clone, Copy, Debug, PartialEq, Eq)]

@@ -13,9 +13,7 @@ use crate::fingerprints::fingerprint;
 use crate::index::{Entry, first_from, forget, forget_below, forget_resting, known};
 use crate::limits::{KEPT_POOL_ROWS, MOST_IDS, MOST_POOL_ROWS};
 use crate::usable::Usable;
-use cip_cert::{PoolRow, Scratch};
-use cip_frac::Frac;
-use cip_lin::{Bounds, Row};
+use cip_cert::{Bounds, Frac, PoolRow, Row, Scratch};
 use std::alloc::{AllocError, Global};
 use std::marker::Model;
 

@@ -3,8 +3,7 @@ ghost use Rattle.std.specs.Prelude.{◌≡◌, length, All};
 ghost use Rattle.std.specs.Iterator.{YieldsFirstRef, item_count};
 ghost use Rattle.cip_rows.specs.RowPools.{usable_in, HaveScopesLike};
 
-use cip_cert::PoolRow;
-use cip_lin::Bounds;
+use cip_cert::{Bounds, PoolRow};
 use std::marker::Model;
 
 /// Goes through the rows whose scope holds a box, by rising id. Contracts see the rows that are left.

@@ -4,8 +4,7 @@ ghost use Rattle.std.specs.Prelude.{◌<◌};
 use crate::row::Row;
 use crate::setup::Setup;
 use cip_io::MemorySink;
-use cip_main::{Log, no_plugins, run};
-use cip_node_bounds::Mark;
+use cip_main::{Log, Mark, no_plugins, run};
 use std::alloc::{AllocError, Global};
 use std::io;
 

@@ -10,8 +10,8 @@ use Rattle.cip_rational.proofs.Rational.Whole.{IsWhole-zero}
 use Rattle.cip_rational.proofs.Rational.Ring.{+ℚ_assoc, zero-+ℚ, *ℚ-zero, *ℚ-one}
 use Rattle.cip_problem.specs.Points.{IsFeasible, cost_of}
 use Rattle.cip_problem.specs.Log.{Parked, Entry, Node, node_of}
-use Rattle.cip_linear.specs.LinearProgram.{LinearProgram, moved}
-use Rattle.cip_linear.proofs.Rays.{ray_cost}
+use Rattle.cip_answers.specs.LinearProgram.{LinearProgram, moved}
+use Rattle.cip_answers.proofs.PassedOn.{ray_cost}
 use Rattle.cip_leaves.specs.Leaf.{IsLeafIn}
 use Rattle.cip_leaves.specs.Wide.{InRow, InCost}
 use Rattle.cip_leaves.specs.Searched.{first_node, nodes_given, OpenMatters, NoMore, IsFirstLeast, LeadsTo}

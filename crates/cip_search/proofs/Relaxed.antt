@@ -7,7 +7,7 @@ use Rattle.cip_rational.proofs.Rational.Order.{≤ℚ_trans}
 use Rattle.cip_problem.specs.Program.{Sides, Row, Program}
 use Rattle.cip_problem.specs.Box.{IsInBox}
 use Rattle.cip_problem.specs.Points.{IsSatisfied}
-use Rattle.cip_linear.specs.LinearProgram.{IsPoint, IsOptimal}
+use Rattle.cip_answers.specs.LinearProgram.{IsPoint, IsOptimal}
 use Rattle.cip_leaves.specs.Searched.{NoMore}
 use Rattle.cip_search.specs.Relaxation.{relaxation, IsRelaxedBound}
 

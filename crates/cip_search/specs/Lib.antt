@@ -9,3 +9,6 @@ pub mod SearchAnswers
 pub mod SearchEnds
 pub mod SearchState
 pub mod Statements
+pub use Rattle.cip_answers.specs.Figures
+pub use Rattle.cip_leaves.specs.Leaf
+pub use Rattle.cip_answers.specs.ProgramState

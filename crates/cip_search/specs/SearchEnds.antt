@@ -8,7 +8,7 @@ use Rattle.cip_problem.specs.Program.{Program}
 use Rattle.cip_problem.specs.Points.{IsFeasible, cost_of, IsLowerBound}
 use Rattle.cip_problem.specs.Choices.{decided}
 use Rattle.cip_problem.specs.Log.{Entry, Node, node_of, IsLog}
-use Rattle.cip_linear.specs.Falling.{FallsWithoutEnd}
+use Rattle.cip_answers.specs.Falling.{FallsWithoutEnd}
 use Rattle.cip_leaves.specs.Leaf.{Leaf, IsLeafOf}
 use Rattle.cip_leaves.specs.Searched.{nodes_given, OpenMatters, ParkedMatters, IsLeast, IsCovered, AreTrueEntries, LeadsTo, IsFirstLeast}
 use Rattle.cip_leaves.specs.WideLeaf.{Shown, IsWideBy, IsWideLeaf}

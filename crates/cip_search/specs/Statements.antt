@@ -7,7 +7,7 @@ use Rattle.cip_problem.specs.Program.{Sides, Row, Program}
 use Rattle.cip_problem.specs.Box.{IsInBox}
 use Rattle.cip_problem.specs.Points.{IsFeasible, cost_of, IsLowerBound}
 use Rattle.cip_problem.specs.Log.{Split, Closed, Parked, Entry, Node, root, low_node, high_node, leaf_count, node_of, CanSplit, AllFollow, IsLog, matters}
-use Rattle.cip_linear.specs.LinearProgram.{IsOptimal}
+use Rattle.cip_answers.specs.LinearProgram.{IsOptimal}
 use Rattle.cip_cuts.specs.Improving.{HoldsInBox, IsBoundIn, HasNoImproving, IsNoDearer}
 use Rattle.cip_cuts.specs.Cover.{HasBoundFrom}
 use Rattle.cip_leaves.specs.Searched.{first_node, nodes_given, OpenMatters, ParkedMatters, NoMore, IsLeast, IsCovered, AreTrueEntries}

@@ -13,6 +13,8 @@ ghost use Rattle.cip_leaves.specs.Wide.{IsWide};
 ghost use Rattle.cip_search.specs.SearchState.{WayBack};
 ghost use Rattle.cip_search.specs.Statements.{StepsKeepSearches, StepsKeepGiven, StepsKeepBoxes, WaysAreFree, SearchesTell, SearchLogsTell, EntriesAreTrue, RelaxedBoundsHold};
 
+pub use cip_answers::{Move, Stand};
+
 /// A search begins with its root open, and what holds of it goes on holding as nodes are taken up, their bounds rise
 /// and their boxes shrink, as they are closed, put aside, split and made open again, as a cheaper point is held, and
 /// as open nodes are let go that don't matter.

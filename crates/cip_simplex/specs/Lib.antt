@@ -10,3 +10,4 @@ pub mod StartCode
 pub mod StartLaws
 pub mod Starts
 pub mod WayCode
+pub use Rattle.cip_dict.specs.Entries

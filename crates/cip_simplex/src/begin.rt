@@ -10,8 +10,7 @@ ghost use Rattle.cip_simplex.specs.LpEntries.{entry_of, entries_in};
 
 use crate::lp::Lp;
 use crate::solver::Solver;
-use cip_dict::{Dict, FirstFault};
-use cip_frac::Frac;
+use cip_dict::{Dict, FirstFault, Frac};
 use cip_lin::{Row, Sides, Term};
 use std::alloc::{AllocError, Global};
 

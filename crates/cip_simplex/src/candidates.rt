@@ -9,8 +9,7 @@ ghost use Rattle.cip_simplex.specs.FreeMoves as free;
 use crate::choice::{is_outside, may_go, outside_heading};
 use crate::headings::{back_of, heading_if, is_below, outside_way};
 use cip_bland::Heading;
-use cip_dict::Dict;
-use cip_frac::Frac;
+use cip_dict::{Dict, Frac};
 use cip_lin::Sides;
 use std::cmp::Ordering;
 

@@ -7,8 +7,7 @@ ghost use Rattle.cip_bland.specs.Rule as rule;
 
 use crate::headings::{are_crossed, back_of, heading_if, is_ahead, lies_between, outside_way};
 use cip_bland::Heading;
-use cip_dict::Dict;
-use cip_frac::Frac;
+use cip_dict::{Dict, Frac};
 
 /// Whether a number is 0.
 pub(crate) fn vanishes(a: Frac) -> bool

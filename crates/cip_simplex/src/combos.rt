@@ -8,7 +8,7 @@ ghost use Rattle.cip_simplex.specs.Certificates.{certificate_on};
 
 use crate::choice::vanishes;
 use crate::headings::{is_above_zero, is_below_zero};
-use cip_frac::Frac;
+use cip_dict::Frac;
 use cip_lin::{ColumnMultiple, Combo, RowId, RowMultiple};
 use std::alloc::{AllocError, Global};
 

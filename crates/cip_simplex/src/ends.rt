@@ -19,8 +19,7 @@ use crate::headings::{back_of, change_along};
 use crate::lp::Lp;
 use crate::ways::falling_heading;
 use cip_bland::{Heading, Step};
-use cip_dict::Dict;
-use cip_frac::Frac;
+use cip_dict::{Dict, Frac};
 use cip_lin::{ColumnMultiple, Combo, RowId, RowMultiple};
 use std::alloc::{AllocError, Global};
 

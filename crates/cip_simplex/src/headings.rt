@@ -6,8 +6,8 @@ ghost use Rattle.cip_bland.specs.Headings as def;
 ghost use Rattle.cip_bland.specs.Rule.{outside_with, sides_cross};
 
 use cip_bland::Heading;
+use cip_dict::Frac;
 use cip_dictionary::Stand;
-use cip_frac::Frac;
 use cip_lin::Sides;
 
 /// The other way.

@@ -21,6 +21,7 @@ mod steps;
 mod ways;
 
 pub use answers::LpAnswer;
+pub use cip_dict::{Dict, FirstFault, Line, Spare};
 pub use greedy::solve_greedily;
 pub use laws::{slack_is_first, starts_are_right};
 pub use lp::Lp;

@@ -5,7 +5,7 @@ ghost use Rattle.cip_linear.specs.LinearProgram.{LinearProgram};
 ghost use Rattle.cip_problem.specs.Program.{no_row};
 ghost use Rattle.cip_simplex.specs.LpShape as shape;
 
-use cip_frac::Frac;
+use cip_dict::Frac;
 use cip_lin::{Bounds, Row, Sides, Term};
 use std::marker::Model;
 

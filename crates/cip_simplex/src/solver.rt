@@ -1,6 +1,5 @@
 //! What is kept from one linear program to the next.
-use cip_dict::Spare;
-use cip_frac::Frac;
+use cip_dict::{Frac, Spare};
 use cip_lin::Sides;
 use std::alloc::Global;
 

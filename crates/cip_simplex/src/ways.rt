@@ -11,9 +11,8 @@ ghost use Rattle.cip_bland.specs.MoveList.{is_out_of_range, own_way_operations, 
 
 use crate::headings::{change_along, goal_ahead, heading_for, heading_if, is_below};
 use cip_bland::Heading;
-use cip_dict::Dict;
+use cip_dict::{Dict, Frac};
 use cip_dictionary::{Move, Stand};
-use cip_frac::Frac;
 use cip_lin::Sides;
 use std::marker::Model;
 

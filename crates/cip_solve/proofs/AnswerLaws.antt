@@ -22,7 +22,7 @@ use Rattle.cip_search.specs.SearchEnds as ends
 use Rattle.cip_search.specs.SearchEnds.{IsAnswer}
 use Rattle.cip_search.specs.EndLaws.{ComesTo}
 use Rattle.cip_search.proofs.EndsRight.{ends_are_right}
-use Rattle.cip_report.specs.declared.figures.Held.{Held}
+use Rattle.cip_endings.specs.Held.{Held}
 use Rattle.cip_seen.specs.SeenLogs.{log_seen, state_seen}
 use Rattle.cip_endings.specs.AnswerOf.{held_of}
 use Rattle.cip_endings.specs.LeastBounds.{is_no_more, capped}

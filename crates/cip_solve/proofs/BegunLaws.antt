@@ -12,9 +12,9 @@ use Rattle.cip_leaves.specs.Searched.{NoMore, first_node, nodes_given}
 use Rattle.cip_leaves.specs.WideLeaf.{IsWideLeaf}
 use Rattle.cip_incumbent.specs.HeldPoint.{Holding, nothing_held}
 use Rattle.cip_reductions.specs.NarrowedPrograms.{IsInfeasible}
-use Rattle.cip_postsolve.specs.StepsBack.{StepsTaken}
-use Rattle.cip_compaction.specs.declared.presolved.Presolved.{Presolved}
-use Rattle.cip_compaction.specs.PresolvedPrograms.{IsPresolved}
+use Rattle.cip_processing.specs.StepsBack.{StepsTaken}
+use Rattle.cip_processing.specs.Presolved.{Presolved}
+use Rattle.cip_processing.specs.PresolvedPrograms.{IsPresolved}
 use Rattle.cip_search.specs.SearchState.{State, WayBack, stay, IsWayBack, IsSearch, IsAsGiven}
 use Rattle.cip_search.specs.Endings.{IsLeastBound}
 use Rattle.cip_search.proofs.Kept as searching

@@ -26,9 +26,9 @@ use Rattle.cip_tree.specs.Moves as tree
 use Rattle.cip_tree.specs.Nodes.{Nodes}
 use Rattle.cip_node_bounds.specs.declared.relaxed.Mark.{Mark}
 use Rattle.cip_core.specs.KeptNodes.{cost_held, state_of, IsHolding}
-use Rattle.cip_report.specs.declared.figures.Ended.{Ended}
-use Rattle.cip_report.specs.declared.figures.Ended.TheVariants.{Optimal, Infeasible, Unbounded, NodeLimit, Gap, Wide, NoMemory}
-use Rattle.cip_report.specs.declared.figures.Held.{Held}
+use Rattle.cip_endings.specs.Ended.{Ended}
+use Rattle.cip_endings.specs.Ended.TheVariants.{Optimal, Infeasible, Unbounded, NodeLimit, Gap, Wide, NoMemory}
+use Rattle.cip_endings.specs.Held.{Held}
 use Rattle.cip_endings.specs.AnswerOf.{held_of, ended_of}
 use Rattle.cip_endings.specs.LeastBounds.{least_of, bound_held, flat, capped}
 use Rattle.cip_endings.specs.Gaps.{reaches_gap}

@@ -16,18 +16,18 @@ use Rattle.cip_leaves.specs.Wide.{InRow}
 use Rattle.cip_leaves.specs.LeafProgram.{program_of_leaf}
 use Rattle.cip_leaves.specs.WideLeaf.{AtPlace, EndOverflows, IsWideBy}
 use Rattle.cip_model.specs.declared.verdicts.Place.TheVariants.{Row as AtRow, Cost}
-use Rattle.cip_answers.specs.Figures.{names_of}
+use Rattle.cip_processing.specs.Figures.{names_of}
 use Rattle.cip_search.proofs.Fitting.{leaf_values, leaf_choices}
 use Rattle.cip_search.specs.SearchEnds as ends
 use Rattle.cip_search.specs.SearchEnds.{IsHeldPoint, EndHolds}
 use Rattle.cip_search.specs.SearchAnswers.{IsSearchAnswer}
-use Rattle.cip_report.specs.Answers.{StandsAmong, EndedFits, AnswerFits}
-use Rattle.cip_report.specs.declared.figures.Ended.{Ended}
-use Rattle.cip_report.specs.declared.figures.Ended.TheVariants.{Optimal, Infeasible, Unbounded, NodeLimit, Gap, Wide, NoMemory}
+use Rattle.cip_endings.specs.Answers.{StandsAmong, EndedFits, AnswerFits}
+use Rattle.cip_endings.specs.Ended.{Ended}
+use Rattle.cip_endings.specs.Ended.TheVariants.{Optimal, Infeasible, Unbounded, NodeLimit, Gap, Wide, NoMemory}
 use Rattle.cip_leaf.specs.declared.answers.Shown.{Shown}
 use Rattle.cip_leaf.specs.declared.answers.Shown.TheVariants.{Place, Moves}
-use Rattle.cip_report.specs.declared.figures.Held.{Held}
-use Rattle.cip_report.specs.declared.figures.Answer.{Answer}
+use Rattle.cip_endings.specs.Held.{Held}
+use Rattle.cip_endings.specs.Answer.{Answer}
 use Rattle.cip_leaf.specs.LeafAnswers.{shown_as}
 use Rattle.cip_endings.specs.AnswerOf.{ended_of, held_of, answer_of}
 use Rattle.cip_solve.proofs.FirstRows.{first_row_there}

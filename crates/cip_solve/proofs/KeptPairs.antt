@@ -11,9 +11,9 @@ use Rattle.cip_problem.specs.Choices.{choice_at}
 use Rattle.cip_reductions.specs.Forms.{kept_at}
 use Rattle.cip_reductions.specs.Pairs.{IsHeldFast, IsPair}
 use Rattle.cip_reductions.proofs.Spreading.{numbers_listed}
-use Rattle.cip_compaction.specs.declared.presolved.Presolved.{Presolved}
-use Rattle.cip_compaction.specs.PresolvedPrograms.{IsPresolved}
-use Rattle.cip_postsolve.specs.StepsBack.{point_back, old_number}
+use Rattle.cip_processing.specs.Presolved.{Presolved}
+use Rattle.cip_processing.specs.PresolvedPrograms.{IsPresolved}
+use Rattle.cip_processing.specs.StepsBack.{point_back, old_number}
 use Rattle.cip_core.specs.CoreStates.{CoreState, reduced_of}
 use Rattle.cip_solve.specs.Logs.{renamed}
 use Rattle.cip_solve.specs.Reducing.{IsOfReduced}

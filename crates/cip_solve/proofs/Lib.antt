@@ -19,3 +19,4 @@ pub mod TurnLaws
 pub mod Working
 pub mod WorkedNodes
 pub mod KitLaws
+pub mod PassedOn

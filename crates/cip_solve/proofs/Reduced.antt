@@ -2,8 +2,8 @@
 use Rattle.std.proofs.Common.{Bool, Result, Ok, Err, sym, subst}
 use Rattle.std.specs.Prelude.{IfOk}
 use Rattle.cip_problem.specs.Program.{Program}
-use Rattle.cip_compaction.specs.declared.presolved.Presolved.{Presolved}
-use Rattle.cip_compaction.specs.PresolvedPrograms.{IsPresolved, IsUnchanged}
+use Rattle.cip_processing.specs.Presolved.{Presolved}
+use Rattle.cip_processing.specs.PresolvedPrograms.{IsPresolved, IsUnchanged}
 use Rattle.cip_core.specs.Beginning.{AreNearColumns}
 use Rattle.cip_solve.specs.Reducing.{CanBeSearched}
 

@@ -3,7 +3,7 @@ use Rattle.std.proofs.Common.{Option, refl, ◌∙◌, subst}
 use Rattle.cip_rational.specs.Rational.{ℚ}
 use Rattle.cip_problem.specs.Program.{Program}
 use Rattle.cip_problem.specs.Log.{Node}
-use Rattle.cip_postsolve.specs.StepsBack.{StepsTaken, way_back}
+use Rattle.cip_processing.specs.StepsBack.{StepsTaken, way_back}
 use Rattle.cip_search.specs.SearchState.{WayBack}
 use Rattle.cip_core.specs.CoreStates.{CoreState, reduced_of, way_of}
 use Rattle.cip_endings.specs.declared.worst.Worst.{Worst}

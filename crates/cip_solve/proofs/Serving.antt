@@ -13,15 +13,15 @@ use Rattle.cip_seats.specs.Seats.{Seat, State, is_settled}
 use Rattle.cip_seats.specs.Steps.{Step, calls_of, asks_in}
 use Rattle.cip_seats.proofs.Hearing.{asks_in-append}
 use Rattle.cip_seats.proofs.Running.{calls_of-append, Runs-append}
-use Rattle.cip_roster.specs.Wished.{Ran}
-use Rattle.cip_calls.specs.Served.{is_wanted, IsServed}
-use Rattle.cip_calls.proofs.Serving.{between}
+use Rattle.cip_processing.specs.Wished.{Ran}
+use Rattle.cip_processing.specs.Served.{is_wanted, IsServed}
+use Rattle.cip_processing.proofs.PassedOn.{between}
 use Rattle.cip_core.specs.CoreStates.{CoreState}
 use Rattle.cip_node_bounds.specs.declared.relaxed.Mark.{Mark}
-use Rattle.cip_node.specs.declared.ends.NodeEnd.{NodeEnd}
-use Rattle.cip_node.specs.declared.ends.NodeEnd.TheVariants as by
-use Rattle.cip_node.specs.declared.ends.NodeRecord.{NodeRecord}
-use Rattle.cip_judge.specs.declared.judged.Judged.{Judged}
+use Rattle.cip_processing.specs.NodeEnd.{NodeEnd}
+use Rattle.cip_processing.specs.NodeEnd.TheVariants as by
+use Rattle.cip_processing.specs.NodeRecord.{NodeRecord}
+use Rattle.cip_processing.specs.Judged.{Judged}
 use Rattle.cip_processing.specs.NodesReached.{asks_in_pass}
 use Rattle.cip_processing.specs.NodesDone.{asks_for_split, asks_until, IsUsedAt}
 use Rattle.cip_solve.specs.NodesWorked.{IsWorkedEnd}

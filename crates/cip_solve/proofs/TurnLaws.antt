@@ -4,7 +4,7 @@ use Rattle.std.proofs.lemmas.List.{take-append-le}
 use Rattle.cip_rational.specs.Rational.{ℚ}
 use Rattle.cip_rational.proofs.Rational.Order.{≤ℚ_refl}
 use Rattle.cip_problem.specs.Program.{Program}
-use Rattle.cip_postsolve.specs.StepsBack.{StepsTaken, way_back}
+use Rattle.cip_processing.specs.StepsBack.{StepsTaken, way_back}
 use Rattle.cip_problem.specs.Log.{End, Split, Closed, Parked, Entry, Node}
 use Rattle.cip_cuts.specs.Improving.{IsNoDearer}
 use Rattle.cip_leaf.specs.LeafAnswers.{shown_as}
@@ -19,9 +19,9 @@ use Rattle.cip_core.specs.KeptNodes.{cost_held, state_of, IsHolding}
 use Rattle.cip_core.specs.Later.{IsLater}
 use Rattle.cip_core.specs.Steps.{LeavesEntry, IsBack}
 use Rattle.cip_tree.specs.Moves.{TakesFirst}
-use Rattle.cip_node.specs.NodeEnds.{IsEndless as EndsEndless}
-use Rattle.cip_node.specs.declared.ends.NodeEnd.{NodeEnd}
-use Rattle.cip_node.specs.declared.ends.NodeEnd.TheVariants as by
+use Rattle.cip_processing.specs.NodeEnds.{IsEndless as EndsEndless}
+use Rattle.cip_processing.specs.NodeEnd.{NodeEnd}
+use Rattle.cip_processing.specs.NodeEnd.TheVariants as by
 use Rattle.cip_endings.specs.LeastBounds.{least_of, bound_held, flat}
 use Rattle.cip_solve.specs.FirstStops.{IsLongerLog}
 use Rattle.cip_solve.specs.Logs.{marks_by}

@@ -19,10 +19,10 @@ use Rattle.cip_node_bounds.specs.Relaxing.{IsMark}
 use Rattle.cip_node_bounds.specs.declared.relaxed.Mark.{Mark}
 use Rattle.cip_core.specs.CoreStates.{CoreState, reduced_of, held_of, IsTakenUp}
 use Rattle.cip_core.specs.Steps.{LeavesEntry}
-use Rattle.cip_node.specs.Bounding.{IsMarkOf, IsAsGood}
+use Rattle.cip_processing.specs.Bounding.{IsMarkOf, IsAsGood}
 use Rattle.cip_leaves.specs.Leaf.{Leaf}
-use Rattle.cip_node.specs.declared.ends.NodeEnd.{NodeEnd}
-use Rattle.cip_node.specs.declared.ends.NodeEnd.TheVariants as by
+use Rattle.cip_processing.specs.NodeEnd.{NodeEnd}
+use Rattle.cip_processing.specs.NodeEnd.TheVariants as by
 use Rattle.cip_leaves.specs.WideLeaf.{Shown}
 use Rattle.cip_solve.specs.Logs.{numbers_of, marks_by}
 use Rattle.cip_solve.specs.NodesWorked.{IsWorkedEnd, HasWorked}

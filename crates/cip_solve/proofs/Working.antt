@@ -5,10 +5,10 @@ use Rattle.cip_problem.specs.Log.{Node}
 use Rattle.cip_tree.specs.Nodes.{TakenNode}
 use Rattle.cip_node_bounds.specs.declared.relaxed.Mark.{Mark}
 use Rattle.cip_core.specs.CoreStates.{CoreState}
-use Rattle.cip_node.specs.NodeEnds.{IsEnd, HasEnded}
-use Rattle.cip_node.specs.declared.ends.NodeEnd.{NodeEnd}
-use Rattle.cip_node.specs.declared.ends.NodeEnd.TheVariants as by
-use Rattle.cip_node.specs.declared.ends.NodeRecord.{NodeRecord}
+use Rattle.cip_processing.specs.NodeEnds.{IsEnd, HasEnded}
+use Rattle.cip_processing.specs.NodeEnd.{NodeEnd}
+use Rattle.cip_processing.specs.NodeEnd.TheVariants as by
+use Rattle.cip_processing.specs.NodeRecord.{NodeRecord}
 use Rattle.cip_processing.specs.NodesDone.{HasParted, HasEndedBy, IsDone}
 use Rattle.cip_processing.specs.declared.ends.Done.{Done}
 use Rattle.cip_solve.specs.NodesWorked.{IsWorkedEnd, HasWorked}

@@ -10,3 +10,14 @@ pub mod Statements
 pub mod Stopping
 pub mod Stops
 pub mod KitsServed
+pub use Rattle.cip_endings.specs.AnswerOf
+pub use Rattle.cip_core.specs.Beginning
+pub use Rattle.cip_core.specs.CoreStates
+pub use Rattle.cip_kits.specs.Kits
+pub use Rattle.cip_core.specs.Later
+pub use Rattle.cip_leaf.specs.LeafAnswers
+pub use Rattle.cip_processing.specs.Looking
+pub use Rattle.cip_node_bounds.specs.declared.relaxed.Mark
+pub use Rattle.cip_processing.specs.PresolvedPrograms
+pub use Rattle.cip_processing.specs.ProposalsJudged
+pub use Rattle.cip_leaf.specs.declared.answers.Shown

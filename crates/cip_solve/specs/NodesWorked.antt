@@ -7,10 +7,10 @@ use Rattle.cip_tree.specs.Nodes.{TakenNode, box_of, shown}
 use Rattle.cip_core.specs.CoreStates.{CoreState, IsKeptIn}
 use Rattle.cip_core.specs.Later.{IsLater, IsNarrower}
 use Rattle.cip_core.specs.Steps.{LeavesEntry}
-use Rattle.cip_node.specs.Bounding.{IsMarkOf, IsAsGood}
-use Rattle.cip_node.specs.NodeEnds.{IsAside, IsEndless}
-use Rattle.cip_node.specs.declared.ends.NodeEnd.{NodeEnd}
-use Rattle.cip_node.specs.declared.ends.NodeEnd.TheVariants as by
+use Rattle.cip_processing.specs.Bounding.{IsMarkOf, IsAsGood}
+use Rattle.cip_processing.specs.NodeEnds.{IsAside, IsEndless}
+use Rattle.cip_processing.specs.NodeEnd.{NodeEnd}
+use Rattle.cip_processing.specs.NodeEnd.TheVariants as by
 
 -- it was closed
 pub record IsClosedOff (old new : CoreState) (ended : Node) : Type 0 where

@@ -3,8 +3,8 @@ use Rattle.std.specs.Prelude.{◌≡◌, Bool, true, false, Option, None, Some}
 use Rattle.cip_problem.specs.Program.{Program}
 use Rattle.cip_problem.specs.WellFormed.{IsWellFormed}
 use Rattle.cip_reductions.specs.NarrowedPrograms.{IsInfeasible}
-use Rattle.cip_compaction.specs.declared.presolved.Presolved.{Presolved}
-use Rattle.cip_compaction.specs.PresolvedPrograms.{IsPresolved, IsUnchanged}
+use Rattle.cip_processing.specs.Presolved.{Presolved}
+use Rattle.cip_processing.specs.PresolvedPrograms.{IsPresolved, IsUnchanged}
 use Rattle.cip_core.specs.Beginning.{AreNearColumns}
 use Rattle.cip_core.specs.CoreStates.{CoreState}
 

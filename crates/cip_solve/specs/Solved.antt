@@ -5,7 +5,7 @@ use Rattle.cip_rational.specs.Rational.{ℚ}
 use Rattle.cip_problem.specs.Program.{Program}
 use Rattle.cip_problem.specs.WellFormed.{columns}
 use Rattle.cip_problem.specs.Log.{Entry, Node, node_of}
-use Rattle.cip_cert.specs.Lent.{Lent}
+use Rattle.cip_processing.specs.Lent.{Lent}
 use Rattle.cip_leaves.specs.Searched.{nodes_given}
 use Rattle.cip_model.specs.Rays.{IsShownRay}
 use Rattle.cip_search.specs.SearchEnds.{Unbounded, NoMemory, Answer}

@@ -5,8 +5,8 @@ use Rattle.cip_problem.specs.Program.{Program}
 use Rattle.cip_problem.specs.WellFormed.{IsWellFormed}
 use Rattle.cip_problem.specs.Log.{Entry}
 use Rattle.cip_node_bounds.specs.declared.relaxed.Mark.{Mark}
-use Rattle.cip_report.specs.Answers.{AnswerFits}
-use Rattle.cip_report.specs.declared.figures.Answer.{Answer}
+use Rattle.cip_endings.specs.Answers.{AnswerFits}
+use Rattle.cip_endings.specs.Answer.{Answer}
 use Rattle.cip_endings.specs.AnswerOf.{answer_of}
 use Rattle.cip_solve.specs.Solved.{IsSolvedBy}
 

@@ -8,7 +8,7 @@ use Rattle.cip_leaves.specs.WideLeaf.{IsWideLeaf}
 use Rattle.cip_incumbent.specs.HeldPoint.{HeldPoint}
 use Rattle.cip_search.specs.SearchState.{State, WayBack, all_nodes, IsSearch, IsAsGiven}
 use Rattle.cip_search.specs.Endings.{IsLeastBound}
-use Rattle.cip_report.specs.declared.figures.Held.{Held}
+use Rattle.cip_endings.specs.Held.{Held}
 
 -- the search stood so before, with this log and a cost held that was no less, and this was the least bound
 pub record WasLeast

@@ -9,8 +9,8 @@ use Rattle.cip_leaf.specs.LeafAnswers.{shown_as}
 use Rattle.cip_search.specs.SearchState.{WayBack}
 use Rattle.cip_tree.specs.Nodes.{Nodes}
 use Rattle.cip_core.specs.CoreStates.{CoreState, reduced_of, way_of}
-use Rattle.cip_node.specs.declared.ends.NodeEnd.{NodeEnd}
-use Rattle.cip_node.specs.declared.ends.NodeEnd.TheVariants as by
+use Rattle.cip_processing.specs.NodeEnd.{NodeEnd}
+use Rattle.cip_processing.specs.NodeEnd.TheVariants as by
 use Rattle.cip_endings.specs.Worst.{leaf_of, IsWorse}
 use Rattle.cip_endings.specs.declared.worst.Worst.{Worst}
 use Rattle.cip_solve.specs.Searching.{StopsStill, StopsEndless, StopsRefused}

@@ -1,8 +1,6 @@
 //! Work with plugins.
 use crate::works::Works;
-use cip_calls::{Asks, Plugins};
-use cip_node::{NodeEnd, NodeRecord, NodeWork};
-use cip_processing::{Done, process, tell_end};
+use cip_processing::{Asks, Done, NodeEnd, NodeRecord, NodeWork, Plugins, process, tell_end};
 use cip_tree::Node;
 use std::alloc::{AllocError, Global};
 
@@ -17,8 +15,8 @@ pub struct Asking<R> {
 
 impl<R: Asks> Works for Asking<R> {
     ghost use Rattle.std.specs.Prelude.{true};
-    ghost use Rattle.cip_roster.specs.Turns.{IsSound};
-    ghost use Rattle.cip_judge.specs.ProposalsJudged.{HaveRoom};
+    ghost use Rattle.cip_processing.specs.Turns.{IsSound};
+    ghost use Rattle.cip_processing.specs.ProposalsJudged.{HaveRoom};
 
     ghost asks = { true };
 

@@ -28,14 +28,12 @@ use crate::outsets::Begun;
 use crate::solving::Options;
 use crate::turns::{Search, Stop};
 use crate::works::Works;
-use cip_compaction::Presolved;
 use cip_core::{Core, cost_of};
-use cip_endings::{Worst, capped, ended_at, flat, least_left};
+use cip_endings::{Answer, Ended, Held, Worst, capped, ended_at, flat, least_left};
 use cip_frac::Frac;
 use cip_incumbent::Incumbent;
 use cip_model::{Program, Verdict};
-use cip_node::NodeWork;
-use cip_report::{Answer, Ended, Held};
+use cip_processing::{NodeWork, Presolved};
 use cip_tree::Tree;
 use std::alloc::Global;
 

@@ -14,8 +14,8 @@ ghost use Rattle.cip_solve.specs.Stops.{IsKeptAs, StopsAt};
 use crate::works::Works;
 use cip_endings::{Worst, flat, least_left, reaches_gap, worse};
 use cip_frac::Frac;
-use cip_node::{NodeEnd, NodeRecord, NodeWork};
 use cip_node_bounds::Mark;
+use cip_processing::{NodeEnd, NodeRecord, NodeWork};
 use std::alloc::Global;
 
 /// How a search stops.

@@ -4,11 +4,11 @@ ghost use Rattle.cip_problem.specs.WellFormed.{columns};
 ghost use Rattle.cip_seats.specs.Seats.{State, is_settled};
 ghost use Rattle.cip_core.specs.CoreStates.{reduced_of};
 ghost use Rattle.cip_core.specs.Steps.{IsBack};
-ghost use Rattle.cip_node.specs.Looking.{CanWorkOn};
+ghost use Rattle.cip_processing.specs.Looking.{CanWorkOn};
 ghost use Rattle.cip_solve.specs.NodesWorked.{HasWorked};
 ghost use Rattle.cip_solve.specs.SplitsServed.{splits_by, HasServed};
 
-use cip_node::{NodeEnd, NodeRecord, NodeWork};
+use cip_processing::{NodeEnd, NodeRecord, NodeWork};
 use cip_tree::Node;
 use std::alloc::{AllocError, Global};
 

@@ -1,10 +1,10 @@
 -- A node that was taken up can be worked on after a row was added in its region.
 use Rattle.std.proofs.Common.{◌≡◌, ◌<◌, ◌^◌, ◌∙◌, sym, ap, subst}
 use Rattle.cip_tree.specs.Nodes.{TakenNode}
-use Rattle.cip_core.specs.CoreStates.{CoreState, IsGivenBound}
-use Rattle.cip_core.specs.Later.{IsLaterAt}
-use Rattle.cip_node.specs.Looking.{CanWorkOn}
-use Rattle.cip_node.proofs.GivenLater.{given_later}
+use Rattle.cip_solve.specs.CoreStates.{CoreState, IsGivenBound}
+use Rattle.cip_solve.specs.Later.{IsLaterAt}
+use Rattle.cip_solve.specs.Looking.{CanWorkOn}
+use Rattle.cip_solve.proofs.PassedOn.{given_later}
 
 pub can_later : (old mid new : CoreState) (node : TakenNode) → CanWorkOn old node → mid ≡ record old { tree = record old.tree { work = mid.tree.work } } → IsLaterAt mid node new node → CanWorkOn new node
 can_later old mid new node can frame later = record {

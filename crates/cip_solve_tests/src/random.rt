@@ -1,11 +1,10 @@
 //! Random programs with semi-continuous columns: what a search of each ends with, and what plain enumeration of its
 //! choices does.
 use crate::programs::{has_near_columns, program_of};
-use cip_compaction::Presolved;
 use cip_frac::Frac;
 use cip_model::Program;
 use cip_report::{Answer, Ended};
-use cip_solve::{Alone, Log, Options, solve_by};
+use cip_solve::{Alone, Log, Options, Presolved, solve_by};
 use std::alloc::Global;
 
 /// How many programs are drawn.

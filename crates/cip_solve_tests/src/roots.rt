@@ -2,20 +2,17 @@
 ghost use Rattle.std.specs.Prelude.{[]};
 ghost use Rattle.cip_problem.specs.WellFormed.{columns};
 ghost use Rattle.cip_roster.specs.Turns.{IsSound};
-ghost use Rattle.cip_core.specs.CoreStates.{reduced_of, IsKeptIn};
-ghost use Rattle.cip_judge.specs.ProposalsJudged.{HaveRoom};
+ghost use Rattle.cip_solve.specs.CoreStates.{reduced_of, IsKeptIn};
+ghost use Rattle.cip_solve.specs.ProposalsJudged.{HaveRoom};
 
 use crate::programs::{FREE_COLUMN, has_near_columns, program_of};
-use cip_calls::{NoPlugins, Plugins};
-use cip_compaction::Presolved;
-use cip_core::Core;
 use cip_frac::Frac;
-use cip_judge::Scratches;
 use cip_leaf::Shown;
 use cip_model::{Place, Program};
-use cip_node::{NodeEnd, NodeRecord, NodeWork};
-use cip_processing::{Done, process};
 use cip_roster::Seated;
+use cip_solve::{
+    Core, Done, NoPlugins, NodeEnd, NodeRecord, NodeWork, Plugins, Presolved, Scratches, process,
+};
 use cip_tree::End;
 use std::alloc::{AllocError, Global};
 

@@ -1,15 +1,14 @@
 //! What searches over the work on nodes answer.
-ghost use Rattle.cip_compaction.specs.PresolvedPrograms.{IsPresolved};
+ghost use Rattle.cip_solve.specs.PresolvedPrograms.{IsPresolved};
 
 use crate::programs::{FREE_COLUMN, THREE_COLUMNS, has_near_columns, program_of};
-use cip_compaction::Presolved;
 use cip_frac::Frac;
 use cip_leaf::Shown;
 use cip_model::{Place, Program};
-use cip_node_bounds::Mark;
-use cip_presolve::{PresolveEnd, presolve};
 use cip_report::{Answer, Ended, Held};
-use cip_solve::{Alone, Log, Options, solve_by, unsearched};
+use cip_solve::{
+    Alone, Log, Mark, Options, PresolveEnd, Presolved, presolve, solve_by, unsearched,
+};
 use cip_tree::{End, Logged};
 use std::alloc::Global;
 

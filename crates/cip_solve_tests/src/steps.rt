@@ -1,16 +1,14 @@
 //! Rows that are added to a node in work, and open nodes that are let go as the cost held falls.
 ghost use Rattle.std.specs.Prelude.{[], IsTrue};
-ghost use Rattle.cip_core.specs.CoreStates.{IsKeptIn};
-ghost use Rattle.cip_node.specs.Looking.{CanWorkOn};
+ghost use Rattle.cip_solve.specs.CoreStates.{IsKeptIn};
+ghost use Rattle.cip_solve.specs.Looking.{CanWorkOn};
 
 use crate::programs::{has_near_columns, program_of};
-use cip_compaction::Presolved;
-use cip_core::{Asked, Core};
 use cip_frac::Frac;
 use cip_lin::{Combo, RowId, RowMultiple};
 use cip_model::Program;
-use cip_node::{NodeEnd, NodeWork};
 use cip_rows::Added;
+use cip_solve::{Asked, Core, NodeEnd, NodeWork, Presolved};
 use cip_tree::Node;
 use std::alloc::{AllocError, Global};
 

@@ -7,9 +7,8 @@ ghost use Rattle.cip_split.specs.SplitChecks.{split_of};
 ghost use Rattle.cip_split.specs.SplitMeaning.{split_rests};
 
 use crate::split_rows::split_sparse;
-use cip_cert::{PoolRow, Rows, Scratch, SplitCut, SplitFormFault, rests_on_cutoff};
+use cip_cert::{Bounds, PoolRow, Rows, Scratch, SplitCut, SplitFormFault, rests_on_cutoff};
 use cip_frac::Frac;
-use cip_lin::Bounds;
 
 /// Leaves the coefficients of the row of a split cut in the first scratch, and answers its right side: the lesser one
 /// of its left and its right row, which have these coefficients both. Each fault comes exactly where it is the first in

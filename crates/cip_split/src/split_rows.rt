@@ -8,9 +8,8 @@ ghost use Rattle.cip_split.specs.SplitChecks.{left_row, right_row, first_differe
 
 use crate::form_sums::add_side;
 use crate::forms::{form_fault, sign_fault};
-use cip_cert::{Rows, SparseRow, SplitCut, SplitFormFault, aggregate_row};
+use cip_cert::{Bounds, Rows, SparseRow, SplitCut, SplitFormFault, aggregate_row};
 use cip_frac::Frac;
-use cip_lin::Bounds;
 
 /// The next whole number, if it is in range.
 fn next_of(number: i128) -> Option<i128>

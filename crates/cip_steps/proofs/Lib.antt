@@ -2,3 +2,4 @@ pub mod Recosted
 pub mod RowTermsKept
 pub mod Ruled
 pub mod Singled
+pub mod PassedOn

@@ -7,8 +7,8 @@ use Rattle.cip_rational.proofs.Rational.Order.{≤ℚ_antisymm, le_of_test}
 use Rattle.cip_problem.specs.Program.{Sides, Program}
 use Rattle.cip_problem.specs.Activity.{value_at}
 use Rattle.cip_problem.specs.Box.{sides_at, sides_equal}
-use Rattle.cip_frac.specs.Outcomes.{product_added}
-use Rattle.cip_frac.proofs.Outcomes.{product_added-value}
+use Rattle.cip_row_reading.specs.Outcomes.{product_added}
+use Rattle.cip_row_reading.proofs.PassedOn.{product_added-value}
 use Rattle.cip_reductions.specs.NarrowedPrograms.{IsExactStep, IsInfeasible, with_cost}
 use Rattle.cip_reductions.proofs.RowSteps.{recosted, not_whole}
 use Rattle.cip_row_reading.specs.RowReading.{only_value}

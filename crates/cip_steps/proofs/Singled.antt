@@ -15,7 +15,7 @@ use Rattle.cip_problem.proofs.Points.AtPlaces.{in_box_at, satisfied_at, whole_at
 use Rattle.cip_problem.proofs.Choices.Meeting.{between_both, between_met}
 use Rattle.cip_cuts.specs.Cuts.{rounded_low, rounded_high, rounded_sides}
 use Rattle.cip_cuts.proofs.Rounding.{sides_rounded}
-use Rattle.cip_lin.specs.MetSides.{is_past}
+use Rattle.cip_row_reading.specs.MetSides.{is_past}
 use Rattle.cip_reductions.specs.NarrowedPrograms.{IsExactStep, IsInfeasible, with_row, with_sides}
 use Rattle.cip_reductions.specs.RowSteps.{divided_sides}
 use Rattle.cip_problem.specs.Program.{no_row}

@@ -1,3 +1,14 @@
 pub mod DraftInside
 pub mod DraftParts
 pub mod RuleEnds
+pub use Rattle.cip_row_reading.specs.Leaf
+pub use Rattle.cip_row_reading.specs.Least
+pub use Rattle.cip_row_reading.specs.MetSides
+pub use Rattle.cip_reductions.specs.NarrowedPrograms
+pub use Rattle.cip_model.specs.Programs
+pub use Rattle.cip_cuts.specs.Reduced
+pub use Rattle.cip_row_reading.specs.RowReading
+pub use Rattle.cip_reductions.specs.RowSteps
+pub use Rattle.cip_row_reading.specs.RowSums
+pub use Rattle.cip_row_reading.specs.SearchState
+pub use Rattle.cip_row_reading.specs.SingleRows

@@ -6,8 +6,7 @@ ghost use Rattle.cip_steps.specs.RuleEnds.{EndsRightly};
 
 use crate::drafts::Draft;
 use crate::rules::Outcome;
-use cip_frac::Frac;
-use cip_row_reading::only_value;
+use cip_row_reading::{Frac, only_value};
 
 impl Draft {
     /// The cost of a column.

@@ -5,8 +5,7 @@ ghost use Rattle.cip_problem.specs.Choices.{choice_at, is_open};
 ghost use Rattle.cip_reductions.specs.NarrowedPrograms.{with_row, with_sides};
 ghost use Rattle.cip_steps.specs.DraftParts.{IsDraft};
 
-use cip_frac::Frac;
-use cip_lin::{Bounds, Choices, Row, Sides};
+use cip_row_reading::{Bounds, Choices, Frac, Row, Sides};
 use std::marker::Model;
 
 /// A program in work, without names. Contracts see it as a program.

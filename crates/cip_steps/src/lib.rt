@@ -6,6 +6,10 @@ mod copies;
 mod drafts;
 mod rules;
 
+pub use cip_model::{Names, Parts, Program};
+pub use cip_row_reading::{
+    Bounds, Least, Row, RowFault, Sides, Term, add_least, extent, single_sides,
+};
 pub use copies::{copied_rows, row_of_terms};
 pub use drafts::Draft;
 pub use rules::{Outcome, is_far};

@@ -8,9 +8,9 @@ ghost use Rattle.cip_problem.specs.Activity.{StandsBelow};
 ghost use Rattle.cip_steps.specs.RuleEnds.{EndsRightly, IsSingled};
 
 use crate::drafts::Draft;
-use cip_frac::Frac;
-use cip_lin::{Bounds, Row, Sides, Term};
-use cip_row_reading::{RowSays, one_term, row_says, single_sides, without_fixed};
+use cip_row_reading::{
+    Bounds, Frac, Row, RowSays, Sides, Term, one_term, row_says, single_sides, without_fixed,
+};
 use std::alloc::{AllocError, Global};
 
 /// What a rule comes to.

@@ -10,8 +10,8 @@ use Rattle.cip_line_texts.specs.LineTexts.{HasResult, HasFault}
 use Rattle.cip_block_rules.specs.BlockRules.{block_reading}
 use Rattle.cip_point_rules.specs.PointRules.{point_reading}
 use Rattle.cip_point_rules.specs.PointStatements.{IsGivenOnce, given_by, PointsAreOfLines}
-use Rattle.cip_blocks.specs.BlockKinds.{kind_number as block_kind_number}
-use Rattle.cip_point.specs.PointKinds.{kind_number as point_kind_number}
+use Rattle.cip_input.specs.BlockKinds.{kind_number as block_kind_number}
+use Rattle.cip_input.specs.PointKinds.{kind_number as point_kind_number}
 use Rattle.cip_input.specs.LimitedModels.{ProgramsAreLimited}
 use Rattle.cip_input.specs.TextsRead.{ReadsText, RefusesText}
 use Rattle.cip_input.specs.Models.{HasModel}

@@ -11,11 +11,11 @@ use Rattle.cip_rational.proofs.Rational.Lowest.{numerator-integer, denominator-i
 use Rattle.cip_numerals.specs.NumberText.{natural_text, integer_text, denominator_text, fraction_text}
 use Rattle.cip_numerals.proofs.NumberText.{IsFractionByte, fraction_text_plain, natural_text_decimal, natural_text_injective}
 use Rattle.cip_answers.specs.Figures.{end_line, line, refusal_text}
-use Rattle.cip_mps.specs.MpsKindTexts.{kind_texts as mps_texts}
-use Rattle.cip_lp.specs.LpKindTexts.{kind_texts as lp_texts}
+use Rattle.cip_input.specs.MpsKindTexts.{kind_texts as mps_texts}
+use Rattle.cip_input.specs.LpKindTexts.{kind_texts as lp_texts}
 use Rattle.cip_input.specs.declared.model_faults.ModelFault.TheVariants.{Mps, Lp}
-use Rattle.cip_blocks.specs.BlockKindTexts.{kind_texts as block_texts}
-use Rattle.cip_point.specs.PointKindTexts.{kind_texts as point_texts}
+use Rattle.cip_input.specs.BlockKindTexts.{kind_texts as block_texts}
+use Rattle.cip_input.specs.PointKindTexts.{kind_texts as point_texts}
 use Rattle.cip_tasks.specs.declared.refusals.TextFault.{TextFault}
 use Rattle.cip_tasks.specs.declared.refusals.TextFault.TheVariants.{Model, Blocks, Point}
 use Rattle.cip_tasks.specs.Refusals.{text_name, line_of, number_of, kind_text, RefusalsTell}

@@ -6,10 +6,10 @@ use lib.Chars.{codes}
 use Rattle.std.specs.Prelude.{◌≡◌, ℕ, List}
 use Rattle.cip_numerals.specs.NumberText.{natural_text}
 use Rattle.cip_answers.specs.Figures.{refusal_text}
-use Rattle.cip_blocks.specs.BlockKinds.{kind_number as block_kind_number}
-use Rattle.cip_blocks.specs.BlockKindTexts.{kind_text as block_kind_text}
-use Rattle.cip_point.specs.PointKinds.{kind_number as point_kind_number}
-use Rattle.cip_point.specs.PointKindTexts.{kind_text as point_kind_text}
+use Rattle.cip_input.specs.BlockKinds.{kind_number as block_kind_number}
+use Rattle.cip_input.specs.BlockKindTexts.{kind_text as block_kind_text}
+use Rattle.cip_input.specs.PointKinds.{kind_number as point_kind_number}
+use Rattle.cip_input.specs.PointKindTexts.{kind_text as point_kind_text}
 use Rattle.cip_input.specs.Models.{model_line, model_kind, model_kind_text}
 use Rattle.cip_tasks.specs.declared.refusals.TextFault.{TextFault}
 use Rattle.cip_tasks.specs.declared.refusals.TextFault.TheVariants.{Model, Blocks, Point}

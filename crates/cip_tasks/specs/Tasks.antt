@@ -11,8 +11,8 @@ use Rattle.cip_line_texts.specs.LineTexts.{HasFault}
 use Rattle.cip_parts.specs.BlockParts.{Blocks as Parts}
 use Rattle.cip_block_rules.specs.BlockRules.{block_reading}
 use Rattle.cip_point_rules.specs.PointRules.{point_reading}
-use Rattle.cip_blocks.specs.BlockKinds.{kind_number as block_kind_number}
-use Rattle.cip_point.specs.PointKinds.{kind_number as point_kind_number}
+use Rattle.cip_input.specs.BlockKinds.{kind_number as block_kind_number}
+use Rattle.cip_input.specs.PointKinds.{kind_number as point_kind_number}
 use Rattle.cip_generator.specs.Generated.{generated, entries_of}
 use Rattle.cip_words.specs.Jobs.{Limits, Job, Solve, Check, Generate}
 use Rattle.cip_words.specs.declared.words.WordsFault.{WordsFault}

@@ -2,9 +2,7 @@
 ghost use Rattle.std.specs.Prelude.{◌≡◌, ◌≤◌, length};
 ghost use Rattle.cip_tasks.specs.Refusals.{text_name, line_of, kind_text};
 
-use cip_blocks::BlockFault;
-use cip_input::ModelFault;
-use cip_point::PointFault;
+use cip_input::{BlockFault, ModelFault, PointFault};
 
 /// A faulty text: which one it is, its first line that breaks a rule, and the least kind that it breaks.
 #[derive(Clone, Copy, Debug, PartialEq, Eq)]

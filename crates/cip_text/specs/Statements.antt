@@ -1,6 +1,6 @@
 -- The laws of texts, each as one statement: functions of `src/laws.rt` have them as contracts.
 use Rattle.std.specs.Prelude.{◌≡◌, ℕ, List}
-use Rattle.cip_line_texts.specs.LineTexts.{items_from}
+use Rattle.cip_mps_rules.specs.LineTexts.{items_from}
 use Rattle.cip_mps_rules.specs.MpsOutcome.{mps_records}
 use Rattle.cip_text.specs.TextLines.{records_with}
 

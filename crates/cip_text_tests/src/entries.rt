@@ -1,5 +1,5 @@
 //! LP texts of as many entries as there may be, and one more.
-use cip_lp::{LpReader, ReadFault};
+use cip_input::{LpReader, ReadFault};
 use std::alloc::{AllocError, Global};
 
 /// The terms of a row on 65,536 columns, one a line.

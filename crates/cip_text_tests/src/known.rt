@@ -1,5 +1,5 @@
 //! Faults that readers know before the end of a text.
-use cip_lp::LpReader;
+use cip_input::LpReader;
 use cip_mps::MpsReader;
 use std::alloc::Global;
 
@@ -14,7 +14,7 @@ fn mps_line(reader: &mut MpsReader, piece: &str) -> Option<usize> {
 /// The same of a reader of LP texts.
 fn lp_line(reader: &mut LpReader, piece: &str) -> Option<usize> {
     match reader.feed(piece.as_bytes()) {
-        Err(cip_lp::ReadFault::Faulty(fault)) => Some(fault.line),
+        Err(cip_input::ReadFault::Faulty(fault)) => Some(fault.line),
         _ => None,
     }
 }

@@ -11,7 +11,7 @@ use lib.Chars.{codes}
 use Rattle.cip_rational.specs.Rational.{ℚ, integer}
 use Rattle.cip_numerals.specs.NumberText.{natural_text, fraction_text}
 use Rattle.cip_numerals.proofs.NumberText.{natural_text_injective, fraction_text_plain, fraction_text_injective, IsFractionByte}
-use Rattle.cip_leaves.specs.Leaf.{Leaf}
+use Rattle.cip_answers.specs.Leaf.{Leaf}
 use Rattle.cip_answers.specs.Figures.{Overflow, AtRow, AtCost, AtMoves, Status, Optimal, Infeasible, Unbounded, NodeLimit, Gap, Wide, NoMemory, Held, Figures, Names, FitNames, status_word, line, figure_text, point_lines, held_cost, held_lines, cost_lines, leaf_name, choice_text, choice_lines, leaf_lines, ray_name, ray_lines, overflow_text, figure_lines}
 use Rattle.cip_answers.proofs.AnswerTexts.{apart}
 use Rattle.cip_trace_texts.specs.Statements.{HasPlainName, HasPlainEnd}

@@ -1,4 +1,5 @@
-//! The lines of a trace, the texts of answers with them, and those of `self`: definitions and laws. `specs/` holds the definitions.
+//! The lines of a trace, the texts of answers with them, and those of `self`: definitions and laws. `specs/` holds
+//! the definitions.
 // Each function here does nothing. Its contract is one of the laws of the definitions, so that the check proves it.
 #![tactic(auto)]
 

@@ -3,7 +3,7 @@ use Rattle.std.proofs.Common.{inl, inr, ◌≡◌, ◌≢◌, ℕ, zero, suc, �
 use Rattle.std.proofs.lemmas.List.{get_or-set_same, get_or-set_other, get_or_past, set_past, set-get_or}
 use Rattle.std.proofs.lemmas.Bool.{cases_eq, cases_lt}
 use Rattle.std.proofs.lemmas.Option.{same_Some}
-use Rattle.cip_lin.specs.ChoiceParts.{is_plain}
+use Rattle.cip_domain.specs.ChoiceParts.{is_plain}
 use Rattle.std.specs.Prelude.{slice_get}
 use Rattle.cip_rational.specs.Rational.{ℚ, integer, ◌<ℚ◌}
 use Rattle.std.proofs.lemmas.Int.{ints}
@@ -17,7 +17,7 @@ use Rattle.cip_problem.specs.Box.{sides_at, low_inside, high_inside}
 use Rattle.cip_problem.specs.Choices.{choice_at, is_open, met, zero_sides}
 use Rattle.cip_problem.specs.Wholes.{HasWhole, AllHaveWholes}
 use Rattle.cip_problem.specs.Log.{Node, low_of, high_of, low_node, high_node, CanSplitAt, CanSplit}
-use Rattle.cip_lin.specs.declared.sides.Side.TheVariants.{Low, High}
+use Rattle.cip_domain.specs.Side.TheVariants.{Low, High}
 use Rattle.cip_domain.specs.Changes.{Region, Change, with_side, with_column, choice_after, side_change, tightened, narrowed}
 use Rattle.cip_domain.specs.Domain.{left_sides}
 use Rattle.cip_domain.specs.Halves.{CanHalve, low_sides, high_sides}

@@ -6,7 +6,7 @@ use Rattle.cip_problem.specs.Program.{Sides, Plain, Open}
 use Rattle.cip_problem.specs.Box.{sides_at}
 use Rattle.cip_problem.specs.Choices.{choice_at}
 use Rattle.cip_problem.specs.Wholes.{AllHaveWholes}
-use Rattle.cip_lin.specs.declared.sides.Side.TheVariants.{Low, High}
+use Rattle.cip_domain.specs.Side.TheVariants.{Low, High}
 use Rattle.cip_domain.specs.Changes.{Change, side_change, tightened}
 use Rattle.cip_domain.specs.Domain.{left_sides}
 use Rattle.cip_domain.specs.Halves.{CanHalve}

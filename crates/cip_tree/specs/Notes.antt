@@ -2,8 +2,8 @@
 use Rattle.std.specs.Prelude.{◌≡◌, ℕ, Bool, true, false, List, map, reverse, refl}
 use Rattle.std.specs.Coded.{Coded, code_by, coded×, coded_ℕ, coded_bool}
 use Rattle.cip_rational.specs.Rational.{ℚ, coded_ℚ}
-use Rattle.cip_lin.specs.declared.sides.Side.{Side}
-use Rattle.cip_lin.specs.declared.sides.Side.TheVariants.{Low, High}
+use Rattle.cip_domain.specs.Side.{Side}
+use Rattle.cip_domain.specs.Side.TheVariants.{Low, High}
 use Rattle.cip_domain.specs.Changes.{Change, side_change}
 use Rattle.cip_tree.specs.declared.notes.Note.{Note}
 

@@ -5,7 +5,7 @@ use Rattle.std.specs.Coded.{Coded, code_by, coded×, coded_ℕ}
 use Rattle.cip_rational.specs.Rational.{integer}
 use Rattle.cip_problem.specs.Program.{Sides, Choice}
 use Rattle.cip_problem.specs.Choices.{choice_at}
-use Rattle.cip_lin.specs.declared.sides.Side.TheVariants.{Low, High}
+use Rattle.cip_domain.specs.Side.TheVariants.{Low, High}
 use Rattle.cip_domain.specs.Changes.{Region, Change, side_change, one_choice, narrowed, change_code}
 use Rattle.cip_domain.specs.Domain.{left_sides}
 use Rattle.cip_tree.specs.declared.origins.Half.{Half}

@@ -7,7 +7,7 @@ ghost use Rattle.cip_tree.specs.Freed.{AreReleased, dearer};
 
 use crate::kept::{Kept, release};
 use crate::queue::{OpenNode, stays};
-use cip_frac::Frac;
+use cip_domain::Frac;
 use slab::Slab;
 
 /// Lets go of an open node if its bound is at least a cost, and of nodes that ended and that only it needed.

@@ -1,7 +1,7 @@
 //! What a search did: one entry for each node that it took and ended.
 ghost use Rattle.cip_tree.specs.Searched.{SearchedLogsAreLogs};
 
-use cip_frac::Frac;
+use cip_domain::Frac;
 
 /// How a node ended.
 #[derive(Clone, Copy, Debug, PartialEq, Eq)]

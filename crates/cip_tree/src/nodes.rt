@@ -2,8 +2,7 @@
 ghost use Rattle.std.specs.Prelude.{◌≡◌, ◌++◌, ◌∷◌, [], Some, OnOk, OnErr};
 
 use crate::notes::Note;
-use cip_domain::Side;
-use cip_frac::Frac;
+use cip_domain::{Frac, Side};
 use std::alloc::AllocError;
 use std::marker::Model;
 

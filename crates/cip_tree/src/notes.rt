@@ -2,8 +2,7 @@
 ghost use Rattle.std.specs.Prelude.{◌≡◌};
 ghost use Rattle.cip_tree.specs.Notes.{noted_change};
 
-use cip_domain::{Change, Side};
-use cip_frac::Frac;
+use cip_domain::{Change, Frac, Side};
 
 /// A value for one side of a column; it counts where the side is weaker or open.
 #[derive(Clone, Copy, Debug)]

@@ -5,8 +5,7 @@ ghost use Rattle.cip_problem.specs.Box.{no_sides};
 ghost use Rattle.cip_tree.specs.Origins.{IsNear, filled, filled_sides, half_change, low_part, high_part};
 ghost use Rattle.cip_tree.specs.declared.origins.Parting.TheVariants.{Whole};
 
-use cip_domain::{Change, choice_change, high_change, low_change};
-use cip_lin::{Choice, Choices, Sides};
+use cip_domain::{Change, Choice, Choices, Sides, choice_change, high_change, low_change};
 use std::marker::Model;
 
 /// Which half of a column.

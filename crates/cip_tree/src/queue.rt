@@ -8,7 +8,7 @@ ghost use Rattle.cip_rational.specs.Rational.{lt_test};
 ghost use Rattle.cip_tree.specs.Bounds.{IsBoundAtMost};
 ghost use Rattle.std.proofs.Common.{refl};
 
-use cip_frac::Frac;
+use cip_domain::Frac;
 use std::alloc::{AllocError, Global};
 use std::cmp::Ordering;
 use std::collections::BinaryHeap;

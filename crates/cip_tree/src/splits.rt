@@ -5,8 +5,7 @@ ghost use Rattle.cip_tree.specs.declared.origins.Parting.TheVariants.{Whole};
 ghost use Rattle.cip_tree.specs.declared.splits.SplitFault.TheVariants.{Outside};
 
 use crate::origins::Parting;
-use cip_domain::can_halve;
-use cip_lin::Sides;
+use cip_domain::{Sides, can_halve};
 use std::alloc::AllocError;
 
 /// Why a node was not split.

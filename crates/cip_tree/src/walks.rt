@@ -13,8 +13,7 @@ ghost use Rattle.cip_tree.specs.Walks.{last_stop, AreNarrowed, EndsAt, EndsThere
 
 use crate::kept::Kept;
 use crate::notes::{Note, change_of};
-use cip_domain::{Checkpoint, DomainStore, Region, Side, Tightened};
-use cip_frac::Frac;
+use cip_domain::{Checkpoint, DomainStore, Frac, Region, Side, Tightened};
 use slab::Slab;
 use std::alloc::{AllocError, Global};
 use std::marker::Model;

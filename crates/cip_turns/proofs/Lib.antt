@@ -1,2 +1,3 @@
 pub mod SoFar
 pub mod Said
+pub mod PassedOn

@@ -1,15 +1,15 @@
 -- What a handler's answer leaves.
 use Rattle.std.proofs.Common.{◌≡◌, ℕ, List, length, [], Option, None, Some, cond, Result, Ok, Err, refl, sym, ap, ◌∙◌, subst}
 use Rattle.std.specs.Prelude.{is_some, OnOk}
-use Rattle.cip_judge.specs.declared.judged.Judged.{Judged}
-use Rattle.cip_roster.specs.KeptRankings.{Room}
-use Rattle.cip_roster.specs.Turns.{IsSound}
-use Rattle.cip_roster.specs.Wished.{Ran}
+use Rattle.cip_calls.specs.Judged.{Judged}
+use Rattle.cip_calls.specs.KeptRankings.{Room}
+use Rattle.cip_calls.specs.Turns.{IsSound}
+use Rattle.cip_calls.specs.Wished.{Ran}
 use Rattle.cip_seats.specs.Seats.{State}
 use Rattle.cip_tree.specs.Nodes.{TakenNode}
-use Rattle.cip_core.specs.CoreStates.{CoreState}
-use Rattle.cip_core.proofs.Relations.{later_at_itself}
-use Rattle.cip_judge.specs.declared.scratches.Scratches.{Scratches}
+use Rattle.cip_calls.specs.CoreStates.{CoreState}
+use Rattle.cip_calls.proofs.PassedOn.{later_at_itself}
+use Rattle.cip_calls.specs.Scratches.{Scratches}
 use Rattle.cip_calls.specs.Noted.{IsReady, HasNoted, HasJudged, HasGone, HasCome}
 use Rattle.cip_calls.proofs.Noting.{judged_none, gone_by, run_further, come_further, come_gone}
 use Rattle.cip_calls.proofs.Pools.{more_none, node_none, node_further}

@@ -5,9 +5,9 @@ use Rattle.cip_plugin.specs.Calls.{Ask, Branch}
 use Rattle.cip_plugin.specs.declared.asking.Given.{Given}
 use Rattle.cip_plugin.specs.declared.proposals.Split.{Split}
 use Rattle.cip_tree.specs.Nodes.{TakenNode}
-use Rattle.cip_core.specs.CoreStates.{CoreState}
-use Rattle.cip_judge.specs.ProposalsJudged.{IsShownEmpty}
-use Rattle.cip_judge.specs.SplitsJudged.{IsPlace}
+use Rattle.cip_calls.specs.CoreStates.{CoreState}
+use Rattle.cip_calls.specs.ProposalsJudged.{IsShownEmpty}
+use Rattle.cip_calls.specs.SplitsJudged.{IsPlace}
 use Rattle.cip_calls.specs.Noted.{IsSameNode}
 use Rattle.cip_calls.specs.Served.{count_for}
 use Rattle.cip_turns.specs.declared.enforcing.Verdict.{Verdict}

@@ -1,1 +1,15 @@
 pub mod Enforcing
+pub use Rattle.cip_calls.specs.Beginning
+pub use Rattle.cip_calls.specs.CoreStates
+pub use Rattle.cip_calls.specs.Figures
+pub use Rattle.cip_calls.specs.Later
+pub use Rattle.cip_calls.specs.Lent
+pub use Rattle.cip_calls.specs.Mark
+pub use Rattle.cip_calls.specs.NodeRows
+pub use Rattle.cip_calls.specs.Presolved
+pub use Rattle.cip_calls.specs.PresolvedPrograms
+pub use Rattle.cip_search.specs.Relaxation
+pub use Rattle.cip_calls.specs.Relaxing
+pub use Rattle.cip_calls.specs.Searched
+pub use Rattle.cip_calls.specs.Steps
+pub use Rattle.cip_calls.specs.StepsBack

@@ -1,15 +1,14 @@
 //! Handlers are asked what to do about a point.
 ghost use Rattle.std.specs.Prelude.{◌≡◌, ◌∷◌, [], IfOk};
 ghost use Rattle.cip_plugin.specs.Calls.{Enforce};
-ghost use Rattle.cip_roster.specs.Turns.{IsSound};
+ghost use Rattle.cip_calls.specs.Turns.{IsSound};
 ghost use Rattle.cip_calls.specs.Noted.{IsReady, HasCome};
 ghost use Rattle.cip_calls.specs.Served.{Used};
 ghost use Rattle.cip_turns.specs.Enforcing.{IsVerdict};
 ghost use Rattle.cip_turns.specs.declared.enforcing.Verdict.TheVariants.{Quiet};
 
 use crate::verdicts::{said_of, take_verdict};
-use cip_calls::{Asks, Last, Plugins, Turn, view_of};
-use cip_core::Core;
+use cip_calls::{Asks, Core, Last, Plugins, Turn, view_of};
 use cip_plugin::Split;
 use cip_tree::Node;
 use std::alloc::{AllocError, Global};

@@ -6,5 +6,6 @@ mod enforcing;
 mod rules;
 mod verdicts;
 
+pub use cip_calls::{Core, Mark, PostsolveFault, Presolved, postsolve};
 pub use enforcing::{Verdict, enforce};
 pub use rules::ask_rules;

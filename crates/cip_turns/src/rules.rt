@@ -2,17 +2,15 @@
 ghost use Rattle.std.specs.Prelude.{◌≡◌, true, IfOk, IfSome, OnOk, IsSome, is_some, slice_get, if◌then◌else◌};
 ghost use Rattle.cip_plugin.specs.Asking.{answer_of};
 ghost use Rattle.cip_plugin.specs.Calls.{Branch};
-ghost use Rattle.cip_roster.specs.Turns.{IsSound};
-ghost use Rattle.cip_roster.specs.Wished.{Ran};
-ghost use Rattle.cip_core.specs.CoreStates.{IsAtWork};
-ghost use Rattle.cip_judge.specs.SplitsJudged.{IsPlace};
+ghost use Rattle.cip_calls.specs.Turns.{IsSound};
+ghost use Rattle.cip_calls.specs.Wished.{Ran};
+ghost use Rattle.cip_calls.specs.CoreStates.{IsAtWork};
+ghost use Rattle.cip_calls.specs.SplitsJudged.{IsPlace};
 ghost use Rattle.cip_calls.specs.Noted.{HasNoted, HasJudged};
 ghost use Rattle.cip_calls.specs.Served.{count_for, Used};
 ghost use Rattle.cip_turns.specs.Enforcing.{made, asked_of_rules};
 
-use cip_calls::{Asks, Last, Plugins, Turn, view_of};
-use cip_core::Core;
-use cip_judge::{Judged, split_refusal};
+use cip_calls::{Asks, Core, Judged, Last, Plugins, Turn, split_refusal, view_of};
 use cip_plugin::{Given, Split};
 use cip_tree::Node;
 use std::alloc::{AllocError, Global};

@@ -2,16 +2,14 @@
 ghost use Rattle.std.specs.Prelude.{◌≡◌, IfOk, OnOk, IsSome, is_some, slice_get, if◌then◌else◌};
 ghost use Rattle.cip_plugin.specs.Asking.{answer_of};
 ghost use Rattle.cip_plugin.specs.Calls.{Enforce};
-ghost use Rattle.cip_roster.specs.Turns.{IsSound};
+ghost use Rattle.cip_calls.specs.Turns.{IsSound};
 ghost use Rattle.cip_calls.specs.Noted.{IsReady, HasGone, HasJudged};
 ghost use Rattle.cip_calls.specs.Served.{count_for};
 ghost use Rattle.cip_turns.specs.Enforcing.{made, IsVerdict};
 
 use crate::enforcing::Verdict;
 use crate::rules::take_split;
-use cip_calls::{Asks, Plugins};
-use cip_core::Core;
-use cip_judge::{Judged, judge_cutoff};
+use cip_calls::{Asks, Core, Judged, Plugins, judge_cutoff};
 use cip_lin::Combo;
 use cip_plugin::{Cut, Enforced, Given, Reduction, Split};
 use cip_tree::Node;

@@ -1,7 +1,7 @@
 -- What the sum of a row's products is, where no operation overflows.
 use Rattle.std.proofs.Common.{◌≡◌, List, [], ◌∷◌, IfOk, sym}
-use Rattle.cip_rational.specs.Rational.{ℚ, ◌+ℚ◌, ◌*ℚ◌, zeroℚ}
-use Rattle.cip_rational.proofs.Rational.Ring.{+ℚ_assoc, +ℚ-zero, zero-+ℚ}
+use Rattle.cip_frac.specs.Rational.{ℚ, ◌+ℚ◌, ◌*ℚ◌, zeroℚ}
+use Rattle.cip_frac.proofs.PassedOn.{+ℚ_assoc, +ℚ-zero, zero-+ℚ}
 use Rattle.cip_problem.specs.Program.{Term}
 use Rattle.cip_problem.specs.Activity.{activity, value_at}
 use Rattle.cip_frac.specs.Outcomes.{product_added}

@@ -1,5 +1,5 @@
 use Rattle.std.proofs.Common.{◌≡◌, ◌++◌, ◌∷◌, [], refl, inl, rules}
-use Rattle.cip_core.proofs.NearColumns.{near_columns}
+use Rattle.cip_solve.proofs.PassedOn.{near_columns}
 use Rattle.cip_solve.specs.Logs.{entries_of}
 use Rattle.cip_answering.specs.Answering.{limits_of}
 use Rattle.cip_answering.proofs.Searches.{not_searched_still}

@@ -1,5 +1,5 @@
 use Rattle.std.proofs.Common.{◌≡◌, ◌∷◌, ◌++◌, [], ◌∙◌, sym, subst}
-use Rattle.cip_leaf.specs.LeafAnswers.{shown_as}
+use Rattle.cip_report.specs.LeafAnswers.{shown_as}
 use Rattle.cip_endings.specs.Worst.{leaf_of, IsWorst, IsFirstWorst}
 use Rattle.cip_endings.proofs.WorstLaws.{first_worst, stays_worst, new_worst}
 use Rattle.cip_endings.proofs.worst.worse.Goals as goal

@@ -1,7 +1,7 @@
 use Rattle.std.proofs.Common.{◌≡◌, ◌∙◌, List, length, ap, subst}
 use Rattle.cip_rational.specs.Rational.{ℚ}
 use Rattle.cip_problem.specs.WellFormed.{columns}
-use Rattle.cip_postsolve.specs.StepsBack.{StepsTaken, point_back, FitsBack}
+use Rattle.cip_core.specs.StepsBack.{StepsTaken, point_back, FitsBack}
 use Rattle.cip_core.specs.CoreStates.{reduced_of}
 use Rattle.cip_core.proofs.Relations.{later_at_itself}
 use Rattle.cip_judge.proofs.ComingBack.{tested_back}

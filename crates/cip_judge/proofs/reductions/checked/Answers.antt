@@ -2,7 +2,7 @@ use Rattle.std.proofs.Common.{length, sym, ap, ◌∙◌, subst}
 use Rattle.std.specs.Prelude.{OnOk}
 use Rattle.cip_cert.specs.Lent.{Fits}
 use Rattle.cip_cert.specs.Reductions.{SideFollows}
-use Rattle.cip_node_rules.specs.OpenColumns.{is_whole_at}
+use Rattle.cip_core.specs.OpenColumns.{is_whole_at}
 use Rattle.cip_core.specs.CoreStates.{all_lent}
 use Rattle.cip_core.proofs.RowsAdded.{lent_fits}
 use Rattle.cip_judge.proofs.LentRows.{side_holds}

@@ -1,5 +1,5 @@
 use Rattle.cip_problem.specs.WellFormed.{columns}
-use Rattle.cip_core.specs.CoreStates.{reduced_of, IsAtWork}
+use Rattle.cip_judge.specs.CoreStates.{reduced_of, IsAtWork}
 use Rattle.cip_judge.specs.ProposalsJudged.{HaveRoom}
 use Rattle.cip_judge_tests.proofs.judged.first_wrong.Given as goal
 

@@ -5,7 +5,7 @@ use Rattle.cip_linear.specs.Multipliers.{row_sides}
 use Rattle.cip_dictionary.specs.Operations.{first_overflow}
 use Rattle.cip_dictionary.specs.FirstState.{System, first_operations}
 use Rattle.cip_dictionary.specs.ProgramState.{system_of}
-use Rattle.cip_dict.specs.Entries.{system_in}
+use Rattle.cip_simplex.specs.Entries.{system_in}
 use Rattle.cip_simplex.specs.LpEntries.{entries_in}
 use Rattle.cip_simplex.proofs.Systems.{same_system, entries_within}
 use Rattle.cip_leaf.proofs.FirstPlaces.{first_place, overflows_there, some_overflows}

@@ -4,7 +4,7 @@ use Rattle.cip_rational.specs.Rational.{ℚ}
 use Rattle.cip_rational.specs.Range.{fits_range}
 use Rattle.cip_problem.specs.Program.{Sides}
 use Rattle.cip_problem.specs.Box.{sides_at}
-use Rattle.cip_reductions.specs.Forms.{Form}
+use Rattle.cip_equalities.specs.Forms.{Form}
 use Rattle.cip_equalities.specs.FormEnds.{FormAssigns}
 use Rattle.cip_leaving.proofs.MayLeave.{fits_by}
 use Rattle.cip_leaving.proofs.candidates.lets_whole_go.Goals as goal

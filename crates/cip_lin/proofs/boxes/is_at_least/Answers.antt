@@ -1,5 +1,5 @@
 use Rattle.std.proofs.Common.{◌∙◌}
-use Rattle.cip_rational.proofs.Comparisons.{is_le-compare}
+use Rattle.cip_frac.proofs.PassedOn.{is_le-compare}
 use Rattle.cip_lin.proofs.boxes.is_at_least.Goals as goal
 
 pub returns-in-Some : goal.returns-in-Some

@@ -1,5 +1,5 @@
 use Rattle.std.proofs.Common.{◌∙◌, sym, refl}
-use Rattle.cip_rational.proofs.Comparisons.{is_le-compare}
+use Rattle.cip_frac.proofs.PassedOn.{is_le-compare}
 use Rattle.cip_lin.proofs.boxes.lesser_of.Goals.{then-le, else-le}
 use Rattle.cip_lin.proofs.boxes.lesser_of.Goals as goal
 

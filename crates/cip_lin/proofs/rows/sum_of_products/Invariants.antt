@@ -1,5 +1,5 @@
 use Rattle.std.proofs.Common.{◌≡◌, drop}
-use Rattle.cip_rational.specs.Rational.{zeroℚ}
+use Rattle.cip_frac.specs.Rational.{zeroℚ}
 use Rattle.cip_lin.specs.RowSums.{activity_from}
 use Rattle.cip_lin.proofs.rows.sum_of_products.Given as goal
 

@@ -2,7 +2,7 @@ use Rattle.std.proofs.Common.{◌≡◌, length, sym, ap, ◌∙◌, subst}
 use Rattle.cip_problem.specs.Program.{Program}
 use Rattle.cip_problem.specs.WellFormed.{columns}
 use Rattle.cip_domain.specs.Changes.{Region}
-use Rattle.cip_postsolve.specs.StepsBack.{StepsTaken}
+use Rattle.cip_core.specs.StepsBack.{StepsTaken}
 use Rattle.cip_tree.specs.Nodes.{box_of, choices_of, shown}
 use Rattle.cip_core.specs.CoreStates.{reduced_of, IsReducedBy, IsAtWork}
 use Rattle.cip_core.proofs.CoreSteps.{work_long}

@@ -4,8 +4,8 @@ use Rattle.cip_problem.specs.Choices.{made_on}
 use Rattle.cip_problem.specs.WellFormed.{columns}
 use Rattle.cip_leaf.specs.LeafAnswers.{IsLeafAnswer}
 use Rattle.cip_leaves.specs.Leaf.{IsLeaf}
-use Rattle.cip_reductions.specs.Pairs.{IsAssignment}
-use Rattle.cip_postsolve.specs.StepsBack.{whole_point, leaf_back}
+use Rattle.cip_core.specs.Pairs.{IsAssignment}
+use Rattle.cip_core.specs.StepsBack.{whole_point, leaf_back}
 use Rattle.cip_node.specs.LeafValues.{least_values}
 use Rattle.cip_node.proofs.LeavesBack.{the_leaf, least_leaf, leaf_there, one_leaf_back}
 use Rattle.cip_node.proofs.leaves.solve_leaf.Goals as goal

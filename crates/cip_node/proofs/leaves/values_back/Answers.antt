@@ -1,8 +1,8 @@
 use Rattle.std.proofs.Common.{◌≡◌, true, List, All, ◌∙◌, ap, sym, subst}
 use Rattle.cip_rational.specs.Rational.{ℚ}
 use Rattle.cip_rational.specs.Range.{fits_range}
-use Rattle.cip_reductions.specs.Pairs.{IsAssignment}
-use Rattle.cip_postsolve.specs.StepsBack.{whole_point, LeafFitsBack}
+use Rattle.cip_core.specs.Pairs.{IsAssignment}
+use Rattle.cip_core.specs.StepsBack.{whole_point, LeafFitsBack}
 use Rattle.cip_node.specs.LeafValues.{least_values}
 use Rattle.cip_node.proofs.LeavesBack.{leaf_assigned, whenever}
 use Rattle.cip_node.proofs.leaves.values_back.Goals as goal

@@ -2,7 +2,7 @@ use Rattle.std.proofs.Common.{ℕ, List, IfSome, length, subst}
 use Rattle.cip_problem.specs.Program.{Row}
 use Rattle.cip_cert.specs.Lent.{Lent}
 use Rattle.cip_cert.specs.declared.rows.PoolRow.{PoolRow}
-use Rattle.cip_rows.specs.RowPools.{Pool}
+use Rattle.cip_basis.specs.RowPools.{Pool}
 use Rattle.cip_node_bounds.specs.Relaxing.{ShowsBound, IsRelaxed}
 use Rattle.cip_node_bounds.proofs.relaxed.relax_from.Goals as goal
 

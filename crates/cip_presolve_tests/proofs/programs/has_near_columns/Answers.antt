@@ -1,4 +1,4 @@
-use Rattle.cip_core.proofs.NearColumns.{near_columns}
+use Rattle.cip_solve.proofs.PassedOn.{near_columns}
 use Rattle.cip_presolve_tests.proofs.programs.has_near_columns.Goals as goal
 
 pub returns : goal.returns

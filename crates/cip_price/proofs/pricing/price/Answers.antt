@@ -1,23 +1,23 @@
-use Rattle.std.proofs.Common.{◌≡◌, ℕ, suc, ◌+◌, [], sym, subst, arith}
+use Rattle.std.proofs.Common.{◌≡◌, ℕ, suc, ◌+◌, Bool, [], refl, sym, subst, arith}
 use Rattle.std.proofs.lemmas.Result.{MatchResult-from_err}
 use Rattle.cip_price_rounds.specs.PriceTasks.{task_at}
 use Rattle.cip_price_rounds.proofs.Offered.{grows_none, grows_by}
-use Rattle.cip_price_rounds.proofs.Rounded.{tells_none}
+use Rattle.cip_price_rounds.proofs.Telling.{tells_none}
 use Rattle.cip_price.specs.PriceAnswers.{PriceHolds}
-use Rattle.cip_price.specs.PricedRounds.{Crosses}
+use Rattle.cip_price.specs.PricedRounds.{IsPricedUnless}
 use Rattle.cip_price.specs.Worked.{BestHolds, StandsBehind}
 use Rattle.cip_price.specs.declared.answers.PriceCause.TheVariants.{Rounds}
+use Rattle.cip_price.specs.declared.answers.PriceAnswer.TheVariants.{NoPoint}
 use Rattle.cip_price.proofs.Crossed.{crossed_empties}
 use Rattle.cip_price.proofs.Standing.{cause_holds, none_held}
 use Rattle.cip_price.proofs.Led.{ran_begun, IsRanTo, ran_out, ComesTo, step_on, cut_none, cut_short}
 use Rattle.cip_price.proofs.pricing.price.Goals as goal
 
 pub returns-then-has_crossed-clause-by : goal.returns-then-has_crossed-clause-by
-returns-then-has_crossed-clause-by g c = record {
-  asks = [];
-  tells = tells_none (g.A.AskPricer.told c.args.asker.now);
-  ends = Crosses (sym c.if-has_crossed.ensures);
-}
+returns-then-has_crossed-clause-by g c =
+    subst (λ (t : Bool). IsPricedUnless t c.args.limits.moves c.args.limits.rounds (task_at c.args.task.now [])
+    (g.A.AskPricer.told c.args.asker.now) (g.A.AskPricer.told c.args.asker.now) c.args.pool.now c.args.pool.now NoPoint)
+    c.if-has_crossed.ensures (tells_none (g.A.AskPricer.told c.args.asker.now), refl, refl)
 
 pub returns-then-has_crossed-clause-holds : goal.returns-then-has_crossed-clause-holds
 returns-then-has_crossed-clause-holds g c =
@@ -50,13 +50,17 @@ returns-in_err-answer-clause-by g c =
 
 pub returns-in-Some-clause-by : goal.returns-in-Some-clause-by
 returns-in-Some-clause-by g c =
-    subst (ComesTo c.args.limits.moves c.args.limits.rounds (task_at c.args.task.now [])
+    subst (λ (t : Bool). IsPricedUnless t c.args.limits.moves c.args.limits.rounds (task_at c.args.task.now [])
+    (g.A.AskPricer.told c.args.asker.now) (g.A.AskPricer.told c.one_round.new.asker) c.args.pool.now c.one_round.new.pool
+    c.in-Some.answer)
+    c.if-has_crossed.ensures
+    (subst (ComesTo c.args.limits.moves c.args.limits.rounds (task_at c.args.task.now [])
     (g.A.AskPricer.told c.args.asker.now) (g.A.AskPricer.told c.one_round.new.asker) c.args.pool.now c.one_round.new.pool
     c.one_round.new.work.best c.loop-round._round) c.in-Some.is
     (step_on c.args.limits.moves c.args.limits.rounds (task_at c.args.task.now []) (g.A.AskPricer.told c.args.asker.now)
     (g.A.AskPricer.told c.loop-round.asker) (g.A.AskPricer.told c.one_round.new.asker) c.args.pool.now c.loop-round.pool
     c.one_round.new.pool c.loop-round.work.best c.one_round.new.work.best c.loop-round._round c.in_ok-answer.field-0
-    c.loop-round-test.true c.loop-round.invariant.ran c.in_ok-answer.ensures.step)
+    c.loop-round-test.true c.loop-round.invariant.ran c.in_ok-answer.ensures.step))
 
 pub loop-round-preserved : goal.loop-round-preserved
 loop-round-preserved g c =
@@ -85,9 +89,13 @@ loop-round-preserved g c =
 
 pub returns-clause-by : goal.returns-clause-by
 returns-clause-by g c =
-    ran_out c.args.limits.moves c.args.limits.rounds (task_at c.args.task.now []) (g.A.AskPricer.told c.args.asker.now)
+    subst (λ (t : Bool). IsPricedUnless t c.args.limits.moves c.args.limits.rounds (task_at c.args.task.now [])
+    (g.A.AskPricer.told c.args.asker.now) (g.A.AskPricer.told c.loop-round.asker) c.args.pool.now c.loop-round.pool
+    c.with_cause.result)
+    c.if-has_crossed.ensures
+    (ran_out c.args.limits.moves c.args.limits.rounds (task_at c.args.task.now []) (g.A.AskPricer.told c.args.asker.now)
     (g.A.AskPricer.told c.loop-round.asker) c.args.pool.now c.loop-round.pool c.loop-round.work.best c.loop-round._round
-    c.with_cause.result (omega arith) c.with_cause.ensures c.loop-round.invariant.ran
+    c.with_cause.result (omega arith) c.with_cause.ensures c.loop-round.invariant.ran)
 
 pub returns-clause-holds : goal.returns-clause-holds
 returns-clause-holds g c =

@@ -1,12 +1,38 @@
-use Rattle.std.proofs.Common.{[], ◌∷◌, subst, sym}
+use Rattle.std.proofs.Common.{[], ◌∷◌, sym, subst}
+use Rattle.cip_block_points.specs.TakenPoints.{IsTaken}
 use Rattle.cip_price_rounds.specs.PriceTasks.{task_at}
-use Rattle.cip_price_rounds.specs.OfferedPoints.{IsOffered}
-use Rattle.cip_price_rounds.proofs.Offered.{offered_one}
+use Rattle.cip_price_rounds.specs.OfferedPoints.{IsOffered, growth_of}
+use Rattle.cip_price_rounds.proofs.Offered.{offered_grows, offered_one, full_stays, offered_tells}
 use Rattle.cip_price_rounds.proofs.offering.offer.Goals as goal
 
-pub returns-clause-offered : goal.returns-clause-offered
-returns-clause-offered c =
-    subst (IsOffered (task_at c.args.task.now []) c.args.block (c.args.point.now ∷ []) c.args.pool.now c.put_point.new.pool)
-    (sym c.growth_of.ensures)
-    (offered_one (task_at c.args.task.now []) c.args.block c.args.point.now c.args.pool.now c.put_point.new.pool
-    c.in_ok-put.put c.in_ok-put.ensures.put)
+pub returns-in-Offered-clause-offered : goal.returns-in-Offered-clause-offered
+returns-in-Offered-clause-offered g c =
+    subst (IsOffered (task_at c.args.task.now []) c.args.block (c.args.point.now ∷ []) c.args.pool.now
+    c.take_point.new.pool) (sym c.growth_of.ensures)
+    (offered_one (task_at c.args.task.now []) c.args.block c.args.point.now c.args.pool.now c.take_point.new.pool
+    c.in-Offered.added
+    (subst (IsTaken c.args.task.now.program.now c.args.task.now.blocks.now c.args.block c.args.point.now.values.items
+    c.args.pool.now c.take_point.new.pool) c.in-Offered.is c.in_ok-taken.ensures.taken))
+
+pub returns-in-Offered-clause-tells : goal.returns-in-Offered-clause-tells
+returns-in-Offered-clause-tells g c =
+    offered_tells (task_at c.args.task.now []) c.args.block c.args.place c.args.point.now c.args.pool.now
+    c.take_point.new.pool c.in-Offered.added (g.A.AskPricer.told c.args.asker.now)
+    (subst (IsTaken c.args.task.now.program.now c.args.task.now.blocks.now c.args.block c.args.point.now.values.items
+    c.args.pool.now c.take_point.new.pool) c.in-Offered.is c.in_ok-taken.ensures.taken)
+
+pub returns-in-Offered-clause-full : goal.returns-in-Offered-clause-full
+returns-in-Offered-clause-full g c =
+    full_stays (task_at c.args.task.now []) c.args.block c.args.point.now c.args.pool.now c.take_point.new.pool
+    c.in-Offered.added
+    (subst (IsTaken c.args.task.now.program.now c.args.task.now.blocks.now c.args.block c.args.point.now.values.items
+    c.args.pool.now c.take_point.new.pool) c.in-Offered.is c.in_ok-taken.ensures.taken)
+
+pub returns-in-Offered-clause-grows : goal.returns-in-Offered-clause-grows
+returns-in-Offered-clause-grows g c =
+    offered_grows (task_at c.args.task.now []) c.args.block (c.args.point.now ∷ []) c.args.pool.now
+    c.take_point.new.pool (growth_of c.in-Offered.added)
+    (offered_one (task_at c.args.task.now []) c.args.block c.args.point.now c.args.pool.now c.take_point.new.pool
+    c.in-Offered.added
+    (subst (IsTaken c.args.task.now.program.now c.args.task.now.blocks.now c.args.block c.args.point.now.values.items
+    c.args.pool.now c.take_point.new.pool) c.in-Offered.is c.in_ok-taken.ensures.taken))

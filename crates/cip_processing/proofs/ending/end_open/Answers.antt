@@ -1,6 +1,6 @@
 use Rattle.std.proofs.Common.{Option, IfSome, sym, ap, ◌∙◌, subst, refl}
 use Rattle.cip_problem.specs.Log.{matters}
-use Rattle.cip_core.specs.CoreStates.{CoreState, held_of}
+use Rattle.cip_turns.specs.CoreStates.{CoreState, held_of}
 use Rattle.cip_plugin.specs.declared.proposals.Split.{Split}
 use Rattle.cip_judge.specs.SplitsJudged.{IsPlace}
 use Rattle.cip_calls.specs.Served.{Used}

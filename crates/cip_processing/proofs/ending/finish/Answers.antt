@@ -1,5 +1,5 @@
 use Rattle.std.proofs.Common.{refl, ap, subst}
-use Rattle.cip_core.specs.CoreStates.{CoreState}
+use Rattle.cip_turns.specs.CoreStates.{CoreState}
 use Rattle.cip_calls.proofs.Serving.{if_ok}
 use Rattle.cip_processing.specs.NodesReached.{IsReached}
 use Rattle.cip_processing.proofs.Closing.{emptied_here}

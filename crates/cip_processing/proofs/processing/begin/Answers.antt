@@ -2,8 +2,8 @@ use Rattle.std.proofs.Common.{◌≡◌, ap, sym, subst, inl, ◌∙◌}
 use Rattle.cip_problem.specs.WellFormed.{columns}
 use Rattle.cip_tree.specs.Nodes.{region_of}
 use Rattle.cip_tree.specs.Walks.{IsEntered}
-use Rattle.cip_core.specs.CoreStates.{CoreState, reduced_of, IsTakenUp}
-use Rattle.cip_core.specs.Steps.{aged}
+use Rattle.cip_turns.specs.CoreStates.{CoreState, reduced_of, IsTakenUp}
+use Rattle.cip_turns.specs.Steps.{aged}
 use Rattle.cip_node.proofs.EndLaws.{looked_core}
 use Rattle.cip_node.proofs.Looked.{look_empty}
 use Rattle.cip_judge.specs.ProposalsJudged.{HaveRoom}

@@ -1,6 +1,6 @@
 use Rattle.std.proofs.Common.{refl, subst, sym}
 use Rattle.cip_roster.specs.Turns.{IsSound}
-use Rattle.cip_core.proofs.Relations.{later_at_itself}
+use Rattle.cip_turns.proofs.PassedOn.{later_at_itself}
 use Rattle.cip_calls.proofs.Noting.{come_further}
 use Rattle.cip_processing.proofs.Coming.{come_silent, come_told}
 use Rattle.cip_processing.proofs.Using.{told_behind}

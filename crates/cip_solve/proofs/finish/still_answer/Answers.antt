@@ -1,5 +1,5 @@
 use Rattle.std.proofs.Common.{◌≡◌, ◌∙◌, true, false, ap, subst}
-use Rattle.cip_report.specs.declared.figures.Ended.TheVariants.{Gap}
+use Rattle.cip_endings.specs.Ended.TheVariants.{Gap}
 use Rattle.cip_endings.specs.LeastBounds.{least_of, bound_held, flat}
 use Rattle.cip_endings.specs.Gaps.{reaches_gap}
 use Rattle.cip_endings.specs.Ends.{EndsBy}

@@ -1,6 +1,6 @@
 use Rattle.std.proofs.Common.{◌≡◌, length}
 use Rattle.cip_plugin.specs.Calls.{Branch}
-use Rattle.cip_roster.specs.Turns.{IsSound}
+use Rattle.cip_calls.specs.Turns.{IsSound}
 use Rattle.cip_calls.specs.Waiting.{waiting}
 use Rattle.cip_turns.proofs.SoFar.{SoFar}
 use Rattle.cip_turns.proofs.rules.ask_rules.Given as goal

@@ -1,7 +1,7 @@
 use Rattle.std.proofs.Common.{refl, sym, ap, subst}
 use Rattle.cip_problem.specs.WellFormed.{columns}
 use Rattle.cip_tree.specs.Nodes.{region_of}
-use Rattle.cip_core.specs.CoreStates.{CoreState, reduced_of}
+use Rattle.cip_judge.specs.CoreStates.{CoreState, reduced_of}
 use Rattle.cip_judge.specs.ProposalsJudged.{HaveRoom}
 use Rattle.cip_judge.specs.declared.scratches.Scratches.{Scratches}
 use Rattle.cip_calls.proofs.Noting.{noted_none, gone_none, gone_by}

@@ -1,6 +1,6 @@
 use Rattle.std.proofs.Common.{◌∙◌, sym, subst}
 use Rattle.cip_problem.specs.WellFormed.{columns}
-use Rattle.cip_core.specs.CoreStates.{reduced_of}
+use Rattle.cip_judge.specs.CoreStates.{reduced_of}
 use Rattle.cip_judge.specs.ProposalsJudged.{HaveRoom}
 use Rattle.cip_judge.specs.declared.scratches.Scratches.{Scratches}
 use Rattle.cip_judge.proofs.Going.{side_goes_on}

@@ -1,5 +1,5 @@
 use Rattle.std.proofs.Common.{◌∙◌}
-use Rattle.cip_rational.proofs.Comparisons.{is_lt-compare}
+use Rattle.cip_frac.proofs.PassedOn.{is_lt-compare}
 use Rattle.cip_lin.proofs.boxes.Sides.cross.Goals as goal
 
 pub returns-in-Some-Some : goal.returns-in-Some-Some

@@ -1,5 +1,5 @@
 use Rattle.std.proofs.Common.{◌∙◌}
-use Rattle.cip_rational.proofs.Comparisons.{eq_by_cmp-compare}
+use Rattle.cip_frac.proofs.PassedOn.{eq_by_cmp-compare}
 use Rattle.cip_lin.proofs.boxes.Sides.is_fixed.Goals as goal
 
 pub returns-in-Some-Some : goal.returns-in-Some-Some

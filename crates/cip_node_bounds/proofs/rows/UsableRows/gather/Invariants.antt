@@ -1,5 +1,5 @@
 use Rattle.std.proofs.Common.{◌≡◌, ◌++◌, map}
-use Rattle.cip_rows.specs.RowPools.{usable_in}
+use Rattle.cip_basis.specs.RowPools.{usable_in}
 use Rattle.cip_node_bounds.proofs.rows.UsableRows.gather.Given as goal
 
 abbrev pub invariant-loop-kept : goal.invariant-loop-kept

@@ -1,0 +1,1 @@
+-- Lemmas of crates below, for those above.

@@ -1,0 +1,2 @@
+-- Lemmas of crates below, for those above.
+pub use Rattle.cip_frac.proofs.Outcomes.{product_added-value}

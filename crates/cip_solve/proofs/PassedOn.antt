@@ -1,0 +1,3 @@
+-- Lemmas of crates below, for those above.
+pub use Rattle.cip_core.proofs.NearColumns.{near_columns}
+pub use Rattle.cip_processing.proofs.PassedOn.{given_later}

@@ -1,0 +1,2 @@
+-- Lemmas of crates below, for those above.
+pub use Rattle.cip_calls.proofs.PassedOn.{later_at_itself, later_further, narrower_further, narrower_itself, near_columns, no_dearer_trans, with_tree, work_long}
