@@ -2,9 +2,7 @@
 //! plugins.
 #![tactic(auto)]
 
-mod builtins;
-
-use builtins::run_with_builtins;
+use cip_builtins::run_with_builtins;
 use cip_io::{HostSink, HostStore};
 use cip_main::{Plain, Words, say};
 use std::process::ExitCode;
@@ -24,7 +22,8 @@ fn main(rt: HostRuntime) -> ExitCode {
     let status = match words(&rt) {
         Ok(words) => {
             let mut store = HostStore::new(&rt);
-            match run_with_builtins(rt.alloc(), &words, &mut store, &mut out) {
+            let mut logs = Vec::new(rt.alloc());
+            match run_with_builtins(rt.alloc(), &words, &mut store, &mut out, &mut logs) {
                 Ok(status) => status,
                 Err(_) => say(&mut out, Plain::NoMemory),
             }

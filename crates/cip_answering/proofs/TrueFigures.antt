@@ -76,8 +76,8 @@ lacks (Wide leaf on shown) e = absurd (cc)
 lacks NoMemory e = refl
 
 -- a right answer has true figures
-pub are_true : (program : Program) (nodes : ℕ) (asked : Option ℚ) (plain : Bool) (log : List Entry) (marks : List (ℕ × Mark)) (answer : Answer) → 0 < nodes → IsWellFormed program → (r : IsSolvedBy program nodes asked plain log marks (answer_of answer)) → AreTrue program (root_value program) r.start nodes asked log (figures_of program answer)
-are_true program nodes asked plain log marks answer some formed r =
+pub are_true : (program : Program) (nodes : ℕ) (asked : Option ℚ) (presolved alone : Bool) (log : List Entry) (marks : List (ℕ × Mark)) (answer : Answer) → 0 < nodes → IsWellFormed program → (r : IsSolvedBy program nodes asked presolved alone log marks (answer_of answer)) → AreTrue program (root_value program) r.start nodes asked log (figures_of program answer)
+are_true program nodes asked presolved alone log marks answer some formed r =
     let box = root_value program in
     let least : NoMore box r.start = root_no_less program box r.start r.root.whole r.root.plain in
     let printable : IsPrintable program box r.start nodes asked log (answer_of answer) = record {

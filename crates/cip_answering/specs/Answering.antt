@@ -11,14 +11,9 @@ use Rattle.cip_trace_texts.specs.SelfTexts.{Drawn, self_text}
 use Rattle.cip_search.specs.Headline.{AreTrue}
 use Rattle.cip_solve.specs.Logs.{entries_of}
 use Rattle.cip_solve.specs.declared.logs.Log.{Log}
-use Rattle.cip_solve.specs.declared.solving.Options.{Options}
 use Rattle.cip_words.specs.Jobs.{Limits}
 use Rattle.cip_answering.specs.RootBox.{IsBoxBound, BeginsAt}
 use Rattle.cip_answering.specs.Saying.{Says}
-
--- what is asked of a search, as its options say
-abbrev pub limits_of : Options → Limits
-limits_of options = record { nodes = options.nodes; gap = options.gap; plain = options.plain; trace = options.trace }
 
 -- how figures are told, with the lines of a trace: their text
 abbrev pub Telling : Type 0

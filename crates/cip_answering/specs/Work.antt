@@ -1,6 +1,6 @@
 -- What a search found and did, as the figures that are told say it: they are those of an answer that is right beside
 -- the log of the search.
-use Rattle.std.specs.Prelude.{◌≡◌, ◌≢◌, ◌⊎◌, ◌++◌, ◌∷◌, [], ℕ, List, Option, None, option_map}
+use Rattle.std.specs.Prelude.{◌≡◌, ◌≢◌, ◌⊎◌, ◌++◌, ◌∷◌, [], ℕ, Bool, List, Option, None, option_map, if◌then◌else◌}
 use Rattle.cip_io.specs.Sink.{SinkTells}
 use Rattle.cip_events.specs.declared.traces.Trace.{Trace}
 use Rattle.cip_rational.specs.Rational.{ℚ}
@@ -19,8 +19,8 @@ use Rattle.cip_report.specs.declared.figures.Answer.{Answer}
 use Rattle.cip_solve.specs.AnswerOf.{answer_of}
 use Rattle.cip_solve.specs.Beginning.{root_value}
 use Rattle.cip_report.specs.Traces.{kept_lines}
-use Rattle.cip_solve.specs.Kits.{Stock}
-use Rattle.cip_solve.specs.KitsServed.{is_alone, IsKitAfter}
+use Rattle.cip_solve.specs.Kits.{Stock, less_off}
+use Rattle.cip_solve.specs.KitsServed.{is_alone, IsLeftAlone, IsKitAfter}
 use Rattle.cip_solve.specs.Solved.{IsShownBeside, IsSolvedBy}
 use Rattle.cip_solve.specs.declared.logs.Log.{Log}
 use Rattle.cip_words.specs.Jobs.{Limits}
@@ -43,6 +43,25 @@ pub record AddsNoMarks (logs logs_after : List Log) (marks : List (ℕ × Mark))
 abbrev pub AreMarks : (logs logs_after : List Log) → List (ℕ × Mark) → Type 0
 AreMarks logs logs_after marks = AddsMarks logs logs_after marks ⊎ AddsNoMarks logs logs_after marks
 
+-- ---- the kit of a search
+
+-- the kit that a search takes up: without the plugins that are off, unless no plugin is asked and it stays as it is
+abbrev pub kit_of : Limits → Stock → Stock
+kit_of limits stock = if limits.plain then stock else less_off limits.off stock
+
+-- nobody is asked in a search within limits
+abbrev pub goes_alone : Limits → Stock → Bool
+goes_alone limits stock = is_alone limits.plain (kit_of limits stock)
+
+-- what became of a kit: the plugins that are off were set aside, and the others served in the search; or it is as it
+-- was, since memory was refused before
+abbrev pub IsKitOf : Limits → List Entry → (had has : Stock) → Option Trace → (lacks : Type 0) → Type 0
+IsKitOf limits log had has trace lacks =
+    IsKitAfter (goes_alone limits had) limits.trace log (kit_of limits had) has trace
+    ⊎ (IsLeftAlone had has trace × lacks)
+
+-- ---- an answer
+
 -- an answer of a search, as it is held, is right beside the log that was added, if one was; and so is what became of
 -- the kit
 pub record Searched
@@ -50,10 +69,11 @@ pub record Searched
     : Type 0 where
   pub entries : List Entry
   pub marks : List (ℕ × Mark)
-  pub right : IsSolvedBy program limits.nodes limits.gap limits.plain entries marks (answer_of answer)
+  pub right : IsSolvedBy program limits.nodes limits.gap limits.presolved (goes_alone limits stock) entries marks
+      (answer_of answer)
   pub logged : AddsLog logs logs_after entries ⊎ (AddsNone logs logs_after entries × (answer.ended ≡ LacksMemory))
   pub marked : AreMarks logs logs_after marks
-  pub kit : IsKitAfter (is_alone limits.plain stock) limits.trace entries stock stock_after answer.trace
+  pub kit : IsKitOf limits entries stock stock_after answer.trace (answer.ended ≡ LacksMemory)
 
 -- ---- what is left of a search, as the figures say it
 
@@ -106,9 +126,10 @@ pub record Works
   pub marked : AreMarks logs logs_after marks
   pub found : ends.Answer
   pub is_printed : answers.figures ≡ figures_of program found
-  pub solved : IsSolvedBy program limits.nodes limits.gap limits.plain answers.entries marks found
+  pub solved : IsSolvedBy program limits.nodes limits.gap limits.presolved (goes_alone limits stock) answers.entries
+      marks found
   pub same_start : solved.start ≡ answers.start
   pub left : TellsWhatIsLeft program answers.start answers.entries answers.figures
   pub trace : Option Trace
   pub lines_are : answers.lines ≡ kept_lines trace
-  pub kit : IsKitAfter (is_alone limits.plain stock) limits.trace answers.entries stock stock_after trace
+  pub kit : IsKitOf limits answers.entries stock stock_after trace (answers.figures.status ≡ NoMemory)

@@ -8,7 +8,7 @@ use crate::splits::{rough_part, split_at};
 use cip_frac::Frac;
 use cip_lin::Sides;
 use cip_plugin::{BranchRule, Plugin, Split, View};
-use cip_row_sums::{UNIT, rough, short};
+use cip_row_sums::{UNIT, cost_of, short};
 use std::alloc::{AllocError, Global};
 
 /// A branching rule: the whole column by whose split both halves are expected to cost most. What a column costs for
@@ -18,17 +18,6 @@ use std::alloc::{AllocError, Global};
 pub struct PseudoCostRule {
     learnt: Learnt,
     past: PastSplits,
-}
-
-/// What a point costs, roughly; none where that leaves the range.
-fn cost_of(costs: &[Frac], point: &[Frac]) -> Option<i64> {
-    let mut sum = Frac::zero();
-    for (cost, value) in costs.iter().zip(point) {
-        if !sum.add_product(cost, value) {
-            return None;
-        }
-    }
-    Some(rough(sum))
 }
 
 /// Whether sides lie in a half of a split.

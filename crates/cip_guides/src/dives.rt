@@ -222,6 +222,7 @@ impl Dive {
             let is_kept = share.spend(row.terms().len())
                 && self.narrow_by(view.whole, row, Source::AtLeast)?
                 && self.narrow_by(view.whole, row, Source::AtMost)?;
+            self.watched.end(number);
             if !is_kept {
                 return Ok(false);
             }

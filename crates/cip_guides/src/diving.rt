@@ -9,6 +9,9 @@ use cip_frac::Frac;
 use cip_plugin::{Guess, Heuristic, Plugin, View};
 use std::alloc::{AllocError, Global};
 
+// The part of a share that it has.
+const PART: usize = 10;
+
 /// A heuristic: whole columns are fixed one after another near the values of the last point, those nearest to a whole
 /// number first, and then the continuous ones; behind each the sides that rows imply are taken. Where a row can't be
 /// kept a whole column gets the number next to it, up to 64 times. It does a bounded share of the nodes' work.
@@ -23,7 +26,7 @@ impl DiveHeuristic {
     pub fn new(alloc: Global) -> DiveHeuristic {
         DiveHeuristic {
             dive: Dive::new(alloc),
-            share: Share::new(),
+            share: Share::new(PART),
         }
     }
 
@@ -31,7 +34,7 @@ impl DiveHeuristic {
     fn go(&mut self, view: &View<'_>, point: &[Frac]) -> Result<bool, AllocError> {
         let before = self.share.left();
         let is_there = self.dive.go(view, point, &mut self.share)?;
-        self.share.end(before);
+        self.share.end(before, is_there);
         Ok(is_there)
     }
 

@@ -75,7 +75,7 @@ impl ExchangeHeuristic {
         ExchangeHeuristic {
             placed: Placed::new(alloc),
             order: Vec::new(alloc),
-            share: Share::new(),
+            share: Share::new(1),
             held: None,
             is_lost: false,
         }

@@ -11,10 +11,11 @@ const MOST: usize = 1 << 20;
 
 const MOST_MORE: usize = 1 << 18;
 
-/// What is left of a heuristic's share. Each call adds some passes over the program, and work begins once there is as
-/// much as the last work took.
+/// What is left of a heuristic's share. Each call adds some passes over the program, or a part of that, and work begins
+/// once there is as much as the last work took; twice as much where that came to nothing.
 #[derive(Clone, Copy, Debug)]
 pub(crate) struct Share {
+    part: usize,
     pass: usize,
     left: usize,
     wanted: usize,
@@ -30,9 +31,10 @@ fn size_of(own: &[Row], columns: usize) -> usize {
 }
 
 impl Share {
-    /// Of no program.
-    pub(crate) fn new() -> Share {
+    /// Of no program; the share is divided by so much.
+    pub(crate) fn new(part: usize) -> Share {
         Share {
+            part,
             pass: 0,
             left: 0,
             wanted: 0,
@@ -42,13 +44,19 @@ impl Share {
     /// Begins with a program.
     pub(crate) fn begin(&mut self, own: &[Row], columns: usize) {
         self.pass = size_of(own, columns);
-        self.left = self.pass.saturating_mul(FIRST_PASSES).min(MOST);
+        self.left = self.part_of(FIRST_PASSES, MOST);
         self.wanted = 0;
+    }
+
+    /// So many passes, at most so much, divided.
+    fn part_of(&self, passes: usize, most: usize) -> usize {
+        let whole = self.pass.saturating_mul(passes).min(most);
+        whole.checked_div(self.part).unwrap_or(0)
     }
 
     /// Adds what a call adds, and answers whether work may begin.
     pub(crate) fn may_begin(&mut self) -> bool {
-        let more = self.pass.saturating_mul(MORE_PASSES).min(MOST_MORE);
+        let more = self.part_of(MORE_PASSES, MOST_MORE);
         self.left = self.left.saturating_add(more).min(MOST);
         self.left > 0 && self.left >= self.wanted
     }
@@ -65,8 +73,14 @@ impl Share {
         self.left
     }
 
-    /// Notes what work took that began with so much.
-    pub(crate) fn end(&mut self, before: usize) {
-        self.wanted = before.saturating_sub(self.left).min(MOST);
+    /// Notes what work took that began with so much, and whether it brought something.
+    pub(crate) fn end(&mut self, before: usize, has_gained: bool) {
+        let spent = before.saturating_sub(self.left);
+        let wanted = if has_gained {
+            spent
+        } else {
+            spent.saturating_mul(2).max(self.wanted.saturating_mul(2))
+        };
+        self.wanted = wanted.min(MOST);
     }
 }

@@ -1,6 +1,8 @@
 -- What a kit of plugins is, and what becomes of it as a search begins and ends.
-use Rattle.std.specs.Prelude.{◌≡◌, ℕ, ◌+◌, ◌^◌, ◌<◌, ◌≤◌, ◌==◌, ◌&&◌, Bool, true, false, List, [], length, map}
-use Rattle.std.specs.Prelude.{Option, None, Some}
+use Rattle.std.specs.Prelude.{◌≡◌, ℕ, ◌+◌, ◌^◌, ◌<◌, ◌≤◌, ◌==◌, ◌&&◌, ◌++◌, Bool, true, false, not, List, [], length}
+use Rattle.std.specs.Prelude.{Option, None, Some, filter, map}
+use Rattle.std.specs.List.{list_any}
+use Rattle.std.specs.Str.{bytes_eq}
 use Rattle.cip_events.specs.declared.traces.Trace.{Trace}
 use Rattle.cip_plugin.specs.Who.{Who}
 use Rattle.cip_plugin.specs.declared.boxed.AnyPlugin.{AnyPlugin}
@@ -35,6 +37,19 @@ IsFew stock = length stock.start + length stock.shelf < 2 ^ 32
 -- there is no plugin that begins, and none that a wish could include
 abbrev pub is_bare : Stock → Bool
 is_bare stock = (length stock.start == 0) && (length stock.shelf == 0)
+
+-- whether a plugin has one of these names
+abbrev pub is_off : (names : List (List ℕ)) → Who → Bool
+is_off names who = list_any (λ name. bytes_eq who.label name) names
+
+-- a kit without the plugins of its start that have one of these names: they stand behind those that are done with, in
+-- their order and without numbers, since nobody called them
+abbrev pub less_off : (names : List (List ℕ)) → Stock → Stock
+less_off names stock = record {
+  start = filter (λ who. not (is_off names who)) stock.start;
+  shelf = stock.shelf;
+  spent = stock.spent ++ map (λ who. back None who) (filter (is_off names) stock.start);
+}
 
 -- all plugins of a kit have moved into a roster, which has begun with those of the start
 pub record HasBegun (had has : Stock) (kept : Bool) (begun : State) : Type 0 where

@@ -1,5 +1,5 @@
 -- The clauses of `run`, each from what the call does.
-use Rattle.std.specs.Prelude.{◌≡◌, ◌≢◌, ◌⊎◌, ⊤, refl, ℕ, Bool, true, false, List, Option, None, Some, IfSome, IsSomeAnd, length, ◌*◌, ◌-◌, ◌≤◌, ◌<◌, max}
+use Rattle.std.specs.Prelude.{◌≡◌, ◌≢◌, ◌⊎◌, ⊤, refl, ℕ, Bool, true, false, List, Option, None, Some, IfSome, IsSomeAnd, if◌then◌else◌, length, ◌*◌, ◌-◌, ◌≤◌, ◌<◌, max}
 use Rattle.std.proofs.Common.{sym, ap, ◌∙◌, subst, inl, inr, arith}
 use Rattle.cip_io.specs.Faults.{Rose}
 use Rattle.cip_io.specs.Store.{StoreTells}
@@ -20,26 +20,26 @@ use Rattle.cip_answering.specs.PointKinds.{kind_number as point_kind_number}
 use Rattle.cip_answering.specs.PointFault.{PointFault}
 use Rattle.cip_words.specs.Jobs.{Limits, Job, Solve, Check, Generate, usual_limits}
 use Rattle.cip_generator.specs.Generated.{generated}
-use Rattle.cip_trace_texts.specs.TraceTexts.{traced_text}
 use Rattle.cip_answers.specs.Checks.{check_status}
 use Rattle.cip_model.specs.Verdicts.{verdict_of}
 use Rattle.cip_tasks.specs.declared.refusals.TextFault.{TextFault}
 use Rattle.cip_tasks.specs.declared.refusals.TextFault.TheVariants.{Model, Blocks, Point}
-use Rattle.cip_answers.specs.Figures.{NodeLimit, Gap, Wide, NoMemory as LacksMemory, exit_status, names_of}
+use Rattle.cip_answers.specs.Figures.{NodeLimit, Gap, Wide, NoMemory as LacksMemory, exit_status}
 use Rattle.cip_search.specs.SearchEnds.{ReachesGap}
 use Rattle.cip_search.specs.Headline.{IsSpent, EndsWith, EndsItself}
 use Rattle.cip_search.proofs.Ends.{budgets_suffice}
 use Rattle.cip_tasks.specs.declared.plain.Plain.{Plain}
 use Rattle.cip_tasks.specs.declared.plain.Plain.TheVariants.{Usage, ReadFault, Refused, NoMemory}
-use Rattle.cip_answering.specs.Answering.{Telling, self_told, IsLogged}
+use Rattle.cip_answering.specs.Answering.{self_told, IsLogged}
 use Rattle.cip_answering.specs.Checking.{checked}
 use Rattle.cip_tasks.specs.Plain.{plain_status}
 use Rattle.cip_events.specs.declared.traces.Trace.{Trace}
 use Rattle.cip_problem.specs.Log.{Entry}
-use Rattle.cip_answering.specs.Kits.{Stock}
+use Rattle.cip_answering.specs.Kits.{Stock, less_off}
 use Rattle.cip_answering.specs.KitsServed.{is_alone, IsKitAfter}
-use Rattle.cip_main.specs.Running.{Call, HasProgram, HasFault, IsStoreSound, IsSinkSound, GivesPlain, IsOfText, IsOfSeed, drawn_as, IsAnswered, IsChecked, TellsVerdict, ArePulled, BlocksAreRead, Ran, gives_plain, gives_figures, gives_verdict, IsStatus, write_fault, TellsBy, TellsTruth, Asks, AsksOf, AsksWith, AsksToCheck, RefusesBlocks, IsCutShort, Headline, BreaksSome, CheckClause, HasBlocksFault, HasPointFault, IsFirstFault, TellsModelFault, TellsBlockFault, TellsPointFault, UsageClause, behind_up_to, PullsToFault, ReadFaultClause, RefusedClause, WriteFaultClause, SpentLog, FiguresReachGap, GapLog, OverflowClause, MemoryClause, WorksBy, TellsWork, WorkClause, TellsKit, AsksForSearch, KitClause, SelfClause, Runs}
+use Rattle.cip_main.specs.Running.{Call, HasProgram, HasFault, IsStoreSound, IsSinkSound, GivesPlain, IsOfText, IsOfSeed, drawn_as, IsAnswered, IsChecked, TellsVerdict, ArePulled, BlocksAreRead, Ran, gives_plain, gives_figures, gives_verdict, IsStatus, write_fault, TellsBy, TellsTruth, Asks, AsksOf, AsksWith, AsksToCheck, RefusesBlocks, IsCutShort, Headline, BreaksSome, CheckClause, HasBlocksFault, HasPointFault, IsFirstFault, TellsModelFault, TellsBlockFault, TellsPointFault, UsageClause, behind_up_to, PullsToFault, ReadFaultClause, RefusedClause, WriteFaultClause, SpentLog, FiguresReachGap, GapLog, OverflowClause, MemoryClause, WorksBy, TellsWork, WorkClause, TellsKit, AsksForSearch, KitClause, Runs}
 use Rattle.cip_answering.specs.Saying.{Says}
+use Rattle.cip_answering.specs.Work.{IsKitOf}
 use Rattle.cip_tasks.specs.Tasks.{TaskCause, model_of, model_in, second_of, FailsBehind, HasFaultyModel, HasFaultyBlocks, HasFaultyPoint}
 use Rattle.cip_tasks.proofs.Readings.{told, some_job}
 use Rattle.cip_main.proofs.Statuses.{says_usage, says_read_fault, says_refused, says_no_memory, plain_below_five, plain_not_one, plain_not_ten, plain_not_eleven, plain_not_thirteen, plain_is, is_breach, is_overflow, figures_not_one, figures_not_two, figures_not_three, figures_not_four, figures_not_five, is_spent, is_near, gap_by_word, is_wide, exit_is, verdict_not_two, verdict_not_three, verdict_not_four, verdict_not_five, verdict_not_six, verdict_not_ten, verdict_not_thirteen, verdict_is}
@@ -337,9 +337,13 @@ tells_kit : (call : Call) (program : Program) (limits : Limits) → TellsWork ca
 tells_kit call program limits w = record { truth = w.answers; trace = w.trace; lines_are = w.lines_are; served = w.kit }
 
 -- a search without plugins leaves the kit as it is
-left_alone : (plain kept : Bool) (entries : List Entry) (kit after : Stock) (trace : Option Trace) → IsKitAfter (is_alone plain kit) kept entries kit after trace → plain ≡ true → after ≡ kit
-left_alone true kept entries kit after trace k e = k.same
-left_alone false kept entries kit after trace k e = absurd (cc)
+plain_alone : (plain kept : Bool) (entries : List Entry) (less kit after : Stock) (trace : Option Trace) → plain ≡ true → IsKitAfter (is_alone plain (if plain then kit else less)) kept entries (if plain then kit else less) after trace → after ≡ kit
+plain_alone true kept entries less kit after trace e k = k.same
+plain_alone false kept entries less kit after trace e k = absurd (cc)
+
+left_alone : (limits : Limits) (entries : List Entry) (kit after : Stock) (trace : Option Trace) (lacks : Type 0) → IsKitOf limits entries kit after trace lacks → limits.plain ≡ true → after ≡ kit
+left_alone limits entries kit after trace lacks (inl k) e = plain_alone limits.plain limits.trace entries (less_off limits.off kit) kit after trace e k
+left_alone limits entries kit after trace lacks (inr left) e = left.0.same
 
 kit_served : (call : Call) (r : Ran call) → WorkOf call r → (text : List ℕ) (limits : Limits) (program : Program) → Asks call text limits → HasProgram call text program → TellsKit call program limits ⊎ (RefusesBlocks call program ⊎ IsCutShort call)
 kit_served call (gives_plain answer g) w text limits program asks h = inr (headline_plain call answer g text limits program asks h)
@@ -349,7 +353,7 @@ kit_served call (gives_verdict c) w text limits program asks h = absurd (solve_c
 plain_kit : (call : Call) (r : Ran call) → WorkOf call r → (model : List ℕ) (blocks : Option (List ℕ)) (limits : Limits) → call.job ≡ Some (Solve model blocks limits) → limits.plain ≡ true → call.kit_after ≡ call.kit
 plain_kit call (gives_plain answer g) w model blocks limits e plain = g.same_kit
 plain_kit call (gives_figures a) w model blocks limits e plain =
-    left_alone a.limits.plain a.limits.trace w.answers.entries call.kit call.kit_after w.trace w.kit (ap (λ (l : Limits). l.plain) (same_limits (text_source call a e).asked e) ∙ plain)
+    left_alone a.limits w.answers.entries call.kit call.kit_after w.trace (w.answers.figures.status ≡ LacksMemory) w.kit (ap (λ (l : Limits). l.plain) (same_limits (text_source call a e).asked e) ∙ plain)
 plain_kit call (gives_verdict c) w model blocks limits e plain = absurd (solve_check e c.asked)
 
 searched : (call : Call) → (a : IsAnswered call) → AsksForSearch call.job

@@ -1,5 +1,5 @@
 -- The ways of a call, from the task that was read and what was done then.
-use Rattle.std.specs.Prelude.{◌≡◌, ℕ, List, Option, None, Some, IfSome}
+use Rattle.std.specs.Prelude.{◌≡◌, ℕ, List, Option, None, Some, IfSome, map}
 use Rattle.cip_rational.specs.Rational.{ℚ}
 use Rattle.cip_problem.specs.Program.{Program}
 use Rattle.cip_io.specs.Store.{StoreTells}
@@ -9,18 +9,24 @@ use Rattle.cip_point_rules.specs.PointRules.{point_reading}
 use Rattle.cip_parts.specs.BlockParts.{Blocks as Parts}
 use Rattle.cip_answering.specs.TextsRead.{ReadsText}
 use Rattle.cip_tasks.specs.declared.plain.Plain.{Plain}
-use Rattle.cip_words.specs.Jobs.{Limits, usual_limits}
+use Rattle.cip_plugin.specs.Who.{Who}
+use Rattle.cip_words.specs.Jobs.{Limits, Job, usual_limits, job_for}
 use Rattle.cip_generator.specs.Generated.{entries_of}
 use Rattle.cip_trace_texts.specs.SelfTexts.{Drawn as Told}
 use Rattle.cip_trace_texts.specs.TraceTexts.{traced_text}
 use Rattle.cip_answers.specs.Figures.{names_of}
-use Rattle.cip_answering.specs.Answering.{Telling, self_told}
-use Rattle.cip_answering.specs.Drawn.{drawn_of}
-use Rattle.cip_tasks.specs.Tasks.{TakesBlocks, IsSolve, IsCheck, IsDrawn}
-use Rattle.cip_main.specs.Running.{Call, BlocksAreRead, IsPulledBehind, drawn_as, WorksBy, TellsWork, TellsVerdict, GivesPlain, gives_plain, gives_figures, gives_verdict, Runs}
+use Rattle.cip_answering.specs.Answering.{self_told}
+use Rattle.cip_answering.specs.Saying.{Says}
+use Rattle.cip_tasks.specs.Plain.{plain_text, plain_status}
+use Rattle.cip_tasks.specs.Tasks.{labels_of, TakesBlocks, IsSolve, IsCheck, IsDrawn, TaskCause}
+use Rattle.cip_main.specs.Running.{Call, BlocksAreRead, IsPulledBehind, WorksBy, TellsWork, TellsVerdict, gives_plain, gives_figures, gives_verdict, Runs}
 use Rattle.cip_tasks.proofs.Readings.{told, value_told}
 use Rattle.cip_main.proofs.Clauses.{runs}
 use Rattle.std.proofs.Common.{◌∙◌, ap, subst, inl, inr, refl}
+
+-- the job of words for the plugins of a kit, which are lent
+pub asked_of : {P : Type 0} (who : P → Who) (lent plugins : List P) (words : Option Job) → lent ≡ plugins → job_for (labels_of (map who lent)) words ≡ job_for (labels_of (map who plugins)) words
+asked_of who lent plugins words e = ap (λ ps. job_for (labels_of (map who ps)) words) e
 
 -- blocks that were read are those of their text
 blocks_told : (program : Program) (text : Option (List ℕ)) (old new : StoreTells) (parts : Parts) → ReadsText (HasResult (block_reading program)) text old new parts → IfSome text (λ bytes. (parts : Parts) × HasResult (block_reading program) bytes parts)
@@ -40,8 +46,8 @@ none_failed program None old between new t = ap (λ (store : StoreTells). store.
 none_failed program (Some name) old between new t = t.1.sound
 
 -- a program was read and solved
-pub answered : (call : Call) (program : Program) (limits : Limits) → IsSolve call.job call.store call.store_after program limits → TellsWork call program limits → Runs call
-answered call program limits s w = runs call (gives_figures (record {
+pub answered : (call : Call) (job : Option Job) (program : Program) (limits : Limits) → job ≡ call.job → IsSolve job call.store call.store_after program limits → TellsWork call program limits → Runs call
+answered call job program limits e given w = let s = subst (λ j. IsSolve j call.store call.store_after program limits) e given in runs call (gives_figures (record {
   program = program;
   limits = limits;
   text_of = traced_text (names_of program);
@@ -62,8 +68,8 @@ answered call program limits s w = runs call (gives_figures (record {
 abbrev drawn_with : (seed columns rows entries : ℕ) → Told
 drawn_with seed columns rows entries = record { seed = seed; columns = columns; rows = rows; entries = entries }
 
-pub drawn_answered : (call : Call) (program : Program) (seed columns rows entries : ℕ) → IsDrawn call.job call.store call.store_after program seed columns rows entries → WorksBy call program usual_limits (self_told (record { seed = seed; columns = columns; rows = rows; entries = entries })) → Runs call
-drawn_answered call program seed columns rows entries d w = runs call (gives_figures (record {
+pub drawn_answered : (call : Call) (job : Option Job) (program : Program) (seed columns rows entries : ℕ) → job ≡ call.job → IsDrawn job call.store call.store_after program seed columns rows entries → WorksBy call program usual_limits (self_told (record { seed = seed; columns = columns; rows = rows; entries = entries })) → Runs call
+drawn_answered call job program seed columns rows entries e given w = let d = subst (λ j. IsDrawn j call.store call.store_after program seed columns rows entries) e given in runs call (gives_figures (record {
   program = program;
   limits = usual_limits;
   text_of = self_told (record { seed = seed; columns = columns; rows = rows; entries = entries });
@@ -82,8 +88,8 @@ drawn_answered call program seed columns rows entries d w = runs call (gives_fig
 })) w
 
 -- a point was read and checked
-pub verdict_told : (call : Call) (program : Program) (point shown : List ℚ) → IsCheck call.job call.store call.store_after program point → shown ≡ point → TellsVerdict call program shown → Runs call
-verdict_told call program point shown k e t = runs call (gives_verdict (record {
+pub verdict_told : (call : Call) (job : Option Job) (program : Program) (point shown : List ℚ) → job ≡ call.job → IsCheck job call.store call.store_after program point → shown ≡ point → TellsVerdict call program shown → Runs call
+verdict_told call job program point shown same given e t = let k = subst (λ j. IsCheck j call.store call.store_after program point) same given in runs call (gives_verdict (record {
   model = k.model;
   name = k.name;
   asked = k.asked;
@@ -97,5 +103,5 @@ verdict_told call program point shown k e t = runs call (gives_verdict (record {
 })) tt
 
 -- there was no task
-pub plain_told : (call : Call) (answer : Plain) → GivesPlain call answer → Runs call
-plain_told call answer g = runs call (gives_plain answer g) tt
+pub plain_told : (call : Call) (job : Option Job) (answer : Plain) → job ≡ call.job → TaskCause job call.store call.store_after answer → Says call.sink call.sink_after (plain_text answer) (plain_status answer) call.status → call.logs_after ≡ call.logs → call.kit_after ≡ call.kit → Runs call
+plain_told call job answer e given t l k = runs call (gives_plain answer (record { cause = subst (λ j. TaskCause j call.store call.store_after answer) e given; tells = t; no_search = l; same_kit = k })) tt

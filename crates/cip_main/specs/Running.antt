@@ -19,7 +19,7 @@ use Rattle.cip_words.specs.Jobs.{Limits, Job, Solve, Check, Generate, usual_limi
 use Rattle.cip_answering.specs.Models.{is_lp_name, HasModel, HasModelFault, is_lp_fault, model_line, model_kind}
 use Rattle.cip_answering.specs.TextPulls.{IsAllPulled}
 use Rattle.cip_answering.specs.ModelFault.{ModelFault}
-use Rattle.cip_answers.specs.Figures.{NodeLimit, Gap, Wide, Overflow, names_of}
+use Rattle.cip_answers.specs.Figures.{NodeLimit, Gap, Wide, Overflow, NoMemory as LacksMemory, names_of}
 use Rattle.cip_search.specs.Headline.{ShowsGap, IsSpent, ShowsOverflow, EndsItself}
 use Rattle.cip_answers.specs.Checks.{check_text, check_status}
 use Rattle.cip_model.specs.Verdicts.{verdict_of}
@@ -32,7 +32,6 @@ use Rattle.cip_answering.specs.Logs.{entries_of}
 use Rattle.cip_events.specs.declared.traces.Trace.{Trace}
 use Rattle.cip_answering.specs.Traces.{kept_lines}
 use Rattle.cip_answering.specs.Kits.{Stock}
-use Rattle.cip_answering.specs.KitsServed.{is_alone, IsKitAfter}
 use Rattle.cip_answering.specs.BlockKinds.{kind_number as block_kind_number}
 use Rattle.cip_answering.specs.BlockFault.{BlockFault}
 use Rattle.cip_answering.specs.PointKinds.{kind_number as point_kind_number}
@@ -43,12 +42,13 @@ use Rattle.cip_tasks.specs.declared.plain.Plain.{Plain}
 use Rattle.cip_tasks.specs.declared.plain.Plain.TheVariants.{Usage, ReadFault, Refused, NoMemory}
 use Rattle.cip_answering.specs.Answering.{Telling, self_told, Answers}
 use Rattle.cip_answering.specs.Checking.{checked}
-use Rattle.cip_answering.specs.Work.{Works}
+use Rattle.cip_answering.specs.Work.{Works, IsKitOf}
 use Rattle.cip_tasks.specs.Plain.{plain_text, plain_status}
 use Rattle.cip_answering.specs.Saying.{Says}
 use Rattle.cip_tasks.specs.Tasks.{TaskCause, model_of, model_in, second_of}
 
--- a call: the job that its words mean, if they are accepted; store, sink, kit and logs before and after it; its status
+-- a call: the job that its words mean, if they are accepted, and the plugins that they want to be off are there; store,
+-- sink, kit and logs before and after it; its status
 pub record Call : Type 0 where
   pub job : Option Job
   pub store : StoreTells
@@ -299,8 +299,8 @@ pub record CheckClause (call : Call) : Type 0 where
       → (c : IsChecked call) × (call.status ≡ check_status (checked c.program c.point))
   pub broken : call.status ≡ 1 → BreaksSome call
 
--- status 2 comes only where the words are not accepted; where they aren't, usage is said or want of memory, and nothing
--- is pulled
+-- status 2 comes only where the words are not accepted, or want a plugin to be off that isn't there; where that is so,
+-- usage is said or want of memory, and nothing is pulled
 pub record UsageClause (call : Call) : Type 0 where
   pub only : call.status ≡ 2 → call.job ≡ None
   pub always : call.job ≡ None → GivesPlain call Usage ⊎ GivesPlain call NoMemory
@@ -469,15 +469,15 @@ WorkClause call =
     → TellsWork call program limits ⊎ (RefusesBlocks call program ⊎ IsCutShort call)
 
 -- true figures of the program were told to the sink, with the lines of a trace, if they are asked for. Where the words
--- ask for a search without plugins, or the kit has none, nobody was called, the kit is as it was, and no line is told;
--- else its plugins served in the search, and all are done with: or memory was refused before a node was taken, or
--- presolve showed then that no point is feasible
+-- ask for a search without plugins nobody was called, the kit is as it was, and no line is told. Else the plugins that
+-- they want to be off were set aside, uncalled; and where any were left, these served in the search, and all are done
+-- with: or memory was refused before a node was taken, or presolve showed then that no point is feasible. Or want of
+-- memory is the answer, and the kit is as it was
 pub record TellsKit (call : Call) (program : Program) (limits : Limits) : Type 0 where
   pub truth : TellsTruth call program limits
   pub trace : Option Trace
   pub lines_are : truth.lines ≡ kept_lines trace
-  pub served :
-      IsKitAfter (is_alone limits.plain call.kit) limits.trace truth.entries call.kit call.kit_after trace
+  pub served : IsKitOf limits truth.entries call.kit call.kit_after trace (truth.figures.status ≡ LacksMemory)
 
 -- the words ask for a search: of the program of a text, or of one that is drawn
 abbrev pub AsksForSearch : Option Job → Type 0

@@ -1,11 +1,12 @@
 //! The whole way from the words and the store to the sink.
-ghost use Rattle.cip_words.specs.Jobs.{job_of};
+ghost use Rattle.cip_words.specs.Jobs.{job_of, job_for};
 ghost use Rattle.cip_tasks.specs.Plain.{plain_text, plain_status};
+ghost use Rattle.cip_tasks.specs.Tasks.{labels_of};
 ghost use Rattle.cip_answering.specs.Kits.{stock_of, IsFew};
 ghost use Rattle.cip_answering.specs.Saying.{Says};
 ghost use Rattle.cip_main.specs.Running.{Runs, call_of};
 
-use cip_answering::{Drawn, Log, Options, check_and_report, solve_and_report, solve_drawn};
+use cip_answering::{Drawn, Log, check_and_report, solve_and_report, solve_drawn};
 use cip_io::{Failed, Sink, Store};
 use cip_plugin::{AnyPlugin, Kit, Tells};
 use cip_tasks::{Plain, Task, read_task};
@@ -27,7 +28,7 @@ pub fn say<K: Sink>(out: &mut K, answer: Plain) -> u8
 /// - 0: an optimal point was printed, or a point with a ray along which the cost falls without end, or that no point is
 ///   feasible; or that the point to check is feasible;
 /// - 1: the point to check is not feasible, and what it breaks was printed;
-/// - 2: the words are not accepted, and nothing is pulled;
+/// - 2: the words are not accepted, or want a plugin to be off that isn't in the kit's start, and nothing is pulled;
 /// - 3: the store failed;
 /// - 4: a text is faulty, and the texts before it are not; its first line that breaks a rule was printed, and the
 ///   least kind;
@@ -40,16 +41,17 @@ pub fn say<K: Sink>(out: &mut K, answer: Plain) -> u8
 ///   most that.
 ///
 /// The texts are the model's, and then that of the blocks or of the point; at `self` there are none, and the program is
-/// drawn from the seed. A search adds one log to `logs`, or none
-/// where memory was refused before it had room for one. Blocks change nothing of the search.
+/// drawn from the seed. A search adds one log to `logs`, or none where memory was refused before it had room for one.
+/// Where blocks are named, the program itself is searched.
 ///
 /// Presolve reduces the program first, and what it makes of it is searched; all that is printed, and the log, are of
-/// the program itself. Where presolve shows that no point is feasible, no node is taken. With `--plain` the program
-/// itself is searched, without presolve and without plugins.
+/// the program itself. Where presolve shows that no point is feasible, no node is taken. With `--plain` or `--blocks`
+/// nothing is presolved, and with `--plain` the search goes without plugins.
 ///
 /// The plugins of the kit serve in the search, whatever they answer, and all are done with behind it: what the answer
-/// says holds for every kit. With `--plain`, at `check`, and where the search doesn't begin the kit stays as it is.
-/// With `--trace` the lines of what the plugins were called for are printed behind the figures.
+/// says holds for every kit. Those that `--off` names are done with before it, uncalled. With `--plain`, at `check`,
+/// and where the search doesn't begin the kit stays as it is. With `--trace` the lines of what the plugins were called
+/// for are printed behind the figures.
 pub fn run<S: Store, K: Sink>(
     alloc: Global,
     words: &Words,
@@ -59,28 +61,14 @@ pub fn run<S: Store, K: Sink>(
     logs: &mut Vec<Log>,
 ) -> u8
     requires few { IsFew (stock_of ⟦<AnyPlugin as Tells>⟧.who kit.old) }
-    ensures { Runs (call_of (job_of words.now) (S.tells store.old) (S.tells store.new)
-        (K.tells out.old) (K.tells out.new)
+    ensures { Runs (call_of (job_for (labels_of (stock_of ⟦<AnyPlugin as Tells>⟧.who kit.old).start) (job_of words.now))
+        (S.tells store.old) (S.tells store.new) (K.tells out.old) (K.tells out.new)
         (stock_of ⟦<AnyPlugin as Tells>⟧.who kit.old) (stock_of ⟦<AnyPlugin as Tells>⟧.who kit.new)
         logs.old.items logs.new.items result) }
 {
-    match read_task(alloc, words, store) {
-        Ok(
-            Task::Solve {
-                program,
-                nodes,
-                gap,
-                plain,
-                trace,
-            },
-        ) => {
-            let options = Options {
-                nodes,
-                gap,
-                plain,
-                trace,
-            };
-            solve_and_report(alloc, &program, &options, kit, out, logs)
+    match read_task(alloc, words, kit.start.as_slice(), store) {
+        Ok(Task::Solve { program, limits }) => {
+            solve_and_report(alloc, &program, &limits, kit, out, logs)
         }
         Ok(Task::Check { program, point }) => check_and_report(&program, point.as_slice(), out),
         Ok(

@@ -102,7 +102,7 @@ impl ColumnRows {
         }
     }
 
-    /// The rows of a column, by their numbers.
+    /// The rows of a column, by their rising numbers; none of a column that isn't there.
     pub fn rows_of(&self, col: u32) -> &[u32] {
         let end = match self.ends.get(col as usize) {
             Some(end) => *end as usize,

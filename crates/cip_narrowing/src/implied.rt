@@ -46,11 +46,12 @@ pub struct Region<'a> {
     pub is_exact: bool,
 }
 
-/// The least that a row's products come to, as far as there is one: the sum of those that have a least value, and how
-/// many have none.
+/// The least that a row's products come to, as far as there is one: the sum of those that have a least value, what that
+/// leaves of the row's limit, and how many have none.
 #[derive(Clone, Copy)]
 struct Least {
     sum: Frac,
+    slack: Frac,
     open: usize,
 }
 
@@ -93,6 +94,26 @@ fn with_product(number: Frac, left: Frac, right: Frac) -> Option<Frac> {
     }
 }
 
+/// What is left for the product of a term where the others are least; none where one of those has no least value.
+fn left_for(coef: Frac, sides: Sides, least: Least) -> Option<Frac> {
+    match least_side(coef, sides) {
+        Some(side) if least.open == 0 => with_product(least.slack, coef, side),
+        None if least.open == 1 => Some(least.slack),
+        _ => None,
+    }
+}
+
+/// Whether the product of a term may come to more than what is left for it.
+fn may_narrow(coef: Frac, sides: Sides, left: Frac) -> bool {
+    let Some(side) = greatest_side(coef, sides) else {
+        return true;
+    };
+    match coef.mul(side) {
+        Ok(most) => most > left,
+        Err(_) => false,
+    }
+}
+
 impl<'a> AtMost<'a> {
     /// The coefficient of a term.
     fn coefficient(&self, term: &Term) -> Frac {
@@ -131,10 +152,11 @@ impl<'a> AtMost<'a> {
         }
     }
 
-    /// The least that its products come to; none where that leaves the range.
+    /// The least that its products come to; none where that, or what it leaves, isn't in range.
     fn least(&self) -> Option<Least> {
         let mut least = Least {
             sum: Frac::zero(),
+            slack: Frac::zero(),
             open: 0,
         };
         for term in self.terms {
@@ -144,34 +166,14 @@ impl<'a> AtMost<'a> {
                 None => least.open = least.open.saturating_add(1),
             }
         }
+        least.slack = self.limit.sub(least.sum).ok()?;
         Some(least)
-    }
-
-    /// What is left for the product of a term where the others are least; none where one of those has no least value.
-    fn left_for(&self, coef: Frac, sides: Sides, least: Least) -> Option<Frac> {
-        let slack = self.limit.sub(least.sum).ok()?;
-        match least_side(coef, sides) {
-            Some(side) if least.open == 0 => with_product(slack, coef, side),
-            None if least.open == 1 => Some(slack),
-            _ => None,
-        }
-    }
-
-    /// Whether the product of a term may come to more than what is left for it.
-    fn may_narrow(&self, coef: Frac, sides: Sides, left: Frac) -> bool {
-        let Some(side) = greatest_side(coef, sides) else {
-            return true;
-        };
-        match coef.mul(side) {
-            Ok(most) => most > left,
-            Err(_) => false,
-        }
     }
 
     /// The side of a term's column that is implied, as it is.
     fn exact_by(&self, term: &Term, least: Least) -> Option<Implied> {
         let coef = self.coefficient(term);
-        let left = self.left_for(coef, self.sides_of(term.col), least)?;
+        let left = left_for(coef, self.sides_of(term.col), least)?;
         if coef.is_zero() {
             return None;
         }
@@ -192,8 +194,11 @@ impl<'a> AtMost<'a> {
     fn implied_by(&self, term: &Term, least: Least) -> Option<Implied> {
         let coef = self.coefficient(term);
         let sides = self.sides_of(term.col);
-        let left = self.left_for(coef, sides, least)?;
-        if coef.is_zero() || !self.may_narrow(coef, sides, left) {
+        if coef.is_zero() || sides.is_fixed() {
+            return None;
+        }
+        let left = left_for(coef, sides, least)?;
+        if !may_narrow(coef, sides, left) {
             return None;
         }
         let is_high = coef.is_positive();
@@ -254,7 +259,7 @@ fn list_at_most(
 }
 
 /// Lists the sides of columns that a side of a row implies in a box, stronger ones alone, as long as there are fewer
-/// than so many on the list.
+/// than so many on the list. `Err` where memory was refused; what was listed up to there stays.
 pub fn list_implied(
     row: &Row,
     source: Source,

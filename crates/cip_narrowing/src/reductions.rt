@@ -8,7 +8,7 @@ use std::alloc::{AllocError, Global};
 /// The most reductions that a call brings.
 pub const MOST_REDUCTIONS: usize = 64;
 
-/// A row by one of its sides.
+/// A row by one of its sides: once where it is at least that, minus once where it is at most that.
 pub fn multiple_of(row: RowId, source: Source) -> RowMultiple {
     let factor = match source {
         Source::AtLeast => Frac::one(),
@@ -17,7 +17,7 @@ pub fn multiple_of(row: RowId, source: Source) -> RowMultiple {
     RowMultiple { row, factor }
 }
 
-/// These rows with their factors, as a combination.
+/// These rows with their factors, as a combination. `Err` where memory was refused.
 pub fn combo_of(alloc: Global, rows: &[RowMultiple]) -> Result<Combo, AllocError> {
     Ok(Combo {
         rows: rows.to_vec(alloc)?,
@@ -26,7 +26,7 @@ pub fn combo_of(alloc: Global, rows: &[RowMultiple]) -> Result<Combo, AllocError
     })
 }
 
-/// A side that these rows imply.
+/// A side that these rows imply, with them as its combination. `Err` where memory was refused.
 pub fn reduction_of(
     alloc: Global,
     implied: Implied,
@@ -84,7 +84,8 @@ fn add_side(
 }
 
 /// Adds the sides that a row implies in the node's box to the reductions, as long as there are fewer than 64. Answers
-/// the side of the row that no point of the box keeps, where there is one. The list is one to work in.
+/// the side of the row that no point of the box keeps, where there is one. The list of what is implied is one to work
+/// in. `Err` where memory was refused; what was added up to there stays.
 pub fn add_reductions(
     alloc: Global,
     view: &View<'_>,

@@ -3,7 +3,8 @@ use crate::column_rows::ColumnRows;
 use cip_lin::{Row, Sides};
 use std::alloc::{AllocError, Global};
 
-/// A box as it was seen last, and the rows with a column whose sides have changed since they were looked at.
+/// A box as it was seen last, and the rows with a column whose sides have changed since they were looked at. A row in
+/// work, from `next` to `end`, doesn't wait.
 #[derive(Drop)]
 pub struct Watched {
     columns: ColumnRows,
@@ -35,13 +36,13 @@ impl Watched {
         self.see(sides)
     }
 
-    /// Takes a box as seen.
-    fn see(&mut self, sides: &[Sides]) -> Result<(), AllocError> {
+    /// Takes a box as seen: no row comes to wait for what has changed up to now. `Err` where memory was refused.
+    pub fn see(&mut self, sides: &[Sides]) -> Result<(), AllocError> {
         self.seen.clear();
         self.seen.extend_from_slice(sides)
     }
 
-    /// Has a row wait, where it doesn't.
+    /// Has a row wait, where it neither waits nor is in work. `Err` where memory was refused.
     pub fn wait_for(&mut self, number: u32) -> Result<(), AllocError> {
         let Some(is_waiting) = self.is_waiting.get_mut(number as usize) else {
             return Ok(());
@@ -53,7 +54,7 @@ impl Watched {
         Ok(())
     }
 
-    /// Has the rows of a column wait.
+    /// Has the rows of a column wait that neither wait nor are in work. `Err` where memory was refused.
     pub fn wait_for_column(&mut self, col: u32) -> Result<(), AllocError> {
         for number in self.columns.rows_of(col) {
             if let Some(is_waiting) = self.is_waiting.get_mut(*number as usize) {
@@ -66,7 +67,8 @@ impl Watched {
         Ok(())
     }
 
-    /// Takes a box, and has the rows wait of the columns whose sides differ from those that were seen last.
+    /// Takes a box as seen, and has the rows wait of the columns whose sides differ from those that were seen before.
+    /// `Err` where memory was refused.
     pub fn look(&mut self, sides: &[Sides]) -> Result<(), AllocError> {
         for col in 0..sides.len() {
             let short = u32::try_from(col).unwrap_or(u32::MAX);
@@ -87,13 +89,16 @@ impl Watched {
         self.waiting.clear();
     }
 
-    /// The next row that waits, which waits no longer.
+    /// The next row that waits, which is in work from now on: it doesn't wait again until `end` says that it isn't.
     pub fn next(&mut self) -> Option<u32> {
-        let number = self.waiting.pop()?;
+        self.waiting.pop()
+    }
+
+    /// A row is in work no longer.
+    pub fn end(&mut self, number: u32) {
         if let Some(is_waiting) = self.is_waiting.get_mut(number as usize) {
             *is_waiting = false;
         }
-        Some(number)
     }
 
     /// How many rows wait.

@@ -35,6 +35,7 @@ pub(crate) fn searched(alloc: Global, program: &Program) -> (Ending, Option<Held
     let options = Options {
         nodes: 10_000,
         gap: None,
+        presolve: false,
         plain: true,
         trace: false,
     };

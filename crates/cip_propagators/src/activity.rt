@@ -1,10 +1,11 @@
 //! The propagator of what rows come to in a box.
 ghost use Rattle.std.specs.Prelude.{None, codes};
 
+use cip_frac::Frac;
 use cip_lin::{Row, RowId, Side, Sides};
 use cip_narrowing::{
-    Implied, MOST_REDUCTIONS, Narrowing, Region, Source, Watched, list_implied, multiple_of,
-    reduction_of,
+    Implied, MOST_REDUCTIONS, Narrowing, Patience, Region, Source, Watched, list_implied,
+    multiple_of, reduction_of,
 };
 use cip_plugin::{Plugin, Propagator, Reduction, View};
 use std::alloc::{AllocError, Global};
@@ -14,12 +15,15 @@ const MOST_TERMS: usize = 1 << 20;
 
 /// A propagator: sides of columns that rows of the program imply by the least and the greatest that they come to in the
 /// node's box, and in what its own sides leave of that. A row is looked at again once a side of one of its columns has
-/// changed; the cutoff row in each call.
+/// changed, but not for its own sides; the cutoff row along with others, or once another cost is held. Behind each call
+/// that brought nothing twice as many calls go by until the next that looks.
 #[derive(Drop)]
 pub struct ActivityPropagator {
     watched: Watched,
     sides: Vec<Sides>,
     implied: Vec<Implied>,
+    held: Option<Frac>,
+    patience: Patience,
 }
 
 /// Whether a value lies between these sides.
@@ -78,6 +82,8 @@ impl ActivityPropagator {
             watched: Watched::new(alloc),
             sides: Vec::new(alloc),
             implied: Vec::new(alloc),
+            held: None,
+            patience: Patience::new(),
         }
     }
 
@@ -166,6 +172,7 @@ impl ActivityPropagator {
         reductions: &mut Vec<Reduction>,
     ) -> Result<bool, AllocError> {
         let ends = self.narrow(alloc, view, RowId::Own(number), row, reductions)?;
+        self.watched.end(number);
         if ends {
             self.watched.wait_for(number)?;
         }
@@ -202,10 +209,37 @@ impl ActivityPropagator {
         view: &View<'_>,
         reductions: &mut Vec<Reduction>,
     ) -> Result<(), AllocError> {
-        if self.narrow_by_cost(alloc, view, reductions)? {
+        if !self.narrow_by_cost(alloc, view, reductions)? {
+            self.narrow_by_rows(alloc, view, reductions)?;
+        }
+        self.watched.see(self.sides.as_slice())
+    }
+
+    /// Whether a row waits, or another cost is held than when rows were looked at last.
+    fn has_work(&mut self, view: &View<'_>) -> bool {
+        let is_new = self.held != view.held;
+        self.held = view.held;
+        is_new || self.watched.count() > 0
+    }
+
+    /// Adds what is implied, and notes whether there was anything.
+    fn look_and_narrow(
+        &mut self,
+        alloc: Global,
+        view: &View<'_>,
+        reductions: &mut Vec<Reduction>,
+    ) -> Result<(), AllocError> {
+        self.look(view.bounds.as_slice())?;
+        if !self.has_work(view) {
             return Ok(());
         }
-        self.narrow_by_rows(alloc, view, reductions)
+        self.narrow_all(alloc, view, reductions)?;
+        if reductions.is_empty() {
+            self.patience.lose();
+        } else {
+            self.patience.gain(0);
+        }
+        Ok(())
     }
 }
 
@@ -227,6 +261,8 @@ impl Plugin for ActivityPropagator {
     }
 
     fn init_solve(&mut self, _alloc: Global, view: &View<'_>) -> Result<(), AllocError> {
+        self.held = None;
+        self.patience = Patience::new();
         self.watched
             .take(view.own, view.whole, view.bounds.as_slice())
     }
@@ -240,9 +276,11 @@ impl Plugin for ActivityPropagator {
 
 impl Propagator for ActivityPropagator {
     fn propagate(&mut self, alloc: Global, view: &View<'_>) -> Result<Vec<Reduction>, AllocError> {
-        self.look(view.bounds.as_slice())?;
         let mut reductions = Vec::new(alloc);
-        match self.narrow_all(alloc, view, &mut reductions) {
+        if !self.patience.is_turn() {
+            return Ok(reductions);
+        }
+        match self.look_and_narrow(alloc, view, &mut reductions) {
             Ok(()) => Ok(reductions),
             Err(fault) => Err(fault),
         }

@@ -2,21 +2,46 @@
 ghost use Rattle.std.specs.Prelude.{None, codes};
 
 use crate::cost_rows::CostRow;
+use cip_frac::Frac;
 use cip_lin::{Row, RowMultiple};
-use cip_narrowing::{Implied, Narrowing, Region, Source, list_implied, reduction_of};
+use cip_narrowing::{Implied, Narrowing, Patience, Region, Source, list_implied, reduction_of};
 use cip_plugin::{Plugin, Propagator, Reduction, View};
+use cip_row_sums::{UNIT, cost_of, rough};
 use std::alloc::{AllocError, Global};
 
 // The most sides of a call: each is judged with all rows of the bound.
-const MOST_SIDES: usize = 16;
+const MOST_SIDES: usize = 8;
+
+// So many calls go by behind one that brought sides.
+const REST: u32 = 8;
 
 /// A propagator: where a cost is held, sides of whole columns that the multipliers of the last linear program imply.
 /// Its rows added up with the cutoff row leave minus the reduced costs, so a column with one is near its side at each
-/// point that is cheaper.
+/// point that is cheaper. Behind the root it looks only where the last point's cost is near the one held; eight calls
+/// go by behind one that brought sides, and behind each that brought none twice as many as before.
 #[derive(Drop)]
 pub struct ReducedCostPropagator {
     cost_row: CostRow,
     implied: Vec<Implied>,
+    patience: Patience,
+}
+
+/// Whether what a point costs is less than the cost held by at most a sixteenth of that, roughly.
+fn is_near(costs: &[Frac], point: &[Frac], held: Frac) -> bool {
+    let Some(cost) = cost_of(costs, point) else {
+        return false;
+    };
+    let far = i128::from(rough(held));
+    let gap = far.wrapping_sub(i128::from(cost));
+    gap.wrapping_mul(16) <= far.wrapping_abs().max(i128::from(UNIT))
+}
+
+/// Whether reduced costs may imply sides.
+fn may_pay(view: &View<'_>) -> bool {
+    match (view.point, view.held) {
+        (Some(point), Some(held)) => view.node == 0 || is_near(view.costs, point, held),
+        _ => false,
+    }
 }
 
 /// Whether a column is whole.
@@ -53,6 +78,7 @@ impl ReducedCostPropagator {
         ReducedCostPropagator {
             cost_row: CostRow::new(alloc),
             implied: Vec::new(alloc),
+            patience: Patience::new(),
         }
     }
 
@@ -82,28 +108,33 @@ impl ReducedCostPropagator {
         )
     }
 
-    /// The row of reduced costs, where the last linear program has a point and a cost is held.
+    /// The row of reduced costs, where the last linear program has a combination.
     fn row(&mut self, alloc: Global, view: &View<'_>) -> Result<Option<Row>, AllocError> {
-        let Some(combo) = view.combo else {
-            return Ok(None);
-        };
-        match view.cutoff {
-            Some(cutoff) if view.point.is_some() => self.cost_row.take(alloc, view, combo, cutoff),
+        match (view.combo, view.cutoff) {
+            (Some(combo), Some(cutoff)) => self.cost_row.take(alloc, view, combo, cutoff),
             _ => Ok(None),
         }
     }
 
-    /// Adds what is implied.
+    /// Adds what is implied, where that may pay, and notes whether there was anything.
     fn narrow_all(
         &mut self,
         alloc: Global,
         view: &View<'_>,
         reductions: &mut Vec<Reduction>,
     ) -> Result<(), AllocError> {
-        match self.row(alloc, view)? {
-            Some(row) => self.narrow(alloc, view, &row, reductions),
-            None => Ok(()),
+        if !may_pay(view) || !self.patience.is_turn() {
+            return Ok(());
         }
+        if let Some(row) = self.row(alloc, view)? {
+            self.narrow(alloc, view, &row, reductions)?;
+        }
+        if reductions.is_empty() {
+            self.patience.lose();
+        } else {
+            self.patience.gain(REST);
+        }
+        Ok(())
     }
 }
 
@@ -125,6 +156,7 @@ impl Plugin for ReducedCostPropagator {
     }
 
     fn init_solve(&mut self, _alloc: Global, _view: &View<'_>) -> Result<(), AllocError> {
+        self.patience = Patience::new();
         Ok(())
     }
 

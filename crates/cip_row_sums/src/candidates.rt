@@ -16,7 +16,9 @@ const MOST_FOUND: usize = 200;
 /// The divisor that coefficients have in common, and the sum of the squares of what is left of them.
 #[derive(Clone, Copy)]
 pub struct Measure {
+    /// The divisor; 0 of no coefficient.
     pub divisor: u64,
+    /// The sum of the squares.
     pub square: u128,
 }
 
@@ -47,8 +49,8 @@ pub fn measure_of(terms: &Terms) -> Option<Measure> {
     Some(Measure { divisor, square })
 }
 
-/// The square of how far a point is cut off for the length of the cut, over 2^48: it breaks the cut by so much, roughly
-/// and before the common divisor is taken out.
+/// The square of how far a point is cut off for the length of the cut, over 2^48: it breaks the cut by so much,
+/// roughly, over 2^24 and before the common divisor is taken out. None where that is less than a ten-thousandth.
 pub fn score(broken: i128, measure: Measure) -> Option<u128> {
     let far = broken.checked_div(i128::from(measure.divisor))?;
     if far <= 0 {
@@ -64,8 +66,11 @@ pub fn score(broken: i128, measure: Measure) -> Option<u128> {
 pub struct Candidate {
     /// Its coefficients, without a common divisor.
     pub terms: Terms,
+    /// The sum of their squares.
     pub square: u128,
+    /// What `score` answers.
     pub score: u128,
+    /// The cut, until it is brought.
     pub cut: Option<Cut>,
 }
 
@@ -164,7 +169,7 @@ impl Candidates {
         self.list.len()
     }
 
-    /// Keeps a cut.
+    /// Keeps a cut. `Err` where memory was refused, and then nothing more is to be kept until all are taken away.
     pub fn push(&mut self, candidate: Candidate) -> Result<(), AllocError> {
         let rank = Rank {
             score: candidate.score,
@@ -175,7 +180,8 @@ impl Candidates {
         Ok(())
     }
 
-    /// The best cuts, at most so many, none nearly parallel to a better one.
+    /// The best cuts, at most so many, none nearly parallel to a better one; each is brought once. `Err` where memory
+    /// was refused.
     pub fn choose(&mut self, alloc: Global, most: usize) -> Result<Vec<Cut>, AllocError> {
         self.ranks.sort_unstable();
         let mut cuts = Vec::new(alloc);
@@ -197,7 +203,8 @@ impl Candidates {
     }
 }
 
-/// By how much a row is broken, roughly: what it comes to, over 2^24, less its right side.
+/// By how much a row is broken, roughly and over 2^24: what it comes to, over 2^24, less its right side. None where
+/// that leaves the range.
 pub fn broken_by(sum: i128, right: i128) -> Option<i128> {
     sum.checked_sub(right.checked_mul(i128::from(UNIT))?)
 }

@@ -15,14 +15,16 @@ pub fn empty_combo(alloc: Global) -> Combo {
     }
 }
 
-/// Adds a row, a quotient of two numbers times.
+/// Adds a row, a quotient of two numbers times. `GaveUp` where the quotient is none or leaves the range, `NoMemory`
+/// where memory was refused.
 pub fn push_row(combo: &mut Combo, row: RowId, over: i128, under: i128) -> Result<(), Stop> {
     let factor = found(ratio(over, under))?;
     combo.rows.push(RowMultiple { row, factor })?;
     Ok(())
 }
 
-/// Adds that a way is at least 0, a quotient of two numbers times.
+/// Adds that a way is at least 0, a quotient of two numbers times, unless that is 0. Errors come as of a row, and
+/// `GaveUp` also where the way has no side.
 pub fn push_way(combo: &mut Combo, shift: Shift, over: i128, under: i128) -> Result<(), Stop> {
     let weight = found(ratio(over, under))?;
     if weight.is_zero() {

@@ -13,8 +13,8 @@ pub struct Gains {
     stale: u32,
 }
 
-/// What a point costs, roughly.
-fn cost_of(costs: &[Frac], point: &[Frac]) -> Option<i64> {
+/// What a point costs, roughly, over 2^24; none where that leaves the range.
+pub fn cost_of(costs: &[Frac], point: &[Frac]) -> Option<i64> {
     let mut sum = Frac::zero();
     for (cost, value) in costs.iter().zip(point) {
         sum = with_product(sum, *cost, *value)?;

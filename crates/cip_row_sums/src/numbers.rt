@@ -44,7 +44,7 @@ pub(crate) fn common_multiple(number: i64, denominator: i128) -> Option<i64> {
     kept(i128::from(size).checked_mul(i128::from(part))?)
 }
 
-/// A fraction times a number that its denominator divides, where its size is at most 2^40.
+/// A fraction times a number that its denominator divides, where the product's size is at most 2^40.
 pub fn raised(number: Frac, common: i64) -> Option<i64> {
     let times = i128::from(common).checked_div(number.denominator())?;
     kept(number.numerator().checked_mul(times)?)

@@ -21,10 +21,11 @@ pub enum Aim {
 /// A column's way from one of its sides, and the coefficient of that in a row.
 #[derive(Clone, Copy)]
 pub struct Shift {
+    /// The column.
     pub col: u32,
     /// The coefficient of the way.
     pub coef: i64,
-    /// How long the way roughly is at the last point.
+    /// How long the way roughly is at the last point, over 2^24.
     pub way: i64,
     /// The side; none for a whole column without sides, whose way is its value.
     pub side: Option<Frac>,
@@ -52,7 +53,8 @@ impl Shift {
     }
 }
 
-/// The sides of a column in the node's box, its value at the last point, and whether it is whole.
+/// The sides of a column in the node's box, its value at the last point, and whether it is whole; none where there is
+/// no such column, or no last point.
 pub fn place_of(view: &View<'_>, col: u32) -> Option<(Sides, Frac, bool)> {
     let sides = view.bounds.as_slice().get(col as usize)?;
     let value = view.point?.get(col as usize)?;
@@ -132,7 +134,9 @@ fn shift_of(view: &View<'_>, term: (u32, i64), aim: Aim) -> Option<Shift> {
 /// A row in the ways of its columns, which is at most its right side.
 #[derive(Drop)]
 pub struct Shifted {
+    /// The ways, by rising column.
     pub items: Vec<Shift>,
+    /// What the ways with their coefficients are at most.
     pub right: Frac,
     /// Whether a whole column of it has a value that isn't.
     pub is_fractional: bool,
@@ -148,7 +152,9 @@ impl Shifted {
         }
     }
 
-    /// Takes a row that is at most its right side.
+    /// Takes a row that is at most its right side. `GaveUp` where a side that is wanted isn't there, a side of a whole
+    /// column isn't whole, or a number leaves the range; `NoMemory` where memory was refused. It has nothing of use
+    /// then.
     pub fn take(
         &mut self,
         view: &View<'_>,
@@ -173,7 +179,8 @@ impl Shifted {
         Ok(())
     }
 
-    /// Tells the way of a column whose sides differ by 1 from the other side.
+    /// Tells the way of a column whose sides differ by 1, by its place, from the other side. `GaveUp` where a number
+    /// leaves the range.
     pub fn flip(&mut self, place: usize) -> Result<(), Stop> {
         let Some(item) = self.items.get_mut(place) else {
             return Ok(());

@@ -22,7 +22,7 @@ impl<T: Drop> From<AllocFailed<T>> for Stop {
     }
 }
 
-/// What is there, or that the work gave up.
+/// What is there, or else that the work gave up.
 pub fn found<T>(value: Option<T>) -> Result<T, Stop> {
     match value {
         Some(value) => Ok(value),
@@ -30,7 +30,7 @@ pub fn found<T>(value: Option<T>) -> Result<T, Stop> {
     }
 }
 
-/// Goes on where the work gave up; not where memory was refused.
+/// Goes on where the work gave up. `Err` where memory was refused.
 pub fn unless_refused(outcome: Result<(), Stop>) -> Result<(), AllocError> {
     match outcome {
         Err(Stop::NoMemory) => Err(AllocError),

@@ -28,19 +28,28 @@ pub enum Standing {
 /// A row that stands at a side, with the least number that makes its coefficients whole.
 #[derive(Clone, Copy)]
 pub struct TightRow<'a> {
+    /// Its name.
     pub id: RowId,
+    /// Its terms.
     pub terms: &'a [Term],
+    /// The side at which it stands.
     pub standing: Standing,
+    /// What that side is.
     pub side: Frac,
+    /// The number that makes it whole, from 1 to 2^40.
     pub common: i64,
 }
 
 /// A row of a sum: how often it was taken after it was made whole.
 #[derive(Clone, Copy)]
 pub struct Used {
+    /// Its name.
     pub id: RowId,
+    /// The side at which it stands.
     pub standing: Standing,
+    /// The number that makes it whole.
     pub common: i64,
+    /// How often it was taken behind that, of a size of at most 2^40.
     pub times: i64,
 }
 
@@ -54,7 +63,7 @@ impl Used {
         }
     }
 
-    /// How often the row itself was taken.
+    /// How often the row itself was taken; none where that is above 2^40 in size.
     pub fn factor(&self) -> Option<i64> {
         product(self.times, self.common)
     }
@@ -63,8 +72,11 @@ impl Used {
 /// A row that is added so often, after it was made whole.
 #[derive(Clone, Copy)]
 pub struct Multiple<'a> {
+    /// Its terms.
     pub terms: &'a [Term],
+    /// The number that makes it whole.
     pub common: i64,
+    /// How often it is added.
     pub times: i64,
 }
 
@@ -115,7 +127,8 @@ fn next_both(own: (u32, i64), factor: i64, term: &Term, multiple: Multiple<'_>) 
     })
 }
 
-/// Writes a row times a factor with a multiple of another one added.
+/// Writes a row times a factor with a multiple of another one added, without coefficients of 0. `GaveUp` where a number
+/// is above 2^40 in size, `NoMemory` where memory was refused; a front part is written then.
 pub fn write_sum(
     own: &[(u32, i64)],
     factor: i64,
@@ -149,8 +162,11 @@ pub fn write_sum(
 /// fits.
 #[derive(Drop)]
 pub struct Sum {
+    /// Its rows.
     pub used: Vec<Used>,
+    /// Its coefficients.
     pub terms: Terms,
+    /// What it is at most.
     pub right: Frac,
     spare: Terms,
 }
@@ -166,7 +182,7 @@ impl Sum {
         }
     }
 
-    /// A row alone.
+    /// A row alone. Errors come as of `add`.
     pub fn begin(&mut self, row: &TightRow<'_>) -> Result<(), Stop> {
         self.used.clear();
         self.terms.clear();
@@ -174,7 +190,7 @@ impl Sum {
         self.add(1, row, 1)
     }
 
-    /// A row alone, with the sign by which it is at most the right side.
+    /// A row alone, with the sign by which it is at most the right side. Errors come as of `add`.
     pub fn begin_at_most(&mut self, row: &TightRow<'_>) -> Result<(), Stop> {
         self.begin(row)?;
         if row.standing == Standing::Low {
@@ -183,7 +199,8 @@ impl Sum {
         Ok(())
     }
 
-    /// The sum so often, and a row so often.
+    /// The sum so often, and a row so often. `GaveUp` where a number leaves its range, or there are more than 2,000
+    /// columns; `NoMemory` where memory was refused. It is of use again once it begins with a row.
     pub fn add(&mut self, own: i64, row: &TightRow<'_>, times: i64) -> Result<(), Stop> {
         let multiple = Multiple {
             terms: row.terms,
@@ -232,7 +249,7 @@ impl Sum {
         self.used.iter().any(|used| used.id == id)
     }
 
-    /// The coefficient of a column.
+    /// The coefficient of a column; 0 where it has none.
     pub fn coefficient(&self, col: u32) -> i64 {
         for term in &self.terms {
             if term.0 == col {

@@ -7,12 +7,12 @@ use cip_lin::{Row, RowId, Term};
 use cip_plugin::View;
 use std::alloc::{AllocError, Global};
 
-/// A number that counts rows or columns, of which there are fewer than 2^32.
+/// A number that counts rows or columns, of which there are fewer than 2^32; a greater one counts as 2^32 - 1.
 pub fn short(number: usize) -> u32 {
     u32::try_from(number).unwrap_or(u32::MAX)
 }
 
-/// A row by its name.
+/// A row by its name; none where there is no such row, and of the cutoff row.
 pub fn row_of<'a>(view: &View<'a>, id: RowId) -> Option<&'a Row> {
     match id {
         RowId::Own(number) => view.own.get(number as usize),
@@ -25,8 +25,8 @@ pub fn row_of<'a>(view: &View<'a>, id: RowId) -> Option<&'a Row> {
     }
 }
 
-/// What a row comes to at a point.
-fn activity(terms: &[Term], point: &[Frac]) -> Option<Frac> {
+/// What terms come to at a point; none where a column has no value there, or that leaves the range.
+pub fn activity(terms: &[Term], point: &[Frac]) -> Option<Frac> {
     let mut sum = Frac::zero();
     for term in terms {
         let value = point.get(term.col as usize)?;
@@ -64,7 +64,8 @@ fn common_of(terms: &[Term]) -> Option<i64> {
     Some(common)
 }
 
-/// A row with the side at which it stands.
+/// A row with the side at which it stands; none where the row or the side isn't there, or the number that makes the row
+/// whole is above 2^40.
 pub fn tight_row<'a>(view: &View<'a>, id: RowId, standing: Standing) -> Option<TightRow<'a>> {
     let row = row_of(view, id)?;
     let side = match standing {
@@ -95,7 +96,7 @@ impl Standings {
         }
     }
 
-    /// Takes a point.
+    /// Takes a point. `Err` where memory was refused.
     pub fn take(&mut self, view: &View<'_>, point: &[Frac]) -> Result<(), AllocError> {
         self.list.clear();
         for row in view.own {
@@ -112,7 +113,7 @@ impl Standings {
         self.list.len()
     }
 
-    /// That of a row.
+    /// That of a row by its place; `Between` where there is none.
     pub fn get(&self, place: usize) -> Standing {
         match self.list.get(place) {
             Some(standing) => *standing,
@@ -130,7 +131,7 @@ pub(crate) fn id_at(view: &View<'_>, place: usize) -> Option<RowId> {
     Some(RowId::Pool(kept.id))
 }
 
-/// A row with the side at which it stands, or that the work gave up.
+/// A row by its place with the side at which it stands. `GaveUp` where `tight_row` has none.
 pub fn tight_at<'a>(
     view: &View<'a>,
     standings: &Standings,

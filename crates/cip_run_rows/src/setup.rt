@@ -23,6 +23,8 @@ pub struct Setup<'a> {
     pub log: bool,
     /// Whether all smaller pieces are tried too.
     pub alike: bool,
+    /// Whether the built-in plugins serve.
+    pub builtins: bool,
     ghost some: { 0 < piece },
 }
 
@@ -37,6 +39,7 @@ impl<'a> Setup<'a> {
             entries: false,
             log: false,
             alike: false,
+            builtins: false,
         }
     }
 
@@ -52,6 +55,7 @@ impl<'a> Setup<'a> {
             ("entries", "") => self.entries = true,
             ("log", "") => self.log = true,
             ("alike", "") => self.alike = true,
+            ("builtins", "") => self.builtins = true,
             _ => return None,
         }
         Some(())

@@ -3,6 +3,7 @@ ghost use Rattle.std.specs.Prelude.{◌<◌};
 
 use crate::row::Row;
 use crate::setup::Setup;
+use cip_builtins::run_with_builtins;
 use cip_io::MemorySink;
 use cip_main::{Log, Mark, no_plugins, run};
 use std::alloc::{AllocError, Global};
@@ -34,9 +35,13 @@ fn outcome_of(
     let words = row.words(alloc, own)?;
     let mut store = row.store(alloc, setup, piece)?;
     let mut out = MemorySink::new(alloc, setup.room)?;
-    let mut kit = no_plugins(alloc);
     let mut logs = Vec::new(alloc);
-    let status = run(alloc, &words, &mut store, &mut out, &mut kit, &mut logs);
+    let status = if setup.builtins {
+        run_with_builtins(alloc, &words, &mut store, &mut out, &mut logs)?
+    } else {
+        let mut kit = no_plugins(alloc);
+        run(alloc, &words, &mut store, &mut out, &mut kit, &mut logs)
+    };
     Ok(Outcome { status, out, logs })
 }
 

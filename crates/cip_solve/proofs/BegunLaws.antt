@@ -1,5 +1,5 @@
 -- What a search begins with.
-use Rattle.std.proofs.Common.{◌≡◌, inl, inr, ℕ, Bool, false, true≢false, List, [], ◌∷◌, Option, None, Some, IfSome, refl, sym, ◌∙◌, subst, arith}
+use Rattle.std.proofs.Common.{◌≡◌, inl, inr, ℕ, Bool, true, true≢false, List, [], ◌∷◌, Option, None, Some, IfSome, refl, sym, ◌∙◌, subst, arith}
 use Rattle.cip_rational.specs.Rational.{ℚ}
 use Rattle.cip_rational.proofs.Rational.Order.{≤ℚ_trans}
 use Rattle.cip_problem.specs.Program.{Program}
@@ -156,33 +156,33 @@ module _ (program : Program) (start : Option ℚ) (holds : IfSome start (IsBound
   }
 
 -- nor by whatever would have worked on nodes
-pub unsearched_by : (program : Program) (nodes : ℕ) (asked : Option ℚ) (plain : Bool) (log : List Entry) (marks : List (ℕ × Mark)) (answer : ends.Answer) → log ≡ [] → marks ≡ [] → IsSolved program nodes asked [] [] answer → IsSolvedBy program nodes asked plain log marks answer
-unsearched_by program nodes asked plain log marks answer l m s =
-    subst (λ entries. IsSolvedBy program nodes asked plain entries marks answer) (sym l)
-    (subst (λ of_them. IsSolvedBy program nodes asked plain [] of_them answer) (sym m) (record {
+pub unsearched_by : (program : Program) (nodes : ℕ) (asked : Option ℚ) (presolve alone : Bool) (log : List Entry) (marks : List (ℕ × Mark)) (answer : ends.Answer) → log ≡ [] → marks ≡ [] → IsSolved program nodes asked [] [] answer → IsSolvedBy program nodes asked presolve alone log marks answer
+unsearched_by program nodes asked presolve alone log marks answer l m s =
+    subst (λ entries. IsSolvedBy program nodes asked presolve alone entries marks answer) (sym l)
+    (subst (λ of_them. IsSolvedBy program nodes asked presolve alone [] of_them answer) (sym m) (record {
       start = s.start;
       root = s.root;
       right = s.right;
       shown = s.shown;
       taken = λ e. s.taken refl;
-      met = λ e. s.met refl;
+      met = λ e a. s.met refl refl;
     }))
 
 -- ---- presolve showed that no point is feasible
 
-pub infeasible_at_once : (program : Program) (start : Option ℚ) (nodes : ℕ) (asked : Option ℚ) → IsRootBound program start → IsInfeasible program → IsSolvedBy program nodes asked false [] [] (record { ended = ends.Infeasible; held = None; bound = None })
-infeasible_at_once program start nodes asked root none = record {
+pub infeasible_at_once : (program : Program) (start : Option ℚ) (nodes : ℕ) (asked : Option ℚ) (alone : Bool) → IsRootBound program start → IsInfeasible program → IsSolvedBy program nodes asked true alone [] [] (record { ended = ends.Infeasible; held = None; bound = None })
+infeasible_at_once program start nodes asked alone root none = record {
   start = start;
   root = root;
   right = ends_at_once program start nodes asked none;
   shown = λ ray e. absurd (cc);
-  taken = λ e. absurd (true≢false (sym e));
-  met = λ e. absurd (true≢false (sym e));
+  taken = λ e. absurd (true≢false e);
+  met = λ e. absurd (true≢false e);
 }
 
--- nobody was asked, so the search wasn't plain
-pub infeasible_by : (program : Program) (nodes : ℕ) (asked : Option ℚ) (plain : Bool) (log : List Entry) (marks : List (ℕ × Mark)) (answer : ends.Answer) → plain ≡ false → log ≡ [] → marks ≡ [] → IsSolvedBy program nodes asked false [] [] answer → IsSolvedBy program nodes asked plain log marks answer
-infeasible_by program nodes asked plain log marks answer p l m s =
-    subst (λ test. IsSolvedBy program nodes asked test log marks answer) (sym p)
-    (subst (λ entries. IsSolvedBy program nodes asked false entries marks answer) (sym l)
-    (subst (λ of_them. IsSolvedBy program nodes asked false [] of_them answer) (sym m) s))
+-- so the program was to be presolved
+pub infeasible_by : (program : Program) (nodes : ℕ) (asked : Option ℚ) (presolve alone : Bool) (log : List Entry) (marks : List (ℕ × Mark)) (answer : ends.Answer) → presolve ≡ true → log ≡ [] → marks ≡ [] → IsSolvedBy program nodes asked true alone [] [] answer → IsSolvedBy program nodes asked presolve alone log marks answer
+infeasible_by program nodes asked presolve alone log marks answer p l m s =
+    subst (λ test. IsSolvedBy program nodes asked test alone log marks answer) (sym p)
+    (subst (λ entries. IsSolvedBy program nodes asked true alone entries marks answer) (sym l)
+    (subst (λ of_them. IsSolvedBy program nodes asked true alone [] of_them answer) (sym m) s))

@@ -1,5 +1,5 @@
 -- What becomes of a kit: the room for its plugins stays, and it is told by whether anybody is asked.
-use Rattle.std.proofs.Common.{◌≡◌, inr, ℕ, ◌+◌, ◌≤◌, Bool, true, false, ◌||◌, List, [], Option, None, refl, sym, ◌∙◌, subst, true≢false}
+use Rattle.std.proofs.Common.{◌≡◌, inr, ℕ, ◌+◌, ◌≤◌, Bool, true, false, List, [], Option, None, refl, sym, subst}
 use Rattle.cip_events.specs.declared.traces.Trace.{Trace}
 use Rattle.cip_problem.specs.Log.{Entry}
 use Rattle.cip_seats.specs.Seats.{State}
@@ -24,8 +24,3 @@ left_alone kept log stock trace e = record { same = refl; untold = e }
 pub nobody_called : (alone kept : Bool) (log : List Entry) (stock : Stock) (trace : Option Trace) → log ≡ [] → trace ≡ None → IsKitAfter alone kept log stock stock trace
 nobody_called true kept log stock trace l e = record { same = refl; untold = e }
 nobody_called false kept log stock trace l e = inr (record { same = refl; untold = e }, l)
-
--- where somebody is asked, the search isn't plain
-pub not_plain : (plain bare alone : Bool) → alone ≡ (plain || bare) → alone ≡ false → plain ≡ false
-not_plain true bare alone e f = absurd (true≢false (sym e ∙ f))
-not_plain false bare alone e f = refl

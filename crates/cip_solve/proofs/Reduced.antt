@@ -7,14 +7,14 @@ use Rattle.cip_processing.specs.PresolvedPrograms.{IsPresolved, IsUnchanged}
 use Rattle.cip_core.specs.Beginning.{AreNearColumns}
 use Rattle.cip_solve.specs.Reducing.{CanBeSearched}
 
-pub itself_searched : (plain : Bool) (program : Program) (presolved : Presolved) → AreNearColumns program → IsPresolved program presolved → IsUnchanged program presolved → CanBeSearched plain program presolved
-itself_searched plain program presolved near b u = record {
+pub itself_searched : (presolve : Bool) (program : Program) (presolved : Presolved) → AreNearColumns program → IsPresolved program presolved → IsUnchanged program presolved → CanBeSearched presolve program presolved
+itself_searched presolve program presolved near b u = record {
   back = b;
   near = subst AreNearColumns (sym u.reduced) near;
   same = λ e. u;
 }
 
 -- the program itself, if there was memory for it
-pub each_itself : {E : Type 0} (plain : Bool) (program : Program) (r : Result Presolved E) → AreNearColumns program → IfOk r (IsPresolved program) → IfOk r (IsUnchanged program) → IfOk r (CanBeSearched plain program)
-each_itself plain program (Ok presolved) near b u = itself_searched plain program presolved near b u
-each_itself plain program (Err error) near b u = tt
+pub each_itself : {E : Type 0} (presolve : Bool) (program : Program) (r : Result Presolved E) → AreNearColumns program → IfOk r (IsPresolved program) → IfOk r (IsUnchanged program) → IfOk r (CanBeSearched presolve program)
+each_itself presolve program (Ok presolved) near b u = itself_searched presolve program presolved near b u
+each_itself presolve program (Err error) near b u = tt

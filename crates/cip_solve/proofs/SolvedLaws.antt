@@ -13,7 +13,8 @@ use Rattle.cip_core.specs.CoreStates.{CoreState, reduced_of, way_of}
 use Rattle.cip_solve.specs.Answered.{IsAnswered}
 use Rattle.cip_solve.specs.FirstStops.{StopsFirst}
 use Rattle.cip_solve.specs.Logs.{renamed}
-use Rattle.cip_solve.specs.Reducing.{IsOfReduced, IsPlain}
+use Rattle.cip_processing.specs.PresolvedPrograms.{IsUnchanged}
+use Rattle.cip_solve.specs.Reducing.{IsOfReduced}
 use Rattle.cip_solve.specs.Searching.{IsAtRoot, IsSameSearch, IsWritten, WasShort, CanBeSeen}
 use Rattle.cip_solve.specs.Solved.{AreMet, IsSolvedBy}
 use Rattle.cip_solve.specs.SplitsServed.{split_count, splits_in}
@@ -50,29 +51,29 @@ module _ (old new : CoreState) (presolved : Presolved) (root : IsAtRoot old) (of
       subst (λ (p : Program). CanBeSeen p (reduced_of new) kept) (sym same.program)
       (subst (λ (r : Program). CanBeSeen old.program r kept) (sym same.reduced) seen_at_first)
 
-  -- where the search was plain, marks say what was met
-  met_at_last : (asks : Bool) (log : List Entry) (marks : List (ℕ × Mark)) → (asks ≡ false → new.touched ≡ old.touched) → IsWritten new marks → log ≡ new.tree.log → IsPlain asks old.program presolved → AreMet old.program old.tree.root.bound (log_seen kept log) marks
-  met_at_last asks log marks touched written l p =
-      let met = written.met (touched p.unasked ∙ root.plain) in
-      let reduced : reduced_of new ≡ old.program = same.reduced ∙ (of_them.reduced_is ∙ p.same.reduced) in
-      let entries : new.tree.log ≡ log_seen kept log = sym l ∙ sym (log_unchanged presolved.kept.items (columns old.program) log p.same.kept) in
+  -- where nobody was asked and nothing presolved, marks say what was met
+  met_at_last : (asks : Bool) (log : List Entry) (marks : List (ℕ × Mark)) → (asks ≡ false → new.touched ≡ old.touched) → IsWritten new marks → log ≡ new.tree.log → asks ≡ false → IsUnchanged old.program presolved → AreMet old.program old.tree.root.bound (log_seen kept log) marks
+  met_at_last asks log marks touched written l unasked p =
+      let met = written.met (touched unasked ∙ root.plain) in
+      let reduced : reduced_of new ≡ old.program = same.reduced ∙ (of_them.reduced_is ∙ p.reduced) in
+      let entries : new.tree.log ≡ log_seen kept log = sym l ∙ sym (log_unchanged presolved.kept.items (columns old.program) log p.kept) in
       subst (λ (r : Program). AreMet r old.tree.root.bound (log_seen kept log) marks) reduced
       (subst (λ (n : Node). AreMet (reduced_of new) n.bound (log_seen kept log) marks) same.root
       (subst (λ t. AreMet (reduced_of new) new.tree.root.bound t marks) entries met))
 
-  pub solved_by : (asks plain : Bool) (nodes : ℕ) (asked : Option ℚ) (log taken : List Entry) (marks last : List (ℕ × Mark)) (answer : ends.Answer) → (asks ≡ false → new.touched ≡ old.touched) → IsWritten new marks → log ≡ new.tree.log → ((kept : ℕ → ℕ) → CanBeSeen new.program (reduced_of new) kept → IsAnswered new.program new.tree.root.bound nodes asked (log_seen kept log) marks answer) → taken ≡ log_seen kept log → last ≡ marks → (plain ≡ true → IsPlain asks old.program presolved) → IsSolvedBy old.program nodes asked plain taken last answer
-  solved_by asks plain nodes asked log taken marks last answer touched written l right t m p =
+  pub solved_by : (asks presolve alone : Bool) (nodes : ℕ) (asked : Option ℚ) (log taken : List Entry) (marks last : List (ℕ × Mark)) (answer : ends.Answer) → (asks ≡ false → new.touched ≡ old.touched) → IsWritten new marks → log ≡ new.tree.log → ((kept : ℕ → ℕ) → CanBeSeen new.program (reduced_of new) kept → IsAnswered new.program new.tree.root.bound nodes asked (log_seen kept log) marks answer) → taken ≡ log_seen kept log → last ≡ marks → (presolve ≡ false → IsUnchanged old.program presolved) → (alone ≡ true → asks ≡ false) → IsSolvedBy old.program nodes asked presolve alone taken last answer
+  solved_by asks presolve alone nodes asked log taken marks last answer touched written l right t m p q =
       let told : IsAnswered old.program old.tree.root.bound nodes asked (log_seen kept log) marks answer =
       subst (λ (p : Program). IsAnswered p old.tree.root.bound nodes asked (log_seen kept log) marks answer) same.program
       (subst (λ (n : Node). IsAnswered new.program n.bound nodes asked (log_seen kept log) marks answer) same.root (right kept seen_at_last)) in
-      subst (λ entries. IsSolvedBy old.program nodes asked plain entries last answer) (sym t)
-      (subst (λ of_marks. IsSolvedBy old.program nodes asked plain (log_seen kept log) of_marks answer) (sym m) (record {
+      subst (λ entries. IsSolvedBy old.program nodes asked presolve alone entries last answer) (sym t)
+      (subst (λ of_marks. IsSolvedBy old.program nodes asked presolve alone (log_seen kept log) of_marks answer) (sym m) (record {
         start = old.tree.root.bound;
         root = root.root;
         right = told.right;
         shown = told.shown;
         taken = λ e. told.taken;
-        met = λ e. met_at_last asks log marks touched written l (p e);
+        met = λ e a. met_at_last asks log marks touched written l (q a) (p e);
       }))
 
   pub stops_first : (asked : Option ℚ) (log taken : List Entry) → log ≡ new.tree.log → taken ≡ log_seen kept log → WasShort old.program (reduced_of old) (way_of old) old.tree.root.bound asked new.tree.log → StopsFirst old.program asked taken

@@ -8,16 +8,16 @@ use Rattle.cip_processing.specs.PresolvedPrograms.{IsPresolved, IsUnchanged}
 use Rattle.cip_core.specs.Beginning.{AreNearColumns}
 use Rattle.cip_core.specs.CoreStates.{CoreState}
 
--- a reduced program may be searched in place of a program; where the search is plain it is the program itself
-pub record CanBeSearched (plain : Bool) (program : Program) (presolved : Presolved) : Type 0 where
+-- a reduced program may be searched in place of a program; where nothing may be presolved it is the program itself
+pub record CanBeSearched (presolve : Bool) (program : Program) (presolved : Presolved) : Type 0 where
   pub back : IsPresolved program presolved
   pub near : AreNearColumns presolved.reduced
-  pub same : plain ≡ true → IsUnchanged program presolved
+  pub same : presolve ≡ false → IsUnchanged program presolved
 
--- a reduced program to be searched, or none, as no point is feasible; a plain search always has one
-abbrev pub IsReducedFor : (plain : Bool) → Program → Option Presolved → Type 0
-IsReducedFor plain program None = (plain ≡ false) × IsInfeasible program
-IsReducedFor plain program (Some presolved) = CanBeSearched plain program presolved
+-- a reduced program to be searched, or none, as presolve showed that no point is feasible
+abbrev pub IsReducedFor : (presolve : Bool) → Program → Option Presolved → Type 0
+IsReducedFor presolve program None = (presolve ≡ true) × IsInfeasible program
+IsReducedFor presolve program (Some presolved) = CanBeSearched presolve program presolved
 
 -- a core searches what presolve made of its program
 pub record IsOfReduced (core : CoreState) (presolved : Presolved) : Type 0 where
@@ -26,8 +26,3 @@ pub record IsOfReduced (core : CoreState) (presolved : Presolved) : Type 0 where
   pub steps_are : core.steps ≡ presolved.steps
   pub formed : IsWellFormed core.program
   pub left : IsWellFormed core.reduced
-
--- a search is plain: no plugin is asked, and the program is searched itself
-pub record IsPlain (asks : Bool) (program : Program) (presolved : Presolved) : Type 0 where
-  pub unasked : asks ≡ false
-  pub same : IsUnchanged program presolved

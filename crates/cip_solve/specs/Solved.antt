@@ -1,5 +1,5 @@
 -- What solving a program comes to.
-use Rattle.std.specs.Prelude.{◌≡◌, ℕ, ◌≤◌, Bool, true, List, [], Option, None, Some, option_map}
+use Rattle.std.specs.Prelude.{◌≡◌, ℕ, ◌≤◌, Bool, true, false, List, [], Option, None, Some, option_map}
 use Rattle.std.specs.List.{Contains}
 use Rattle.cip_rational.specs.Rational.{ℚ}
 use Rattle.cip_problem.specs.Program.{Program}
@@ -45,23 +45,23 @@ RayIsShown program answer =
     → IsShownBeside program (option_map (λ held. held.point) answer.held) ray
 
 -- the answer of a search from the root's bound on, with its log and the marks of nodes by their numbers; `nodes` is the
--- budget, `asked` the gap that was asked for, if one was, and `plain` says that the search was plain: no plugin was
--- asked, and the program was searched itself, without presolve
+-- budget, `asked` the gap that was asked for, if one was; `presolved` says whether presolve might reduce the program
+-- first, and `alone` that no plugin was asked
 pub record IsSolvedBy
-    (program : Program) (nodes : ℕ) (asked : Option ℚ) (plain : Bool) (log : List Entry) (marks : List (ℕ × Mark))
-    (answer : Answer) : Type 0 where
+    (program : Program) (nodes : ℕ) (asked : Option ℚ) (presolved alone : Bool) (log : List Entry)
+    (marks : List (ℕ × Mark)) (answer : Answer) : Type 0 where
   pub start : Option ℚ
   pub root : IsRootBound program start
   pub right : IsSearchAnswer program start nodes asked log (numbers_of marks) answer
   -- a ray is one that the check of rays accepts beside the point held
   pub shown : RayIsShown program answer
-  -- where the search was plain, a node was taken, unless memory was refused
-  pub taken : plain ≡ true → log ≡ [] → answer.ended ≡ NoMemory
-  -- and marks say what the linear programs of their nodes met: those of a reduced program, or of one with rows that
-  -- plugins added, aren't the program's
-  pub met : plain ≡ true → AreMet program start log marks
+  -- where nothing was presolved, a node was taken, unless memory was refused
+  pub taken : presolved ≡ false → log ≡ [] → answer.ended ≡ NoMemory
+  -- and where nobody was asked either, marks say what the linear programs of their nodes met: those of a reduced
+  -- program, or of one with rows that plugins added, aren't the program's
+  pub met : presolved ≡ false → alone ≡ true → AreMet program start log marks
 
--- so it is of a plain search
+-- so it is of a search without presolve and without plugins
 abbrev pub IsSolved
     : Program → ℕ → Option ℚ → List Entry → List (ℕ × Mark) → Answer → Type 0
-IsSolved program nodes asked log marks answer = IsSolvedBy program nodes asked true log marks answer
+IsSolved program nodes asked log marks answer = IsSolvedBy program nodes asked false true log marks answer

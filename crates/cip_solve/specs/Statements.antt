@@ -13,6 +13,6 @@ use Rattle.cip_solve.specs.Solved.{IsSolvedBy}
 -- an answer can be printed
 abbrev pub AnswersFit : Type 0
 AnswersFit =
-    (program : Program) (nodes : ℕ) (asked : Option ℚ) (plain : Bool) (log : List Entry) (marks : List (ℕ × Mark))
-    (answer : Answer) → IsWellFormed program → IsSolvedBy program nodes asked plain log marks (answer_of answer)
-    → AnswerFits program answer
+    (program : Program) (nodes : ℕ) (asked : Option ℚ) (presolved alone : Bool) (log : List Entry)
+    (marks : List (ℕ × Mark)) (answer : Answer) → IsWellFormed program
+    → IsSolvedBy program nodes asked presolved alone log marks (answer_of answer) → AnswerFits program answer

@@ -1,6 +1,6 @@
 //! The answer of a search that has stopped. A log of the reduced program is seen in the program as read, with the old
 //! numbers of its columns.
-ghost use Rattle.std.specs.Prelude.{◌≡◌, ℕ, List, Option, ◌<◌, length, Bool, true, None, IfSome};
+ghost use Rattle.std.specs.Prelude.{◌≡◌, ℕ, List, Option, ◌<◌, length, Bool, true, false, None, IfSome};
 ghost use Rattle.cip_rational.specs.Rational.{ℚ};
 ghost use Rattle.cip_problem.specs.Program.{Program};
 ghost use Rattle.cip_problem.specs.Log.{Entry};
@@ -9,12 +9,13 @@ ghost use Rattle.cip_search.specs.SearchState.{WayBack};
 ghost use Rattle.cip_seen.specs.SeenLogs.{log_seen};
 ghost use Rattle.cip_tree.specs.Nodes.{Nodes};
 ghost use Rattle.cip_node_bounds.specs.declared.relaxed.Mark.{Mark};
+ghost use Rattle.cip_processing.specs.PresolvedPrograms.{IsUnchanged};
 ghost use Rattle.cip_core.specs.CoreStates.{reduced_of};
 ghost use Rattle.cip_core.specs.KeptNodes.{IsHolding};
 ghost use Rattle.cip_endings.specs.AnswerOf.{answer_of};
 ghost use Rattle.cip_solve.specs.FirstStops.{StopsFirst};
 ghost use Rattle.cip_solve.specs.Logs.{entries_of};
-ghost use Rattle.cip_solve.specs.Reducing.{IsOfReduced, IsPlain};
+ghost use Rattle.cip_solve.specs.Reducing.{IsOfReduced};
 ghost use Rattle.cip_solve.specs.Searching.{IsAtRoot, IsEndless, CanBeSeen};
 ghost use Rattle.cip_solve.specs.Searching.{StopsStill, StopsEndless, StopsRefused, IsWithin, IsWithinAt};
 ghost use Rattle.cip_solve.specs.Stops.{StopsAt};
@@ -211,8 +212,9 @@ pub(crate) fn search_from<W: Works>(
     requires some { 0 < options.now.nodes }
     requires point { length begun.point.items ≡ columns begun.work.core.program }
     requires ready { W.is_ready works.old (columns (reduced_of begun.work.core)) }
-    ensures solved { (plain : Bool) → (plain ≡ true → IsPlain W.asks begun.entry.work.core.program presolved.now)
-        → IsSolvedBy begun.entry.work.core.program options.now.nodes options.now.gap plain (entries_of log.new)
+    ensures solved { (presolve alone : Bool)
+        → (presolve ≡ false → IsUnchanged begun.entry.work.core.program presolved.now) → (alone ≡ true → W.asks ≡ false)
+        → IsSolvedBy begun.entry.work.core.program options.now.nodes options.now.gap presolve alone (entries_of log.new)
         log.new.marks.items (answer_of result) }
     ensures nodes { result.nodes ≡ length (entries_of log.new) }
     ensures untraced { result.trace ≡ None }

@@ -13,6 +13,7 @@ mod works;
 
 pub use asking::Asking;
 pub use cip_core::{Asked, Core};
+pub use cip_kits::set_aside;
 pub use cip_node_bounds::Mark;
 pub use cip_presolve::{PresolveEnd, presolve};
 pub use cip_processing::{

@@ -9,7 +9,7 @@ ghost use Rattle.cip_solve.specs.Reducing.{IsReducedFor, CanBeSearched};
 use cip_frac::Frac;
 use cip_lin::Sides;
 use cip_model::Program;
-use cip_presolve::{PresolveEnd, presolve};
+use cip_presolve::{PresolveEnd, presolve as reduce};
 use cip_processing::Presolved;
 use std::alloc::{AllocError, Global};
 
@@ -65,7 +65,7 @@ fn has_near_columns(program: &Program) -> bool
 fn nearer(alloc: Global, program: &Program, presolved: Presolved) -> Result<Presolved, AllocError>
     requires near { AreNearColumns program.now }
     requires back { IsPresolved program.now presolved }
-    ensures { IfOk result (CanBeSearched false program.now) }
+    ensures { IfOk result (CanBeSearched true program.now) }
 {
     if has_near_columns(&presolved.reduced) {
         return Ok(presolved);
@@ -73,21 +73,21 @@ fn nearer(alloc: Global, program: &Program, presolved: Presolved) -> Result<Pres
     Presolved::same(alloc, program)
 }
 
-/// What is searched in place of a program: what presolve makes of it, unless the search is to be plain, when it is the
-/// program itself; `None` where presolve finds that no point is feasible. `Err` comes where memory was refused.
+/// What is searched in place of a program: what presolve makes of it, where it may be presolved, and else the program
+/// itself; `None` where presolve finds that no point is feasible. `Err` comes where memory was refused.
 pub(crate) fn reduced_for(
     alloc: Global,
     program: &Program,
-    plain: bool,
+    presolve: bool,
 ) -> Result<Option<Presolved>, AllocError>
     requires { AreNearColumns program.now }
-    ensures { IfOk result (IsReducedFor plain program.now) }
+    ensures { IfOk result (IsReducedFor presolve program.now) }
 {
-    if plain {
-        return Ok(Some(Presolved::same(alloc, program)?));
+    if presolve {
+        return match reduce(alloc, program)? {
+            PresolveEnd::NoPoint { .. } => Ok(None),
+            PresolveEnd::Reduced(presolved) => Ok(Some(nearer(alloc, program, presolved)?)),
+        };
     }
-    match presolve(alloc, program)? {
-        PresolveEnd::NoPoint { .. } => Ok(None),
-        PresolveEnd::Reduced(presolved) => Ok(Some(nearer(alloc, program, presolved)?)),
-    }
+    Ok(Some(Presolved::same(alloc, program)?))
 }

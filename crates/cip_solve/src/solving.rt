@@ -3,14 +3,14 @@ ghost use Rattle.std.specs.Prelude.{◌≡◌, ℕ, Bool, true, false, Option, N
 ghost use Rattle.cip_rational.specs.Rational.{ℚ};
 ghost use Rattle.cip_problem.specs.WellFormed.{columns};
 ghost use Rattle.cip_reductions.specs.NarrowedPrograms.{IsInfeasible};
-ghost use Rattle.cip_processing.specs.PresolvedPrograms.{IsPresolved};
+ghost use Rattle.cip_processing.specs.PresolvedPrograms.{IsPresolved, IsUnchanged};
 ghost use Rattle.cip_core.specs.Beginning.{AreNearColumns};
 ghost use Rattle.cip_endings.specs.AnswerOf.{answer_of};
 ghost use Rattle.cip_kits.specs.Kits.{stock_of, IsFew};
 ghost use Rattle.cip_solve.specs.FirstStops.{StopsFirst};
 ghost use Rattle.cip_solve.specs.KitsServed.{is_alone, IsKitAfter};
 ghost use Rattle.cip_solve.specs.Logs.{entries_of};
-ghost use Rattle.cip_solve.specs.Reducing.{CanBeSearched, IsPlain};
+ghost use Rattle.cip_solve.specs.Reducing.{CanBeSearched};
 ghost use Rattle.cip_solve.specs.Solved.{IsSolved, IsSolvedBy};
 ghost use Rattle.cip_solve.specs.SplitsServed.{splits_in, HasServed};
 
@@ -36,8 +36,9 @@ pub struct Options {
     /// The gap that is asked for, if one is, in the units of the cost: the search ends once a point is held, a bound is
     /// there, and the cost less the bound is in range, above 0 and at most this.
     pub gap: Option<Frac>,
-    /// Whether it goes without presolve and without plugins: it searches the program itself, and leaves the kit that it
-    /// is given as it is.
+    /// Whether presolve may reduce the program first; else the program itself is searched.
+    pub presolve: bool,
+    /// Whether it goes without plugins, and leaves the kit that it is given as it is.
     pub plain: bool,
     /// Whether what the plugins were called for is told, line by line.
     pub trace: bool,
@@ -62,8 +63,8 @@ pub fn unsearched(program: &Program) -> Answer
 /// The answer where presolve has shown that no point is feasible: no node is taken.
 fn infeasible(program: &Program) -> Answer
     requires { IsInfeasible program.now }
-    ensures solved { (nodes : ℕ) (asked : Option ℚ)
-        → IsSolvedBy program.now nodes asked false [] [] (answer_of result) }
+    ensures solved { (nodes : ℕ) (asked : Option ℚ) (alone : Bool)
+        → IsSolvedBy program.now nodes asked true alone [] [] (answer_of result) }
     ensures nodes { result.nodes ≡ 0 }
     ensures trace { result.trace ≡ None }
     ensures first { (asked : Option ℚ) → StopsFirst program.now asked [] }
@@ -96,9 +97,10 @@ pub fn solve_by<W: Works>(
     requires back { IsPresolved program.now presolved.now }
     requires some { 0 < options.now.nodes }
     requires ready { W.is_ready works.old (columns presolved.now.reduced) }
-    ensures solved { (plain : Bool) → (plain ≡ true → IsPlain W.asks program.now presolved.now)
-        → IsSolvedBy program.now options.now.nodes options.now.gap plain (entries_of log.new) log.new.marks.items
-        (answer_of result) }
+    ensures solved { (presolve alone : Bool) → (presolve ≡ false → IsUnchanged program.now presolved.now)
+        → (alone ≡ true → W.asks ≡ false)
+        → IsSolvedBy program.now options.now.nodes options.now.gap presolve alone (entries_of log.new)
+        log.new.marks.items (answer_of result) }
     ensures nodes { result.nodes ≡ length (entries_of log.new) }
     ensures trace { result.trace ≡ None }
     ensures first { StopsFirst program.now options.now.gap (entries_of log.new) }
@@ -131,10 +133,11 @@ fn solve_with(
 ) -> Answer
     requires near { AreNearColumns presolved.now.reduced }
     requires back { IsPresolved program.now presolved.now }
+    requires same { options.now.presolve ≡ false → IsUnchanged program.now presolved.now }
     requires some { 0 < options.now.nodes }
     requires few { IsFew (stock_of ⟦<AnyPlugin as Tells>⟧.who kit.old) }
-    ensures solved { IsSolvedBy program.now options.now.nodes options.now.gap false (entries_of log.new)
-        log.new.marks.items (answer_of result) }
+    ensures solved { IsSolvedBy program.now options.now.nodes options.now.gap options.now.presolve false
+        (entries_of log.new) log.new.marks.items (answer_of result) }
     ensures nodes { result.nodes ≡ length (entries_of log.new) }
     ensures first { StopsFirst program.now options.now.gap (entries_of log.new) }
     ensures kit { IsKitAfter false options.now.trace (entries_of log.new) (stock_of ⟦<AnyPlugin as Tells>⟧.who kit.old)
@@ -167,10 +170,11 @@ fn solve_reduced(
     kit: &mut Kit,
     log: &mut Log,
 ) -> Answer
-    requires can { CanBeSearched options.now.plain program.now presolved.now }
+    requires can { CanBeSearched options.now.presolve program.now presolved.now }
     requires some { 0 < options.now.nodes }
     requires few { IsFew (stock_of ⟦<AnyPlugin as Tells>⟧.who kit.old) }
-    ensures solved { IsSolvedBy program.now options.now.nodes options.now.gap options.now.plain (entries_of log.new)
+    ensures solved { IsSolvedBy program.now options.now.nodes options.now.gap options.now.presolve
+        (is_alone options.now.plain (stock_of ⟦<AnyPlugin as Tells>⟧.who kit.old)) (entries_of log.new)
         log.new.marks.items (answer_of result) }
     ensures nodes { result.nodes ≡ length (entries_of log.new) }
     ensures first { StopsFirst program.now options.now.gap (entries_of log.new) }
@@ -186,10 +190,10 @@ fn solve_reduced(
 
 /// Searches for a feasible point of least cost: presolve reduces the program, and what it makes of it is searched, with
 /// the plugins of a kit, whatever these answer; the point, the leaf that is shown, a ray, and the log are of the
-/// program itself. Where the options are plain, the program itself is searched, without plugins. Where presolve shows
-/// that no point is feasible, the answer is `Infeasible`, the log is empty, and nobody was called. Without plugins the
-/// kit is left as it is; else all its plugins are done with behind the search, and the answer has the lines of the
-/// trace, if they are asked for.
+/// program itself. Where the options want no presolve, the program itself is searched, and where they are plain, it
+/// goes without plugins. Where presolve shows that no point is feasible, the answer is `Infeasible`, the log is empty,
+/// and nobody was called. Without plugins the kit is left as it is; else all its plugins are done with behind the
+/// search, and the answer has the lines of the trace, if they are asked for.
 pub fn solve(
     alloc: Global,
     program: &Program,
@@ -200,7 +204,8 @@ pub fn solve(
     requires near { AreNearColumns program.now }
     requires some { 0 < options.now.nodes }
     requires few { IsFew (stock_of ⟦<AnyPlugin as Tells>⟧.who kit.old) }
-    ensures solved { IsSolvedBy program.now options.now.nodes options.now.gap options.now.plain (entries_of log.new)
+    ensures solved { IsSolvedBy program.now options.now.nodes options.now.gap options.now.presolve
+        (is_alone options.now.plain (stock_of ⟦<AnyPlugin as Tells>⟧.who kit.old)) (entries_of log.new)
         log.new.marks.items (answer_of result) }
     ensures nodes { result.nodes ≡ length (entries_of log.new) }
     ensures first { StopsFirst program.now options.now.gap (entries_of log.new) }
@@ -210,7 +215,7 @@ pub fn solve(
 {
     log.taken.clear();
     log.marks.clear();
-    match reduced_for(alloc, program, options.plain) {
+    match reduced_for(alloc, program, options.presolve) {
         Err(_) => unsearched(program),
         Ok(None) => infeasible(program),
         Ok(Some(presolved)) => solve_reduced(alloc, program, &presolved, options, kit, log),

@@ -228,6 +228,7 @@ fn searched(alloc: Global, program: &Program) -> Ending {
     let options = Options {
         nodes: 10_000,
         gap: None,
+        presolve: false,
         plain: true,
         trace: false,
     };

@@ -258,6 +258,7 @@ fn is_searched(alloc: Global, program: &Program, log: &mut Log, case: &Case) -> 
     let options = Options {
         nodes: case.nodes,
         gap: None,
+        presolve: false,
         plain: true,
         trace: false,
     };
@@ -347,6 +348,7 @@ fn is_seen(alloc: Global, program: &Program, presolved: &Presolved, log: &mut Lo
     let options = Options {
         nodes: 10,
         gap: None,
+        presolve: true,
         plain: false,
         trace: false,
     };

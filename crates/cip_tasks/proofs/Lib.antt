@@ -1,3 +1,4 @@
 pub mod Generated
+pub mod Names
 pub mod Readings
 pub mod RefusalTexts

@@ -1,7 +1,7 @@
 -- What the words and the texts of a job come to: a program to solve within limits, a point to check, a program that is
 -- drawn, or an answer without figures. A job that names a model reads its text first, and then a second text, if it
 -- names one.
-use Rattle.std.specs.Prelude.{◌≡◌, ◌⊎◌, ◌<◌, ℕ, List, Option, None, Some, length}
+use Rattle.std.specs.Prelude.{◌≡◌, ◌⊎◌, ◌<◌, ℕ, List, Option, None, Some, length, map}
 use Rattle.cip_rational.specs.Rational.{ℚ}
 use Rattle.cip_io.specs.Faults.{Rose}
 use Rattle.cip_io.specs.Store.{StoreTells}
@@ -14,7 +14,9 @@ use Rattle.cip_point_rules.specs.PointRules.{point_reading}
 use Rattle.cip_input.specs.BlockKinds.{kind_number as block_kind_number}
 use Rattle.cip_input.specs.PointKinds.{kind_number as point_kind_number}
 use Rattle.cip_generator.specs.Generated.{generated, entries_of}
+use Rattle.cip_plugin.specs.Who.{Who}
 use Rattle.cip_words.specs.Jobs.{Limits, Job, Solve, Check, Generate}
+use Rattle.cip_words.specs.WordsRead.{limits_of}
 use Rattle.cip_words.specs.declared.words.WordsFault.{WordsFault}
 use Rattle.cip_words.specs.declared.words.WordsFault.TheVariants as words
 use Rattle.cip_input.specs.LimitedModels.{IsLimited}
@@ -34,6 +36,10 @@ use Rattle.cip_tasks.specs.declared.plain.Plain.{Plain}
 use Rattle.cip_tasks.specs.declared.plain.Plain.TheVariants.{Usage, ReadFault, Refused, NoMemory}
 use Rattle.cip_tasks.specs.declared.tasks.Task.{Task}
 use Rattle.cip_tasks.specs.declared.tasks.Task.TheVariants as task
+
+-- the names of plugins
+abbrev pub labels_of : List Who → List (List ℕ)
+labels_of plugins = map (λ who. who.label) plugins
 
 -- the answer that is given where a program was not read
 abbrev pub plain_of : Unread → Plain
@@ -116,8 +122,7 @@ pub record IsDrawn (job : Option Job) (old new : StoreTells) (program : Program)
 
 -- what is to be done
 abbrev pub IsTask : Option Job → (old new : StoreTells) → Task → Type 0
-IsTask job old new (task.Solve program nodes gap plain trace) =
-    IsSolve job old new program (record { nodes = nodes; gap = gap; plain = plain; trace = trace })
+IsTask job old new (task.Solve program limits) = IsSolve job old new program (limits_of limits)
 IsTask job old new (task.Check program point) = IsCheck job old new program point.items
 IsTask job old new (task.Generate program seed columns rows entries) =
     IsDrawn job old new program seed columns rows entries

@@ -1,10 +1,13 @@
 //! What the words and the texts of a job come to.
-ghost use Rattle.std.specs.Prelude.{◌≡◌, ◌<◌, ◌≤◌, ℕ, List, Option, Some, MatchResult, option_map};
-ghost use Rattle.cip_words.specs.Jobs.{Job as Asked, Limits, Solve, Check, Generate, job_of};
+ghost use Rattle.std.specs.Prelude.{◌≡◌, ◌<◌, ◌≤◌, ℕ, List, Option, Some, IfOk, MatchResult, map, option_map};
+ghost use Rattle.std.specs.List.{list_all, list_any};
+ghost use Rattle.std.specs.Str.{bytes_eq};
+ghost use Rattle.cip_words.specs.Jobs.{Job as Asked, Limits as Wanted, Solve, Check, Generate, AsksForSome, are_among, off_in, job_of, job_for};
+ghost use Rattle.cip_words.specs.WordsRead.{meant, WordsCause};
 ghost use Rattle.cip_generator.specs.Generated.{most_drawn};
 ghost use Rattle.cip_io.specs.Store.{StoreTells};
 ghost use Rattle.cip_input.specs.ModelsRead.{Reads};
-ghost use Rattle.cip_tasks.specs.Tasks.{TakesBlocks, IsSolve, IsTask, TaskCause};
+ghost use Rattle.cip_tasks.specs.Tasks.{labels_of, TakesBlocks, IsSolve, IsTask, TaskCause};
 
 use crate::plain::Plain;
 use crate::refusals::TextFault;
@@ -15,25 +18,20 @@ use cip_input::{
 };
 use cip_io::Store;
 use cip_model::Program;
+use cip_plugin::Tells;
 use cip_point_rules::points::points_are_of_lines;
-use cip_words::{Job, Words, WordsFault};
+use cip_words::{Job, Limits, Words, WordsFault};
 use std::alloc::Global;
 
 /// What is to be done.
 #[derive(Debug, Drop)]
-pub enum Task {
+pub enum Task<'a> {
     /// To solve a program.
     Solve {
         /// The program.
         program: Program,
-        /// The most nodes that are taken, at least 1.
-        nodes: u64,
-        /// The gap that is asked for, if one is, at least 0.
-        gap: Option<Frac>,
-        /// Whether no plugin is asked and the program isn't presolved.
-        plain: bool,
-        /// Whether the lines of the trace are printed.
-        trace: bool,
+        /// How it is searched, over at least 1 node.
+        limits: Limits<'a>,
     },
     /// To check a point in a program.
     Check {
@@ -123,7 +121,7 @@ fn take_blocks<S: Store>(
     blocks: Option<&str>,
     program: &Program,
 ) -> Result<(), Plain>
-    ensures { (job : Option Asked) (model : List ℕ) (limits : Limits) (old : StoreTells)
+    ensures { (job : Option Asked) (model : List ℕ) (limits : Wanted) (old : StoreTells)
         → job ≡ Some (Solve model (option_map (λ text. text.now) blocks.entry) limits)
         → Reads model (old.holds model) old (S.tells store.old) program.now
         → (S.tells store.old).holds ≡ old.holds
@@ -146,7 +144,7 @@ fn read_solve<S: Store>(
     model: &str,
     blocks: Option<&str>,
 ) -> Result<Program, Plain>
-    ensures { (job : Option Asked) (limits : Limits)
+    ensures { (job : Option Asked) (limits : Wanted)
         → job ≡ Some (Solve model.now (option_map (λ text. text.now) blocks.entry) limits) → 0 < limits.nodes
         → MatchResult result
         (λ program. IsSolve job (S.tells store.old) (S.tells store.new) program limits)
@@ -159,12 +157,12 @@ fn read_solve<S: Store>(
 }
 
 /// Reads the texts of a model and of a point.
-fn read_check<S: Store>(
+fn read_check<'a, S: Store>(
     alloc: Global,
     store: &mut S,
     model: &str,
     point: &str,
-) -> Result<Task, Plain>
+) -> Result<Task<'a>, Plain>
     ensures { (job : Option Asked) → job ≡ Some (Check model.now point.now) → MatchResult result
         (IsTask job (S.tells store.old) (S.tells store.new)) (TaskCause job (S.tells store.old) (S.tells store.new)) }
 {
@@ -179,7 +177,7 @@ fn read_check<S: Store>(
 }
 
 /// Draws the program of a seed. `NoMemory` comes where a growth was refused, and nothing else.
-fn draw(alloc: Global, seed: u64, columns: u32, rows: u32) -> Result<Task, Plain>
+fn draw<'a>(alloc: Global, seed: u64, columns: u32, rows: u32) -> Result<Task<'a>, Plain>
     requires few_columns { columns ≤ most_drawn }
     requires few_rows { rows ≤ most_drawn }
     ensures { (job : Option Asked) (store : StoreTells) → job ≡ Some (Generate seed columns rows) →
@@ -201,35 +199,86 @@ fn draw(alloc: Global, seed: u64, columns: u32, rows: u32) -> Result<Task, Plain
     }
 }
 
+/// Whether a plugin has this name.
+fn has_name<P: Tells>(plugins: &[P], name: &str) -> bool
+    ensures { result ≡ list_any (λ plugin. bytes_eq (P.who plugin).label name.now) plugins.now }
+{
+    for plugin in plugins {
+        if plugin.name() == name {
+            return true;
+        }
+    }
+    false
+}
+
+/// Whether each of these names is that of a plugin.
+fn have_names<P: Tells>(plugins: &[P], names: &[&str]) -> bool
+    ensures { result ≡ list_all (λ name. list_any (λ plugin. bytes_eq (P.who plugin).label name.now) plugins.now)
+        names.now }
+{
+    for name in names {
+        if !has_name(plugins, name) {
+            return false;
+        }
+    }
+    true
+}
+
+/// Whether the plugins that a job wants to be off are all there.
+fn are_there<P: Tells>(plugins: &[P], job: &Job<'_>) -> bool
+    ensures { result ≡ are_among (off_in (meant job.now)) (labels_of (map P.who plugins.now)) }
+{
+    match job {
+        Job::Solve { limits, .. } => have_names(plugins, limits.off.as_slice()),
+        Job::Check { .. } => true,
+        Job::Generate { .. } => true,
+    }
+}
+
+/// What the words ask for, where a search begins with these plugins. `Refused` comes exactly where the words are not
+/// accepted or want one to be off that isn't there, unless a growth was refused.
+fn job_for<'a, P: Tells>(words: &'a Words, plugins: &[P]) -> Result<Job<'a>, WordsFault>
+    ensures range { IfOk result (λ job. AsksForSome (meant job)) }
+    ensures job { MatchResult result
+        (λ job. job_for (labels_of (map P.who plugins.now)) (job_of words.now) ≡ Some (meant job))
+        (WordsCause (job_for (labels_of (map P.who plugins.now)) (job_of words.now))) }
+{
+    let job = words.job()?;
+    if are_there(plugins, &job) {
+        Ok(job)
+    } else {
+        Err(WordsFault::Refused)
+    }
+}
+
 /// Reads the words, and the texts that they name, the model's first; or draws the program that they ask for, and then
 /// nothing is pulled. An `Err` is the answer that is to be given then, without figures: `Usage` comes exactly where the
-/// words are not accepted, and then nothing is pulled; `ReadFault` where a call of the store failed; `Refused` exactly
-/// where a text is faulty, the texts before it are not, and it was pulled to its end, or to byte 67,108,865; `NoMemory`
-/// where a growth was refused, and no call of the store failed.
-pub fn read_task<S: Store>(alloc: Global, words: &Words, store: &mut S) -> Result<Task, Plain>
+/// words are not accepted, or want a plugin to be off that isn't among those that a search begins with, and then
+/// nothing is pulled; `ReadFault` where a call of the store failed; `Refused` exactly where a text is faulty, the texts
+/// before it are not, and it was pulled to its end, or to byte 67,108,865; `NoMemory` where a growth was refused, and
+/// no call of the store failed.
+pub fn read_task<'a, S: Store, P: Tells>(
+    alloc: Global,
+    words: &'a Words,
+    plugins: &[P],
+    store: &mut S,
+) -> Result<Task<'a>, Plain>
     ensures { MatchResult result
-        (IsTask (job_of words.now) (S.tells store.old) (S.tells store.new))
-        (TaskCause (job_of words.now) (S.tells store.old) (S.tells store.new)) }
+        (IsTask (job_for (labels_of (map P.who plugins.now)) (job_of words.now)) (S.tells store.old)
+        (S.tells store.new))
+        (TaskCause (job_for (labels_of (map P.who plugins.now)) (job_of words.now)) (S.tells store.old)
+        (S.tells store.new)) }
 {
-    match words.job() {
+    match job_for(words, plugins) {
         Ok(
             Job::Solve {
                 model,
                 blocks,
-                nodes,
-                gap,
-                plain,
-                trace,
+                limits,
             },
         ) => {
             let program = read_solve(alloc, store, model, blocks)?;
-            Ok(Task::Solve {
-                program,
-                nodes,
-                gap,
-                plain,
-                trace,
-            })
+            Ok(Task::Solve { program, limits })
         }
         Ok(Job::Check { model, point }) => read_check(alloc, store, model, point),
         Ok(

@@ -20,7 +20,7 @@ const CASES: [(&[&str], u64); 32] = [
     (&["solve", "M", "--nodes", "5x"], 0),
     (&["solve", "M", "--nodes", "10"], 10),
     (&["solve", "M", "--nodes", "1", "--nodes", "1"], 0),
-    (&["solve", "M", "--off", "nosuch"], 0),
+    (&["solve", "M", "--off", "nosuch"], 1_000_000),
     (&["solve"], 0),
     (&[], 0),
     (&["--help"], 0),
@@ -52,13 +52,7 @@ const FLAGS: [(&[&str], bool, bool); 4] = [
 /// Whether these words ask for so many nodes at most, over the text `M`; 0 where they are refused.
 fn asks(words: &Words, nodes: u64) -> bool {
     match words.job() {
-        Ok(
-            Job::Solve {
-                model,
-                nodes: told,
-                ..
-            },
-        ) => model == "M" && told == nodes,
+        Ok(Job::Solve { model, limits, .. }) => model == "M" && limits.nodes == nodes,
         Ok(Job::Check { .. }) => false,
         Ok(Job::Generate { .. }) => false,
         Err(fault) => nodes == 0 && fault == WordsFault::Refused,
@@ -68,13 +62,7 @@ fn asks(words: &Words, nodes: u64) -> bool {
 /// Whether these words ask for a plain search, and for a trace, as is said.
 fn has_flags(words: &Words, plain: bool, trace: bool) -> bool {
     match words.job() {
-        Ok(
-            Job::Solve {
-                plain: told,
-                trace: traced,
-                ..
-            },
-        ) => told == plain && traced == trace,
+        Ok(Job::Solve { limits, .. }) => limits.plain == plain && limits.trace == trace,
         _ => false,
     }
 }

@@ -1,8 +1,9 @@
 //! Covers: columns of a row, each with two values, that can't all stand at the costlier one. The row, divided by the
 //! greatest of their coefficients and rounded, says that one of them doesn't.
-use crate::roundings::rounded_cut;
 use cip_plugin::View;
-use cip_row_sums::{Aim, Candidate, Candidates, Shift, Shifted, Stop, Sum, UNIT, unless_refused};
+use cip_row_sums::{
+    Aim, Candidate, Candidates, Shift, Shifted, Stop, Sum, UNIT, rounded_cut, unless_refused,
+};
 use std::alloc::{AllocError, Global};
 
 /// A column that may stand in a cover: by its key, then by its place.

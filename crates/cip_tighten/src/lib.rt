@@ -7,7 +7,6 @@ mod mixed;
 mod mixing;
 mod paths;
 mod rounding;
-mod roundings;
 mod split_cuts;
 
 pub use covering::CoverSeparator;

@@ -1,15 +1,15 @@
 //! The separator of rows that are divided by small numbers and rounded.
 ghost use Rattle.std.specs.Prelude.{None, codes};
 
-use crate::roundings::rounded_cut;
 use cip_plugin::{Cut, Plugin, Separator, View};
 use cip_row_sums::{
-    Aim, Candidates, Gains, Shifted, Standing, Standings, Stop, Sum, tight_at, unless_refused,
+    Aim, Candidates, Gains, Shifted, Standing, Standings, Stop, Sum, rounded_cut, tight_at,
+    unless_refused,
 };
 use std::alloc::{AllocError, Global};
 
 // The most cuts of a round.
-const MOST_CUTS: usize = 5;
+const MOST_CUTS: usize = 2;
 
 // What rows are divided by, once they are made whole.
 const DIVISORS: [i64; 2] = [2, 3];

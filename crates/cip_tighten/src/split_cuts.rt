@@ -3,13 +3,12 @@
 //! ways of at least 0, is the cut. On the right it is at least the next number: the row, with ways of at least 0, is
 //! the cut.
 use crate::mixing::{Division, Scored, write_terms};
-use crate::roundings::lower;
 use cip_cert::{FormTerm, SplitCut};
 use cip_lin::Combo;
 use cip_plugin::{Cut, View};
 use cip_row_sums::{
     Candidate, Measure, Multiple, Shift, Shifted, Stop, Sum, Terms, Used, empty_combo, found,
-    measure_of, push_row, push_way, ratio, row_of, score, write_sum,
+    lower, measure_of, push_row, push_way, ratio, row_of, score, write_sum,
 };
 use std::alloc::Global;
 use std::mem;

@@ -43,8 +43,8 @@ no_job words kind h = none_of (fault_of cip_command words) (option_and_then job_
 -- what is read of matches is the job of the words
 pub read_job : (app : App) (words told : List (List ℕ)) (m : ArgMatches) (result : Result Wanted WordsFault) → app ≡ cip_command → words ≡ told
     → fault_of app words ≡ [] → HasMatchesOf app words m
-    → MatchResult result (λ job. option_and_then job_at (subcommand_rows_of m) ≡ Some (meant job)) (λ fault. (fault ≡ Refused) × (option_and_then job_at (subcommand_rows_of m) ≡ None))
-    → MatchResult result (λ job. job_of told ≡ Some (meant job)) (WordsCause told)
+    → MatchResult result (λ job. option_and_then job_at (subcommand_rows_of m) ≡ Some (meant job)) (WordsCause (option_and_then job_at (subcommand_rows_of m)))
+    → MatchResult result (λ job. job_of told ≡ Some (meant job)) (WordsCause (job_of told))
 read_job app words told m result a w f h = by_case result
   where
     rows : subcommand_rows_of m ≡ subcommand_of cip_command told
@@ -56,20 +56,20 @@ read_job app words told m result a w f h = by_case result
     job_is : (job : Option Job) → option_and_then job_at (subcommand_rows_of m) ≡ job → job_of told ≡ job
     job_is job e = job_taken told job faultless (ap (option_and_then job_at) (sym rows) ∙ e)
 
-    by_case : (result : Result Wanted WordsFault) → MatchResult result (λ job. option_and_then job_at (subcommand_rows_of m) ≡ Some (meant job)) (λ fault. (fault ≡ Refused) × (option_and_then job_at (subcommand_rows_of m) ≡ None))
-        → MatchResult result (λ job. job_of told ≡ Some (meant job)) (WordsCause told)
+    by_case : (result : Result Wanted WordsFault) → MatchResult result (λ job. option_and_then job_at (subcommand_rows_of m) ≡ Some (meant job)) (WordsCause (option_and_then job_at (subcommand_rows_of m)))
+        → MatchResult result (λ job. job_of told ≡ Some (meant job)) (WordsCause (job_of told))
     by_case (Ok job) e = job_is _ e
-    by_case (Err Refused) e = job_is None e.1
+    by_case (Err Refused) e = job_is None e
     by_case (Err NoMemory) e = tt
 
 -- and asks for a number of nodes in the range
-pub ranged : (told : List (List ℕ)) (result : Result Wanted WordsFault) → MatchResult result (λ job. job_of told ≡ Some (meant job)) (WordsCause told) → IfOk result (λ job. AsksForSome (meant job))
+pub ranged : (told : List (List ℕ)) (result : Result Wanted WordsFault) → MatchResult result (λ job. job_of told ≡ Some (meant job)) (WordsCause (job_of told)) → IfOk result (λ job. AsksForSome (meant job))
 ranged told (Ok job) h = asks_for_some told (meant job) h
 ranged told (Err fault) h = tt
 
 -- an error that is not want of memory comes of words that are not accepted
 pub refused_words : (app : App) (words told : List (List ℕ)) (error : Error) (fault : WordsFault) → app ≡ cip_command → words ≡ told
-    → HasKind (fault_of app words) error → (fault ≡ Refused → kind_of error ≡ OutOfMemory → ⊥) → WordsCause told fault
+    → HasKind (fault_of app words) error → (fault ≡ Refused → kind_of error ≡ OutOfMemory → ⊥) → WordsCause (job_of told) fault
 refused_words app words told error Refused a w h n = elim h [
   | inl e ↦ absurd (n refl e)
   | inr among ↦ no_job told (kind_of error) (subst (λ kinds. IsAmong (kind_of error) kinds) (ap₂ fault_of a w) among)

@@ -2,34 +2,70 @@
 use Rattle.std.specs.Prelude.{◌≡◌, true, false, [], ◌∷◌, None, Some, refl}
 use lib.Chars.{codes}
 use Rattle.clap.proofs.OnLiterals.{clap_on_literals}
-use Rattle.cip_words.specs.Jobs.{Solve, Check, Generate, cip_command, job_of}
+use Rattle.cip_words.specs.Jobs.{Solve, Check, Generate, cip_command, off_of, are_among, job_of}
 
 -- `solve` and a name ask for the usual number of nodes
-pub usual : job_of (codes "solve" ∷ codes "M" ∷ []) ≡ Some (Solve (codes "M") None (record { nodes = 1000000; gap = None; plain = false; trace = false }))
+pub usual : job_of (codes "solve" ∷ codes "M" ∷ []) ≡ Some (Solve (codes "M") None (record { nodes = 1000000; gap = None; presolved = true; plain = false; off = []; trace = false }))
 unfolding clap_on_literals cip_command job_of
 usual = refl
 
 -- as many nodes as `--nodes` says, before the name or behind it
-pub five : job_of (codes "solve" ∷ codes "--nodes=5" ∷ codes "M" ∷ []) ≡ Some (Solve (codes "M") None (record { nodes = 5; gap = None; plain = false; trace = false }))
+pub five : job_of (codes "solve" ∷ codes "--nodes=5" ∷ codes "M" ∷ []) ≡ Some (Solve (codes "M") None (record { nodes = 5; gap = None; presolved = true; plain = false; off = []; trace = false }))
 unfolding clap_on_literals cip_command job_of
 five = refl
 
-pub most : job_of (codes "solve" ∷ codes "M" ∷ codes "--nodes" ∷ codes "1099511627776" ∷ []) ≡ Some (Solve (codes "M") None (record { nodes = 1099511627776; gap = None; plain = false; trace = false }))
+pub most : job_of (codes "solve" ∷ codes "M" ∷ codes "--nodes" ∷ codes "1099511627776" ∷ []) ≡ Some (Solve (codes "M") None (record { nodes = 1099511627776; gap = None; presolved = true; plain = false; off = []; trace = false }))
 unfolding clap_on_literals cip_command job_of
 most = refl
 
 -- plainly, with a trace, and both
-pub plain : job_of (codes "solve" ∷ codes "M" ∷ codes "--plain" ∷ []) ≡ Some (Solve (codes "M") None (record { nodes = 1000000; gap = None; plain = true; trace = false }))
+pub plain : job_of (codes "solve" ∷ codes "M" ∷ codes "--plain" ∷ []) ≡ Some (Solve (codes "M") None (record { nodes = 1000000; gap = None; presolved = false; plain = true; off = []; trace = false }))
 unfolding clap_on_literals cip_command job_of
 plain = refl
 
-pub trace : job_of (codes "solve" ∷ codes "--trace" ∷ codes "M" ∷ []) ≡ Some (Solve (codes "M") None (record { nodes = 1000000; gap = None; plain = false; trace = true }))
+pub trace : job_of (codes "solve" ∷ codes "--trace" ∷ codes "M" ∷ []) ≡ Some (Solve (codes "M") None (record { nodes = 1000000; gap = None; presolved = true; plain = false; off = []; trace = true }))
 unfolding clap_on_literals cip_command job_of
 trace = refl
 
-pub plain_and_trace : job_of (codes "solve" ∷ codes "M" ∷ codes "--trace" ∷ codes "--plain" ∷ []) ≡ Some (Solve (codes "M") None (record { nodes = 1000000; gap = None; plain = true; trace = true }))
+pub plain_and_trace : job_of (codes "solve" ∷ codes "M" ∷ codes "--trace" ∷ codes "--plain" ∷ []) ≡ Some (Solve (codes "M") None (record { nodes = 1000000; gap = None; presolved = false; plain = true; off = []; trace = true }))
 unfolding clap_on_literals cip_command job_of
 plain_and_trace = refl
+
+-- names of plugins between commas: one more than there are commas, and a name may be empty
+pub cut : off_of (Some (codes "cover,mir,pseudo")) ≡ codes "cover" ∷ codes "mir" ∷ codes "pseudo" ∷ []
+cut = refl
+
+pub cut_once : off_of (Some (codes "mir")) ≡ codes "mir" ∷ []
+cut_once = refl
+
+pub cut_nothing : off_of (Some []) ≡ [] ∷ []
+cut_nothing = refl
+
+pub cut_at_ends : off_of (Some (codes ",a,,")) ≡ [] ∷ codes "a" ∷ [] ∷ [] ∷ []
+cut_at_ends = refl
+
+-- they may be named once, beside all else
+pub off : job_of (codes "solve" ∷ codes "M" ∷ codes "--off" ∷ codes "mir,cover" ∷ []) ≡ Some (Solve (codes "M") None (record { nodes = 1000000; gap = None; presolved = true; plain = false; off = codes "mir" ∷ codes "cover" ∷ []; trace = false }))
+unfolding clap_on_literals cip_command job_of
+off = refl
+
+pub off_and_plain : job_of (codes "solve" ∷ codes "--off=mir" ∷ codes "M" ∷ codes "--plain" ∷ []) ≡ Some (Solve (codes "M") None (record { nodes = 1000000; gap = None; presolved = false; plain = true; off = codes "mir" ∷ []; trace = false }))
+unfolding clap_on_literals cip_command job_of
+off_and_plain = refl
+
+pub off_twice : job_of (codes "solve" ∷ codes "M" ∷ codes "--off=a" ∷ codes "--off=b" ∷ []) ≡ None
+unfolding clap_on_literals cip_command job_of
+off_twice = refl
+
+-- each of them has to be the name of a plugin
+pub all_there : are_among (codes "b" ∷ codes "a" ∷ []) (codes "a" ∷ codes "b" ∷ codes "c" ∷ []) ≡ true
+all_there = refl
+
+pub one_missing : are_among (codes "a" ∷ [] ∷ []) (codes "a" ∷ codes "b" ∷ []) ≡ false
+one_missing = refl
+
+pub none_named : are_among [] [] ≡ true
+none_named = refl
 
 -- a value of `--trace` is refused
 pub trace_with_value : job_of (codes "solve" ∷ codes "M" ∷ codes "--trace=true" ∷ []) ≡ None
@@ -88,7 +124,7 @@ unfolding clap_on_literals cip_command job_of
 version = refl
 
 -- the blocks of a text, and a point that is to be checked
-pub blocks : job_of (codes "solve" ∷ codes "M" ∷ codes "--blocks" ∷ codes "B" ∷ []) ≡ Some (Solve (codes "M") (Some (codes "B")) (record { nodes = 1000000; gap = None; plain = false; trace = false }))
+pub blocks : job_of (codes "solve" ∷ codes "M" ∷ codes "--blocks" ∷ codes "B" ∷ []) ≡ Some (Solve (codes "M") (Some (codes "B")) (record { nodes = 1000000; gap = None; presolved = false; plain = false; off = []; trace = false }))
 unfolding clap_on_literals cip_command job_of
 blocks = refl
 

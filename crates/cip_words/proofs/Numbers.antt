@@ -20,7 +20,7 @@ use Rattle.cip_number_text.specs.FractionText.{fraction_of}
 use Rattle.cip_text.specs.NumberFaults.{faulty}
 use Rattle.cip_text.specs.declared.number_text.NumberFault.{NumberFault}
 use Rattle.cip_text.specs.declared.number_text.NumberFault.TheVariants.{NotANumber, Huge, TooFine}
-use Rattle.cip_words.specs.Jobs.{Limits, Job, Solve, Check, Generate, AsksForSome, at_least_zero, begins_above_zero, gap_of, is_true, cip_command, check_behind, check_with, self_behind, job_at, job_behind, job_of, solve_with, most_nodes, nodes_of, unless_faulty, usual_nodes}
+use Rattle.cip_words.specs.Jobs.{Limits, Job, Solve, Check, Generate, AsksForSome, at_least_zero, begins_above_zero, gap_of, off_of, is_presolved, is_true, cip_command, check_behind, check_with, self_behind, job_at, job_behind, job_of, solve_with, most_nodes, nodes_of, unless_faulty, usual_nodes}
 
 number_of : (same : Bool) (text : List ℕ) → (begins_above_zero text && is_unsigned_in 1 most_nodes text) ≡ same → nodes_of (Some text) ≡ (if same then Some (digits_value 10 text) else None)
 number_of same text e = ap (λ (b : Bool). if b then Some (digits_value 10 text) else None) e
@@ -65,7 +65,10 @@ no_fraction text fault e = sym (ap (λ n. at_least_zero (value_of n)) e ∙ ap a
 
 -- ---- the job of what stands behind `solve`, or `check`
 
--- the flags as they were found
+-- the names and the flags as they were found
+abbrev pub off_in : Found → List (List ℕ)
+off_in f = off_of (first_value f (codes "off"))
+
 abbrev pub plain_in : Found → Bool
 plain_in f = is_true (first_value f (codes "plain"))
 
@@ -76,35 +79,45 @@ trace_in f = is_true (first_value f (codes "trace"))
 flag_from : (f : Found) (id : Text) → is_true (first_of id (rows_of f)) ≡ is_true (first_value f id)
 flag_from f id = ap is_true (sym (first_value-rows f id))
 
-solve_from : (f : Found) (model blocks nodes gap : Option (List ℕ)) → model ≡ first_value f (codes "model") → blocks ≡ first_value f (codes "blocks") → nodes ≡ first_value f (codes "nodes") → gap ≡ first_value f (codes "gap") → job_behind (rows_of f) ≡ solve_with model blocks (nodes_of nodes) (gap_of gap) (plain_in f) (trace_in f)
+solve_from : (f : Found) (model blocks nodes gap : Option (List ℕ)) → model ≡ first_value f (codes "model") → blocks ≡ first_value f (codes "blocks") → nodes ≡ first_value f (codes "nodes") → gap ≡ first_value f (codes "gap") → job_behind (rows_of f) ≡ solve_with model blocks (nodes_of nodes) (gap_of gap) (off_in f) (plain_in f) (trace_in f)
 solve_from f model blocks nodes gap m b n g =
-    ap (λ (x : Option (List ℕ)). solve_with x (first_of (codes "blocks") (rows_of f)) (nodes_of (first_of (codes "nodes") (rows_of f))) (gap_of (first_of (codes "gap") (rows_of f))) (is_true (first_of (codes "plain") (rows_of f))) (is_true (first_of (codes "trace") (rows_of f)))) (sym (first_value-rows f (codes "model")) ∙ sym m)
-    ∙ (ap₂ (λ (x y : Option (List ℕ)). solve_with model x (nodes_of y) (gap_of (first_of (codes "gap") (rows_of f))) (is_true (first_of (codes "plain") (rows_of f))) (is_true (first_of (codes "trace") (rows_of f)))) (sym (first_value-rows f (codes "blocks")) ∙ sym b) (sym (first_value-rows f (codes "nodes")) ∙ sym n)
-    ∙ (ap (λ (x : Option (List ℕ)). solve_with model blocks (nodes_of nodes) (gap_of x) (is_true (first_of (codes "plain") (rows_of f))) (is_true (first_of (codes "trace") (rows_of f)))) (sym (first_value-rows f (codes "gap")) ∙ sym g)
-    ∙ ap₂ (λ (x y : Bool). solve_with model blocks (nodes_of nodes) (gap_of gap) x y) (flag_from f (codes "plain")) (flag_from f (codes "trace"))))
+    ap (λ (x : Option (List ℕ)). solve_with x (first_of (codes "blocks") (rows_of f)) (nodes_of (first_of (codes "nodes") (rows_of f))) (gap_of (first_of (codes "gap") (rows_of f))) (off_of (first_of (codes "off") (rows_of f))) (is_true (first_of (codes "plain") (rows_of f))) (is_true (first_of (codes "trace") (rows_of f)))) (sym (first_value-rows f (codes "model")) ∙ sym m)
+    ∙ (ap₂ (λ (x y : Option (List ℕ)). solve_with model x (nodes_of y) (gap_of (first_of (codes "gap") (rows_of f))) (off_of (first_of (codes "off") (rows_of f))) (is_true (first_of (codes "plain") (rows_of f))) (is_true (first_of (codes "trace") (rows_of f)))) (sym (first_value-rows f (codes "blocks")) ∙ sym b) (sym (first_value-rows f (codes "nodes")) ∙ sym n)
+    ∙ (ap₂ (λ (x y : Option (List ℕ)). solve_with model blocks (nodes_of nodes) (gap_of x) (off_of y) (is_true (first_of (codes "plain") (rows_of f))) (is_true (first_of (codes "trace") (rows_of f)))) (sym (first_value-rows f (codes "gap")) ∙ sym g) (sym (first_value-rows f (codes "off")))
+    ∙ ap₂ (λ (x y : Bool). solve_with model blocks (nodes_of nodes) (gap_of gap) (off_in f) x y) (flag_from f (codes "plain")) (flag_from f (codes "trace"))))
 
 -- a flag by the word that was found of it
 flag_is : (f : Found) (id : Text) (word : Option (List ℕ)) (flag : Bool) → word ≡ first_value f id → flag ≡ is_true word → is_true (first_value f id) ≡ flag
 flag_is f id word flag w e = sym (e ∙ ap is_true w)
 
-pub full_job : (f : Found) (model : List ℕ) (blocks word other : Option (List ℕ)) (nodes : ℕ) (gap : Option ℚ) → Some model ≡ first_value f (codes "model") → blocks ≡ first_value f (codes "blocks") → word ≡ first_value f (codes "nodes") → other ≡ first_value f (codes "gap") → Some nodes ≡ nodes_of word → Some gap ≡ gap_of other → (plainly traced : Option (List ℕ)) (plain trace : Bool) → plainly ≡ first_value f (codes "plain") → plain ≡ is_true plainly → traced ≡ first_value f (codes "trace") → trace ≡ is_true traced → job_behind (rows_of f) ≡ Some (Solve model blocks (record { nodes = nodes; gap = gap; plain = plain; trace = trace }))
-full_job f model blocks word other nodes gap m b n g e h plainly traced plain trace p i t j =
+-- the names by the word that was found of them
+names_are : (f : Found) (word : Option (List ℕ)) (names : List (List ℕ)) → word ≡ first_value f (codes "off") → names ≡ off_of word → off_in f ≡ names
+names_are f word names w e = sym (e ∙ ap off_of w)
+
+-- a job by what it presolves
+presolved_by : (model : List ℕ) (blocks : Option (List ℕ)) (nodes : ℕ) (gap : Option ℚ) (off : List (List ℕ)) (plain trace presolve : Bool) → presolve ≡ is_presolved plain blocks → solve_with (Some model) blocks (Some nodes) (Some gap) off plain trace ≡ Some (Solve model blocks (record { nodes = nodes; gap = gap; presolved = presolve; plain = plain; off = off; trace = trace }))
+presolved_by model blocks nodes gap off plain trace presolve e = sym (ap (λ (p : Bool). Some (Solve model blocks (record { nodes = nodes; gap = gap; presolved = p; plain = plain; off = off; trace = trace }))) e)
+
+pub full_job : (f : Found) (model : List ℕ) (blocks word other : Option (List ℕ)) (nodes : ℕ) (gap : Option ℚ) → Some model ≡ first_value f (codes "model") → blocks ≡ first_value f (codes "blocks") → word ≡ first_value f (codes "nodes") → other ≡ first_value f (codes "gap") → Some nodes ≡ nodes_of word → Some gap ≡ gap_of other → (plainly traced list : Option (List ℕ)) (plain trace presolve : Bool) (off : List (List ℕ)) → plainly ≡ first_value f (codes "plain") → plain ≡ is_true plainly → traced ≡ first_value f (codes "trace") → trace ≡ is_true traced → list ≡ first_value f (codes "off") → off ≡ off_of list → presolve ≡ is_presolved plain blocks → job_behind (rows_of f) ≡ Some (Solve model blocks (record { nodes = nodes; gap = gap; presolved = presolve; plain = plain; off = off; trace = trace }))
+full_job f model blocks word other nodes gap m b n g e h plainly traced list plain trace presolve off p i t j l o r =
     solve_from f (Some model) blocks word other m b n g
-    ∙ (sym (ap (λ t. solve_with (Some model) blocks t (gap_of other) (plain_in f) (trace_in f)) e)
-    ∙ (sym (ap (λ g. solve_with (Some model) blocks (Some nodes) g (plain_in f) (trace_in f)) h)
-    ∙ ap₂ (λ (x y : Bool). solve_with (Some model) blocks (Some nodes) (Some gap) x y) (flag_is f (codes "plain") plainly plain p i) (flag_is f (codes "trace") traced trace t j)))
+    ∙ (sym (ap (λ t. solve_with (Some model) blocks t (gap_of other) (off_in f) (plain_in f) (trace_in f)) e)
+    ∙ (sym (ap (λ g. solve_with (Some model) blocks (Some nodes) g (off_in f) (plain_in f) (trace_in f)) h)
+    ∙ (ap (λ (names : List (List ℕ)). solve_with (Some model) blocks (Some nodes) (Some gap) names (plain_in f) (trace_in f)) (names_are f list off l o)
+    ∙ (ap₂ (λ (x y : Bool). solve_with (Some model) blocks (Some nodes) (Some gap) off x y) (flag_is f (codes "plain") plainly plain p i) (flag_is f (codes "trace") traced trace t j)
+    ∙ presolved_by model blocks nodes gap off plain trace presolve r))))
 
 pub no_number : (f : Found) (model : List ℕ) (word : Option (List ℕ)) → Some model ≡ first_value f (codes "model") → word ≡ first_value f (codes "nodes") → None ≡ nodes_of word → job_behind (rows_of f) ≡ None
 no_number f model word m n e =
     let gap = first_value f (codes "gap") in
-    solve_from f (Some model) (first_value f (codes "blocks")) word gap m refl n refl ∙ sym (ap (λ t. solve_with (Some model) (first_value f (codes "blocks")) t (gap_of gap) (plain_in f) (trace_in f)) e)
+    solve_from f (Some model) (first_value f (codes "blocks")) word gap m refl n refl ∙ sym (ap (λ t. solve_with (Some model) (first_value f (codes "blocks")) t (gap_of gap) (off_in f) (plain_in f) (trace_in f)) e)
 
 pub no_gap : (f : Found) (model : List ℕ) (word other : Option (List ℕ)) (nodes : ℕ) → Some model ≡ first_value f (codes "model") → word ≡ first_value f (codes "nodes") → other ≡ first_value f (codes "gap") → Some nodes ≡ nodes_of word → None ≡ gap_of other → job_behind (rows_of f) ≡ None
 no_gap f model word other nodes m n g e h =
     let blocks = first_value f (codes "blocks") in
     solve_from f (Some model) blocks word other m refl n g
-    ∙ (sym (ap (λ t. solve_with (Some model) blocks t (gap_of other) (plain_in f) (trace_in f)) e)
-    ∙ sym (ap (λ g. solve_with (Some model) blocks (Some nodes) g (plain_in f) (trace_in f)) h))
+    ∙ (sym (ap (λ t. solve_with (Some model) blocks t (gap_of other) (off_in f) (plain_in f) (trace_in f)) e)
+    ∙ sym (ap (λ g. solve_with (Some model) blocks (Some nodes) g (off_in f) (plain_in f) (trace_in f)) h))
 
 pub no_model : (f : Found) → None ≡ first_value f (codes "model") → job_behind (rows_of f) ≡ None
 no_model f m = solve_from f None (first_value f (codes "blocks")) (first_value f (codes "nodes")) (first_value f (codes "gap")) m refl refl refl
@@ -141,16 +154,16 @@ nodes_range (Some text) nodes h = range_of text nodes (begins_above_zero text &&
 limits_same : (model other : List ℕ) (blocks others : Option (List ℕ)) (x y : Limits) → Solve model blocks x ≡ Solve other others y → x ≡ y
 limits_same model other blocks others x y e = cc
 
-job_range : (model blocks : Option (List ℕ)) (nodes : Option ℕ) (gap : Option (Option ℚ)) (plain trace : Bool) (word : Option (List ℕ)) (job : Job) → nodes_of word ≡ nodes → solve_with model blocks nodes gap plain trace ≡ Some job → AsksForSome job
-job_range (Some model) blocks (Some nodes) (Some gap) plain trace word (Solve told others limits) w h =
-    let asked : Limits = record { nodes = nodes; gap = gap; plain = plain; trace = trace } in
+job_range : (model blocks : Option (List ℕ)) (nodes : Option ℕ) (gap : Option (Option ℚ)) (off : List (List ℕ)) (plain trace : Bool) (word : Option (List ℕ)) (job : Job) → nodes_of word ≡ nodes → solve_with model blocks nodes gap off plain trace ≡ Some job → AsksForSome job
+job_range (Some model) blocks (Some nodes) (Some gap) off plain trace word (Solve told others limits) w h =
+    let asked : Limits = record { nodes = nodes; gap = gap; presolved = is_presolved plain blocks; plain = plain; off = off; trace = trace } in
     let same : nodes ≡ limits.nodes = ap (λ (l : Limits). l.nodes) (limits_same model told blocks others asked limits (same_Some _ _ h)) in
     nodes_range word limits.nodes (w ∙ ap Some same)
-job_range (Some model) blocks (Some nodes) (Some gap) plain trace word (Check told point) w h = tt
-job_range (Some model) blocks (Some nodes) (Some gap) plain trace word (Generate seed columns rows) w h = absurd (cc)
-job_range (Some model) blocks (Some nodes) None plain trace word job w h = absurd (cc)
-job_range (Some model) blocks None gap plain trace word job w h = absurd (cc)
-job_range None blocks nodes gap plain trace word job w h = absurd (cc)
+job_range (Some model) blocks (Some nodes) (Some gap) off plain trace word (Check told point) w h = tt
+job_range (Some model) blocks (Some nodes) (Some gap) off plain trace word (Generate seed columns rows) w h = absurd (cc)
+job_range (Some model) blocks (Some nodes) None off plain trace word job w h = absurd (cc)
+job_range (Some model) blocks None gap off plain trace word job w h = absurd (cc)
+job_range None blocks nodes gap off plain trace word job w h = absurd (cc)
 
 check_range : (model point : Option (List ℕ)) (job : Job) → check_with model point ≡ Some job → AsksForSome job
 check_range (Some model) (Some point) (Solve told others n) h = absurd (cc)
@@ -168,7 +181,7 @@ at_check entered true job h = check_range _ _ job h
 at_check entered false job h = at_self entered (bytes_eq entered.0 (codes "self")) job h
 
 at_range : (entered : Text × List Row) (same : Bool) (job : Job) → (if same then job_behind entered.1 else (if bytes_eq entered.0 (codes "check") then check_behind entered.1 else (if bytes_eq entered.0 (codes "self") then self_behind entered.1 else None))) ≡ Some job → AsksForSome job
-at_range entered true job h = job_range _ _ _ _ _ _ (first_of (codes "nodes") entered.1) job refl h
+at_range entered true job h = job_range _ _ _ _ _ _ _ (first_of (codes "nodes") entered.1) job refl h
 at_range entered false job h = at_check entered (bytes_eq entered.0 (codes "check")) job h
 
 entered_range : (entered : Option (Text × List Row)) (job : Job) → option_and_then job_at entered ≡ Some job → AsksForSome job

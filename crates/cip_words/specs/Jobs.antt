@@ -1,11 +1,13 @@
 -- The words of a command line, without the program's name, and the jobs that they mean.
---     cip_command      the command, as `clap` has it: `solve MODEL [--blocks FILE] [--nodes N] [--gap G] [--plain]
---                      [--trace]`, `check MODEL POINT` and `self SEED COLS ROWS`
+--     cip_command      the command, as `clap` has it: `solve MODEL [--blocks FILE] [--nodes N] [--gap G] [--off LIST]
+--                      [--plain] [--trace]`, `check MODEL POINT` and `self SEED COLS ROWS`
 --     job_of words      the job of the words, where they are accepted
+--     job_for plugins (job_of words)      the same where a search begins with plugins of these names
 use lib.Chars.{codes}
-use Rattle.std.specs.Prelude.{◌≡◌, ⊤, ℕ, ◌≤◌, nat_le, Bool, true, false, ◌&&◌, ◌||◌, ◌^◌, ◌-◌, List, [], ◌∷◌}
+use Rattle.std.specs.Prelude.{◌≡◌, ⊤, ℕ, ◌≤◌, ◌==◌, nat_le, Bool, true, false, not, ◌&&◌, ◌||◌, ◌^◌, ◌-◌, List, [], ◌∷◌}
 use Rattle.std.specs.Prelude.{Option, None, Some}
 use Rattle.std.specs.Prelude.{option_map, option_and_then, if◌then◌else◌}
+use Rattle.std.specs.List.{list_all, list_any, slice_split}
 use Rattle.std.specs.Str.{bytes_eq}
 use Rattle.std.specs.Str.Parse.{digits_value}
 use Rattle.clap.specs.Words.{App, Kinds, Row, Rule, Text, fault_of, first_of, new_app, new_rule, subcommand_of}
@@ -19,13 +21,15 @@ use Rattle.cip_number_text.specs.FractionText.{fraction_of}
 use Rattle.cip_generator.specs.Generated.{most_drawn}
 use Rattle.clap.specs.declared.builder.action.ArgAction.TheVariants.{SetTrue}
 
--- how a program is searched: what ends the search early, so many nodes, and a gap, if one is asked for; whether no
--- plugin is asked, the kit is left as it is and the program isn't presolved; and whether the lines of the trace are
--- kept and printed
+-- how a program is searched: what ends the search early, so many nodes, and a gap, if one is asked for; whether
+-- presolve may reduce the program first; whether no plugin is asked and the kit is left as it is; the names of the
+-- plugins that are off, in their order; and whether the lines of the trace are kept and printed
 pub record Limits : Type 0 where
   pub nodes : ℕ
   pub gap : Option ℚ
+  pub presolved : Bool
   pub plain : Bool
+  pub off : List (List ℕ)
   pub trace : Bool
 
 -- what the words ask for: to solve the program of the text of this name, with the blocks of another text, if one is
@@ -45,7 +49,14 @@ most_nodes = 1099511627776
 
 -- how a program is searched where nothing is said of it
 abbrev pub usual_limits : Limits
-usual_limits = record { nodes = usual_nodes; gap = None; plain = false; trace = false }
+usual_limits = record {
+  nodes = usual_nodes;
+  gap = None;
+  presolved = true;
+  plain = false;
+  off = [];
+  trace = false;
+}
 
 -- the greatest seed of a program that is drawn
 abbrev pub most_seed : ℕ
@@ -73,6 +84,10 @@ nodes_rule = record (new_rule (codes "nodes")) { long = Some (codes "nodes") }
 abbrev pub gap_rule : Rule
 gap_rule = record (new_rule (codes "gap")) { long = Some (codes "gap") }
 
+-- `--off LIST`, which may be there
+abbrev pub off_rule : Rule
+off_rule = record (new_rule (codes "off")) { long = Some (codes "off") }
+
 -- `--plain`, which may be there
 abbrev pub plain_rule : Rule
 plain_rule = record (new_rule (codes "plain")) { long = Some (codes "plain"); action = Some SetTrue }
@@ -95,7 +110,9 @@ abbrev pub solve_command : App
 solve_command =
     with_rule
     (with_rule
+    (with_rule
     (with_rule (with_rule (with_rule (with_rule (new_app (codes "solve")) model_rule) blocks_rule) nodes_rule) gap_rule)
+    off_rule)
     plain_rule)
     trace_rule
 
@@ -151,18 +168,36 @@ abbrev pub gap_of : Option Text → Option (Option ℚ)
 gap_of None = Some None
 gap_of (Some text) = option_map Some (at_least_zero (value_of (fraction_of text)))
 
+-- LIST: what stands between its commas, in order; no name without a word
+abbrev pub off_of : Option Text → List (List ℕ)
+off_of None = []
+off_of (Some text) = slice_split (λ byte. byte == 44) text
+
 -- what is found of a name without a value says that it is there: where it isn't, `clap` puts `false` in its place
 abbrev pub is_true : Option Text → Bool
 is_true None = false
 is_true (Some text) = bytes_eq text (codes "true")
 
+-- whether presolve may reduce the program: the search isn't plain, and no blocks are named
+abbrev pub is_presolved : (plain : Bool) (blocks : Option Text) → Bool
+is_presolved plain None = not plain
+is_presolved plain (Some blocks) = false
+
 abbrev pub solve_with :
-    (model blocks : Option Text) (nodes : Option ℕ) (gap : Option (Option ℚ)) (plain trace : Bool) → Option Job
-solve_with (Some model) blocks (Some nodes) (Some gap) plain trace =
-    Some (Solve model blocks (record { nodes = nodes; gap = gap; plain = plain; trace = trace }))
-solve_with (Some model) blocks (Some nodes) None plain trace = None
-solve_with (Some model) blocks None gap plain trace = None
-solve_with None blocks nodes gap plain trace = None
+    (model blocks : Option Text) (nodes : Option ℕ) (gap : Option (Option ℚ)) (off : List (List ℕ)) (plain trace : Bool)
+    → Option Job
+solve_with (Some model) blocks (Some nodes) (Some gap) off plain trace =
+    Some (Solve model blocks (record {
+      nodes = nodes;
+      gap = gap;
+      presolved = is_presolved plain blocks;
+      plain = plain;
+      off = off;
+      trace = trace;
+    }))
+solve_with (Some model) blocks (Some nodes) None off plain trace = None
+solve_with (Some model) blocks None gap off plain trace = None
+solve_with None blocks nodes gap off plain trace = None
 
 abbrev pub check_with : (model point : Option Text) → Option Job
 check_with (Some model) (Some point) = Some (Check model point)
@@ -180,7 +215,8 @@ abbrev pub job_behind : List Row → Option Job
 job_behind rows =
     solve_with (first_of (codes "model") rows) (first_of (codes "blocks") rows)
     (nodes_of (first_of (codes "nodes") rows)) (gap_of (first_of (codes "gap") rows))
-    (is_true (first_of (codes "plain") rows)) (is_true (first_of (codes "trace") rows))
+    (off_of (first_of (codes "off") rows)) (is_true (first_of (codes "plain") rows))
+    (is_true (first_of (codes "trace") rows))
 
 abbrev pub check_behind : List Row → Option Job
 check_behind rows = check_with (first_of (codes "model") rows) (first_of (codes "point") rows)
@@ -206,6 +242,23 @@ unless_faulty (kind ∷ kinds) job = None
 -- ranges
 unfoldable pub job_of : List (List ℕ) → Option Job
 job_of words = unless_faulty (fault_of cip_command words) (option_and_then job_at (subcommand_of cip_command words))
+
+-- ---- the job for a kit
+
+-- the names of the plugins that a job wants to be off
+abbrev pub off_in : Job → List (List ℕ)
+off_in (Solve model blocks limits) = limits.off
+off_in (Check model point) = []
+off_in (Generate seed columns rows) = []
+
+-- whether each of these names is among others
+abbrev pub are_among : (names others : List (List ℕ)) → Bool
+are_among names others = list_all (λ name. list_any (λ other. bytes_eq other name) others) names
+
+-- the job of words where a search begins with plugins of these names: none where one that is to be off isn't there
+abbrev pub job_for : (plugins : List (List ℕ)) → Option Job → Option Job
+job_for plugins None = None
+job_for plugins (Some job) = if are_among (off_in job) plugins then Some job else None
 
 -- a job to solve asks for 1 node at least, and at most the most; one to solve a program that is drawn has a seed, and
 -- columns and rows, of at most the most

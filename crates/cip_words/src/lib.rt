@@ -3,4 +3,4 @@
 
 mod words;
 
-pub use words::{Job, USUAL_NODES, Words, WordsFault};
+pub use words::{Job, Limits, USUAL_NODES, Words, WordsFault};

@@ -1,9 +1,9 @@
 //! The words of a command line.
-ghost use Rattle.std.specs.Prelude.{◌≡◌, ◌++◌, ◌∷◌, [], true, false, Some, None, IfOk, OnOk, OnErr, MatchResult, option_map, option_and_then, length};
+ghost use Rattle.std.specs.Prelude.{◌≡◌, ◌++◌, ◌∷◌, [], true, false, Some, None, map, IfOk, OnOk, OnErr, MatchResult, option_map, option_and_then, length};
 ghost use Rattle.clap.specs.Words.{app_of, kind_of, rows_of, found_of, new_rule, rule_of, subcommand_rows_of};
 ghost use Rattle.clap.specs.declared.builder.action.ArgAction.TheVariants.{SetTrue};
 ghost use Rattle.clap.specs.declared.error.kind.ErrorKind.TheVariants.{OutOfMemory};
-ghost use Rattle.cip_words.specs.Jobs.{AsksForSome, IsAddedAs, solve_command, check_command, self_command, cip_command, begins_above_zero, begins_plainly, nodes_of, number_up_to, at_least_zero, gap_of, is_true, job_behind, check_behind, self_behind, job_at, job_of};
+ghost use Rattle.cip_words.specs.Jobs.{AsksForSome, IsAddedAs, solve_command, check_command, self_command, cip_command, begins_above_zero, begins_plainly, nodes_of, number_up_to, at_least_zero, gap_of, off_of, is_presolved, is_true, job_behind, check_behind, self_behind, job_at, job_of};
 ghost use Rattle.cip_generator.specs.Generated.{most_drawn};
 ghost use Rattle.cip_number_text.specs.Numeral.{value_of};
 ghost use Rattle.cip_number_text.specs.FractionText.{fraction_of};
@@ -46,8 +46,25 @@ impl Model for Words {
     ghost view = { words_of };
 }
 
+/// How a program is searched.
+#[derive(Debug, Drop)]
+pub struct Limits<'a> {
+    /// The most nodes that are taken, from 1 to 2^40.
+    pub nodes: u64,
+    /// The gap that is asked for, if one is, at least 0.
+    pub gap: Option<Frac>,
+    /// Whether presolve may reduce the program first: a search that isn't plain, without blocks.
+    pub presolve: bool,
+    /// Whether no plugin is asked.
+    pub plain: bool,
+    /// The names of the plugins that are off.
+    pub off: Vec<&'a str>,
+    /// Whether the lines of the trace are printed.
+    pub trace: bool,
+}
+
 /// What the words ask for.
-#[derive(Clone, Copy, Debug, PartialEq, Eq)]
+#[derive(Debug, Drop)]
 pub enum Job<'a> {
     /// To solve the program of a text.
     Solve {
@@ -55,14 +72,8 @@ pub enum Job<'a> {
         model: &'a str,
         /// The name of the text of its blocks, if one is named.
         blocks: Option<&'a str>,
-        /// The most nodes that are taken, from 1 to 2^40.
-        nodes: u64,
-        /// The gap that is asked for, if one is, at least 0.
-        gap: Option<Frac>,
-        /// Whether no plugin is asked and the program isn't presolved.
-        plain: bool,
-        /// Whether the lines of the trace are printed.
-        trace: bool,
+        /// How it is searched.
+        limits: Limits<'a>,
     },
     /// To check a point in the program of a text.
     Check {
@@ -127,7 +138,7 @@ fn flag<'a>(alloc: Global, id: &'a str) -> Arg<'a>
     option(alloc, id).action(ArgAction::SetTrue)
 }
 
-/// The subcommand `solve MODEL [--blocks FILE] [--nodes N] [--gap G] [--plain] [--trace]`.
+/// The subcommand `solve MODEL [--blocks FILE] [--nodes N] [--gap G] [--off LIST] [--plain] [--trace]`.
 fn solving<'a>(alloc: Global) -> Result<Command<'a>, AllocError>
     ensures { IfOk result (IsAddedAs solve_command.top) }
 {
@@ -136,6 +147,7 @@ fn solving<'a>(alloc: Global) -> Result<Command<'a>, AllocError>
         .arg(option(alloc, "blocks"))?
         .arg(option(alloc, "nodes"))?
         .arg(option(alloc, "gap"))?
+        .arg(option(alloc, "off"))?
         .arg(flag(alloc, "plain"))?
         .arg(flag(alloc, "trace"))
 }
@@ -158,8 +170,8 @@ fn drawing<'a>(alloc: Global) -> Result<Command<'a>, AllocError>
         .arg(wanted(alloc, "rows"))
 }
 
-/// The command: `solve MODEL [--blocks FILE] [--nodes N] [--gap G] [--plain] [--trace]`, `check MODEL POINT`, and
-/// `self SEED COLS ROWS`.
+/// The command: `solve MODEL [--blocks FILE] [--nodes N] [--gap G] [--off LIST] [--plain] [--trace]`,
+/// `check MODEL POINT`, and `self SEED COLS ROWS`.
 fn command<'a>(alloc: Global) -> Result<Command<'a>, AllocError>
     ensures { IfOk result (λ command. app_of command ≡ cip_command) }
 {
@@ -274,6 +286,34 @@ fn gap_in(word: Option<&str>) -> Option<Option<Frac>>
     }
 }
 
+/// What stands between the commas of a text.
+fn cut_at_commas<'a>(alloc: Global, text: &'a str) -> Result<Vec<&'a str>, AllocError>
+    ensures { IfOk result (λ names. map (λ name. name.now) names.items ≡ off_of (Some text.now)) }
+{
+    text.split(',').collect(alloc)
+}
+
+/// The names of the plugins that are to be off; none where there is no word.
+fn off_in<'a>(alloc: Global, word: Option<&'a str>) -> Result<Vec<&'a str>, AllocError>
+    ensures { IfOk result (λ names.
+        map (λ name. name.now) names.items ≡ off_of (option_map (λ text. text.now) word.entry)) }
+{
+    match word {
+        Some(text) => cut_at_commas(alloc, text),
+        None => Ok(Vec::new(alloc)),
+    }
+}
+
+/// Whether presolve may reduce the program: the search isn't plain, and no blocks are named.
+fn is_presolved(plain: bool, blocks: Option<&str>) -> bool
+    ensures { result ≡ is_presolved plain (option_map (λ text. text.now) blocks.entry) }
+{
+    match blocks {
+        Some(_) => false,
+        None => !plain,
+    }
+}
+
 /// Whether a name without a value is there, by the word that was found of it.
 fn is_true(word: Option<&str>) -> bool
     ensures { result ≡ is_true (option_map (λ text. text.now) word.entry) }
@@ -285,10 +325,10 @@ fn is_true(word: Option<&str>) -> bool
 }
 
 /// The job of what stands behind `solve`.
-fn job_of_solve<'a>(solve: &ArgMatches<'a>) -> Result<Job<'a>, WordsFault>
+fn job_of_solve<'a>(alloc: Global, solve: &ArgMatches<'a>) -> Result<Job<'a>, WordsFault>
     ensures { MatchResult result
         (λ job. job_behind (rows_of (found_of solve.now)) ≡ Some (meant job))
-        (λ fault. (fault ≡ WordsFault.Refused) × (job_behind (rows_of (found_of solve.now)) ≡ None)) }
+        (WordsCause (job_behind (rows_of (found_of solve.now)))) }
 {
     let Some(model) = solve.get_str("model") else {
         return Err(WordsFault::Refused);
@@ -302,13 +342,20 @@ fn job_of_solve<'a>(solve: &ArgMatches<'a>) -> Result<Job<'a>, WordsFault>
     };
     let plain = is_true(solve.get_str("plain"));
     let trace = is_true(solve.get_str("trace"));
+    let presolve = is_presolved(plain, blocks);
+    let off = off_in(alloc, solve.get_str("off"))?;
+    let limits = Limits {
+        nodes,
+        gap,
+        presolve,
+        plain,
+        off,
+        trace,
+    };
     Ok(Job::Solve {
         model,
         blocks,
-        nodes,
-        gap,
-        plain,
-        trace,
+        limits,
     })
 }
 
@@ -316,7 +363,7 @@ fn job_of_solve<'a>(solve: &ArgMatches<'a>) -> Result<Job<'a>, WordsFault>
 fn job_of_check<'a>(check: &ArgMatches<'a>) -> Result<Job<'a>, WordsFault>
     ensures { MatchResult result
         (λ job. check_behind (rows_of (found_of check.now)) ≡ Some (meant job))
-        (λ fault. (fault ≡ WordsFault.Refused) × (check_behind (rows_of (found_of check.now)) ≡ None)) }
+        (WordsCause (check_behind (rows_of (found_of check.now)))) }
 {
     let Some(model) = check.get_str("model") else {
         return Err(WordsFault::Refused);
@@ -331,7 +378,7 @@ fn job_of_check<'a>(check: &ArgMatches<'a>) -> Result<Job<'a>, WordsFault>
 fn job_of_self<'a>(drawn: &ArgMatches<'a>) -> Result<Job<'a>, WordsFault>
     ensures { MatchResult result
         (λ job. self_behind (rows_of (found_of drawn.now)) ≡ Some (meant job))
-        (λ fault. (fault ≡ WordsFault.Refused) × (self_behind (rows_of (found_of drawn.now)) ≡ None)) }
+        (WordsCause (self_behind (rows_of (found_of drawn.now)))) }
 {
     let Some(seed) = number_up_to(drawn.get_str("seed"), MOST_SEED) else {
         return Err(WordsFault::Refused);
@@ -350,13 +397,13 @@ fn job_of_self<'a>(drawn: &ArgMatches<'a>) -> Result<Job<'a>, WordsFault>
 }
 
 /// The job of words that the command takes.
-fn job_in<'a>(matches: &ArgMatches<'a>) -> Result<Job<'a>, WordsFault>
+fn job_in<'a>(alloc: Global, matches: &ArgMatches<'a>) -> Result<Job<'a>, WordsFault>
     ensures { MatchResult result
         (λ job. option_and_then job_at (subcommand_rows_of matches.now) ≡ Some (meant job))
-        (λ fault. (fault ≡ WordsFault.Refused) × (option_and_then job_at (subcommand_rows_of matches.now) ≡ None)) }
+        (WordsCause (option_and_then job_at (subcommand_rows_of matches.now))) }
 {
     match matches.subcommand_matches("solve") {
-        Some(solve) => job_of_solve(solve),
+        Some(solve) => job_of_solve(alloc, solve),
         None => match matches.subcommand_matches("check") {
             Some(check) => job_of_check(check),
             None => match matches.subcommand_matches("self") {
@@ -402,11 +449,11 @@ impl Words {
     pub fn job(&self) -> Result<Job<'_>, WordsFault>
         ensures range { IfOk result (λ job. AsksForSome (meant job)) }
         ensures job { MatchResult result (λ job. job_of self.now ≡ Some (meant job))
-            (WordsCause self.now) }
+            (WordsCause (job_of self.now)) }
     {
         let command = command(self.alloc)?;
         match command.try_get_matches_from(self.words.as_slice()) {
-            Ok(matches) => job_in(&matches),
+            Ok(matches) => job_in(self.alloc, &matches),
             Err(error) => Err(fault_of(&error)),
         }
     }

@@ -1,28 +1,29 @@
-use Rattle.std.proofs.Common.{◌≡◌, ◌++◌, ◌∷◌, [], refl, inl, rules}
+use Rattle.std.proofs.Common.{◌≡◌, ◌++◌, ◌∷◌, [], refl, rules}
 use Rattle.cip_solve.proofs.PassedOn.{near_columns}
-use Rattle.cip_solve.specs.Logs.{entries_of}
-use Rattle.cip_answering.specs.Answering.{limits_of}
-use Rattle.cip_answering.proofs.Searches.{not_searched_still}
+use Rattle.cip_words.specs.WordsRead.{limits_of}
+use Rattle.cip_answering.proofs.Searches.{few_less, not_searched_still, searched_less}
 use Rattle.cip_answering.proofs.solving.search.Goals as goal
 
 pub returns-then-is_err : goal.returns-then-is_err
 returns-then-is_err g c =
     let same : c.reserve.new.self.items ≡ c.args.logs.now.items = search rules in record {
-      searched = not_searched_still c.args.program.now (limits_of c.args.options.now) c.args.logs.now.items c.reserve.new.self.items _ c.unsearched.result same (c.unsearched.ensures.solved c.args.options.now.nodes c.args.options.now.gap) c.unsearched.ensures.trace;
+      searched = not_searched_still c.args.program.now (limits_of c.args.limits.now) c.args.logs.now.items c.reserve.new.self.items _ _ c.unsearched.result same refl (c.unsearched.ensures.solved c.args.limits.now.nodes c.args.limits.now.gap) c.unsearched.ensures.trace;
+    }
+
+pub returns-in_default : goal.returns-in_default
+returns-in_default g c =
+    let same : c.reserve.new.self.items ≡ c.args.logs.now.items = search rules in record {
+      searched = not_searched_still c.args.program.now (limits_of c.args.limits.now) c.args.logs.now.items c.reserve.new.self.items _ _ c.unsearched-in_default.result same (search rules) (c.unsearched-in_default.ensures.solved c.args.limits.now.nodes c.args.limits.now.gap) c.unsearched-in_default.ensures.trace;
     }
 
 pub solve-answer-requires-clause-near : goal.solve-answer-requires-clause-near
 solve-answer-requires-clause-near g c = near_columns c.args.program.now c.requires.limited.near
 
+pub solve-answer-requires-clause-few : goal.solve-answer-requires-clause-few
+solve-answer-requires-clause-few g c = few_less (limits_of c.args.limits.now) _ _ c.in-Ok.ensures.less c.requires.few
+
 pub returns : goal.returns
 returns g c =
     let pushed : c.push.new.self.items ≡ c.args.logs.now.items ++ c.solve-answer.new.log ∷ [] = search rules in record {
-      searched = record {
-        entries = entries_of c.solve-answer.new.log;
-        marks = c.solve-answer.new.log.marks.items;
-        right = c.solve-answer.ensures.solved;
-        logged = inl (record { log = c.solve-answer.new.log; added = pushed; entries_are = refl });
-        marked = inl (record { log = c.solve-answer.new.log; added = pushed; marks_are = refl });
-        kit = c.solve-answer.ensures.kit;
-      };
+      searched = searched_less c.args.program.now (limits_of c.args.limits.now) _ _ c.solve-answer.new.log _ _ _ c.solve-answer.result c.in-Ok.ensures.less pushed c.solve-answer.ensures.solved c.solve-answer.ensures.kit;
     }

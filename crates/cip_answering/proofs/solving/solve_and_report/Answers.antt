@@ -1,12 +1,12 @@
 use Rattle.cip_answers.specs.Figures.{names_of}
 use Rattle.cip_trace_texts.specs.TraceTexts.{traced_text}
-use Rattle.cip_answering.specs.Answering.{limits_of}
+use Rattle.cip_words.specs.WordsRead.{limits_of}
 use Rattle.cip_answering.proofs.Searches.{works_of, fits}
 use Rattle.cip_answering.proofs.solving.solve_and_report.Goals as goal
 
 pub tell-requires : goal.tell-requires
-tell-requires g c = fits c.args.program.now (limits_of c.args.options.now) _ _ _ _ c.search-answer.result c.requires.limited c.search-answer.ensures.searched
+tell-requires g c = fits c.args.program.now (limits_of c.args.limits.now) _ _ _ _ c.search-answer.result c.requires.limited c.search-answer.ensures.searched
 
 pub returns : goal.returns
 returns g c =
-    works_of c.args.program.now (limits_of c.args.options.now) (traced_text (names_of c.args.program.now)) _ _ _ _ c.search-answer.result _ _ _ c.requires.limited c.requires.some c.search-answer.ensures.searched c.tell.ensures
+    works_of c.args.program.now (limits_of c.args.limits.now) (traced_text (names_of c.args.program.now)) _ _ _ _ c.search-answer.result _ _ _ c.requires.limited c.requires.some c.search-answer.ensures.searched c.tell.ensures

@@ -1,10 +1,11 @@
-use Rattle.std.proofs.Common.{arith}
+use Rattle.std.proofs.Common.{arith, ap, map}
 use Rattle.cip_words.specs.Jobs.{usual_limits}
 use Rattle.cip_report.specs.Drawn.{drawn_of}
 use Rattle.cip_answering.specs.Answering.{self_told}
-use Rattle.cip_answering.proofs.Searches.{works_of}
+use Rattle.cip_answering.proofs.Searches.{searched_usual, works_of}
 use Rattle.cip_answering.proofs.solving.solve_drawn.Goals as goal
 
 pub returns : goal.returns
 returns g c =
-    works_of c.args.program.now usual_limits (self_told (drawn_of c.args.drawn)) _ _ _ _ c.search-answer.result _ _ _ c.requires.limited (omega arith) c.search-answer.ensures.searched c.tell_drawn.ensures
+    let searched = searched_usual c.args.program.now _ _ _ _ _ c.search-answer.result (ap (map (λ name. name.now)) c.new.ensures.items) c.search-answer.ensures.searched in
+    works_of c.args.program.now usual_limits (self_told (drawn_of c.args.drawn)) _ _ _ _ c.search-answer.result _ _ _ c.requires.limited (omega arith) searched c.tell_drawn.ensures

@@ -35,16 +35,16 @@ pub finish-answer-requires-clause-point : goal.finish-answer-requires-clause-poi
 finish-answer-requires-clause-point g c = c.requires.point ∙ ap columns (sym c.explore-stop.ensures.same.0.program)
 
 pub returns-clause-solved : goal.returns-clause-solved
-returns-clause-solved g c = λ plain p.
+returns-clause-solved g c = λ presolve alone p q.
     let same = c.explore-stop.ensures.same in
     let before = c.finish-answer.new.log in
     let after = c.rename.new.self in
     let taken : entries_of after ≡ log_seen (renamed c.args.presolved.now.kept.items) (entries_of before) =
     subst (λ numbers. entries_of after ≡ log_seen (renamed numbers) (entries_of before)) c.as_slice.ensures.value c.rename.ensures.taken in
     solved_by c.args.begun.work.core c.explore-stop.new.self.work.core c.args.presolved.now c.requires.root c.requires.back same.0
-    g.W.Works.asks plain c.args.options.now.nodes c.args.options.now.gap (entries_of before) (entries_of after) before.marks.items after.marks.items (answer_of c.finish-answer.result)
+    g.W.Works.asks presolve alone c.args.options.now.nodes c.args.options.now.gap (entries_of before) (entries_of after) before.marks.items after.marks.items (answer_of c.finish-answer.result)
     same.1 (subst (IsWritten c.explore-stop.new.self.work.core) (sym (ap (λ m. m.items) c.finish-answer.ensures.marked)) c.explore-stop.ensures.written)
-    c.finish-answer.ensures.logged c.finish-answer.ensures.right taken (ap (λ m. m.items) c.rename.ensures.marks) p
+    c.finish-answer.ensures.logged c.finish-answer.ensures.right taken (ap (λ m. m.items) c.rename.ensures.marks) p q
 
 pub returns-clause-nodes : goal.returns-clause-nodes
 returns-clause-nodes g c =

@@ -1,4 +1,4 @@
-use Rattle.std.proofs.Common.{false, true≢false, sym}
+use Rattle.std.proofs.Common.{true, true≢false}
 use Rattle.cip_solve.proofs.Reduced.{each_itself}
 use Rattle.cip_solve.proofs.reducing.nearer.Goals as goal
 
@@ -6,8 +6,8 @@ pub returns-then-has_near_columns : goal.returns-then-has_near_columns
 returns-then-has_near_columns c = record {
   back = c.requires.back;
   near = c.has_near_columns.ensures c.if-has_near_columns.true;
-  same = λ e. absurd (true≢false (sym e));
+  same = λ e. absurd (true≢false e);
 }
 
 pub returns : goal.returns
-returns c = each_itself false c.args.program.now c.same.result c.requires.near c.same.ensures.pair c.same.ensures.unchanged
+returns c = each_itself true c.args.program.now c.same.result c.requires.near c.same.ensures.pair c.same.ensures.unchanged

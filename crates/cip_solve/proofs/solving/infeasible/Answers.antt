@@ -3,7 +3,7 @@ use Rattle.cip_solve.proofs.FirstLaws.{first_of_none}
 use Rattle.cip_solve.proofs.solving.infeasible.Goals as goal
 
 pub returns-clause-solved : goal.returns-clause-solved
-returns-clause-solved c = λ nodes asked. infeasible_at_once c.args.program.now c.root_bound-root.result nodes asked c.root_bound-root.ensures.root c.requires
+returns-clause-solved c = λ nodes asked alone. infeasible_at_once c.args.program.now c.root_bound-root.result nodes asked alone c.root_bound-root.ensures.root c.requires
 
 pub returns-clause-first : goal.returns-clause-first
 returns-clause-first c = λ asked. record {

@@ -5,7 +5,7 @@ use Rattle.cip_tree.specs.Entries as tree
 use Rattle.cip_endings.specs.AnswerOf.{answer_of}
 use Rattle.cip_solve.specs.FirstStops.{StopsFirst}
 use Rattle.cip_solve.specs.Logs.{entries_of}
-use Rattle.cip_solve.specs.Reducing.{IsPlain}
+use Rattle.cip_processing.specs.PresolvedPrograms.{IsUnchanged}
 use Rattle.cip_solve.specs.Solved.{IsSolvedBy}
 use Rattle.cip_solve.proofs.BegunLaws.{at_root, of_reduced, unsearched_by}
 use Rattle.cip_solve.proofs.solving.solve_by.Goals as goal
@@ -24,11 +24,11 @@ pub search_from-requires-clause-ready : goal.search_from-requires-clause-ready
 search_from-requires-clause-ready g c = subst (λ (r : Program). g.W.Works.is_ready c.args.works.now (columns r)) (sym c.in-Ok-new.ensures.reduced_is) c.requires.ready
 
 pub returns-in-Ok-new-clause-solved : goal.returns-in-Ok-new-clause-solved
-returns-in-Ok-new-clause-solved g c = λ plain p.
+returns-in-Ok-new-clause-solved g c = λ presolve alone p q.
     let log = c.search_from.new.log in
     let of_program = c.in-Ok-new.ensures.program_is in
-    subst (λ (p : Program). IsSolvedBy p c.args.options.now.nodes c.args.options.now.gap plain (entries_of log) log.marks.items (answer_of c.search_from.result))
-    of_program (c.search_from.ensures.solved plain (λ e. subst (λ (q : Program). IsPlain g.W.Works.asks q c.args.presolved.now) (sym of_program) (p e)))
+    subst (λ (p : Program). IsSolvedBy p c.args.options.now.nodes c.args.options.now.gap presolve alone (entries_of log) log.marks.items (answer_of c.search_from.result))
+    of_program (c.search_from.ensures.solved presolve alone (λ e. subst (λ (of : Program). IsUnchanged of c.args.presolved.now) (sym of_program) (p e)) q)
 
 pub returns-in-Ok-new-clause-first : goal.returns-in-Ok-new-clause-first
 returns-in-Ok-new-clause-first g c =
@@ -41,11 +41,11 @@ returns-in-Ok-new-clause-asked g c = (
 )
 
 pub returns-in_default-clause-solved : goal.returns-in_default-clause-solved
-returns-in_default-clause-solved g c = λ plain p.
-    unsearched_by c.args.program.now c.args.options.now.nodes c.args.options.now.gap plain _ _ _ (ap tree.entries_of c.clear.ensures.items) c.clear-2.ensures.items
+returns-in_default-clause-solved g c = λ presolve alone p q.
+    unsearched_by c.args.program.now c.args.options.now.nodes c.args.options.now.gap presolve alone _ _ _ (ap tree.entries_of c.clear.ensures.items) c.clear-2.ensures.items
     (c.unsearched.ensures.solved c.args.options.now.nodes c.args.options.now.gap)
 
 pub returns-in-Err-clause-solved : goal.returns-in-Err-clause-solved
-returns-in-Err-clause-solved g c = λ plain p.
-    unsearched_by c.args.program.now c.args.options.now.nodes c.args.options.now.gap plain _ _ _ (ap tree.entries_of c.clear.ensures.items) c.clear-2.ensures.items
+returns-in-Err-clause-solved g c = λ presolve alone p q.
+    unsearched_by c.args.program.now c.args.options.now.nodes c.args.options.now.gap presolve alone _ _ _ (ap tree.entries_of c.clear.ensures.items) c.clear-2.ensures.items
     (c.unsearched-in-Err.ensures.solved c.args.options.now.nodes c.args.options.now.gap)

@@ -2,12 +2,12 @@ use Rattle.std.proofs.Common.{◌∙◌, sym, subst, refl}
 use Rattle.cip_endings.specs.AnswerOf.{answer_of}
 use Rattle.cip_solve.specs.Logs.{entries_of}
 use Rattle.cip_solve.specs.Solved.{IsSolvedBy}
-use Rattle.cip_solve.proofs.KitLaws.{not_plain, left_alone, kit_same}
+use Rattle.cip_solve.proofs.KitLaws.{left_alone, kit_same}
 use Rattle.cip_solve.proofs.solving.solve_reduced.Goals as goal
 
 pub returns-then-goes_alone-clause-solved : goal.returns-then-goes_alone-clause-solved
 returns-then-goes_alone-clause-solved g c =
-    c.solve_by.ensures.solved c.args.options.now.plain (λ e. record { unasked = refl; same = c.requires.can.same e })
+    c.solve_by.ensures.solved c.args.options.now.presolve _ c.requires.can.same (λ e. refl)
 
 pub returns-then-goes_alone-clause-kit : goal.returns-then-goes_alone-clause-kit
 returns-then-goes_alone-clause-kit g c =
@@ -15,8 +15,8 @@ returns-then-goes_alone-clause-kit g c =
 
 pub returns-clause-solved : goal.returns-clause-solved
 returns-clause-solved g c =
-    subst (λ plain. IsSolvedBy c.args.program.now c.args.options.now.nodes c.args.options.now.gap plain (entries_of c.solve_with.new.log) c.solve_with.new.log.marks.items (answer_of c.solve_with.result))
-    (sym (not_plain c.args.options.now.plain _ c.goes_alone.result c.goes_alone.ensures c.if-goes_alone.false)) c.solve_with.ensures.solved
+    subst (λ alone. IsSolvedBy c.args.program.now c.args.options.now.nodes c.args.options.now.gap c.args.options.now.presolve alone (entries_of c.solve_with.new.log) c.solve_with.new.log.marks.items (answer_of c.solve_with.result))
+    (sym c.if-goes_alone.false ∙ c.goes_alone.ensures) c.solve_with.ensures.solved
 
 pub returns-clause-kit : goal.returns-clause-kit
 returns-clause-kit g c =

@@ -10,7 +10,7 @@ returns-clause-solved c = λ nodes asked. record {
   right = nothing_searched c.args.program.now c.root_bound.result c.root_bound.ensures.holds nodes asked;
   shown = λ ray e. absurd (cc);
   taken = λ a e. refl;
-  met = λ a. none_met c.args.program.now c.root_bound.result [];
+  met = λ a b. none_met c.args.program.now c.root_bound.result [];
 }
 
 pub returns-clause-first : goal.returns-clause-first

@@ -1,11 +1,13 @@
 //! Rows divided by a number and rounded: all coefficients of ways go down to whole numbers, and then the right side
 //! does.
+use crate::candidates::{Candidate, broken_by, measure_of, score};
+use crate::combos::{empty_combo, push_row, push_way};
+use crate::numbers::kept;
+use crate::shifts::{Shift, Shifted};
+use crate::stops::{Stop, found};
+use crate::sums::{Sum, Terms};
 use cip_lin::Combo;
 use cip_plugin::Cut;
-use cip_row_sums::{
-    Candidate, Shift, Shifted, Stop, Sum, Terms, broken_by, empty_combo, found, kept, measure_of,
-    push_row, push_way, score,
-};
 use std::alloc::Global;
 
 /// The coefficient of a way after the row was divided and rounded.
@@ -65,8 +67,10 @@ fn combo_of(alloc: Global, sum: &Sum, shifted: &Shifted, by: i64) -> Result<Comb
     Ok(combo)
 }
 
-/// The row divided and rounded, where the last point breaks it.
-pub(crate) fn rounded_cut(
+/// The row divided by a number above 0 and rounded, as a cut of this node. `GaveUp` where the last point keeps it, a
+/// way that isn't whole has a coefficient below 0, a coefficient has more than 20 bits, or a number leaves its range;
+/// `NoMemory` where memory was refused.
+pub fn rounded_cut(
     alloc: Global,
     sum: &Sum,
     shifted: &Shifted,
@@ -95,8 +99,8 @@ pub(crate) fn rounded_cut(
     })
 }
 
-/// Takes a common divisor out.
-pub(crate) fn lower(terms: &mut Terms, divisor: u64) -> Result<(), Stop> {
+/// Takes a common divisor out. `GaveUp` where that is 0 or above 2^40; what was divided up to there stays so.
+pub fn lower(terms: &mut Terms, divisor: u64) -> Result<(), Stop> {
     let by = found(kept(i128::from(divisor)))?;
     for term in terms.iter_mut() {
         term.1 = found(term.1.checked_div(by))?;

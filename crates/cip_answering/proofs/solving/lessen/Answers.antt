@@ -1,0 +1,12 @@
+use Rattle.std.proofs.Common.{ap, map}
+use Rattle.std.proofs.lemmas.Result.{IfOk-weaker}
+use Rattle.cip_words.specs.WordsRead.{limits_of}
+use Rattle.cip_answering.proofs.Searches.{kit_less, kit_plain}
+use Rattle.cip_answering.proofs.solving.lessen.Goals as goal
+
+pub returns-then-limits-clause-less : goal.returns-then-limits-clause-less
+returns-then-limits-clause-less g c = kit_plain (limits_of c.args.limits.now) _ c.if-limits.true
+
+pub returns-clause-less : goal.returns-clause-less
+returns-clause-less g c =
+    IfOk-weaker c.set_aside.result _ _ (λ u less. kit_less (limits_of c.args.limits.now) _ _ _ c.if-limits.false (ap (map (λ name. name.now)) c.as_slice.ensures.value) less) c.set_aside.ensures.aside

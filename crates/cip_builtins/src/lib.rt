@@ -1,0 +1,7 @@
+//! The built-in plugins, and the call of `run` with them. They are made in the function that makes the call, so that no
+//! box leaves it.
+#![tactic(auto)]
+
+mod builtins;
+
+pub use builtins::run_with_builtins;

@@ -1,0 +1,206 @@
+//! The handler of the rows of a class.
+ghost use Rattle.std.specs.Prelude.{None};
+ghost use Rattle.cip_handlers.specs.ClassNames.{class_name};
+
+use crate::classes::{Class, list_rows};
+use crate::rounding::{Rounding, is_kept};
+use crate::tries::Tries;
+use cip_lin::RowId;
+use cip_narrowing::{Implied, MOST_REDUCTIONS, Watched, add_reductions};
+use cip_plugin::{ConsHandler, Cut, Enforced, Plugin, Reduction, View};
+use std::alloc::{AllocError, Global};
+
+/// A handler of the rows of a class: the sides of columns that one of them implies in the node's box, and one of them
+/// divided and rounded, where that cuts the last point of the root off. A row that brought nothing eight times in a row
+/// is looked at no more.
+#[derive(Drop)]
+pub struct ClassHandler {
+    class: Class,
+    numbers: Vec<u32>,
+    watched: Watched,
+    implied: Vec<Implied>,
+    narrowing_tries: Tries,
+    rounding_tries: Tries,
+    rounding: Rounding,
+}
+
+impl ClassHandler {
+    /// One that was never called. It takes no memory.
+    pub fn new(alloc: Global, class: Class) -> ClassHandler {
+        ClassHandler {
+            class,
+            numbers: Vec::new(alloc),
+            watched: Watched::new(alloc),
+            implied: Vec::new(alloc),
+            narrowing_tries: Tries::new(alloc),
+            rounding_tries: Tries::new(alloc),
+            rounding: Rounding::new(alloc),
+        }
+    }
+
+    /// Takes a program's rows, all of which wait. `Err` where memory was refused.
+    fn take(&mut self, view: &View<'_>) -> Result<(), AllocError> {
+        list_rows(view, self.class, &mut self.numbers)?;
+        let rows = view.own.len();
+        self.narrowing_tries.begin(rows, self.numbers.as_slice())?;
+        self.rounding_tries.begin(rows, self.numbers.as_slice())?;
+        if self.numbers.is_empty() {
+            return Ok(());
+        }
+        self.watched
+            .take(view.own, view.whole, view.bounds.as_slice())
+    }
+
+    /// Adds the sides that a row implies, and answers whether the call ends behind it: no point of the box keeps the
+    /// row, or the list is full.
+    fn narrow_by(
+        &mut self,
+        alloc: Global,
+        view: &View<'_>,
+        number: u32,
+        reductions: &mut Vec<Reduction>,
+    ) -> Result<bool, AllocError> {
+        let Some(row) = view.own.get(number as usize) else {
+            return Ok(true);
+        };
+        let before = reductions.len();
+        let id = RowId::Own(number);
+        let broken = add_reductions(alloc, view, id, row, &mut self.implied, reductions)?;
+        self.narrowing_tries.note(number, reductions.len() > before);
+        Ok(broken.is_some() || reductions.len() >= MOST_REDUCTIONS)
+    }
+
+    /// Adds the sides that rows imply of whose columns a side has changed.
+    fn narrow(
+        &mut self,
+        alloc: Global,
+        view: &View<'_>,
+        reductions: &mut Vec<Reduction>,
+    ) -> Result<(), AllocError> {
+        if self.narrowing_tries.is_spent() {
+            return Ok(());
+        }
+        self.watched.look(view.bounds.as_slice())?;
+        for _ in 0..view.own.len() {
+            let Some(number) = self.watched.next() else {
+                return Ok(());
+            };
+            self.watched.end(number);
+            if self.narrowing_tries.may_try(number)
+                && self.narrow_by(alloc, view, number, reductions)?
+            {
+                return Ok(());
+            }
+        }
+        Ok(())
+    }
+
+    /// The sides that rows imply.
+    fn sides(&mut self, alloc: Global, view: &View<'_>) -> Result<Vec<Reduction>, AllocError> {
+        let mut reductions = Vec::new(alloc);
+        match self.narrow(alloc, view, &mut reductions) {
+            Ok(()) => Ok(reductions),
+            Err(fault) => Err(fault),
+        }
+    }
+
+    /// Rounds the rows that may be tried.
+    fn round(&mut self, alloc: Global, view: &View<'_>) -> Result<(), AllocError> {
+        if self.rounding_tries.is_spent() || !self.rounding.may_pay(view) {
+            return Ok(());
+        }
+        for number in &self.numbers {
+            if self.rounding_tries.may_try(*number) {
+                let has_gained = self.rounding.round(alloc, view, *number)?;
+                self.rounding_tries.note(*number, has_gained);
+            }
+        }
+        Ok(())
+    }
+
+    /// The cuts of a round.
+    fn cuts(&mut self, alloc: Global, view: &View<'_>) -> Result<Vec<Cut>, AllocError> {
+        self.rounding.clear();
+        self.round(alloc, view)?;
+        self.rounding.choose(alloc)
+    }
+
+    /// Whether the last point keeps all rows of the class.
+    fn are_kept(&self, view: &View<'_>) -> bool {
+        let point = view.point.unwrap_or(&[]);
+        for number in &self.numbers {
+            match view.own.get(*number as usize) {
+                Some(row) if is_kept(row, point) => {}
+                _ => return false,
+            }
+        }
+        true
+    }
+
+    /// A side of a column, or else a cut, if there is one.
+    fn improvement(&mut self, alloc: Global, view: &View<'_>) -> Result<Enforced, AllocError> {
+        if let Some(reduction) = self.sides(alloc, view)?.pop() {
+            return Ok(Enforced::Reduced(reduction));
+        }
+        if let Some(cut) = self.cuts(alloc, view)?.pop() {
+            return Ok(Enforced::Separated(cut));
+        }
+        Ok(Enforced::Infeasible)
+    }
+}
+
+impl Plugin for ClassHandler {
+    ghost told = { λ _. None };
+
+    ghost label = { λ handler. class_name handler.class };
+
+    fn name(&self) -> &str {
+        match self.class {
+            Class::Linear => "linear",
+            Class::Knapsack => "knapsack",
+            Class::SetPack => "setpack",
+            Class::SetPart => "setpart",
+        }
+    }
+
+    fn priority(&self) -> i32 {
+        match self.class {
+            Class::Linear => 40,
+            Class::Knapsack => 30,
+            Class::SetPack => 20,
+            Class::SetPart => 10,
+        }
+    }
+
+    fn init(&mut self, _alloc: Global) -> Result<(), AllocError> {
+        Ok(())
+    }
+
+    fn init_solve(&mut self, _alloc: Global, view: &View<'_>) -> Result<(), AllocError> {
+        self.rounding.begin();
+        self.take(view)
+    }
+
+    fn exit_solve(&mut self) {
+        self.watched.calm();
+    }
+
+    fn exit(&mut self) {}
+}
+
+impl ConsHandler for ClassHandler {
+    fn enforce(&mut self, alloc: Global, view: &View<'_>) -> Result<Enforced, AllocError> {
+        if self.are_kept(view) {
+            return Ok(Enforced::Feasible);
+        }
+        self.improvement(alloc, view)
+    }
+
+    fn separate(&mut self, alloc: Global, view: &View<'_>) -> Result<Vec<Cut>, AllocError> {
+        self.cuts(alloc, view)
+    }
+
+    fn propagate(&mut self, alloc: Global, view: &View<'_>) -> Result<Vec<Reduction>, AllocError> {
+        self.sides(alloc, view)
+    }
+}
