@@ -8,7 +8,6 @@ that differ are told, and the status is then 1. With the word `--kits NAME..` in
 these kits are tried: `all`, `less-NAME`, `only-NAME`, or names of plugins joined by `+`."""
 import os
 import sys
-from concurrent.futures import ThreadPoolExecutor
 
 sys.path.insert(0, os.path.dirname(os.path.abspath(__file__)))
 from presolved import cost_of, mean, nodes_of, run, word_of
@@ -38,28 +37,22 @@ def search(program, text, kit):
     return word_of(lines), cost_of(lines), nodes_of(words, spent), max(spent, 1e-3)
 
 
-def compare(program, text, kits):
-    """Searches of one text: --plain's, and those of the kits."""
-    return text, search(program, text, "plain"), [search(program, text, kit) for kit in kits]
-
-
 def main(words):
     kits = KITS
     if words[0] == "--kits":
         kits, words = words[1].split(","), words[2:]
     program, texts = words[0], words[1:]
     found, wrong = {kit: [] for kit in kits}, 0
-    # (one at a time, since processor times of children are summed)
-    with ThreadPoolExecutor(1) as pool:
-        for text, plain, others in pool.map(lambda it: compare(program, it, kits), texts):
-            name = text.rsplit("/", 1)[-1]
-            for kit, other in zip(kits, others):
-                tell = lambda it: "over" if it is None else f"{it[0]} {it[2] or '?'} nodes {it[3]:.3f} s"
-                print(f"{name}: {kit}: {tell(other)}; plain {tell(plain)}", flush=True)
-                if plain and other and plain[0] == other[0] and plain[1] != other[1]:
-                    wrong += 1
-                    print(f"{text}, {kit}: {other[1]} beside {plain[1]}")
-                found[kit].append((name, plain, other))
+    for text in texts:
+        plain, others = search(program, text, "plain"), [search(program, text, kit) for kit in kits]
+        name = text.rsplit("/", 1)[-1]
+        for kit, other in zip(kits, others):
+            tell = lambda it: "over" if it is None else f"{it[0]} {it[2] or '?'} nodes {it[3]:.3f} s"
+            print(f"{name}: {kit}: {tell(other)}; plain {tell(plain)}", flush=True)
+            if plain and other and plain[0] == other[0] and plain[1] != other[1]:
+                wrong += 1
+                print(f"{text}, {kit}: {other[1]} beside {plain[1]}")
+            found[kit].append((name, plain, other))
     print("\n| kit | texts | nodes | time, from 5 ms | time, from 20 ms | worst | ends where --plain doesn't |\n|---|---|---|---|---|---|---|")
     for kit in kits:
         both = [(plain, other) for _, plain, other in found[kit] if plain and other]
