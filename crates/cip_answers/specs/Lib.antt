@@ -4,5 +4,10 @@ pub mod Headline
 pub mod Statements
 pub use Rattle.cip_leaves.specs.Falling
 pub use Rattle.cip_leaves.specs.Leaf
+pub use Rattle.cip_leaves.specs.LeafProgramExamples
 pub use Rattle.cip_leaves.specs.LinearProgram
 pub use Rattle.cip_leaves.specs.ProgramState
+pub use Rattle.cip_leaves.specs.Searched
+pub use Rattle.cip_leaves.specs.Wide
+pub use Rattle.cip_leaves.specs.WideLeaf
+pub use Rattle.cip_leaves.specs.WideNodes

@@ -5,3 +5,4 @@
 mod builtins;
 
 pub use builtins::run_with_builtins;
+pub use cip_main::{Log, Mark, Plain, Words, no_plugins, run, say};

@@ -11,7 +11,8 @@ mod silence;
 
 pub use asks::{Asks, Round, Turn};
 pub use cip_judge::{
-    Core, Judged, Mark, PostsolveFault, Presolved, judge_cutoff, postsolve, split_refusal,
+    Core, JudgeFault, Judged, Mark, PostsolveFault, Presolved, Scratches, judge_cutoff, postsolve,
+    split_refusal,
 };
 pub use judging::Came;
 pub use laws::uses_join;

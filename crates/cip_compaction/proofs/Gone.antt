@@ -15,11 +15,11 @@ use Rattle.cip_problem.specs.Points.{IsSatisfied}
 use Rattle.cip_problem.specs.RowTerms.{column_at, coefficient_at, AreTerms}
 use Rattle.cip_problem.proofs.Points.AtPlaces.{in_box_at}
 use Rattle.cip_leaving.specs.Reduced.{IsRelaxed}
-use Rattle.cip_reductions.specs.Forms.{Form, form_value, constant_form, placed, spread, gathered, kept_from, number_in, renumbered_term}
-use Rattle.cip_reductions.specs.Pairs.{IsWholeIn, IsAssignment}
-use Rattle.cip_reductions.specs.Compacting.{Stays, IsGone, HoldsBack}
-use Rattle.cip_reductions.proofs.Spreading.{placed_value, spread_value, spread_gone, same_form, gathered_at}
-use Rattle.cip_reductions.proofs.CompactPairs.{sides_number}
+use Rattle.cip_leaving.specs.Forms.{Form, form_value, constant_form, placed, spread, gathered, kept_from, number_in, renumbered_term}
+use Rattle.cip_leaving.specs.Pairs.{IsWholeIn, IsAssignment}
+use Rattle.cip_leaving.specs.Compacting.{Stays, IsGone, HoldsBack}
+use Rattle.cip_leaving.proofs.PassedOn.{placed_value, spread_value, spread_gone, same_form, gathered_at}
+use Rattle.cip_leaving.proofs.PassedOn.{sides_number}
 use Rattle.cip_postsolve.specs.FormEnds.{FormAssigns}
 use Rattle.cip_leaving.specs.ColumnsOut.{IsPlainAndFree, GoesAtValue, GoesWhole, GoesByForm, MayGo, MayAllGo, IsIn, TermsIn, SourcesStay}
 use Rattle.cip_leaving.specs.SpentRows.{IsSpent, RowGoes}

@@ -17,10 +17,10 @@ use Rattle.cip_problem.specs.Program.{Program}
 use Rattle.cip_problem.specs.Activity.{value_at}
 use Rattle.cip_frac.specs.declared.operations.Wide.{Wide}
 use Rattle.cip_frac.specs.Outcomes.{and_then, sum_outcome, product_added}
-use Rattle.cip_reductions.specs.Forms.{Form, constant_form, placed, gathered}
-use Rattle.cip_reductions.specs.Pairs.{IsAssignment}
-use Rattle.cip_reductions.specs.WholeParts.{with_wholes}
-use Rattle.cip_reductions.specs.Compacting.{Stays}
+use Rattle.cip_leaving.specs.Forms.{Form, constant_form, placed, gathered}
+use Rattle.cip_leaving.specs.Pairs.{IsAssignment}
+use Rattle.cip_leaving.specs.WholeParts.{with_wholes}
+use Rattle.cip_leaving.specs.Compacting.{Stays}
 use Rattle.cip_leaving.specs.ColumnsOut.{GoesAtValue, GoesByForm, MayGo, MayAllGo, SourcesStay}
 use Rattle.cip_postsolve.specs.StepsBack.{form_outcome, WholesFit}
 use Rattle.cip_compaction.specs.EntriesLeft.{gone_of}

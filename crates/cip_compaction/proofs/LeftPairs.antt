@@ -12,14 +12,14 @@ use Rattle.cip_problem.specs.Box.{sides_at}
 use Rattle.cip_problem.specs.Choices.{choice_at}
 use Rattle.cip_problem.specs.Points.{IsSatisfied, IsFeasible}
 use Rattle.cip_problem.proofs.Points.AtPlaces.{IsInBox-long}
-use Rattle.cip_reductions.specs.NarrowedPrograms.{AllSatisfied, IsTightened, IsStep, IsExactStep, IsInfeasible}
-use Rattle.cip_reductions.specs.Forms.{Form, spread, gathered, kept_at, kept_from, renumbered}
-use Rattle.cip_reductions.specs.Pairs.{IsHeldFast, IsPair, IsExactPair}
-use Rattle.cip_reductions.specs.Compacting.{IsCompacted, AreLeft, HoldsBack, rows_left}
-use Rattle.cip_reductions.proofs.Inside.{all_long}
-use Rattle.cip_reductions.proofs.Pairing.{exact_step, infeasible_before, step_pair, pair_after, exact_step_pair, exact_pair_after}
-use Rattle.cip_reductions.proofs.Spreading.{left_back, left_onward, spread_gathered, gathered_at}
-use Rattle.cip_reductions.proofs.CompactPairs.{compacted_exact}
+use Rattle.cip_leaving.specs.NarrowedPrograms.{AllSatisfied, IsTightened, IsStep, IsExactStep, IsInfeasible}
+use Rattle.cip_leaving.specs.Forms.{Form, spread, gathered, kept_at, kept_from, renumbered}
+use Rattle.cip_leaving.specs.Pairs.{IsHeldFast, IsPair, IsExactPair}
+use Rattle.cip_leaving.specs.Compacting.{IsCompacted, AreLeft, HoldsBack, rows_left}
+use Rattle.cip_leaving.proofs.PassedOn.{all_long}
+use Rattle.cip_leaving.proofs.PassedOn.{exact_step, infeasible_before, step_pair, pair_after, exact_step_pair, exact_pair_after}
+use Rattle.cip_leaving.proofs.PassedOn.{left_back, left_onward, spread_gathered, gathered_at}
+use Rattle.cip_leaving.proofs.PassedOn.{compacted_exact}
 use Rattle.cip_leaving.proofs.PassedOn.{from_rec, to_rec}
 use Rattle.cip_leaving.specs.DraftParts.{IsDraft, unnamed}
 use Rattle.cip_leaving.specs.ColumnsOut.{GoesAtValue, GoesByForm, MayGo, MayAllGo, TermsIn, SourcesStay}

@@ -3,12 +3,12 @@ pub mod LeftProgram
 pub mod PresolvedPrograms
 pub use Rattle.cip_leaving.specs.ColumnForms
 pub use Rattle.cip_leaving.specs.DraftParts
-pub use Rattle.cip_reductions.specs.Forms
+pub use Rattle.cip_leaving.specs.Forms
 pub use Rattle.cip_leaving.specs.Leaf
-pub use Rattle.cip_reductions.specs.Pairs
+pub use Rattle.cip_leaving.specs.Pairs
 pub use Rattle.cip_postsolve.specs.declared.faults.PostsolveFault
 pub use Rattle.cip_postsolve.specs.PostsolveFaults
 pub use Rattle.cip_leaving.specs.SearchState
 pub use Rattle.cip_postsolve.specs.StepsBack
 pub use Rattle.cip_leaving.specs.Taken
-pub use Rattle.cip_reductions.specs.WholeParts
+pub use Rattle.cip_leaving.specs.WholeParts

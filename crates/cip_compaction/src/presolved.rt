@@ -2,7 +2,7 @@
 ghost use Rattle.std.specs.Prelude.{◌≡◌, ◌≤◌, None, IfOk, length, map, replicate};
 ghost use Rattle.cip_problem.specs.Limits.{most_columns};
 ghost use Rattle.cip_leaving.specs.Programs.{program_from};
-ghost use Rattle.cip_reductions.specs.NarrowedPrograms.{IsStep, IsExactStep};
+ghost use Rattle.cip_leaving.specs.NarrowedPrograms.{IsStep, IsExactStep};
 ghost use Rattle.cip_leaving.specs.DraftParts.{unnamed};
 ghost use Rattle.cip_compaction.specs.LeftProgram.{left_program, left_columns, staying_rows, moved_row, AllMove, CanLeave};
 ghost use Rattle.cip_compaction.specs.PresolvedPrograms.{IsPresolved, IsExactlyPresolved, IsUnchanged, counted};

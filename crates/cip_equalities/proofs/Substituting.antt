@@ -14,14 +14,14 @@ use Rattle.cip_problem.proofs.Points.AtPlaces.{satisfied_at}
 use Rattle.cip_frac.specs.Outcomes.{product_added}
 use Rattle.cip_frac.proofs.Outcomes.{product_added-value}
 use Rattle.cip_implied_sides.specs.Reduced.{IsRelaxed}
-use Rattle.cip_reductions.specs.NarrowedPrograms.{IsExactStep, with_row, with_cost}
-use Rattle.cip_reductions.specs.Forms.{Form, form_value}
-use Rattle.cip_reductions.specs.RowSteps.{side_less}
-use Rattle.cip_reductions.proofs.Inside.{all_self}
-use Rattle.cip_reductions.proofs.Pairing.{exact_self}
-use Rattle.cip_reductions.proofs.Replacing.{row_replaced}
-use Rattle.cip_reductions.proofs.RowSteps.{less_above, less_below, above_less, below_less, get_set, get_other}
-use Rattle.cip_steps.proofs.Singled.{count_same}
+use Rattle.cip_implied_sides.specs.NarrowedPrograms.{IsExactStep, with_row, with_cost}
+use Rattle.cip_implied_sides.specs.Forms.{Form, form_value}
+use Rattle.cip_implied_sides.specs.RowSteps.{side_less}
+use Rattle.cip_implied_sides.proofs.PassedOn.{all_self}
+use Rattle.cip_implied_sides.proofs.PassedOn.{exact_self}
+use Rattle.cip_implied_sides.proofs.PassedOn.{row_replaced}
+use Rattle.cip_implied_sides.proofs.PassedOn.{less_above, less_below, above_less, below_less, get_set, get_other}
+use Rattle.cip_implied_sides.proofs.PassedOn.{count_same}
 use Rattle.cip_equalities.specs.ColumnForms.{GivesForm, RowGives, IsSubstitute, IsReplaced, IsReplacedIn}
 
 pub stays : (program : Program) → IsExactStep program program

@@ -2,13 +2,12 @@
 ghost use Rattle.std.specs.Prelude.{◌≡◌, ◌∷◌, [], ◌<◌, ◌≢◌, length, IfSome};
 ghost use Rattle.std.specs.Bool.{OnTrue};
 ghost use Rattle.cip_rational.specs.Rational.{zeroℚ, ◌*ℚ◌, inverse};
-ghost use Rattle.cip_reductions.specs.Equalities.{equality_form};
+ghost use Rattle.cip_implied_sides.specs.Equalities.{equality_form};
 ghost use Rattle.cip_equalities.specs.ColumnForms.{HasTwoTerms, GivesForm, RowGives, IsSubstitute};
 
 use cip_frac::Frac;
+use cip_implied_sides::{Draft, only_value};
 use cip_lin::{Row, Sides, Term};
-use cip_row_reading::only_value;
-use cip_steps::Draft;
 use std::marker::Model;
 
 /// A value as an affine form of that of one column: a constant, and a factor times the value of that column.
@@ -23,7 +22,7 @@ pub struct ColumnForm {
 }
 
 impl Model for ColumnForm {
-    ghost use Rattle.cip_reductions.specs.Forms.{Form};
+    ghost use Rattle.cip_implied_sides.specs.Forms.{Form};
     ghost use Rattle.cip_equalities.specs.ColumnForms.{form_code};
 
     ghost Value = { Form };

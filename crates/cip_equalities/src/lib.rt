@@ -9,10 +9,11 @@ mod steps;
 mod terms;
 
 pub use cip_frac::Frac;
-pub use cip_implied_sides::{Names, Parts, Program, open_places, row_extent, try_implied};
+pub use cip_implied_sides::{
+    Draft, Names, Outcome, Parts, Program, copied_rows, only_value, open_places, row_extent,
+    row_of_terms, try_implied,
+};
 pub use cip_lin::{Row, Term};
-pub use cip_row_reading::only_value;
-pub use cip_steps::{Draft, Outcome, copied_rows, row_of_terms};
 pub use forms::{ColumnForm, form_at, form_in, is_substitute};
 pub use keeping::{assigns, keeps};
 pub use steps::{move_cost, take_sides, try_replace};

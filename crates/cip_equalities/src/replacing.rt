@@ -8,8 +8,8 @@ ghost use Rattle.cip_equalities.specs.ColumnForms.{IsReplacedIn};
 use crate::forms::ColumnForm;
 use crate::terms::put_all;
 use cip_frac::Frac;
+use cip_implied_sides::less;
 use cip_lin::{Row, Term};
-use cip_row_reading::less;
 use std::alloc::{AllocError, Global};
 
 /// A coefficient of terms on a column; 0 where none stands there.

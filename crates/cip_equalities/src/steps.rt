@@ -1,17 +1,16 @@
 //! The steps of presolve by an equality of two terms, each exact: the equality stays a row of the program.
 ghost use Rattle.std.specs.Prelude.{◌≡◌, ◌<◌, length, IfSome, IfOk};
 ghost use Rattle.cip_problem.specs.Box.{sides_at};
-ghost use Rattle.cip_reductions.specs.NarrowedPrograms.{IsExactStep};
-ghost use Rattle.cip_steps.specs.RuleEnds.{EndsRightly};
+ghost use Rattle.cip_implied_sides.specs.NarrowedPrograms.{IsExactStep};
+ghost use Rattle.cip_implied_sides.specs.RuleEnds.{EndsRightly};
 ghost use Rattle.cip_implied_sides.specs.Taken.{IsImplied};
 ghost use Rattle.cip_equalities.specs.ColumnForms.{RowGives, IsSubstitute};
 
 use crate::forms::ColumnForm;
 use crate::replacing::replaced;
 use cip_frac::Frac;
+use cip_implied_sides::{Draft, Outcome, is_far, less, single_sides};
 use cip_lin::{Row, Sides, Term};
-use cip_row_reading::{less, single_sides};
-use cip_steps::{Draft, Outcome, is_far};
 use std::alloc::{AllocError, Global};
 
 /// Puts the form of a column in its place in a row, where another row gives the form: whether it did. Nothing is done

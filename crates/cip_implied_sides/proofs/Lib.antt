@@ -1,2 +1,3 @@
 pub mod ImpliedSides
 pub mod RestSums
+pub mod PassedOn

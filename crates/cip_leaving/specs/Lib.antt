@@ -2,10 +2,15 @@ pub mod ColumnsOut
 pub mod KeptRows
 pub mod SpentRows
 pub use Rattle.cip_equalities.specs.ColumnForms
+pub use Rattle.cip_equalities.specs.Compacting
 pub use Rattle.cip_equalities.specs.DraftParts
+pub use Rattle.cip_equalities.specs.Forms
 pub use Rattle.cip_equalities.specs.Leaf
+pub use Rattle.cip_equalities.specs.NarrowedPrograms
+pub use Rattle.cip_equalities.specs.Pairs
 pub use Rattle.cip_equalities.specs.Programs
 pub use Rattle.cip_equalities.specs.Reduced
 pub use Rattle.cip_equalities.specs.RuleEnds
 pub use Rattle.cip_equalities.specs.SearchState
 pub use Rattle.cip_equalities.specs.Taken
+pub use Rattle.cip_equalities.specs.WholeParts

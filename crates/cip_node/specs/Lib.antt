@@ -5,3 +5,11 @@ pub mod Looking
 pub mod NodeEnds
 pub mod SameRows
 pub mod SolvedLeaves
+pub use Rattle.cip_core.specs.KeptNodes
+pub use Rattle.cip_core.specs.Later
+pub use Rattle.cip_leaf.specs.LeafAnswers
+pub use Rattle.cip_core.specs.Mark
+pub use Rattle.cip_core.specs.NodeRows
+pub use Rattle.cip_core.specs.Relaxing
+pub use Rattle.cip_leaf.specs.declared.answers.Shown
+pub use Rattle.cip_core.specs.Steps

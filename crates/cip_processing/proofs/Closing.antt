@@ -28,9 +28,9 @@ use Rattle.cip_seats.proofs.Running.{Runs-append}
 use Rattle.cip_roster.specs.KeptRankings.{Room}
 use Rattle.cip_roster.specs.Turns.{IsSound}
 use Rattle.cip_roster.specs.Wished.{Ran}
-use Rattle.cip_judge.specs.ProposalsJudged.{HaveRoom}
-use Rattle.cip_judge.specs.declared.scratches.Scratches.{Scratches}
-use Rattle.cip_calls.specs.Noted.{HasMoreRows}
+use Rattle.cip_turns.specs.ProposalsJudged.{HaveRoom}
+use Rattle.cip_turns.specs.Scratches.{Scratches}
+use Rattle.cip_turns.specs.Noted.{HasMoreRows}
 use Rattle.cip_processing.specs.NodesDone.{HasParted, HasEndedBy, IsDone, HasAged}
 use Rattle.cip_processing.specs.NodesReached.{HasMoved, IsFoundAt}
 use Rattle.cip_processing.specs.declared.ends.Done.{Done}

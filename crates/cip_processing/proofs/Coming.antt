@@ -10,10 +10,10 @@ use Rattle.cip_tree.specs.Nodes.{TakenNode}
 use Rattle.cip_turns.specs.CoreStates.{CoreState, reduced_of}
 use Rattle.cip_turns.specs.Later.{IsLaterAt}
 use Rattle.cip_turns.proofs.PassedOn.{later_at_itself}
-use Rattle.cip_judge.specs.ProposalsJudged.{HaveRoom}
-use Rattle.cip_judge.specs.declared.scratches.Scratches.{Scratches}
-use Rattle.cip_calls.specs.Noted.{IsReady, HasCome}
-use Rattle.cip_calls.proofs.Pools.{more_none, more_same}
+use Rattle.cip_turns.specs.ProposalsJudged.{HaveRoom}
+use Rattle.cip_turns.specs.Scratches.{Scratches}
+use Rattle.cip_turns.specs.Noted.{IsReady, HasCome}
+use Rattle.cip_turns.proofs.PassedOn.{more_none, more_same}
 
 pub ran_none : (a : State) → Ran a a
 ran_none a = record { steps = []; run = refl }

@@ -24,10 +24,10 @@ use Rattle.cip_node_rules.specs.declared.looks.Looked.TheVariants as look
 use Rattle.cip_node.specs.Looking.{IsLook, IsOpenNode}
 use Rattle.cip_node.specs.declared.bounding.Found.{Found}
 use Rattle.cip_node.proofs.Looked.{look_empty, open_after}
-use Rattle.cip_calls.specs.Noted.{IsSameNode}
-use Rattle.cip_calls.specs.declared.asks.Round.TheVariants as rounds
-use Rattle.cip_calls.specs.declared.judging.Came.{Came}
-use Rattle.cip_calls.specs.declared.judging.Came.TheVariants as came
+use Rattle.cip_turns.specs.Noted.{IsSameNode}
+use Rattle.cip_turns.specs.Round.TheVariants as rounds
+use Rattle.cip_turns.specs.Came.{Came}
+use Rattle.cip_turns.specs.Came.TheVariants as came
 use Rattle.cip_processing.specs.NodesReached.{IsFoundAt, IsFoundBy, IsSeen}
 
 module _ (old new : CoreState) (later : IsLater old new) (pool : new.pool ≡ old.pool) (box : List Sides) where

@@ -19,11 +19,11 @@ use Rattle.cip_node.specs.declared.ends.NodeEnd.TheVariants as by
 use Rattle.cip_roster.specs.KeptRankings.{Room}
 use Rattle.cip_roster.specs.Turns.{IsSound}
 use Rattle.cip_roster.specs.Wished.{Ran}
-use Rattle.cip_judge.specs.ProposalsJudged.{HaveRoom}
-use Rattle.cip_judge.specs.declared.judged.Judged.{Judged}
-use Rattle.cip_judge.specs.declared.scratches.Scratches.{Scratches}
-use Rattle.cip_calls.specs.Noted.{HasMoreRows}
-use Rattle.cip_calls.specs.Served.{Used}
+use Rattle.cip_turns.specs.ProposalsJudged.{HaveRoom}
+use Rattle.cip_turns.specs.Judged.{Judged}
+use Rattle.cip_turns.specs.Scratches.{Scratches}
+use Rattle.cip_turns.specs.Noted.{HasMoreRows}
+use Rattle.cip_turns.specs.Served.{Used}
 use Rattle.cip_processing.specs.NodesReached.{asks_in_pass}
 use Rattle.cip_processing.specs.declared.ends.Done.{Done}
 use Rattle.cip_processing.specs.declared.reached.Reached.{Reached}

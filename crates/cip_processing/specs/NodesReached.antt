@@ -12,12 +12,12 @@ use Rattle.cip_node.specs.declared.bounding.Bounded.{Bounded}
 use Rattle.cip_node.specs.declared.bounding.Bounded.TheVariants as solved
 use Rattle.cip_node_rules.specs.declared.looks.Looked.{Looked}
 use Rattle.cip_node_rules.specs.declared.looks.Looked.TheVariants as look
-use Rattle.cip_judge.specs.ProposalsJudged.{IsShownEmpty}
-use Rattle.cip_judge.specs.SplitsJudged.{IsPlace}
-use Rattle.cip_judge.specs.declared.judged.Judged.{Judged}
-use Rattle.cip_calls.specs.Served.{Used}
-use Rattle.cip_calls.specs.declared.judging.Came.{Came}
-use Rattle.cip_calls.specs.declared.judging.Came.TheVariants as came
+use Rattle.cip_turns.specs.ProposalsJudged.{IsShownEmpty}
+use Rattle.cip_turns.specs.SplitsJudged.{IsPlace}
+use Rattle.cip_turns.specs.Judged.{Judged}
+use Rattle.cip_turns.specs.Served.{Used}
+use Rattle.cip_turns.specs.Came.{Came}
+use Rattle.cip_turns.specs.Came.TheVariants as came
 use Rattle.cip_processing.specs.declared.reached.Reached.{Reached}
 use Rattle.cip_processing.specs.declared.reached.Reached.TheVariants as stage
 

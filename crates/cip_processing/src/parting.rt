@@ -6,7 +6,7 @@ ghost use Rattle.cip_tree.specs.Nodes.{box_of};
 ghost use Rattle.cip_turns.specs.CoreStates.{reduced_of, IsAtWork, IsTakenUp, IsGivenBound};
 ghost use Rattle.cip_turns.specs.Steps.{HasLeft, IsBack};
 ghost use Rattle.cip_node.specs.Looking.{IsOpenNode};
-ghost use Rattle.cip_judge.specs.SplitsJudged.{IsPlace};
+ghost use Rattle.cip_turns.specs.SplitsJudged.{IsPlace};
 ghost use Rattle.cip_processing.specs.NodesDone.{IsDone};
 ghost use Rattle.cip_processing.specs.NodesReached.{IsFoundAt};
 

@@ -1,9 +1,17 @@
 pub mod RowReading
 pub mod SingleRows
+pub use Rattle.cip_reductions.specs.Compacting
+pub use Rattle.cip_reductions.specs.Equalities
+pub use Rattle.cip_reductions.specs.Forms
 pub use Rattle.cip_reductions.specs.Leaf
 pub use Rattle.cip_lin.specs.declared.outcomes.Least
 pub use Rattle.cip_lin.specs.MetSides
+pub use Rattle.cip_reductions.specs.NarrowedPrograms
 pub use Rattle.cip_lin.specs.Outcomes
+pub use Rattle.cip_reductions.specs.Pairs
 pub use Rattle.cip_lin.specs.RowFaults
+pub use Rattle.cip_reductions.specs.RowSteps
 pub use Rattle.cip_lin.specs.RowSums
 pub use Rattle.cip_reductions.specs.SearchState
+pub use Rattle.cip_reductions.specs.Statements
+pub use Rattle.cip_reductions.specs.WholeParts

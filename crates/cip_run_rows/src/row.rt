@@ -3,8 +3,8 @@ ghost use Rattle.std.specs.Prelude.{◌<◌};
 
 use crate::lines::put_lines;
 use crate::setup::{Setup, key_and_value};
+use cip_builtins::Words;
 use cip_io::MemoryStore;
-use cip_main::Words;
 use std::alloc::{AllocError, Global};
 use std::str::Split;
 

@@ -3,9 +3,8 @@ ghost use Rattle.std.specs.Prelude.{◌<◌};
 
 use crate::row::Row;
 use crate::setup::Setup;
-use cip_builtins::run_with_builtins;
+use cip_builtins::{Log, Mark, no_plugins, run, run_with_builtins};
 use cip_io::MemorySink;
-use cip_main::{Log, Mark, no_plugins, run};
 use std::alloc::{AllocError, Global};
 use std::io;
 

@@ -4,7 +4,7 @@ use Rattle.cip_rational.specs.Rational.{ℚ}
 use Rattle.cip_problem.specs.Program.{Program, Sides}
 use Rattle.cip_problem.specs.Points.{IsFeasible}
 use Rattle.cip_cuts.specs.Improving.{IsBoundIn}
-use Rattle.cip_leaves.specs.Searched.{IsCovered}
+use Rattle.cip_answers.specs.Searched.{IsCovered}
 use Rattle.cip_search.specs.SearchEnds.{Infeasible, ReachesGap, IsSettled}
 use Rattle.cip_search.specs.SearchAnswers.{EndsAtOnce}
 use Rattle.cip_search.proofs.Members.{none_in}

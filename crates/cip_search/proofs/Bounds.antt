@@ -8,7 +8,7 @@ use Rattle.cip_problem.specs.Points.{cost_of}
 use Rattle.cip_problem.specs.Log.{matters}
 use Rattle.cip_cuts.specs.Improving.{IsImproving, HoldsInBox, IsBoundIn, IsNoDearer}
 use Rattle.cip_cuts.proofs.Improving.{holds_later}
-use Rattle.cip_leaves.specs.Searched.{NoMore}
+use Rattle.cip_answers.specs.Searched.{NoMore}
 
 -- a bound holds in a box
 abbrev pub HoldsThere : Program → Option ℚ → Option ℚ → List Sides → Type 0

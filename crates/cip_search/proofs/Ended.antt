@@ -17,7 +17,7 @@ use Rattle.cip_cuts.specs.Improving.{HasNoImproving}
 use Rattle.cip_cuts.specs.Cover.{IsCover}
 use Rattle.cip_cuts.proofs.Covers as covers
 use Rattle.cip_cuts.proofs.Emptiness.{closed_by_bound}
-use Rattle.cip_leaves.specs.Searched.{first_node, nodes_given, IsLeftOpen}
+use Rattle.cip_answers.specs.Searched.{first_node, nodes_given, IsLeftOpen}
 use Rattle.cip_search.specs.SearchState.{State, WayBack, HasNoEntry, IsGiven, AreApart, HasNumber, IsRightEntry, parked_entry, is_parked_end, parked_entries, LeadsToWide, IsStuck, IsSearch}
 use Rattle.cip_search.specs.Statements.{closed_entry, split_entry, AreHalves}
 use Rattle.cip_search.proofs.Members.{none_in, here, later, here_or_later, only_one, mapped, hits, hit, missed, none_hits, others_apart, rest_apart}

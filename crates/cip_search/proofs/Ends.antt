@@ -10,8 +10,8 @@ use Rattle.cip_problem.specs.Points.{printed}
 use Rattle.std.proofs.lemmas.List.{length-append}
 use Rattle.cip_problem.specs.Log.{Closed, Entry, IsLog}
 use Rattle.cip_problem.proofs.Log.Length.{log_is_short}
-use Rattle.cip_leaves.specs.Leaf.{Leaf}
-use Rattle.cip_leaves.specs.Searched.{first_node}
+use Rattle.cip_answers.specs.Leaf.{Leaf}
+use Rattle.cip_answers.specs.Searched.{first_node}
 use Rattle.cip_search.proofs.Members.{none_in}
 use Rattle.cip_search.proofs.OneMore.{follow_more}
 use Rattle.cip_search.proofs.Alike.{is_log, is_log_from}

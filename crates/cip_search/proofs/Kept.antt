@@ -13,7 +13,7 @@ use Rattle.cip_cuts.specs.Improving.{HoldsInBox, IsBoundIn, IsNoDearer}
 use Rattle.cip_cuts.specs.Cover.{IsBounded, IsCover, IsReplacedBy}
 use Rattle.cip_cuts.proofs.Covers as covers
 use Rattle.cip_cuts.proofs.Improving.{fewer}
-use Rattle.cip_leaves.specs.Searched.{first_node, nodes_given, NoMore}
+use Rattle.cip_answers.specs.Searched.{first_node, nodes_given, NoMore}
 use Rattle.cip_search.specs.SearchState.{State, WayBack, IsWayBack, unended, all_nodes, IsGiven, IsAttained, IsSearch, IsAsGiven}
 use Rattle.cip_search.proofs.Members.{none_in, here, later, here_or_later, only_one, kept_was_there, is_kept, hits, same_hits, fewer_hits}
 use Rattle.cip_search.proofs.Bounds.{HoldsThere, no_more_itself, there_inside, there_later, at_point, matters_at, matters_before}

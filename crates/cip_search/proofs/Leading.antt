@@ -10,11 +10,11 @@ use Rattle.cip_problem.specs.Log.{Entry, Node, AllFollow}
 use Rattle.cip_cuts.specs.Improving.{IsNoDearer}
 use Rattle.cip_cuts.proofs.Improving.{fewer}
 use Rattle.cip_cuts.proofs.Reductions.{reduction_itself}
-use Rattle.cip_leaves.specs.Leaf.{Leaf}
-use Rattle.cip_leaves.specs.Searched.{first_node}
-use Rattle.cip_leaves.specs.WideLeaf.{Shown, IsWideLeaf}
-use Rattle.cip_leaves.specs.WideNodes.{IsWideAs}
-use Rattle.cip_leaves.proofs.Points.{only_leaf_of}
+use Rattle.cip_answers.specs.Leaf.{Leaf}
+use Rattle.cip_answers.specs.Searched.{first_node}
+use Rattle.cip_answers.specs.WideLeaf.{Shown, IsWideLeaf}
+use Rattle.cip_answers.specs.WideNodes.{IsWideAs}
+use Rattle.cip_answers.proofs.PassedOn.{only_leaf_of}
 use Rattle.cip_search.specs.SearchState.{State, WayBack, stay, IsWayBack, unended, IsGiven, LeadsBackTo, LeadsToWide, IsStuckAt, IsStuck, IsWideBack, IsSearch}
 use Rattle.cip_search.specs.EndLaws.{IsFirstLeastNode, IsShownNode}
 use Rattle.cip_search.proofs.Members.{here}

@@ -16,7 +16,7 @@ use Rattle.cip_cuts.specs.Cover.{IsInOneOf, IsCover, HasBoundFrom}
 use Rattle.cip_cuts.specs.Reduced.{HasNoDearer}
 use Rattle.cip_cuts.proofs.Covers as covers
 use Rattle.cip_cuts.proofs.Reductions.{reduction_bound, reduction_no_point}
-use Rattle.cip_leaves.specs.Searched.{first_node}
+use Rattle.cip_answers.specs.Searched.{first_node}
 use Rattle.cip_search.specs.SearchState.{State, WayBack, unended, all_nodes, IsGiven, IsSearch}
 use Rattle.cip_search.specs.Endings.{NoneMatters, HasWidePoint}
 use Rattle.cip_search.proofs.Bounds.{at_point, matters_at}

@@ -10,9 +10,9 @@ use Rattle.cip_problem.specs.Program.{Program}
 use Rattle.cip_problem.specs.WellFormed.{IsWellFormed}
 use Rattle.cip_problem.specs.Points.{IsFeasible, cost_of, printed, IsLowerBound}
 use Rattle.cip_problem.specs.Log.{Entry, matters}
-use Rattle.cip_leaves.specs.Leaf.{Leaf}
-use Rattle.cip_leaves.specs.Searched.{NoMore, OpenMatters, ParkedMatters, IsOneOf, IsLeast}
-use Rattle.cip_leaves.specs.WideLeaf.{Shown, IsWideLeaf}
+use Rattle.cip_answers.specs.Leaf.{Leaf}
+use Rattle.cip_answers.specs.Searched.{NoMore, OpenMatters, ParkedMatters, IsOneOf, IsLeast}
+use Rattle.cip_answers.specs.WideLeaf.{Shown, IsWideLeaf}
 use Rattle.cip_search.specs.Endings.{HasWidePoint}
 use Rattle.cip_search.specs.SearchEnds as ends
 use Rattle.cip_search.specs.SearchEnds.{Ended, Optimal, Infeasible, Unbounded, NodeLimit, Gap, Wide, NoMemory, Held, Answer, cost_of_held, IsHeldPoint, ReachesGap, NothingIsLeft, EndsAs, Agrees, IsCheaper, IsUnbounded, EndHolds}

@@ -7,10 +7,10 @@ use Rattle.cip_rational.specs.Rational.{ℚ}
 use Rattle.cip_problem.specs.Program.{Program}
 use Rattle.cip_problem.specs.Points.{IsFeasible, cost_of, printed}
 use Rattle.cip_problem.specs.Log.{Entry, IsLog}
-use Rattle.cip_leaves.specs.Leaf.{Leaf}
-use Rattle.cip_leaves.specs.Wide.{InRow, InCost}
-use Rattle.cip_leaves.specs.Searched.{OpenMatters, ParkedMatters}
-use Rattle.cip_leaves.specs.WideLeaf.{Shown, AtPlace, AfterMoves, IsWideLeaf}
+use Rattle.cip_answers.specs.Leaf.{Leaf}
+use Rattle.cip_answers.specs.Wide.{InRow, InCost}
+use Rattle.cip_answers.specs.Searched.{OpenMatters, ParkedMatters}
+use Rattle.cip_answers.specs.WideLeaf.{Shown, AtPlace, AfterMoves, IsWideLeaf}
 use Rattle.cip_search.specs.Endings.{HasWidePoint}
 use Rattle.cip_search.specs.SearchEnds.{IsShownLeaf, ReachesGap, NothingIsLeft}
 use Rattle.cip_answers.specs.Figures.{Overflow, AtRow, AtCost, AtMoves, Status, Figures, Held}

@@ -10,5 +10,5 @@ pub mod SearchEnds
 pub mod SearchState
 pub mod Statements
 pub use Rattle.cip_answers.specs.Figures
-pub use Rattle.cip_leaves.specs.Leaf
+pub use Rattle.cip_answers.specs.Leaf
 pub use Rattle.cip_answers.specs.ProgramState

@@ -5,7 +5,7 @@ use Rattle.cip_problem.specs.Program.{Program}
 use Rattle.cip_problem.specs.WellFormed.{columns}
 use Rattle.cip_problem.specs.Points.{printed}
 use Rattle.cip_problem.specs.Log.{Entry}
-use Rattle.cip_leaves.specs.Searched.{NoMore}
+use Rattle.cip_answers.specs.Searched.{NoMore}
 use Rattle.cip_search.specs.SearchEnds.{Held, Answer, IsAnswer}
 use Rattle.cip_search.specs.SearchEnds.{Ended, Optimal, Infeasible, Unbounded, NodeLimit, Gap, Wide, NoMemory}
 use Rattle.cip_answers.specs.Figures.{Status, Figures, Held as PrintedHeld}

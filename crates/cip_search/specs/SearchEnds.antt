@@ -9,9 +9,9 @@ use Rattle.cip_problem.specs.Points.{IsFeasible, cost_of, IsLowerBound}
 use Rattle.cip_problem.specs.Choices.{decided}
 use Rattle.cip_problem.specs.Log.{Entry, Node, node_of, IsLog}
 use Rattle.cip_answers.specs.Falling.{FallsWithoutEnd}
-use Rattle.cip_leaves.specs.Leaf.{Leaf, IsLeafOf}
-use Rattle.cip_leaves.specs.Searched.{nodes_given, OpenMatters, ParkedMatters, IsLeast, IsCovered, AreTrueEntries, LeadsTo, IsFirstLeast}
-use Rattle.cip_leaves.specs.WideLeaf.{Shown, IsWideBy, IsWideLeaf}
+use Rattle.cip_answers.specs.Leaf.{Leaf, IsLeafOf}
+use Rattle.cip_answers.specs.Searched.{nodes_given, OpenMatters, ParkedMatters, IsLeast, IsCovered, AreTrueEntries, LeadsTo, IsFirstLeast}
+use Rattle.cip_answers.specs.WideLeaf.{Shown, IsWideBy, IsWideLeaf}
 use Rattle.cip_search.specs.Endings.{HasWidePoint}
 
 -- how a search ended

@@ -13,9 +13,9 @@ use Rattle.cip_problem.specs.Log.{End, Split, Closed, Parked, Entry, Node, node_
 use Rattle.cip_cuts.specs.Improving.{HoldsInBox, IsBoundIn}
 use Rattle.cip_cuts.specs.Cover.{IsCover}
 use Rattle.cip_cuts.specs.Reduced.{IsReduction}
-use Rattle.cip_leaves.specs.Leaf.{at_wholes, Leaf, IsLeafOf, IsOnlyLeafOf}
-use Rattle.cip_leaves.specs.Searched.{first_node, nodes_given, IsLeftOpen, NoMore, HasPointOfLeaf}
-use Rattle.cip_leaves.specs.WideLeaf.{Shown, IsWideBy}
+use Rattle.cip_answers.specs.Leaf.{at_wholes, Leaf, IsLeafOf, IsOnlyLeafOf}
+use Rattle.cip_answers.specs.Searched.{first_node, nodes_given, IsLeftOpen, NoMore, HasPointOfLeaf}
+use Rattle.cip_answers.specs.WideLeaf.{Shown, IsWideBy}
 
 -- where a search stands: the cost held, if a point is; the nodes in work, the open and the parked ones, each with the
 -- box and the bound that it has now; and the log

@@ -10,8 +10,8 @@ use Rattle.cip_problem.specs.Log.{Split, Closed, Parked, Entry, Node, root, low_
 use Rattle.cip_answers.specs.LinearProgram.{IsOptimal}
 use Rattle.cip_cuts.specs.Improving.{HoldsInBox, IsBoundIn, HasNoImproving, IsNoDearer}
 use Rattle.cip_cuts.specs.Cover.{HasBoundFrom}
-use Rattle.cip_leaves.specs.Searched.{first_node, nodes_given, OpenMatters, ParkedMatters, NoMore, IsLeast, IsCovered, AreTrueEntries}
-use Rattle.cip_leaves.specs.Wide.{IsWide}
+use Rattle.cip_answers.specs.Searched.{first_node, nodes_given, OpenMatters, ParkedMatters, NoMore, IsLeast, IsCovered, AreTrueEntries}
+use Rattle.cip_answers.specs.Wide.{IsWide}
 use Rattle.cip_search.specs.SearchState.{State, WayBack, stay, IsWayBack, unended, all_nodes, IsAttained, IsStuck, IsSearch, IsAsGiven, HasGivenBoxes}
 use Rattle.cip_search.specs.Endings.{OneMatters, NoneMatters, HasWidePoint, IsLeastBound}
 use Rattle.cip_search.specs.Relaxation.{relaxation, IsRelaxedBound}

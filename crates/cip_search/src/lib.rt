@@ -9,7 +9,7 @@ pub mod search_ends;
 ghost use Rattle.std.specs.Prelude.{Option};
 ghost use Rattle.cip_rational.specs.Rational.{ℚ};
 ghost use Rattle.cip_problem.specs.Program.{Program};
-ghost use Rattle.cip_leaves.specs.Wide.{IsWide};
+ghost use Rattle.cip_answers.specs.Wide.{IsWide};
 ghost use Rattle.cip_search.specs.SearchState.{WayBack};
 ghost use Rattle.cip_search.specs.Statements.{StepsKeepSearches, StepsKeepGiven, StepsKeepBoxes, WaysAreFree, SearchesTell, SearchLogsTell, EntriesAreTrue, RelaxedBoundsHold};
 

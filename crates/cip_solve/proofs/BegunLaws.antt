@@ -28,10 +28,10 @@ use Rattle.cip_search.specs.SearchAnswers.{IsSearchAnswer}
 use Rattle.cip_search.proofs.Logs.{true_entries}
 use Rattle.cip_search.proofs.WorkLogs.{none_relaxed, none_marked}
 use Rattle.cip_tree.specs.Nodes.{Nodes}
-use Rattle.cip_core.specs.Beginning.{IsRootBound, HasNotBegun}
-use Rattle.cip_core.specs.CoreStates.{CoreState, reduced_of, way_of, IsSound}
-use Rattle.cip_core.specs.KeptNodes.{cost_held, IsKept}
-use Rattle.cip_node_bounds.specs.declared.relaxed.Mark.{Mark}
+use Rattle.cip_processing.specs.Beginning.{IsRootBound, HasNotBegun}
+use Rattle.cip_processing.specs.CoreStates.{CoreState, reduced_of, way_of, IsSound}
+use Rattle.cip_processing.specs.KeptNodes.{cost_held, IsKept}
+use Rattle.cip_processing.specs.Mark.{Mark}
 use Rattle.cip_solve.specs.Reducing.{IsOfReduced}
 use Rattle.cip_solve.specs.Solved.{AreMet, IsSolved, IsSolvedBy}
 use Rattle.cip_solve.specs.Searching.{IsStillAt, IsAtRoot, IsTold, IsWritten, CanBeSeen}

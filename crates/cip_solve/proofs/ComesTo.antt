@@ -16,10 +16,10 @@ use Rattle.cip_search.specs.Endings.{OneMatters, NoneMatters, IsBoundOfOne, IsLe
 use Rattle.cip_search.proofs.Members.{none_in, here}
 use Rattle.cip_search.specs.EndLaws.{IsShownNode, ComesTo}
 use Rattle.cip_search.proofs.Leading.{shown_node}
-use Rattle.cip_leaf.specs.declared.answers.Shown.{Shown}
+use Rattle.cip_processing.specs.Shown.{Shown}
 use Rattle.cip_endings.specs.Ended.{Ended}
 use Rattle.cip_endings.specs.Ended.TheVariants.{Optimal, Infeasible, Unbounded, NodeLimit, Gap, Wide, NoMemory}
-use Rattle.cip_leaf.specs.LeafAnswers.{shown_as}
+use Rattle.cip_processing.specs.LeafAnswers.{shown_as}
 use Rattle.cip_endings.specs.AnswerOf.{ended_of}
 use Rattle.cip_endings.specs.LeastBounds.{least_of, bound_held}
 use Rattle.cip_endings.specs.Ends.{one_matters, IsShownWorst, EndsBy}

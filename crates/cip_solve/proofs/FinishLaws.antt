@@ -24,8 +24,8 @@ use Rattle.cip_seen.specs.SeenLogs.{log_seen}
 use Rattle.cip_search.proofs.StartBounds.{answer_above}
 use Rattle.cip_tree.specs.Moves as tree
 use Rattle.cip_tree.specs.Nodes.{Nodes}
-use Rattle.cip_node_bounds.specs.declared.relaxed.Mark.{Mark}
-use Rattle.cip_core.specs.KeptNodes.{cost_held, state_of, IsHolding}
+use Rattle.cip_processing.specs.Mark.{Mark}
+use Rattle.cip_processing.specs.KeptNodes.{cost_held, state_of, IsHolding}
 use Rattle.cip_endings.specs.Ended.{Ended}
 use Rattle.cip_endings.specs.Ended.TheVariants.{Optimal, Infeasible, Unbounded, NodeLimit, Gap, Wide, NoMemory}
 use Rattle.cip_endings.specs.Held.{Held}

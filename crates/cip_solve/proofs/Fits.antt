@@ -24,11 +24,11 @@ use Rattle.cip_search.specs.SearchAnswers.{IsSearchAnswer}
 use Rattle.cip_endings.specs.Answers.{StandsAmong, EndedFits, AnswerFits}
 use Rattle.cip_endings.specs.Ended.{Ended}
 use Rattle.cip_endings.specs.Ended.TheVariants.{Optimal, Infeasible, Unbounded, NodeLimit, Gap, Wide, NoMemory}
-use Rattle.cip_leaf.specs.declared.answers.Shown.{Shown}
-use Rattle.cip_leaf.specs.declared.answers.Shown.TheVariants.{Place, Moves}
+use Rattle.cip_processing.specs.Shown.{Shown}
+use Rattle.cip_processing.specs.Shown.TheVariants.{Place, Moves}
 use Rattle.cip_endings.specs.Held.{Held}
 use Rattle.cip_endings.specs.Answer.{Answer}
-use Rattle.cip_leaf.specs.LeafAnswers.{shown_as}
+use Rattle.cip_processing.specs.LeafAnswers.{shown_as}
 use Rattle.cip_endings.specs.AnswerOf.{ended_of, held_of, answer_of}
 use Rattle.cip_solve.proofs.FirstRows.{first_row_there}
 

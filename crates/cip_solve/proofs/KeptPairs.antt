@@ -14,7 +14,7 @@ use Rattle.cip_reductions.proofs.Spreading.{numbers_listed}
 use Rattle.cip_processing.specs.Presolved.{Presolved}
 use Rattle.cip_processing.specs.PresolvedPrograms.{IsPresolved}
 use Rattle.cip_processing.specs.StepsBack.{point_back, old_number}
-use Rattle.cip_core.specs.CoreStates.{CoreState, reduced_of}
+use Rattle.cip_processing.specs.CoreStates.{CoreState, reduced_of}
 use Rattle.cip_solve.specs.Logs.{renamed}
 use Rattle.cip_solve.specs.Reducing.{IsOfReduced}
 use Rattle.cip_solve.specs.Searching.{CanBeSeen}

@@ -14,7 +14,7 @@ use Rattle.cip_seen.specs.SeenLogs.{entry_seen, log_seen, with_box_of, node_seen
 use Rattle.cip_seen.specs.Statements.{IsReducedTo, IsLogSeen, IsSeen}
 use Rattle.cip_seen.proofs.LogsSeen.{logs_are_seen}
 use Rattle.cip_seen.proofs.SeenEnds.{searches_are_seen}
-use Rattle.cip_core.specs.KeptNodes.{cost_held, state_of, AllMatter}
+use Rattle.cip_processing.specs.KeptNodes.{cost_held, state_of, AllMatter}
 use Rattle.cip_solve.specs.FirstStops.{IsShortAt, IsFirstStop}
 use Rattle.cip_solve.specs.Searching.{WasShortAt, WasShort, CanBeSeen}
 

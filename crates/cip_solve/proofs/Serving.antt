@@ -16,8 +16,8 @@ use Rattle.cip_seats.proofs.Running.{calls_of-append, Runs-append}
 use Rattle.cip_processing.specs.Wished.{Ran}
 use Rattle.cip_processing.specs.Served.{is_wanted, IsServed}
 use Rattle.cip_processing.proofs.PassedOn.{between}
-use Rattle.cip_core.specs.CoreStates.{CoreState}
-use Rattle.cip_node_bounds.specs.declared.relaxed.Mark.{Mark}
+use Rattle.cip_processing.specs.CoreStates.{CoreState}
+use Rattle.cip_processing.specs.Mark.{Mark}
 use Rattle.cip_processing.specs.NodeEnd.{NodeEnd}
 use Rattle.cip_processing.specs.NodeEnd.TheVariants as by
 use Rattle.cip_processing.specs.NodeRecord.{NodeRecord}

@@ -8,8 +8,8 @@ use Rattle.cip_problem.specs.Log.{End, Split, Closed, Parked, Entry, Node}
 use Rattle.cip_search.specs.SearchEnds as ends
 use Rattle.cip_seen.specs.SeenLogs.{end_seen, entry_seen, log_seen}
 use Rattle.cip_processing.specs.Presolved.{Presolved}
-use Rattle.cip_node_bounds.specs.declared.relaxed.Mark.{Mark}
-use Rattle.cip_core.specs.CoreStates.{CoreState, reduced_of, way_of}
+use Rattle.cip_processing.specs.Mark.{Mark}
+use Rattle.cip_processing.specs.CoreStates.{CoreState, reduced_of, way_of}
 use Rattle.cip_solve.specs.Answered.{IsAnswered}
 use Rattle.cip_solve.specs.FirstStops.{StopsFirst}
 use Rattle.cip_solve.specs.Logs.{renamed}

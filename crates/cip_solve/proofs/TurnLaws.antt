@@ -7,17 +7,17 @@ use Rattle.cip_problem.specs.Program.{Program}
 use Rattle.cip_processing.specs.StepsBack.{StepsTaken, way_back}
 use Rattle.cip_problem.specs.Log.{End, Split, Closed, Parked, Entry, Node}
 use Rattle.cip_cuts.specs.Improving.{IsNoDearer}
-use Rattle.cip_leaf.specs.LeafAnswers.{shown_as}
+use Rattle.cip_processing.specs.LeafAnswers.{shown_as}
 use Rattle.cip_incumbent.specs.HeldPoint.{Holding}
 use Rattle.cip_search.specs.SearchState.{WayBack}
 use Rattle.cip_search.specs.Endings.{IsLeastBound}
 use Rattle.cip_tree.specs.Moves as tree
 use Rattle.cip_tree.specs.Nodes.{Nodes, TakenNode, shown}
-use Rattle.cip_node_bounds.specs.declared.relaxed.Mark.{Mark}
-use Rattle.cip_core.specs.CoreStates.{CoreState, reduced_of, way_of, held_of, IsKeptIn, IsTakenUp}
-use Rattle.cip_core.specs.KeptNodes.{cost_held, state_of, IsHolding}
-use Rattle.cip_core.specs.Later.{IsLater}
-use Rattle.cip_core.specs.Steps.{LeavesEntry, IsBack}
+use Rattle.cip_processing.specs.Mark.{Mark}
+use Rattle.cip_processing.specs.CoreStates.{CoreState, reduced_of, way_of, held_of, IsKeptIn, IsTakenUp}
+use Rattle.cip_processing.specs.KeptNodes.{cost_held, state_of, IsHolding}
+use Rattle.cip_processing.specs.Later.{IsLater}
+use Rattle.cip_processing.specs.Steps.{LeavesEntry, IsBack}
 use Rattle.cip_tree.specs.Moves.{TakesFirst}
 use Rattle.cip_processing.specs.NodeEnds.{IsEndless as EndsEndless}
 use Rattle.cip_processing.specs.NodeEnd.{NodeEnd}

@@ -14,11 +14,11 @@ use Rattle.cip_search.proofs.Relaxed.{wider}
 use Rattle.cip_search.specs.SearchAnswers.{IsSplitEnd, AreRelaxed, AreOfEntries}
 use Rattle.cip_search.proofs.WorkLogs.{unmarked_more, marked_more, later_given, relaxed_more}
 use Rattle.cip_tree.specs.Nodes.{TakenNode, shown}
-use Rattle.cip_node_bounds.specs.NodeRows.{usable_rows}
-use Rattle.cip_node_bounds.specs.Relaxing.{IsMark}
-use Rattle.cip_node_bounds.specs.declared.relaxed.Mark.{Mark}
-use Rattle.cip_core.specs.CoreStates.{CoreState, reduced_of, held_of, IsTakenUp}
-use Rattle.cip_core.specs.Steps.{LeavesEntry}
+use Rattle.cip_processing.specs.NodeRows.{usable_rows}
+use Rattle.cip_processing.specs.Relaxing.{IsMark}
+use Rattle.cip_processing.specs.Mark.{Mark}
+use Rattle.cip_processing.specs.CoreStates.{CoreState, reduced_of, held_of, IsTakenUp}
+use Rattle.cip_processing.specs.Steps.{LeavesEntry}
 use Rattle.cip_processing.specs.Bounding.{IsMarkOf, IsAsGood}
 use Rattle.cip_leaves.specs.Leaf.{Leaf}
 use Rattle.cip_processing.specs.NodeEnd.{NodeEnd}

@@ -3,8 +3,8 @@ use Rattle.std.proofs.Common.{Bool, true, false, Option, Result, Ok, Err, sym, s
 use Rattle.std.specs.Prelude.{MatchResult}
 use Rattle.cip_problem.specs.Log.{Node}
 use Rattle.cip_tree.specs.Nodes.{TakenNode}
-use Rattle.cip_node_bounds.specs.declared.relaxed.Mark.{Mark}
-use Rattle.cip_core.specs.CoreStates.{CoreState}
+use Rattle.cip_processing.specs.Mark.{Mark}
+use Rattle.cip_processing.specs.CoreStates.{CoreState}
 use Rattle.cip_processing.specs.NodeEnds.{IsEnd, HasEnded}
 use Rattle.cip_processing.specs.NodeEnd.{NodeEnd}
 use Rattle.cip_processing.specs.NodeEnd.TheVariants as by

@@ -1,12 +1,12 @@
 -- What a search needs of how the work on a node ends, whoever did it: with plugins or without.
 use Rattle.std.specs.Prelude.{◌≡◌, ◌+◌, ◌≤◌, [], ℕ, ℤ, false, Option, IfSome}
 use Rattle.cip_problem.specs.Log.{Split, Closed, Node}
-use Rattle.cip_leaf.specs.LeafAnswers.{shown_as}
-use Rattle.cip_node_bounds.specs.declared.relaxed.Mark.{Mark}
+use Rattle.cip_processing.specs.LeafAnswers.{shown_as}
+use Rattle.cip_processing.specs.Mark.{Mark}
 use Rattle.cip_tree.specs.Nodes.{TakenNode, box_of, shown}
-use Rattle.cip_core.specs.CoreStates.{CoreState, IsKeptIn}
-use Rattle.cip_core.specs.Later.{IsLater, IsNarrower}
-use Rattle.cip_core.specs.Steps.{LeavesEntry}
+use Rattle.cip_processing.specs.CoreStates.{CoreState, IsKeptIn}
+use Rattle.cip_processing.specs.Later.{IsLater, IsNarrower}
+use Rattle.cip_processing.specs.Steps.{LeavesEntry}
 use Rattle.cip_processing.specs.Bounding.{IsMarkOf, IsAsGood}
 use Rattle.cip_processing.specs.NodeEnds.{IsAside, IsEndless}
 use Rattle.cip_processing.specs.NodeEnd.{NodeEnd}

@@ -16,10 +16,10 @@ use Rattle.cip_search.specs.SearchAnswers.{AreRelaxed, AreOfEntries, IsParkedLas
 use Rattle.cip_search.specs.SearchState.{WayBack, HasGivenBoxes}
 use Rattle.cip_reductions.specs.Pairs.{IsPair}
 use Rattle.cip_tree.specs.Nodes.{Nodes}
-use Rattle.cip_node_bounds.specs.declared.relaxed.Mark.{Mark}
-use Rattle.cip_core.specs.Beginning.{IsRootBound}
-use Rattle.cip_core.specs.CoreStates.{CoreState, reduced_of, way_of, held_of}
-use Rattle.cip_core.specs.KeptNodes.{cost_held, state_of, IsSearchOf, IsKept, AllMatter, IsHolding}
+use Rattle.cip_processing.specs.Mark.{Mark}
+use Rattle.cip_processing.specs.Beginning.{IsRootBound}
+use Rattle.cip_processing.specs.CoreStates.{CoreState, reduced_of, way_of, held_of}
+use Rattle.cip_processing.specs.KeptNodes.{cost_held, state_of, IsSearchOf, IsKept, AllMatter, IsHolding}
 use Rattle.cip_endings.specs.Gaps.{reaches_gap}
 use Rattle.cip_solve.specs.Logs.{numbers_of}
 use Rattle.cip_solve.specs.Solved.{AreMet}

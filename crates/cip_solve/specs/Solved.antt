@@ -10,9 +10,9 @@ use Rattle.cip_leaves.specs.Searched.{nodes_given}
 use Rattle.cip_model.specs.Rays.{IsShownRay}
 use Rattle.cip_search.specs.SearchEnds.{Unbounded, NoMemory, Answer}
 use Rattle.cip_search.specs.SearchAnswers.{IsSearchAnswer}
-use Rattle.cip_node_bounds.specs.Relaxing.{IsMark}
-use Rattle.cip_node_bounds.specs.declared.relaxed.Mark.{Mark}
-use Rattle.cip_core.specs.Beginning.{IsRootBound}
+use Rattle.cip_processing.specs.Relaxing.{IsMark}
+use Rattle.cip_processing.specs.Mark.{Mark}
+use Rattle.cip_processing.specs.Beginning.{IsRootBound}
 use Rattle.cip_solve.specs.Logs.{numbers_of}
 
 -- the program's rows, and no others

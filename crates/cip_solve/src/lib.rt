@@ -12,12 +12,11 @@ mod turns;
 mod works;
 
 pub use asking::Asking;
-pub use cip_core::{Asked, Core};
 pub use cip_kits::set_aside;
-pub use cip_node_bounds::Mark;
 pub use cip_presolve::{PresolveEnd, presolve};
 pub use cip_processing::{
-    Done, NoPlugins, NodeEnd, NodeRecord, NodeWork, Plugins, Presolved, Scratches, process,
+    Asked, Core, Done, Mark, NoPlugins, NodeEnd, NodeRecord, NodeWork, Plugins, Presolved,
+    Scratches, process,
 };
 pub use laws::answers_fit;
 pub use logs::Log;

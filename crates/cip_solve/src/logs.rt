@@ -4,7 +4,7 @@ ghost use Rattle.cip_tree.specs.Entries.{end_of};
 ghost use Rattle.cip_seen.specs.SeenLogs.{end_seen, log_seen};
 ghost use Rattle.cip_solve.specs.Logs.{entries_of, renamed};
 
-use cip_node_bounds::Mark;
+use cip_processing::Mark;
 use cip_tree::{End, Logged};
 use std::alloc::Global;
 

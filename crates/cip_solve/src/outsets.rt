@@ -2,7 +2,7 @@
 ghost use Rattle.std.specs.Prelude.{◌≡◌, IfOk, OnErr, length, vec_len, vec_capacity};
 ghost use Rattle.cip_problem.specs.WellFormed.{columns};
 ghost use Rattle.cip_processing.specs.PresolvedPrograms.{IsPresolved};
-ghost use Rattle.cip_core.specs.Beginning.{AreNearColumns};
+ghost use Rattle.cip_processing.specs.Beginning.{AreNearColumns};
 ghost use Rattle.cip_processing.specs.ProposalsJudged.{HaveRoom};
 ghost use Rattle.cip_processing.specs.Turns.{IsSound};
 ghost use Rattle.cip_kits.specs.Kits.{stock_of, IsFew, HasBegun, HasRoomFor};
@@ -10,13 +10,14 @@ ghost use Rattle.cip_solve.specs.Reducing.{IsOfReduced};
 ghost use Rattle.cip_solve.specs.Searching.{IsAtRoot};
 
 use crate::asking::Asking;
-use cip_core::Core;
 use cip_frac::Frac;
 use cip_kits::begin;
 use cip_lin::Combo;
 use cip_model::{Blocks, Program};
 use cip_plugin::{AnyPlugin, Kit, Tells, View};
-use cip_processing::{Last, NodeWork, Plugins, Presolved, Roster, Scratches, Seated, view_of};
+use cip_processing::{
+    Core, Last, NodeWork, Plugins, Presolved, Roster, Scratches, Seated, view_of,
+};
 use std::alloc::{AllocError, Global};
 
 /// What a search begins with: what is worked on, and room for the point that is found.

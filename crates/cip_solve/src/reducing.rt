@@ -3,7 +3,7 @@ ghost use Rattle.std.specs.Prelude.{◌≤◌, ◌^◌, ◌↔◌, unsigned_abs,
 ghost use Rattle.cip_rational.specs.Rational.{floor, ceil};
 ghost use Rattle.cip_node_rules.specs.SplitRules.{AreNear};
 ghost use Rattle.cip_processing.specs.PresolvedPrograms.{IsPresolved};
-ghost use Rattle.cip_core.specs.Beginning.{AreNearColumns};
+ghost use Rattle.cip_processing.specs.Beginning.{AreNearColumns};
 ghost use Rattle.cip_solve.specs.Reducing.{IsReducedFor, CanBeSearched};
 
 use cip_frac::Frac;

@@ -4,7 +4,7 @@ ghost use Rattle.cip_rational.specs.Rational.{ℚ};
 ghost use Rattle.cip_problem.specs.WellFormed.{columns};
 ghost use Rattle.cip_reductions.specs.NarrowedPrograms.{IsInfeasible};
 ghost use Rattle.cip_processing.specs.PresolvedPrograms.{IsPresolved, IsUnchanged};
-ghost use Rattle.cip_core.specs.Beginning.{AreNearColumns};
+ghost use Rattle.cip_processing.specs.Beginning.{AreNearColumns};
 ghost use Rattle.cip_endings.specs.AnswerOf.{answer_of};
 ghost use Rattle.cip_kits.specs.Kits.{stock_of, IsFew};
 ghost use Rattle.cip_solve.specs.FirstStops.{StopsFirst};
@@ -19,13 +19,12 @@ use crate::logs::Log;
 use crate::outsets::{Begun, Outset, set_out};
 use crate::reducing::reduced_for;
 use crate::works::{Alone, Works};
-use cip_core::root_bound;
 use cip_endings::{Answer, Ended};
 use cip_frac::Frac;
 use cip_kits::{end, is_bare};
 use cip_model::Program;
 use cip_plugin::{AnyPlugin, Kit, Tells};
-use cip_processing::{NodeWork, Presolved};
+use cip_processing::{NodeWork, Presolved, root_bound};
 use std::alloc::Global;
 
 /// What a search may do.

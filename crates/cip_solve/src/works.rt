@@ -2,8 +2,8 @@
 ghost use Rattle.std.specs.Prelude.{◌≡◌, ℕ, Bool, true, false, All, MatchResult};
 ghost use Rattle.cip_problem.specs.WellFormed.{columns};
 ghost use Rattle.cip_seats.specs.Seats.{State, is_settled};
-ghost use Rattle.cip_core.specs.CoreStates.{reduced_of};
-ghost use Rattle.cip_core.specs.Steps.{IsBack};
+ghost use Rattle.cip_processing.specs.CoreStates.{reduced_of};
+ghost use Rattle.cip_processing.specs.Steps.{IsBack};
 ghost use Rattle.cip_processing.specs.Looking.{CanWorkOn};
 ghost use Rattle.cip_solve.specs.NodesWorked.{HasWorked};
 ghost use Rattle.cip_solve.specs.SplitsServed.{splits_by, HasServed};

@@ -9,8 +9,8 @@ use Rattle.cip_problem.specs.Activity.{value_at}
 use Rattle.cip_problem.specs.Box.{sides_at, sides_equal}
 use Rattle.cip_row_reading.specs.Outcomes.{product_added}
 use Rattle.cip_row_reading.proofs.PassedOn.{product_added-value}
-use Rattle.cip_reductions.specs.NarrowedPrograms.{IsExactStep, IsInfeasible, with_cost}
-use Rattle.cip_reductions.proofs.RowSteps.{recosted, not_whole}
+use Rattle.cip_row_reading.specs.NarrowedPrograms.{IsExactStep, IsInfeasible, with_cost}
+use Rattle.cip_row_reading.proofs.PassedOn.{recosted, not_whole}
 use Rattle.cip_row_reading.specs.RowReading.{only_value}
 use Rattle.cip_steps.proofs.Ruled.{stays}
 

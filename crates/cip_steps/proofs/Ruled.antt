@@ -1,11 +1,11 @@
 -- Steps of the rules.
 use Rattle.std.proofs.Common.{◌≡◌, ℕ, zero, suc, ◌<◌, List, [], ◌∷◌, length, Some, slice_get, refl, sym, subst, arith}
 use Rattle.cip_problem.specs.Program.{Row, Program}
-use Rattle.cip_reductions.specs.NarrowedPrograms.{IsExactStep, IsInfeasible, with_row}
-use Rattle.cip_reductions.specs.RowSteps.{HoldsInAll, HoldsNowhere}
+use Rattle.cip_row_reading.specs.NarrowedPrograms.{IsExactStep, IsInfeasible, with_row}
+use Rattle.cip_row_reading.specs.RowSteps.{HoldsInAll, HoldsNowhere}
 use Rattle.cip_problem.specs.Program.{no_row}
-use Rattle.cip_reductions.proofs.Pairing.{exact_self, exact_after}
-use Rattle.cip_reductions.proofs.RowSteps.{dropped, broken, shifted}
+use Rattle.cip_row_reading.proofs.PassedOn.{exact_self, exact_after}
+use Rattle.cip_row_reading.proofs.PassedOn.{dropped, broken, shifted}
 use Rattle.cip_row_reading.specs.RowReading.{IsLeftRow}
 
 some_row : (rows : List Row) (number : ℕ) → number < length rows → (row : Row) × (slice_get rows number ≡ Some row)

@@ -16,10 +16,10 @@ use Rattle.cip_problem.proofs.Choices.Meeting.{between_both, between_met}
 use Rattle.cip_cuts.specs.Cuts.{rounded_low, rounded_high, rounded_sides}
 use Rattle.cip_cuts.proofs.Rounding.{sides_rounded}
 use Rattle.cip_row_reading.specs.MetSides.{is_past}
-use Rattle.cip_reductions.specs.NarrowedPrograms.{IsExactStep, IsInfeasible, with_row, with_sides}
-use Rattle.cip_reductions.specs.RowSteps.{divided_sides}
+use Rattle.cip_row_reading.specs.NarrowedPrograms.{IsExactStep, IsInfeasible, with_row, with_sides}
+use Rattle.cip_row_reading.specs.RowSteps.{divided_sides}
 use Rattle.cip_problem.specs.Program.{no_row}
-use Rattle.cip_reductions.proofs.RowSteps.{single_taken, divided, multiplied}
+use Rattle.cip_row_reading.proofs.PassedOn.{single_taken, divided, multiplied}
 use Rattle.cip_row_reading.specs.SingleRows.{HasOneTerm, inward_if, single_sides}
 use Rattle.cip_steps.specs.RuleEnds.{IsSingled}
 use Rattle.cip_row_reading.proofs.Enclosing.{past_below}

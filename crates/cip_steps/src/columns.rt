@@ -1,7 +1,7 @@
 //! The rule that looks at one column: one with equal sides costs nothing from then on.
 ghost use Rattle.std.specs.Prelude.{◌≡◌, ◌<◌, length};
 ghost use Rattle.cip_problem.specs.Activity.{value_at};
-ghost use Rattle.cip_reductions.specs.NarrowedPrograms.{IsExactStep, with_cost};
+ghost use Rattle.cip_row_reading.specs.NarrowedPrograms.{IsExactStep, with_cost};
 ghost use Rattle.cip_steps.specs.RuleEnds.{EndsRightly};
 
 use crate::drafts::Draft;

@@ -2,7 +2,7 @@
 ghost use Rattle.std.specs.Prelude.{◌≡◌, ◌<◌, ◌≤◌, false, length, slice_get, Some, All};
 ghost use Rattle.cip_problem.specs.Activity.{StandsBelow};
 ghost use Rattle.cip_problem.specs.Choices.{choice_at, is_open};
-ghost use Rattle.cip_reductions.specs.NarrowedPrograms.{with_row, with_sides};
+ghost use Rattle.cip_row_reading.specs.NarrowedPrograms.{with_row, with_sides};
 ghost use Rattle.cip_steps.specs.DraftParts.{IsDraft};
 
 use cip_row_reading::{Bounds, Choices, Frac, Row, Sides};

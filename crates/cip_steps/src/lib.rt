@@ -8,7 +8,7 @@ mod rules;
 
 pub use cip_model::{Names, Parts, Program};
 pub use cip_row_reading::{
-    Bounds, Least, Row, RowFault, Sides, Term, add_least, extent, single_sides,
+    Bounds, Least, Row, RowFault, Sides, Term, add_least, extent, less, only_value, single_sides,
 };
 pub use copies::{copied_rows, row_of_terms};
 pub use drafts::Draft;

@@ -1,6 +1,6 @@
 //! The rules that look at one row.
 ghost use Rattle.std.specs.Prelude.{◌≡◌, ◌<◌, length, slice_get, Some, IfOk, IfSome};
-ghost use Rattle.cip_reductions.specs.NarrowedPrograms.{IsExactStep, with_row};
+ghost use Rattle.cip_row_reading.specs.NarrowedPrograms.{IsExactStep, with_row};
 ghost use Rattle.cip_problem.specs.Program.{no_row};
 ghost use Rattle.cip_problem.specs.Program as problem;
 ghost use Rattle.cip_row_reading.specs.RowReading.{SaysRightly};

@@ -6,6 +6,9 @@ mod enforcing;
 mod rules;
 mod verdicts;
 
-pub use cip_calls::{Core, Mark, PostsolveFault, Presolved, postsolve};
+pub use cip_calls::{
+    Asks, Came, Core, JudgeFault, Judged, Last, Mark, NoPlugins, Plugins, PostsolveFault,
+    Presolved, Round, Scratches, Turn, postsolve, view_of,
+};
 pub use enforcing::{Verdict, enforce};
 pub use rules::ask_rules;

@@ -6,9 +6,9 @@ use Rattle.cip_turns.specs.CoreStates.{CoreState, reduced_of, IsTakenUp}
 use Rattle.cip_turns.specs.Steps.{aged}
 use Rattle.cip_node.proofs.EndLaws.{looked_core}
 use Rattle.cip_node.proofs.Looked.{look_empty}
-use Rattle.cip_judge.specs.ProposalsJudged.{HaveRoom}
-use Rattle.cip_calls.specs.Noted.{IsReady, HasMoreRows}
-use Rattle.cip_calls.proofs.Pools.{more_same}
+use Rattle.cip_turns.specs.ProposalsJudged.{HaveRoom}
+use Rattle.cip_turns.specs.Noted.{IsReady, HasMoreRows}
+use Rattle.cip_turns.proofs.PassedOn.{more_same}
 use Rattle.cip_processing.specs.NodesReached.{HasMoved}
 use Rattle.cip_processing.proofs.Closing.{moved_looked, moved_further}
 use Rattle.cip_processing.proofs.Coming.{ran_none}

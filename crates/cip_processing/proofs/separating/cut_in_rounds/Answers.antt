@@ -1,7 +1,7 @@
 use Rattle.std.proofs.Common.{◌∷◌, [], ◌∙◌, sym, subst}
 use Rattle.cip_plugin.specs.Calls.{Separate}
-use Rattle.cip_calls.proofs.Noting.{come_further}
-use Rattle.cip_calls.proofs.Serving.{used_again, accepted_open}
+use Rattle.cip_turns.proofs.PassedOn.{come_further}
+use Rattle.cip_turns.proofs.PassedOn.{used_again, accepted_open}
 use Rattle.cip_processing.specs.NodesReached.{IsFoundBy}
 use Rattle.cip_processing.proofs.Standing.{found_open}
 use Rattle.cip_processing.proofs.separating.cut_in_rounds.Goals as goal

@@ -1,8 +1,8 @@
 use Rattle.std.proofs.Common.{◌∷◌, [], ◌∙◌, sym}
 use Rattle.cip_plugin.specs.Calls.{Separate}
-use Rattle.cip_calls.proofs.Noting.{come_further}
-use Rattle.cip_calls.proofs.Pools.{cuts_not_sides, quiet_left}
-use Rattle.cip_calls.proofs.Serving.{accepted_open}
+use Rattle.cip_turns.proofs.PassedOn.{come_further}
+use Rattle.cip_turns.proofs.PassedOn.{cuts_not_sides, quiet_left}
+use Rattle.cip_turns.proofs.PassedOn.{accepted_open}
 use Rattle.cip_processing.proofs.Standing.{found_by, found_stays}
 use Rattle.cip_processing.proofs.Using.{all_ok, used_before}
 use Rattle.cip_processing.proofs.separating.cut_once.Goals as goal

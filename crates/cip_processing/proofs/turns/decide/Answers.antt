@@ -1,6 +1,6 @@
 use Rattle.std.proofs.Common.{[], subst}
-use Rattle.cip_calls.proofs.Noting.{come_further}
-use Rattle.cip_calls.proofs.Serving.{used_further}
+use Rattle.cip_turns.proofs.PassedOn.{come_further}
+use Rattle.cip_turns.proofs.PassedOn.{used_further}
 use Rattle.cip_turns.specs.Enforcing.{IsVerdict}
 use Rattle.cip_processing.proofs.Standing.{found_stays, open_stays}
 use Rattle.cip_processing.proofs.turns.decide.Goals as goal
