@@ -4,7 +4,10 @@ use Rattle.cip_problem.specs.Program.{Program}
 use Rattle.cip_line_texts.specs.LineTexts.{HasResult}
 use Rattle.cip_line_texts.specs.LineStream.{stream_of, FaultsOfEndedLines}
 use Rattle.cip_line_stream.specs.PieceCuts.{no_bytes, known_fault}
-use Rattle.cip_line_stream.proofs.Streams.{first_stands, quiet, faulty}
+use Rattle.cip_line_stream.specs.TextFaults.{IsSaid}
+use Rattle.cip_line_stream.specs.declared.text_faults.ReadFault.{ReadFault}
+use Rattle.cip_line_stream.proofs.Streams.{first_stands}
+use Rattle.cip_line_stream.proofs.FaultsTold.{fed_by}
 use Rattle.cip_parts.specs.BlockParts.{Blocks}
 use Rattle.cip_parts.specs.NamesOnce.{StandOnce}
 use Rattle.cip_parts.specs.BlockMeaning.{AreBlocks}
@@ -12,13 +15,12 @@ use Rattle.cip_block_rules.specs.BlockStatements.{BlocksAreApart}
 use Rattle.cip_block_rules.specs.BlockRules.{block_reading}
 use Rattle.cip_block_rules.specs.BlockSteps.{no_state, block_steps}
 use Rattle.cip_block_rules.specs.BlockStepStatements.{BlockFaultsOfEndedLines}
-use Rattle.cip_blocks.specs.declared.faults.ReadFault.{ReadFault}
-use Rattle.cip_blocks.specs.declared.faults.ReadFault.TheVariants.{Faulty, NoMemory}
+use Rattle.cip_blocks.specs.declared.kinds.BlockKind.{BlockKind}
 use Rattle.cip_blocks.specs.declared.block_text.BlockText.{BlockText}
 use Rattle.cip_blocks.specs.declared.reader.BlockReader.{BlockReader}
-use Rattle.cip_blocks.specs.BlockKinds.{kind_number}
+use Rattle.cip_blocks.specs.BlockKindTexts.{kind_number}
 use Rattle.cip_blocks.specs.BlockTexts.{kept_of, state_of, program_of, steps_of, StandsFor}
-use Rattle.cip_blocks.specs.BlockReaders.{HasRead, IsSaid, IsFed}
+use Rattle.cip_blocks.specs.BlockReaders.{HasRead, IsSpent, IsFed}
 use Rattle.cip_blocks.specs.EndedBlocks.{IsFaultOf}
 
 -- before the first piece
@@ -48,23 +50,13 @@ module _ (reader after : BlockReader) (held now : BlockText) (program : Program)
     stands = subst (λ (p : Program). StandsFor now (stream_of (block_steps p) (text ++ piece))) (sym (same ∙ held_program)) now_stands;
   }
 
-  pub fed : BlockFaultsOfEndedLines → StandOnce (program_of now).row_names → (answer : Result (Unit {0}) ReadFault) → IsSaid (known_fault 9 (kept_of now)) answer → IsFed program after (text ++ piece) answer
-  fed law once answer said = go answer said
+  pub fed : BlockFaultsOfEndedLines → StandOnce (program_of now).row_names → (answer : Result (Unit {0}) (ReadFault BlockKind)) → IsSaid kind_number (known_fault 9 (kept_of now)) answer → IsFed program after (text ++ piece) answer
+  fed law once answer said = fed_by (block_reading program) (block_steps program) ended (text ++ piece) (kept_of now) (state_of now) now_stands kind_number (HasRead after program (text ++ piece)) (IsSpent after) now_read answer said
     where
       ended : FaultsOfEndedLines (block_reading program) (block_steps program)
       ended = law program (subst (λ (p : Program). StandOnce p.row_names) (same ∙ held_program) once)
 
-      go : (answer : Result (Unit {0}) ReadFault) → IsSaid (known_fault 9 (kept_of now)) answer → IsFed program after (text ++ piece) answer
-      go (Ok _) s = (now_read, quiet (block_reading program) (block_steps program) ended (text ++ piece) (kept_of now) (state_of now) now_stands s)
-      go (Err (Faulty fault)) s = (now_read, faulty (block_reading program) (block_steps program) ended (text ++ piece) (kept_of now) (state_of now) now_stands (record { line = fault.line; kind = kind_number fault.kind }) s)
-      go (Err NoMemory) s = absurd s
-
--- why a text that came whole gives no blocks
-pub whole_fault : (after : BlockReader) (program : Program) (text : List ℕ) (fault : ReadFault) → IsFed program after text (Err fault) → IsFaultOf program text fault
-whole_fault after program text (Faulty fault) h = h.1.fault
-whole_fault after program text NoMemory h = tt
-
 -- the blocks of a text are such
-pub whole_apart : BlocksAreApart → (program : Program) (text : List ℕ) (answer : Result Blocks ReadFault) → MatchResult answer (HasResult (block_reading program) text) (IsFaultOf program text) → IfOk answer (AreBlocks program)
+pub whole_apart : BlocksAreApart → (program : Program) (text : List ℕ) (answer : Result Blocks (ReadFault BlockKind)) → MatchResult answer (HasResult (block_reading program) text) (IsFaultOf program text) → IfOk answer (AreBlocks program)
 whole_apart law program text (Ok blocks) h = law program text blocks h
 whole_apart law program text (Err fault) h = tt

@@ -1,6 +1,11 @@
 -- The kinds of faults of a text of blocks: the number and the name of each, as they are printed.
 use lib.Chars.{codes}
 use Rattle.std.specs.Prelude.{ℕ, ◌-◌, List, [], ◌∷◌, slice_index_or}
+use Rattle.cip_blocks.specs.declared.kinds.BlockKind.{BlockKind}
+
+-- the number of a kind
+abbrev pub kind_number : BlockKind → ℕ
+kind_number kind = kind.number
 
 -- those of all kinds
 abbrev pub kind_texts : List (List ℕ)

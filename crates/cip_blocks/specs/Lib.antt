@@ -1,5 +1,4 @@
 pub mod BlockKindTexts
-pub mod BlockKinds
 pub mod BlockReaders
 pub mod BlockTexts
 pub mod BlockWordsRead
@@ -12,3 +11,6 @@ pub mod OwnersKept
 pub mod SmallNumbers
 pub mod WordPlaces
 pub use Rattle.cip_block_rules.specs.BlockRules
+pub use Rattle.cip_line_stream.specs.declared.text_faults.ReadFault
+pub use Rattle.cip_line_stream.specs.declared.text_faults.TextFault
+pub use Rattle.cip_line_stream.specs.TextFaults

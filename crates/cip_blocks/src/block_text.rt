@@ -15,9 +15,9 @@ ghost use Rattle.cip_blocks.specs.Endings.{IsEnding};
 
 use crate::block_words::BlockWords;
 use crate::ending::Ending;
-use crate::faults::{BlockFault, ReadFault};
+use crate::kinds::BlockKind;
 use cip_block_rules::block_steps::blocks_are_read;
-use cip_line_stream::{KnownFault, Pieces, cut_line};
+use cip_line_stream::{KnownFault, Pieces, ReadFault, cut_line, told};
 use cip_model::{Blocks, Program};
 use std::alloc::{AllocError, Global};
 
@@ -146,36 +146,31 @@ impl<'a> BlockText<'a> {
     }
 
     /// What the text comes to, where the last line has a fault of this kind or none.
-    fn answer(&self, last_kind: Option<u32>, ending: &Ending) -> Result<Blocks, ReadFault>
+    fn answer(
+        &self,
+        last_kind: Option<u32>,
+        ending: &Ending,
+    ) -> Result<Blocks, ReadFault<BlockKind>>
         requires kinds { IfSome last_kind (λ kind. (0 < kind) × (kind ≤ 9)) }
         requires ending { IsEnding (program_of self.now) (state_of self.now) ending.now }
         ensures { IsEnded
             (end_fault 9 (kept_of self.now) last_kind ((steps_of self.now).end_fault (state_of self.now)))
             ((steps_of self.now).result (state_of self.now)) result }
     {
-        match self.last_fault(last_kind, ending) {
-            Some(fault) => Err(ReadFault::Faulty(BlockFault::of(fault))),
-            None => match self.words.blocks(ending) {
-                Ok(blocks) => Ok(blocks),
-                Err(_) => Err(ReadFault::NoMemory),
-            },
-        }
+        told::<BlockKind>(self.last_fault(last_kind, ending))?;
+        Ok(self.words.blocks(ending)?)
     }
 
     /// The blocks of the text that ends here, or its first fault.
-    pub(crate) fn finish(&mut self) -> Result<Blocks, ReadFault>
+    pub(crate) fn finish(&mut self) -> Result<Blocks, ReadFault<BlockKind>>
         requires { StandOnce (program_of self.old).row_names }
         ensures { (text : List ℕ) → StandsFor self.old (stream_of (steps_of self.old) text)
             → MatchResult result (HasResult (block_reading (program_of self.old)) text)
             (IsFaultOf (program_of self.old) text) }
     {
         blocks_are_read();
-        let Ok(last_kind) = self.read_last() else {
-            return Err(ReadFault::NoMemory);
-        };
-        match self.words.ending() {
-            Ok(ending) => self.answer(last_kind, &ending),
-            Err(_) => Err(ReadFault::NoMemory),
-        }
+        let last_kind = self.read_last()?;
+        let ending = self.words.ending()?;
+        self.answer(last_kind, &ending)
     }
 }

@@ -1,12 +1,11 @@
 //! The kinds of faults of a text of blocks.
 ghost use Rattle.std.specs.Prelude.{◌≡◌, ◌<◌, ◌≤◌, length};
-ghost use Rattle.cip_blocks.specs.BlockKindTexts.{kind_text};
 
+use cip_line_stream::FaultKind;
 use std::{error, fmt};
 
 /// A kind of fault. Of several rules that a word breaks, or that are broken behind the last line, the least kind
-/// counts. It is known by its
-/// number, from 1 to 9; `text` has all of them.
+/// counts. It is known by its number, from 1 to 9; `text` has all of them.
 #[derive(Clone, Copy, PartialEq, Eq, Debug)]
 pub struct BlockKind {
     pub(crate) number: u32,
@@ -14,15 +13,18 @@ pub struct BlockKind {
     ghost few: { number ≤ 9 },
 }
 
-impl BlockKind {
-    /// The kind of this number.
-    pub fn of(number: u32) -> BlockKind
-        requires some { 0 < number }
-        requires few { number ≤ 9 }
-        ensures { result.number ≡ number }
-    {
+impl FaultKind for BlockKind {
+    ghost most = { 9 };
+
+    ghost number_of = { λ kind. kind.number };
+
+    fn of(number: u32) -> BlockKind {
         BlockKind { number }
     }
+}
+
+impl BlockKind {
+    ghost use Rattle.cip_blocks.specs.BlockKindTexts.{kind_text};
 
     /// The number of the kind, from 1 to 9.
     pub fn number(self) -> u32

@@ -4,7 +4,6 @@
 mod block_text;
 mod block_words;
 mod ending;
-mod faults;
 mod kinds;
 mod laws;
 mod owners;
@@ -13,7 +12,7 @@ mod whole_text;
 mod word_places;
 mod words;
 
-pub use faults::{BlockFault, ReadFault};
+pub use cip_line_stream::{ReadFault, TextFault};
 pub use kinds::BlockKind;
 pub use laws::known_block_faults_stay;
 pub use reader::BlockReader;

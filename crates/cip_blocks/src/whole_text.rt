@@ -5,24 +5,27 @@ ghost use Rattle.cip_parts.specs.BlockMeaning.{AreBlocks};
 ghost use Rattle.cip_block_rules.specs.BlockRules.{block_reading};
 ghost use Rattle.cip_blocks.specs.EndedBlocks.{IsFaultOf};
 
-use crate::faults::ReadFault;
+use crate::kinds::BlockKind;
 use crate::reader::BlockReader;
 use cip_block_rules::blocks::blocks_are_apart;
+use cip_line_stream::ReadFault;
 use cip_model::{Blocks, Program};
 use std::alloc::Global;
 
 /// The blocks that a text gives a program; else the first fault of the text: that of the first word that breaks a rule,
 /// or the one at the line behind the last, with the least kind that is broken there. A text of more than 67,108,864
 /// bytes is looked at as far as the first byte too many. `NoMemory` comes where a growth was refused.
-pub fn read_blocks(alloc: Global, text: &[u8], program: &Program) -> Result<Blocks, ReadFault>
+pub fn read_blocks(
+    alloc: Global,
+    text: &[u8],
+    program: &Program,
+) -> Result<Blocks, ReadFault<BlockKind>>
     ensures blocks { MatchResult result (HasResult (block_reading program.now) text.now)
         (IsFaultOf program.now text.now) }
     ensures apart { IfOk result (AreBlocks program.now) }
 {
     blocks_are_apart();
     let mut reader = BlockReader::new(alloc, program);
-    match reader.feed(text) {
-        Ok(()) => reader.finish(),
-        Err(fault) => Err(fault),
-    }
+    reader.feed(text)?;
+    reader.finish()
 }

@@ -1,8 +1,7 @@
-pub mod ModelTexts
+pub mod LineTextsRead
 pub mod LpNear
+pub mod ModelTexts
 pub mod NearSides
 pub mod Pulled
 pub mod Readings
-pub mod LineTextsRead
-pub mod BlocksTold
-pub mod PointTold
+pub mod TextsTold

@@ -11,11 +11,16 @@ use Rattle.cip_mps_steps.specs.MpsStepStatements.{ValuesAreTested}
 use Rattle.cip_lp_rules.specs.LpOutcome.{lp_reading}
 use Rattle.cip_lp_rules.specs.LpStatements.{LpProgramsAreWellFormed}
 use Rattle.cip_input.specs.LimitedModels.{HasNearOwn, IsLimited, ProgramsAreLimited}
-use Rattle.cip_input.specs.Models.{is_lp_name, HasProgramAs, HasFaultAs, model_line, model_kind}
+use Rattle.cip_blocks.specs.ReadFault.{ReadFault}
+use Rattle.cip_blocks.specs.ReadFault.TheVariants as reader
+use Rattle.cip_blocks.specs.TextFaults.{IsFaultBy}
+use Rattle.cip_input.specs.Models.{is_lp_name, HasProgramAs, HasFaultAs, is_lp_kind, model_kind_number}
 use Rattle.cip_input.specs.TextPulls.{most_pulled, IsAllRead}
-use Rattle.cip_input.specs.ModelsRead.{Reads, ReadCause, EndCause}
-use Rattle.cip_input.specs.declared.models.Unread.{Unread}
-use Rattle.cip_input.specs.declared.models.Unread.TheVariants.{StoreFailed, Faulty, NoMemory}
+use Rattle.cip_input.specs.ModelsRead.{Reads, ReadCause}
+use Rattle.cip_input.specs.Unreads.{IsUnread}
+use Rattle.cip_input.specs.declared.model_kinds.ModelKind.{ModelKind}
+use Rattle.cip_input.specs.declared.unread.Unread.{Unread}
+use Rattle.cip_input.specs.declared.unread.Unread.TheVariants.{StoreFailed, Faulty, NoMemory}
 use Rattle.cip_input.proofs.LineTextsRead.{text_told, fault_told}
 use Rattle.cip_input.proofs.LpNear.{lp_sides_near, lp_choices_none}
 use Rattle.cip_input.proofs.NearSides.{sides_near, own_near}
@@ -31,31 +36,41 @@ as_fault true None bytes line kind h p = tt
 as_fault true (Some all) bytes line kind h p = record { number = p.number; fault = fault_told lp_reading (Some all) bytes line p.number h p.fault; is_kind = p.is_kind }
 as_fault false text bytes line kind h p = fault_told mps_reading text bytes line kind h p
 
--- what the reader answers at the end of a text that was read
-finished_as : (name : List ℕ) (HasRead : List ℕ → Type 0) (chosen now : StoreTells) (result : Result Program Unread) (a : IsAllRead HasRead chosen now) → MatchResult result (HasProgramAs (is_lp_name name) a.bytes) (EndCause (is_lp_name name) a.bytes) → MatchResult result (Reads name chosen.left chosen now) (ReadCause name chosen.left chosen now)
-finished_as name HasRead chosen now (Ok program) a m = record {
-  is_read = record { bytes = a.bytes; described = m; told = as_told (is_lp_name name) chosen.left a.bytes program a.start m };
+-- the text was read, and has a program
+pub model_read : (lp : Bool) (name : List ℕ) → is_lp_name name ≡ lp → (HasRead : List ℕ → Type 0) (chosen now : StoreTells) (a : IsAllRead HasRead chosen now) (program : Program) → HasProgramAs lp a.bytes program → Reads name chosen.left chosen now program
+model_read lp name e HasRead chosen now a program h = record {
+  is_read = record {
+    bytes = a.bytes;
+    described = subst (λ (b : Bool). HasProgramAs b a.bytes program) (sym e) h;
+    told = as_told lp chosen.left a.bytes program a.start h;
+  };
   pulled = a.pulled;
   sound = a.sound;
 }
-finished_as name HasRead chosen now (Err StoreFailed) a m = absurd m
-finished_as name HasRead chosen now (Err (Faulty fault)) a m = record {
-  first = as_fault (is_lp_name name) chosen.left a.bytes (model_line fault) (model_kind fault) a.start m.0;
-  own = m.1;
-  pulled = a.pulled;
-  sound = a.sound;
-}
-finished_as name HasRead chosen now (Err NoMemory) a m = a.sound
 
-pub finished : (lp : Bool) (name : List ℕ) → is_lp_name name ≡ lp → (HasRead : List ℕ → Type 0) (chosen now : StoreTells) (result : Result Program Unread) (a : IsAllRead HasRead chosen now) → MatchResult result (HasProgramAs lp a.bytes) (EndCause lp a.bytes) → MatchResult result (Reads name chosen.left chosen now) (ReadCause name chosen.left chosen now)
-finished lp name e HasRead chosen now result a m =
-    finished_as name HasRead chosen now result a (subst (λ (b : Bool). MatchResult result (HasProgramAs b a.bytes) (EndCause b a.bytes)) (sym e) m)
+-- the text was read, and has a fault
+pub model_unread : {K : Type 0} (number_of : K → ℕ) (lp : Bool) (name : List ℕ) → is_lp_name name ≡ lp → (Gives : K → ModelKind → Type 0) → ((kind : K) (made : ModelKind) → Gives kind made → (model_kind_number made ≡ number_of kind) × (is_lp_kind made ≡ lp)) → (HasRead : List ℕ → Type 0) (chosen now : StoreTells) (a : IsAllRead HasRead chosen now)
+    (fault : ReadFault K) → IsFaultBy number_of (HasFaultAs lp a.bytes) fault → (cause : Unread ModelKind) → IsUnread Gives fault cause → ReadCause name chosen.left chosen now cause
+model_unread number_of lp name e Gives same HasRead chosen now a (reader.Faulty fault) h (Faulty told) t =
+    let kind = same fault.kind told.kind t.1 in
+    let there : HasFaultAs lp a.bytes told.line (model_kind_number told.kind) = subst (λ line. HasFaultAs lp a.bytes line (model_kind_number told.kind)) (sym t.0) (subst (λ k. HasFaultAs lp a.bytes fault.line k) (sym kind.0) h) in
+    record {
+      first = subst (λ (b : Bool). IfSome chosen.left (λ bytes. HasFaultAs b bytes told.line (model_kind_number told.kind))) (sym e) (as_fault lp chosen.left a.bytes told.line (model_kind_number told.kind) a.start there);
+      own = kind.1 ∙ sym e;
+      pulled = a.pulled;
+      sound = a.sound;
+    }
+model_unread number_of lp name e Gives same HasRead chosen now a (reader.Faulty fault) h StoreFailed t = absurd t
+model_unread number_of lp name e Gives same HasRead chosen now a (reader.Faulty fault) h NoMemory t = absurd t
+model_unread number_of lp name e Gives same HasRead chosen now a reader.NoMemory h (Faulty told) t = absurd t
+model_unread number_of lp name e Gives same HasRead chosen now a reader.NoMemory h StoreFailed t = absurd t
+model_unread number_of lp name e Gives same HasRead chosen now a reader.NoMemory h NoMemory t = a.sound
 
 -- the same over a call that began before the text was chosen
-pub read_later : (name : List ℕ) (text : Option (List ℕ)) (old chosen new : StoreTells) (result : Result Program Unread) → chosen.left ≡ text → chosen.faults ≡ old.faults → MatchResult result (Reads name chosen.left chosen new) (ReadCause name chosen.left chosen new) → MatchResult result (Reads name text old new) (ReadCause name text old new)
+pub read_later : (name : List ℕ) (text : Option (List ℕ)) (old chosen new : StoreTells) (result : Result Program (Unread ModelKind)) → chosen.left ≡ text → chosen.faults ≡ old.faults → MatchResult result (Reads name chosen.left chosen new) (ReadCause name chosen.left chosen new) → MatchResult result (Reads name text old new) (ReadCause name text old new)
 read_later name text old chosen new result is_text same m = later result (subst (λ t. MatchResult result (Reads name t chosen new) (ReadCause name t chosen new)) is_text m)
   where
-    later : (result : Result Program Unread) → MatchResult result (Reads name text chosen new) (ReadCause name text chosen new) → MatchResult result (Reads name text old new) (ReadCause name text old new)
+    later : (result : Result Program (Unread ModelKind)) → MatchResult result (Reads name text chosen new) (ReadCause name text chosen new) → MatchResult result (Reads name text old new) (ReadCause name text old new)
     later (Ok program) m = record { is_read = m.is_read; pulled = m.pulled; sound = m.sound ∙ same }
     later (Err StoreFailed) m = subst (λ count. Rose count new.faults) same m
     later (Err (Faulty fault)) m = record { first = m.first; own = m.own; pulled = m.pulled; sound = m.sound ∙ same }

@@ -7,11 +7,11 @@ pub mod PointsRead
 pub mod PointsTaken
 pub mod TextPulls
 pub mod TextsRead
-pub use Rattle.cip_blocks.specs.declared.faults.BlockFault
+pub mod Unreads
+pub use Rattle.cip_blocks.specs.declared.kinds.BlockKind
 pub use Rattle.cip_blocks.specs.BlockKindTexts
-pub use Rattle.cip_blocks.specs.BlockKinds
 pub use Rattle.cip_lp.specs.LpKindTexts
 pub use Rattle.cip_mps.specs.MpsKindTexts
-pub use Rattle.cip_point.specs.declared.faults.PointFault
+pub use Rattle.cip_point.specs.declared.kinds.PointKind
 pub use Rattle.cip_point.specs.PointKindTexts
-pub use Rattle.cip_point.specs.PointKinds
+pub use Rattle.cip_blocks.specs.TextFault

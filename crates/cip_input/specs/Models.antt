@@ -7,12 +7,10 @@ use Rattle.std.specs.List.{ends_with}
 use Rattle.cip_problem.specs.Program.{Program}
 use Rattle.cip_mps_rules.specs.MpsOutcome.{HasProgram, HasFault}
 use Rattle.cip_lp_rules.specs.LpOutcome.{HasLpProgram, HasLpFault}
-use Rattle.cip_mps.specs.MpsFaultKinds.{kind_number as mps_kind_number}
-use Rattle.cip_mps.specs.MpsKindTexts.{kind_text as mps_kind_text}
-use Rattle.cip_lp.specs.LpFaultKinds.{kind_number as lp_kind_number}
-use Rattle.cip_lp.specs.LpKindTexts.{kind_text as lp_kind_text}
-use Rattle.cip_input.specs.declared.model_faults.ModelFault.{ModelFault}
-use Rattle.cip_input.specs.declared.model_faults.ModelFault.TheVariants.{Mps, Lp}
+use Rattle.cip_mps.specs.MpsKindTexts.{kind_number as mps_kind_number, kind_text as mps_kind_text}
+use Rattle.cip_lp.specs.LpKindTexts.{kind_number as lp_kind_number, kind_text as lp_kind_text}
+use Rattle.cip_input.specs.declared.model_kinds.ModelKind.{ModelKind}
+use Rattle.cip_input.specs.declared.model_kinds.ModelKind.TheVariants.{Mps, Lp}
 
 -- a name ends in `.lp`
 abbrev pub is_lp_name : List ℕ → Bool
@@ -34,24 +32,19 @@ HasModel name text program = HasProgramAs (is_lp_name name) text program
 abbrev pub HasModelFault : (name text : List ℕ) → (line kind : ℕ) → Type 0
 HasModelFault name text line kind = HasFaultAs (is_lp_name name) text line kind
 
--- ---- a fault of a text of a model
+-- ---- a kind of fault of a text of a model
 
 -- it is one of an LP text
-abbrev pub is_lp_fault : ModelFault → Bool
-is_lp_fault (Mps fault) = false
-is_lp_fault (Lp fault) = true
+abbrev pub is_lp_kind : ModelKind → Bool
+is_lp_kind (Mps kind) = false
+is_lp_kind (Lp kind) = true
 
--- its line
-abbrev pub model_line : ModelFault → ℕ
-model_line (Mps fault) = fault.line
-model_line (Lp fault) = fault.line
+-- its number
+abbrev pub model_kind_number : ModelKind → ℕ
+model_kind_number (Mps kind) = mps_kind_number kind
+model_kind_number (Lp kind) = lp_kind_number kind
 
--- the number of its kind
-abbrev pub model_kind : ModelFault → ℕ
-model_kind (Mps fault) = mps_kind_number fault.kind
-model_kind (Lp fault) = lp_kind_number fault.kind
-
--- the number and the name of its kind, as they are printed
-abbrev pub model_kind_text : ModelFault → List ℕ
-model_kind_text (Mps fault) = mps_kind_text (mps_kind_number fault.kind)
-model_kind_text (Lp fault) = lp_kind_text (lp_kind_number fault.kind)
+-- its number and its name, as they are printed
+abbrev pub model_kind_text : ModelKind → List ℕ
+model_kind_text (Mps kind) = mps_kind_text (mps_kind_number kind)
+model_kind_text (Lp kind) = lp_kind_text (lp_kind_number kind)

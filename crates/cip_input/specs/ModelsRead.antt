@@ -1,15 +1,16 @@
 -- Reading the program of a text that is pulled from a store.
 --     Reads name text old new program      the program of the text of this name was read
 --     ReadCause name text old new cause      why there is none
-use Rattle.std.specs.Prelude.{◌≡◌, ⊤, ℕ, Bool, List, Option, IfSome}
+use Rattle.std.specs.Prelude.{◌≡◌, ℕ, List, Option, IfSome}
 use Rattle.cip_io.specs.Faults.{Rose}
 use Rattle.cip_io.specs.Store.{StoreTells}
 use Rattle.cip_problem.specs.Program.{Program}
-use Rattle.cip_input.specs.Models.{is_lp_name, HasModel, HasFaultAs, HasModelFault, is_lp_fault, model_line, model_kind}
+use Rattle.cip_input.specs.Models.{is_lp_name, HasModel, HasModelFault, is_lp_kind, model_kind_number}
 use Rattle.cip_input.specs.TextPulls.{IsAllPulled}
-use Rattle.cip_input.specs.declared.model_faults.ModelFault.{ModelFault}
-use Rattle.cip_input.specs.declared.models.Unread.{Unread}
-use Rattle.cip_input.specs.declared.models.Unread.TheVariants.{StoreFailed, Faulty, NoMemory}
+use Rattle.cip_blocks.specs.TextFault.{TextFault}
+use Rattle.cip_input.specs.declared.model_kinds.ModelKind.{ModelKind}
+use Rattle.cip_input.specs.declared.unread.Unread.{Unread}
+use Rattle.cip_input.specs.declared.unread.Unread.TheVariants.{StoreFailed, Faulty, NoMemory}
 
 -- ---- `old` and `new` are the store before and after the call
 
@@ -27,21 +28,15 @@ pub record Reads (name : List ℕ) (text : Option (List ℕ)) (old new : StoreTe
 
 -- this is the first fault of the text, told as one of its kind of text; it was pulled, and no call of the store has
 -- failed
-pub record Refuses (name : List ℕ) (text : Option (List ℕ)) (old new : StoreTells) (fault : ModelFault) : Type 0 where
-  pub first : IfSome text (λ bytes. HasModelFault name bytes (model_line fault) (model_kind fault))
-  pub own : is_lp_fault fault ≡ is_lp_name name
+pub record Refuses (name : List ℕ) (text : Option (List ℕ)) (old new : StoreTells)
+    (fault : TextFault ModelKind) : Type 0 where
+  pub first : IfSome text (λ bytes. HasModelFault name bytes fault.line (model_kind_number fault.kind))
+  pub own : is_lp_kind fault.kind ≡ is_lp_name name
   pub pulled : IsAllPulled text new
   pub sound : new.faults ≡ old.faults
 
 -- why there is no program: the store failed, or the text is faulty; want of memory says nothing of the text
-abbrev pub ReadCause : (name : List ℕ) (text : Option (List ℕ)) (old new : StoreTells) → Unread → Type 0
+abbrev pub ReadCause : (name : List ℕ) (text : Option (List ℕ)) (old new : StoreTells) → Unread ModelKind → Type 0
 ReadCause name text old new StoreFailed = Rose old.faults new.faults
 ReadCause name text old new (Faulty fault) = Refuses name text old new fault
 ReadCause name text old new NoMemory = new.faults ≡ old.faults
-
--- why the bytes that were read give no program, as an LP text or as one of free MPS
-abbrev pub EndCause : (lp : Bool) → List ℕ → Unread → Type 0
-EndCause lp bytes StoreFailed = ⊥
-EndCause lp bytes (Faulty fault) =
-    HasFaultAs lp bytes (model_line fault) (model_kind fault) × (is_lp_fault fault ≡ lp)
-EndCause lp bytes NoMemory = ⊤

@@ -4,8 +4,8 @@ use Rattle.std.specs.Prelude.{◌≡◌, ℕ, ◌+◌, ◌≤◌, List, take, dr
 use Rattle.cip_io.specs.Faults.{Rose}
 use Rattle.cip_io.specs.Store.{StoreTells}
 use Rattle.cip_problem.specs.Limits.{longest_text}
-use Rattle.cip_input.specs.declared.pulling.Unpulled.{Unpulled}
-use Rattle.cip_input.specs.declared.pulling.Unpulled.TheVariants.{StoreFailed, NoMemory}
+use Rattle.cip_input.specs.declared.unread.Unread.{Unread}
+use Rattle.cip_input.specs.declared.unread.Unread.TheVariants.{StoreFailed, Faulty, NoMemory}
 
 -- the most bytes that are pulled of a text: one more than a text may have
 abbrev pub most_pulled : ℕ
@@ -43,7 +43,8 @@ pub record ReadsPiece (HasRead : List ℕ → Type 0) (chosen now : StoreTells) 
   pub reading : IsReading HasRead chosen now (pulled + count)
   pub end : count ≡ 0 → pulled ≤ most_pulled → IsAllRead HasRead chosen now
 
--- why a text was not read to its end
-abbrev pub PullCause : (old new : StoreTells) → Unpulled → Type 0
+-- why a text was not read to its end, which is no fault of the text
+abbrev pub PullCause : {K : Type 0} → (old new : StoreTells) → Unread K → Type 0
 PullCause old new StoreFailed = Rose old.faults new.faults
+PullCause old new (Faulty fault) = ⊥
 PullCause old new NoMemory = new.faults ≡ old.faults

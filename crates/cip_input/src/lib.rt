@@ -4,17 +4,20 @@
 mod block_texts;
 mod laws;
 mod lp_models;
-mod model_faults;
+mod model_kinds;
 mod models;
 mod mps_models;
 mod points;
 mod pulling;
+mod unread;
 
-pub use block_texts::{UnreadBlocks, read_blocks};
-pub use cip_blocks::BlockFault;
-pub use cip_lp::{LpReader, ReadFault};
-pub use cip_point::PointFault;
+pub use block_texts::read_blocks;
+pub use cip_blocks::{BlockKind, ReadFault, TextFault};
+pub use cip_lp::{LpKind, LpReader};
+pub use cip_mps::MpsKind;
+pub use cip_point::PointKind;
 pub use laws::programs_are_limited;
-pub use model_faults::ModelFault;
-pub use models::{Unread, read_program};
-pub use points::{UnreadPoint, read_point};
+pub use model_kinds::ModelKind;
+pub use models::read_program;
+pub use points::read_point;
+pub use unread::Unread;

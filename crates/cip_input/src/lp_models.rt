@@ -1,19 +1,20 @@
 //! Reading a program from an LP text in a store.
-ghost use Rattle.std.specs.Prelude.{◌≡◌, ◌++◌, ℕ, List, [], true, MatchResult, OnOk, length};
-ghost use Rattle.cip_lp.specs.LpReaders.{HasRead};
-ghost use Rattle.cip_input.specs.Models.{is_lp_name, HasProgramAs};
-ghost use Rattle.cip_input.specs.ModelsRead.{Reads, ReadCause, EndCause};
+ghost use Rattle.std.specs.Prelude.{◌≡◌, ℕ, List, true, MatchResult, length};
+ghost use Rattle.cip_input.specs.Models.{is_lp_name};
+ghost use Rattle.cip_input.specs.ModelsRead.{Reads, ReadCause};
 ghost use Rattle.cip_input.specs.declared.pulling.TheConstants.{PIECE};
 
-use crate::model_faults::ModelFault;
-use crate::models::Unread;
-use crate::pulling::{PIECE, TextReader, Unpulled, read_pieces};
+use crate::model_kinds::ModelKind;
+use crate::pulling::{PIECE, TextReader, read_pieces};
+use crate::unread::Unread;
 use cip_io::Store;
 use cip_lp::{LpReader, ReadFault};
 use cip_model::Program;
 use std::alloc::{AllocError, Global};
 
 impl TextReader for LpReader {
+    type Kind = ModelKind;
+
     ghost use Rattle.std.specs.Prelude.{◌≡◌, ◌++◌, ℕ, List, Option, None, OnOk};
     ghost use Rattle.cip_problem.specs.Program.{Program};
     ghost use Rattle.cip_lp.specs.LpReaders.{HasRead};
@@ -32,24 +33,12 @@ impl TextReader for LpReader {
     }
 }
 
-/// What the reader of LP texts answers at the end of a text.
-fn finish(reader: LpReader) -> Result<Program, Unread>
-    ensures { (bytes : List ℕ) → HasRead reader bytes
-        → MatchResult result (HasProgramAs true bytes) (EndCause true bytes) }
-{
-    match reader.finish() {
-        Ok(program) => Ok(program),
-        Err(ReadFault::Faulty(fault)) => Err(Unread::Faulty(ModelFault::Lp(fault))),
-        Err(ReadFault::NoMemory) => Err(Unread::NoMemory),
-    }
-}
-
 /// Reads the current text, of which nothing was pulled yet, as an LP text.
 pub(crate) fn read_lp_text<S: Store>(
     alloc: Global,
     store: &mut S,
     buffer: &mut [u8],
-) -> Result<Program, Unread>
+) -> Result<Program, Unread<ModelKind>>
     requires room { length buffer.old ≡ PIECE }
     ensures answer { (name : List ℕ) → is_lp_name name ≡ true → MatchResult result
         (Reads name (S.tells store.old).left (S.tells store.old) (S.tells store.new))
@@ -57,9 +46,6 @@ pub(crate) fn read_lp_text<S: Store>(
     ensures holds { (S.tells store.new).holds ≡ (S.tells store.old).holds }
 {
     let mut reader = LpReader::new(alloc);
-    match read_pieces(store, &mut reader, buffer) {
-        Ok(()) => finish(reader),
-        Err(Unpulled::StoreFailed) => Err(Unread::StoreFailed),
-        Err(Unpulled::NoMemory) => Err(Unread::NoMemory),
-    }
+    read_pieces(store, &mut reader, buffer)?;
+    Ok(reader.finish()?)
 }

@@ -4,45 +4,13 @@ ghost use Rattle.cip_input.specs.Models.{is_lp_name};
 ghost use Rattle.cip_input.specs.ModelsRead.{Reads, ReadCause};
 
 use crate::lp_models::read_lp_text;
-use crate::model_faults::ModelFault;
+use crate::model_kinds::ModelKind;
 use crate::mps_models::read_mps_text;
 use crate::pulling::PIECE;
-use cip_io::{Failed, Store};
+use crate::unread::Unread;
+use cip_io::Store;
 use cip_model::Program;
-use std::alloc::{AllocError, Global};
-
-/// Why no program was read.
-#[derive(Clone, Copy, Debug, PartialEq, Eq)]
-pub enum Unread {
-    /// The store failed.
-    StoreFailed,
-    /// The text is faulty.
-    Faulty(ModelFault),
-    /// A growth was refused.
-    NoMemory,
-}
-
-impl From<Failed> for Unread {
-    ghost use Rattle.std.specs.Prelude.{◌≡◌};
-    ghost use Rattle.cip_input.specs.declared.models.Unread.{Unread};
-
-    ghost from_gives = { λ _ cause. cause ≡ Unread.StoreFailed };
-
-    fn from(_: Failed) -> Unread {
-        Unread::StoreFailed
-    }
-}
-
-impl From<AllocError> for Unread {
-    ghost use Rattle.std.specs.Prelude.{◌≡◌};
-    ghost use Rattle.cip_input.specs.declared.models.Unread.{Unread};
-
-    ghost from_gives = { λ _ cause. cause ≡ Unread.NoMemory };
-
-    fn from(_: AllocError) -> Unread {
-        Unread::NoMemory
-    }
-}
+use std::alloc::Global;
 
 /// Whether a text of this name is an LP text: the name ends in `.lp`, in small letters.
 #[tactic(auto, using(std::proofs::lemmas::Str::Pattern::ends_text))]
@@ -59,7 +27,11 @@ fn ends_in_lp(name: &str) -> bool
 /// pulled, with the first line that breaks a rule and the least kind that is broken there; `StoreFailed` where a call
 /// of the store failed, so that its count of faults rose or stands at its last value; `NoMemory` where a growth was
 /// refused, and then no call of the store failed. The texts that the store holds stay the same.
-pub fn read_program<S: Store>(alloc: Global, store: &mut S, name: &str) -> Result<Program, Unread>
+pub fn read_program<S: Store>(
+    alloc: Global,
+    store: &mut S,
+    name: &str,
+) -> Result<Program, Unread<ModelKind>>
     ensures answer { let text = (S.tells store.old).holds name.now in
         MatchResult result
         (Reads name.now text (S.tells store.old) (S.tells store.new))

@@ -1,19 +1,20 @@
 //! Reading a program from a text of free MPS in a store.
-ghost use Rattle.std.specs.Prelude.{◌≡◌, ◌++◌, ℕ, List, [], false, MatchResult, OnOk, length};
-ghost use Rattle.cip_mps.specs.MpsReaders.{HasRead};
-ghost use Rattle.cip_input.specs.Models.{is_lp_name, HasProgramAs};
-ghost use Rattle.cip_input.specs.ModelsRead.{Reads, ReadCause, EndCause};
+ghost use Rattle.std.specs.Prelude.{◌≡◌, ℕ, List, false, MatchResult, length};
+ghost use Rattle.cip_input.specs.Models.{is_lp_name};
+ghost use Rattle.cip_input.specs.ModelsRead.{Reads, ReadCause};
 ghost use Rattle.cip_input.specs.declared.pulling.TheConstants.{PIECE};
 
-use crate::model_faults::ModelFault;
-use crate::models::Unread;
-use crate::pulling::{PIECE, TextReader, Unpulled, read_pieces};
+use crate::model_kinds::ModelKind;
+use crate::pulling::{PIECE, TextReader, read_pieces};
+use crate::unread::Unread;
 use cip_io::Store;
 use cip_model::Program;
 use cip_mps::{MpsReader, ReadFault};
 use std::alloc::{AllocError, Global};
 
 impl TextReader for MpsReader {
+    type Kind = ModelKind;
+
     ghost use Rattle.std.specs.Prelude.{◌≡◌, ◌++◌, ℕ, List, Option, None, OnOk};
     ghost use Rattle.cip_problem.specs.Program.{Program};
     ghost use Rattle.cip_mps.specs.MpsReaders.{HasRead};
@@ -32,24 +33,12 @@ impl TextReader for MpsReader {
     }
 }
 
-/// What the reader of free MPS answers at the end of a text.
-fn finish(reader: MpsReader) -> Result<Program, Unread>
-    ensures { (bytes : List ℕ) → HasRead reader bytes
-        → MatchResult result (HasProgramAs false bytes) (EndCause false bytes) }
-{
-    match reader.finish() {
-        Ok(program) => Ok(program),
-        Err(ReadFault::Faulty(fault)) => Err(Unread::Faulty(ModelFault::Mps(fault))),
-        Err(ReadFault::NoMemory) => Err(Unread::NoMemory),
-    }
-}
-
 /// Reads the current text, of which nothing was pulled yet, as free MPS.
 pub(crate) fn read_mps_text<S: Store>(
     alloc: Global,
     store: &mut S,
     buffer: &mut [u8],
-) -> Result<Program, Unread>
+) -> Result<Program, Unread<ModelKind>>
     requires room { length buffer.old ≡ PIECE }
     ensures answer { (name : List ℕ) → is_lp_name name ≡ false → MatchResult result
         (Reads name (S.tells store.old).left (S.tells store.old) (S.tells store.new))
@@ -57,9 +46,6 @@ pub(crate) fn read_mps_text<S: Store>(
     ensures holds { (S.tells store.new).holds ≡ (S.tells store.old).holds }
 {
     let mut reader = MpsReader::new(alloc);
-    match read_pieces(store, &mut reader, buffer) {
-        Ok(()) => finish(reader),
-        Err(Unpulled::StoreFailed) => Err(Unread::StoreFailed),
-        Err(Unpulled::NoMemory) => Err(Unread::NoMemory),
-    }
+    read_pieces(store, &mut reader, buffer)?;
+    Ok(reader.finish()?)
 }

@@ -1,28 +1,16 @@
 //! Reading a text of a point from a store.
-ghost use Rattle.std.specs.Prelude.{◌≡◌, ℕ, List, [], MatchResult, length};
-ghost use Rattle.cip_line_texts.specs.LineTexts.{HasResult};
-ghost use Rattle.cip_point.specs.PointRules.{point_reading};
+ghost use Rattle.std.specs.Prelude.{◌≡◌, [], MatchResult, length};
 ghost use Rattle.cip_input.specs.PointsTaken.{HasTaken};
-ghost use Rattle.cip_input.specs.PointsRead.{ReadsPoint, PointCause, PointEndCause};
+ghost use Rattle.cip_input.specs.PointsRead.{ReadsPoint, PointCause};
 ghost use Rattle.cip_input.specs.declared.pulling.TheConstants.{PIECE};
 
-use crate::pulling::{PIECE, TextReader, Unpulled, read_pieces};
+use crate::pulling::{PIECE, TextReader, read_pieces};
+use crate::unread::Unread;
 use cip_frac::Frac;
 use cip_io::Store;
 use cip_model::Program;
-use cip_point::{PointFault, PointReader, ReadFault};
+use cip_point::{PointKind, PointReader, ReadFault};
 use std::alloc::{AllocError, Global};
-
-/// Why no point was read.
-#[derive(Clone, Copy, Debug, PartialEq, Eq)]
-pub enum UnreadPoint {
-    /// The store failed.
-    StoreFailed,
-    /// The text is faulty.
-    Faulty(PointFault),
-    /// A growth was refused.
-    NoMemory,
-}
 
 /// A text of a point, as far as it came, and the program that it speaks of.
 #[derive(Debug, Drop)]
@@ -32,6 +20,8 @@ pub(crate) struct PointInput<'a> {
 }
 
 impl TextReader for PointInput<'_> {
+    type Kind = PointKind;
+
     ghost use Rattle.std.specs.Prelude.{◌≡◌, ◌++◌, ℕ, List, Option, Some, OnOk};
     ghost use Rattle.cip_problem.specs.Program.{Program};
     ghost use Rattle.cip_input.specs.PointsTaken.{HasTaken};
@@ -50,25 +40,12 @@ impl TextReader for PointInput<'_> {
     }
 }
 
-/// What the reader answers at the end of a text.
-fn finish(input: PointInput<'_>) -> Result<Vec<Frac>, UnreadPoint>
-    ensures { (bytes : List ℕ) → HasTaken input.entry.reader input.entry.program.now bytes
-        → MatchResult result (λ point. HasResult (point_reading input.entry.program.now) bytes point.items)
-        (PointEndCause input.entry.program.now bytes) }
-{
-    match input.reader.finish() {
-        Ok(point) => Ok(point),
-        Err(ReadFault::Faulty(fault)) => Err(UnreadPoint::Faulty(fault)),
-        Err(ReadFault::NoMemory) => Err(UnreadPoint::NoMemory),
-    }
-}
-
 /// Reads the current text, of which nothing was pulled yet.
 fn read_text<S: Store>(
     store: &mut S,
     mut input: PointInput<'_>,
     buffer: &mut [u8],
-) -> Result<Vec<Frac>, UnreadPoint>
+) -> Result<Vec<Frac>, Unread<PointKind>>
     requires fresh { HasTaken input.reader input.program.now [] }
     requires room { length buffer.old ≡ PIECE }
     ensures answer { MatchResult result
@@ -77,11 +54,8 @@ fn read_text<S: Store>(
         (PointCause input.entry.program.now (S.tells store.old).left (S.tells store.old) (S.tells store.new)) }
     ensures holds { (S.tells store.new).holds ≡ (S.tells store.old).holds }
 {
-    match read_pieces(store, &mut input, buffer) {
-        Ok(()) => finish(input),
-        Err(Unpulled::StoreFailed) => Err(UnreadPoint::StoreFailed),
-        Err(Unpulled::NoMemory) => Err(UnreadPoint::NoMemory),
-    }
+    read_pieces(store, &mut input, buffer)?;
+    Ok(input.reader.finish()?)
 }
 
 /// Reads the point of a program from the text of this name. The text is pulled in pieces of at most 4,096 bytes to its
@@ -96,22 +70,18 @@ pub fn read_point<S: Store>(
     store: &mut S,
     name: &str,
     program: &Program,
-) -> Result<Vec<Frac>, UnreadPoint>
+) -> Result<Vec<Frac>, Unread<PointKind>>
     ensures answer { let text = (S.tells store.old).holds name.now in
         MatchResult result
         (λ point. ReadsPoint program.now text (S.tells store.old) (S.tells store.new) point.items)
         (PointCause program.now text (S.tells store.old) (S.tells store.new)) }
     ensures holds { (S.tells store.new).holds ≡ (S.tells store.old).holds }
 {
-    let Ok(mut buffer) = vec![in alloc; 0u8; PIECE] else {
-        return Err(UnreadPoint::NoMemory);
-    };
+    let mut buffer = vec![in alloc; 0u8; PIECE]?;
+    store.choose(name)?;
     let input = PointInput {
         reader: PointReader::new(alloc, program),
         program,
     };
-    match store.choose(name) {
-        Ok(()) => read_text(store, input, buffer.as_mut_slice()),
-        Err(_) => Err(UnreadPoint::StoreFailed),
-    }
+    read_text(store, input, buffer.as_mut_slice())
 }

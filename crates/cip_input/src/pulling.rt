@@ -5,7 +5,8 @@ ghost use Rattle.cip_problem.specs.Program.{Program};
 ghost use Rattle.cip_input.specs.TextPulls.{IsReading, ReadsPiece, IsAllRead, PullCause};
 ghost use Rattle.cip_input.specs.declared.pulling.TheConstants.{PIECE};
 
-use cip_io::{Failed, Store};
+use crate::unread::Unread;
+use cip_io::Store;
 use cip_model::LONGEST_TEXT;
 use std::alloc::AllocError;
 
@@ -14,6 +15,9 @@ pub(crate) const PIECE: usize = 4_096;
 
 /// What takes a text in pieces. What it thinks of the text is asked at the end.
 pub(crate) trait TextReader {
+    /// The kinds of faults of such a text.
+    type Kind;
+
     /// The reader has read these bytes, and no growth was refused.
     ghost has_read: { Self → List ℕ → Type 0 };
 
@@ -27,43 +31,12 @@ pub(crate) trait TextReader {
         ensures same { subject self.new ≡ subject self.old };
 }
 
-/// Why a text was not read to its end.
-#[derive(Clone, Copy, Debug, PartialEq, Eq)]
-pub(crate) enum Unpulled {
-    /// The store failed.
-    StoreFailed,
-    /// A growth was refused.
-    NoMemory,
-}
-
-impl From<Failed> for Unpulled {
-    ghost use Rattle.std.specs.Prelude.{◌≡◌};
-    ghost use Rattle.cip_input.specs.declared.pulling.Unpulled.{Unpulled};
-
-    ghost from_gives = { λ _ cause. cause ≡ Unpulled.StoreFailed };
-
-    fn from(_: Failed) -> Unpulled {
-        Unpulled::StoreFailed
-    }
-}
-
-impl From<AllocError> for Unpulled {
-    ghost use Rattle.std.specs.Prelude.{◌≡◌};
-    ghost use Rattle.cip_input.specs.declared.pulling.Unpulled.{Unpulled};
-
-    ghost from_gives = { λ _ cause. cause ≡ Unpulled.NoMemory };
-
-    fn from(_: AllocError) -> Unpulled {
-        Unpulled::NoMemory
-    }
-}
-
 /// Pulls the next piece of the current text and reads it; how many bytes came.
 fn read_piece<S: Store, T: TextReader>(
     store: &mut S,
     reader: &mut T,
     buffer: &mut [u8],
-) -> Result<usize, Unpulled>
+) -> Result<usize, Unread<T::Kind>>
     requires { 0 < length buffer.old }
     ensures read { (chosen : StoreTells) (pulled : ℕ)
         → IsReading (T.has_read reader.old) chosen (S.tells store.old) pulled
@@ -84,7 +57,7 @@ pub(crate) fn read_pieces<S: Store, T: TextReader>(
     store: &mut S,
     reader: &mut T,
     buffer: &mut [u8],
-) -> Result<(), Unpulled>
+) -> Result<(), Unread<T::Kind>>
     requires fresh { T.has_read reader.old [] }
     requires room { length buffer.old ≡ PIECE }
     ensures read { MatchResult result

@@ -2,3 +2,4 @@ pub mod EndedFaults
 pub mod PieceCuts
 pub mod PieceFaults
 pub mod PieceStands
+pub mod TextFaults

@@ -1,13 +1,15 @@
 //! Texts that come in pieces: their lines are cut and kept here, with what is known of faults, for readers of such
-//! texts.
+//! texts, and their faults are told in one type.
 #![tactic(auto)]
 
 mod cuts;
 mod faults;
 mod one_line;
 mod pieces;
+mod text_faults;
 
 pub use cuts::cut_line;
 pub use faults::KnownFault;
 pub use one_line::fields_of;
 pub use pieces::Pieces;
+pub use text_faults::{FaultKind, ReadFault, TextFault, told};

@@ -2,7 +2,7 @@
 use Rattle.std.proofs.Common.{◌≡◌, ℕ, Bool, true, false, cond, List, [], ◌∷◌, Option, None, Some, refl, sym, ap, ◌∙◌}
 use Rattle.std.specs.Prelude.{is_some, MatchOption}
 use Rattle.cip_line_texts.specs.LineEnds.{Stage, Open, Ended}
-use Rattle.cip_line_texts.specs.LineStream.{Going, Failed, progress_at, item_read}
+use Rattle.cip_line_texts.specs.LineStream.{Going, progress_at, item_read}
 use Rattle.cip_line_stream.specs.PieceStands.{progress_after}
 use Rattle.cip_lp_tokens.specs.declared.line_tokens.Token as code
 use Rattle.cip_lp_tokens.specs.LpLines.{token_shown}

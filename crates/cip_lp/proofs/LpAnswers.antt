@@ -1,25 +1,29 @@
 -- What the calls of a reader of LP texts answer.
-use Rattle.std.proofs.Common.{◌≡◌, ℕ, ◌+◌, ◌≤◌, Bool, true, List, [], ◌++◌, Option, None, Some, is_some, Result, Ok, Err, refl, sym, ap, subst, ◌∙◌}
+use Rattle.std.proofs.Common.{◌≡◌, ℕ, ◌+◌, Bool, true, List, [], ◌++◌, Option, None, Some, is_some, Result, Ok, Err, refl, sym, ap, subst, ◌∙◌}
+use Rattle.std.specs.Prelude.{option_map, IsErr, MatchResult}
+use Rattle.std.specs.Result.{IsErrAnd}
 use Rattle.std.proofs.lemmas.List.{append-nil, append_assoc}
 use Rattle.cip_problem.specs.Program.{Program}
 use Rattle.cip_line_texts.specs.LineEnds.{Stage}
 use Rattle.cip_line_texts.specs.LineTexts.{Outcome, Means, outcome_at, outcome_of, HasFault}
 use Rattle.cip_line_texts.specs.LineStream.{Progress, Going, Failed, outcome_from}
 use Rattle.cip_line_stream.specs.declared.faults.KnownFault.{KnownFault}
+use Rattle.cip_line_stream.specs.declared.text_faults.TextFault.{TextFault}
+use Rattle.cip_line_stream.specs.declared.text_faults.ReadFault.{ReadFault}
+use Rattle.cip_line_stream.specs.declared.text_faults.ReadFault.TheVariants.{Faulty, NoMemory}
+use Rattle.cip_line_stream.specs.TextFaults.{by_number, IsSaid}
 use Rattle.cip_line_stream.specs.PieceFaults.{first_fault, has_kind_to}
 use Rattle.cip_line_stream.specs.PieceStands.{progress_of, progress_after, outcome_with}
 use Rattle.cip_line_stream.proofs.Streams.{few_kinds}
 use Rattle.cip_lp_rules.specs.LpOutcome.{LpContext, lp_reading, told_kind, HasLpFault}
 use Rattle.cip_lp_stream.specs.LpBytes.{LpBytes, part_read, behind, beyond, text_taken, IsTold}
 use Rattle.cip_lp_stream.specs.LpTakenTexts.{last_line, TakenFaultsStay, TakenTextsComeOut}
-use Rattle.cip_lp.specs.declared.faults.LpFault.{LpFault}
-use Rattle.cip_lp.specs.declared.faults.ReadFault.{ReadFault}
-use Rattle.cip_lp.specs.declared.faults.ReadFault.TheVariants.{Faulty, NoMemory}
+use Rattle.cip_lp.specs.declared.kinds.LpKind.{LpKind}
 use Rattle.cip_lp.specs.declared.lp_text.LpText.{LpText}
 use Rattle.cip_lp.specs.declared.reader.LpReader.{LpReader}
-use Rattle.cip_lp.specs.LpFaultKinds.{kind_number}
-use Rattle.cip_lp.specs.LpTexts.{stage_of, bytes_of, shown_of}
-use Rattle.cip_lp.specs.LpReaders.{HasRead, IsKnown, KnownLpFaultsStay, IsSaid, IsFed, IsFaultOf}
+use Rattle.cip_lp.specs.LpKindTexts.{kind_number}
+use Rattle.cip_lp.specs.LpTexts.{bytes_of, shown_of}
+use Rattle.cip_lp.specs.LpReaders.{HasRead, IsSpent, IsKnown, KnownLpFaultsStay, as_told, IsFed, IsFaultOf}
 
 -- ---- bytes
 
@@ -82,17 +86,25 @@ read_text reader held text e h =
     let same : h.kept ≡ held = cc s in
     ap shown_of (sym same) ∙ h.stands
 
--- a fault that is known
-is_known : TakenFaultsStay → (now : LpText) (text : List ℕ) (known : KnownFault) (fault : LpFault) → shown_of now ≡ text_taken text → now.fault ≡ Some known → has_kind_to 12 (Some known) ≡ true → IsSaid (Some known) (Err (Faulty fault)) → IsKnown text fault.line (kind_number fault.kind)
-is_known law now text known fault stands e few said = record {
+-- a fault that is known, as it is told
+abbrev IsSaidBy : KnownFault → (line kind : ℕ) → Type 0
+IsSaidBy known line kind = (line ≡ known.line) × (kind ≡ told_kind known.kind)
+
+said_by : (known : KnownFault) (fault : TextFault LpKind) → IsSaid kind_number (Some (as_told known)) (Err (Faulty fault)) → IsSaidBy known fault.line (kind_number fault.kind)
+said_by known fault s =
+    let same : as_told known ≡ by_number kind_number fault = cc s in
+    (sym (ap (λ (f : KnownFault). f.line) same), sym (ap (λ (f : KnownFault). f.kind) same))
+
+is_known : TakenFaultsStay → (now : LpText) (text : List ℕ) (known : KnownFault) (line kind : ℕ) → shown_of now ≡ text_taken text → now.fault ≡ Some known → has_kind_to 12 (Some known) ≡ true → IsSaidBy known line kind → IsKnown text line kind
+is_known law now text known line kind stands e few said = record {
   told = record {
     number = known.kind;
-    taken = taken ∙ ap (λ (line : ℕ). Failed line known.kind) (sym said.0);
+    taken = taken ∙ ap (λ (n : ℕ). Failed n known.kind) (sym said.0);
     is_kind = sym said.1;
   };
   of_text = λ rest. record {
     number = known.kind;
-    fault = subst (λ (line : ℕ). HasFault lp_reading (text ++ rest) line known.kind) (sym said.0) (law.of_text text rest known.line known.kind taken (few_kinds 12 known few));
+    fault = subst (λ (n : ℕ). HasFault lp_reading (text ++ rest) n known.kind) (sym said.0) (law.of_text text rest known.line known.kind taken (few_kinds 12 known few));
     is_kind = sym said.1;
   };
 }
@@ -100,11 +112,15 @@ is_known law now text known fault stands e few said = record {
     taken : text_taken text ≡ Failed known.line known.kind
     taken = sym stands ∙ ap (λ g. progress_of g (bytes_of now)) e
 
-pub said_known : TakenFaultsStay → (now : LpText) (text : List ℕ) (f : Option KnownFault) (fault : LpFault) → shown_of now ≡ text_taken text → now.fault ≡ f → has_kind_to 12 f ≡ true → IsSaid f (Err (Faulty fault)) → IsKnown text fault.line (kind_number fault.kind)
-said_known law now text None fault stands e few said = absurd said
-said_known law now text (Some known) fault stands e few said = is_known law now text known fault stands e few said
+said_known : TakenFaultsStay → (now : LpText) (text : List ℕ) (f : Option KnownFault) (fault : TextFault LpKind) → shown_of now ≡ text_taken text → now.fault ≡ f → has_kind_to 12 f ≡ true → IsSaid kind_number (option_map as_told f) (Err (Faulty fault)) → IsKnown text fault.line (kind_number fault.kind)
+said_known law now text None fault stands e few said = absurd (cc said)
+said_known law now text (Some known) fault stands e few said = is_known law now text known fault.line (kind_number fault.kind) stands e few (said_by known fault said)
 
 -- without a known fault
+pub none_known : (known : Option KnownFault) → option_map as_told known ≡ None → known ≡ None
+none_known None e = refl
+none_known (Some known) e = absurd (cc e)
+
 none_told : (now : LpText) (text : List ℕ) → shown_of now ≡ text_taken text → now.fault ≡ None → (line kind : ℕ) → IsTold text line kind → ⊥
 none_told now text stands none line kind told =
     let going : text_taken text ≡ Going (bytes_of now) = sym stands ∙ ap (λ g. progress_of g (bytes_of now)) none in
@@ -112,33 +128,46 @@ none_told now text stands none line kind told =
     cc (going, failed)
 
 -- one piece more
-pub fed : TakenFaultsStay → (after : LpReader) (now : LpText) (text : List ℕ) → after.text ≡ Some now → shown_of now ≡ text_taken text → has_kind_to 12 now.fault ≡ true → (answer : Result (Unit {0}) ReadFault) → IsSaid now.fault answer → IsFed after text answer
+pub fed : TakenFaultsStay → (after : LpReader) (now : LpText) (text : List ℕ) → after.text ≡ Some now → shown_of now ≡ text_taken text → has_kind_to 12 now.fault ≡ true → (answer : Result (Unit {0}) (ReadFault LpKind)) → IsSaid kind_number (option_map as_told now.fault) answer → IsFed after text answer
 fed law after now text e stands few answer said = go answer said
   where
     now_read : HasRead after text
     now_read = record { kept = now; goes_on = e; stands = stands }
 
-    go : (answer : Result (Unit {0}) ReadFault) → IsSaid now.fault answer → IsFed after text answer
-    go (Ok _) s = (now_read, none_told now text stands s)
+    go : (answer : Result (Unit {0}) (ReadFault LpKind)) → IsSaid kind_number (option_map as_told now.fault) answer → IsFed after text answer
+    go (Ok _) s = (now_read, none_told now text stands (none_known now.fault s))
     go (Err (Faulty fault)) s = (now_read, said_known law now text now.fault fault stands refl few s)
     go (Err NoMemory) s = absurd s
 
 -- a known fault is the text's
-pub known_fault : (text : List ℕ) (line kind : ℕ) → IsKnown text line kind → HasLpFault text line kind
+known_fault : (text : List ℕ) (line kind : ℕ) → IsKnown text line kind → HasLpFault text line kind
 known_fault text line kind h = subst (λ (t : List ℕ). HasLpFault t line kind) (append-nil text) (h.of_text [])
 
 -- why a text that came whole gives no program
-pub whole_fault : (after : LpReader) (text : List ℕ) (fault : ReadFault) → IsFed after text (Err fault) → IsFaultOf text fault
+pub whole_fault : (after : LpReader) (text : List ℕ) (cause : ReadFault LpKind) → IsFed after text (Err cause) → IsFaultOf text cause
 whole_fault after text (Faulty fault) h = known_fault text fault.line (kind_number fault.kind) h.1
 whole_fault after text NoMemory h = tt
 
+-- why a text whose fault was known gives none
+pub known_cause : TakenFaultsStay → (now : LpText) (text : List ℕ) → shown_of now ≡ text_taken text → has_kind_to 12 now.fault ≡ true → (cause : ReadFault LpKind) → IsSaid kind_number (option_map as_told now.fault) (Err cause) → IsFaultOf text cause
+known_cause law now text stands few (Faulty fault) said = known_fault text fault.line (kind_number fault.kind) (said_known law now text now.fault fault stands refl few said)
+known_cause law now text stands few NoMemory said = absurd said
+
 -- the fault at the end
-pub end_fault : (text : List ℕ) (known : KnownFault) (fault : LpFault) (value : Program) → outcome_of lp_reading text ≡ outcome_with (Some known) value → fault.line ≡ known.line → kind_number fault.kind ≡ told_kind known.kind → HasLpFault text fault.line (kind_number fault.kind)
-end_fault text known fault value e line kind = record {
-  number = known.kind;
-  fault = subst (λ (n : ℕ). HasFault lp_reading text n known.kind) (sym line) (record { faulty = e });
-  is_kind = sym kind;
-}
+end_fault : (text : List ℕ) (f : Option KnownFault) (fault : TextFault LpKind) (value : Program) → outcome_of lp_reading text ≡ outcome_with f value → IsSaid kind_number (option_map as_told f) (Err (Faulty fault)) → HasLpFault text fault.line (kind_number fault.kind)
+end_fault text None fault value e said = absurd (cc said)
+end_fault text (Some known) fault value e said =
+    let same = said_by known fault said in
+    record {
+      number = known.kind;
+      fault = subst (λ (n : ℕ). HasFault lp_reading text n known.kind) (sym same.0) (record { faulty = e });
+      is_kind = sym same.1;
+    }
+
+-- why a text that has ended gives none
+pub end_cause : (text : List ℕ) (f : Option KnownFault) (value : Program) → outcome_of lp_reading text ≡ outcome_with f value → (cause : ReadFault LpKind) → IsSaid kind_number (option_map as_told f) (Err cause) → IsFaultOf text cause
+end_cause text f value e (Faulty fault) said = end_fault text f fault value e said
+end_cause text f value e NoMemory said = absurd said
 
 -- known faults stay
 pub stays : TakenFaultsStay → KnownLpFaultsStay
@@ -150,3 +179,15 @@ stays law text rest line kind h = record {
   };
   of_text = λ more. subst (λ (t : List ℕ). HasLpFault t line kind) (sym (append_assoc text rest more)) (h.of_text (rest ++ more));
 }
+
+-- ---- what `?` passes on
+
+pub err_is : {X E : Type 0} (cause : E) (result : Result X E) → IsErr result × IsErrAnd result (λ given. given ≡ cause) → result ≡ Err cause
+err_is cause (Ok x) h = let no : ⊥ = let failed = h.0 in cc in absurd no
+err_is cause (Err given) h = ap Err h.1
+
+pub spent_fed : (after : LpReader) (text : List ℕ) (answer : Result (Unit {0}) (ReadFault LpKind)) → IsSpent after → answer ≡ Err NoMemory → IsFed after text answer
+spent_fed after text answer none e = subst (IsFed after text) (sym e) none
+
+pub passed_on : {X E : Type 0} (Done : X → Type 0) (Cause : E → Type 0) (cause : E) (result : Result X E) → Cause cause → IsErr result × IsErrAnd result (λ given. given ≡ cause) → MatchResult result Done Cause
+passed_on Done Cause cause result h e = subst (λ r. MatchResult r Done Cause) (sym (err_is cause result e)) h

@@ -1,6 +1,5 @@
 -- An LP text as far as it came.
 --     shown_of text      what is known of it, as it is taken byte by byte
-use Rattle.std.specs.Prelude.{ℕ}
 use Rattle.cip_line_texts.specs.LineEnds.{Stage}
 use Rattle.cip_line_texts.specs.LineStream.{Progress}
 use Rattle.cip_line_stream.specs.PieceStands.{progress_of}

@@ -1,27 +1,30 @@
 //! The kinds of faults of an LP text.
 ghost use Rattle.std.specs.Prelude.{◌≡◌, ◌<◌, ◌≤◌, length};
-ghost use Rattle.cip_lp.specs.LpKindTexts.{kind_text};
 
+use cip_line_stream::FaultKind;
 use std::{error, fmt};
 
 /// A kind of fault. Of several rules that a token breaks the least kind counts. It is known by its number, from 1 to
 /// 11; `text` has all of them.
 #[derive(Clone, Copy, PartialEq, Eq, Debug)]
-pub struct FaultKind {
+pub struct LpKind {
     pub(crate) number: u32,
     ghost some: { 0 < number },
     ghost few: { number ≤ 11 },
 }
 
-impl FaultKind {
-    /// The kind of this number.
-    pub fn of(number: u32) -> FaultKind
-        requires some { 0 < number }
-        requires few { number ≤ 11 }
-        ensures { result.number ≡ number }
-    {
-        FaultKind { number }
+impl FaultKind for LpKind {
+    ghost most = { 11 };
+
+    ghost number_of = { λ kind. kind.number };
+
+    fn of(number: u32) -> LpKind {
+        LpKind { number }
     }
+}
+
+impl LpKind {
+    ghost use Rattle.cip_lp.specs.LpKindTexts.{kind_text};
 
     /// The number of the kind, from 1 to 11.
     pub fn number(self) -> u32
@@ -62,11 +65,11 @@ impl FaultKind {
     }
 }
 
-impl fmt::Display for FaultKind {
+impl fmt::Display for LpKind {
     fn fmt<W: fmt::Write>(&self, f: &mut fmt::Formatter<W>) -> fmt::Result {
         let text = self.text();
         write!(f, "kind {text}")
     }
 }
 
-impl error::Error for FaultKind {}
+impl error::Error for LpKind {}

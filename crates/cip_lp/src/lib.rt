@@ -9,8 +9,8 @@ mod lp_text;
 mod reader;
 mod whole_text;
 
-pub use faults::{LpFault, ReadFault};
-pub use kinds::FaultKind;
+pub use cip_line_stream::{ReadFault, TextFault};
+pub use kinds::LpKind;
 pub use laws::known_lp_faults_stay;
 pub use reader::LpReader;
 pub use whole_text::read_lp;

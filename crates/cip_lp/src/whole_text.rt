@@ -3,20 +3,19 @@ ghost use Rattle.std.specs.Prelude.{MatchResult};
 ghost use Rattle.cip_lp_rules.specs.LpOutcome.{HasLpProgram};
 ghost use Rattle.cip_lp.specs.LpReaders.{IsFaultOf};
 
-use crate::faults::ReadFault;
+use crate::kinds::LpKind;
 use crate::reader::LpReader;
+use cip_line_stream::ReadFault;
 use cip_lp_statements::Program;
 use std::alloc::Global;
 
 /// The program of an LP text, or its first fault: that of the first line that breaks a rule, with the least
 /// kind that it breaks. A text of more than 67,108,864 bytes is looked at as far as the first byte too many. `NoMemory`
 /// comes where a growth was refused.
-pub fn read_lp(alloc: Global, text: &[u8]) -> Result<Program, ReadFault>
+pub fn read_lp(alloc: Global, text: &[u8]) -> Result<Program, ReadFault<LpKind>>
     ensures { MatchResult result (λ program. HasLpProgram text.now program) (IsFaultOf text.now) }
 {
     let mut reader = LpReader::new(alloc);
-    match reader.feed(text) {
-        Ok(()) => reader.finish(),
-        Err(fault) => Err(fault),
-    }
+    reader.feed(text)?;
+    reader.finish()
 }

@@ -12,18 +12,19 @@ use Rattle.cip_line_texts.specs.LineTexts.{Reading, Outcome, outcome_of, HasResu
 use Rattle.cip_line_texts.specs.LineTexts as texts
 use Rattle.cip_block_rules.specs.BlockRules.{block_reading}
 use Rattle.cip_point_rules.specs.PointRules.{point_reading}
-use Rattle.cip_answering.specs.Models.{is_lp_name, HasProgramAs, HasFaultAs, HasModel, HasModelFault, is_lp_fault, model_line, model_kind}
-use Rattle.cip_answering.specs.ModelFault.{ModelFault}
-use Rattle.cip_answering.specs.BlockKinds.{kind_number as block_kind_number}
-use Rattle.cip_answering.specs.BlockFault.{BlockFault}
-use Rattle.cip_answering.specs.PointKinds.{kind_number as point_kind_number}
-use Rattle.cip_answering.specs.PointFault.{PointFault}
+use Rattle.cip_answering.specs.Models.{is_lp_name, HasProgramAs, HasFaultAs, HasModel, HasModelFault, is_lp_kind, model_kind_number}
+use Rattle.cip_answering.specs.ModelKind.{ModelKind}
+use Rattle.cip_answering.specs.TextFault.{TextFault}
+use Rattle.cip_answering.specs.BlockKindTexts.{kind_number as block_kind_number}
+use Rattle.cip_answering.specs.BlockKind.{BlockKind}
+use Rattle.cip_answering.specs.PointKindTexts.{kind_number as point_kind_number}
+use Rattle.cip_answering.specs.PointKind.{PointKind}
 use Rattle.cip_words.specs.Jobs.{Limits, Job, Solve, Check, Generate, usual_limits}
 use Rattle.cip_generator.specs.Generated.{generated}
 use Rattle.cip_answers.specs.Checks.{check_status}
 use Rattle.cip_model.specs.Verdicts.{verdict_of}
-use Rattle.cip_tasks.specs.declared.refusals.TextFault.{TextFault}
-use Rattle.cip_tasks.specs.declared.refusals.TextFault.TheVariants.{Model, Blocks, Point}
+use Rattle.cip_tasks.specs.declared.refusals.FaultyText.{FaultyText}
+use Rattle.cip_tasks.specs.declared.refusals.FaultyText.TheVariants.{Model, Blocks, Point}
 use Rattle.cip_answers.specs.Figures.{NodeLimit, Gap, Wide, NoMemory as LacksMemory, exit_status}
 use Rattle.cip_search.specs.SearchEnds.{ReachesGap}
 use Rattle.cip_search.specs.Headline.{IsSpent, EndsWith, EndsItself}
@@ -234,13 +235,13 @@ asked_program : (call : Call) (asked : Job) (model text : List ℕ) (program : P
 asked_program call asked model text program h e n asks =
     of_model call (λ name bytes. HasModel name bytes program) model text h (ap model_in e ∙ n) asks
 
-fault_asked : (call : Call) (text : List ℕ) (fault : ModelFault) → AsksOf call text → HasFaultyModel call.job call.store call.store_after fault → HasFault call text (model_line fault) (model_kind fault)
+fault_asked : (call : Call) (text : List ℕ) (fault : TextFault ModelKind) → AsksOf call text → HasFaultyModel call.job call.store call.store_after fault → HasFault call text fault.line (model_kind_number fault.kind)
 fault_asked call text fault asks f =
-    of_model call (λ name bytes. HasModelFault name bytes (model_line fault) (model_kind fault)) f.model text f.refuses.first (ap model_in f.is_asked ∙ f.named) asks
+    of_model call (λ name bytes. HasModelFault name bytes fault.line (model_kind_number fault.kind)) f.model text f.refuses.first (ap model_in f.is_asked ∙ f.named) asks
 
-own_fault : (call : Call) (fault : ModelFault) → HasFaultyModel call.job call.store call.store_after fault → IsSomeAnd (model_in call.job) (λ model. is_lp_fault fault ≡ is_lp_name model)
+own_fault : (call : Call) (fault : TextFault ModelKind) → HasFaultyModel call.job call.store call.store_after fault → IsSomeAnd (model_in call.job) (λ model. is_lp_kind fault.kind ≡ is_lp_name model)
 own_fault call fault f =
-    subst (λ (named : Option (List ℕ)). IsSomeAnd named (λ model. is_lp_fault fault ≡ is_lp_name model)) (sym (ap model_in f.is_asked ∙ f.named)) f.refuses.own
+    subst (λ (named : Option (List ℕ)). IsSomeAnd named (λ model. is_lp_kind fault.kind ≡ is_lp_name model)) (sym (ap model_in f.is_asked ∙ f.named)) f.refuses.own
 
 of_solve : (call : Call) (text : List ℕ) (limits : Limits) → Asks call text limits → AsksOf call text
 of_solve call text limits asks = record { model = asks.model; named = ap model_in asks.job; held = asks.held }
@@ -277,7 +278,7 @@ point_fault_asked call text point_text program line kind asks h f =
 -- ---- the headline
 
 -- the text of blocks that are refused has its first fault there as blocks of the program of the text
-refuses_blocks : (call : Call) (text : List ℕ) (program : Program) (fault : BlockFault) → AsksOf call text → HasProgram call text program → GivesPlain call (Refused (Blocks fault)) → RefusesBlocks call program
+refuses_blocks : (call : Call) (text : List ℕ) (program : Program) (fault : TextFault BlockKind) → AsksOf call text → HasProgram call text program → GivesPlain call (Refused (Blocks fault)) → RefusesBlocks call program
 refuses_blocks call text program fault asks h g =
     let f = g.cause in
     let found : HasProgram call text f.program = asked_program call (Solve f.model (Some f.name) f.limits) f.model text f.program (told _ _ f.program f.reads.is_read) f.is_asked refl asks in
@@ -296,7 +297,7 @@ headline_plain : (call : Call) (answer : Plain) → GivesPlain call answer → (
 headline_plain call Usage g text limits program asks h = absurd (some_job asks.job g.cause.0)
 headline_plain call ReadFault g text limits program asks h = inr (inl g)
 headline_plain call (Refused (Model fault)) g text limits program asks h =
-    absurd (no_fault call text program (model_line fault) (model_kind fault) h (fault_asked call text fault (of_solve call text limits asks) g.cause))
+    absurd (no_fault call text program fault.line (model_kind_number fault.kind) h (fault_asked call text fault (of_solve call text limits asks) g.cause))
 headline_plain call (Refused (Blocks fault)) g text limits program asks h = inl (refuses_blocks call text program fault (of_solve call text limits asks) h g)
 headline_plain call (Refused (Point fault)) g text limits program asks h = absurd (solve_check asks.job g.cause.is_asked)
 headline_plain call NoMemory g text limits program asks h = inr (inr g)
@@ -407,7 +408,7 @@ check_plain : (call : Call) (answer : Plain) → GivesPlain call answer → (tex
 check_plain call Usage g text point_text program point asks h p = absurd (some_job asks.job g.cause.0)
 check_plain call ReadFault g text point_text program point asks h p = inl g
 check_plain call (Refused (Model fault)) g text point_text program point asks h p =
-    absurd (no_fault call text program (model_line fault) (model_kind fault) h (fault_asked call text fault (of_check call text point_text asks) g.cause))
+    absurd (no_fault call text program fault.line (model_kind_number fault.kind) h (fault_asked call text fault (of_check call text point_text asks) g.cause))
 check_plain call (Refused (Blocks fault)) g text point_text program point asks h p = absurd (solve_check g.cause.is_asked asks.job)
 check_plain call (Refused (Point fault)) g text point_text program point asks h p =
     absurd (no_line_fault (point_reading program) point_text point fault.line (point_kind_number fault.kind) p (point_fault_asked call text point_text program fault.line (point_kind_number fault.kind) asks h g.cause))
@@ -514,7 +515,7 @@ pulled call (gives_figures a) asked h not_3 not_4 not_5 not_6 = elim a.source [
 pulled call (gives_verdict c) asked h not_3 not_4 not_5 not_6 = subst (λ job. ArePulled (model_of job) (second_of job) call.store call.store_after) (one_job c.asked h) c.pulled
 
 -- of a refusal
-pulled_to : (call : Call) (fault : TextFault) → GivesPlain call (Refused fault) → (asked : Job) → call.job ≡ Some asked → ArePulled (model_of asked) (behind_up_to fault asked) call.store call.store_after
+pulled_to : (call : Call) (fault : FaultyText) → GivesPlain call (Refused fault) → (asked : Job) → call.job ≡ Some asked → ArePulled (model_of asked) (behind_up_to fault asked) call.store call.store_after
 pulled_to call (Model fault) g asked h =
     subst (λ job. ArePulled (model_of job) None call.store call.store_after) (one_job g.cause.is_asked h)
     (subst (λ named. ArePulled named None call.store call.store_after) (sym g.cause.named) (record { between = call.store_after; model_pulled = g.cause.refuses.pulled; second_pulled = refl }))
@@ -526,7 +527,7 @@ pulled_to call (Point fault) g asked h =
     (record { between = g.cause.between; model_pulled = g.cause.reads.pulled; second_pulled = g.cause.refuses.pulled })
 
 -- with status 4 a refusal is told
-refusal : (call : Call) → Ran call → call.status ≡ 4 → (fault : TextFault) × GivesPlain call (Refused fault)
+refusal : (call : Call) → Ran call → call.status ≡ 4 → (fault : FaultyText) × GivesPlain call (Refused fault)
 refusal call (gives_plain answer g) e =
     let refuses = says_refused answer (own_answer call _ 4 (said_plain call answer g) e four_five) in
     (refuses.0, subst (GivesPlain call) refuses.1 g)
@@ -543,31 +544,31 @@ read_fault_clause call r = record { rose = rose call r; sound = store_sound call
 
 -- ---- refusals
 
-blocks_first : (call : Call) (fault : BlockFault) → GivesPlain call (Refused (Blocks fault)) → (text blocks_text : List ℕ) → AsksWith call text blocks_text → HasBlocksFault call text blocks_text fault.line (block_kind_number fault.kind)
+blocks_first : (call : Call) (fault : TextFault BlockKind) → GivesPlain call (Refused (Blocks fault)) → (text blocks_text : List ℕ) → AsksWith call text blocks_text → HasBlocksFault call text blocks_text fault.line (block_kind_number fault.kind)
 blocks_first call fault g text blocks_text asks =
     let f = g.cause in
     let found : HasProgram call text f.program = asked_program call (Solve f.model (Some f.name) f.limits) f.model text f.program (told _ _ f.program f.reads.is_read) f.is_asked refl (of_blocks call text blocks_text asks) in
     record { program = f.program; is_program = found; first = blocks_fault_asked call text blocks_text f.program fault.line (block_kind_number fault.kind) asks found f }
 
-point_first : (call : Call) (fault : PointFault) → GivesPlain call (Refused (Point fault)) → (text point_text : List ℕ) → AsksToCheck call text point_text → HasPointFault call text point_text fault.line (point_kind_number fault.kind)
+point_first : (call : Call) (fault : TextFault PointKind) → GivesPlain call (Refused (Point fault)) → (text point_text : List ℕ) → AsksToCheck call text point_text → HasPointFault call text point_text fault.line (point_kind_number fault.kind)
 point_first call fault g text point_text asks =
     let f = g.cause in
     let found : HasProgram call text f.program = asked_program call (Check f.model f.name) f.model text f.program (told _ _ f.program f.reads.is_read) f.is_asked refl (of_check call text point_text asks) in
     record { program = f.program; is_program = found; first = point_fault_asked call text point_text f.program fault.line (point_kind_number fault.kind) asks found f }
 
-first_fault : (call : Call) (fault : TextFault) → GivesPlain call (Refused fault) → IsFirstFault call fault
+first_fault : (call : Call) (fault : FaultyText) → GivesPlain call (Refused fault) → IsFirstFault call fault
 first_fault call (Model fault) g = λ text asks. fault_asked call text fault asks g.cause
 first_fault call (Blocks fault) g = blocks_first call fault g
 first_fault call (Point fault) g = point_first call fault g
 
-refused_only : (call : Call) → Ran call → call.status ≡ 4 → (fault : TextFault) × GivesPlain call (Refused fault) × IsFirstFault call fault
+refused_only : (call : Call) → Ran call → call.status ≡ 4 → (fault : FaultyText) × GivesPlain call (Refused fault) × IsFirstFault call fault
 refused_only call r e = let refuses = refusal call r e in (refuses.0, refuses.1, first_fault call refuses.0 refuses.1)
 
 model_plain : (call : Call) (answer : Plain) → GivesPlain call answer → (text : List ℕ) (line kind : ℕ) → AsksOf call text → HasFault call text line kind → TellsModelFault call line kind ⊎ IsCutShort call
 model_plain call Usage g text line kind asks h = absurd (no_name (sym (ap model_in g.cause.0) ∙ asks.named))
 model_plain call ReadFault g text line kind asks h = inr (inl g)
 model_plain call (Refused (Model fault)) g text line kind asks h =
-    let same = one_fault_in (model_in call.job) text (model_line fault) (model_kind fault) line kind (fault_asked call text fault asks g.cause) h in
+    let same = one_fault_in (model_in call.job) text fault.line (model_kind_number fault.kind) line kind (fault_asked call text fault asks g.cause) h in
     inl (record { fault = fault; is_line = same.0; is_kind = same.1; own = own_fault call fault g.cause; given = g })
 model_plain call (Refused (Blocks fault)) g text line kind asks h =
     absurd (no_fault call text g.cause.program line kind (asked_program call _ g.cause.model text g.cause.program (told _ _ g.cause.program g.cause.reads.is_read) g.cause.is_asked refl asks) h)
@@ -584,7 +585,7 @@ blocks_plain : (call : Call) (answer : Plain) → GivesPlain call answer → (te
 blocks_plain call Usage g text blocks_text program line kind asks h f = absurd (some_job asks.job g.cause.0)
 blocks_plain call ReadFault g text blocks_text program line kind asks h f = inr (inl g)
 blocks_plain call (Refused (Model fault)) g text blocks_text program line kind asks h f =
-    absurd (no_fault call text program (model_line fault) (model_kind fault) h (fault_asked call text fault (of_blocks call text blocks_text asks) g.cause))
+    absurd (no_fault call text program fault.line (model_kind_number fault.kind) h (fault_asked call text fault (of_blocks call text blocks_text asks) g.cause))
 blocks_plain call (Refused (Blocks fault)) g text blocks_text program line kind asks h f =
     let same = sym (blocks_fault_asked call text blocks_text program fault.line (block_kind_number fault.kind) asks h g.cause).faulty ∙ f.faulty in
     inl (record { fault = fault; is_line = same_line_of same; is_kind = same_kind_of same; given = g })
@@ -609,7 +610,7 @@ point_plain : (call : Call) (answer : Plain) → GivesPlain call answer → (tex
 point_plain call Usage g text point_text program line kind asks h f = absurd (some_job asks.job g.cause.0)
 point_plain call ReadFault g text point_text program line kind asks h f = inr (inl g)
 point_plain call (Refused (Model fault)) g text point_text program line kind asks h f =
-    absurd (no_fault call text program (model_line fault) (model_kind fault) h (fault_asked call text fault (of_check call text point_text asks) g.cause))
+    absurd (no_fault call text program fault.line (model_kind_number fault.kind) h (fault_asked call text fault (of_check call text point_text asks) g.cause))
 point_plain call (Refused (Blocks fault)) g text point_text program line kind asks h f = absurd (solve_check g.cause.is_asked asks.job)
 point_plain call (Refused (Point fault)) g text point_text program line kind asks h f =
     let same = sym (point_fault_asked call text point_text program fault.line (point_kind_number fault.kind) asks h g.cause).faulty ∙ f.faulty in

@@ -7,7 +7,7 @@ use Rattle.cip_leaves.specs.Leaf.{Leaf}
 use Rattle.cip_answers.specs.Figures.{Overflow, Status, Optimal, Infeasible, Unbounded, Wide, NodeLimit, Gap, NoMemory as LacksMemory, status_word, exit_status}
 use Rattle.cip_answers.proofs.AnswerTexts.{apart}
 use Rattle.cip_answers.specs.Checks.{Checked, Feasible, BreaksBound, BreaksWhole, BreaksRow, WideRow, WideCost, check_status}
-use Rattle.cip_tasks.specs.declared.refusals.TextFault.{TextFault}
+use Rattle.cip_tasks.specs.declared.refusals.FaultyText.{FaultyText}
 use Rattle.cip_tasks.specs.declared.plain.Plain.{Plain}
 use Rattle.cip_tasks.specs.declared.plain.Plain.TheVariants.{Usage, ReadFault, Refused, NoMemory}
 use Rattle.cip_tasks.specs.Plain.{plain_status}
@@ -33,7 +33,7 @@ says_read_fault ReadFault e = refl
 says_read_fault (Refused fault) e = absurd (omega (arith, e))
 says_read_fault NoMemory e = absurd (omega (arith, e))
 
-pub says_refused : (answer : Plain) → plain_status answer ≡ 4 → (fault : TextFault) × (answer ≡ Refused fault)
+pub says_refused : (answer : Plain) → plain_status answer ≡ 4 → (fault : FaultyText) × (answer ≡ Refused fault)
 says_refused Usage e = absurd (omega (arith, e))
 says_refused ReadFault e = absurd (omega (arith, e))
 says_refused (Refused fault) e = (fault, refl)

@@ -16,9 +16,10 @@ use Rattle.cip_generator.specs.Generated.{generated, entries_of as coefficients_
 use Rattle.cip_trace_texts.specs.SelfTexts.{Drawn}
 use Rattle.cip_trace_texts.specs.TraceTexts.{traced_text}
 use Rattle.cip_words.specs.Jobs.{Limits, Job, Solve, Check, Generate, usual_limits}
-use Rattle.cip_answering.specs.Models.{is_lp_name, HasModel, HasModelFault, is_lp_fault, model_line, model_kind}
+use Rattle.cip_answering.specs.Models.{is_lp_name, HasModel, HasModelFault, is_lp_kind, model_kind_number}
 use Rattle.cip_answering.specs.TextPulls.{IsAllPulled}
-use Rattle.cip_answering.specs.ModelFault.{ModelFault}
+use Rattle.cip_answering.specs.ModelKind.{ModelKind}
+use Rattle.cip_answering.specs.TextFault.{TextFault}
 use Rattle.cip_answers.specs.Figures.{NodeLimit, Gap, Wide, Overflow, NoMemory as LacksMemory, names_of}
 use Rattle.cip_search.specs.Headline.{ShowsGap, IsSpent, ShowsOverflow, EndsItself}
 use Rattle.cip_answers.specs.Checks.{check_text, check_status}
@@ -32,12 +33,12 @@ use Rattle.cip_answering.specs.Logs.{entries_of}
 use Rattle.cip_events.specs.declared.traces.Trace.{Trace}
 use Rattle.cip_answering.specs.Traces.{kept_lines}
 use Rattle.cip_answering.specs.Kits.{Stock}
-use Rattle.cip_answering.specs.BlockKinds.{kind_number as block_kind_number}
-use Rattle.cip_answering.specs.BlockFault.{BlockFault}
-use Rattle.cip_answering.specs.PointKinds.{kind_number as point_kind_number}
-use Rattle.cip_answering.specs.PointFault.{PointFault}
-use Rattle.cip_tasks.specs.declared.refusals.TextFault.{TextFault}
-use Rattle.cip_tasks.specs.declared.refusals.TextFault.TheVariants.{Model, Blocks, Point}
+use Rattle.cip_answering.specs.BlockKindTexts.{kind_number as block_kind_number}
+use Rattle.cip_answering.specs.BlockKind.{BlockKind}
+use Rattle.cip_answering.specs.PointKindTexts.{kind_number as point_kind_number}
+use Rattle.cip_answering.specs.PointKind.{PointKind}
+use Rattle.cip_tasks.specs.declared.refusals.FaultyText.{FaultyText}
+use Rattle.cip_tasks.specs.declared.refusals.FaultyText.TheVariants.{Model, Blocks, Point}
 use Rattle.cip_tasks.specs.declared.plain.Plain.{Plain}
 use Rattle.cip_tasks.specs.declared.plain.Plain.TheVariants.{Usage, ReadFault, Refused, NoMemory}
 use Rattle.cip_answering.specs.Answering.{Telling, self_told, Answers}
@@ -255,7 +256,7 @@ pub record RefusesBlocks (call : Call) (program : Program) : Type 0 where
   pub name : List ℕ
   pub limits : Limits
   pub asked : call.job ≡ Some (Solve model (Some name) limits)
-  pub fault : BlockFault
+  pub fault : TextFault BlockKind
   pub given : GivesPlain call (Refused (Blocks fault))
   pub pulled : ArePulled (Some model) (Some name) call.store call.store_after
   pub first : IfSome (call.store.holds name)
@@ -307,14 +308,14 @@ pub record UsageClause (call : Call) : Type 0 where
   pub untouched : call.job ≡ None → call.store_after ≡ call.store
 
 -- the text that is read behind the model's, up to a faulty one
-abbrev pub behind_up_to : TextFault → Job → Option (List ℕ)
+abbrev pub behind_up_to : FaultyText → Job → Option (List ℕ)
 behind_up_to (Model fault) asked = None
 behind_up_to (Blocks fault) asked = second_of asked
 behind_up_to (Point fault) asked = second_of asked
 
 -- a fault is told, and the texts were pulled whole, in the order read, up to the faulty one and with it
 pub record PullsToFault (call : Call) (asked : Job) : Type 0 where
-  pub fault : TextFault
+  pub fault : FaultyText
   pub given : GivesPlain call (Refused fault)
   pub pulled : ArePulled (model_of asked) (behind_up_to fault asked) call.store call.store_after
 
@@ -342,9 +343,9 @@ pub record HasPointFault (call : Call) (text point_text : List ℕ) (line kind :
   pub first : HasLineFault (point_reading program) point_text line kind
 
 -- the fault that is told is the first of its text, and the text before it has none
-abbrev pub IsFirstFault : Call → TextFault → Type 0
+abbrev pub IsFirstFault : Call → FaultyText → Type 0
 IsFirstFault call (Model fault) =
-    (text : List ℕ) → AsksOf call text → HasFault call text (model_line fault) (model_kind fault)
+    (text : List ℕ) → AsksOf call text → HasFault call text fault.line (model_kind_number fault.kind)
 IsFirstFault call (Blocks fault) =
     (text blocks_text : List ℕ) → AsksWith call text blocks_text
     → HasBlocksFault call text blocks_text fault.line (block_kind_number fault.kind)
@@ -354,20 +355,20 @@ IsFirstFault call (Point fault) =
 
 -- a fault of this line and of this kind is told, and of the model as one of its kind of text
 pub record TellsModelFault (call : Call) (line kind : ℕ) : Type 0 where
-  pub fault : ModelFault
-  pub is_line : model_line fault ≡ line
-  pub is_kind : model_kind fault ≡ kind
-  pub own : IsSomeAnd (model_in call.job) (λ model. is_lp_fault fault ≡ is_lp_name model)
+  pub fault : TextFault ModelKind
+  pub is_line : fault.line ≡ line
+  pub is_kind : model_kind_number fault.kind ≡ kind
+  pub own : IsSomeAnd (model_in call.job) (λ model. is_lp_kind fault.kind ≡ is_lp_name model)
   pub given : GivesPlain call (Refused (Model fault))
 
 pub record TellsBlockFault (call : Call) (line kind : ℕ) : Type 0 where
-  pub fault : BlockFault
+  pub fault : TextFault BlockKind
   pub is_line : fault.line ≡ line
   pub is_kind : block_kind_number fault.kind ≡ kind
   pub given : GivesPlain call (Refused (Blocks fault))
 
 pub record TellsPointFault (call : Call) (line kind : ℕ) : Type 0 where
-  pub fault : PointFault
+  pub fault : TextFault PointKind
   pub is_line : fault.line ≡ line
   pub is_kind : point_kind_number fault.kind ≡ kind
   pub given : GivesPlain call (Refused (Point fault))
@@ -376,7 +377,7 @@ pub record TellsPointFault (call : Call) (line kind : ℕ) : Type 0 where
 -- read; where a text is faulty, and the one before it isn't, that is said, or the store failed, or want of memory is
 -- answered
 pub record RefusedClause (call : Call) : Type 0 where
-  pub only : call.status ≡ 4 → (fault : TextFault) × GivesPlain call (Refused fault) × IsFirstFault call fault
+  pub only : call.status ≡ 4 → (fault : FaultyText) × GivesPlain call (Refused fault) × IsFirstFault call fault
   pub model : (text : List ℕ) (line kind : ℕ) → AsksOf call text → HasFault call text line kind
       → TellsModelFault call line kind ⊎ IsCutShort call
   pub blocks : (text blocks_text : List ℕ) (program : Program) (line kind : ℕ) → AsksWith call text blocks_text

@@ -1,17 +1,19 @@
 -- What the calls of a reader of free MPS answer.
-use Rattle.std.proofs.Common.{◌≡◌, ℕ, List, [], Some, Result, Ok, Err, sym, subst, ◌∙◌}
+use Rattle.std.proofs.Common.{◌≡◌, ℕ, List, [], Some, Result, sym, subst, ◌∙◌}
 use Rattle.cip_line_texts.specs.LineStream.{stream_of, FaultsOfEndedLines}
 use Rattle.cip_line_stream.specs.PieceCuts.{no_bytes, known_fault}
-use Rattle.cip_line_stream.proofs.Streams.{first_stands, quiet, faulty}
+use Rattle.cip_line_stream.specs.TextFaults.{IsSaid}
+use Rattle.cip_line_stream.specs.declared.text_faults.ReadFault.{ReadFault}
+use Rattle.cip_line_stream.proofs.Streams.{first_stands}
+use Rattle.cip_line_stream.proofs.FaultsTold.{fed_by}
 use Rattle.cip_mps_rules.specs.MpsOutcome.{mps_reading}
 use Rattle.cip_mps_steps.specs.MpsSteps.{mps_steps}
-use Rattle.cip_mps.specs.declared.faults.ReadFault.{ReadFault}
-use Rattle.cip_mps.specs.declared.faults.ReadFault.TheVariants.{Faulty, NoMemory}
+use Rattle.cip_mps.specs.declared.kinds.MpsKind.{MpsKind}
 use Rattle.cip_mps.specs.declared.mps_text.MpsText.{MpsText}
 use Rattle.cip_mps.specs.declared.reader.MpsReader.{MpsReader}
-use Rattle.cip_mps.specs.MpsFaultKinds.{kind_number}
+use Rattle.cip_mps.specs.MpsKindTexts.{kind_number}
 use Rattle.cip_mps.specs.MpsTexts.{kept_of, stage_of, StandsFor}
-use Rattle.cip_mps.specs.MpsReaders.{HasRead, IsSaid, IsFed, IsFaultOf}
+use Rattle.cip_mps.specs.MpsReaders.{HasRead, IsSpent, IsFed}
 
 -- before the first piece
 pub begun : (reader : MpsReader) (kept : MpsText) → reader.text ≡ Some kept → kept_of kept ≡ no_bytes → stage_of kept ≡ mps_steps.start → HasRead reader []
@@ -29,18 +31,6 @@ read_text reader held text e h =
     subst (λ (k : MpsText). StandsFor k (stream_of mps_steps text)) same h.stands
 
 -- one piece more
-pub fed : FaultsOfEndedLines mps_reading mps_steps → (after : MpsReader) (now : MpsText) (text : List ℕ) → after.text ≡ Some now → StandsFor now (stream_of mps_steps text) → (answer : Result (Unit {0}) ReadFault) → IsSaid (known_fault 18 (kept_of now)) answer → IsFed after text answer
-fed law after now text e stands answer said = go answer said
-  where
-    now_read : HasRead after text
-    now_read = record { kept = now; goes_on = e; stands = stands }
-
-    go : (answer : Result (Unit {0}) ReadFault) → IsSaid (known_fault 18 (kept_of now)) answer → IsFed after text answer
-    go (Ok _) s = (now_read, quiet mps_reading mps_steps law text (kept_of now) (stage_of now) stands s)
-    go (Err (Faulty fault)) s = (now_read, faulty mps_reading mps_steps law text (kept_of now) (stage_of now) stands (record { line = fault.line; kind = kind_number fault.kind }) s)
-    go (Err NoMemory) s = absurd s
-
--- why a text that came whole gives no program
-pub whole_fault : (after : MpsReader) (text : List ℕ) (fault : ReadFault) → IsFed after text (Err fault) → IsFaultOf text fault
-whole_fault after text (Faulty fault) h = h.1.fault
-whole_fault after text NoMemory h = tt
+pub fed : FaultsOfEndedLines mps_reading mps_steps → (after : MpsReader) (now : MpsText) (text : List ℕ) → after.text ≡ Some now → StandsFor now (stream_of mps_steps text) → (answer : Result (Unit {0}) (ReadFault MpsKind)) → IsSaid kind_number (known_fault 18 (kept_of now)) answer → IsFed after text answer
+fed law after now text e stands answer said =
+    fed_by mps_reading mps_steps law text (kept_of now) (stage_of now) stands kind_number (HasRead after text) (IsSpent after) (record { kept = now; goes_on = e; stands = stands }) answer said

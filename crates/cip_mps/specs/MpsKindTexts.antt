@@ -1,6 +1,11 @@
 -- The kinds of faults of a text of free MPS: the number and the name of each, as they are printed.
 use lib.Chars.{codes}
 use Rattle.std.specs.Prelude.{ℕ, ◌-◌, List, [], ◌∷◌, slice_index_or}
+use Rattle.cip_mps.specs.declared.kinds.MpsKind.{MpsKind}
+
+-- the number of a kind
+abbrev pub kind_number : MpsKind → ℕ
+kind_number kind = kind.number
 
 -- those of all kinds
 abbrev pub kind_texts : List (List ℕ)

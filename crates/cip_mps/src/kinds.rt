@@ -1,27 +1,30 @@
 //! The kinds of faults of a text of free MPS.
 ghost use Rattle.std.specs.Prelude.{◌≡◌, ◌<◌, ◌≤◌, length};
-ghost use Rattle.cip_mps.specs.MpsKindTexts.{kind_text};
 
+use cip_line_stream::FaultKind;
 use std::{error, fmt};
 
 /// A kind of fault. Of several rules that a line breaks the least kind counts. It is known by its
 /// number, from 1 to 21; `text` has all of them.
 #[derive(Clone, Copy, PartialEq, Eq, Debug)]
-pub struct FaultKind {
+pub struct MpsKind {
     pub(crate) number: u32,
     ghost some: { 0 < number },
     ghost few: { number ≤ 21 },
 }
 
-impl FaultKind {
-    /// The kind of this number.
-    pub fn of(number: u32) -> FaultKind
-        requires some { 0 < number }
-        requires few { number ≤ 21 }
-        ensures { result.number ≡ number }
-    {
-        FaultKind { number }
+impl FaultKind for MpsKind {
+    ghost most = { 21 };
+
+    ghost number_of = { λ kind. kind.number };
+
+    fn of(number: u32) -> MpsKind {
+        MpsKind { number }
     }
+}
+
+impl MpsKind {
+    ghost use Rattle.cip_mps.specs.MpsKindTexts.{kind_text};
 
     /// The number of the kind, from 1 to 21.
     pub fn number(self) -> u32
@@ -82,11 +85,11 @@ impl FaultKind {
     }
 }
 
-impl fmt::Display for FaultKind {
+impl fmt::Display for MpsKind {
     fn fmt<W: fmt::Write>(&self, f: &mut fmt::Formatter<W>) -> fmt::Result {
         let text = self.text();
         write!(f, "kind {text}")
     }
 }
 
-impl error::Error for FaultKind {}
+impl error::Error for MpsKind {}

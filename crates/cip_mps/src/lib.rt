@@ -1,7 +1,6 @@
 //! Programs from texts of free MPS, in whatever pieces the text comes.
 #![tactic(auto)]
 
-mod faults;
 mod kinds;
 mod laws;
 mod line_reader;
@@ -9,8 +8,8 @@ mod mps_text;
 mod reader;
 mod whole_text;
 
-pub use faults::{MpsFault, ReadFault};
-pub use kinds::FaultKind;
+pub use cip_line_stream::{ReadFault, TextFault};
+pub use kinds::MpsKind;
 pub use laws::known_faults_stay;
 pub use reader::MpsReader;
 pub use whole_text::read_mps;

@@ -1,15 +1,13 @@
 //! Reading a text of free MPS, in whatever pieces it comes.
 ghost use Rattle.std.specs.Prelude.{◌≡◌, ◌++◌, [], ℕ, List, Some, Err, MatchResult};
-ghost use Rattle.cip_line_stream.specs.PieceCuts.{known_fault};
 ghost use Rattle.cip_mps_rules.specs.MpsOutcome.{HasProgram};
-ghost use Rattle.cip_mps_steps.specs.MpsSteps.{mps_steps};
-ghost use Rattle.cip_mps.specs.MpsTexts.{stage_of};
 
-use crate::faults::{MpsFault, ReadFault};
+use crate::kinds::MpsKind;
 use crate::mps_text::MpsText;
+use cip_line_stream::{ReadFault, told};
 use cip_mps_draft::Program;
 use cip_mps_steps::faults_of_ended_lines;
-use std::alloc::Global;
+use std::alloc::{AllocError, Global};
 
 /// A text of free MPS as far as it came. The reader keeps the line that has not ended and what the program needs, and
 /// nothing else of the text.
@@ -19,20 +17,8 @@ pub struct MpsReader {
     pub(crate) text: Option<MpsText>,
 }
 
-/// The program of a text that has no fault.
-fn program_of(text: MpsText) -> Result<Program, ReadFault>
-    ensures { MatchResult result (λ program. program ≡ mps_steps.result (stage_of text))
-        (λ fault. fault ≡ ReadFault.NoMemory) }
-{
-    match text.into_program() {
-        Ok(program) => Ok(program),
-        Err(_) => Err(ReadFault::NoMemory),
-    }
-}
-
 impl MpsReader {
-    ghost use Rattle.cip_mps.specs.MpsTexts.{kept_of};
-    ghost use Rattle.cip_mps.specs.MpsReaders.{HasRead, IsSpent, IsSaid, IsFed, IsFaultOf};
+    ghost use Rattle.cip_mps.specs.MpsReaders.{HasRead, IsSpent, IsFed, IsFaultOf};
 
     /// Before the first piece.
     pub fn new(alloc: Global) -> MpsReader
@@ -45,47 +31,27 @@ impl MpsReader {
     /// Takes one more piece of the text. `Faulty` comes exactly where a line that has ended is faulty, and then every
     /// later call answers the same fault. After `NoMemory` every later call answers `NoMemory`. Behind the first
     /// 67,108,865 bytes of the text nothing is looked at.
-    pub fn feed(&mut self, piece: &[u8]) -> Result<(), ReadFault>
+    pub fn feed(&mut self, piece: &[u8]) -> Result<(), ReadFault<MpsKind>>
         ensures reads { (text : List ℕ) → HasRead self.old text → IsFed self.new (text ++ piece.now) result }
         ensures spent { IsSpent self.old → (result ≡ Err ReadFault.NoMemory) × IsSpent self.new }
     {
         faults_of_ended_lines();
-        let Some(mut text) = self.text.take() else {
-            return Err(ReadFault::NoMemory);
-        };
-        match text.take(piece) {
-            Ok(()) => self.go_on(text),
-            Err(_) => Err(ReadFault::NoMemory),
-        }
-    }
-
-    /// Keeps the text, and says the fault at a line that has ended.
-    fn go_on(&mut self, text: MpsText) -> Result<(), ReadFault>
-        ensures kept { self.new.text ≡ Some text }
-        ensures said { IsSaid (known_fault 18 (kept_of text)) result }
-    {
-        let fault = text.known_fault();
+        let mut text = self.text.take().ok_or(AllocError)?;
+        text.take(piece)?;
+        let known = text.known_fault();
         self.text = Some(text);
-        match fault {
-            None => Ok(()),
-            Some(fault) => Err(ReadFault::Faulty(MpsFault::of(fault))),
-        }
+        told(known)
     }
 
     /// The program of the text, where it has ended, or its first fault. `NoMemory` comes after any `NoMemory`, too.
-    pub fn finish(self) -> Result<Program, ReadFault>
+    pub fn finish(self) -> Result<Program, ReadFault<MpsKind>>
         ensures reads { (text : List ℕ) → HasRead self text
             → MatchResult result (λ program. HasProgram text program) (IsFaultOf text) }
         ensures spent { IsSpent self → result ≡ Err ReadFault.NoMemory }
     {
         let MpsReader { text } = self;
-        let Some(mut text) = text else {
-            return Err(ReadFault::NoMemory);
-        };
-        match text.close() {
-            Ok(None) => program_of(text),
-            Ok(Some(fault)) => Err(ReadFault::Faulty(MpsFault::of(fault))),
-            Err(_) => Err(ReadFault::NoMemory),
-        }
+        let mut text = text.ok_or(AllocError)?;
+        told::<MpsKind>(text.close()?)?;
+        Ok(text.into_program()?)
     }
 }

@@ -3,20 +3,19 @@ ghost use Rattle.std.specs.Prelude.{MatchResult};
 ghost use Rattle.cip_mps_rules.specs.MpsOutcome.{HasProgram};
 ghost use Rattle.cip_mps.specs.MpsReaders.{IsFaultOf};
 
-use crate::faults::ReadFault;
+use crate::kinds::MpsKind;
 use crate::reader::MpsReader;
+use cip_line_stream::ReadFault;
 use cip_mps_draft::Program;
 use std::alloc::Global;
 
 /// The program of a text of free MPS, or its first fault: that of the first line that breaks a rule, with the least
 /// kind that it breaks. A text of more than 67,108,864 bytes is looked at as far as the first byte too many. `NoMemory`
 /// comes where a growth was refused.
-pub fn read_mps(alloc: Global, text: &[u8]) -> Result<Program, ReadFault>
+pub fn read_mps(alloc: Global, text: &[u8]) -> Result<Program, ReadFault<MpsKind>>
     ensures { MatchResult result (λ program. HasProgram text.now program) (IsFaultOf text.now) }
 {
     let mut reader = MpsReader::new(alloc);
-    match reader.feed(text) {
-        Ok(()) => reader.finish(),
-        Err(fault) => Err(fault),
-    }
+    reader.feed(text)?;
+    reader.finish()
 }

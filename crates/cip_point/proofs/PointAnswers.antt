@@ -1,20 +1,22 @@
 -- What the calls of a reader of points answer.
-use Rattle.std.proofs.Common.{◌≡◌, ℕ, List, [], ◌++◌, Some, Result, Ok, Err, sym, ap, subst, ◌∙◌}
+use Rattle.std.proofs.Common.{◌≡◌, ℕ, List, [], ◌++◌, Some, Result, sym, ap, subst, ◌∙◌}
 use Rattle.cip_problem.specs.Program.{Program}
 use Rattle.cip_line_texts.specs.LineStream.{stream_of, FaultsOfEndedLines}
 use Rattle.cip_line_stream.specs.PieceCuts.{no_bytes, known_fault}
-use Rattle.cip_line_stream.proofs.Streams.{first_stands, quiet, faulty}
+use Rattle.cip_line_stream.specs.TextFaults.{IsSaid}
+use Rattle.cip_line_stream.specs.declared.text_faults.ReadFault.{ReadFault}
+use Rattle.cip_line_stream.proofs.Streams.{first_stands}
+use Rattle.cip_line_stream.proofs.FaultsTold.{fed_by}
 use Rattle.cip_parts.specs.NamesOnce.{StandOnce}
 use Rattle.cip_point_rules.specs.PointRules.{point_reading}
 use Rattle.cip_point_rules.specs.PointSteps.{no_values, point_steps}
 use Rattle.cip_point_rules.specs.PointStepStatements.{PointFaultsOfEndedLines}
-use Rattle.cip_point.specs.declared.faults.ReadFault.{ReadFault}
-use Rattle.cip_point.specs.declared.faults.ReadFault.TheVariants.{Faulty, NoMemory}
+use Rattle.cip_point.specs.declared.kinds.PointKind.{PointKind}
 use Rattle.cip_point.specs.declared.point_text.PointText.{PointText}
 use Rattle.cip_point.specs.declared.reader.PointReader.{PointReader}
-use Rattle.cip_point.specs.PointKinds.{kind_number}
+use Rattle.cip_point.specs.PointKindTexts.{kind_number}
 use Rattle.cip_point.specs.PointTexts.{kept_of, values_of, program_of, steps_of, StandsFor}
-use Rattle.cip_point.specs.PointReaders.{HasRead, IsSaid, IsFed, IsFaultOf}
+use Rattle.cip_point.specs.PointReaders.{HasRead, IsSpent, IsFed}
 
 -- before the first piece
 pub begun : (reader : PointReader) (kept : PointText) (program : Program) → reader.text ≡ Some kept → program_of kept ≡ program → kept_of kept ≡ no_bytes → values_of kept ≡ no_values program → HasRead reader program []
@@ -43,18 +45,9 @@ module _ (reader after : PointReader) (held now : PointText) (program : Program)
     stands = subst (λ (p : Program). StandsFor now (stream_of (point_steps p) (text ++ piece))) (sym (same ∙ held_program)) now_stands;
   }
 
-  pub fed : PointFaultsOfEndedLines → StandOnce (program_of now).column_names → (answer : Result (Unit {0}) ReadFault) → IsSaid (known_fault 6 (kept_of now)) answer → IsFed program after (text ++ piece) answer
-  fed law once answer said = go answer said
+  pub fed : PointFaultsOfEndedLines → StandOnce (program_of now).column_names → (answer : Result (Unit {0}) (ReadFault PointKind)) → IsSaid kind_number (known_fault 6 (kept_of now)) answer → IsFed program after (text ++ piece) answer
+  fed law once answer said =
+      fed_by (point_reading program) (point_steps program) ended (text ++ piece) (kept_of now) (values_of now) now_stands kind_number (HasRead after program (text ++ piece)) (IsSpent after) now_read answer said
     where
       ended : FaultsOfEndedLines (point_reading program) (point_steps program)
       ended = law program (subst (λ (p : Program). StandOnce p.column_names) (same ∙ held_program) once)
-
-      go : (answer : Result (Unit {0}) ReadFault) → IsSaid (known_fault 6 (kept_of now)) answer → IsFed program after (text ++ piece) answer
-      go (Ok _) s = (now_read, quiet (point_reading program) (point_steps program) ended (text ++ piece) (kept_of now) (values_of now) now_stands s)
-      go (Err (Faulty fault)) s = (now_read, faulty (point_reading program) (point_steps program) ended (text ++ piece) (kept_of now) (values_of now) now_stands (record { line = fault.line; kind = kind_number fault.kind }) s)
-      go (Err NoMemory) s = absurd s
-
--- why a text that came whole gives no point
-pub whole_fault : (after : PointReader) (program : Program) (text : List ℕ) (fault : ReadFault) → IsFed program after text (Err fault) → IsFaultOf program text fault
-whole_fault after program text (Faulty fault) h = h.1.fault
-whole_fault after program text NoMemory h = tt

@@ -1,7 +1,7 @@
 //! The kinds of faults of a text of a point.
 ghost use Rattle.std.specs.Prelude.{◌≡◌, ◌<◌, ◌≤◌, length};
-ghost use Rattle.cip_point.specs.PointKindTexts.{kind_text};
 
+use cip_line_stream::FaultKind;
 use std::{error, fmt};
 
 /// A kind of fault. Of several rules that a line breaks the least kind counts. It is known by its
@@ -13,15 +13,18 @@ pub struct PointKind {
     ghost few: { number ≤ 6 },
 }
 
-impl PointKind {
-    /// The kind of this number.
-    pub fn of(number: u32) -> PointKind
-        requires some { 0 < number }
-        requires few { number ≤ 6 }
-        ensures { result.number ≡ number }
-    {
+impl FaultKind for PointKind {
+    ghost most = { 6 };
+
+    ghost number_of = { λ kind. kind.number };
+
+    fn of(number: u32) -> PointKind {
         PointKind { number }
     }
+}
+
+impl PointKind {
+    ghost use Rattle.cip_point.specs.PointKindTexts.{kind_text};
 
     /// The number of the kind, from 1 to 6.
     pub fn number(self) -> u32

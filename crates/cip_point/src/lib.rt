@@ -1,7 +1,6 @@
 //! Points from texts that give each column of a program its value, in whatever pieces a text comes.
 #![tactic(auto)]
 
-mod faults;
 mod kinds;
 mod laws;
 mod point_lines;
@@ -9,7 +8,7 @@ mod point_text;
 mod reader;
 mod whole_text;
 
-pub use faults::{PointFault, ReadFault};
+pub use cip_line_stream::{ReadFault, TextFault};
 pub use kinds::PointKind;
 pub use laws::known_point_faults_stay;
 pub use reader::PointReader;

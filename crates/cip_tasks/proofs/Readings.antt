@@ -10,26 +10,29 @@ use Rattle.cip_line_texts.specs.LineTexts.{HasResult, HasFault}
 use Rattle.cip_block_rules.specs.BlockRules.{block_reading}
 use Rattle.cip_point_rules.specs.PointRules.{point_reading}
 use Rattle.cip_point_rules.specs.PointStatements.{IsGivenOnce, given_by, PointsAreOfLines}
-use Rattle.cip_input.specs.BlockKinds.{kind_number as block_kind_number}
-use Rattle.cip_input.specs.PointKinds.{kind_number as point_kind_number}
+use Rattle.cip_input.specs.BlockKindTexts.{kind_number as block_kind_number}
+use Rattle.cip_input.specs.PointKindTexts.{kind_number as point_kind_number}
 use Rattle.cip_input.specs.LimitedModels.{ProgramsAreLimited}
 use Rattle.cip_input.specs.TextsRead.{ReadsText, RefusesText}
 use Rattle.cip_input.specs.Models.{HasModel}
 use Rattle.cip_input.specs.ModelsRead.{IsRead, Reads, ReadCause}
 use Rattle.cip_input.specs.BlocksRead.{ReadsBlocks, BlocksCause}
 use Rattle.cip_input.specs.PointsRead.{ReadsPoint, PointCause}
-use Rattle.cip_input.specs.declared.models.Unread.{Unread}
-use Rattle.cip_input.specs.declared.models.Unread.TheVariants.{StoreFailed, Faulty, NoMemory}
-use Rattle.cip_input.specs.declared.block_texts.UnreadBlocks.{UnreadBlocks}
-use Rattle.cip_input.specs.declared.block_texts.UnreadBlocks.TheVariants as blocks
-use Rattle.cip_input.specs.declared.points.UnreadPoint.{UnreadPoint}
-use Rattle.cip_input.specs.declared.points.UnreadPoint.TheVariants as point
+use Rattle.cip_input.specs.declared.model_kinds.ModelKind.{ModelKind}
+use Rattle.cip_input.specs.BlockKind.{BlockKind}
+use Rattle.cip_input.specs.PointKind.{PointKind}
+use Rattle.cip_input.specs.declared.unread.Unread.{Unread}
+use Rattle.cip_input.specs.declared.unread.Unread.TheVariants.{StoreFailed, Faulty, NoMemory}
+use Rattle.cip_input.specs.TextFault.{TextFault}
+use Rattle.cip_tasks.specs.declared.refusals.FaultyText.{FaultyText}
+use Rattle.cip_tasks.specs.declared.refusals.FaultyText.TheVariants as text
+use Rattle.cip_tasks.specs.declared.plain.Plain.TheVariants as plain
 use Rattle.cip_io.specs.Store.{StoreTells}
 use Rattle.cip_words.specs.Jobs.{Limits, Job, Solve, Check, Generate, AsksForSome}
 use Rattle.cip_generator.specs.Generated.{most_drawn}
 use Rattle.cip_tasks.specs.declared.plain.Plain.{Plain}
 use Rattle.cip_parts.specs.BlockParts.{Blocks as Parts}
-use Rattle.cip_tasks.specs.Tasks.{plain_of, plain_of_blocks, plain_of_point, model_of, model_in, TakesBlocks, IsSolve, IsCheck, TaskCause}
+use Rattle.cip_tasks.specs.Tasks.{IsPlain, model_of, model_in, TakesBlocks, IsSolve, IsCheck, TaskCause}
 
 -- it is that of the text that the store tells
 pub told : (name : List ℕ) (text : Option (List ℕ)) (program : Program) → IsRead name text program → IfSome text (λ bytes. HasModel name bytes program)
@@ -60,22 +63,28 @@ some_model h e n = no_name (sym n ∙ (ap model_in h ∙ e))
 pub some_asked : (asked : Job) (model : List ℕ) (blocks : Option (List ℕ)) (limits : Limits) → AsksForSome asked → asked ≡ Solve model blocks limits → 0 < limits.nodes
 some_asked asked model blocks limits h e = let range : AsksForSome (Solve model blocks limits) = subst AsksForSome e h in omega (arith, range.0)
 
+-- the answer that is given where nothing was read of a text
+abbrev plain_of : {K : Type 0} → (TextFault K → FaultyText) → Unread K → Plain
+plain_of faulty StoreFailed = plain.ReadFault
+plain_of faulty (Faulty fault) = plain.Refused (faulty fault)
+plain_of faulty NoMemory = plain.NoMemory
+
 -- why there is no task where the text of the model gave no program
-pub unread_cause : (job : Option Job) (asked : Job) (model : List ℕ) (old new : StoreTells) (cause : Unread) → job ≡ Some asked → model_of asked ≡ Some model → ReadCause model (old.holds model) old new cause → TaskCause job old new (plain_of cause)
+pub unread_cause : (job : Option Job) (asked : Job) (model : List ℕ) (old new : StoreTells) (cause : Unread ModelKind) → job ≡ Some asked → model_of asked ≡ Some model → ReadCause model (old.holds model) old new cause → TaskCause job old new (plain_of text.Model cause)
 unread_cause job asked model old new StoreFailed e n h = record { asked = asked; is_asked = e; model = model; named = n; fails = inl h }
 unread_cause job asked model old new (Faulty fault) e n h = record { asked = asked; is_asked = e; model = model; named = n; refuses = h }
 unread_cause job asked model old new NoMemory e n h = record { sound = h; untouched = λ none. absurd (some_model e n none) }
 
 -- why there is none where the text of the blocks gave none
-pub blocks_cause : (job : Option Job) (model name : List ℕ) (limits : Limits) (old between new : StoreTells) (program : Program) (cause : UnreadBlocks) → job ≡ Some (Solve model (Some name) limits) → Reads model (old.holds model) old between program → between.holds ≡ old.holds → BlocksCause program (between.holds name) between new cause → TaskCause job old new (plain_of_blocks cause)
-blocks_cause job model name limits old between new program blocks.StoreFailed e r same h = record {
+pub blocks_cause : (job : Option Job) (model name : List ℕ) (limits : Limits) (old between new : StoreTells) (program : Program) (cause : Unread BlockKind) → job ≡ Some (Solve model (Some name) limits) → Reads model (old.holds model) old between program → between.holds ≡ old.holds → BlocksCause program (between.holds name) between new cause → TaskCause job old new (plain_of text.Blocks cause)
+blocks_cause job model name limits old between new program StoreFailed e r same h = record {
   asked = Solve model (Some name) limits;
   is_asked = e;
   model = model;
   named = refl;
   fails = inr (record { name = name; named = refl; program = program; between = between; reads = r; rose = h });
 }
-blocks_cause job model name limits old between new program (blocks.Faulty fault) e r same h = record {
+blocks_cause job model name limits old between new program (Faulty fault) e r same h = record {
   model = model;
   name = name;
   limits = limits;
@@ -85,18 +94,18 @@ blocks_cause job model name limits old between new program (blocks.Faulty fault)
   reads = r;
   refuses = subst (λ holds. RefusesText (HasFault (block_reading program)) (holds name) between new fault.line (block_kind_number fault.kind)) same h;
 }
-blocks_cause job model name limits old between new program blocks.NoMemory e r same h = record { sound = h ∙ r.sound; untouched = λ none. absurd (some_model e refl none) }
+blocks_cause job model name limits old between new program NoMemory e r same h = record { sound = h ∙ r.sound; untouched = λ none. absurd (some_model e refl none) }
 
 -- why there is none where the text of the point gave none
-pub point_cause : (job : Option Job) (model name : List ℕ) (old between new : StoreTells) (program : Program) (cause : UnreadPoint) → job ≡ Some (Check model name) → Reads model (old.holds model) old between program → between.holds ≡ old.holds → PointCause program (between.holds name) between new cause → TaskCause job old new (plain_of_point cause)
-point_cause job model name old between new program point.StoreFailed e r same h = record {
+pub point_cause : (job : Option Job) (model name : List ℕ) (old between new : StoreTells) (program : Program) (cause : Unread PointKind) → job ≡ Some (Check model name) → Reads model (old.holds model) old between program → between.holds ≡ old.holds → PointCause program (between.holds name) between new cause → TaskCause job old new (plain_of text.Point cause)
+point_cause job model name old between new program StoreFailed e r same h = record {
   asked = Check model name;
   is_asked = e;
   model = model;
   named = refl;
   fails = inr (record { name = name; named = refl; program = program; between = between; reads = r; rose = h });
 }
-point_cause job model name old between new program (point.Faulty fault) e r same h = record {
+point_cause job model name old between new program (Faulty fault) e r same h = record {
   model = model;
   name = name;
   is_asked = e;
@@ -105,7 +114,7 @@ point_cause job model name old between new program (point.Faulty fault) e r same
   reads = r;
   refuses = subst (λ holds. RefusesText (HasFault (point_reading program)) (holds name) between new fault.line (point_kind_number fault.kind)) same h;
 }
-point_cause job model name old between new program point.NoMemory e r same h = record { sound = h ∙ r.sound; untouched = λ none. absurd (some_model e refl none) }
+point_cause job model name old between new program NoMemory e r same h = record { sound = h ∙ r.sound; untouched = λ none. absurd (some_model e refl none) }
 
 -- the blocks of a text of this name were read
 pub blocks_taken : (program : Program) (blocks : Option (List ℕ)) (name : List ℕ) (old between new : StoreTells) (parts : Parts) → blocks ≡ Some name → between.holds ≡ old.holds → ReadsBlocks program (between.holds name) between new parts → TakesBlocks program blocks old between new
@@ -145,6 +154,19 @@ is_check job model name old between new program point limited lines asked r same
 pub not_done : {X : Type 0} (Done : X → Type 0) (Cause : Plain → Type 0) (answer : Plain) (result : Result X Plain) → Cause answer → IsErr result × IsErrAnd result (λ given. given ≡ answer) → MatchResult result Done Cause
 not_done Done Cause answer (Ok x) h e = let no : ⊥ = let failed = e.0 in cc in absurd no
 not_done Done Cause answer (Err given) h e = subst Cause (sym e.1) h
+
+-- nothing was read of a text
+pub not_read : {X K : Type 0} (faulty : TextFault K → FaultyText) (Done : X → Type 0) (Cause : Plain → Type 0) (cause : Unread K) (result : Result X Plain) → Cause (plain_of faulty cause) → IsErr result × IsErrAnd result (IsPlain (λ fault said. said ≡ faulty fault) cause) → MatchResult result Done Cause
+not_read {K = K} faulty Done Cause cause (Ok x) h e = let no : ⊥ = let failed = e.0 in cc in absurd no
+not_read {K = K} faulty Done Cause cause (Err given) h e = subst Cause (sym (is cause given e.1)) h
+  where
+    is : (cause : Unread K) (given : Plain) → IsPlain (λ fault said. said ≡ faulty fault) cause given → given ≡ plain_of faulty cause
+    is StoreFailed given p = p
+    is (Faulty fault) plain.Usage p = absurd p
+    is (Faulty fault) plain.ReadFault p = absurd p
+    is (Faulty fault) (plain.Refused text) p = ap plain.Refused p
+    is (Faulty fault) plain.NoMemory p = absurd p
+    is NoMemory given p = p
 
 -- a job to solve a program that is drawn asks for few columns and rows
 pub few_columns : (asked : Job) (seed columns rows : ℕ) → AsksForSome asked → asked ≡ Generate seed columns rows → columns ≤ most_drawn

@@ -13,11 +13,13 @@ use Rattle.cip_numerals.proofs.NumberText.{IsFractionByte, fraction_text_plain, 
 use Rattle.cip_answers.specs.Figures.{end_line, line, refusal_text}
 use Rattle.cip_input.specs.MpsKindTexts.{kind_texts as mps_texts}
 use Rattle.cip_input.specs.LpKindTexts.{kind_texts as lp_texts}
-use Rattle.cip_input.specs.declared.model_faults.ModelFault.TheVariants.{Mps, Lp}
+use Rattle.cip_input.specs.declared.model_kinds.ModelKind.{ModelKind}
+use Rattle.cip_input.specs.declared.model_kinds.ModelKind.TheVariants.{Mps, Lp}
+use Rattle.cip_input.specs.Models.{model_kind_number, model_kind_text}
 use Rattle.cip_input.specs.BlockKindTexts.{kind_texts as block_texts}
 use Rattle.cip_input.specs.PointKindTexts.{kind_texts as point_texts}
-use Rattle.cip_tasks.specs.declared.refusals.TextFault.{TextFault}
-use Rattle.cip_tasks.specs.declared.refusals.TextFault.TheVariants.{Model, Blocks, Point}
+use Rattle.cip_tasks.specs.declared.refusals.FaultyText.{FaultyText}
+use Rattle.cip_tasks.specs.declared.refusals.FaultyText.TheVariants.{Model, Blocks, Point}
 use Rattle.cip_tasks.specs.Refusals.{text_name, line_of, number_of, kind_text, RefusalsTell}
 
 -- ---- how it is written
@@ -137,13 +139,16 @@ point_read : are_read 1 point_texts ≡ true
 unfolding kind_read are_read
 point_read = refl
 
-read_kind : (fault : TextFault) → kind_read (kind_text fault) ≡ number_of fault
-read_kind (Model (Mps fault)) = read_of mps_texts fault.kind.number mps_read fault.kind.some fault.kind.few
-read_kind (Model (Lp fault)) = read_of lp_texts fault.kind.number lp_read fault.kind.some fault.kind.few
+read_model : (kind : ModelKind) → kind_read (model_kind_text kind) ≡ model_kind_number kind
+read_model (Mps kind) = read_of mps_texts kind.number mps_read kind.some kind.few
+read_model (Lp kind) = read_of lp_texts kind.number lp_read kind.some kind.few
+
+read_kind : (fault : FaultyText) → kind_read (kind_text fault) ≡ number_of fault
+read_kind (Model fault) = read_model fault.kind
 read_kind (Blocks fault) = read_of block_texts fault.kind.number blocks_read fault.kind.some fault.kind.few
 read_kind (Point fault) = read_of point_texts fault.kind.number point_read fault.kind.some fault.kind.few
 
-text_name-no_feed : (fault : TextFault) → HasNoFeed (text_name fault)
+text_name-no_feed : (fault : FaultyText) → HasNoFeed (text_name fault)
 text_name-no_feed (Model fault) = (λ e. omega (arith, e), (λ e. omega (arith, e), (λ e. omega (arith, e), (λ e. omega (arith, e), (λ e. omega (arith, e), tt)))))
 text_name-no_feed (Blocks fault) = (λ e. omega (arith, e), (λ e. omega (arith, e), (λ e. omega (arith, e), (λ e. omega (arith, e), (λ e. omega (arith, e), (λ e. omega (arith, e), tt))))))
 text_name-no_feed (Point fault) = (λ e. omega (arith, e), (λ e. omega (arith, e), (λ e. omega (arith, e), (λ e. omega (arith, e), (λ e. omega (arith, e), tt)))))

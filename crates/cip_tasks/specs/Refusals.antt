@@ -6,46 +6,44 @@ use lib.Chars.{codes}
 use Rattle.std.specs.Prelude.{◌≡◌, ℕ, List}
 use Rattle.cip_numerals.specs.NumberText.{natural_text}
 use Rattle.cip_answers.specs.Figures.{refusal_text}
-use Rattle.cip_input.specs.BlockKinds.{kind_number as block_kind_number}
-use Rattle.cip_input.specs.BlockKindTexts.{kind_text as block_kind_text}
-use Rattle.cip_input.specs.PointKinds.{kind_number as point_kind_number}
-use Rattle.cip_input.specs.PointKindTexts.{kind_text as point_kind_text}
-use Rattle.cip_input.specs.Models.{model_line, model_kind, model_kind_text}
-use Rattle.cip_tasks.specs.declared.refusals.TextFault.{TextFault}
-use Rattle.cip_tasks.specs.declared.refusals.TextFault.TheVariants.{Model, Blocks, Point}
+use Rattle.cip_input.specs.BlockKindTexts.{kind_number as block_kind_number, kind_text as block_kind_text}
+use Rattle.cip_input.specs.PointKindTexts.{kind_number as point_kind_number, kind_text as point_kind_text}
+use Rattle.cip_input.specs.Models.{model_kind_number, model_kind_text}
+use Rattle.cip_tasks.specs.declared.refusals.FaultyText.{FaultyText}
+use Rattle.cip_tasks.specs.declared.refusals.FaultyText.TheVariants.{Model, Blocks, Point}
 
 -- ---- a faulty text
 
 -- the word for the text
-abbrev pub text_name : TextFault → List ℕ
+abbrev pub text_name : FaultyText → List ℕ
 text_name (Model fault) = codes "model"
 text_name (Blocks fault) = codes "blocks"
 text_name (Point fault) = codes "point"
 
 -- the line
-abbrev pub line_of : TextFault → ℕ
-line_of (Model fault) = model_line fault
+abbrev pub line_of : FaultyText → ℕ
+line_of (Model fault) = fault.line
 line_of (Blocks fault) = fault.line
 line_of (Point fault) = fault.line
 
 -- the number of the kind
-abbrev pub number_of : TextFault → ℕ
-number_of (Model fault) = model_kind fault
+abbrev pub number_of : FaultyText → ℕ
+number_of (Model fault) = model_kind_number fault.kind
 number_of (Blocks fault) = block_kind_number fault.kind
 number_of (Point fault) = point_kind_number fault.kind
 
 -- the number and the name of the kind
-abbrev pub kind_text : TextFault → List ℕ
-kind_text (Model fault) = model_kind_text fault
+abbrev pub kind_text : FaultyText → List ℕ
+kind_text (Model fault) = model_kind_text fault.kind
 kind_text (Blocks fault) = block_kind_text (block_kind_number fault.kind)
 kind_text (Point fault) = point_kind_text (point_kind_number fault.kind)
 
 -- `status refused`, `text T`, `line L`, `kind K NAME`, `end`
-abbrev pub refused_text : TextFault → List ℕ
+abbrev pub refused_text : FaultyText → List ℕ
 refused_text fault = refusal_text (text_name fault) (natural_text (line_of fault)) (kind_text fault)
 
 -- two refusals with one text are of one text, of one line and of one kind
 abbrev pub RefusalsTell : Type 0
 RefusalsTell =
-    (fault other : TextFault) → refused_text fault ≡ refused_text other
+    (fault other : FaultyText) → refused_text fault ≡ refused_text other
     → (text_name fault ≡ text_name other) × (line_of fault ≡ line_of other) × (number_of fault ≡ number_of other)

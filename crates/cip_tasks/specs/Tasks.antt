@@ -11,8 +11,8 @@ use Rattle.cip_line_texts.specs.LineTexts.{HasFault}
 use Rattle.cip_parts.specs.BlockParts.{Blocks as Parts}
 use Rattle.cip_block_rules.specs.BlockRules.{block_reading}
 use Rattle.cip_point_rules.specs.PointRules.{point_reading}
-use Rattle.cip_input.specs.BlockKinds.{kind_number as block_kind_number}
-use Rattle.cip_input.specs.PointKinds.{kind_number as point_kind_number}
+use Rattle.cip_input.specs.BlockKindTexts.{kind_number as block_kind_number}
+use Rattle.cip_input.specs.PointKindTexts.{kind_number as point_kind_number}
 use Rattle.cip_generator.specs.Generated.{generated, entries_of}
 use Rattle.cip_plugin.specs.Who.{Who}
 use Rattle.cip_words.specs.Jobs.{Limits, Job, Solve, Check, Generate}
@@ -24,14 +24,12 @@ use Rattle.cip_input.specs.TextsRead.{RefusesText}
 use Rattle.cip_input.specs.ModelsRead.{Reads, Refuses}
 use Rattle.cip_input.specs.BlocksRead.{ReadsBlocks}
 use Rattle.cip_input.specs.PointsRead.{ReadsPoint}
-use Rattle.cip_input.specs.declared.model_faults.ModelFault.{ModelFault}
-use Rattle.cip_input.specs.declared.models.Unread.{Unread}
-use Rattle.cip_input.specs.declared.models.Unread.TheVariants as unread
-use Rattle.cip_input.specs.declared.block_texts.UnreadBlocks.{UnreadBlocks}
-use Rattle.cip_input.specs.declared.block_texts.UnreadBlocks.TheVariants as unread_blocks
-use Rattle.cip_input.specs.declared.points.UnreadPoint.{UnreadPoint}
-use Rattle.cip_input.specs.declared.points.UnreadPoint.TheVariants as unread_point
-use Rattle.cip_tasks.specs.declared.refusals.TextFault.TheVariants.{Model, Blocks, Point}
+use Rattle.cip_input.specs.TextFault.{TextFault}
+use Rattle.cip_input.specs.declared.model_kinds.ModelKind.{ModelKind}
+use Rattle.cip_input.specs.declared.unread.Unread.{Unread}
+use Rattle.cip_input.specs.declared.unread.Unread.TheVariants as unread
+use Rattle.cip_tasks.specs.declared.refusals.FaultyText.{FaultyText}
+use Rattle.cip_tasks.specs.declared.refusals.FaultyText.TheVariants.{Model, Blocks, Point}
 use Rattle.cip_tasks.specs.declared.plain.Plain.{Plain}
 use Rattle.cip_tasks.specs.declared.plain.Plain.TheVariants.{Usage, ReadFault, Refused, NoMemory}
 use Rattle.cip_tasks.specs.declared.tasks.Task.{Task}
@@ -41,23 +39,12 @@ use Rattle.cip_tasks.specs.declared.tasks.Task.TheVariants as task
 abbrev pub labels_of : List Who → List (List ℕ)
 labels_of plugins = map (λ who. who.label) plugins
 
--- the answer that is given where a program was not read
-abbrev pub plain_of : Unread → Plain
-plain_of unread.StoreFailed = ReadFault
-plain_of (unread.Faulty fault) = Refused (Model fault)
-plain_of unread.NoMemory = NoMemory
-
--- the answer that is given where blocks were not read
-abbrev pub plain_of_blocks : UnreadBlocks → Plain
-plain_of_blocks unread_blocks.StoreFailed = ReadFault
-plain_of_blocks (unread_blocks.Faulty fault) = Refused (Blocks fault)
-plain_of_blocks unread_blocks.NoMemory = NoMemory
-
--- the answer that is given where a point was not read
-abbrev pub plain_of_point : UnreadPoint → Plain
-plain_of_point unread_point.StoreFailed = ReadFault
-plain_of_point (unread_point.Faulty fault) = Refused (Point fault)
-plain_of_point unread_point.NoMemory = NoMemory
+-- the answer that is given where nothing was read of a text; `Gives` says which text the fault is told of
+abbrev pub IsPlain : {K : Type 0} → (Gives : TextFault K → FaultyText → Type 0) → Unread K → Plain → Type 0
+IsPlain Gives unread.StoreFailed answer = answer ≡ ReadFault
+IsPlain Gives (unread.Faulty fault) (Refused text) = Gives fault text
+IsPlain Gives (unread.Faulty fault) other = ⊥
+IsPlain Gives unread.NoMemory answer = answer ≡ NoMemory
 
 -- the answer that is given where words give no job
 abbrev pub plain_of_words : WordsFault → Plain
@@ -145,7 +132,7 @@ pub record IsUnreadable (job : Option Job) (old new : StoreTells) : Type 0 where
   pub fails : Rose old.faults new.faults ⊎ FailsBehind asked model old new
 
 -- this is the first fault of the text of the model
-pub record HasFaultyModel (job : Option Job) (old new : StoreTells) (fault : ModelFault) : Type 0 where
+pub record HasFaultyModel (job : Option Job) (old new : StoreTells) (fault : TextFault ModelKind) : Type 0 where
   pub asked : Job
   pub is_asked : job ≡ Some asked
   pub model : List ℕ

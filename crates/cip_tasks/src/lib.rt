@@ -8,5 +8,5 @@ mod tasks;
 
 pub use laws::refusals_tell;
 pub use plain::Plain;
-pub use refusals::TextFault;
+pub use refusals::FaultyText;
 pub use tasks::{Task, read_task};

@@ -5,7 +5,7 @@ ghost use Rattle.cip_io.specs.Sink.{TakesAll, PushesPart};
 ghost use Rattle.cip_tasks.specs.Plain.{plain_text, plain_status};
 ghost use Rattle.cip_tasks.specs.Refusals.{refused_text};
 
-use crate::refusals::TextFault;
+use crate::refusals::FaultyText;
 use cip_io::{Failed, Sink, push_all};
 use itoa::Buffer;
 
@@ -17,7 +17,7 @@ pub enum Plain {
     /// The store failed.
     ReadFault,
     /// A text is faulty.
-    Refused(TextFault),
+    Refused(FaultyText),
     /// A growth was refused.
     NoMemory,
 }
@@ -34,7 +34,7 @@ fn put(buffer: &mut [u8; 128], at: usize, bytes: &[u8]) -> usize
 }
 
 /// Writes the text of a refusal at the front of the buffer, and answers how many bytes it has.
-fn write_refusal(fault: TextFault, buffer: &mut [u8; 128]) -> usize
+fn write_refusal(fault: FaultyText, buffer: &mut [u8; 128]) -> usize
     ensures within { result ≤ 128 }
     ensures text { take result buffer.new ≡ refused_text fault }
 {

@@ -2,29 +2,62 @@
 ghost use Rattle.std.specs.Prelude.{◌≡◌, ◌≤◌, length};
 ghost use Rattle.cip_tasks.specs.Refusals.{text_name, line_of, kind_text};
 
-use cip_input::{BlockFault, ModelFault, PointFault};
+use cip_input::{BlockKind, ModelKind, PointKind, TextFault};
 
-/// A faulty text: which one it is, its first line that breaks a rule, and the least kind that it breaks.
+/// A faulty text: which one it is, and its fault.
 #[derive(Clone, Copy, Debug, PartialEq, Eq)]
-pub enum TextFault {
+pub enum FaultyText {
     /// The text of the model.
-    Model(ModelFault),
+    Model(TextFault<ModelKind>),
     /// The text of the blocks.
-    Blocks(BlockFault),
+    Blocks(TextFault<BlockKind>),
     /// The text of the point.
-    Point(PointFault),
+    Point(TextFault<PointKind>),
 }
 
-impl TextFault {
+impl From<TextFault<ModelKind>> for FaultyText {
+    ghost use Rattle.std.specs.Prelude.{◌≡◌};
+    ghost use Rattle.cip_tasks.specs.declared.refusals.FaultyText.{FaultyText};
+
+    ghost from_gives = { λ fault text. text ≡ FaultyText.Model fault };
+
+    fn from(fault: TextFault<ModelKind>) -> FaultyText {
+        FaultyText::Model(fault)
+    }
+}
+
+impl From<TextFault<BlockKind>> for FaultyText {
+    ghost use Rattle.std.specs.Prelude.{◌≡◌};
+    ghost use Rattle.cip_tasks.specs.declared.refusals.FaultyText.{FaultyText};
+
+    ghost from_gives = { λ fault text. text ≡ FaultyText.Blocks fault };
+
+    fn from(fault: TextFault<BlockKind>) -> FaultyText {
+        FaultyText::Blocks(fault)
+    }
+}
+
+impl From<TextFault<PointKind>> for FaultyText {
+    ghost use Rattle.std.specs.Prelude.{◌≡◌};
+    ghost use Rattle.cip_tasks.specs.declared.refusals.FaultyText.{FaultyText};
+
+    ghost from_gives = { λ fault text. text ≡ FaultyText.Point fault };
+
+    fn from(fault: TextFault<PointKind>) -> FaultyText {
+        FaultyText::Point(fault)
+    }
+}
+
+impl FaultyText {
     /// The word for the text.
     pub(crate) fn text(self) -> &'static [u8]
         ensures text { result.now ≡ text_name self }
         ensures short { length result.now ≤ 6 }
     {
         match self {
-            TextFault::Model(_) => b"model",
-            TextFault::Blocks(_) => b"blocks",
-            TextFault::Point(_) => b"point",
+            FaultyText::Model(_) => b"model",
+            FaultyText::Blocks(_) => b"blocks",
+            FaultyText::Point(_) => b"point",
         }
     }
 
@@ -33,9 +66,9 @@ impl TextFault {
         ensures { result ≡ line_of self }
     {
         match self {
-            TextFault::Model(fault) => fault.line(),
-            TextFault::Blocks(fault) => fault.line,
-            TextFault::Point(fault) => fault.line,
+            FaultyText::Model(fault) => fault.line,
+            FaultyText::Blocks(fault) => fault.line,
+            FaultyText::Point(fault) => fault.line,
         }
     }
 
@@ -45,9 +78,9 @@ impl TextFault {
         ensures short { length result.now ≤ 20 }
     {
         match self {
-            TextFault::Model(fault) => fault.kind_text().as_bytes(),
-            TextFault::Blocks(fault) => fault.kind.text().as_bytes(),
-            TextFault::Point(fault) => fault.kind.text().as_bytes(),
+            FaultyText::Model(fault) => fault.kind.text().as_bytes(),
+            FaultyText::Blocks(fault) => fault.kind.text().as_bytes(),
+            FaultyText::Point(fault) => fault.kind.text().as_bytes(),
         }
     }
 }

@@ -10,12 +10,10 @@ ghost use Rattle.cip_input.specs.ModelsRead.{Reads};
 ghost use Rattle.cip_tasks.specs.Tasks.{labels_of, TakesBlocks, IsSolve, IsTask, TaskCause};
 
 use crate::plain::Plain;
-use crate::refusals::TextFault;
+use crate::refusals::FaultyText;
 use cip_frac::Frac;
 use cip_generator::{entries, generate, generated_are_formed};
-use cip_input::{
-    Unread, UnreadBlocks, UnreadPoint, programs_are_limited, read_blocks, read_point, read_program,
-};
+use cip_input::{TextFault, Unread, programs_are_limited, read_blocks, read_point, read_program};
 use cip_io::Store;
 use cip_model::Program;
 use cip_plugin::Tells;
@@ -55,47 +53,19 @@ pub enum Task<'a> {
     },
 }
 
-impl From<Unread> for Plain {
-    ghost use Rattle.std.specs.Prelude.{◌≡◌};
-    ghost use Rattle.cip_tasks.specs.Tasks.{plain_of};
+impl<K> From<Unread<K>> for Plain
+where
+    FaultyText: From<TextFault<K>>,
+{
+    ghost use Rattle.cip_tasks.specs.Tasks.{IsPlain};
 
-    ghost from_gives = { λ cause answer. answer ≡ plain_of cause };
+    ghost from_gives = { IsPlain ⟦<FaultyText as From<TextFault<K>>>⟧.from_gives };
 
-    fn from(cause: Unread) -> Plain {
+    fn from(cause: Unread<K>) -> Plain {
         match cause {
             Unread::StoreFailed => Plain::ReadFault,
-            Unread::Faulty(fault) => Plain::Refused(TextFault::Model(fault)),
+            Unread::Faulty(fault) => Plain::Refused(FaultyText::from(fault)),
             Unread::NoMemory => Plain::NoMemory,
-        }
-    }
-}
-
-impl From<UnreadBlocks> for Plain {
-    ghost use Rattle.std.specs.Prelude.{◌≡◌};
-    ghost use Rattle.cip_tasks.specs.Tasks.{plain_of_blocks};
-
-    ghost from_gives = { λ cause answer. answer ≡ plain_of_blocks cause };
-
-    fn from(cause: UnreadBlocks) -> Plain {
-        match cause {
-            UnreadBlocks::StoreFailed => Plain::ReadFault,
-            UnreadBlocks::Faulty(fault) => Plain::Refused(TextFault::Blocks(fault)),
-            UnreadBlocks::NoMemory => Plain::NoMemory,
-        }
-    }
-}
-
-impl From<UnreadPoint> for Plain {
-    ghost use Rattle.std.specs.Prelude.{◌≡◌};
-    ghost use Rattle.cip_tasks.specs.Tasks.{plain_of_point};
-
-    ghost from_gives = { λ cause answer. answer ≡ plain_of_point cause };
-
-    fn from(cause: UnreadPoint) -> Plain {
-        match cause {
-            UnreadPoint::StoreFailed => Plain::ReadFault,
-            UnreadPoint::Faulty(fault) => Plain::Refused(TextFault::Point(fault)),
-            UnreadPoint::NoMemory => Plain::NoMemory,
         }
     }
 }

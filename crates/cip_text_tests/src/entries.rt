@@ -1,5 +1,5 @@
 //! LP texts of as many entries as there may be, and one more.
-use cip_input::{LpReader, ReadFault};
+use cip_input::{LpKind, LpReader, ReadFault};
 use std::alloc::{AllocError, Global};
 
 /// The terms of a row on 65,536 columns, one a line.
@@ -12,7 +12,7 @@ fn terms(alloc: Global) -> Result<String, AllocError> {
 }
 
 /// Feeds an objective, 64 rows of these terms, and this behind them.
-fn feed(reader: &mut LpReader, terms: &str, behind: &str) -> Result<(), ReadFault> {
+fn feed(reader: &mut LpReader, terms: &str, behind: &str) -> Result<(), ReadFault<LpKind>> {
     reader.feed(b"Min x0\nST\n")?;
     for _ in 0..64 {
         reader.feed(terms.as_bytes())?;

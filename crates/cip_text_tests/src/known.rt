@@ -1,12 +1,12 @@
 //! Faults that readers know before the end of a text.
-use cip_input::LpReader;
+use cip_input::{LpReader, ReadFault};
 use cip_mps::MpsReader;
 use std::alloc::Global;
 
 /// The line of the fault that a reader of free MPS knows behind one more piece.
 fn mps_line(reader: &mut MpsReader, piece: &str) -> Option<usize> {
     match reader.feed(piece.as_bytes()) {
-        Err(cip_mps::ReadFault::Faulty(fault)) => Some(fault.line),
+        Err(ReadFault::Faulty(fault)) => Some(fault.line),
         _ => None,
     }
 }
@@ -14,7 +14,7 @@ fn mps_line(reader: &mut MpsReader, piece: &str) -> Option<usize> {
 /// The same of a reader of LP texts.
 fn lp_line(reader: &mut LpReader, piece: &str) -> Option<usize> {
     match reader.feed(piece.as_bytes()) {
-        Err(cip_input::ReadFault::Faulty(fault)) => Some(fault.line),
+        Err(ReadFault::Faulty(fault)) => Some(fault.line),
         _ => None,
     }
 }

@@ -1,8 +1,22 @@
-use Rattle.std.proofs.Common.{true}
-use Rattle.cip_input.proofs.ModelTexts.{finished}
+use Rattle.std.proofs.Common.{◌≡◌, true, ap}
+use Rattle.cip_lp.specs.LpKindTexts.{kind_number}
+use Rattle.cip_lp.specs.LpReaders.{IsFaultOf}
+use Rattle.cip_input.specs.declared.model_kinds.ModelKind.TheVariants.{Lp}
+use Rattle.cip_input.specs.Models.{is_lp_kind, model_kind_number}
+use Rattle.cip_input.proofs.TextsTold.{passed_on}
+use Rattle.cip_input.proofs.ModelTexts.{model_read, model_unread}
 use Rattle.cip_input.proofs.lp_models.read_lp_text.Goals as goal
 
-pub returns-in-Ok-clause-answer : goal.returns-in-Ok-clause-answer
-returns-in-Ok-clause-answer g c = λ name e.
-    let all = c.in-Ok.ensures.read in
-    finished true name e _ (g.S.Store.tells c.args.store.now) (g.S.Store.tells c.read_pieces.new.store) c.finish.result all (c.finish.ensures all.bytes all.has_read)
+pub returns-in_err-finish-clause-answer : goal.returns-in_err-finish-clause-answer
+returns-in_err-finish-clause-answer g c = λ name e.
+    let all = c.in_ok-read_pieces.ensures.read in
+    let fault = c.in_err-finish.field-0.0 in
+    let refused : IsFaultOf all.bytes fault = c.in_err-finish.ensures.reads all.bytes all.has_read in
+    passed_on _ _ _
+    (model_unread kind_number true name e (λ kind made. made ≡ Lp kind) (λ kind made is. (ap model_kind_number is, ap is_lp_kind is)) _ (g.S.Store.tells c.args.store.now) (g.S.Store.tells c.read_pieces.new.store) all fault refused)
+    c.from_residual-in_err-finish.result c.from_residual-in_err-finish.ensures
+
+pub returns-clause-answer : goal.returns-clause-answer
+returns-clause-answer g c = λ name e.
+    let all = c.in_ok-read_pieces.ensures.read in
+    model_read true name e _ (g.S.Store.tells c.args.store.now) (g.S.Store.tells c.read_pieces.new.store) all c.in_ok-finish.field-0 (c.in_ok-finish.ensures.reads all.bytes all.has_read)

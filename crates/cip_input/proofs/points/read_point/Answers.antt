@@ -1,7 +1,11 @@
-use Rattle.cip_input.proofs.PointTold.{later}
+use Rattle.cip_line_texts.specs.LineTexts.{HasResult, HasFault}
+use Rattle.cip_point.specs.PointRules.{point_reading}
+use Rattle.cip_point.specs.PointKindTexts.{kind_number}
+use Rattle.cip_input.proofs.TextsTold.{later}
 use Rattle.cip_input.proofs.points.read_point.Goals as goal
 
-pub returns-in-Ok-choose-clause-answer : goal.returns-in-Ok-choose-clause-answer
-returns-in-Ok-choose-clause-answer g c =
-    later c.args.program.now _ (g.S.Store.tells c.args.store.now) (g.S.Store.tells c.choose.new.self) (g.S.Store.tells c.read_text.new.store) c.read_text.result
-    c.in-Ok-choose.ensures.left c.in-Ok-choose.ensures.faults.0 c.read_text.ensures.answer
+pub returns-clause-answer : goal.returns-clause-answer
+returns-clause-answer g c =
+    let reading = point_reading c.args.program.now in
+    later (HasResult reading) (λ point. point.items) kind_number (HasFault reading) _ (g.S.Store.tells c.args.store.now) (g.S.Store.tells c.choose.new.self) (g.S.Store.tells c.read_text.new.store) c.read_text.result
+    c.in_ok-choose.ensures.left c.in_ok-choose.ensures.faults.0 c.read_text.ensures.answer

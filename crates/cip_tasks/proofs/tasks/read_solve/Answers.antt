@@ -1,11 +1,12 @@
 use Rattle.std.proofs.Common.{refl}
 use Rattle.cip_words.specs.Jobs.{Solve}
-use Rattle.cip_tasks.proofs.Readings.{not_done, unread_cause, is_solve}
+use Rattle.cip_tasks.specs.declared.refusals.FaultyText.TheVariants.{Model}
+use Rattle.cip_tasks.proofs.Readings.{not_done, not_read, unread_cause, is_solve}
 use Rattle.cip_tasks.proofs.tasks.read_solve.Goals as goal
 
 pub returns-in_err-program : goal.returns-in_err-program
 returns-in_err-program g c = λ job limits asked some.
-    not_done _ _ _ _ (unread_cause job (Solve c.args.model.now _ limits) _ _ _ c.in_err-program.field-0.0 asked refl c.in_err-program.ensures.answer) c.from_residual.ensures
+    not_read Model _ _ _ _ (unread_cause job (Solve c.args.model.now _ limits) _ _ _ c.in_err-program.field-0.0 asked refl c.in_err-program.ensures.answer) c.from_residual.ensures
 
 pub returns-in_err-take_blocks : goal.returns-in_err-take_blocks
 returns-in_err-take_blocks g c = λ job limits asked some.

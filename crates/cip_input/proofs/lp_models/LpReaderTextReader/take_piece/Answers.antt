@@ -1,5 +1,5 @@
 use Rattle.std.proofs.Common.{◌++◌, Err}
-use Rattle.cip_lp.specs.declared.faults.ReadFault.TheVariants.{Faulty}
+use Rattle.cip_blocks.specs.ReadFault.TheVariants.{Faulty}
 use Rattle.cip_lp.specs.LpReaders.{IsFed}
 use Rattle.cip_input.proofs.lp_models.LpReaderTextReader.take_piece.Goals as goal
 

@@ -1,5 +1,5 @@
 use Rattle.std.proofs.Common.{◌++◌, Err}
-use Rattle.cip_mps.specs.declared.faults.ReadFault.TheVariants.{Faulty}
+use Rattle.cip_blocks.specs.ReadFault.TheVariants.{Faulty}
 use Rattle.cip_mps.specs.MpsReaders.{IsFed}
 use Rattle.cip_input.proofs.mps_models.MpsReaderTextReader.take_piece.Goals as goal
 

@@ -1,8 +1,0 @@
-use Rattle.cip_line_stream.proofs.Streams.{some_kind, few_kinds}
-use Rattle.cip_point.proofs.faults.PointFault.of.Goals as goal
-
-pub of-requires-clause-some : goal.of-requires-clause-some
-of-requires-clause-some c = some_kind 6 c.args.fault c.requires
-
-pub of-requires-clause-few : goal.of-requires-clause-few
-of-requires-clause-few c = few_kinds 6 c.args.fault c.requires
