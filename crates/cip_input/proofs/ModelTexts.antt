@@ -62,9 +62,7 @@ model_unread number_of lp name e Gives same HasRead chosen now a (reader.Faulty 
     }
 model_unread number_of lp name e Gives same HasRead chosen now a (reader.Faulty fault) h StoreFailed t = absurd t
 model_unread number_of lp name e Gives same HasRead chosen now a (reader.Faulty fault) h NoMemory t = absurd t
-model_unread number_of lp name e Gives same HasRead chosen now a reader.NoMemory h (Faulty told) t = absurd t
-model_unread number_of lp name e Gives same HasRead chosen now a reader.NoMemory h StoreFailed t = absurd t
-model_unread number_of lp name e Gives same HasRead chosen now a reader.NoMemory h NoMemory t = a.sound
+model_unread number_of lp name e Gives same HasRead chosen now a reader.NoMemory h cause t = subst (ReadCause name chosen.left chosen now) (sym t) a.sound
 
 -- the same over a call that began before the text was chosen
 pub read_later : (name : List ℕ) (text : Option (List ℕ)) (old chosen new : StoreTells) (result : Result Program (Unread ModelKind)) → chosen.left ≡ text → chosen.faults ≡ old.faults → MatchResult result (Reads name chosen.left chosen new) (ReadCause name chosen.left chosen new) → MatchResult result (Reads name text old new) (ReadCause name text old new)

@@ -31,9 +31,7 @@ unread reading number_of HasRead chosen now a (reader.Faulty fault) h (Faulty to
     (subst (λ line. HasFault reading a.bytes line (number_of told.kind)) (sym e.0) (subst (λ kind. HasFault reading a.bytes fault.line kind) (sym (ap number_of e.1)) h))
 unread reading number_of HasRead chosen now a (reader.Faulty fault) h StoreFailed e = absurd e
 unread reading number_of HasRead chosen now a (reader.Faulty fault) h NoMemory e = absurd e
-unread reading number_of HasRead chosen now a reader.NoMemory h (Faulty told) e = absurd e
-unread reading number_of HasRead chosen now a reader.NoMemory h StoreFailed e = absurd e
-unread reading number_of HasRead chosen now a reader.NoMemory h NoMemory e = a.sound
+unread reading number_of HasRead chosen now a reader.NoMemory h cause e = subst (UnreadCause number_of (HasFault reading) chosen.left chosen now) (sym e) a.sound
 
 -- the same over a call that began before the text was chosen
 pub later : {V X K : Type 0} (HasValue : List ℕ → X → Type 0) (value_of : V → X) (number_of : K → ℕ) (HasFault : List ℕ → ℕ → ℕ → Type 0) (text : Option (List ℕ)) (old chosen new : StoreTells) (result : Result V (Unread K)) → chosen.left ≡ text → chosen.faults ≡ old.faults
