@@ -1,4 +1,4 @@
--- What a text of blocks comes to, as `finish` answers it.
+-- What a text of blocks comes to, as `end` answers it.
 use Rattle.std.proofs.Common.{◌≡◌, ℕ, List, Option, Result, Ok, Err, MatchResult, refl, sym, ap, subst, ◌∙◌}
 use Rattle.cip_problem.specs.Program.{Program}
 use Rattle.cip_line_texts.specs.LineTexts.{Means, outcome_of, HasResult}
@@ -15,7 +15,7 @@ use Rattle.cip_line_stream.specs.declared.text_faults.ReadFault.TheVariants.{Fau
 use Rattle.cip_blocks.specs.declared.kinds.BlockKind.{BlockKind}
 use Rattle.cip_blocks.specs.EndedBlocks.{IsFaultOf, IsEnded}
 
--- what `finish` answers
+-- what `end` answers
 pub ended : (program after_program : Program) → after_program ≡ program → TextsAreRead (block_reading program) (block_steps program) → (text : List ℕ) (cut read_cut : Cut) (known after : BlockState) (kind : Option ℕ) → StandsAt cut known (stream_of (block_steps program) text) → IsLastRead (block_steps program) cut known after kind → read_cut ≡ cut
     → (answer : Result Blocks (ReadFault BlockKind)) → IsEnded (end_fault 9 read_cut kind ((block_steps after_program).end_fault after)) ((block_steps after_program).result after) answer → MatchResult answer (HasResult (block_reading program) text) (IsFaultOf program text)
 ended program after_program same law text cut read_cut known after kind h told e answer said = go answer (subst (λ (p : Program). IsEnded (end_fault 9 read_cut kind ((block_steps p).end_fault after)) ((block_steps p).result after) answer) same said)

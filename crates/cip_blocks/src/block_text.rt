@@ -16,8 +16,8 @@ ghost use Rattle.cip_blocks.specs.Endings.{IsEnding};
 use crate::block_words::BlockWords;
 use crate::ending::Ending;
 use crate::kinds::BlockKind;
-use cip_block_rules::block_steps::blocks_are_read;
-use cip_line_stream::{KnownFault, Pieces, ReadFault, cut_line, told};
+use cip_block_rules::block_steps::{block_faults_of_ended_lines, blocks_are_read};
+use cip_line_stream::{KnownFault, PieceText, Pieces, ReadFault, TextFault, cut_line, told};
 use cip_model::{Blocks, Program};
 use std::alloc::{AllocError, Global};
 
@@ -26,7 +26,7 @@ const TOO_LONG: u32 = 9;
 
 /// A text of blocks as far as it came.
 #[derive(Debug, Drop)]
-pub(crate) struct BlockText<'a> {
+pub struct BlockText<'a> {
     pub(crate) pieces: Pieces,
     pub(crate) words: BlockWords<'a>,
     ghost kinds: { has_kind_to 9 (cut_of pieces).fault ≡ true },
@@ -93,25 +93,15 @@ impl<'a> BlockText<'a> {
         self.pieces.keep(rest)
     }
 
-    /// Takes one more piece of the text.
-    pub(crate) fn take(&mut self, piece: &[u8]) -> Result<(), AllocError>
-        ensures reads { (text : List ℕ) → StandsFor self.old (stream_of (steps_of self.old) text)
-            → OnOk result (StandsFor self.new (stream_of (steps_of self.old) (text ++ piece.now))) }
-        ensures same { program_of self.new ≡ program_of self.old }
-    {
-        let looked = self.pieces.looked_at(piece);
-        self.take_bytes(looked)
-    }
-
     /// No name of the program's rows stands twice.
-    pub(crate) fn names_stand_once(&self)
+    fn names_stand_once(&self)
         ensures { StandOnce (program_of self.now).row_names }
     {
         self.words.program.row_names().stand_once();
     }
 
     /// The fault at a line that has ended.
-    pub(crate) fn known_fault(&self) -> Option<KnownFault>
+    fn known_fault(&self) -> Option<KnownFault>
         ensures fault { result ≡ known_fault 9 (kept_of self.now) }
         ensures kinds { has_kind_to 9 result ≡ true }
     {
@@ -162,7 +152,7 @@ impl<'a> BlockText<'a> {
     }
 
     /// The blocks of the text that ends here, or its first fault.
-    pub(crate) fn finish(&mut self) -> Result<Blocks, ReadFault<BlockKind>>
+    fn end(&mut self) -> Result<Blocks, ReadFault<BlockKind>>
         requires { StandOnce (program_of self.old).row_names }
         ensures { (text : List ℕ) → StandsFor self.old (stream_of (steps_of self.old) text)
             → MatchResult result (HasResult (block_reading (program_of self.old)) text)
@@ -172,5 +162,60 @@ impl<'a> BlockText<'a> {
         let last_kind = self.read_last()?;
         let ending = self.words.ending()?;
         self.answer(last_kind, &ending)
+    }
+}
+
+impl<'a> PieceText for BlockText<'a> {
+    ghost use Rattle.std.specs.Prelude.{◌≡◌, [], IfSome, MatchResult};
+    ghost use Rattle.cip_line_texts.specs.LineTexts.{HasResult};
+    ghost use Rattle.cip_line_stream.specs.EndedFaults.{IsKnownFault};
+    ghost use Rattle.cip_line_stream.specs.TextFaults.{IsToldBy};
+    ghost use Rattle.cip_block_rules.specs.BlockRules.{block_reading};
+    ghost use Rattle.cip_blocks.specs.BlockKindTexts.{kind_number};
+    ghost use Rattle.cip_blocks.specs.BlockReaders.{HasCome};
+    ghost use Rattle.cip_blocks.specs.BlockTexts.{program_of};
+    ghost use Rattle.cip_blocks.specs.EndedBlocks.{IsFaultOf};
+
+    type Start = (Global, &'a Program);
+
+    type Subject = Program;
+
+    type Value = Blocks;
+
+    type Kind = BlockKind;
+
+    ghost begins = { λ start made. IfSome made (λ text. HasCome text [] × (program_of text ≡ start.1.now)) };
+
+    ghost subject = { program_of };
+
+    ghost has_come = { HasCome };
+
+    ghost is_told = { λ program bytes. IsToldBy kind_number (IsKnownFault (block_reading program) bytes) };
+
+    ghost is_given = { λ program bytes answer. MatchResult answer
+        (HasResult (block_reading program) bytes) (IsFaultOf program bytes) };
+
+    /// None where the room for the places of the rows was refused.
+    fn begin(start: (Global, &'a Program)) -> Option<BlockText<'a>> {
+        let (alloc, program) = start;
+        BlockText::new(alloc, program).ok()
+    }
+
+    fn take(&mut self, piece: &[u8]) -> Result<(), AllocError> {
+        let looked = self.pieces.looked_at(piece);
+        self.take_bytes(looked)
+    }
+
+    /// A fault is known where a line that has ended is faulty.
+    fn known(&self) -> Result<(), TextFault<BlockKind>> {
+        block_faults_of_ended_lines();
+        self.names_stand_once();
+        told(self.known_fault())
+    }
+
+    fn finish(self) -> Result<Blocks, ReadFault<BlockKind>> {
+        let mut text = self;
+        text.names_stand_once();
+        text.end()
     }
 }

@@ -12,7 +12,8 @@ mod whole_text;
 mod word_places;
 mod words;
 
-pub use cip_line_stream::{ReadFault, TextFault};
+pub use block_text::BlockText;
+pub use cip_line_stream::{PieceReader, PieceText, ReadFault, TextFault};
 pub use kinds::BlockKind;
 pub use laws::known_block_faults_stay;
 pub use reader::BlockReader;

@@ -25,7 +25,7 @@ pub fn read_blocks(
     ensures apart { IfOk result (AreBlocks program.now) }
 {
     blocks_are_apart();
-    let mut reader = BlockReader::new(alloc, program);
+    let mut reader = BlockReader::new((alloc, program));
     reader.feed(text)?;
     reader.finish()
 }

@@ -1,10 +1,8 @@
 pub mod BlocksRead
-pub mod BlocksTaken
 pub mod LimitedModels
 pub mod Models
 pub mod ModelsRead
 pub mod PointsRead
-pub mod PointsTaken
 pub mod TextPulls
 pub mod TextsRead
 pub mod Unreads

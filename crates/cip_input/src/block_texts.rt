@@ -1,59 +1,33 @@
 //! Reading a text of blocks from a store.
 ghost use Rattle.std.specs.Prelude.{◌≡◌, [], MatchResult, length};
-ghost use Rattle.cip_input.specs.BlocksTaken.{HasTaken};
+ghost use Rattle.cip_problem.specs.Program as problem;
+ghost use Rattle.cip_blocks.specs.PieceReaders.{HasTaken};
+ghost use Rattle.cip_blocks.specs.BlockReaders.{HasCome};
+ghost use Rattle.cip_blocks.specs.BlockTexts.{program_of};
 ghost use Rattle.cip_input.specs.BlocksRead.{ReadsBlocks, BlocksCause};
 ghost use Rattle.cip_input.specs.declared.pulling.TheConstants.{PIECE};
 
-use crate::pulling::{PIECE, TextReader, read_pieces};
+use crate::pulling::{PIECE, read_pieces};
 use crate::unread::Unread;
-use cip_blocks::{BlockKind, BlockReader, ReadFault};
+use cip_blocks::{BlockKind, BlockReader, BlockText};
 use cip_io::Store;
 use cip_model::{Blocks, Program};
-use std::alloc::{AllocError, Global};
-
-/// A text of blocks, as far as it came, and the program that it speaks of.
-#[derive(Debug, Drop)]
-pub(crate) struct BlocksInput<'a> {
-    pub(crate) reader: BlockReader<'a>,
-    pub(crate) program: &'a Program,
-}
-
-impl TextReader for BlocksInput<'_> {
-    type Kind = BlockKind;
-
-    ghost use Rattle.std.specs.Prelude.{◌≡◌, ◌++◌, ℕ, List, Option, Some, OnOk};
-    ghost use Rattle.cip_problem.specs.Program.{Program};
-    ghost use Rattle.cip_input.specs.BlocksTaken.{HasTaken};
-
-    ghost has_read = { λ input. HasTaken input.reader input.program.now };
-
-    ghost subject = { λ input. Some input.program.now };
-
-    /// That a line is faulty is left to the end.
-    fn take_piece(&mut self, piece: &[u8]) -> Result<(), AllocError> {
-        match self.reader.feed(piece) {
-            Ok(()) => Ok(()),
-            Err(ReadFault::Faulty(_)) => Ok(()),
-            Err(ReadFault::NoMemory) => Err(AllocError),
-        }
-    }
-}
+use std::alloc::Global;
 
 /// Reads the current text, of which nothing was pulled yet.
 fn read_text<S: Store>(
     store: &mut S,
-    mut input: BlocksInput<'_>,
+    mut reader: BlockReader<'_>,
     buffer: &mut [u8],
 ) -> Result<Blocks, Unread<BlockKind>>
-    requires fresh { HasTaken input.reader input.program.now [] }
     requires room { length buffer.old ≡ PIECE }
-    ensures answer { MatchResult result
-        (ReadsBlocks input.entry.program.now (S.tells store.old).left (S.tells store.old) (S.tells store.new))
-        (BlocksCause input.entry.program.now (S.tells store.old).left (S.tells store.old) (S.tells store.new)) }
+    ensures answer { (program : problem.Program) → HasTaken HasCome program_of reader.entry program [] → MatchResult result
+        (ReadsBlocks program (S.tells store.old).left (S.tells store.old) (S.tells store.new))
+        (BlocksCause program (S.tells store.old).left (S.tells store.old) (S.tells store.new)) }
     ensures holds { (S.tells store.new).holds ≡ (S.tells store.old).holds }
 {
-    read_pieces(store, &mut input, buffer)?;
-    Ok(input.reader.finish()?)
+    read_pieces::<S, BlockText<'_>, BlockKind>(store, &mut reader, buffer)?;
+    Ok(reader.finish()?)
 }
 
 /// Reads the blocks of a program from the text of this name. The text is pulled in pieces of at most 4,096 bytes to its
@@ -77,9 +51,6 @@ pub fn read_blocks<S: Store>(
 {
     let mut buffer = vec![in alloc; 0u8; PIECE]?;
     store.choose(name)?;
-    let input = BlocksInput {
-        reader: BlockReader::new(alloc, program),
-        program,
-    };
-    read_text(store, input, buffer.as_mut_slice())
+    let reader = BlockReader::new((alloc, program));
+    read_text(store, reader, buffer.as_mut_slice())
 }

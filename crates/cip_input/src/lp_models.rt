@@ -5,33 +5,12 @@ ghost use Rattle.cip_input.specs.ModelsRead.{Reads, ReadCause};
 ghost use Rattle.cip_input.specs.declared.pulling.TheConstants.{PIECE};
 
 use crate::model_kinds::ModelKind;
-use crate::pulling::{PIECE, TextReader, read_pieces};
+use crate::pulling::{PIECE, read_pieces};
 use crate::unread::Unread;
 use cip_io::Store;
-use cip_lp::{LpReader, ReadFault};
+use cip_lp::{LpReader, LpText};
 use cip_model::Program;
-use std::alloc::{AllocError, Global};
-
-impl TextReader for LpReader {
-    type Kind = ModelKind;
-
-    ghost use Rattle.std.specs.Prelude.{◌≡◌, ◌++◌, ℕ, List, Option, None, OnOk};
-    ghost use Rattle.cip_problem.specs.Program.{Program};
-    ghost use Rattle.cip_lp.specs.LpReaders.{HasRead};
-
-    ghost has_read = { HasRead };
-
-    ghost subject = { λ _. None };
-
-    /// That a line is faulty is left to the end.
-    fn take_piece(&mut self, piece: &[u8]) -> Result<(), AllocError> {
-        match self.feed(piece) {
-            Ok(()) => Ok(()),
-            Err(ReadFault::Faulty(_)) => Ok(()),
-            Err(ReadFault::NoMemory) => Err(AllocError),
-        }
-    }
-}
+use std::alloc::Global;
 
 /// Reads the current text, of which nothing was pulled yet, as an LP text.
 pub(crate) fn read_lp_text<S: Store>(
@@ -46,6 +25,6 @@ pub(crate) fn read_lp_text<S: Store>(
     ensures holds { (S.tells store.new).holds ≡ (S.tells store.old).holds }
 {
     let mut reader = LpReader::new(alloc);
-    read_pieces(store, &mut reader, buffer)?;
+    read_pieces::<S, LpText, ModelKind>(store, &mut reader, buffer)?;
     Ok(reader.finish()?)
 }

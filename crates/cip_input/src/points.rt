@@ -1,61 +1,34 @@
 //! Reading a text of a point from a store.
 ghost use Rattle.std.specs.Prelude.{◌≡◌, [], MatchResult, length};
-ghost use Rattle.cip_input.specs.PointsTaken.{HasTaken};
+ghost use Rattle.cip_problem.specs.Program as problem;
+ghost use Rattle.cip_blocks.specs.PieceReaders.{HasTaken};
+ghost use Rattle.cip_point.specs.PointReaders.{HasCome};
+ghost use Rattle.cip_point.specs.PointTexts.{program_of};
 ghost use Rattle.cip_input.specs.PointsRead.{ReadsPoint, PointCause};
 ghost use Rattle.cip_input.specs.declared.pulling.TheConstants.{PIECE};
 
-use crate::pulling::{PIECE, TextReader, read_pieces};
+use crate::pulling::{PIECE, read_pieces};
 use crate::unread::Unread;
 use cip_frac::Frac;
 use cip_io::Store;
 use cip_model::Program;
-use cip_point::{PointKind, PointReader, ReadFault};
-use std::alloc::{AllocError, Global};
-
-/// A text of a point, as far as it came, and the program that it speaks of.
-#[derive(Debug, Drop)]
-pub(crate) struct PointInput<'a> {
-    pub(crate) reader: PointReader<'a>,
-    pub(crate) program: &'a Program,
-}
-
-impl TextReader for PointInput<'_> {
-    type Kind = PointKind;
-
-    ghost use Rattle.std.specs.Prelude.{◌≡◌, ◌++◌, ℕ, List, Option, Some, OnOk};
-    ghost use Rattle.cip_problem.specs.Program.{Program};
-    ghost use Rattle.cip_input.specs.PointsTaken.{HasTaken};
-
-    ghost has_read = { λ input. HasTaken input.reader input.program.now };
-
-    ghost subject = { λ input. Some input.program.now };
-
-    /// That a line is faulty is left to the end.
-    fn take_piece(&mut self, piece: &[u8]) -> Result<(), AllocError> {
-        match self.reader.feed(piece) {
-            Ok(()) => Ok(()),
-            Err(ReadFault::Faulty(_)) => Ok(()),
-            Err(ReadFault::NoMemory) => Err(AllocError),
-        }
-    }
-}
+use cip_point::{PointKind, PointReader, PointText};
+use std::alloc::Global;
 
 /// Reads the current text, of which nothing was pulled yet.
 fn read_text<S: Store>(
     store: &mut S,
-    mut input: PointInput<'_>,
+    mut reader: PointReader<'_>,
     buffer: &mut [u8],
 ) -> Result<Vec<Frac>, Unread<PointKind>>
-    requires fresh { HasTaken input.reader input.program.now [] }
     requires room { length buffer.old ≡ PIECE }
-    ensures answer { MatchResult result
-        (λ point. ReadsPoint input.entry.program.now (S.tells store.old).left (S.tells store.old) (S.tells store.new)
-        point.items)
-        (PointCause input.entry.program.now (S.tells store.old).left (S.tells store.old) (S.tells store.new)) }
+    ensures answer { (program : problem.Program) → HasTaken HasCome program_of reader.entry program [] → MatchResult result
+        (λ point. ReadsPoint program (S.tells store.old).left (S.tells store.old) (S.tells store.new) point.items)
+        (PointCause program (S.tells store.old).left (S.tells store.old) (S.tells store.new)) }
     ensures holds { (S.tells store.new).holds ≡ (S.tells store.old).holds }
 {
-    read_pieces(store, &mut input, buffer)?;
-    Ok(input.reader.finish()?)
+    read_pieces::<S, PointText<'_>, PointKind>(store, &mut reader, buffer)?;
+    Ok(reader.finish()?)
 }
 
 /// Reads the point of a program from the text of this name. The text is pulled in pieces of at most 4,096 bytes to its
@@ -79,9 +52,6 @@ pub fn read_point<S: Store>(
 {
     let mut buffer = vec![in alloc; 0u8; PIECE]?;
     store.choose(name)?;
-    let input = PointInput {
-        reader: PointReader::new(alloc, program),
-        program,
-    };
-    read_text(store, input, buffer.as_mut_slice())
+    let reader = PointReader::new((alloc, program));
+    read_text(store, reader, buffer.as_mut_slice())
 }

@@ -1,3 +1,4 @@
+pub mod Begun
 pub mod FaultsTold
 pub mod FeedCuts
 pub mod OneLine

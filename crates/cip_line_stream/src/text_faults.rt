@@ -58,6 +58,17 @@ impl<K> From<AllocError> for ReadFault<K> {
     }
 }
 
+impl<K> From<TextFault<K>> for ReadFault<K> {
+    ghost use Rattle.std.specs.Prelude.{◌≡◌};
+    ghost use Rattle.cip_line_stream.specs.declared.text_faults.ReadFault.{ReadFault};
+
+    ghost from_gives = { λ fault cause. cause ≡ ReadFault.Faulty fault };
+
+    fn from(fault: TextFault<K>) -> ReadFault<K> {
+        ReadFault::Faulty(fault)
+    }
+}
+
 impl<K: FaultKind> TextFault<K> {
     /// The fault of a text as one of its format.
     fn of(known: KnownFault) -> TextFault<K>
@@ -71,14 +82,13 @@ impl<K: FaultKind> TextFault<K> {
     }
 }
 
-/// What is answered of a fault that is known, or of none: `Faulty` comes exactly where there is one, and `NoMemory`
-/// never.
-pub fn told<K: FaultKind>(known: Option<KnownFault>) -> Result<(), ReadFault<K>>
+/// What is told of a fault that is known, or of none: an `Err` comes exactly where there is one.
+pub fn told<K: FaultKind>(known: Option<KnownFault>) -> Result<(), TextFault<K>>
     requires { has_kind_to K.most known ≡ true }
     ensures { IsSaid K.number_of known result }
 {
     match known {
         None => Ok(()),
-        Some(fault) => Err(ReadFault::Faulty(TextFault::of(fault))),
+        Some(fault) => Err(TextFault::of(fault)),
     }
 }

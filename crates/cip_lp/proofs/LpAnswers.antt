@@ -12,6 +12,7 @@ use Rattle.cip_line_stream.specs.declared.text_faults.TextFault.{TextFault}
 use Rattle.cip_line_stream.specs.declared.text_faults.ReadFault.{ReadFault}
 use Rattle.cip_line_stream.specs.declared.text_faults.ReadFault.TheVariants.{Faulty, NoMemory}
 use Rattle.cip_line_stream.specs.TextFaults.{by_number, IsSaid}
+use Rattle.cip_line_stream.specs.PieceReaders.{IsFed}
 use Rattle.cip_line_stream.specs.PieceFaults.{first_fault, has_kind_to}
 use Rattle.cip_line_stream.specs.PieceStands.{progress_of, progress_after, outcome_with}
 use Rattle.cip_line_stream.proofs.Streams.{few_kinds}
@@ -20,10 +21,9 @@ use Rattle.cip_lp_stream.specs.LpBytes.{LpBytes, part_read, behind, beyond, text
 use Rattle.cip_lp_stream.specs.LpTakenTexts.{last_line, TakenFaultsStay, TakenTextsComeOut}
 use Rattle.cip_lp.specs.declared.kinds.LpKind.{LpKind}
 use Rattle.cip_lp.specs.declared.lp_text.LpText.{LpText}
-use Rattle.cip_lp.specs.declared.reader.LpReader.{LpReader}
 use Rattle.cip_lp.specs.LpKindTexts.{kind_number}
 use Rattle.cip_lp.specs.LpTexts.{bytes_of, shown_of}
-use Rattle.cip_lp.specs.LpReaders.{HasRead, IsSpent, IsKnown, KnownLpFaultsStay, as_told, IsFed, IsFaultOf}
+use Rattle.cip_lp.specs.LpReaders.{HasCome, IsKnown, KnownLpFaultsStay, as_told, IsAnswered, IsFaultOf}
 
 -- ---- bytes
 
@@ -75,22 +75,11 @@ closes law text old f stage last fault none stands is_last read is_fault =
 
 -- ---- the calls
 
--- before the first piece
-pub begun : (reader : LpReader) (kept : LpText) → reader.text ≡ Some kept → shown_of kept ≡ text_taken [] → HasRead reader []
-begun reader kept e h = record { kept = kept; goes_on = e; stands = h }
-
--- the text of a reader
-pub read_text : (reader : LpReader) (held : LpText) (text : List ℕ) → reader.text ≡ Some held → HasRead reader text → shown_of held ≡ text_taken text
-read_text reader held text e h =
-    let s : Some h.kept ≡ Some held = sym h.goes_on ∙ e in
-    let same : h.kept ≡ held = cc s in
-    ap shown_of (sym same) ∙ h.stands
-
 -- a fault that is known, as it is told
 abbrev IsSaidBy : KnownFault → (line kind : ℕ) → Type 0
 IsSaidBy known line kind = (line ≡ known.line) × (kind ≡ told_kind known.kind)
 
-said_by : (known : KnownFault) (fault : TextFault LpKind) → IsSaid kind_number (Some (as_told known)) (Err (Faulty fault)) → IsSaidBy known fault.line (kind_number fault.kind)
+said_by : (known : KnownFault) (fault : TextFault LpKind) → IsSaid kind_number (Some (as_told known)) (Err fault) → IsSaidBy known fault.line (kind_number fault.kind)
 said_by known fault s =
     let same : as_told known ≡ by_number kind_number fault = cc s in
     (sym (ap (λ (f : KnownFault). f.line) same), sym (ap (λ (f : KnownFault). f.kind) same))
@@ -112,7 +101,7 @@ is_known law now text known line kind stands e few said = record {
     taken : text_taken text ≡ Failed known.line known.kind
     taken = sym stands ∙ ap (λ g. progress_of g (bytes_of now)) e
 
-said_known : TakenFaultsStay → (now : LpText) (text : List ℕ) (f : Option KnownFault) (fault : TextFault LpKind) → shown_of now ≡ text_taken text → now.fault ≡ f → has_kind_to 12 f ≡ true → IsSaid kind_number (option_map as_told f) (Err (Faulty fault)) → IsKnown text fault.line (kind_number fault.kind)
+said_known : TakenFaultsStay → (now : LpText) (text : List ℕ) (f : Option KnownFault) (fault : TextFault LpKind) → shown_of now ≡ text_taken text → now.fault ≡ f → has_kind_to 12 f ≡ true → IsSaid kind_number (option_map as_told f) (Err fault) → IsKnown text fault.line (kind_number fault.kind)
 said_known law now text None fault stands e few said = absurd (cc said)
 said_known law now text (Some known) fault stands e few said = is_known law now text known fault.line (kind_number fault.kind) stands e few (said_by known fault said)
 
@@ -127,34 +116,26 @@ none_told now text stands none line kind told =
     let failed : text_taken text ≡ Failed line told.number = told.taken in
     cc (going, failed)
 
--- one piece more
-pub fed : TakenFaultsStay → (after : LpReader) (now : LpText) (text : List ℕ) → after.text ≡ Some now → shown_of now ≡ text_taken text → has_kind_to 12 now.fault ≡ true → (answer : Result (Unit {0}) (ReadFault LpKind)) → IsSaid kind_number (option_map as_told now.fault) answer → IsFed after text answer
-fed law after now text e stands few answer said = go answer said
-  where
-    now_read : HasRead after text
-    now_read = record { kept = now; goes_on = e; stands = stands }
-
-    go : (answer : Result (Unit {0}) (ReadFault LpKind)) → IsSaid kind_number (option_map as_told now.fault) answer → IsFed after text answer
-    go (Ok _) s = (now_read, none_told now text stands (none_known now.fault s))
-    go (Err (Faulty fault)) s = (now_read, said_known law now text now.fault fault stands refl few s)
-    go (Err NoMemory) s = absurd s
+-- of the bytes that came
+pub answered : TakenFaultsStay → (now : LpText) (bytes : List ℕ) → HasCome now bytes → has_kind_to 12 now.fault ≡ true → (answer : Result (Unit {0}) (TextFault LpKind)) → IsSaid kind_number (option_map as_told now.fault) answer → IsAnswered bytes answer
+answered law now bytes stands few (Ok _) s = none_told now bytes stands (none_known now.fault s)
+answered law now bytes stands few (Err fault) s = said_known law now bytes now.fault fault stands refl few s
 
 -- a known fault is the text's
 known_fault : (text : List ℕ) (line kind : ℕ) → IsKnown text line kind → HasLpFault text line kind
 known_fault text line kind h = subst (λ (t : List ℕ). HasLpFault t line kind) (append-nil text) (h.of_text [])
 
 -- why a text that came whole gives no program
-pub whole_fault : (after : LpReader) (text : List ℕ) (cause : ReadFault LpKind) → IsFed after text (Err cause) → IsFaultOf text cause
-whole_fault after text (Faulty fault) h = known_fault text fault.line (kind_number fault.kind) h.1
-whole_fault after text NoMemory h = tt
+pub whole_fault : (bytes : List ℕ) (HasRead IsSpent : Type 0) (cause : ReadFault LpKind) → IsFed HasRead IsSpent (IsAnswered bytes) (Err cause) → IsFaultOf bytes cause
+whole_fault bytes HasRead IsSpent (Faulty fault) h = known_fault bytes fault.line (kind_number fault.kind) h.1
+whole_fault bytes HasRead IsSpent NoMemory h = tt
 
 -- why a text whose fault was known gives none
-pub known_cause : TakenFaultsStay → (now : LpText) (text : List ℕ) → shown_of now ≡ text_taken text → has_kind_to 12 now.fault ≡ true → (cause : ReadFault LpKind) → IsSaid kind_number (option_map as_told now.fault) (Err cause) → IsFaultOf text cause
-known_cause law now text stands few (Faulty fault) said = known_fault text fault.line (kind_number fault.kind) (said_known law now text now.fault fault stands refl few said)
-known_cause law now text stands few NoMemory said = absurd said
+pub known_cause : TakenFaultsStay → (now : LpText) (bytes : List ℕ) → HasCome now bytes → has_kind_to 12 now.fault ≡ true → (fault : TextFault LpKind) → IsSaid kind_number (option_map as_told now.fault) (Err fault) → HasLpFault bytes fault.line (kind_number fault.kind)
+known_cause law now bytes stands few fault said = known_fault bytes fault.line (kind_number fault.kind) (said_known law now bytes now.fault fault stands refl few said)
 
 -- the fault at the end
-end_fault : (text : List ℕ) (f : Option KnownFault) (fault : TextFault LpKind) (value : Program) → outcome_of lp_reading text ≡ outcome_with f value → IsSaid kind_number (option_map as_told f) (Err (Faulty fault)) → HasLpFault text fault.line (kind_number fault.kind)
+pub end_fault : (text : List ℕ) (f : Option KnownFault) (fault : TextFault LpKind) (value : Program) → outcome_of lp_reading text ≡ outcome_with f value → IsSaid kind_number (option_map as_told f) (Err fault) → HasLpFault text fault.line (kind_number fault.kind)
 end_fault text None fault value e said = absurd (cc said)
 end_fault text (Some known) fault value e said =
     let same = said_by known fault said in
@@ -163,11 +144,6 @@ end_fault text (Some known) fault value e said =
       fault = subst (λ (n : ℕ). HasFault lp_reading text n known.kind) (sym same.0) (record { faulty = e });
       is_kind = sym same.1;
     }
-
--- why a text that has ended gives none
-pub end_cause : (text : List ℕ) (f : Option KnownFault) (value : Program) → outcome_of lp_reading text ≡ outcome_with f value → (cause : ReadFault LpKind) → IsSaid kind_number (option_map as_told f) (Err cause) → IsFaultOf text cause
-end_cause text f value e (Faulty fault) said = end_fault text f fault value e said
-end_cause text f value e NoMemory said = absurd said
 
 -- known faults stay
 pub stays : TakenFaultsStay → KnownLpFaultsStay
@@ -185,9 +161,6 @@ stays law text rest line kind h = record {
 pub err_is : {X E : Type 0} (cause : E) (result : Result X E) → IsErr result × IsErrAnd result (λ given. given ≡ cause) → result ≡ Err cause
 err_is cause (Ok x) h = let no : ⊥ = let failed = h.0 in cc in absurd no
 err_is cause (Err given) h = ap Err h.1
-
-pub spent_fed : (after : LpReader) (text : List ℕ) (answer : Result (Unit {0}) (ReadFault LpKind)) → IsSpent after → answer ≡ Err NoMemory → IsFed after text answer
-spent_fed after text answer none e = subst (IsFed after text) (sym e) none
 
 pub passed_on : {X E : Type 0} (Done : X → Type 0) (Cause : E → Type 0) (cause : E) (result : Result X E) → Cause cause → IsErr result × IsErrAnd result (λ given. given ≡ cause) → MatchResult result Done Cause
 passed_on Done Cause cause result h e = subst (λ r. MatchResult r Done Cause) (sym (err_is cause result e)) h

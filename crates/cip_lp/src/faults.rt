@@ -7,7 +7,7 @@ ghost use Rattle.cip_lp.specs.LpKindTexts.{kind_number};
 ghost use Rattle.cip_lp.specs.LpReaders.{as_told};
 
 use crate::kinds::LpKind;
-use cip_line_stream::{KnownFault, ReadFault, told};
+use cip_line_stream::{KnownFault, TextFault, told};
 
 /// The kind that is told of a fault by its number: that of a text that is too long is 9, too.
 fn told_kind(number: u32) -> u32
@@ -28,8 +28,8 @@ fn as_told(known: KnownFault) -> KnownFault
     }
 }
 
-/// What is answered of a fault that is known, or of none.
-pub(crate) fn answer(known: Option<KnownFault>) -> Result<(), ReadFault<LpKind>>
+/// What is told of a fault that is known, or of none.
+pub(crate) fn answer(known: Option<KnownFault>) -> Result<(), TextFault<LpKind>>
     requires { has_kind_to 12 known ≡ true }
     ensures { IsSaid kind_number (option_map as_told known) result }
 {

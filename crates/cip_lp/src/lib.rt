@@ -12,5 +12,6 @@ mod whole_text;
 pub use cip_line_stream::{ReadFault, TextFault};
 pub use kinds::LpKind;
 pub use laws::known_lp_faults_stay;
+pub use lp_text::LpText;
 pub use reader::LpReader;
 pub use whole_text::read_lp;

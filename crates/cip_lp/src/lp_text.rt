@@ -13,10 +13,12 @@ ghost use Rattle.cip_lp_stream.specs.LpBytes.{part_read, with_last, byte_taken, 
 ghost use Rattle.cip_lp_stream.specs.LpParts.{ends_with};
 ghost use Rattle.cip_lp_stream.specs.LpTakenTexts.{last_line};
 
+use crate::faults::answer;
+use crate::kinds::LpKind;
 use crate::line_reader::LineReader;
-use cip_line_stream::KnownFault;
+use cip_line_stream::{KnownFault, PieceText, ReadFault, TextFault};
 use cip_lp_statements::Program;
-use cip_lp_stream::taken_texts_come_out;
+use cip_lp_stream::{taken_faults_stay, taken_texts_come_out};
 use cip_lp_tokens::{LineTokens, ends_before, hangs};
 use std::alloc::{AllocError, Global};
 
@@ -32,7 +34,7 @@ const TOO_LONG: u32 = 12;
 /// An LP text as far as it came: what its tokens have said that have ended, how many lines have ended, whether no token
 /// of the line that has not ended was read, its bytes behind these tokens, how many bytes there are, and the fault.
 #[derive(Debug, Drop)]
-pub(crate) struct LpText {
+pub struct LpText {
     pub(crate) alloc: Global,
     pub(crate) lines: LineReader,
     pub(crate) ended: usize,
@@ -63,6 +65,9 @@ fn fault_on(line: usize, kind: Option<u32>) -> Option<KnownFault>
 }
 
 impl LpText {
+    ghost use Rattle.std.specs.Prelude.{MatchResult};
+    ghost use Rattle.cip_lp_rules.specs.LpOutcome.{HasLpProgram};
+    ghost use Rattle.cip_lp.specs.LpReaders.{IsFaultOf};
     ghost use Rattle.cip_lp.specs.LpTexts.{stage_of, bytes_of, shown_of};
 
     /// Before the first byte.
@@ -245,18 +250,8 @@ impl LpText {
         }
     }
 
-    /// Takes one more piece of the text.
-    pub(crate) fn take(&mut self, piece: &[u8]) -> Result<(), AllocError>
-        ensures { OnOk result (shown_of self.new ≡ fold byte_taken (shown_of self.old) piece.now) }
-    {
-        for byte in piece {
-            self.take_byte(*byte)?;
-        }
-        Ok(())
-    }
-
     /// The fault, if there is one so far.
-    pub(crate) fn known_fault(&self) -> Option<KnownFault>
+    fn known_fault(&self) -> Option<KnownFault>
         ensures fault { result ≡ self.now.fault }
         ensures kinds { has_kind_to 12 result ≡ true }
     {
@@ -288,7 +283,7 @@ impl LpText {
     }
 
     /// The fault of the text that ends here, if it has one.
-    pub(crate) fn close(&mut self) -> Result<Option<KnownFault>, AllocError>
+    fn close(&mut self) -> Result<Option<KnownFault>, AllocError>
         requires { self.old.fault ≡ None }
         ensures outcome { (text : List ℕ) → shown_of self.old ≡ text_taken text
             → IfOk result (λ fault. outcome_of lp_reading text
@@ -301,11 +296,70 @@ impl LpText {
         Ok(self.fault_at_end(last))
     }
 
-    /// The program that the tokens have said.
-    pub(crate) fn into_program(self) -> Result<Program, AllocError>
-        ensures { IfOk result (λ program. program ≡ lp_reading.result (stage_of self)) }
+    /// Takes one more piece of the text.
+    fn take_piece(&mut self, piece: &[u8]) -> Result<(), AllocError>
+        ensures { OnOk result (shown_of self.new ≡ fold byte_taken (shown_of self.old) piece.now) }
     {
-        let LpText { lines, .. } = self;
-        lines.into_program()
+        for byte in piece {
+            self.take_byte(*byte)?;
+        }
+        Ok(())
+    }
+
+    /// Takes the end of the text, whose program the tokens have said then; or answers its fault.
+    fn end(&mut self) -> Result<(), ReadFault<LpKind>>
+        ensures { (bytes : List ℕ) → shown_of self.old ≡ text_taken bytes
+            → MatchResult result (λ _. HasLpProgram bytes (lp_reading.result (stage_of self.new))) (IsFaultOf bytes) }
+    {
+        taken_faults_stay();
+        answer(self.known_fault())?;
+        let known = self.close()?;
+        answer(known)?;
+        Ok(())
+    }
+}
+
+impl PieceText for LpText {
+    ghost use Rattle.std.specs.Prelude.{[], IsSomeAnd, MatchResult};
+    ghost use Rattle.cip_lp_rules.specs.LpOutcome.{HasLpProgram};
+    ghost use Rattle.cip_lp.specs.LpReaders.{HasCome, IsAnswered, IsFaultOf};
+
+    type Start = Global;
+
+    type Subject = ();
+
+    type Value = Program;
+
+    type Kind = LpKind;
+
+    ghost begins = { λ _ made. IsSomeAnd made (λ text. HasCome text []) };
+
+    ghost subject = { λ _. tt };
+
+    ghost has_come = { HasCome };
+
+    ghost is_told = { λ _. IsAnswered };
+
+    ghost is_given = { λ _ bytes answer. MatchResult answer (HasLpProgram bytes) (IsFaultOf bytes) };
+
+    fn begin(alloc: Global) -> Option<LpText> {
+        Some(LpText::new(alloc))
+    }
+
+    fn take(&mut self, piece: &[u8]) -> Result<(), AllocError> {
+        self.take_piece(piece)
+    }
+
+    /// A fault is known where a token that has ended is faulty, or the text has over 67,108,864 bytes.
+    fn known(&self) -> Result<(), TextFault<LpKind>> {
+        taken_faults_stay();
+        answer(self.known_fault())
+    }
+
+    fn finish(self) -> Result<Program, ReadFault<LpKind>> {
+        let mut text = self;
+        text.end()?;
+        let LpText { lines, .. } = text;
+        Ok(lines.into_program()?)
     }
 }

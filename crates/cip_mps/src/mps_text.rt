@@ -13,10 +13,11 @@ ghost use Rattle.cip_mps_rules.specs.MpsOutcome.{mps_reading};
 ghost use Rattle.cip_mps_steps.specs.MpsState.{State};
 ghost use Rattle.cip_mps_steps.specs.MpsSteps.{mps_steps};
 
+use crate::kinds::MpsKind;
 use crate::line_reader::LineReader;
-use cip_line_stream::{KnownFault, Pieces, cut_line};
+use cip_line_stream::{KnownFault, PieceText, Pieces, ReadFault, TextFault, cut_line, told};
 use cip_mps_draft::Program;
-use cip_mps_steps::texts_are_read;
+use cip_mps_steps::{faults_of_ended_lines, texts_are_read};
 use std::alloc::{AllocError, Global};
 
 /// The number of the kind of a text that is too long.
@@ -27,7 +28,7 @@ const NO_END: u32 = 17;
 
 /// A text of free MPS as far as it came.
 #[derive(Debug, Drop)]
-pub(crate) struct MpsText {
+pub struct MpsText {
     pub(crate) alloc: Global,
     pub(crate) pieces: Pieces,
     pub(crate) lines: LineReader,
@@ -122,17 +123,8 @@ impl MpsText {
         self.pieces.keep(rest)
     }
 
-    /// Takes one more piece of the text.
-    pub(crate) fn take(&mut self, piece: &[u8]) -> Result<(), AllocError>
-        ensures { (text : List ℕ) → StandsFor self.old (stream_of mps_steps text)
-            → OnOk result (StandsFor self.new (stream_of mps_steps (text ++ piece.now))) }
-    {
-        let looked = self.pieces.looked_at(piece);
-        self.take_bytes(looked)
-    }
-
     /// The fault at a line that has ended.
-    pub(crate) fn known_fault(&self) -> Option<KnownFault>
+    fn known_fault(&self) -> Option<KnownFault>
         ensures fault { result ≡ known_fault 18 (kept_of self.now) }
         ensures kinds { has_kind_to 21 result ≡ true }
     {
@@ -161,7 +153,7 @@ impl MpsText {
     }
 
     /// The fault of the text that ends here, if it has one.
-    pub(crate) fn close(&mut self) -> Result<Option<KnownFault>, AllocError>
+    fn close(&mut self) -> Result<Option<KnownFault>, AllocError>
         ensures outcome { (text : List ℕ) → StandsFor self.old (stream_of mps_steps text)
             → IfOk result (λ fault. outcome_of mps_reading text
             ≡ outcome_with fault (mps_steps.result (stage_of self.new))) }
@@ -172,12 +164,53 @@ impl MpsText {
         let end_kind = self.end_kind();
         Ok(self.pieces.fault_at_end(last_kind, end_kind, TOO_MANY))
     }
+}
 
-    /// The program that the lines have said.
-    pub(crate) fn into_program(self) -> Result<Program, AllocError>
-        ensures { IfOk result (λ program. program ≡ mps_steps.result (stage_of self)) }
-    {
-        let MpsText { lines, .. } = self;
-        lines.into_program()
+impl PieceText for MpsText {
+    ghost use Rattle.std.specs.Prelude.{◌≡◌, [], IsSomeAnd, MatchResult};
+    ghost use Rattle.cip_line_stream.specs.EndedFaults.{IsKnownFault};
+    ghost use Rattle.cip_line_stream.specs.TextFaults.{IsToldBy};
+    ghost use Rattle.cip_mps_rules.specs.MpsOutcome.{mps_reading, HasProgram};
+    ghost use Rattle.cip_mps.specs.MpsKindTexts.{kind_number};
+    ghost use Rattle.cip_mps.specs.MpsReaders.{HasCome, IsFaultOf};
+
+    type Start = Global;
+
+    type Subject = ();
+
+    type Value = Program;
+
+    type Kind = MpsKind;
+
+    ghost begins = { λ _ made. IsSomeAnd made (λ text. HasCome text []) };
+
+    ghost subject = { λ _. tt };
+
+    ghost has_come = { HasCome };
+
+    ghost is_told = { λ _ bytes. IsToldBy kind_number (IsKnownFault mps_reading bytes) };
+
+    ghost is_given = { λ _ bytes answer. MatchResult answer (HasProgram bytes) (IsFaultOf bytes) };
+
+    fn begin(alloc: Global) -> Option<MpsText> {
+        Some(MpsText::new(alloc))
+    }
+
+    fn take(&mut self, piece: &[u8]) -> Result<(), AllocError> {
+        let looked = self.pieces.looked_at(piece);
+        self.take_bytes(looked)
+    }
+
+    /// A fault is known where a line that has ended is faulty.
+    fn known(&self) -> Result<(), TextFault<MpsKind>> {
+        faults_of_ended_lines();
+        told(self.known_fault())
+    }
+
+    fn finish(self) -> Result<Program, ReadFault<MpsKind>> {
+        let mut text = self;
+        told::<MpsKind>(text.close()?)?;
+        let MpsText { lines, .. } = text;
+        Ok(lines.into_program()?)
     }
 }

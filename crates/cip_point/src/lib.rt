@@ -11,5 +11,6 @@ mod whole_text;
 pub use cip_line_stream::{ReadFault, TextFault};
 pub use kinds::PointKind;
 pub use laws::known_point_faults_stay;
+pub use point_text::PointText;
 pub use reader::PointReader;
 pub use whole_text::read_point;

@@ -13,11 +13,12 @@ ghost use Rattle.cip_parts.specs.NamesOnce.{StandOnce};
 ghost use Rattle.cip_point_rules.specs.PointRules.{point_reading};
 ghost use Rattle.cip_point_rules.specs.PointSteps.{no_values};
 
+use crate::kinds::PointKind;
 use crate::point_lines::PointLines;
 use cip_frac::Frac;
-use cip_line_stream::{KnownFault, Pieces, cut_line};
+use cip_line_stream::{KnownFault, PieceText, Pieces, ReadFault, TextFault, cut_line, told};
 use cip_model::Program;
-use cip_point_rules::point_steps::points_are_read;
+use cip_point_rules::point_steps::{point_faults_of_ended_lines, points_are_read};
 use std::alloc::{AllocError, Global};
 
 /// The number of the kind of a text that is too long.
@@ -25,7 +26,8 @@ const TOO_LONG: u32 = 6;
 
 /// A text of a point as far as it came.
 #[derive(Debug, Drop)]
-pub(crate) struct PointText<'a> {
+pub struct PointText<'a> {
+    pub(crate) alloc: Global,
     pub(crate) pieces: Pieces,
     pub(crate) lines: PointLines<'a>,
     ghost kinds: { has_kind_to 6 (cut_of pieces).fault ≡ true },
@@ -42,6 +44,7 @@ impl<'a> PointText<'a> {
     {
         let lines = PointLines::new(alloc, program)?;
         Ok(PointText {
+            alloc,
             pieces: Pieces::new(alloc),
             lines,
         })
@@ -90,25 +93,15 @@ impl<'a> PointText<'a> {
         self.pieces.keep(rest)
     }
 
-    /// Takes one more piece of the text.
-    pub(crate) fn take(&mut self, piece: &[u8]) -> Result<(), AllocError>
-        ensures reads { (text : List ℕ) → StandsFor self.old (stream_of (steps_of self.old) text)
-            → OnOk result (StandsFor self.new (stream_of (steps_of self.old) (text ++ piece.now))) }
-        ensures same { program_of self.new ≡ program_of self.old }
-    {
-        let looked = self.pieces.looked_at(piece);
-        self.take_bytes(looked)
-    }
-
     /// No name of the program's columns stands twice.
-    pub(crate) fn names_stand_once(&self)
+    fn names_stand_once(&self)
         ensures { StandOnce (program_of self.now).column_names }
     {
         self.lines.program.column_names().stand_once();
     }
 
     /// The fault at a line that has ended.
-    pub(crate) fn known_fault(&self) -> Option<KnownFault>
+    fn known_fault(&self) -> Option<KnownFault>
         ensures fault { result ≡ known_fault 6 (kept_of self.now) }
         ensures kinds { has_kind_to 6 result ≡ true }
     {
@@ -131,7 +124,7 @@ impl<'a> PointText<'a> {
     }
 
     /// The fault of the text that ends here, if it has one.
-    pub(crate) fn close(&mut self) -> Option<KnownFault>
+    fn close(&mut self) -> Option<KnownFault>
         requires { StandOnce (program_of self.old).column_names }
         ensures outcome { (text : List ℕ) → StandsFor self.old (stream_of (steps_of self.old) text)
             → outcome_of (point_reading (program_of self.old)) text
@@ -143,12 +136,61 @@ impl<'a> PointText<'a> {
         let end_kind = self.lines.end_kind();
         self.pieces.fault_at_end(last_kind, end_kind, TOO_LONG)
     }
+}
 
-    /// The point that the lines gave.
-    pub(crate) fn into_point(self, alloc: Global) -> Result<Vec<Frac>, AllocError>
-        ensures { IfOk result (λ point. point.items ≡ (steps_of self.entry).result (values_of self.entry)) }
-    {
-        let PointText { lines, .. } = self;
-        lines.into_point(alloc)
+impl<'a> PieceText for PointText<'a> {
+    ghost use Rattle.std.specs.Prelude.{◌≡◌, [], IfSome, MatchResult};
+    ghost use Rattle.cip_line_texts.specs.LineTexts.{HasResult};
+    ghost use Rattle.cip_line_stream.specs.EndedFaults.{IsKnownFault};
+    ghost use Rattle.cip_line_stream.specs.TextFaults.{IsToldBy};
+    ghost use Rattle.cip_point_rules.specs.PointRules.{point_reading};
+    ghost use Rattle.cip_point.specs.PointKindTexts.{kind_number};
+    ghost use Rattle.cip_point.specs.PointReaders.{HasCome, IsFaultOf};
+    ghost use Rattle.cip_point.specs.PointTexts.{program_of};
+
+    type Start = (Global, &'a Program);
+
+    type Subject = Program;
+
+    type Value = Vec<Frac>;
+
+    type Kind = PointKind;
+
+    ghost begins = { λ start made. IfSome made (λ text. HasCome text [] × (program_of text ≡ start.1.now)) };
+
+    ghost subject = { program_of };
+
+    ghost has_come = { HasCome };
+
+    ghost is_told = { λ program bytes. IsToldBy kind_number (IsKnownFault (point_reading program) bytes) };
+
+    ghost is_given = { λ program bytes answer. MatchResult answer
+        (λ point. HasResult (point_reading program) bytes point.items) (IsFaultOf program bytes) };
+
+    /// None where the room for the values was refused.
+    fn begin(start: (Global, &'a Program)) -> Option<PointText<'a>> {
+        let (alloc, program) = start;
+        PointText::new(alloc, program).ok()
+    }
+
+    fn take(&mut self, piece: &[u8]) -> Result<(), AllocError> {
+        let looked = self.pieces.looked_at(piece);
+        self.take_bytes(looked)
+    }
+
+    /// A fault is known where a line that has ended is faulty.
+    fn known(&self) -> Result<(), TextFault<PointKind>> {
+        point_faults_of_ended_lines();
+        self.names_stand_once();
+        told(self.known_fault())
+    }
+
+    /// A value for each column of the program.
+    fn finish(self) -> Result<Vec<Frac>, ReadFault<PointKind>> {
+        let mut text = self;
+        text.names_stand_once();
+        told::<PointKind>(text.close())?;
+        let PointText { alloc, lines, .. } = text;
+        Ok(lines.into_point(alloc)?)
     }
 }

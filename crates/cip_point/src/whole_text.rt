@@ -22,7 +22,7 @@ pub fn read_point(
     ensures { MatchResult result (λ point. HasResult (point_reading program.now) text.now point.items)
         (IsFaultOf program.now text.now) }
 {
-    let mut reader = PointReader::new(alloc, program);
+    let mut reader = PointReader::new((alloc, program));
     reader.feed(text)?;
     reader.finish()
 }

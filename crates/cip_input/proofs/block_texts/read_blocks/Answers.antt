@@ -1,11 +1,15 @@
 use Rattle.cip_line_texts.specs.LineTexts.{HasResult, HasFault}
+use Rattle.cip_blocks.proofs.PassedOn.{begun_or_spent}
 use Rattle.cip_blocks.specs.BlockRules.{block_reading}
 use Rattle.cip_blocks.specs.BlockKindTexts.{kind_number}
+use Rattle.cip_blocks.specs.BlockTexts.{program_of}
+use Rattle.cip_blocks.specs.BlockReaders.{HasCome}
 use Rattle.cip_input.proofs.TextsTold.{later}
 use Rattle.cip_input.proofs.block_texts.read_blocks.Goals as goal
 
 pub returns-clause-answer : goal.returns-clause-answer
 returns-clause-answer g c =
-    let reading = block_reading c.args.program.now in
+    let program = c.args.program.now in
+    let reading = block_reading program in
     later (HasResult reading) (λ blocks. blocks) kind_number (HasFault reading) _ (g.S.Store.tells c.args.store.now) (g.S.Store.tells c.choose.new.self) (g.S.Store.tells c.read_text.new.store) c.read_text.result
-    c.in_ok-choose.ensures.left c.in_ok-choose.ensures.faults.0 c.read_text.ensures.answer
+    c.in_ok-choose.ensures.left c.in_ok-choose.ensures.faults.0 (c.read_text.ensures.answer program (begun_or_spent HasCome program_of c.new-reader.result program c.new-reader.ensures))

@@ -1,5 +1,4 @@
-use Rattle.std.proofs.Common.{◌≡◌, refl, inl, inr, subst}
-use Rattle.cip_problem.specs.Program.{Program}
+use Rattle.std.proofs.Common.{refl, inl, inr}
 use Rattle.cip_line_texts.specs.LineTexts.{HasResult, HasFault}
 use Rattle.cip_blocks.specs.BlockRules.{block_reading}
 use Rattle.cip_blocks.specs.BlockKindTexts.{kind_number}
@@ -9,30 +8,23 @@ use Rattle.cip_input.proofs.TextsTold.{passed_on, unread, no_fault}
 use Rattle.cip_input.proofs.block_texts.read_text.Goals as goal
 
 pub returns-in_err-finish-clause-answer : goal.returns-in_err-finish-clause-answer
-returns-in_err-finish-clause-answer g c =
-    let all = c.in_ok-read_pieces.ensures.read in
-    let after = c.read_pieces.new.reader.program.now in
-    let program = c.args.input.program.now in
-    let same : after ≡ program = let s = c.in_ok-read_pieces.ensures.same in cc s in
+returns-in_err-finish-clause-answer g c = λ program fresh.
+    let all = c.in_ok-read_pieces.ensures.read program fresh in
     let fault = c.in_err-finish.field-0.0 in
-    let told : IsFaultOf after all.bytes fault =
+    let refused : IsFaultOf program all.bytes fault =
     elim all.has_read [
-      | inl read ↦ c.in_err-finish.ensures.reads after all.bytes read
-      | inr spent ↦ no_fault kind_number (HasFault (block_reading after) all.bytes) fault (c.in_err-finish.ensures.spent spent)
+      | inl read ↦ c.in_err-finish.ensures.reads program all.bytes read
+      | inr spent ↦ no_fault kind_number (HasFault (block_reading program) all.bytes) fault (c.in_err-finish.ensures.spent spent)
     ] in
-    let refused : IsFaultOf program all.bytes fault = subst (λ (p : Program). IsFaultOf p all.bytes fault) same told in
     passed_on _ _ _ (unread (block_reading program) kind_number _ (g.S.Store.tells c.args.store.now) (g.S.Store.tells c.read_pieces.new.store) all fault refused) c.from_residual-in_err-finish.result c.from_residual-in_err-finish.ensures
 
 pub returns-clause-answer : goal.returns-clause-answer
-returns-clause-answer g c =
-    let all = c.in_ok-read_pieces.ensures.read in
-    let after = c.read_pieces.new.reader.program.now in
-    let program = c.args.input.program.now in
+returns-clause-answer g c = λ program fresh.
+    let all = c.in_ok-read_pieces.ensures.read program fresh in
     let value = c.in_ok-finish.field-0 in
-    let same : after ≡ program = let s = c.in_ok-read_pieces.ensures.same in cc s in
-    let has : HasResult (block_reading after) all.bytes value =
+    let has : HasResult (block_reading program) all.bytes value =
     elim all.has_read [
-      | inl read ↦ c.in_ok-finish.ensures.reads after all.bytes read
+      | inl read ↦ c.in_ok-finish.ensures.reads program all.bytes read
       | inr spent ↦ absurd (let e = c.in_ok-finish.ensures.spent spent in cc e)
     ] in
-    reads_text (block_reading program) _ _ (g.S.Store.tells c.args.store.now) (g.S.Store.tells c.args.store.now) (g.S.Store.tells c.read_pieces.new.store) value all refl refl (subst (λ (p : Program). HasResult (block_reading p) all.bytes value) same has)
+    reads_text (block_reading program) _ _ (g.S.Store.tells c.args.store.now) (g.S.Store.tells c.args.store.now) (g.S.Store.tells c.read_pieces.new.store) value all refl refl has

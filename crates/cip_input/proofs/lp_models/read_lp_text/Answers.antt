@@ -1,22 +1,33 @@
-use Rattle.std.proofs.Common.{◌≡◌, true, ap}
+use Rattle.std.proofs.Common.{◌≡◌, true, refl, ap, inl, inr}
+use Rattle.cip_blocks.proofs.PassedOn.{begun}
+use Rattle.cip_lp_rules.specs.LpOutcome.{HasLpProgram, HasLpFault}
 use Rattle.cip_lp.specs.LpKindTexts.{kind_number}
-use Rattle.cip_lp.specs.LpReaders.{IsFaultOf}
+use Rattle.cip_lp.specs.LpReaders.{HasCome, IsFaultOf}
 use Rattle.cip_input.specs.declared.model_kinds.ModelKind.TheVariants.{Lp}
 use Rattle.cip_input.specs.Models.{is_lp_kind, model_kind_number}
-use Rattle.cip_input.proofs.TextsTold.{passed_on}
+use Rattle.cip_input.proofs.TextsTold.{passed_on, no_fault}
 use Rattle.cip_input.proofs.ModelTexts.{model_read, model_unread}
 use Rattle.cip_input.proofs.lp_models.read_lp_text.Goals as goal
 
 pub returns-in_err-finish-clause-answer : goal.returns-in_err-finish-clause-answer
 returns-in_err-finish-clause-answer g c = λ name e.
-    let all = c.in_ok-read_pieces.ensures.read in
+    let all = c.in_ok-read_pieces.ensures.read tt (inl (begun HasCome (λ text. tt) c.new-reader.result tt (λ text. refl) c.new-reader.ensures)) in
     let fault = c.in_err-finish.field-0.0 in
-    let refused : IsFaultOf all.bytes fault = c.in_err-finish.ensures.reads all.bytes all.has_read in
+    let refused : IsFaultOf all.bytes fault =
+    elim all.has_read [
+      | inl read ↦ c.in_err-finish.ensures.reads tt all.bytes read
+      | inr spent ↦ no_fault kind_number (HasLpFault all.bytes) fault (c.in_err-finish.ensures.spent spent)
+    ] in
     passed_on _ _ _
     (model_unread kind_number true name e (λ kind made. made ≡ Lp kind) (λ kind made is. (ap model_kind_number is, ap is_lp_kind is)) _ (g.S.Store.tells c.args.store.now) (g.S.Store.tells c.read_pieces.new.store) all fault refused)
     c.from_residual-in_err-finish.result c.from_residual-in_err-finish.ensures
 
 pub returns-clause-answer : goal.returns-clause-answer
 returns-clause-answer g c = λ name e.
-    let all = c.in_ok-read_pieces.ensures.read in
-    model_read true name e _ (g.S.Store.tells c.args.store.now) (g.S.Store.tells c.read_pieces.new.store) all c.in_ok-finish.field-0 (c.in_ok-finish.ensures.reads all.bytes all.has_read)
+    let all = c.in_ok-read_pieces.ensures.read tt (inl (begun HasCome (λ text. tt) c.new-reader.result tt (λ text. refl) c.new-reader.ensures)) in
+    let has : HasLpProgram all.bytes c.in_ok-finish.field-0 =
+    elim all.has_read [
+      | inl read ↦ c.in_ok-finish.ensures.reads tt all.bytes read
+      | inr spent ↦ absurd (let e = c.in_ok-finish.ensures.spent spent in cc e)
+    ] in
+    model_read true name e _ (g.S.Store.tells c.args.store.now) (g.S.Store.tells c.read_pieces.new.store) all c.in_ok-finish.field-0 has

@@ -1,11 +1,15 @@
 use Rattle.cip_line_texts.specs.LineTexts.{HasResult, HasFault}
+use Rattle.cip_blocks.proofs.PassedOn.{begun_or_spent}
 use Rattle.cip_point.specs.PointRules.{point_reading}
 use Rattle.cip_point.specs.PointKindTexts.{kind_number}
+use Rattle.cip_point.specs.PointTexts.{program_of}
+use Rattle.cip_point.specs.PointReaders.{HasCome}
 use Rattle.cip_input.proofs.TextsTold.{later}
 use Rattle.cip_input.proofs.points.read_point.Goals as goal
 
 pub returns-clause-answer : goal.returns-clause-answer
 returns-clause-answer g c =
-    let reading = point_reading c.args.program.now in
+    let program = c.args.program.now in
+    let reading = point_reading program in
     later (HasResult reading) (λ point. point.items) kind_number (HasFault reading) _ (g.S.Store.tells c.args.store.now) (g.S.Store.tells c.choose.new.self) (g.S.Store.tells c.read_text.new.store) c.read_text.result
-    c.in_ok-choose.ensures.left c.in_ok-choose.ensures.faults.0 c.read_text.ensures.answer
+    c.in_ok-choose.ensures.left c.in_ok-choose.ensures.faults.0 (c.read_text.ensures.answer program (begun_or_spent HasCome program_of c.new-reader.result program c.new-reader.ensures))

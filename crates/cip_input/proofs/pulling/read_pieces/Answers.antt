@@ -1,5 +1,6 @@
 use Rattle.std.proofs.Common.{◌≡◌, ◌≤◌, ◌+◌, ◌-◌, length, take, drop, min, rules, arith, length-append, length-drop, length-take, ◌∙◌}
 use Rattle.cip_problem.specs.Limits.{longest_text}
+use Rattle.cip_blocks.specs.PieceReaders.{HasTaken}
 use Rattle.cip_input.specs.TextPulls.{most_pulled}
 use Rattle.cip_input.specs.declared.pulling.TheConstants.{PIECE}
 use Rattle.cip_input.proofs.Readings.{reading_none, too_long}
@@ -9,8 +10,8 @@ pub loop-pulled-init : goal.loop-pulled-init
 loop-pulled-init g c = record {
   in_range = omega arith;
   size = c.requires.room;
-  reading = reading_none (g.T.TextReader.has_read c.args.reader.now) (g.S.Store.tells c.args.store.now) c.requires.fresh;
-  same = search rules;
+  reading = λ subject fresh. reading_none (HasTaken g.T.PieceText.has_come g.T.PieceText.subject c.args.reader.now subject) (g.S.Store.tells c.args.store.now) fresh;
+  sound = search rules;
   holds = search rules;
 }
 
@@ -26,19 +27,19 @@ loop-pulled-preserved g c =
     record {
       in_range = omega (arith, so_far.in_range, so_far.size, here, front, within);
       size = length-append c.read_piece.new.buffer (drop room c.loop-pulled.buffer) ∙ omega (arith, so_far.size, here, front, back, kept);
-      reading = (c.in_ok-count.ensures.read (g.S.Store.tells c.args.store.now) c.loop-pulled.pulled so_far.reading).reading;
-      same = c.in_ok-count.ensures.same ∙ so_far.same;
+      reading = λ subject fresh. (c.in_ok-count.ensures.read subject (g.S.Store.tells c.args.store.now) c.loop-pulled.pulled (so_far.reading subject fresh)).reading;
+      sound = c.in_ok-count.ensures.cause ∙ so_far.sound;
       holds = c.in_ok-count.ensures.holds ∙ so_far.holds;
     }
 
 pub returns-then-count-eq0-clause-read : goal.returns-then-count-eq0-clause-read
-returns-then-count-eq0-clause-read g c =
+returns-then-count-eq0-clause-read g c = λ subject fresh.
     let so_far = c.loop-pulled.invariant in
     let within : c.loop-pulled.pulled ≤ longest_text = omega (arith, c.loop-pulled-test.true) in
-    (c.in_ok-count.ensures.read (g.S.Store.tells c.args.store.now) c.loop-pulled.pulled so_far.reading).end c.if-count-eq0.true (omega (arith, within))
+    (c.in_ok-count.ensures.read subject (g.S.Store.tells c.args.store.now) c.loop-pulled.pulled (so_far.reading subject fresh)).end c.if-count-eq0.true (omega (arith, within))
 
 pub returns-clause-read : goal.returns-clause-read
-returns-clause-read g c =
+returns-clause-read g c = λ subject fresh.
     let so_far = c.loop-pulled.invariant in
     let all : c.loop-pulled.pulled ≡ most_pulled = omega (arith, so_far.in_range, c.loop-pulled-test.false) in
-    too_long _ (g.S.Store.tells c.args.store.now) _ c.loop-pulled.pulled all so_far.reading
+    too_long _ (g.S.Store.tells c.args.store.now) _ c.loop-pulled.pulled all (so_far.reading subject fresh)

@@ -1,4 +1,5 @@
-use Rattle.std.proofs.Common.{◌≡◌, ◌≤◌, ◌-◌, length}
+use Rattle.std.proofs.Common.{◌≡◌, ◌≤◌, ◌-◌, [], length}
+use Rattle.cip_blocks.specs.PieceReaders.{HasTaken}
 use Rattle.cip_input.specs.TextPulls.{most_pulled, IsReading}
 use Rattle.cip_input.specs.declared.pulling.TheConstants.{PIECE}
 use Rattle.cip_input.proofs.pulling.read_pieces.Given as goal
@@ -7,8 +8,9 @@ abbrev pub invariant-loop-pulled : goal.invariant-loop-pulled
 invariant-loop-pulled g l = record {
   in_range : l.pulled ≤ most_pulled;
   size : length l.buffer ≡ PIECE;
-  reading : IsReading (g.T.TextReader.has_read l.reader) (g.S.Store.tells l.fn.store) (g.S.Store.tells l.store) l.pulled;
-  same : g.T.TextReader.subject l.reader ≡ g.T.TextReader.subject l.fn.reader;
+  reading : (subject : _) → HasTaken g.T.PieceText.has_come g.T.PieceText.subject l.fn.reader subject []
+      → IsReading (HasTaken g.T.PieceText.has_come g.T.PieceText.subject l.reader subject) (g.S.Store.tells l.fn.store) (g.S.Store.tells l.store) l.pulled;
+  sound : (g.S.Store.tells l.store).faults ≡ (g.S.Store.tells l.fn.store).faults;
   holds : (g.S.Store.tells l.store).holds ≡ (g.S.Store.tells l.fn.store).holds;
 }
 
