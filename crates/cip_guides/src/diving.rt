@@ -10,7 +10,7 @@ use cip_plugin::{Guess, Heuristic, Plugin, View};
 use std::alloc::{AllocError, Global};
 
 // The part of a share that it has.
-const PART: usize = 10;
+const PART: usize = 20;
 
 /// A heuristic: whole columns are fixed one after another near the values of the last point, those nearest to a whole
 /// number first, and then the continuous ones; behind each the sides that rows imply are taken. Where a row can't be

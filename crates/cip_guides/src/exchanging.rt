@@ -13,6 +13,9 @@ use cip_plugin::{Guess, Heuristic, Plugin, View};
 use cip_row_sums::{rough, short};
 use std::alloc::{AllocError, Global};
 
+// The part of a share that it has.
+const PART: usize = 4;
+
 /// A heuristic: the last point that was accepted, its columns moved to where they cost less, the costliest first, as
 /// far as each row goes. Where a row keeps a whole column from moving, another whole column of that row is moved by 1
 /// the other way, if both together cost less. It works once on each point, and does a bounded share of the nodes' work.
@@ -75,7 +78,7 @@ impl ExchangeHeuristic {
         ExchangeHeuristic {
             placed: Placed::new(alloc),
             order: Vec::new(alloc),
-            share: Share::new(1),
+            share: Share::new(PART),
             held: None,
             is_lost: false,
         }

@@ -3,16 +3,16 @@ ghost use Rattle.std.specs.Prelude.{None};
 ghost use Rattle.cip_handlers.specs.ClassNames.{class_name};
 
 use crate::classes::{Class, list_rows};
-use crate::rounding::{Rounding, is_kept};
+use crate::rounding::Rounding;
 use crate::tries::Tries;
 use cip_lin::RowId;
-use cip_narrowing::{Implied, MOST_REDUCTIONS, Watched, add_reductions};
+use cip_narrowing::{Implied, MOST_REDUCTIONS, Patience, Watched, add_reductions};
 use cip_plugin::{ConsHandler, Cut, Enforced, Plugin, Reduction, View};
 use std::alloc::{AllocError, Global};
 
 /// A handler of the rows of a class: the sides of columns that one of them implies in the node's box, and one of them
 /// divided and rounded, where that cuts the last point of the root off. A row that brought nothing eight times in a row
-/// is looked at no more.
+/// is looked at no more, and behind each call that brought no side twice as many calls go by until the next that looks.
 #[derive(Drop)]
 pub struct ClassHandler {
     class: Class,
@@ -21,6 +21,7 @@ pub struct ClassHandler {
     implied: Vec<Implied>,
     narrowing_tries: Tries,
     rounding_tries: Tries,
+    patience: Patience,
     rounding: Rounding,
 }
 
@@ -34,6 +35,7 @@ impl ClassHandler {
             implied: Vec::new(alloc),
             narrowing_tries: Tries::new(alloc),
             rounding_tries: Tries::new(alloc),
+            patience: Patience::new(),
             rounding: Rounding::new(alloc),
         }
     }
@@ -70,17 +72,13 @@ impl ClassHandler {
         Ok(broken.is_some() || reductions.len() >= MOST_REDUCTIONS)
     }
 
-    /// Adds the sides that rows imply of whose columns a side has changed.
-    fn narrow(
+    /// Adds the sides that the rows that wait imply.
+    fn narrow_waiting(
         &mut self,
         alloc: Global,
         view: &View<'_>,
         reductions: &mut Vec<Reduction>,
     ) -> Result<(), AllocError> {
-        if self.narrowing_tries.is_spent() {
-            return Ok(());
-        }
-        self.watched.look(view.bounds.as_slice())?;
         for _ in 0..view.own.len() {
             let Some(number) = self.watched.next() else {
                 return Ok(());
@@ -91,6 +89,27 @@ impl ClassHandler {
             {
                 return Ok(());
             }
+        }
+        Ok(())
+    }
+
+    /// Adds the sides that rows imply of whose columns a side has changed, where it is time to look, and notes whether
+    /// there was one.
+    fn narrow(
+        &mut self,
+        alloc: Global,
+        view: &View<'_>,
+        reductions: &mut Vec<Reduction>,
+    ) -> Result<(), AllocError> {
+        if self.narrowing_tries.is_spent() || !self.patience.is_turn() {
+            return Ok(());
+        }
+        self.watched.look(view.bounds.as_slice())?;
+        self.narrow_waiting(alloc, view, reductions)?;
+        if reductions.is_empty() {
+            self.patience.lose();
+        } else {
+            self.patience.gain(0);
         }
         Ok(())
     }
@@ -123,18 +142,6 @@ impl ClassHandler {
         self.rounding.clear();
         self.round(alloc, view)?;
         self.rounding.choose(alloc)
-    }
-
-    /// Whether the last point keeps all rows of the class.
-    fn are_kept(&self, view: &View<'_>) -> bool {
-        let point = view.point.unwrap_or(&[]);
-        for number in &self.numbers {
-            match view.own.get(*number as usize) {
-                Some(row) if is_kept(row, point) => {}
-                _ => return false,
-            }
-        }
-        true
     }
 
     /// A side of a column, or else a cut, if there is one.
@@ -178,6 +185,7 @@ impl Plugin for ClassHandler {
 
     fn init_solve(&mut self, _alloc: Global, view: &View<'_>) -> Result<(), AllocError> {
         self.rounding.begin();
+        self.patience = Patience::new();
         self.take(view)
     }
 
@@ -190,10 +198,10 @@ impl Plugin for ClassHandler {
 
 impl ConsHandler for ClassHandler {
     fn enforce(&mut self, alloc: Global, view: &View<'_>) -> Result<Enforced, AllocError> {
-        if self.are_kept(view) {
-            return Ok(Enforced::Feasible);
+        match view.point {
+            Some(_) => Ok(Enforced::Feasible),
+            None => self.improvement(alloc, view),
         }
-        self.improvement(alloc, view)
     }
 
     fn separate(&mut self, alloc: Global, view: &View<'_>) -> Result<Vec<Cut>, AllocError> {

@@ -21,7 +21,7 @@ pub(crate) struct Rounding {
 }
 
 /// Whether a row is kept at a point.
-pub(crate) fn is_kept(row: &Row, point: &[Frac]) -> bool {
+fn is_kept(row: &Row, point: &[Frac]) -> bool {
     match activity(row.terms(), point) {
         Some(sum) => {
             row.low().is_none_or(|low| low <= sum) && row.high().is_none_or(|high| sum <= high)

@@ -1,6 +1,7 @@
 //! The propagator of what rows come to in a box.
 ghost use Rattle.std.specs.Prelude.{None, codes};
 
+use crate::budgets::Budget;
 use cip_frac::Frac;
 use cip_lin::{Row, RowId, Side, Sides};
 use cip_narrowing::{
@@ -16,7 +17,8 @@ const MOST_TERMS: usize = 1 << 20;
 /// A propagator: sides of columns that rows of the program imply by the least and the greatest that they come to in the
 /// node's box, and in what its own sides leave of that. A row is looked at again once a side of one of its columns has
 /// changed, but not for its own sides; the cutoff row along with others, or once another cost is held. Behind each call
-/// that brought nothing twice as many calls go by until the next that looks.
+/// that brought nothing twice as many calls go by until the next that looks, and it does a bounded share of the nodes'
+/// work.
 #[derive(Drop)]
 pub struct ActivityPropagator {
     watched: Watched,
@@ -24,6 +26,7 @@ pub struct ActivityPropagator {
     implied: Vec<Implied>,
     held: Option<Frac>,
     patience: Patience,
+    budget: Budget,
 }
 
 /// Whether a value lies between these sides.
@@ -84,6 +87,7 @@ impl ActivityPropagator {
             implied: Vec::new(alloc),
             held: None,
             patience: Patience::new(),
+            budget: Budget::new(),
         }
     }
 
@@ -124,6 +128,8 @@ impl ActivityPropagator {
         let most = MOST_REDUCTIONS.saturating_sub(reductions.len());
         self.implied.clear();
         let narrowing = list_implied(row, source, &region, most, &mut self.implied)?;
+        let times = self.implied.len().saturating_add(1);
+        self.budget.spend(row.terms().len().saturating_mul(times));
         add_sides(alloc, id, source, self.implied.as_slice(), reductions)?;
         if narrowing == Narrowing::Contradiction {
             return Ok(false);
@@ -263,6 +269,7 @@ impl Plugin for ActivityPropagator {
     fn init_solve(&mut self, _alloc: Global, view: &View<'_>) -> Result<(), AllocError> {
         self.held = None;
         self.patience = Patience::new();
+        self.budget.begin(view.own);
         self.watched
             .take(view.own, view.whole, view.bounds.as_slice())
     }
@@ -277,7 +284,7 @@ impl Plugin for ActivityPropagator {
 impl Propagator for ActivityPropagator {
     fn propagate(&mut self, alloc: Global, view: &View<'_>) -> Result<Vec<Reduction>, AllocError> {
         let mut reductions = Vec::new(alloc);
-        if !self.patience.is_turn() {
+        if !self.budget.may_begin() || !self.patience.is_turn() {
             return Ok(reductions);
         }
         match self.look_and_narrow(alloc, view, &mut reductions) {

@@ -2,6 +2,7 @@
 #![tactic(auto)]
 
 mod activity;
+mod budgets;
 mod cost_rows;
 mod reduced_costs;
 

@@ -36,7 +36,7 @@ fn is_near(costs: &[Frac], point: &[Frac], held: Frac) -> bool {
     gap.wrapping_mul(16) <= far.wrapping_abs().max(i128::from(UNIT))
 }
 
-/// Whether reduced costs may imply sides.
+/// Whether reduced costs may imply sides: of the root, or where the last point's cost is near the one held.
 fn may_pay(view: &View<'_>) -> bool {
     match (view.point, view.held) {
         (Some(point), Some(held)) => view.node == 0 || is_near(view.costs, point, held),

@@ -1,10 +1,13 @@
 //! What rounds of cuts gained.
-use crate::numbers::{UNIT, rough, with_product};
+use crate::numbers::{UNIT, rough};
 use cip_frac::Frac;
 use cip_plugin::View;
 
 // After so many rounds without much gain no more cuts are looked for.
 const MOST_STALE: u32 = 4;
+
+// The greatest denominator of a point behind which cuts are looked for.
+const MOST_UNDER: i128 = 1 << 64;
 
 /// What rounds of cuts at the root gained.
 #[derive(Clone, Copy, Debug)]
@@ -13,13 +16,22 @@ pub struct Gains {
     stale: u32,
 }
 
-/// What a point costs, roughly, over 2^24; none where that leaves the range.
+/// What a column costs at a value, roughly, over 2^24; none where that leaves the range.
+fn rough_product(cost: Frac, value: Frac) -> Option<i128> {
+    let product = cost.numerator().checked_mul(i128::from(rough(value)))?;
+    product.checked_div(cost.denominator())
+}
+
+/// What a point costs, roughly, over 2^24: the sum of what each column costs, which is rounded. None where that leaves
+/// the range.
 pub fn cost_of(costs: &[Frac], point: &[Frac]) -> Option<i64> {
-    let mut sum = Frac::zero();
+    let mut sum = 0i128;
     for (cost, value) in costs.iter().zip(point) {
-        sum = with_product(sum, *cost, *value)?;
+        if !cost.is_zero() && !value.is_zero() {
+            sum = sum.checked_add(rough_product(*cost, *value)?)?;
+        }
     }
-    Some(rough(sum))
+    i64::try_from(sum).ok()
 }
 
 /// Whether a whole column has a value that isn't.
@@ -28,6 +40,12 @@ fn is_fractional(whole: &[bool], point: &[Frac]) -> bool {
         .iter()
         .zip(point)
         .any(|(is_whole, value)| *is_whole && !value.is_whole())
+}
+
+/// Whether a value of a point has a long denominator. Each row more makes these longer, and where they leave the range
+/// no linear program shows its point.
+fn is_long(point: &[Frac]) -> bool {
+    point.iter().any(|value| value.denominator() > MOST_UNDER)
 }
 
 /// Whether a cost rose by less than a ten-thousandth.
@@ -52,13 +70,16 @@ impl Gains {
         }
     }
 
-    /// Whether one more round may pay: at the root, with a point that is to be cut off, and unless the last rounds
-    /// gained little.
+    /// Whether one more round may pay: at the root, with a point that is to be cut off and has no long denominators,
+    /// and unless the last rounds gained little.
     pub fn may_pay(&mut self, view: &View<'_>) -> bool {
         let Some(point) = view.point else {
             return false;
         };
-        if view.node != 0 || self.stale >= MOST_STALE || !is_fractional(view.whole, point) {
+        if view.node != 0 || self.stale >= MOST_STALE {
+            return false;
+        }
+        if is_long(point) || !is_fractional(view.whole, point) {
             return false;
         }
         let cost = cost_of(view.costs, point);
