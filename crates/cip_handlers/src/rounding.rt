@@ -88,8 +88,8 @@ impl Rounding {
             return Err(Stop::GaveUp);
         };
         self.sum.begin_at_most(&row)?;
-        self.shifted
-            .take(view, &self.sum.terms, self.sum.right, Aim::Rounding)?;
+        let point = view.point.unwrap_or(&[]);
+        self.shifted.take(view, point, &self.sum.terms, self.sum.right, Aim::Rounding)?;
         let by = self.divisor();
         let cut = rounded_cut(alloc, &self.sum, &self.shifted, by)?;
         self.candidates.push(cut)?;

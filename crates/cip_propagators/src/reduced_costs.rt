@@ -3,7 +3,7 @@ ghost use Rattle.std.specs.Prelude.{None, codes};
 
 use crate::cost_rows::CostRow;
 use cip_frac::Frac;
-use cip_lin::{Row, RowMultiple};
+use cip_lin::{Combo, Row, RowMultiple};
 use cip_narrowing::{Implied, Narrowing, Patience, Region, Source, list_implied, reduction_of};
 use cip_plugin::{Plugin, Propagator, Reduction, View};
 use cip_row_sums::{UNIT, cost_of, rough};
@@ -14,6 +14,9 @@ const MOST_SIDES: usize = 8;
 
 // So many calls go by behind one that brought sides.
 const REST: u32 = 8;
+
+// The greatest denominator of a factor of the bound.
+const MOST_UNDER: i128 = 1 << 48;
 
 /// A propagator: where a cost is held, sides of whole columns that the multipliers of the last linear program imply.
 /// Its rows added up with the cutoff row leave minus the reduced costs, so a column with one is near its side at each
@@ -42,6 +45,15 @@ fn may_pay(view: &View<'_>) -> bool {
         (Some(point), Some(held)) => view.node == 0 || is_near(view.costs, point, held),
         _ => false,
     }
+}
+
+/// Whether a factor of the bound's rows has a long denominator: then work on these rows is long, and so is the judge's
+/// on each side.
+fn is_long(combo: &Combo) -> bool {
+    combo
+        .rows
+        .iter()
+        .any(|multiple| multiple.factor.denominator() > MOST_UNDER)
 }
 
 /// Whether a column is whole.
@@ -111,7 +123,9 @@ impl ReducedCostPropagator {
     /// The row of reduced costs, where the last linear program has a combination.
     fn row(&mut self, alloc: Global, view: &View<'_>) -> Result<Option<Row>, AllocError> {
         match (view.combo, view.cutoff) {
-            (Some(combo), Some(cutoff)) => self.cost_row.take(alloc, view, combo, cutoff),
+            (Some(combo), Some(cutoff)) if !is_long(combo) => self
+                .cost_row
+                .take(alloc, view, combo, cutoff),
             _ => Ok(None),
         }
     }
@@ -123,7 +137,7 @@ impl ReducedCostPropagator {
         view: &View<'_>,
         reductions: &mut Vec<Reduction>,
     ) -> Result<(), AllocError> {
-        if !may_pay(view) || !self.patience.is_turn() {
+        if !self.patience.is_turn() || !may_pay(view) {
             return Ok(());
         }
         if let Some(row) = self.row(alloc, view)? {

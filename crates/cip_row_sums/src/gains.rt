@@ -9,6 +9,9 @@ const MOST_STALE: u32 = 4;
 // The greatest denominator of a point behind which cuts are looked for.
 const MOST_UNDER: i128 = 1 << 64;
 
+// The same of a program more than half of whose coefficients are there.
+const DENSE_UNDER: i128 = 1 << 40;
+
 /// What rounds of cuts at the root gained.
 #[derive(Clone, Copy, Debug)]
 pub struct Gains {
@@ -42,10 +45,39 @@ fn is_fractional(whole: &[bool], point: &[Frac]) -> bool {
         .any(|(is_whole, value)| *is_whole && !value.is_whole())
 }
 
-/// Whether a value of a point has a long denominator. Each row more makes these longer, and where they leave the range
+/// Whether a value of a point has a denominator above this. Each row more makes these longer, and where they leave the range
 /// no linear program shows its point.
-fn is_long(point: &[Frac]) -> bool {
-    point.iter().any(|value| value.denominator() > MOST_UNDER)
+fn is_long(point: &[Frac], most: i128) -> bool {
+    point.iter().any(|value| value.denominator() > most)
+}
+
+/// How many coefficients the rows of the program have.
+fn own_terms(view: &View<'_>) -> usize {
+    let mut count = 0usize;
+    for row in view.own {
+        count = count.saturating_add(row.terms().len());
+    }
+    count
+}
+
+/// How many coefficients the rows of the pool have.
+fn pool_terms(view: &View<'_>) -> usize {
+    let mut count = 0usize;
+    for kept in view.pool {
+        count = count.saturating_add(kept.row.terms().len());
+    }
+    count
+}
+
+/// Whether later linear programs have room for more cuts. Where more than half of a program's coefficients are there
+/// cuts are as long as its rows: they come to half of its coefficients at most.
+fn has_room(view: &View<'_>, point: &[Frac]) -> bool {
+    let own = own_terms(view);
+    let places = view.own.len().saturating_mul(view.costs.len());
+    if own.saturating_mul(2) <= places {
+        return !is_long(point, MOST_UNDER);
+    }
+    pool_terms(view).saturating_mul(2) <= own && !is_long(point, DENSE_UNDER)
 }
 
 /// Whether a cost rose by less than a ten-thousandth.
@@ -70,8 +102,8 @@ impl Gains {
         }
     }
 
-    /// Whether one more round may pay: at the root, with a point that is to be cut off and has no long denominators,
-    /// and unless the last rounds gained little.
+    /// Whether one more round may pay: at the root, with a point that is to be cut off and has no long denominators, as
+    /// long as there is room for cuts, and unless the last rounds gained little.
     pub fn may_pay(&mut self, view: &View<'_>) -> bool {
         let Some(point) = view.point else {
             return false;
@@ -79,7 +111,7 @@ impl Gains {
         if view.node != 0 || self.stale >= MOST_STALE {
             return false;
         }
-        if is_long(point) || !is_fractional(view.whole, point) {
+        if !has_room(view, point) || !is_fractional(view.whole, point) {
             return false;
         }
         let cost = cost_of(view.costs, point);

@@ -25,7 +25,7 @@ pub struct Shift {
     pub col: u32,
     /// The coefficient of the way.
     pub coef: i64,
-    /// How long the way roughly is at the last point, over 2^24.
+    /// How long the way roughly is at the point, over 2^24.
     pub way: i64,
     /// The side; none for a whole column without sides, whose way is its value.
     pub side: Option<Frac>,
@@ -53,11 +53,11 @@ impl Shift {
     }
 }
 
-/// The sides of a column in the node's box, its value at the last point, and whether it is whole; none where there is
-/// no such column, or no last point.
-pub fn place_of(view: &View<'_>, col: u32) -> Option<(Sides, Frac, bool)> {
+/// The sides of a column in the node's box, its value at a point, and whether it is whole; none where there is no such
+/// column, or no value.
+pub fn place_of(view: &View<'_>, point: &[Frac], col: u32) -> Option<(Sides, Frac, bool)> {
     let sides = view.bounds.as_slice().get(col as usize)?;
-    let value = view.point?.get(col as usize)?;
+    let value = point.get(col as usize)?;
     let whole = view.whole.get(col as usize)?;
     Some((*sides, *value, *whole))
 }
@@ -101,8 +101,8 @@ fn way_from(side: Option<Frac>, value: Frac) -> i64 {
 }
 
 /// The way of a column with this coefficient.
-fn shift_of(view: &View<'_>, term: (u32, i64), aim: Aim) -> Option<Shift> {
-    let (sides, value, is_whole) = place_of(view, term.0)?;
+fn shift_of(view: &View<'_>, point: &[Frac], term: (u32, i64), aim: Aim) -> Option<Shift> {
+    let (sides, value, is_whole) = place_of(view, point, term.0)?;
     let by_sign = match aim {
         Aim::Nearest => false,
         Aim::Positive => true,
@@ -152,12 +152,13 @@ impl Shifted {
         }
     }
 
-    /// Takes a row that is at most its right side. `GaveUp` where a side that is wanted isn't there, a side of a whole
+    /// Takes a row that is at most its right side, with the ways of a point. `GaveUp` where a side that is wanted isn't there, a side of a whole
     /// column isn't whole, or a number leaves the range; `NoMemory` where memory was refused. It has nothing of use
     /// then.
     pub fn take(
         &mut self,
         view: &View<'_>,
+        point: &[Frac],
         terms: &Terms,
         right: Frac,
         aim: Aim,
@@ -166,7 +167,7 @@ impl Shifted {
         self.right = right;
         self.is_fractional = false;
         for term in terms {
-            let item = found(shift_of(view, *term, aim))?;
+            let item = found(shift_of(view, point, *term, aim))?;
             if let Some(side) = item.side {
                 let times = Frac::from(term.1.wrapping_neg());
                 self.right = found(with_product(self.right, times, side))?;

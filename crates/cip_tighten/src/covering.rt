@@ -8,7 +8,7 @@ use cip_row_sums::{Candidates, Gains, Standing, Stop, Sum, short, tight_row, unl
 use std::alloc::{AllocError, Global};
 
 // The most cuts of a round.
-const MOST_CUTS: usize = 2;
+const MOST_CUTS: usize = 4;
 
 /// A separator: of each row of the program and each side of it, columns with two values that can't all stand at the
 /// costlier one, and the cut that one of them doesn't.

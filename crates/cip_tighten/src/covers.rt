@@ -1,10 +1,15 @@
 //! Covers: columns of a row, each with two values, that can't all stand at the costlier one. The row, divided by the
 //! greatest of their coefficients and rounded, says that one of them doesn't.
+use crate::mixing::best_division;
+use crate::split_cuts::mixed_cut;
 use cip_plugin::View;
 use cip_row_sums::{
-    Aim, Candidate, Candidates, Shift, Shifted, Stop, Sum, UNIT, rounded_cut, unless_refused,
+    Aim, Candidate, Candidates, Shift, Shifted, Stop, Sum, Terms, UNIT, rounded_cut, unless_refused,
 };
 use std::alloc::{AllocError, Global};
+
+// The most coefficients of a cover by which a row is divided.
+const MOST_DIVISORS: usize = 8;
 
 /// A column that may stand in a cover: by its key, then by its place.
 #[derive(Clone, Copy, PartialEq, Eq, PartialOrd, Ord)]
@@ -22,6 +27,8 @@ pub(crate) struct Covers {
     picks: Vec<Pick>,
     cover: Vec<Pick>,
     kept: Vec<Pick>,
+    divisors: Vec<i64>,
+    terms: Terms,
 }
 
 /// In which order columns come into a cover.
@@ -109,33 +116,30 @@ impl Covers {
             picks: Vec::new(alloc),
             cover: Vec::new(alloc),
             kept: Vec::new(alloc),
+            divisors: Vec::new(alloc),
+            terms: Vec::new(alloc),
         }
     }
 
-    /// Tells the ways of the cover's columns from their other sides, and answers the greatest of their coefficients.
-    fn turn_cover(&mut self) -> Result<i64, Stop> {
-        let mut most = 0;
+    /// Tells the ways of the cover's columns from their other sides, and lists their coefficients, the greatest first.
+    fn turn_cover(&mut self) -> Result<(), Stop> {
+        self.divisors.clear();
         for pick in &self.kept {
             self.shifted.flip(pick.place)?;
-            most = pick.coef.max(most);
+            self.divisors.push(pick.coef)?;
         }
-        if most > 0 {
-            Ok(most)
-        } else {
-            Err(Stop::GaveUp)
-        }
+        self.divisors.sort_unstable();
+        self.divisors.reverse();
+        self.divisors.dedup();
+        self.divisors.truncate(MOST_DIVISORS);
+        Ok(())
     }
 
-    /// The cut of a cover that is found in an order.
-    fn cut_by(
-        &mut self,
-        alloc: Global,
-        view: &View<'_>,
-        sum: &Sum,
-        order: Order,
-    ) -> Result<Candidate, Stop> {
+    /// Finds a cover in an order, and tells the row in the ways of its columns from their costlier values.
+    fn find(&mut self, view: &View<'_>, sum: &Sum, order: Order) -> Result<(), Stop> {
+        let point = view.point.unwrap_or(&[]);
         self.shifted
-            .take(view, &sum.terms, sum.right, Aim::Positive)?;
+            .take(view, point, &sum.terms, sum.right, Aim::Positive)?;
         let limit = self.shifted.right.floor();
         if !self.shifted.is_fractional || limit < 0 {
             return Err(Stop::GaveUp);
@@ -143,11 +147,41 @@ impl Covers {
         list_picks(self.shifted.items.as_slice(), order, &mut self.picks)?;
         let come_to = fill(self.picks.as_slice(), limit, &mut self.cover)?;
         thin(&mut self.cover, come_to, limit, &mut self.kept)?;
-        let by = self.turn_cover()?;
-        rounded_cut(alloc, sum, &self.shifted, by)
+        self.turn_cover()
     }
 
-    /// Keeps the cut of a cover, if one is found in this order.
+    /// Keeps the cut of the cover that was found, by the greatest of its coefficients and rounded.
+    fn keep_rounded(
+        &mut self,
+        alloc: Global,
+        sum: &Sum,
+        candidates: &mut Candidates,
+    ) -> Result<(), Stop> {
+        let by = match self.divisors.first() {
+            Some(by) if *by > 0 => *by,
+            _ => return Err(Stop::GaveUp),
+        };
+        let candidate = rounded_cut(alloc, sum, &self.shifted, by)?;
+        candidates.push(candidate)?;
+        Ok(())
+    }
+
+    /// Keeps the best mixed rounding of the row by a coefficient of the cover that was found: it leaves the columns
+    /// outside of the cover more than rounding does.
+    fn keep_mixed(
+        &mut self,
+        alloc: Global,
+        view: &View<'_>,
+        sum: &Sum,
+        candidates: &mut Candidates,
+    ) -> Result<(), Stop> {
+        let best = best_division(&self.shifted, self.divisors.as_slice(), &mut self.terms)?;
+        let candidate = mixed_cut(alloc, view, sum, &self.shifted, best)?;
+        candidates.push(candidate)?;
+        Ok(())
+    }
+
+    /// Keeps the cuts of a cover, if one is found in this order.
     fn keep_by(
         &mut self,
         alloc: Global,
@@ -156,9 +190,9 @@ impl Covers {
         order: Order,
         candidates: &mut Candidates,
     ) -> Result<(), Stop> {
-        let candidate = self.cut_by(alloc, view, sum, order)?;
-        candidates.push(candidate)?;
-        Ok(())
+        self.find(view, sum, order)?;
+        unless_refused(self.keep_rounded(alloc, sum, candidates))?;
+        self.keep_mixed(alloc, view, sum, candidates)
     }
 
     /// Keeps the cuts of covers of a row that is at most its right side.

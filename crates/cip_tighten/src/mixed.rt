@@ -4,6 +4,8 @@ ghost use Rattle.std.specs.Prelude.{None, codes};
 use crate::mixing::{best_division, list_divisors};
 use crate::paths::go_on;
 use crate::split_cuts::mixed_cut;
+use crate::stand_ins::stand_ins;
+use cip_frac::Frac;
 use cip_narrowing::ColumnRows;
 use cip_plugin::{Cut, Plugin, Separator, View};
 use cip_row_sums::{
@@ -12,7 +14,10 @@ use cip_row_sums::{
 use std::alloc::{AllocError, Global};
 
 // The most cuts of a round.
-const MOST_CUTS: usize = 3;
+const MOST_CUTS: usize = 4;
+
+// The most cuts where there is no point.
+const MOST_BLIND: usize = 64;
 
 // The most rows of a sum.
 const MOST_ROWS: usize = 6;
@@ -32,6 +37,7 @@ pub struct MixedSeparator {
     divisors: Vec<i64>,
     terms: Terms,
     candidates: Candidates,
+    is_blind: bool,
     next: usize,
     work: usize,
 }
@@ -48,15 +54,16 @@ impl MixedSeparator {
             divisors: Vec::new(alloc),
             terms: Vec::new(alloc),
             candidates: Candidates::new(alloc),
+            is_blind: false,
             next: 0,
             work: 0,
         }
     }
 
     /// Keeps the best mixed rounding of the sum with its sign.
-    fn mix(&mut self, alloc: Global, view: &View<'_>) -> Result<(), Stop> {
+    fn mix(&mut self, alloc: Global, view: &View<'_>, point: &[Frac]) -> Result<(), Stop> {
         self.shifted
-            .take(view, &self.sum.terms, self.sum.right, Aim::Nearest)?;
+            .take(view, point, &self.sum.terms, self.sum.right, Aim::Nearest)?;
         if !self.shifted.is_fractional {
             return Err(Stop::GaveUp);
         }
@@ -71,28 +78,39 @@ impl MixedSeparator {
     }
 
     /// Keeps the best mixed roundings of the sum with both signs, and answers whether there was one.
-    fn mix_both(&mut self, alloc: Global, view: &View<'_>) -> Result<bool, AllocError> {
+    fn mix_both(
+        &mut self,
+        alloc: Global,
+        view: &View<'_>,
+        point: &[Frac],
+    ) -> Result<bool, AllocError> {
         let before = self.candidates.len();
-        unless_refused(self.mix(alloc, view))?;
+        unless_refused(self.mix(alloc, view, point))?;
         self.sum.turn();
-        unless_refused(self.mix(alloc, view))?;
+        unless_refused(self.mix(alloc, view, point))?;
         self.sum.turn();
         Ok(self.candidates.len() > before)
     }
 
     /// Adds rows to the one at a place until there is a cut, or no more row to add.
-    fn search_from(&mut self, alloc: Global, view: &View<'_>, place: usize) -> Result<(), Stop> {
+    fn search_from(
+        &mut self,
+        alloc: Global,
+        view: &View<'_>,
+        point: &[Frac],
+        place: usize,
+    ) -> Result<(), Stop> {
         let Ok(row) = tight_at(view, &self.standings, place) else {
             return Err(Stop::GaveUp);
         };
         self.sum.begin(&row)?;
         for _ in 1..MOST_ROWS {
-            if self.mix_both(alloc, view)? {
+            if self.mix_both(alloc, view, point)? {
                 return Ok(());
             }
-            go_on(view, &self.standings, &self.columns, &mut self.sum)?;
+            go_on(view, point, &self.standings, &self.columns, &mut self.sum)?;
         }
-        self.mix_both(alloc, view)?;
+        self.mix_both(alloc, view, point)?;
         Ok(())
     }
 
@@ -106,21 +124,50 @@ impl MixedSeparator {
         place
     }
 
-    /// Keeps cuts that begin with any row, as far as the work of a round goes.
-    fn search(&mut self, alloc: Global, view: &View<'_>) -> Result<(), AllocError> {
+    /// Keeps cuts that begin with any row that stands at a side, as far as the work of a round goes.
+    fn search_all(
+        &mut self,
+        alloc: Global,
+        view: &View<'_>,
+        point: &[Frac],
+    ) -> Result<(), AllocError> {
         self.candidates.clear();
         self.work = 0;
-        if let Some(point) = view.point {
-            self.standings.take(view, point)?;
-        }
         for _ in 0..self.standings.len() {
             if self.candidates.is_full() || self.work > MOST_WORK {
                 return Ok(());
             }
             let place = self.next_place();
-            unless_refused(self.search_from(alloc, view, place))?;
+            unless_refused(self.search_from(alloc, view, point, place))?;
         }
         Ok(())
+    }
+
+    /// The cuts of a round.
+    fn cuts(
+        &mut self,
+        alloc: Global,
+        view: &View<'_>,
+        point: &[Frac],
+    ) -> Result<Vec<Cut>, AllocError> {
+        if !self.gains.may_pay(view) {
+            return Ok(Vec::new(alloc));
+        }
+        self.standings.take(view, point)?;
+        self.search_all(alloc, view, point)?;
+        self.candidates.choose(alloc, MOST_CUTS)
+    }
+
+    /// The cuts of the root where its linear program has no point, once: what rows leave of a point that stands in.
+    fn blind_cuts(&mut self, alloc: Global, view: &View<'_>) -> Result<Vec<Cut>, AllocError> {
+        if view.node != 0 || self.is_blind {
+            return Ok(Vec::new(alloc));
+        }
+        self.is_blind = true;
+        self.standings.take_any(view)?;
+        let values = stand_ins(alloc, view)?;
+        self.search_all(alloc, view, values.as_slice())?;
+        self.candidates.choose(alloc, MOST_BLIND)
     }
 }
 
@@ -144,6 +191,7 @@ impl Plugin for MixedSeparator {
     fn init_solve(&mut self, _alloc: Global, view: &View<'_>) -> Result<(), AllocError> {
         self.gains = Gains::new();
         self.next = 0;
+        self.is_blind = false;
         self.columns.take(view.own, view.whole, true)
     }
 
@@ -156,10 +204,9 @@ impl Plugin for MixedSeparator {
 
 impl Separator for MixedSeparator {
     fn separate(&mut self, alloc: Global, view: &View<'_>) -> Result<Vec<Cut>, AllocError> {
-        if !self.gains.may_pay(view) {
-            return Ok(Vec::new(alloc));
+        match view.point {
+            Some(point) => self.cuts(alloc, view, point),
+            None => self.blind_cuts(alloc, view),
         }
-        self.search(alloc, view)?;
-        self.candidates.choose(alloc, MOST_CUTS)
     }
 }

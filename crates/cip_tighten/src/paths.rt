@@ -33,8 +33,8 @@ fn far_from_sides(sides: Sides, value: Frac) -> i64 {
 }
 
 /// How far a continuous column is from its nearer side; of a whole one, and of one at a side, there is nothing.
-fn far_of(view: &View<'_>, col: u32) -> Option<i64> {
-    let (sides, value, is_whole) = place_of(view, col)?;
+fn far_of(view: &View<'_>, point: &[Frac], col: u32) -> Option<i64> {
+    let (sides, value, is_whole) = place_of(view, point, col)?;
     let far = far_from_sides(sides, value);
     if is_whole || far <= 0 {
         None
@@ -63,13 +63,14 @@ fn shortest_row(view: &View<'_>, standings: &Standings, rows: &[u32], sum: &Sum)
 /// The continuous column of a sum that is farthest from its sides and has a row that can take it out, and that row.
 fn next_turn(
     view: &View<'_>,
+    point: &[Frac],
     standings: &Standings,
     columns: &ColumnRows,
     sum: &Sum,
 ) -> Option<Turn> {
     let mut best: Option<Turn> = None;
     for term in &sum.terms {
-        let Some(far) = far_of(view, term.0) else {
+        let Some(far) = far_of(view, point, term.0) else {
             continue;
         };
         if best.is_some_and(|turn| turn.far >= far) {
@@ -119,11 +120,12 @@ fn cancel(sum: &mut Sum, row: &TightRow<'_>, col: u32) -> Result<(), Stop> {
 /// Adds one more row to a sum; the work gives up where there is none.
 pub(crate) fn go_on(
     view: &View<'_>,
+    point: &[Frac],
     standings: &Standings,
     columns: &ColumnRows,
     sum: &mut Sum,
 ) -> Result<(), Stop> {
-    let turn = found(next_turn(view, standings, columns, sum))?;
+    let turn = found(next_turn(view, point, standings, columns, sum))?;
     let standing = standings.get(turn.row as usize);
     match tight_row(view, RowId::Own(turn.row), standing) {
         Some(row) => cancel(sum, &row, turn.col),

@@ -46,8 +46,8 @@ impl RoundingSeparator {
 
     /// Keeps the cuts of the sum as it is.
     fn divide_all(&mut self, alloc: Global, view: &View<'_>) -> Result<(), Stop> {
-        self.shifted
-            .take(view, &self.sum.terms, self.sum.right, Aim::Rounding)?;
+        let point = view.point.unwrap_or(&[]);
+        self.shifted.take(view, point, &self.sum.terms, self.sum.right, Aim::Rounding)?;
         if !self.shifted.is_fractional {
             return Ok(());
         }
