@@ -1,6 +1,7 @@
 //! A basis that is guessed, and the systems that are solved for it.
 use crate::combos::{empty_combo, put_costs, put_line, put_multiple, put_multiples, row_of};
 use crate::matrix::make_matrix;
+use crate::mended_points::mended_point;
 use crate::placement::Placement;
 use crate::rounded::rounded_combo;
 use crate::values::{put_basic, put_loose, put_right_sides};
@@ -21,6 +22,8 @@ pub struct Basis {
     solved: Vec<Frac>,
     // by which multipliers the last guess may show something, if by any
     outcome: Option<Outcome>,
+    // whether its matrix stands, so that systems can be solved
+    is_made: bool,
     // whether the last systems had solutions in the range, so that a guess with less rounding may do better
     is_in_range: bool,
 }
@@ -36,6 +39,7 @@ impl Basis {
             right: Vec::new(alloc),
             solved: Vec::new(alloc),
             outcome: None,
+            is_made: false,
             is_in_range: false,
         }
     }
@@ -48,6 +52,31 @@ impl Basis {
     /// Whether what was solved for the last guess was in the range, so that rounding may be why nothing is shown.
     pub(crate) fn may_be_rounding(&self) -> bool {
         self.is_in_range
+    }
+
+    /// The point of the last guess, where it is said to be optimal and its values are in the range.
+    pub(crate) fn own_point(
+        &mut self,
+        alloc: Global,
+        given: &Given,
+    ) -> Result<Option<Vec<Frac>>, AllocError> {
+        if self.is_made && self.outcome == Some(Outcome::Optimal) {
+            self.point(alloc, given, Length::Long)
+        } else {
+            Ok(None)
+        }
+    }
+
+    /// Values near the point of the last guess that keep the rows, so far as is known.
+    pub(crate) fn mended(
+        &self,
+        alloc: Global,
+        given: &Given,
+    ) -> Result<Option<Vec<Frac>>, AllocError> {
+        match self.outcome {
+            Some(Outcome::Optimal) => mended_point(alloc, &self.guess, given),
+            _ => Ok(None),
+        }
     }
 
     /// How the last guess ended, and a combination by its multipliers, which are rounded and mended; none where there
@@ -93,6 +122,7 @@ impl Basis {
         anew: bool,
     ) -> Result<Option<Outcome>, AllocError> {
         self.outcome = None;
+        self.is_made = false;
         self.is_in_range = false;
         let Some(outcome) = self.guess.guess(alloc, given, anew)? else {
             if self.guess.has_table() {
@@ -104,7 +134,8 @@ impl Basis {
             return Ok(None);
         }
         self.outcome = Some(outcome);
-        if self.make(alloc, given)? {
+        self.is_made = self.make(alloc, given)?;
+        if self.is_made {
             return Ok(Some(outcome));
         }
         self.guess.forget();

@@ -12,13 +12,14 @@ ghost use Rattle.cip_core.specs.Entering.{own_region};
 ghost use Rattle.cip_core.specs.KeptNodes.{IsKept, state_of};
 
 use crate::cores::Core;
-use crate::costs::{are_costs_whole, open_cutoff};
+use crate::costs::open_cutoff;
 use cip_cert::Scratch;
 use cip_compaction::Presolved;
 use cip_domain::Region;
 use cip_frac::Frac;
 use cip_incumbent::Incumbent;
 use cip_model::Program;
+use cip_node_bounds::are_costs_whole;
 use cip_node_rules::rounded_least;
 use cip_rows::RowPool;
 use cip_tree::Tree;

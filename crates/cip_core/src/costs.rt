@@ -1,22 +1,13 @@
-//! Costs: whether they are whole, and the cutoff row.
-ghost use Rattle.std.specs.Prelude.{◌≡◌, ◌≤◌, None, length, MatchBool, IfOk};
+//! The cutoff row.
+ghost use Rattle.std.specs.Prelude.{◌≡◌, ◌≤◌, None, length, IfOk};
 ghost use Rattle.cip_problem.specs.Limits.{most_columns};
-ghost use Rattle.cip_cuts.specs.Cuts.{HasWholeCosts, terms_from};
+ghost use Rattle.cip_cuts.specs.Cuts.{terms_from};
 ghost use Rattle.cip_core.specs.CutoffRow.{cutoff_side};
 
 use cip_frac::Frac;
 use cip_lin::{Row, RowFault, Term};
 use cip_model::Program;
-use cip_node_rules::has_whole_costs;
 use std::alloc::Global;
-
-/// Whether the cost of each point with whole values on whole columns is a whole number.
-pub(crate) fn are_costs_whole(program: &Program) -> bool
-    ensures { MatchBool result (HasWholeCosts program.now) (¬ HasWholeCosts program.now) }
-{
-    let _columns = program.columns();
-    has_whole_costs(program.whole(), program.costs()) && program.constant().is_whole()
-}
 
 /// The high side of the cutoff row.
 pub(crate) fn side_of(program: &Program, held: &Option<Frac>) -> Option<Frac>

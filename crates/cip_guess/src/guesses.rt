@@ -3,12 +3,13 @@ use crate::anew::make_anew;
 use crate::dual::{Lists, Tolerances, dual_move, loose_tolerances, tight_tolerances, worst};
 use crate::given::Given;
 use crate::moves::settle;
-use crate::multipliers::{RowMultiplier, list_rounded};
+use crate::multipliers::{RowMultiplier, list_rounded, rounded_number};
 use crate::primal::{PrimalMove, primal_move};
 use crate::scaling::{cost_up, make_scaled, row_up};
 use crate::stops::Stop;
 use crate::table::Table;
 use crate::variables::{Standing, Variable, Variables};
+use cip_lin::Frac;
 use std::alloc::{AllocError, Global};
 
 /// A table has at most so many entries.
@@ -92,6 +93,13 @@ impl Guess {
     /// Where a variable stands: columns by number, then rows.
     pub fn standing(&self, variable: u32) -> Standing {
         self.variables.get(variable).standing
+    }
+
+    /// The value of a column at the end of the last guess, rounded to a multiple of 2^-20; none where it has over 62
+    /// bits then. It may be wrong.
+    pub fn value(&self, column: u32) -> Option<Frac> {
+        let variable = self.variables.get(column);
+        rounded_number(variable.value, variable.up.wrapping_neg())
     }
 
     /// Forgets the basis: the next guess begins with that of the rows.

@@ -59,6 +59,12 @@ fn rounded(number: i64, power: i32) -> Option<i64> {
     Some(narrow(raised(i128::from(number), shift)))
 }
 
+/// A number of the table times a power of two, rounded to a multiple of 2^-20; none where that has over 62 bits.
+pub(crate) fn rounded_number(number: i64, power: i32) -> Option<Frac> {
+    let times = rounded(number, power)?;
+    Frac::new(i128::from(times), PARTS).ok()
+}
+
 /// Lists the loose rows with what a line takes of them, where that isn't 0: the line's own power of two is given.
 /// Answers whether all can be rounded.
 pub(crate) fn list_rounded(

@@ -1,7 +1,7 @@
 -- What the linear program of a node says of its bound.
 use Rattle.std.proofs.Common.{◌≡◌, ℕ, Bool, true, false, List, length, Contains, Option, None, Some, IfSome, option_map, refl, sym, ap, ◌∙◌, subst}
 use Rattle.std.proofs.lemmas.List.Elements.{All-contains}
-use Rattle.cip_rational.specs.Rational.{ℚ}
+use Rattle.cip_rational.specs.Rational.{ℚ, integer, ceil}
 use Rattle.cip_problem.specs.Program.{Sides, Row, Program}
 use Rattle.cip_problem.specs.WellFormed.{IsWellFormed}
 use Rattle.cip_problem.proofs.Points.AtPlaces.{IsInBox-long}
@@ -18,7 +18,7 @@ use Rattle.cip_incumbent.specs.HeldPoint.{Holding}
 use Rattle.cip_domain.specs.Changes.{Region}
 use Rattle.cip_tree.specs.Nodes.{TakenNode, Nodes, region_of, box_of}
 use Rattle.cip_core.specs.NodeRows.{usable_rows}
-use Rattle.cip_core.specs.Relaxing.{node_program, ShowsLeast, ShowsBound, ShowsFalling}
+use Rattle.cip_core.specs.Relaxing.{node_program, ShowsLeast, ShowsBound, ShowsNear, ShowsFalling}
 use Rattle.cip_core.specs.Telling.{IsValidPool, NodeProgramsTell}
 use Rattle.cip_core.proofs.PassedOn.{told}
 use Rattle.cip_core.specs.Mark.{Mark}
@@ -76,6 +76,14 @@ found_least core held box bound point b found p m t s l tried = record {
   tried = subst (λ o. HasTried core box o found.mark) (sym p) (s.optimal.is_point, tried);
 }
 
+-- by one that costs no more than a bound that was rounded up
+found_near : (core : CoreState) (held : Option ℚ) (box : List Sides) (bound : Option ℚ) (point : List ℚ) (b : ℚ) (found : Found) → point_of found ≡ Some point → found.mark ≡ None → NodeProgramsTell (reduced_of core) held (rows_lent core) box → ShowsNear (reduced_of core) (rows_lent core) box point b → NoMore (Some (integer (ceil b))) bound → IsTriedBack core point → IsFound core box bound found
+found_near core held box bound point b found p m t s l tried = record {
+  long = subst (λ o. IfSome o (λ v. length v ≡ length box)) (sym p) (point_long core box point s.is_point);
+  good = subst (IsAsGood core box bound) (sym m) (greater (reduced_of core) (usable_rows box core.pool.rows) box (Some (integer (ceil b))) bound l (t.near point b s));
+  tried = subst (λ o. HasTried core box o found.mark) (sym p) (s.is_point, tried);
+}
+
 -- and by one from which the cost falls
 found_falling : (core : CoreState) (held : Option ℚ) (box : List Sides) (bound : Option ℚ) (point : List ℚ) (found : Found) → point_of found ≡ Some point → found.mark ≡ None → NodeProgramsTell (reduced_of core) held (rows_lent core) box → ShowsFalling (reduced_of core) (rows_lent core) box point → IsTriedBack core point → IsFound core box bound found
 found_falling core held box bound point found p m t s tried = record {
@@ -100,6 +108,11 @@ module _ (core : CoreState) (tree : Nodes) (holding : Holding) (node now : Taken
   least_found point b found p m s l tried =
       found_least (offered_core core tree holding) (held_of core) (box_of tree now) now.bound point b found p m own_tells
       (subst (λ box. ShowsLeast (reduced_of core) (rows_lent core) box point b) own_box s) l tried
+
+  pub near_found : (point : List ℚ) (b : ℚ) (found : Found) → point_of found ≡ Some point → found.mark ≡ None → ShowsNear (reduced_of core) (rows_lent core) core.tree.work.box point b → NoMore (Some (integer (ceil b))) now.bound → IsTriedBack (offered_core core tree holding) point → IsFound (offered_core core tree holding) (box_of tree now) now.bound found
+  near_found point b found p m s l tried =
+      found_near (offered_core core tree holding) (held_of core) (box_of tree now) now.bound point b found p m own_tells
+      (subst (λ box. ShowsNear (reduced_of core) (rows_lent core) box point b) own_box s) l tried
 
   pub falling_found : (point : List ℚ) (found : Found) → point_of found ≡ Some point → found.mark ≡ None → ShowsFalling (reduced_of core) (rows_lent core) core.tree.work.box point → IsTriedBack (offered_core core tree holding) point → IsFound (offered_core core tree holding) (box_of tree now) now.bound found
   falling_found point found p m s tried =

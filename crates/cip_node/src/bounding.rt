@@ -140,6 +140,15 @@ impl<'a> NodeWork<'a> {
                     mark: None,
                 }))
             }
+            Relaxed::Near { point, bound } => {
+                self.core.raise(node, bound);
+                offer_whole(&mut self.core, alloc, node, point.as_slice())?;
+                Ok(Bounded::Open(Found {
+                    point: Some(point),
+                    combo: None,
+                    mark: None,
+                }))
+            }
             Relaxed::Falls { point } => {
                 offer_whole(&mut self.core, alloc, node, point.as_slice())?;
                 Ok(Bounded::Open(Found {

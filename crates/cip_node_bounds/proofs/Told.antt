@@ -1,9 +1,9 @@
 -- What the linear program of a node says of the improving points in its box.
 use Rattle.std.proofs.Common.{List, [], ◌∷◌, ◌++◌, Option, Some, Contains, sym, subst}
 use Rattle.std.specs.List.{AllByRecursion}
-use Rattle.cip_rational.specs.Rational.{ℚ, ◌+ℚ◌, ◌≤ℚ◌}
+use Rattle.cip_rational.specs.Rational.{ℚ, ◌+ℚ◌, ◌≤ℚ◌, integer, ceil}
 use Rattle.cip_rational.specs.Sums.{dot}
-use Rattle.cip_rational.proofs.Rational.Order.{not_le_of_lt, ≤ℚ_refl}
+use Rattle.cip_rational.proofs.Rational.Order.{not_le_of_lt, ≤ℚ_refl, ≤ℚ_trans}
 use Rattle.cip_rational.proofs.Rational.Monotone.{+ℚ_mono}
 use Rattle.cip_problem.specs.Program.{Sides, Row, Program}
 use Rattle.cip_problem.specs.Box.{IsInBox, box_inside}
@@ -18,7 +18,7 @@ use Rattle.cip_basis.specs.RowPools.{usable_in}
 use Rattle.cip_search.specs.Relaxation.{IsRelaxedBound}
 use Rattle.cip_search.proofs.Members.{here, later, kept_was_there, kept_passes, of_mapped}
 use Rattle.cip_node_bounds.specs.NodeRows.{usable_rows}
-use Rattle.cip_node_bounds.specs.Relaxing.{node_program, ShowsLeast, ShowsBound, ShowsFalling}
+use Rattle.cip_node_bounds.specs.Relaxing.{node_program, ShowsLeast, ShowsBound, ShowsNear, ShowsFalling}
 use Rattle.cip_node_bounds.specs.Telling.{IsValidPool, AllNodeProgramsTell}
 
 all_members : {X : Type 0} (P : X → Type 0) (xs : List X) → ((x : X) → Contains xs x → P x) → AllByRecursion P xs
@@ -61,6 +61,12 @@ module _ (program : Program) (held : Option ℚ) (lent : Lent) (box : List Sides
     reached = λ least c. subst (λ t. program.constant +ℚ least ≤ℚ t) (sym s.is_bound) (with_constant least s.cost (subst (λ t. least ≤ℚ t) s.optimal.cost_is (c point s.optimal.is_point)));
   }
 
+  pub near : (point : List ℚ) (b : ℚ) → ShowsNear program lent box point b → IsRelaxedBound program (usable_rows box lent.pool) box (Some (integer (ceil b)))
+  near point b s = record {
+    feasible = record { point = point; is_point = s.is_point };
+    reached = λ least c. ≤ℚ_trans (with_constant least (dot program.costs point) (c point s.is_point)) s.good.reached;
+  }
+
   pub falling : (point : List ℚ) (other : Option ℚ) → ShowsFalling program lent box point → IsRelaxedBound program (usable_rows box lent.pool) box other
   falling point other s = record {
     feasible = record { point = point; is_point = s.is_point };
@@ -76,5 +82,6 @@ told program held lent box e v = record {
   safe = safe program held lent box v;
   bound = bound program held lent box v;
   relaxed = relaxed program held lent box v;
+  near = near program held lent box v;
   falling = falling program held lent box v;
 }

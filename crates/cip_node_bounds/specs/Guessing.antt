@@ -1,12 +1,19 @@
 -- What a basis that is guessed shows of the linear program of a node.
 use Rattle.std.specs.Prelude.{ℕ, List, IfSome}
 use Rattle.cip_problem.specs.Program.{Sides, Program}
+use Rattle.cip_linear.specs.LinearProgram.{IsPoint}
 use Rattle.cip_cert.specs.Lent.{Lent}
-use Rattle.cip_node_bounds.specs.Relaxing.{ShowsBound, IsRelaxed}
+use Rattle.cip_node_bounds.specs.Relaxing.{node_program, ShowsBound, IsRelaxed}
+use Rattle.cip_node_bounds.specs.declared.guessing.Near.{Near as NearOptimum}
 use Rattle.cip_node_bounds.specs.declared.guessing.Guessed.{Guessed}
-use Rattle.cip_node_bounds.specs.declared.guessing.Guessed.TheVariants.{Shown, Safe}
+use Rattle.cip_node_bounds.specs.declared.guessing.Guessed.TheVariants.{Shown, Near}
 
--- what it comes to; or a bound of it, if there is one
+-- a point of it and a bound of it, if there are such
+pub record IsNear (program : Program) (lent : Lent) (box : List Sides) (near : NearOptimum) : Type 0 where
+  pub point : IfSome near.point (λ values. IsPoint (node_program program lent box) values.items)
+  pub bound : IfSome near.bound (ShowsBound program lent box)
+
+-- what it comes to; or what is near its optimum
 abbrev pub IsGuessed : Program → Lent → List Sides → ℕ → Guessed → Type 0
 IsGuessed program lent box columns (Shown relaxed) = IsRelaxed program lent box columns relaxed
-IsGuessed program lent box columns (Safe bound) = IfSome bound (ShowsBound program lent box)
+IsGuessed program lent box columns (Near near) = IsNear program lent box near

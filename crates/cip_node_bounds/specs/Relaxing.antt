@@ -1,6 +1,7 @@
 -- What the linear program of a node comes to.
 use Rattle.std.specs.Prelude.{◌≡◌, ◌⊎◌, ℕ, true, List, length, IfSome, Err}
-use Rattle.cip_rational.specs.Rational.{ℚ, ◌+ℚ◌}
+use Rattle.cip_rational.specs.Rational.{ℚ, ◌+ℚ◌, ◌≤ℚ◌, integer, ceil}
+use Rattle.cip_rational.specs.Sums.{dot}
 use Rattle.cip_rational.specs.Range.{sum_overflows}
 use Rattle.cip_problem.specs.Program.{Sides, Program}
 use Rattle.cip_linear.specs.LinearProgram.{LinearProgram, IsPoint, HasNoPoint, CostsAtLeast, IsOptimal, IsRay}
@@ -13,12 +14,13 @@ use Rattle.cip_cert.specs.declared.faults.CutFault.{CutFault}
 use Rattle.cip_cert.specs.declared.faults.CutFault.TheVariants.{Wide as TooWide}
 use Rattle.cip_cert.specs.declared.faults.FaultPlace.TheVariants.{Entry}
 use Rattle.cip_search.specs.Relaxation.{relaxation}
+use Rattle.cip_node_rules.specs.Cuts.{HasWholeCosts}
 use Rattle.cip_node_bounds.specs.NodeRows.{usable_rows, usable_ids, IsNamed}
 use Rattle.cip_node_bounds.specs.Solving.{most_moves}
 use Rattle.cip_node_bounds.specs.declared.relaxed.Mark.{Mark}
 use Rattle.cip_node_bounds.specs.declared.relaxed.Mark.TheVariants.{Wide, Limit, Refused}
 use Rattle.cip_node_bounds.specs.declared.relaxed.Relaxed.{Relaxed}
-use Rattle.cip_node_bounds.specs.declared.relaxed.Relaxed.TheVariants.{Bound, Falls, Empty, Unsolved}
+use Rattle.cip_node_bounds.specs.declared.relaxed.Relaxed.TheVariants.{Bound, Near, Falls, Empty, Unsolved}
 
 -- the linear program of a node with this box
 abbrev pub node_program : Program → Lent → List Sides → LinearProgram
@@ -82,6 +84,17 @@ pub record ShowsBound (program : Program) (lent : Lent) (box : List Sides) (boun
   pub least : CostsAtLeast (node_program program lent box) cost
   pub is_bound : bound ≡ program.constant +ℚ cost
 
+-- costs are whole, and a bound, rounded up, is at least what a point costs with the constant
+pub record ReachesCost (program : Program) (point : List ℚ) (bound : ℚ) : Type 0 where
+  pub whole : HasWholeCosts program
+  pub reached : program.constant +ℚ dot program.costs point ≤ℚ integer (ceil bound)
+
+-- a point, and a bound that is as good as what that costs
+pub record ShowsNear (program : Program) (lent : Lent) (box : List Sides) (point : List ℚ) (bound : ℚ) : Type 0 where
+  pub is_point : IsPoint (node_program program lent box) point
+  pub shows : ShowsBound program lent box bound
+  pub good : ReachesCost program point bound
+
 -- a point from which the cost falls without end
 pub record ShowsFalling (program : Program) (lent : Lent) (box : List Sides) (point : List ℚ) : Type 0 where
   pub is_point : IsPoint (node_program program lent box) point
@@ -91,6 +104,7 @@ pub record ShowsFalling (program : Program) (lent : Lent) (box : List Sides) (po
 -- what the linear program of a node came to
 abbrev pub IsRelaxed : Program → Lent → List Sides → ℕ → Relaxed → Type 0
 IsRelaxed program lent box columns (Bound point bound combo) = ShowsLeast program lent box point.items bound
+IsRelaxed program lent box columns (Near point bound) = ShowsNear program lent box point.items bound
 IsRelaxed program lent box columns (Falls point) = ShowsFalling program lent box point.items
 IsRelaxed program lent box columns Empty = HasNoPoint (node_program program lent box)
 IsRelaxed program lent box columns (Unsolved mark point bound) =

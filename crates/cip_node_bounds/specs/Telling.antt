@@ -1,7 +1,7 @@
 -- What the linear program of a node says of the improving points in its box.
 use Rattle.std.specs.Prelude.{◌≡◌, List, length, Option, Some}
 use Rattle.std.specs.List.{Contains}
-use Rattle.cip_rational.specs.Rational.{ℚ}
+use Rattle.cip_rational.specs.Rational.{ℚ, integer, ceil}
 use Rattle.cip_problem.specs.Program.{Sides, Program}
 use Rattle.cip_problem.specs.Box.{IsInBox}
 use Rattle.cip_linear.specs.LinearProgram.{IsPoint, HasNoPoint}
@@ -10,7 +10,7 @@ use Rattle.cip_cert.specs.declared.rows.PoolRow.{PoolRow}
 use Rattle.cip_cert.specs.Lent.{Lent}
 use Rattle.cip_search.specs.Relaxation.{IsRelaxedBound}
 use Rattle.cip_node_bounds.specs.NodeRows.{usable_rows}
-use Rattle.cip_node_bounds.specs.Relaxing.{node_program, ShowsLeast, ShowsBound, ShowsFalling}
+use Rattle.cip_node_bounds.specs.Relaxing.{node_program, ShowsLeast, ShowsBound, ShowsNear, ShowsFalling}
 
 -- each row of a pool is valid in its scope, which has a column for each of the box
 pub record IsValidPool (program : Program) (held : Option ℚ) (box : List Sides) (pool : List PoolRow) : Type 0 where
@@ -30,6 +30,9 @@ pub record NodeProgramsTell (program : Program) (held : Option ℚ) (lent : Lent
   pub bound : (point : List ℚ) (b : ℚ) → ShowsLeast program lent box point b → IsBoundIn program held box b
   pub relaxed : (point : List ℚ) (b : ℚ)
       → ShowsLeast program lent box point b → IsRelaxedBound program (usable_rows box lent.pool) box (Some b)
+  -- what is as good as a point's cost is one of the linear program once it is rounded up
+  pub near : (point : List ℚ) (b : ℚ) → ShowsNear program lent box point b
+      → IsRelaxedBound program (usable_rows box lent.pool) box (Some (integer (ceil b)))
   -- where its cost falls without end, any bound is
   pub falling : (point : List ℚ) (bound : Option ℚ)
       → ShowsFalling program lent box point → IsRelaxedBound program (usable_rows box lent.pool) box bound

@@ -1,14 +1,22 @@
 //! What a basis that is guessed shows of the linear program of a node.
-ghost use Rattle.std.specs.Prelude.{◌≡◌, ◌≤◌, map, length, Option, IfOk, IfSome};
-ghost use Rattle.cip_rational.specs.Rational.{◌+ℚ◌};
+ghost use Rattle.std.specs.Prelude.{◌≡◌, ◌≤◌, ℕ, true, List, map, length, Option, IfOk, IfSome};
+ghost use Rattle.cip_rational.specs.Rational.{◌+ℚ◌, le_test};
 ghost use Rattle.cip_problem.specs.WellFormed.{columns};
-ghost use Rattle.cip_problem.specs.Program.{Row};
+ghost use Rattle.cip_problem.specs.Program.{Sides, Row};
+ghost use Rattle.cip_linear.specs.LinearProgram.{IsPoint};
+ghost use Rattle.cip_cert.specs.Lent.{Lent};
+ghost use Rattle.cip_basis.specs.Shown.{IsReady, program_of};
 ghost use Rattle.cip_node_bounds.specs.NodeRows.{usable_rows};
-ghost use Rattle.cip_node_bounds.specs.Guessing.{IsGuessed};
+ghost use Rattle.cip_node_bounds.specs.Relaxing.{node_program, ReachesCost, ShowsBound};
+ghost use Rattle.cip_node_bounds.specs.Guessing.{IsNear, IsGuessed};
 
+use crate::costs::are_costs_whole;
 use crate::relaxed::Relaxed;
 use crate::rows::UsableRows;
-use cip_basis::{Basis, Frac, Problem, Safe, Shown, Standing, safe_bound, show};
+use cip_basis::{
+    Basis, Frac, Problem, Safe, Shown, Standing, basis_point, point_cost, rounded_point,
+    safe_bound, show,
+};
 use cip_cert::Scratch;
 use cip_lin::Bounds;
 use cip_model::Program;
@@ -21,8 +29,17 @@ use std::alloc::{AllocError, Global};
 pub(crate) enum Guessed {
     /// What it comes to.
     Shown(Relaxed),
+    /// What is near its optimum.
+    Near(Near),
+}
+
+/// What is known of a linear program whose optimum isn't shown.
+#[derive(Drop)]
+pub(crate) struct Near {
+    /// A point of it, if there is one.
+    pub(crate) point: Option<Vec<Frac>>,
     /// A bound of it with the constant, if there is one.
-    Safe(Option<Frac>),
+    pub(crate) bound: Option<Frac>,
 }
 
 /// A number with the constant of a program; none where the sum is out of range.
@@ -35,8 +52,146 @@ fn with_constant(program: &Program, cost: Frac) -> Option<Frac>
     }
 }
 
+/// Whether a number is at most another.
+fn is_at_most(a: Frac, b: Frac) -> bool
+    ensures { result ≡ le_test a b }
+{
+    a <= b
+}
+
+/// Whether costs are whole, and a bound, rounded up, is at least what a point costs with the constant.
+fn reaches_cost(program: &Program, point: &[Frac], bound: Frac) -> bool
+    ensures { result ≡ true → ReachesCost program.now point.now bound }
+{
+    let costs = program.costs();
+    if costs.len() != point.len() {
+        return false;
+    }
+    let Some(sum) = point_cost(costs, point) else {
+        return false;
+    };
+    match with_constant(program, sum) {
+        Some(cost) => are_costs_whole(program) && is_at_most(cost, bound.rounded_up()),
+        None => false,
+    }
+}
+
+/// A point and a bound, where that is as good as the optimum; else they are near it.
+fn weighed(program: &Program, point: Option<Vec<Frac>>, bound: Option<Frac>) -> Guessed
+    ensures { (lent : Lent) → (box : List Sides) → (columns : ℕ)
+        → IfSome point (λ values. IsPoint (node_program program.now lent box) values.items)
+        → IfSome bound (ShowsBound program.now lent box) → IsGuessed program.now lent box columns result }
+{
+    match (point, bound) {
+        (Some(values), Some(least)) => {
+            if reaches_cost(program, values.as_slice(), least) {
+                Guessed::Shown(Relaxed::Near {
+                    point: values,
+                    bound: least,
+                })
+            } else {
+                Guessed::Near(Near {
+                    point: Some(values),
+                    bound: Some(least),
+                })
+            }
+        }
+        (point, bound) => Guessed::Near(Near { point, bound }),
+    }
+}
+
+/// Of two the first, unless it has no point.
+fn first_with_point(near: Near, other: Near) -> Near
+    ensures { (program : Program) → (lent : Lent) → (box : List Sides) → IsNear program lent box near
+        → IsNear program lent box other → IsNear program lent box result }
+{
+    if near.point.is_some() { near } else { other }
+}
+
+/// What is near the optimum, or as good as it by a point that is rounded.
+fn beside_rounded(
+    alloc: Global,
+    basis: &Basis,
+    program: &Program,
+    problem: &Problem<'_>,
+    near: Near,
+) -> Result<Guessed, AllocError>
+    requires { IsReady problem.now }
+    ensures { (lent : Lent) → (box : List Sides) → (columns : ℕ)
+        → program_of problem.entry.now ≡ node_program program.now lent box → IsNear program.now lent box near
+        → IfOk result (IsGuessed program.now lent box columns) }
+{
+    let point = rounded_point(alloc, basis, problem)?;
+    match weighed(program, point, near.bound) {
+        Guessed::Near(other) => Ok(Guessed::Near(first_with_point(near, other))),
+        Guessed::Shown(relaxed) => Ok(Guessed::Shown(relaxed)),
+    }
+}
+
+/// A bound, if there is one, beside a point by the basis.
+fn beside_point(
+    alloc: Global,
+    basis: &mut Basis,
+    program: &Program,
+    problem: &Problem<'_>,
+    bound: Option<Frac>,
+) -> Result<Guessed, AllocError>
+    requires { IsReady problem.now }
+    ensures { (lent : Lent) → (box : List Sides) → (columns : ℕ)
+        → program_of problem.entry.now ≡ node_program program.now lent box
+        → IfSome bound (ShowsBound program.now lent box)
+        → IfOk result (IsGuessed program.now lent box columns) }
+{
+    let point = basis_point(alloc, basis, problem)?;
+    match weighed(program, point, bound) {
+        Guessed::Near(near) => beside_rounded(alloc, basis, program, problem, near),
+        Guessed::Shown(relaxed) => Ok(Guessed::Shown(relaxed)),
+    }
+}
+
+/// What multipliers that are rounded, and a point by the basis, show of the linear program of a node whose optimum
+/// isn't shown.
+fn by_rounding(
+    alloc: Global,
+    basis: &mut Basis,
+    program: &Program,
+    usable: &UsableRows<'_>,
+    bounds: &Bounds,
+    scratch: &mut Scratch,
+) -> Result<Guessed, AllocError>
+    requires columns { length bounds.now ≡ columns program.now }
+    requires pool { length bounds.now ≡ usable.now.pool.now.columns }
+    requires others { map (λ row. row.now) usable.now.rows.items ≡ usable_rows bounds.now usable.now.pool.now.rows }
+    requires room { length bounds.now ≤ length scratch.old.row.entries }
+    ensures guessed { (cutoff : Option Row) → IfOk result (IsGuessed program.now
+        (record { own = program.now.rows; pool = usable.entry.now.pool.now.rows; cutoff = cutoff }) bounds.now
+        (length scratch.old.row.entries)) }
+    ensures room { length scratch.new.row.entries ≡ length scratch.old.row.entries }
+{
+    let _columns = program.columns();
+    let problem = Problem {
+        own: program.rows(),
+        others: usable.rows.as_slice(),
+        ids: usable.ids.as_slice(),
+        pool: usable.pool.rows(),
+        whole: program.whole(),
+        bounds,
+        costs: program.costs(),
+    };
+    match safe_bound(alloc, basis, &problem, scratch)? {
+        Some(safe) => match safe {
+            Safe::Bound { cost } => {
+                let bound = with_constant(program, cost);
+                beside_point(alloc, basis, program, &problem, bound)
+            }
+            Safe::Empty => Ok(Guessed::Shown(Relaxed::Empty)),
+        },
+        None => beside_point(alloc, basis, program, &problem, None),
+    }
+}
+
 /// What a basis that is guessed shows of the linear program of a node: a point of least cost and that cost with the
-/// constant, or that there is no point; else a bound, if there is one, by its multipliers, which are rounded.
+/// constant, or that there is no point; else what multipliers that are rounded, and a point beside them, show.
 pub(crate) fn by_guess(
     alloc: Global,
     basis: &mut Basis,
@@ -71,19 +226,10 @@ pub(crate) fn by_guess(
                 bound,
                 combo,
             })),
-            None => Ok(Guessed::Safe(None)),
+            None => by_rounding(alloc, basis, program, usable, bounds, scratch),
         },
         Some(Shown::Empty) => Ok(Guessed::Shown(Relaxed::Empty)),
-        None => match safe_bound(alloc, basis, &problem, scratch)? {
-            Some(safe) => match safe {
-                Safe::Bound { cost } => match with_constant(program, cost) {
-                    Some(bound) => Ok(Guessed::Safe(Some(bound))),
-                    None => Ok(Guessed::Safe(None)),
-                },
-                Safe::Empty => Ok(Guessed::Shown(Relaxed::Empty)),
-            },
-            None => Ok(Guessed::Safe(None)),
-        },
+        None => by_rounding(alloc, basis, program, usable, bounds, scratch),
     }
 }
 

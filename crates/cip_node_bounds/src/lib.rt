@@ -2,6 +2,7 @@
 #![tactic(auto)]
 
 mod asking;
+mod costs;
 mod guessing;
 mod laws;
 mod names;
@@ -10,6 +11,7 @@ mod rows;
 mod solvers;
 
 pub use cip_simplex::Start;
+pub use costs::are_costs_whole;
 pub use laws::node_programs_tell;
 pub use relaxed::{Mark, Relaxed, relax_from};
 pub use solvers::NodeSolver;

@@ -8,10 +8,11 @@ ghost use Rattle.cip_cert.specs.Lent.{Lent, lent_of, multiples_of, Fits};
 ghost use Rattle.cip_search.specs.Relaxation.{relaxation};
 ghost use Rattle.cip_node_bounds.specs.NodeRows.{usable_rows, usable_ids};
 ghost use Rattle.cip_node_bounds.specs.Solving.{SaysRight};
-ghost use Rattle.cip_node_bounds.specs.Relaxing.{node_program, IsCostFault, IsOptimumFound, IsEmptinessFound, ShowsBound, IsRelaxed};
+ghost use Rattle.cip_node_bounds.specs.Relaxing.{node_program, IsCostFault, IsOptimumFound, IsEmptinessFound, IsRelaxed};
+ghost use Rattle.cip_node_bounds.specs.Guessing.{IsNear};
 
 use crate::asking::asked;
-use crate::guessing::{Guessed, by_guess, start_at};
+use crate::guessing::{Guessed, Near, by_guess, start_at};
 use crate::names::name_combo;
 use crate::rows::UsableRows;
 use crate::solvers::NodeSolver;
@@ -43,6 +44,11 @@ pub enum Relaxed {
         point: Vec<Frac>,
         bound: Frac,
         combo: Combo,
+    },
+    /// A point, and a bound with the constant which, rounded up where costs are whole, is at least what that costs.
+    Near {
+        point: Vec<Frac>,
+        bound: Frac,
     },
     /// A point from which the cost falls without end.
     Falls {
@@ -214,25 +220,29 @@ fn judged(
     }
 }
 
-/// Puts a bound beside a mark; what has none stays as it is.
-fn with_bound(relaxed: Relaxed, bound: Option<Frac>) -> Relaxed
+/// Puts what is near the optimum beside a mark: its bound, and its point where none was found; what has no mark stays as
+/// it is.
+fn with_near(relaxed: Relaxed, near: Near) -> Relaxed
     ensures { (program : Program) → (lent : Lent) → (box : List Sides) → (columns : ℕ)
-        → IsRelaxed program lent box columns relaxed → IfSome bound (ShowsBound program lent box)
+        → IsRelaxed program lent box columns relaxed → IsNear program lent box near
         → IsRelaxed program lent box columns result }
 {
     match relaxed {
-        Relaxed::Bound {
-            point,
-            bound,
-            combo,
-        } => Relaxed::Bound {
-            point,
-            bound,
-            combo,
+        Relaxed::Unsolved {
+            mark,
+            point: None,
+            ..
+        } => Relaxed::Unsolved {
+            mark,
+            point: near.point,
+            bound: near.bound,
         },
-        Relaxed::Falls { point } => Relaxed::Falls { point },
-        Relaxed::Empty => Relaxed::Empty,
-        Relaxed::Unsolved { mark, point, .. } => Relaxed::Unsolved { mark, point, bound },
+        Relaxed::Unsolved { mark, point, .. } => Relaxed::Unsolved {
+            mark,
+            point,
+            bound: near.bound,
+        },
+        other => other,
     }
 }
 
@@ -243,7 +253,9 @@ fn with_bound(relaxed: Relaxed, bound: Option<Frac>) -> Relaxed
 /// that has none, at most 10,000 by Bland's rule. What that shows is checked. `Bound` comes with a point of
 /// least cost and that cost with the constant, where the check accepts its combination; `Empty` where there is no
 /// point, and the check accepts that; `Falls` where the cost falls without end from a point; and `Unsolved` with its
-/// mark in all other cases, with what the basis that was guessed bounds the cost by, if it does. Rows behind those that
+/// mark in all other cases, with what the basis that was guessed bounds the cost by, and a point by it, if there are
+/// such. `Near` comes before these where costs are whole: a point by the basis, and a bound that is at least its cost
+/// once it is rounded up, so that it is as good as the optimum. Rows behind those that
 /// a start knows are basic, and of one that knows more the others are passed over. Beside what it came to stands where
 /// the variables are then, to be the start of the nodes below. `Err` comes where memory was refused.
 pub fn relax_from(
@@ -268,13 +280,13 @@ pub fn relax_from(
     let columns = program.columns();
     let usable = UsableRows::gather(alloc, pool, bounds)?;
     let basis = &mut solver.basis;
-    let bound = match by_guess(alloc, basis, program, &usable, bounds, scratch)? {
+    let near = match by_guess(alloc, basis, program, &usable, bounds, scratch)? {
         Guessed::Shown(relaxed) => {
             let variables = columns + program.rows().len() + usable.rows.len();
             let last = start_at(alloc, &solver.basis, variables)?;
             return Ok((relaxed, last));
         }
-        Guessed::Safe(bound) => bound,
+        Guessed::Near(near) => near,
     };
     let others = usable.rows.as_slice();
     let list = &mut solver.solver;
@@ -287,5 +299,5 @@ pub fn relax_from(
     };
     let ids = usable.ids.as_slice();
     let relaxed = judged(&lent, program, ids, bounds, found, scratch);
-    Ok((with_bound(relaxed, bound), last))
+    Ok((with_near(relaxed, near), last))
 }

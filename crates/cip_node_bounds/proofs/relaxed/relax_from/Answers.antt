@@ -1,9 +1,10 @@
-use Rattle.std.proofs.Common.{ℕ, List, IfSome, length, subst}
+use Rattle.std.proofs.Common.{ℕ, List, length, subst}
 use Rattle.cip_problem.specs.Program.{Row}
 use Rattle.cip_cert.specs.Lent.{Lent}
 use Rattle.cip_cert.specs.declared.rows.PoolRow.{PoolRow}
 use Rattle.cip_basis.specs.RowPools.{Pool}
-use Rattle.cip_node_bounds.specs.Relaxing.{ShowsBound, IsRelaxed}
+use Rattle.cip_node_bounds.specs.Relaxing.{IsRelaxed}
+use Rattle.cip_node_bounds.specs.Guessing.{IsNear}
 use Rattle.cip_node_bounds.proofs.relaxed.relax_from.Goals as goal
 
 pub returns-in-Shown-clause-relaxed : goal.returns-in-Shown-clause-relaxed
@@ -22,6 +23,6 @@ returns-clause-relaxed c =
     let all = subst (λ (rows : List PoolRow). IsRelaxed program (record { own = program.rows; pool = rows; cutoff = cutoff }) box (length c.by_guess.new.scratch.row.entries) found) c.rows-3.ensures.rows own in
     let lent : Lent = record { own = program.rows; pool = c.args.pool.now.rows; cutoff = cutoff } in
     let relaxed = subst (λ (n : ℕ). IsRelaxed program lent box n found) c.in_ok-relaxed.ensures.room all in
-    let safe = rw c.in-Safe.is at (c.in_ok-relaxed.ensures.guessed cutoff) in
-    let bound = subst (λ (pool : Pool). IfSome c.in-Safe.bound (ShowsBound program (record { own = program.rows; pool = pool.rows; cutoff = cutoff }) box)) c.in_ok-usable.ensures.pool safe in
-    c.with_bound.ensures program lent box (length c.args.scratch.now.row.entries) relaxed bound
+    let guessed = rw c.in-Near.is at (c.in_ok-relaxed.ensures.guessed cutoff) in
+    let near = subst (λ (pool : Pool). IsNear program (record { own = program.rows; pool = pool.rows; cutoff = cutoff }) box c.in-Near.near) c.in_ok-usable.ensures.pool guessed in
+    c.with_near.ensures program lent box (length c.args.scratch.now.row.entries) relaxed near

@@ -11,7 +11,7 @@ use Rattle.cip_core.proofs.Relations.{later_at_itself, later_at_further}
 use Rattle.cip_node.specs.Bounding.{IsRelaxedOf, IsFound}
 use Rattle.cip_node.specs.SameRows.{rows_of}
 use Rattle.cip_core.specs.Steps.{IsTriedBack}
-use Rattle.cip_node.proofs.NodeBound.{tells, point_long, long_if, as_long, safe_if, offered_core, least_found, falling_found, unsolved_found}
+use Rattle.cip_node.proofs.NodeBound.{tells, point_long, long_if, as_long, safe_if, offered_core, least_found, near_found, falling_found, unsolved_found}
 use Rattle.cip_node.proofs.works.NodeWork.bound.Goals as goal
 
 pub returns-in_err-relaxed-clause-later : goal.returns-in_err-relaxed-clause-later
@@ -20,6 +20,9 @@ returns-in_err-relaxed-clause-later c =
 
 pub raise-requires-clause-at_work : goal.raise-requires-clause-at_work
 raise-requires-clause-at_work c = subst (λ (k : CoreState). IsAtWork k c.args.node.now) (sym c.in_ok-relaxed.ensures.core) c.requires
+
+pub raise-requires-in-Near-clause-at_work : goal.raise-requires-in-Near-clause-at_work
+raise-requires-in-Near-clause-at_work c = subst (λ (k : CoreState). IsAtWork k c.args.node.now) (sym c.in_ok-relaxed.ensures.core) c.requires
 
 pub raise-requires-clause-holds : goal.raise-requires-clause-holds
 raise-requires-clause-holds c =
@@ -33,6 +36,19 @@ raise-requires-clause-holds c =
     let t = tells core at sound kept formed in
     let r = subst (IsRelaxedOf core) c.in-Bound.is c.in_ok-relaxed.ensures.relaxed in
     subst (λ b. IsBoundIn (reduced_of core) (held_of core) b c.in-Bound.bound) (ap (λ (g : Region). g.box) at.region) (t.bound c.in-Bound.point.items c.in-Bound.bound r)
+
+pub raise-requires-in-Near-clause-holds : goal.raise-requires-in-Near-clause-holds
+raise-requires-in-Near-clause-holds c =
+    let core = c.relaxed.new.self.core in
+    let node = c.args.node.now in
+    let at = subst (λ (k : CoreState). IsAtWork k node) (sym c.in_ok-relaxed.ensures.core) c.requires in
+    let sound = subst IsSound (sym c.in_ok-relaxed.ensures.core) c.is_sound.ensures.sound in
+    let kept = subst (λ (k : CoreState). IsSoundPool k.pool) (sym c.in_ok-relaxed.ensures.core) c.is_sound.ensures.pool in
+    let formed = subst (λ (k : CoreState). IsWellFormed (reduced_of k)) (sym c.in_ok-relaxed.ensures.core) c.is_sound.ensures.reduced in
+    let long = work_long core node formed at in
+    let t = tells core at sound kept formed in
+    let r = subst (IsRelaxedOf core) c.in-Near.is c.in_ok-relaxed.ensures.relaxed in
+    subst (λ b. IsBoundIn (reduced_of core) (held_of core) b c.in-Near.bound) (ap (λ (g : Region). g.box) at.region) (t.safe c.in-Near.bound r.shows)
 
 pub returns-in-Empty-clause-later : goal.returns-in-Empty-clause-later
 returns-in-Empty-clause-later c =
@@ -57,14 +73,29 @@ returns-in_ok-offer_whole-in-Bound-clause-later c =
     let node = c.args.node.now in
     subst (λ (k : CoreState). IsLaterAt k node c.offer_whole.new.core c.raise.new.node) c.in_ok-relaxed.ensures.core (later_at_further core core c.offer_whole.new.core node c.raise.new.node c.raise.new.node c.raise.ensures.later c.in_ok-offer_whole-in-Bound.ensures.later)
 
+pub returns-in_ok-offer_whole-in-Near-clause-later : goal.returns-in_ok-offer_whole-in-Near-clause-later
+returns-in_ok-offer_whole-in-Near-clause-later c =
+    let core = c.relaxed.new.self.core in
+    let node = c.args.node.now in
+    subst (λ (k : CoreState). IsLaterAt k node c.offer_whole-in-Near.new.core c.raise-in-Near.new.node) c.in_ok-relaxed.ensures.core (later_at_further core core c.offer_whole-in-Near.new.core node c.raise-in-Near.new.node c.raise-in-Near.new.node c.raise-in-Near.ensures.later c.in_ok-offer_whole-in-Near.ensures.later)
+
 pub returns-in_ok-offer_whole-in-Bound-clause-region : goal.returns-in_ok-offer_whole-in-Bound-clause-region
 returns-in_ok-offer_whole-in-Bound-clause-region c =
     let core = c.relaxed.new.self.core in
     let node = c.args.node.now in
     c.in_ok-offer_whole-in-Bound.ensures.region ∙ ap (region_of core.tree) c.raise.ensures.node ∙ ap (λ (k : CoreState). region_of k.tree node) c.in_ok-relaxed.ensures.core
 
+pub returns-in_ok-offer_whole-in-Near-clause-region : goal.returns-in_ok-offer_whole-in-Near-clause-region
+returns-in_ok-offer_whole-in-Near-clause-region c =
+    let core = c.relaxed.new.self.core in
+    let node = c.args.node.now in
+    c.in_ok-offer_whole-in-Near.ensures.region ∙ ap (region_of core.tree) c.raise-in-Near.ensures.node ∙ ap (λ (k : CoreState). region_of k.tree node) c.in_ok-relaxed.ensures.core
+
 pub returns-in_ok-offer_whole-in-Bound-clause-rows : goal.returns-in_ok-offer_whole-in-Bound-clause-rows
 returns-in_ok-offer_whole-in-Bound-clause-rows c = ap rows_of c.in_ok-offer_whole-in-Bound.ensures.frame ∙ ap rows_of c.in_ok-relaxed.ensures.core
+
+pub returns-in_ok-offer_whole-in-Near-clause-rows : goal.returns-in_ok-offer_whole-in-Near-clause-rows
+returns-in_ok-offer_whole-in-Near-clause-rows c = ap rows_of c.in_ok-offer_whole-in-Near.ensures.frame ∙ ap rows_of c.in_ok-relaxed.ensures.core
 
 pub returns-in_ok-offer_whole-in-Bound-clause-bounded : goal.returns-in_ok-offer_whole-in-Bound-clause-bounded
 returns-in_ok-offer_whole-in-Bound-clause-bounded c =
@@ -79,6 +110,20 @@ returns-in_ok-offer_whole-in-Bound-clause-bounded c =
     let tried = subst (IsTriedBack (offered_core core new.tree new.incumbent)) c.as_slice.ensures.value (subst (λ (k : CoreState). IsTriedBack k c.as_slice.result.now) c.in_ok-offer_whole-in-Bound.ensures.frame c.in_ok-offer_whole-in-Bound.ensures.tried) in
     subst (λ (k : CoreState). IsFound k (box_of k.tree c.raise.new.node) c.raise.new.node.bound (record { point = Some c.in-Bound.point; combo = Some c.in-Bound.combo; mark = None })) (sym c.in_ok-offer_whole-in-Bound.ensures.frame)
     (least_found core new.tree new.incumbent node c.raise.new.node at sound kept formed (c.in_ok-offer_whole-in-Bound.ensures.region ∙ ap (region_of core.tree) c.raise.ensures.node) c.in-Bound.point.items c.in-Bound.bound (record { point = Some c.in-Bound.point; combo = Some c.in-Bound.combo; mark = None }) refl refl r c.raise.ensures.raised.plain tried)
+
+pub returns-in_ok-offer_whole-in-Near-clause-bounded : goal.returns-in_ok-offer_whole-in-Near-clause-bounded
+returns-in_ok-offer_whole-in-Near-clause-bounded c =
+    let core = c.relaxed.new.self.core in
+    let node = c.args.node.now in
+    let at = subst (λ (k : CoreState). IsAtWork k node) (sym c.in_ok-relaxed.ensures.core) c.requires in
+    let sound = subst IsSound (sym c.in_ok-relaxed.ensures.core) c.is_sound.ensures.sound in
+    let kept = subst (λ (k : CoreState). IsSoundPool k.pool) (sym c.in_ok-relaxed.ensures.core) c.is_sound.ensures.pool in
+    let formed = subst (λ (k : CoreState). IsWellFormed (reduced_of k)) (sym c.in_ok-relaxed.ensures.core) c.is_sound.ensures.reduced in
+    let new = c.offer_whole-in-Near.new.core in
+    let r = subst (IsRelaxedOf core) c.in-Near.is c.in_ok-relaxed.ensures.relaxed in
+    let tried = subst (IsTriedBack (offered_core core new.tree new.incumbent)) c.as_slice-in-Near.ensures.value (subst (λ (k : CoreState). IsTriedBack k c.as_slice-in-Near.result.now) c.in_ok-offer_whole-in-Near.ensures.frame c.in_ok-offer_whole-in-Near.ensures.tried) in
+    subst (λ (k : CoreState). IsFound k (box_of k.tree c.raise-in-Near.new.node) c.raise-in-Near.new.node.bound (record { point = Some c.in-Near.point; combo = None; mark = None })) (sym c.in_ok-offer_whole-in-Near.ensures.frame)
+    (near_found core new.tree new.incumbent node c.raise-in-Near.new.node at sound kept formed (c.in_ok-offer_whole-in-Near.ensures.region ∙ ap (region_of core.tree) c.raise-in-Near.ensures.node) c.in-Near.point.items c.in-Near.bound (record { point = Some c.in-Near.point; combo = None; mark = None }) refl refl r (c.raise-in-Near.ensures.raised.whole r.good.whole) tried)
 
 pub returns-in_ok-offer_whole-in-Falls-clause-later : goal.returns-in_ok-offer_whole-in-Falls-clause-later
 returns-in_ok-offer_whole-in-Falls-clause-later c =
@@ -163,6 +208,15 @@ offer_whole-requires-clause-values c =
     let r = subst (IsRelaxedOf core) c.in-Bound.is c.in_ok-relaxed.ensures.relaxed in
     ap length c.as_slice.ensures.value ∙ point_long core core.tree.work.box c.in-Bound.point.items r.optimal.is_point ∙ work_long core node formed at
 
+pub offer_whole-requires-in-Near-clause-values : goal.offer_whole-requires-in-Near-clause-values
+offer_whole-requires-in-Near-clause-values c =
+    let core = c.relaxed.new.self.core in
+    let node = c.args.node.now in
+    let at = subst (λ (k : CoreState). IsAtWork k node) (sym c.in_ok-relaxed.ensures.core) c.requires in
+    let formed = subst (λ (k : CoreState). IsWellFormed (reduced_of k)) (sym c.in_ok-relaxed.ensures.core) c.is_sound.ensures.reduced in
+    let r = subst (IsRelaxedOf core) c.in-Near.is c.in_ok-relaxed.ensures.relaxed in
+    ap length c.as_slice-in-Near.ensures.value ∙ point_long core core.tree.work.box c.in-Near.point.items r.is_point ∙ work_long core node formed at
+
 pub offer_whole-requires-in-Falls-clause-values : goal.offer_whole-requires-in-Falls-clause-values
 offer_whole-requires-in-Falls-clause-values c =
     let core = c.relaxed.new.self.core in
@@ -187,14 +241,29 @@ returns-in_err-offer_whole-in-Bound-clause-later c =
     let node = c.args.node.now in
     subst (λ (k : CoreState). IsLaterAt k node c.offer_whole.new.core c.raise.new.node) c.in_ok-relaxed.ensures.core (later_at_further core core c.offer_whole.new.core node c.raise.new.node c.raise.new.node c.raise.ensures.later c.offer_whole.ensures.later)
 
+pub returns-in_err-offer_whole-in-Near-clause-later : goal.returns-in_err-offer_whole-in-Near-clause-later
+returns-in_err-offer_whole-in-Near-clause-later c =
+    let core = c.relaxed.new.self.core in
+    let node = c.args.node.now in
+    subst (λ (k : CoreState). IsLaterAt k node c.offer_whole-in-Near.new.core c.raise-in-Near.new.node) c.in_ok-relaxed.ensures.core (later_at_further core core c.offer_whole-in-Near.new.core node c.raise-in-Near.new.node c.raise-in-Near.new.node c.raise-in-Near.ensures.later c.offer_whole-in-Near.ensures.later)
+
 pub returns-in_err-offer_whole-in-Bound-clause-region : goal.returns-in_err-offer_whole-in-Bound-clause-region
 returns-in_err-offer_whole-in-Bound-clause-region c =
     let core = c.relaxed.new.self.core in
     let node = c.args.node.now in
     c.offer_whole.ensures.region ∙ ap (region_of core.tree) c.raise.ensures.node ∙ ap (λ (k : CoreState). region_of k.tree node) c.in_ok-relaxed.ensures.core
 
+pub returns-in_err-offer_whole-in-Near-clause-region : goal.returns-in_err-offer_whole-in-Near-clause-region
+returns-in_err-offer_whole-in-Near-clause-region c =
+    let core = c.relaxed.new.self.core in
+    let node = c.args.node.now in
+    c.offer_whole-in-Near.ensures.region ∙ ap (region_of core.tree) c.raise-in-Near.ensures.node ∙ ap (λ (k : CoreState). region_of k.tree node) c.in_ok-relaxed.ensures.core
+
 pub returns-in_err-offer_whole-in-Bound-clause-rows : goal.returns-in_err-offer_whole-in-Bound-clause-rows
 returns-in_err-offer_whole-in-Bound-clause-rows c = ap rows_of c.offer_whole.ensures.frame ∙ ap rows_of c.in_ok-relaxed.ensures.core
+
+pub returns-in_err-offer_whole-in-Near-clause-rows : goal.returns-in_err-offer_whole-in-Near-clause-rows
+returns-in_err-offer_whole-in-Near-clause-rows c = ap rows_of c.offer_whole-in-Near.ensures.frame ∙ ap rows_of c.in_ok-relaxed.ensures.core
 
 pub returns-in_err-offer_whole-in-Falls-clause-later : goal.returns-in_err-offer_whole-in-Falls-clause-later
 returns-in_err-offer_whole-in-Falls-clause-later c =
