@@ -6,7 +6,7 @@ use cip_plugin::View;
 // After so many rounds without much gain no more cuts are looked for.
 const MOST_STALE: u32 = 4;
 
-// The greatest denominator of a point behind which cuts are looked for.
+// The greatest denominator of a point behind which cuts are looked for, where costs aren't whole.
 const MOST_UNDER: i128 = 1 << 64;
 
 // The same of a program more than half of whose coefficients are there.
@@ -45,10 +45,22 @@ fn is_fractional(whole: &[bool], point: &[Frac]) -> bool {
         .any(|(is_whole, value)| *is_whole && !value.is_whole())
 }
 
-/// Whether a value of a point has a denominator above this. Each row more makes these longer, and where they leave the range
-/// no linear program shows its point.
+/// Whether a value of a point has a denominator above this. Each row more makes these longer, and where they leave the
+/// range no linear program shows its optimum.
 fn is_long(point: &[Frac], most: i128) -> bool {
     point.iter().any(|value| value.denominator() > most)
+}
+
+/// Whether costs are whole and stand on whole columns.
+fn has_whole_costs(view: &View<'_>) -> bool {
+    view.costs.iter().zip(view.whole).all(|(cost, is_whole)| cost.is_zero()
+        || (*is_whole && cost.is_whole()))
+}
+
+/// Whether a row more may be what keeps the optimum from being shown, where nothing else is as good: so it is where it is
+/// shown now, by long denominators, and costs aren't whole.
+fn may_lose(view: &View<'_>, point: &[Frac]) -> bool {
+    view.combo.is_some() && is_long(point, MOST_UNDER) && !has_whole_costs(view)
 }
 
 /// How many coefficients the rows of the program have.
@@ -70,12 +82,12 @@ fn pool_terms(view: &View<'_>) -> usize {
 }
 
 /// Whether later linear programs have room for more cuts. Where more than half of a program's coefficients are there
-/// cuts are as long as its rows: they come to half of its coefficients at most.
+/// cuts are as long as its rows: they come to half of its coefficients at most, and no value has a long denominator.
 fn has_room(view: &View<'_>, point: &[Frac]) -> bool {
     let own = own_terms(view);
     let places = view.own.len().saturating_mul(view.costs.len());
     if own.saturating_mul(2) <= places {
-        return !is_long(point, MOST_UNDER);
+        return !may_lose(view, point);
     }
     pool_terms(view).saturating_mul(2) <= own && !is_long(point, DENSE_UNDER)
 }
@@ -102,8 +114,8 @@ impl Gains {
         }
     }
 
-    /// Whether one more round may pay: at the root, with a point that is to be cut off and has no long denominators, as
-    /// long as there is room for cuts, and unless the last rounds gained little.
+    /// Whether one more round may pay: at the root, with a point that is to be cut off, as long as there is room for
+    /// cuts, and unless the last rounds gained little.
     pub fn may_pay(&mut self, view: &View<'_>) -> bool {
         let Some(point) = view.point else {
             return false;

@@ -53,16 +53,6 @@ fn standing_of(row: &Row, point: &[Frac]) -> Standing {
     }
 }
 
-/// The side at which a row is taken where there is no point: the high one, if it is there.
-fn any_standing_of(row: &Row) -> Standing {
-    match (row.low(), row.high()) {
-        (None, None) => Standing::Between,
-        (Some(_), None) => Standing::Low,
-        (low, high) if low == high => Standing::Both,
-        _ => Standing::High,
-    }
-}
-
 /// The least number that makes a row's coefficients whole.
 fn common_of(terms: &[Term]) -> Option<i64> {
     let mut common = 1;
@@ -114,15 +104,6 @@ impl Standings {
         }
         for kept in view.pool {
             self.list.push(standing_of(&kept.row, point))?;
-        }
-        Ok(())
-    }
-
-    /// Takes each row of the program at a side that it has, and no row of the pool. `Err` where memory was refused.
-    pub fn take_any(&mut self, view: &View<'_>) -> Result<(), AllocError> {
-        self.list.clear();
-        for row in view.own {
-            self.list.push(any_standing_of(row))?;
         }
         Ok(())
     }

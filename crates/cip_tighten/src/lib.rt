@@ -8,7 +8,6 @@ mod mixing;
 mod paths;
 mod rounding;
 mod split_cuts;
-mod stand_ins;
 
 pub use covering::CoverSeparator;
 pub use mixed::MixedSeparator;

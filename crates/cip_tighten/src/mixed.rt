@@ -4,7 +4,6 @@ ghost use Rattle.std.specs.Prelude.{None, codes};
 use crate::mixing::{best_division, list_divisors};
 use crate::paths::go_on;
 use crate::split_cuts::mixed_cut;
-use crate::stand_ins::stand_ins;
 use cip_frac::Frac;
 use cip_narrowing::ColumnRows;
 use cip_plugin::{Cut, Plugin, Separator, View};
@@ -15,9 +14,6 @@ use std::alloc::{AllocError, Global};
 
 // The most cuts of a round.
 const MOST_CUTS: usize = 4;
-
-// The most cuts where there is no point.
-const MOST_BLIND: usize = 64;
 
 // The most rows of a sum.
 const MOST_ROWS: usize = 6;
@@ -37,7 +33,6 @@ pub struct MixedSeparator {
     divisors: Vec<i64>,
     terms: Terms,
     candidates: Candidates,
-    is_blind: bool,
     next: usize,
     work: usize,
 }
@@ -54,7 +49,6 @@ impl MixedSeparator {
             divisors: Vec::new(alloc),
             terms: Vec::new(alloc),
             candidates: Candidates::new(alloc),
-            is_blind: false,
             next: 0,
             work: 0,
         }
@@ -157,18 +151,6 @@ impl MixedSeparator {
         self.search_all(alloc, view, point)?;
         self.candidates.choose(alloc, MOST_CUTS)
     }
-
-    /// The cuts of the root where its linear program has no point, once: what rows leave of a point that stands in.
-    fn blind_cuts(&mut self, alloc: Global, view: &View<'_>) -> Result<Vec<Cut>, AllocError> {
-        if view.node != 0 || self.is_blind {
-            return Ok(Vec::new(alloc));
-        }
-        self.is_blind = true;
-        self.standings.take_any(view)?;
-        let values = stand_ins(alloc, view)?;
-        self.search_all(alloc, view, values.as_slice())?;
-        self.candidates.choose(alloc, MOST_BLIND)
-    }
 }
 
 impl Plugin for MixedSeparator {
@@ -191,7 +173,6 @@ impl Plugin for MixedSeparator {
     fn init_solve(&mut self, _alloc: Global, view: &View<'_>) -> Result<(), AllocError> {
         self.gains = Gains::new();
         self.next = 0;
-        self.is_blind = false;
         self.columns.take(view.own, view.whole, true)
     }
 
@@ -206,7 +187,7 @@ impl Separator for MixedSeparator {
     fn separate(&mut self, alloc: Global, view: &View<'_>) -> Result<Vec<Cut>, AllocError> {
         match view.point {
             Some(point) => self.cuts(alloc, view, point),
-            None => self.blind_cuts(alloc, view),
+            None => Ok(Vec::new(alloc)),
         }
     }
 }
