@@ -1,5 +1,5 @@
 #!/usr/bin/env python3
-"""Roots of random programs: roots.py PROGRAM [FOLDER]
+"""Roots of random programs: roots.py PROGRAM [FOLDER] [NODES]
 
 PROGRAM is the built `cip` (crates/cip/out/built/cip). It takes one node of covering and packing programs, and a line is
 printed for each: rows and columns, the seconds of the processor, the bound that `cip` prints, the optimum of the linear
@@ -7,7 +7,9 @@ program by a dual simplex method in doubles, and by what share of it the bound d
 
 A coefficient is there with a chance of 1 in 10, from 1 to 9; columns are whole from 0 to 10 and cost 1 to 20; a row
 wants (covering), or may take (packing), one to three times the sum of its coefficients. One more column isn't whole and
-stands in no row: so costs aren't whole, and bounds aren't rounded up."""
+stands in no row: so costs aren't whole, and bounds aren't rounded up.
+
+With NODES the programs have no such column, so that bounds are rounded up, and a second search takes so many nodes."""
 import os
 import random
 import resource
@@ -41,10 +43,10 @@ def program(covers, rows, columns):
     return Program(covers, costs, made)
 
 
-def text(it):
+def text(it, is_whole):
     lines = ["NAME ROOT", "ROWS", " N COST"]
     lines += [f" {'G' if it.covers else 'L'} R{r}" for r in range(len(it.rows))]
-    lines += ["COLUMNS", " y COST 1", " M1 'MARKER' 'INTORG'"]
+    lines += ["COLUMNS", *([] if is_whole else [" y COST 1"]), " M1 'MARKER' 'INTORG'"]
     entries = [[] for _ in it.costs]
     for r, (terms, _) in enumerate(it.rows):
         for k, factor in terms:
@@ -53,7 +55,7 @@ def text(it):
         lines += [f" x{k} COST {cost}", *entries[k]]
     lines += [" M2 'MARKER' 'INTEND'", "RHS"]
     lines += [f" RHS R{r} {side}" for r, (_, side) in enumerate(it.rows)]
-    lines += ["BOUNDS", " UP BND y 1", *(f" UP BND x{k} {HIGH}" for k in range(len(it.costs))), "ENDATA"]
+    lines += ["BOUNDS", *([] if is_whole else [" UP BND y 1"]), *(f" UP BND x{k} {HIGH}" for k in range(len(it.costs))), "ENDATA"]
     return "\n".join(lines) + "\n"
 
 
@@ -111,9 +113,9 @@ def exchange(table, rates, row, enter):
             other[enter] = factor / pivot
 
 
-def root(solver, file):
+def search(solver, file, nodes):
     before = resource.getrusage(resource.RUSAGE_CHILDREN).ru_utime
-    said = subprocess.run([solver, "solve", file, "--nodes", "1", "--plain"], capture_output=True, text=True).stdout
+    said = subprocess.run([solver, "solve", file, "--nodes", str(nodes), "--plain"], capture_output=True, text=True).stdout
     bound = dict(line.split(" ", 1) for line in said.splitlines() if " " in line).get("bound", "none")
     return resource.getrusage(resource.RUSAGE_CHILDREN).ru_utime - before, bound
 
@@ -123,17 +125,18 @@ def number(bound):
     return int(top) / int(bottom or 1)
 
 
-def look(solver, folder, covers, rows, columns):
+def look(solver, folder, nodes, covers, rows, columns):
     kind = "covering" if covers else "packing"
     it = program(covers, rows, columns)
     name = f"{folder}/{kind}-{rows}x{columns}.mps"
     with open(name, "w", encoding="utf-8") as file:
-        file.write(text(it))
-    seconds, bound = root(solver, name)
+        file.write(text(it, nodes is not None))
+    seconds, bound = search(solver, name, 1)
     wanted = least(it)
     away = abs(number(bound) - wanted) / max(1, abs(wanted)) if bound != "none" else float("inf")
     line = f"{kind} {rows} x {columns}: {seconds:.3f} s, bound {bound[:40]}"
-    print(f"{line}, linear program {wanted:.4f}, away {away:.1e}", flush=True)
+    more = "" if nodes is None else f", {nodes} nodes {search(solver, name, nodes)[0]:.3f} s"
+    print(f"{line}, linear program {wanted:.4f}, away {away:.1e}{more}", flush=True)
 
 
 def main(words):
@@ -143,9 +146,10 @@ def main(words):
     with tempfile.TemporaryDirectory() as room:
         folder = words[1] if len(words) > 1 else room
         os.makedirs(folder, exist_ok=True)
+        nodes = int(words[2]) if len(words) > 2 else None
         for covers in (True, False):
             for rows, columns in SIZES:
-                look(os.path.abspath(words[0]), folder, covers, rows, columns)
+                look(os.path.abspath(words[0]), folder, nodes, covers, rows, columns)
     return 0
 
 
