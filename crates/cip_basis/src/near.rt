@@ -52,8 +52,8 @@ pub fn basis_point(
 }
 
 /// A point of a linear program near that of the basis that was guessed last for it, where that is said to be optimal:
-/// its values rounded to multiples of 2^-20, and changed where a row didn't hold. Nothing is said of its cost. None where
-/// there is no such point. `Err` where memory was refused.
+/// its values rounded to multiples of 2^-20, and changed where a row didn't hold. Nothing is said of its cost. None
+/// where there is no such point. `Err` where memory was refused.
 pub fn rounded_point(
     alloc: Global,
     basis: &Basis,

@@ -21,7 +21,8 @@ fn read_text<S: Store>(
     buffer: &mut [u8],
 ) -> Result<Blocks, Unread<BlockKind>>
     requires room { length buffer.old ≡ PIECE }
-    ensures answer { (program : problem.Program) → HasTaken HasCome program_of reader.entry program [] → MatchResult result
+    ensures answer { (program : problem.Program) → HasTaken HasCome program_of reader.entry program []
+        → MatchResult result
         (ReadsBlocks program (S.tells store.old).left (S.tells store.old) (S.tells store.new))
         (BlocksCause program (S.tells store.old).left (S.tells store.old) (S.tells store.new)) }
     ensures holds { (S.tells store.new).holds ≡ (S.tells store.old).holds }

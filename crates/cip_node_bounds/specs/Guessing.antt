@@ -9,11 +9,11 @@ use Rattle.cip_node_bounds.specs.declared.guessing.Guessed.{Guessed}
 use Rattle.cip_node_bounds.specs.declared.guessing.Guessed.TheVariants.{Shown, Near}
 
 -- a point of it and a bound of it, if there are such
-pub record IsNear (program : Program) (lent : Lent) (box : List Sides) (near : NearOptimum) : Type 0 where
+pub record StandsBeside (program : Program) (lent : Lent) (box : List Sides) (near : NearOptimum) : Type 0 where
   pub point : IfSome near.point (λ values. IsPoint (node_program program lent box) values.items)
   pub bound : IfSome near.bound (ShowsBound program lent box)
 
 -- what it comes to; or what is near its optimum
 abbrev pub IsGuessed : Program → Lent → List Sides → ℕ → Guessed → Type 0
 IsGuessed program lent box columns (Shown relaxed) = IsRelaxed program lent box columns relaxed
-IsGuessed program lent box columns (Near near) = IsNear program lent box near
+IsGuessed program lent box columns (Near near) = StandsBeside program lent box near

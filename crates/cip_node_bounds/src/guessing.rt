@@ -8,7 +8,7 @@ ghost use Rattle.cip_cert.specs.Lent.{Lent};
 ghost use Rattle.cip_basis.specs.Shown.{IsReady, program_of};
 ghost use Rattle.cip_node_bounds.specs.NodeRows.{usable_rows};
 ghost use Rattle.cip_node_bounds.specs.Relaxing.{node_program, ReachesCost, ShowsBound};
-ghost use Rattle.cip_node_bounds.specs.Guessing.{IsNear, IsGuessed};
+ghost use Rattle.cip_node_bounds.specs.Guessing.{StandsBeside, IsGuessed};
 
 use crate::costs::are_costs_whole;
 use crate::relaxed::Relaxed;
@@ -102,8 +102,8 @@ fn weighed(program: &Program, point: Option<Vec<Frac>>, bound: Option<Frac>) -> 
 
 /// Of two the first, unless it has no point.
 fn first_with_point(near: Near, other: Near) -> Near
-    ensures { (program : Program) → (lent : Lent) → (box : List Sides) → IsNear program lent box near
-        → IsNear program lent box other → IsNear program lent box result }
+    ensures { (program : Program) → (lent : Lent) → (box : List Sides) → StandsBeside program lent box near
+        → StandsBeside program lent box other → StandsBeside program lent box result }
 {
     if near.point.is_some() { near } else { other }
 }
@@ -118,7 +118,7 @@ fn beside_rounded(
 ) -> Result<Guessed, AllocError>
     requires { IsReady problem.now }
     ensures { (lent : Lent) → (box : List Sides) → (columns : ℕ)
-        → program_of problem.entry.now ≡ node_program program.now lent box → IsNear program.now lent box near
+        → program_of problem.entry.now ≡ node_program program.now lent box → StandsBeside program.now lent box near
         → IfOk result (IsGuessed program.now lent box columns) }
 {
     let point = rounded_point(alloc, basis, problem)?;

@@ -8,8 +8,9 @@ ghost use Rattle.cip_cert.specs.Lent.{Lent, lent_of, multiples_of, Fits};
 ghost use Rattle.cip_search.specs.Relaxation.{relaxation};
 ghost use Rattle.cip_node_bounds.specs.NodeRows.{usable_rows, usable_ids};
 ghost use Rattle.cip_node_bounds.specs.Solving.{SaysRight};
-ghost use Rattle.cip_node_bounds.specs.Relaxing.{node_program, IsCostFault, IsOptimumFound, IsEmptinessFound, IsRelaxed};
-ghost use Rattle.cip_node_bounds.specs.Guessing.{IsNear};
+ghost use Rattle.cip_node_bounds.specs.Relaxing.{node_program, IsCostFault, IsRelaxed};
+ghost use Rattle.cip_node_bounds.specs.Relaxing.{IsOptimumFound, IsEmptinessFound};
+ghost use Rattle.cip_node_bounds.specs.Guessing.{StandsBeside};
 
 use crate::asking::asked;
 use crate::guessing::{Guessed, Near, by_guess, start_at};
@@ -220,11 +221,11 @@ fn judged(
     }
 }
 
-/// Puts what is near the optimum beside a mark: its bound, and its point where none was found; what has no mark stays as
-/// it is.
+/// Puts what is near the optimum beside a mark: its bound, and its point where none was found; what has no mark stays
+/// as it is.
 fn with_near(relaxed: Relaxed, near: Near) -> Relaxed
     ensures { (program : Program) → (lent : Lent) → (box : List Sides) → (columns : ℕ)
-        → IsRelaxed program lent box columns relaxed → IsNear program lent box near
+        → IsRelaxed program lent box columns relaxed → StandsBeside program lent box near
         → IsRelaxed program lent box columns result }
 {
     match relaxed {

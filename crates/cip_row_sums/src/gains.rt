@@ -57,8 +57,8 @@ fn has_whole_costs(view: &View<'_>) -> bool {
         || (*is_whole && cost.is_whole()))
 }
 
-/// Whether a row more may be what keeps the optimum from being shown, where nothing else is as good: so it is where it is
-/// shown now, by long denominators, and costs aren't whole.
+/// Whether a row more may be what keeps the optimum from being shown: it is shown now, a value of its point has a long
+/// denominator, and costs aren't whole, so that no bound rounded up is as good.
 fn may_lose(view: &View<'_>, point: &[Frac]) -> bool {
     view.combo.is_some() && is_long(point, MOST_UNDER) && !has_whole_costs(view)
 }

@@ -152,9 +152,9 @@ impl Shifted {
         }
     }
 
-    /// Takes a row that is at most its right side, with the ways of a point. `GaveUp` where a side that is wanted isn't there, a side of a whole
-    /// column isn't whole, or a number leaves the range; `NoMemory` where memory was refused. It has nothing of use
-    /// then.
+    /// Takes a row that is at most its right side, with the ways of a point. `GaveUp` where a side that is wanted isn't
+    /// there, a side of a whole column isn't whole, or a number leaves the range; `NoMemory` where memory was refused.
+    /// It has nothing of use then.
     pub fn take(
         &mut self,
         view: &View<'_>,

@@ -4,7 +4,7 @@ use Rattle.cip_cert.specs.Lent.{Lent}
 use Rattle.cip_cert.specs.declared.rows.PoolRow.{PoolRow}
 use Rattle.cip_basis.specs.RowPools.{Pool}
 use Rattle.cip_node_bounds.specs.Relaxing.{IsRelaxed}
-use Rattle.cip_node_bounds.specs.Guessing.{IsNear}
+use Rattle.cip_node_bounds.specs.Guessing.{StandsBeside}
 use Rattle.cip_node_bounds.proofs.relaxed.relax_from.Goals as goal
 
 pub returns-in-Shown-clause-relaxed : goal.returns-in-Shown-clause-relaxed
@@ -24,5 +24,5 @@ returns-clause-relaxed c =
     let lent : Lent = record { own = program.rows; pool = c.args.pool.now.rows; cutoff = cutoff } in
     let relaxed = subst (λ (n : ℕ). IsRelaxed program lent box n found) c.in_ok-relaxed.ensures.room all in
     let guessed = rw c.in-Near.is at (c.in_ok-relaxed.ensures.guessed cutoff) in
-    let near = subst (λ (pool : Pool). IsNear program (record { own = program.rows; pool = pool.rows; cutoff = cutoff }) box c.in-Near.near) c.in_ok-usable.ensures.pool guessed in
+    let near = subst (λ (pool : Pool). StandsBeside program (record { own = program.rows; pool = pool.rows; cutoff = cutoff }) box c.in-Near.near) c.in_ok-usable.ensures.pool guessed in
     c.with_near.ensures program lent box (length c.args.scratch.now.row.entries) relaxed near
