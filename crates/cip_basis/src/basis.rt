@@ -26,6 +26,8 @@ pub struct Basis {
     is_made: bool,
     // whether the last systems had solutions in the range, so that a guess with less rounding may do better
     is_in_range: bool,
+    // whether the table of the last guess was made anew, with less rounding
+    is_anew: bool,
 }
 
 impl Basis {
@@ -41,12 +43,18 @@ impl Basis {
             outcome: None,
             is_made: false,
             is_in_range: false,
+            is_anew: false,
         }
     }
 
     /// Where a variable stands: columns by number, then rows.
     pub fn standing(&self, variable: u32) -> Standing {
         self.guess.standing(variable)
+    }
+
+    /// Whether the last guess was one with less rounding.
+    pub fn is_anew(&self) -> bool {
+        self.is_anew
     }
 
     /// Whether what was solved for the last guess was in the range, so that rounding may be why nothing is shown.
@@ -124,6 +132,7 @@ impl Basis {
         self.outcome = None;
         self.is_made = false;
         self.is_in_range = false;
+        self.is_anew = anew;
         let Some(outcome) = self.guess.guess(alloc, given, anew)? else {
             if self.guess.has_table() {
                 self.outcome = Some(Outcome::Optimal);

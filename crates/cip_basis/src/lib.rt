@@ -24,4 +24,4 @@ pub use cip_rows::RowPool;
 pub use near::{basis_point, point_cost, rounded_point};
 pub use problem::Problem;
 pub use safe::{Safe, safe_bound};
-pub use shown::{Shown, show};
+pub use shown::{Shown, show, show_anew};

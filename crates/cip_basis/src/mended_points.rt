@@ -1,5 +1,6 @@
 //! Values near the point of a basis that is guessed, changed until they keep the rows.
 use crate::placement::short;
+use crate::values::sum_at;
 use cip_frac::Frac;
 use cip_guess::{Given, Guess, Standing, rounded_outward};
 use cip_lin::{Row, Sides, Term};
@@ -42,18 +43,6 @@ fn values_by(alloc: Global, guess: &Guess, given: &Given) -> Result<Option<Vec<F
         values.push(value)?;
     }
     Ok(Some(values))
-}
-
-/// The sum of a row at values; none where it is out of range.
-fn sum_of(row: &Row, values: &[Frac]) -> Option<Frac> {
-    let mut sum = Frac::zero();
-    for term in row.terms() {
-        let value = *values.get(term.col as usize)?;
-        if !sum.add_product(&term.coef, &value) {
-            return None;
-        }
-    }
-    Some(sum)
 }
 
 /// By how much a sum has to rise to keep a row, below 0 where it has to fall; none where that is out of range.
@@ -117,7 +106,7 @@ fn close_by(given: &Given, row: &Row, term: Term, gap: Frac, values: &mut [Frac]
 
 /// Changes values of columns of a row until it is kept; whether it was kept before. None where that fails.
 fn mend_row(given: &Given, row: &Row, values: &mut [Frac]) -> Option<bool> {
-    let mut gap = gap_of(row, sum_of(row, values)?)?;
+    let mut gap = gap_of(row, sum_at(row, values)?)?;
     let was_kept = gap.is_zero();
     let rises = gap.is_positive();
     for _ in 0..MOST_CHANGES {

@@ -151,5 +151,20 @@ pub fn show(
     if first.is_some() || !basis.may_be_rounding() {
         return Ok(first);
     }
+    show_anew(alloc, basis, problem, scratch)
+}
+
+/// The same by a basis that is guessed anew, with less rounding.
+pub fn show_anew(
+    alloc: Global,
+    basis: &mut Basis,
+    problem: &Problem<'_>,
+    scratch: &mut Scratch,
+) -> Result<Option<Shown>, AllocError>
+    requires ready { IsReady problem.now }
+    requires room { length problem.now.bounds.now ≤ length scratch.old.row.entries }
+    ensures shown { IfOk result (λ found. IfSome found (IsShown (program_of problem.entry.now))) }
+    ensures room { length scratch.new.row.entries ≡ length scratch.old.row.entries }
+{
     shown_once(alloc, basis, problem, true, scratch)
 }

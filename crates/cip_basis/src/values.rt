@@ -32,8 +32,8 @@ pub(crate) fn put_loose(
     Ok(true)
 }
 
-/// The sum of a row at values; none where it is out of range.
-fn sum_at(row: &Row, point: &[Frac]) -> Option<Frac> {
+/// The sum of a row at values, where one that isn't there counts as 0; none where the sum is out of range.
+pub(crate) fn sum_at(row: &Row, point: &[Frac]) -> Option<Frac> {
     let mut sum = Frac::zero();
     for term in row.terms() {
         if let Some(value) = point.get(term.col as usize) {

@@ -4,16 +4,16 @@ use Rattle.cip_problem.specs.Program.{Sides, Program}
 use Rattle.cip_linear.specs.LinearProgram.{IsPoint}
 use Rattle.cip_cert.specs.Lent.{Lent}
 use Rattle.cip_node_bounds.specs.Relaxing.{node_program, ShowsBound, IsRelaxed}
-use Rattle.cip_node_bounds.specs.declared.guessing.Near.{Near as NearOptimum}
+use Rattle.cip_node_bounds.specs.declared.guessing.Beside.{Beside}
 use Rattle.cip_node_bounds.specs.declared.guessing.Guessed.{Guessed}
-use Rattle.cip_node_bounds.specs.declared.guessing.Guessed.TheVariants.{Shown, Near}
+use Rattle.cip_node_bounds.specs.declared.guessing.Guessed.TheVariants.{Shown, Beside as IsBeside}
 
 -- a point of it and a bound of it, if there are such
-pub record StandsBeside (program : Program) (lent : Lent) (box : List Sides) (near : NearOptimum) : Type 0 where
-  pub point : IfSome near.point (λ values. IsPoint (node_program program lent box) values.items)
-  pub bound : IfSome near.bound (ShowsBound program lent box)
+pub record StandsBeside (program : Program) (lent : Lent) (box : List Sides) (beside : Beside) : Type 0 where
+  pub point : IfSome beside.point (λ values. IsPoint (node_program program lent box) values.items)
+  pub bound : IfSome beside.bound (ShowsBound program lent box)
 
 -- what it comes to; or what is near its optimum
 abbrev pub IsGuessed : Program → Lent → List Sides → ℕ → Guessed → Type 0
 IsGuessed program lent box columns (Shown relaxed) = IsRelaxed program lent box columns relaxed
-IsGuessed program lent box columns (Near near) = StandsBeside program lent box near
+IsGuessed program lent box columns (IsBeside beside) = StandsBeside program lent box beside

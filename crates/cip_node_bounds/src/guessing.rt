@@ -5,7 +5,7 @@ ghost use Rattle.cip_problem.specs.WellFormed.{columns};
 ghost use Rattle.cip_problem.specs.Program.{Sides, Row};
 ghost use Rattle.cip_linear.specs.LinearProgram.{IsPoint};
 ghost use Rattle.cip_cert.specs.Lent.{Lent};
-ghost use Rattle.cip_basis.specs.Shown.{IsReady, program_of};
+ghost use Rattle.cip_basis.specs.Shown.{IsReady, IsShown, program_of};
 ghost use Rattle.cip_node_bounds.specs.NodeRows.{usable_rows};
 ghost use Rattle.cip_node_bounds.specs.Relaxing.{node_program, ReachesCost, ShowsBound};
 ghost use Rattle.cip_node_bounds.specs.Guessing.{StandsBeside, IsGuessed};
@@ -15,7 +15,7 @@ use crate::relaxed::Relaxed;
 use crate::rows::UsableRows;
 use cip_basis::{
     Basis, Frac, Problem, Safe, Shown, Standing, basis_point, point_cost, rounded_point,
-    safe_bound, show,
+    safe_bound, show, show_anew,
 };
 use cip_cert::Scratch;
 use cip_lin::Bounds;
@@ -30,12 +30,12 @@ pub(crate) enum Guessed {
     /// What it comes to.
     Shown(Relaxed),
     /// What is near its optimum.
-    Near(Near),
+    Beside(Beside),
 }
 
 /// What is known of a linear program whose optimum isn't shown.
 #[derive(Drop)]
-pub(crate) struct Near {
+pub(crate) struct Beside {
     /// A point of it, if there is one.
     pub(crate) point: Option<Vec<Frac>>,
     /// A bound of it with the constant, if there is one.
@@ -90,22 +90,26 @@ fn weighed(program: &Program, point: Option<Vec<Frac>>, bound: Option<Frac>) -> 
                     bound: least,
                 })
             } else {
-                Guessed::Near(Near {
+                Guessed::Beside(Beside {
                     point: Some(values),
                     bound: Some(least),
                 })
             }
         }
-        (point, bound) => Guessed::Near(Near { point, bound }),
+        (point, bound) => Guessed::Beside(Beside { point, bound }),
     }
 }
 
 /// Of two the first, unless it has no point.
-fn first_with_point(near: Near, other: Near) -> Near
-    ensures { (program : Program) → (lent : Lent) → (box : List Sides) → StandsBeside program lent box near
+fn first_with_point(beside: Beside, other: Beside) -> Beside
+    ensures { (program : Program) → (lent : Lent) → (box : List Sides) → StandsBeside program lent box beside
         → StandsBeside program lent box other → StandsBeside program lent box result }
 {
-    if near.point.is_some() { near } else { other }
+    if beside.point.is_some() {
+        beside
+    } else {
+        other
+    }
 }
 
 /// What is near the optimum, or as good as it by a point that is rounded.
@@ -114,16 +118,16 @@ fn beside_rounded(
     basis: &Basis,
     program: &Program,
     problem: &Problem<'_>,
-    near: Near,
+    beside: Beside,
 ) -> Result<Guessed, AllocError>
     requires { IsReady problem.now }
     ensures { (lent : Lent) → (box : List Sides) → (columns : ℕ)
-        → program_of problem.entry.now ≡ node_program program.now lent box → StandsBeside program.now lent box near
+        → program_of problem.entry.now ≡ node_program program.now lent box → StandsBeside program.now lent box beside
         → IfOk result (IsGuessed program.now lent box columns) }
 {
     let point = rounded_point(alloc, basis, problem)?;
-    match weighed(program, point, near.bound) {
-        Guessed::Near(other) => Ok(Guessed::Near(first_with_point(near, other))),
+    match weighed(program, point, beside.bound) {
+        Guessed::Beside(other) => Ok(Guessed::Beside(first_with_point(beside, other))),
         Guessed::Shown(relaxed) => Ok(Guessed::Shown(relaxed)),
     }
 }
@@ -144,7 +148,7 @@ fn beside_point(
 {
     let point = basis_point(alloc, basis, problem)?;
     match weighed(program, point, bound) {
-        Guessed::Near(near) => beside_rounded(alloc, basis, program, problem, near),
+        Guessed::Beside(beside) => beside_rounded(alloc, basis, program, problem, beside),
         Guessed::Shown(relaxed) => Ok(Guessed::Shown(relaxed)),
     }
 }
@@ -155,43 +159,110 @@ fn by_rounding(
     alloc: Global,
     basis: &mut Basis,
     program: &Program,
-    usable: &UsableRows<'_>,
-    bounds: &Bounds,
+    problem: &Problem<'_>,
     scratch: &mut Scratch,
 ) -> Result<Guessed, AllocError>
-    requires columns { length bounds.now ≡ columns program.now }
-    requires pool { length bounds.now ≡ usable.now.pool.now.columns }
-    requires others { map (λ row. row.now) usable.now.rows.items ≡ usable_rows bounds.now usable.now.pool.now.rows }
-    requires room { length bounds.now ≤ length scratch.old.row.entries }
-    ensures guessed { (cutoff : Option Row) → IfOk result (IsGuessed program.now
-        (record { own = program.now.rows; pool = usable.entry.now.pool.now.rows; cutoff = cutoff }) bounds.now
-        (length scratch.old.row.entries)) }
+    requires ready { IsReady problem.now }
+    requires room { length problem.now.bounds.now ≤ length scratch.old.row.entries }
+    ensures guessed { (lent : Lent) → (box : List Sides) → (columns : ℕ)
+        → program_of problem.entry.now ≡ node_program program.now lent box
+        → IfOk result (IsGuessed program.now lent box columns) }
     ensures room { length scratch.new.row.entries ≡ length scratch.old.row.entries }
 {
-    let _columns = program.columns();
-    let problem = Problem {
-        own: program.rows(),
-        others: usable.rows.as_slice(),
-        ids: usable.ids.as_slice(),
-        pool: usable.pool.rows(),
-        whole: program.whole(),
-        bounds,
-        costs: program.costs(),
-    };
-    match safe_bound(alloc, basis, &problem, scratch)? {
+    match safe_bound(alloc, basis, problem, scratch)? {
         Some(safe) => match safe {
             Safe::Bound { cost } => {
                 let bound = with_constant(program, cost);
-                beside_point(alloc, basis, program, &problem, bound)
+                beside_point(alloc, basis, program, problem, bound)
             }
             Safe::Empty => Ok(Guessed::Shown(Relaxed::Empty)),
         },
-        None => beside_point(alloc, basis, program, &problem, None),
+        None => beside_point(alloc, basis, program, problem, None),
+    }
+}
+
+/// What is shown of the linear program of a node: a point of least cost and that cost with the constant, or that there
+/// is no point; else what multipliers that are rounded, and a point beside them, show.
+fn weighed_or_rounded(
+    alloc: Global,
+    basis: &mut Basis,
+    program: &Program,
+    problem: &Problem<'_>,
+    shown: Option<Shown>,
+    scratch: &mut Scratch,
+) -> Result<Guessed, AllocError>
+    requires ready { IsReady problem.now }
+    requires room { length problem.now.bounds.now ≤ length scratch.old.row.entries }
+    requires shown { IfSome shown (IsShown (program_of problem.now)) }
+    ensures guessed { (lent : Lent) → (box : List Sides) → (columns : ℕ)
+        → program_of problem.entry.now ≡ node_program program.now lent box
+        → IfOk result (IsGuessed program.now lent box columns) }
+    ensures room { length scratch.new.row.entries ≡ length scratch.old.row.entries }
+{
+    match shown {
+        Some(Shown::Optimal { point, cost, combo }) => match with_constant(program, cost) {
+            Some(bound) => Ok(Guessed::Shown(Relaxed::Bound {
+                point,
+                bound,
+                combo,
+            })),
+            None => by_rounding(alloc, basis, program, problem, scratch),
+        },
+        Some(Shown::Empty) => Ok(Guessed::Shown(Relaxed::Empty)),
+        None => by_rounding(alloc, basis, program, problem, scratch),
+    }
+}
+
+/// Whether another guess with less rounding may bring a point and a bound together: there are both, costs are whole,
+/// and the last guess wasn't such a one.
+fn may_come_together(program: &Program, basis: &Basis, beside: &Beside) -> bool {
+    beside.point.is_some() && beside.bound.is_some() && !basis.is_anew() && are_costs_whole(program)
+}
+
+/// Of two bounds the greater one, as far as they are there.
+fn greater_bound(bound: Option<Frac>, other: Option<Frac>) -> Option<Frac>
+    ensures { (program : Program) → (lent : Lent) → (box : List Sides) → IfSome bound (ShowsBound program lent box)
+        → IfSome other (ShowsBound program lent box) → IfSome result (ShowsBound program lent box) }
+{
+    match (bound, other) {
+        (Some(own), Some(more)) => Some(if is_at_most(more, own) { own } else { more }),
+        (None, more) => more,
+        (own, None) => own,
+    }
+}
+
+/// What is near the optimum, or what one more guess shows, where that may do better.
+fn guessed_anew(
+    alloc: Global,
+    basis: &mut Basis,
+    program: &Program,
+    problem: &Problem<'_>,
+    beside: Beside,
+    scratch: &mut Scratch,
+) -> Result<Guessed, AllocError>
+    requires ready { IsReady problem.now }
+    requires room { length problem.now.bounds.now ≤ length scratch.old.row.entries }
+    ensures guessed { (lent : Lent) → (box : List Sides) → (columns : ℕ)
+        → program_of problem.entry.now ≡ node_program program.now lent box → StandsBeside program.now lent box beside
+        → IfOk result (IsGuessed program.now lent box columns) }
+    ensures room { length scratch.new.row.entries ≡ length scratch.old.row.entries }
+{
+    if !may_come_together(program, basis, &beside) {
+        return Ok(Guessed::Beside(beside));
+    }
+    let shown = show_anew(alloc, basis, problem, scratch)?;
+    match weighed_or_rounded(alloc, basis, program, problem, shown, scratch)? {
+        Guessed::Beside(other) => Ok(Guessed::Beside(Beside {
+            point: beside.point,
+            bound: greater_bound(beside.bound, other.bound),
+        })),
+        Guessed::Shown(relaxed) => Ok(Guessed::Shown(relaxed)),
     }
 }
 
 /// What a basis that is guessed shows of the linear program of a node: a point of least cost and that cost with the
-/// constant, or that there is no point; else what multipliers that are rounded, and a point beside them, show.
+/// constant, or that there is no point; else what multipliers that are rounded, and a point beside them, show. Where
+/// these are near each other, but not near enough, it is guessed once more with less rounding.
 pub(crate) fn by_guess(
     alloc: Global,
     basis: &mut Basis,
@@ -219,17 +290,12 @@ pub(crate) fn by_guess(
         bounds,
         costs: program.costs(),
     };
-    match show(alloc, basis, &problem, scratch)? {
-        Some(Shown::Optimal { point, cost, combo }) => match with_constant(program, cost) {
-            Some(bound) => Ok(Guessed::Shown(Relaxed::Bound {
-                point,
-                bound,
-                combo,
-            })),
-            None => by_rounding(alloc, basis, program, usable, bounds, scratch),
-        },
-        Some(Shown::Empty) => Ok(Guessed::Shown(Relaxed::Empty)),
-        None => by_rounding(alloc, basis, program, usable, bounds, scratch),
+    let shown = show(alloc, basis, &problem, scratch)?;
+    match weighed_or_rounded(alloc, basis, program, &problem, shown, scratch)? {
+        Guessed::Beside(beside) => {
+            guessed_anew(alloc, basis, program, &problem, beside, scratch)
+        }
+        Guessed::Shown(relaxed) => Ok(Guessed::Shown(relaxed)),
     }
 }
 

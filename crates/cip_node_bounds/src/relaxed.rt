@@ -13,7 +13,7 @@ ghost use Rattle.cip_node_bounds.specs.Relaxing.{IsOptimumFound, IsEmptinessFoun
 ghost use Rattle.cip_node_bounds.specs.Guessing.{StandsBeside};
 
 use crate::asking::asked;
-use crate::guessing::{Guessed, Near, by_guess, start_at};
+use crate::guessing::{Beside, Guessed, by_guess, start_at};
 use crate::names::name_combo;
 use crate::rows::UsableRows;
 use crate::solvers::NodeSolver;
@@ -223,9 +223,9 @@ fn judged(
 
 /// Puts what is near the optimum beside a mark: its bound, and its point where none was found; what has no mark stays
 /// as it is.
-fn with_near(relaxed: Relaxed, near: Near) -> Relaxed
+fn with_beside(relaxed: Relaxed, beside: Beside) -> Relaxed
     ensures { (program : Program) → (lent : Lent) → (box : List Sides) → (columns : ℕ)
-        → IsRelaxed program lent box columns relaxed → StandsBeside program lent box near
+        → IsRelaxed program lent box columns relaxed → StandsBeside program lent box beside
         → IsRelaxed program lent box columns result }
 {
     match relaxed {
@@ -235,13 +235,13 @@ fn with_near(relaxed: Relaxed, near: Near) -> Relaxed
             ..
         } => Relaxed::Unsolved {
             mark,
-            point: near.point,
-            bound: near.bound,
+            point: beside.point,
+            bound: beside.bound,
         },
         Relaxed::Unsolved { mark, point, .. } => Relaxed::Unsolved {
             mark,
             point,
-            bound: near.bound,
+            bound: beside.bound,
         },
         other => other,
     }
@@ -281,13 +281,13 @@ pub fn relax_from(
     let columns = program.columns();
     let usable = UsableRows::gather(alloc, pool, bounds)?;
     let basis = &mut solver.basis;
-    let near = match by_guess(alloc, basis, program, &usable, bounds, scratch)? {
+    let beside = match by_guess(alloc, basis, program, &usable, bounds, scratch)? {
         Guessed::Shown(relaxed) => {
             let variables = columns + program.rows().len() + usable.rows.len();
             let last = start_at(alloc, &solver.basis, variables)?;
             return Ok((relaxed, last));
         }
-        Guessed::Near(near) => near,
+        Guessed::Beside(beside) => beside,
     };
     let others = usable.rows.as_slice();
     let list = &mut solver.solver;
@@ -300,5 +300,5 @@ pub fn relax_from(
     };
     let ids = usable.ids.as_slice();
     let relaxed = judged(&lent, program, ids, bounds, found, scratch);
-    Ok((with_near(relaxed, near), last))
+    Ok((with_beside(relaxed, beside), last))
 }

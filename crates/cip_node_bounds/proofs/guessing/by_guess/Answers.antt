@@ -1,18 +1,26 @@
-use Rattle.std.proofs.Common.{ℕ, IfOk, subst}
+use Rattle.std.proofs.Common.{List, map, length, ap, ◌∙◌}
+use Rattle.std.specs.Borrow.{Bor}
+use Rattle.cip_problem.specs.Program.{Row}
 use Rattle.cip_cert.specs.Lent.{Lent}
-use Rattle.cip_node_bounds.specs.Guessing.{IsGuessed}
+use Rattle.cip_node_bounds.proofs.Rounding.{same_program}
 use Rattle.cip_node_bounds.proofs.guessing.by_guess.Goals as goal
 
-pub returns-in-None-with_constant-clause-guessed : goal.returns-in-None-with_constant-clause-guessed
-returns-in-None-with_constant-clause-guessed c =
+pub returns-in-Beside-clause-guessed : goal.returns-in-Beside-clause-guessed
+returns-in-Beside-clause-guessed c = λ cutoff.
     let program = c.args.program.now in
-    λ cutoff.
+    let box = c.args.bounds.now in
     let lent : Lent = record { own = program.rows; pool = c.args.usable.now.pool.now.rows; cutoff = cutoff } in
-    subst (λ (n : ℕ). IfOk c.by_rounding.result (IsGuessed program lent c.args.bounds.now n)) c.in_ok-point.ensures.room (c.by_rounding.ensures.guessed cutoff)
+    let others = ap (λ rows. map (λ (row : Bor Row). row.now) rows) c.as_slice.ensures.value ∙ c.requires.others in
+    let same = same_program program lent box c.rows.result.now c.as_slice.result.now c.costs.result.now c.rows.ensures.rows others c.costs.ensures.costs in
+    let columns = length c.args.scratch.now.row.entries in
+    let beside = rw c.in-Beside.is at (c.in_ok-beside.ensures.guessed lent box columns same) in
+    c.guessed_anew.ensures.guessed lent box columns same beside
 
-pub returns-in-None-clause-guessed : goal.returns-in-None-clause-guessed
-returns-in-None-clause-guessed c =
+pub returns-in-Shown-clause-guessed : goal.returns-in-Shown-clause-guessed
+returns-in-Shown-clause-guessed c = λ cutoff.
     let program = c.args.program.now in
-    λ cutoff.
+    let box = c.args.bounds.now in
     let lent : Lent = record { own = program.rows; pool = c.args.usable.now.pool.now.rows; cutoff = cutoff } in
-    subst (λ (n : ℕ). IfOk c.by_rounding-in-None.result (IsGuessed program lent c.args.bounds.now n)) c.in_ok-point.ensures.room (c.by_rounding-in-None.ensures.guessed cutoff)
+    let others = ap (λ rows. map (λ (row : Bor Row). row.now) rows) c.as_slice.ensures.value ∙ c.requires.others in
+    let same = same_program program lent box c.rows.result.now c.as_slice.result.now c.costs.result.now c.rows.ensures.rows others c.costs.ensures.costs in
+    rw c.in-Shown.is at (c.in_ok-beside.ensures.guessed lent box (length c.args.scratch.now.row.entries) same)
