@@ -23,6 +23,6 @@ returns-clause-relaxed c =
     let all = subst (λ (rows : List PoolRow). IsRelaxed program (record { own = program.rows; pool = rows; cutoff = cutoff }) box (length c.by_guess.new.scratch.row.entries) found) c.rows-3.ensures.rows own in
     let lent : Lent = record { own = program.rows; pool = c.args.pool.now.rows; cutoff = cutoff } in
     let relaxed = subst (λ (n : ℕ). IsRelaxed program lent box n found) c.in_ok-relaxed.ensures.room all in
-    let guessed = rw c.in-Near.is at (c.in_ok-relaxed.ensures.guessed cutoff) in
-    let near = subst (λ (pool : Pool). StandsBeside program (record { own = program.rows; pool = pool.rows; cutoff = cutoff }) box c.in-Near.near) c.in_ok-usable.ensures.pool guessed in
-    c.with_near.ensures program lent box (length c.args.scratch.now.row.entries) relaxed near
+    let guessed = rw c.in-Beside.is at (c.in_ok-relaxed.ensures.guessed cutoff) in
+    let beside = subst (λ (pool : Pool). StandsBeside program (record { own = program.rows; pool = pool.rows; cutoff = cutoff }) box c.in-Beside.beside) c.in_ok-usable.ensures.pool guessed in
+    c.with_beside.ensures program lent box (length c.args.scratch.now.row.entries) relaxed beside
