@@ -17,7 +17,7 @@ pub use combos::{empty_combo, push_row, push_way};
 pub use gains::{Gains, cost_of};
 pub use numbers::{UNIT, kept, product, raised, ratio, rough};
 pub use roundings::{lower, rounded_cut};
-pub use shifts::{Aim, Shift, Shifted, place_of};
+pub use shifts::{Aim, Shift, Shifted, list_nearest, place_of};
 pub use stops::{Stop, found, unless_refused};
 pub use sums::{Multiple, Standing, Sum, Terms, TightRow, Used, write_sum};
 pub use tight::{Standings, activity, row_of, short, tight_at, tight_row};

@@ -2,10 +2,11 @@
 use crate::numbers::{UNIT, rough, with_product};
 use crate::stops::{Stop, found};
 use crate::sums::Terms;
+use crate::tight::short;
 use cip_frac::Frac;
 use cip_lin::Sides;
 use cip_plugin::View;
-use std::alloc::Global;
+use std::alloc::{AllocError, Global};
 
 /// From which of its sides a column's way is told.
 #[derive(Clone, Copy, PartialEq, Eq, Debug)]
@@ -131,6 +132,27 @@ fn shift_of(view: &View<'_>, point: &[Frac], term: (u32, i64), aim: Aim) -> Opti
     })
 }
 
+/// Lists for each column its way from the nearer side, with the coefficient 1; none where such a way isn't told. `Err`
+/// where memory was refused.
+pub fn list_nearest(
+    view: &View<'_>,
+    point: &[Frac],
+    ways: &mut Vec<Option<Shift>>,
+) -> Result<(), AllocError> {
+    ways.clear();
+    for col in 0..short(point.len()) {
+        ways.push(shift_of(view, point, (col, 1), Aim::Nearest))?;
+    }
+    Ok(())
+}
+
+/// The way of a column that was listed, with this coefficient.
+fn with_coefficient(ways: &[Option<Shift>], term: (u32, i64)) -> Option<Shift> {
+    let mut item = (*ways.get(term.0 as usize)?)?;
+    item.coef = item.column_coefficient(term.1);
+    Some(item)
+}
+
 /// A row in the ways of its columns, which is at most its right side.
 #[derive(Drop)]
 pub struct Shifted {
@@ -163,21 +185,56 @@ impl Shifted {
         right: Frac,
         aim: Aim,
     ) -> Result<(), Stop> {
+        self.begin(right);
+        for term in terms {
+            let item = found(shift_of(view, point, *term, aim))?;
+            self.add(item, term.1)?;
+        }
+        Ok(())
+    }
+
+    /// Takes a row that is at most its right side, with ways that were listed by `list_nearest`. Errors come as of
+    /// `take`.
+    pub fn take_listed(
+        &mut self,
+        ways: &[Option<Shift>],
+        terms: &Terms,
+        right: Frac,
+    ) -> Result<(), Stop> {
+        self.begin(right);
+        for term in terms {
+            let item = found(with_coefficient(ways, *term))?;
+            self.add(item, term.1)?;
+        }
+        Ok(())
+    }
+
+    /// Begins with no column.
+    fn begin(&mut self, right: Frac) {
         self.items.clear();
         self.right = right;
         self.is_fractional = false;
-        for term in terms {
-            let item = found(shift_of(view, point, *term, aim))?;
-            if let Some(side) = item.side {
-                let times = Frac::from(term.1.wrapping_neg());
-                self.right = found(with_product(self.right, times, side))?;
-            }
-            if item.is_whole && item.way.checked_rem(UNIT) != Some(0) {
-                self.is_fractional = true;
-            }
-            self.items.push(item)?;
+    }
+
+    /// Adds the way of a column with this coefficient.
+    fn add(&mut self, item: Shift, coef: i64) -> Result<(), Stop> {
+        if let Some(side) = item.side {
+            let times = Frac::from(coef.wrapping_neg());
+            self.right = found(with_product(self.right, times, side))?;
         }
+        if item.is_whole && item.way.checked_rem(UNIT) != Some(0) {
+            self.is_fractional = true;
+        }
+        self.items.push(item)?;
         Ok(())
+    }
+
+    /// The row with the other sign, in the same ways.
+    pub fn turn(&mut self) {
+        for item in self.items.iter_mut() {
+            item.coef = item.coef.wrapping_neg();
+        }
+        self.right = self.right.neg();
     }
 
     /// Tells the way of a column whose sides differ by 1, by its place, from the other side. `GaveUp` where a number

@@ -8,7 +8,8 @@ use cip_frac::Frac;
 use cip_narrowing::ColumnRows;
 use cip_plugin::{Cut, Plugin, Separator, View};
 use cip_row_sums::{
-    Aim, Candidates, Gains, Shifted, Standings, Stop, Sum, Terms, tight_at, unless_refused,
+    Candidates, Gains, Shift, Shifted, Standings, Stop, Sum, Terms, list_nearest, tight_at,
+    unless_refused,
 };
 use std::alloc::{AllocError, Global};
 
@@ -29,6 +30,7 @@ pub struct MixedSeparator {
     standings: Standings,
     columns: ColumnRows,
     sum: Sum,
+    ways: Vec<Option<Shift>>,
     shifted: Shifted,
     divisors: Vec<i64>,
     terms: Terms,
@@ -45,6 +47,7 @@ impl MixedSeparator {
             standings: Standings::new(alloc),
             columns: ColumnRows::new(alloc),
             sum: Sum::new(alloc),
+            ways: Vec::new(alloc),
             shifted: Shifted::new(alloc),
             divisors: Vec::new(alloc),
             terms: Vec::new(alloc),
@@ -55,12 +58,7 @@ impl MixedSeparator {
     }
 
     /// Keeps the best mixed rounding of the sum with its sign.
-    fn mix(&mut self, alloc: Global, view: &View<'_>, point: &[Frac]) -> Result<(), Stop> {
-        self.shifted
-            .take(view, point, &self.sum.terms, self.sum.right, Aim::Nearest)?;
-        if !self.shifted.is_fractional {
-            return Err(Stop::GaveUp);
-        }
+    fn mix(&mut self, alloc: Global, view: &View<'_>) -> Result<(), Stop> {
         let items = self.shifted.items.as_slice();
         list_divisors(items, &mut self.divisors)?;
         let looked_at = items.len().saturating_mul(self.divisors.len());
@@ -71,18 +69,31 @@ impl MixedSeparator {
         Ok(())
     }
 
+    /// Turns the sum's sign.
+    fn turn(&mut self) {
+        self.sum.turn();
+        self.shifted.turn();
+    }
+
+    /// Keeps the best mixed roundings of the sum with both signs.
+    fn mix_both(&mut self, alloc: Global, view: &View<'_>) -> Result<(), Stop> {
+        let ways = self.ways.as_slice();
+        self.shifted
+            .take_listed(ways, &self.sum.terms, self.sum.right)?;
+        if !self.shifted.is_fractional {
+            return Err(Stop::GaveUp);
+        }
+        unless_refused(self.mix(alloc, view))?;
+        self.turn();
+        unless_refused(self.mix(alloc, view))?;
+        self.turn();
+        Ok(())
+    }
+
     /// Keeps the best mixed roundings of the sum with both signs, and answers whether there was one.
-    fn mix_both(
-        &mut self,
-        alloc: Global,
-        view: &View<'_>,
-        point: &[Frac],
-    ) -> Result<bool, AllocError> {
+    fn has_mixed(&mut self, alloc: Global, view: &View<'_>) -> Result<bool, AllocError> {
         let before = self.candidates.len();
-        unless_refused(self.mix(alloc, view, point))?;
-        self.sum.turn();
-        unless_refused(self.mix(alloc, view, point))?;
-        self.sum.turn();
+        unless_refused(self.mix_both(alloc, view))?;
         Ok(self.candidates.len() > before)
     }
 
@@ -99,13 +110,12 @@ impl MixedSeparator {
         };
         self.sum.begin(&row)?;
         for _ in 1..MOST_ROWS {
-            if self.mix_both(alloc, view, point)? {
+            if self.has_mixed(alloc, view)? {
                 return Ok(());
             }
             go_on(view, point, &self.standings, &self.columns, &mut self.sum)?;
         }
-        self.mix_both(alloc, view, point)?;
-        Ok(())
+        self.mix_both(alloc, view)
     }
 
     /// The next row to begin with.
@@ -148,6 +158,7 @@ impl MixedSeparator {
             return Ok(Vec::new(alloc));
         }
         self.standings.take(view, point)?;
+        list_nearest(view, point, &mut self.ways)?;
         self.search_all(alloc, view, point)?;
         self.candidates.choose(alloc, MOST_CUTS)
     }
