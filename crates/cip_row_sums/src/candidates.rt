@@ -1,7 +1,6 @@
 //! Cuts that were found, and which of them are brought.
 use crate::numbers::{UNIT, common_divisor};
 use crate::sums::Terms;
-use crate::tight::short;
 use cip_plugin::Cut;
 use std::alloc::{AllocError, Global};
 
@@ -75,13 +74,7 @@ pub struct Candidate {
     pub cut: Option<Cut>,
 }
 
-/// The score of a cut for each of its coefficients.
-fn score_by_term(candidate: &Candidate) -> u128 {
-    let terms = u128::from(short(candidate.terms.len()));
-    candidate.score.checked_div(terms).unwrap_or(0)
-}
-
-/// A cut by its score for each coefficient and its place.
+/// A cut by its score and its place.
 #[derive(Clone, Copy, PartialEq, Eq, PartialOrd, Ord)]
 struct Rank {
     score: u128,
@@ -179,7 +172,7 @@ impl Candidates {
     /// Keeps a cut. `Err` where memory was refused, and then nothing more is to be kept until all are taken away.
     pub fn push(&mut self, candidate: Candidate) -> Result<(), AllocError> {
         let rank = Rank {
-            score: score_by_term(&candidate),
+            score: candidate.score,
             place: self.list.len(),
         };
         self.ranks.push(rank)?;
