@@ -9,8 +9,8 @@ const MOST_STALE: u32 = 4;
 // The greatest denominator of a point behind which cuts are looked for, where costs aren't whole.
 const MOST_UNDER: i128 = 1 << 64;
 
-// The same of a program more than half of whose coefficients are there.
-const DENSE_UNDER: i128 = 1 << 40;
+// The most coefficients of a small program.
+const MOST_SMALL: usize = 16;
 
 /// What rounds of cuts at the root gained.
 #[derive(Clone, Copy, Debug)]
@@ -37,6 +37,14 @@ pub fn cost_of(costs: &[Frac], point: &[Frac]) -> Option<i64> {
     i64::try_from(sum).ok()
 }
 
+/// The most that the cutoff row lets a point cost; none before a cost is held.
+pub fn most_cost(view: &View<'_>) -> Option<Frac> {
+    match view.cutoff {
+        Some(row) => row.high(),
+        None => None,
+    }
+}
+
 /// Whether a whole column has a value that isn't.
 fn is_fractional(whole: &[bool], point: &[Frac]) -> bool {
     whole
@@ -47,7 +55,7 @@ fn is_fractional(whole: &[bool], point: &[Frac]) -> bool {
 
 /// Whether a value of a point has a denominator above this. Each row more makes these longer, and where they leave the
 /// range no linear program shows its optimum.
-fn is_long(point: &[Frac], most: i128) -> bool {
+pub fn is_long(point: &[Frac], most: i128) -> bool {
     point.iter().any(|value| value.denominator() > most)
 }
 
@@ -72,24 +80,12 @@ fn own_terms(view: &View<'_>) -> usize {
     count
 }
 
-/// How many coefficients the rows of the pool have.
-fn pool_terms(view: &View<'_>) -> usize {
-    let mut count = 0usize;
-    for kept in view.pool {
-        count = count.saturating_add(kept.row.terms().len());
-    }
-    count
-}
-
-/// Whether later linear programs have room for more cuts. Where more than half of a program's coefficients are there
-/// cuts are as long as its rows: they come to half of its coefficients at most, and no value has a long denominator.
-fn has_room(view: &View<'_>, point: &[Frac]) -> bool {
+/// Whether a program isn't small, and more than a third of its coefficients are there. Cuts are as long as its rows then, and
+/// cost each later linear program more than they save.
+fn is_dense(view: &View<'_>) -> bool {
     let own = own_terms(view);
     let places = view.own.len().saturating_mul(view.costs.len());
-    if own.saturating_mul(2) <= places {
-        return !may_lose(view, point);
-    }
-    pool_terms(view).saturating_mul(2) <= own && !is_long(point, DENSE_UNDER)
+    own > MOST_SMALL && own.saturating_mul(3) > places
 }
 
 /// Whether a cost rose by less than a ten-thousandth.
@@ -114,8 +110,8 @@ impl Gains {
         }
     }
 
-    /// Whether one more round may pay: at the root, with a point that is to be cut off, as long as there is room for
-    /// cuts, and unless the last rounds gained little.
+    /// Whether one more round may pay: at the root, with a point that is to be cut off, unless the program is dense,
+    /// cuts may keep an optimum from being shown, or the last rounds gained little.
     pub fn may_pay(&mut self, view: &View<'_>) -> bool {
         let Some(point) = view.point else {
             return false;
@@ -123,7 +119,7 @@ impl Gains {
         if view.node != 0 || self.stale >= MOST_STALE {
             return false;
         }
-        if !has_room(view, point) || !is_fractional(view.whole, point) {
+        if is_dense(view) || may_lose(view, point) || !is_fractional(view.whole, point) {
             return false;
         }
         let cost = cost_of(view.costs, point);
