@@ -4,6 +4,7 @@ ghost use Rattle.cip_guides.specs.FullGuesses.{AreFull};
 
 use crate::dives::Dive;
 use crate::guesses::only_guess;
+use crate::lengths::has_long_rest;
 use crate::shares::Share;
 use cip_frac::Frac;
 use cip_plugin::{Guess, Heuristic, Plugin, View};
@@ -14,7 +15,8 @@ const PART: usize = 20;
 
 /// A heuristic: whole columns are fixed one after another near the values of the last point, those nearest to a whole
 /// number first, and then the continuous ones; behind each the sides that rows imply are taken. Where a row can't be
-/// kept a whole column gets the number next to it, up to 64 times. It does a bounded share of the nodes' work.
+/// kept a whole column gets the number next to it, up to 64 times. It does a bounded share of the nodes' work, and passes
+/// over points whose continuous columns have long denominators.
 #[derive(Drop)]
 pub struct DiveHeuristic {
     dive: Dive,
@@ -41,7 +43,9 @@ impl DiveHeuristic {
     /// Whether a dive came to a point.
     fn has_gone(&mut self, view: &View<'_>) -> Result<bool, AllocError> {
         match view.point {
-            Some(point) if self.share.may_begin() => self.go(view, point),
+            Some(point) if !has_long_rest(view.whole, point) && self.share.may_begin() => {
+                self.go(view, point)
+            }
             _ => Ok(false),
         }
     }

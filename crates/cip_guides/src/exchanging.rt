@@ -5,12 +5,13 @@ ghost use Rattle.cip_guides.specs.FullGuesses.{AreFull};
 use crate::coefficients::coefficient;
 use crate::exchanges::{Move, Placed, step_of};
 use crate::guesses::only_guess;
+use crate::lengths::MOST_UNDER;
 use crate::shares::Share;
 use crate::wholes::is_whole_at;
 use cip_frac::Frac;
 use cip_lin::Term;
 use cip_plugin::{Guess, Heuristic, Plugin, View};
-use cip_row_sums::{rough, short};
+use cip_row_sums::{is_long, rough, short};
 use std::alloc::{AllocError, Global};
 
 // The part of a share that it has.
@@ -18,7 +19,8 @@ const PART: usize = 4;
 
 /// A heuristic: the last point that was accepted, its columns moved to where they cost less, the costliest first, as
 /// far as each row goes. Where a row keeps a whole column from moving, another whole column of that row is moved by 1
-/// the other way, if both together cost less. It works once on each point, and does a bounded share of the nodes' work.
+/// the other way, if both together cost less. It works once on each point, but for those that have long denominators, and
+/// does a bounded share of the nodes' work.
 #[derive(Drop)]
 pub struct ExchangeHeuristic {
     placed: Placed,
@@ -204,7 +206,7 @@ impl ExchangeHeuristic {
         }
         self.held = view.held;
         self.is_lost = false;
-        if !self.placed.place(view.own, guess)? {
+        if is_long(guess, MOST_UNDER) || !self.placed.place(view.own, guess)? {
             return Ok(false);
         }
         Ok(self.improve_all(view))

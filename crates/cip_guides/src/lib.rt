@@ -7,6 +7,7 @@ mod diving;
 mod exchanges;
 mod exchanging;
 mod guesses;
+mod lengths;
 mod locks;
 mod rounding;
 mod shares;

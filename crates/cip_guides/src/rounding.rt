@@ -3,14 +3,20 @@ ghost use Rattle.std.specs.Prelude.{None, codes, length, IfOk};
 ghost use Rattle.cip_guides.specs.FullGuesses.{AreFull};
 
 use crate::guesses::only_guess;
+use crate::lengths::has_long_rest;
 use crate::locks::Locks;
 use crate::wholes::nearest;
 use cip_frac::Frac;
 use cip_plugin::{Guess, Heuristic, Plugin, View};
+use cip_row_sums::{cost_of, most_cost, rough};
 use std::alloc::{AllocError, Global};
 
+// From here on rough values aren't told apart.
+const FAR: i64 = 1 << 58;
+
 /// A heuristic: the last point, its whole columns rounded. A column goes to where no row keeps it from going, down
-/// before up; one that is kept both ways goes to the nearer whole number.
+/// before up; one that is kept both ways goes to the nearer whole number. Nothing is brought where that costs no less than
+/// what is held, or where continuous columns have long denominators.
 #[derive(Drop)]
 pub struct RoundHeuristic {
     locks: Locks,
@@ -24,12 +30,26 @@ fn is_fractional(whole: &[bool], col: usize, value: Frac) -> bool {
     }
 }
 
+/// Whether a point is worth rounding: a whole column has a value that isn't whole, and no other value is long.
+fn may_be_rounded(whole: &[bool], point: &[Frac]) -> bool {
+    has_fraction(whole, point) && !has_long_rest(whole, point)
+}
+
 /// Whether a point has a whole column whose value isn't whole.
 fn has_fraction(whole: &[bool], point: &[Frac]) -> bool {
     whole
         .iter()
         .zip(point)
         .any(|(is_whole, value)| *is_whole && !value.is_whole())
+}
+
+/// Whether a point may cost less than what is held, roughly.
+fn may_be_cheaper(view: &View<'_>, values: &[Frac]) -> bool {
+    let (Some(most), Some(cost)) = (most_cost(view), cost_of(view.costs, values)) else {
+        return true;
+    };
+    let limit = rough(most);
+    limit.wrapping_abs() >= FAR || cost < limit
 }
 
 impl RoundHeuristic {
@@ -100,8 +120,11 @@ impl Heuristic for RoundHeuristic {
         ensures full { IfOk result (λ guesses. AreFull (length view.now.costs.now) guesses.items) }
     {
         match view.point {
-            Some(point) if has_fraction(view.whole, point) => {
+            Some(point) if may_be_rounded(view.whole, point) => {
                 let values = self.values(alloc, view.whole, point)?;
+                if !may_be_cheaper(view, values.as_slice()) {
+                    return Ok(Vec::new(alloc));
+                }
                 only_guess(alloc, view.costs.len(), values)
             }
             _ => Ok(Vec::new(alloc)),

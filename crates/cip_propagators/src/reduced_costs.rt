@@ -6,7 +6,7 @@ use cip_frac::Frac;
 use cip_lin::{Combo, Row, RowMultiple};
 use cip_narrowing::{Implied, Narrowing, Patience, Region, Source, list_implied, reduction_of};
 use cip_plugin::{Plugin, Propagator, Reduction, View};
-use cip_row_sums::{UNIT, cost_of, rough};
+use cip_row_sums::{UNIT, cost_of, most_cost, rough};
 use std::alloc::{AllocError, Global};
 
 // The most sides of a call: each is judged with all rows of the bound.
@@ -29,20 +29,20 @@ pub struct ReducedCostPropagator {
     patience: Patience,
 }
 
-/// Whether what a point costs is less than the cost held by at most a sixteenth of that, roughly.
-fn is_near(costs: &[Frac], point: &[Frac], held: Frac) -> bool {
+/// Whether what a point costs is less than the most that a cheaper one may cost by at most a sixteenth of that, roughly.
+fn is_near(costs: &[Frac], point: &[Frac], most: Frac) -> bool {
     let Some(cost) = cost_of(costs, point) else {
         return false;
     };
-    let far = i128::from(rough(held));
+    let far = i128::from(rough(most));
     let gap = far.wrapping_sub(i128::from(cost));
     gap.wrapping_mul(16) <= far.wrapping_abs().max(i128::from(UNIT))
 }
 
 /// Whether reduced costs may imply sides: of the root, or where the last point's cost is near the one held.
 fn may_pay(view: &View<'_>) -> bool {
-    match (view.point, view.held) {
-        (Some(point), Some(held)) => view.node == 0 || is_near(view.costs, point, held),
+    match (view.point, most_cost(view)) {
+        (Some(point), Some(most)) => view.node == 0 || is_near(view.costs, point, most),
         _ => false,
     }
 }
