@@ -10,6 +10,11 @@ use cip_narrowing::{Implied, MOST_REDUCTIONS, Patience, Watched, add_reductions}
 use cip_plugin::{ConsHandler, Cut, Enforced, Plugin, Reduction, View};
 use std::alloc::{AllocError, Global};
 
+// Behind a call that brought sides so many go by from this node on: other propagators look at the same rows.
+const REST: u32 = 16;
+
+const FIRST_RESTING: u64 = 16;
+
 /// A handler of the rows of a class: the sides of columns that one of them implies in the node's box, and one of them
 /// divided and rounded, where that cuts the last point of the root off. A row that brought nothing eight times in a row
 /// is looked at no more, and behind each call that brought no side twice as many calls go by until the next that looks.
@@ -23,6 +28,11 @@ pub struct ClassHandler {
     rounding_tries: Tries,
     patience: Patience,
     rounding: Rounding,
+}
+
+/// How many calls go by behind one that brought sides at a node.
+fn rest_at(node: u64) -> u32 {
+    if node < FIRST_RESTING { 0 } else { REST }
 }
 
 impl ClassHandler {
@@ -109,7 +119,7 @@ impl ClassHandler {
         if reductions.is_empty() {
             self.patience.lose();
         } else {
-            self.patience.gain(0);
+            self.patience.gain(rest_at(view.node));
         }
         Ok(())
     }
