@@ -15,8 +15,8 @@ const PART: usize = 20;
 
 /// A heuristic: whole columns are fixed one after another near the values of the last point, those nearest to a whole
 /// number first, and then the continuous ones; behind each the sides that rows imply are taken. Where a row can't be
-/// kept a whole column gets the number next to it, up to 64 times. It does a bounded share of the nodes' work, and passes
-/// over points whose continuous columns have long denominators.
+/// kept a whole column gets the number next to it, up to 64 times. It does a bounded share of the nodes' work, and
+/// passes over points whose continuous columns have long denominators.
 #[derive(Drop)]
 pub struct DiveHeuristic {
     dive: Dive,

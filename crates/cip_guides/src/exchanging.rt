@@ -19,8 +19,8 @@ const PART: usize = 4;
 
 /// A heuristic: the last point that was accepted, its columns moved to where they cost less, the costliest first, as
 /// far as each row goes. Where a row keeps a whole column from moving, another whole column of that row is moved by 1
-/// the other way, if both together cost less. It works once on each point, but for those that have long denominators, and
-/// does a bounded share of the nodes' work.
+/// the other way, if both together cost less. It works once on each point, but for those that have long denominators,
+/// and does a bounded share of the nodes' work.
 #[derive(Drop)]
 pub struct ExchangeHeuristic {
     placed: Placed,

@@ -15,8 +15,8 @@ use std::alloc::{AllocError, Global};
 const FAR: i64 = 1 << 58;
 
 /// A heuristic: the last point, its whole columns rounded. A column goes to where no row keeps it from going, down
-/// before up; one that is kept both ways goes to the nearer whole number. Nothing is brought where that costs no less than
-/// what is held, or where continuous columns have long denominators.
+/// before up; one that is kept both ways goes to the nearer whole number. Nothing is brought where that costs no less
+/// than what is held, or where continuous columns have long denominators.
 #[derive(Drop)]
 pub struct RoundHeuristic {
     locks: Locks,

@@ -29,7 +29,8 @@ pub struct ReducedCostPropagator {
     patience: Patience,
 }
 
-/// Whether what a point costs is less than the most that a cheaper one may cost by at most a sixteenth of that, roughly.
+/// Whether what a point costs is less than the most that a cheaper one may cost by at most a sixteenth of that,
+/// roughly.
 fn is_near(costs: &[Frac], point: &[Frac], most: Frac) -> bool {
     let Some(cost) = cost_of(costs, point) else {
         return false;

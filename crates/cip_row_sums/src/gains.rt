@@ -80,8 +80,8 @@ fn own_terms(view: &View<'_>) -> usize {
     count
 }
 
-/// Whether a program isn't small, and more than a third of its coefficients are there. Cuts are as long as its rows then, and
-/// cost each later linear program more than they save.
+/// Whether a program isn't small, and more than a third of its coefficients are there. Cuts are as long as its rows
+/// then, and cost each later linear program more than they save.
 fn is_dense(view: &View<'_>) -> bool {
     let own = own_terms(view);
     let places = view.own.len().saturating_mul(view.costs.len());
