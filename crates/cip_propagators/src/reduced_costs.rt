@@ -13,14 +13,14 @@ use std::alloc::{AllocError, Global};
 const MOST_SIDES: usize = 8;
 
 // So many calls go by behind one that brought sides.
-const REST: u32 = 8;
+const REST: u32 = 32;
 
 // The greatest denominator of a factor of the bound.
 const MOST_UNDER: i128 = 1 << 48;
 
 /// A propagator: where a cost is held, sides of whole columns that the multipliers of the last linear program imply.
 /// Its rows added up with the cutoff row leave minus the reduced costs, so a column with one is near its side at each
-/// point that is cheaper. Behind the root it looks only where the last point's cost is near the one held; eight calls
+/// point that is cheaper. Behind the root it looks only where the last point's cost is near the one held; 32 calls
 /// go by behind one that brought sides, and behind each that brought none twice as many as before.
 #[derive(Drop)]
 pub struct ReducedCostPropagator {
