@@ -154,7 +154,8 @@ pub fn show(
     show_anew(alloc, basis, problem, scratch)
 }
 
-/// The same by a basis that is guessed anew, with less rounding.
+/// What a basis that is guessed anew, with less rounding, shows of a linear program: a point of least cost and that
+/// cost, or that there is no point; none where it shows nothing. `Err` where memory was refused.
 pub fn show_anew(
     alloc: Global,
     basis: &mut Basis,

@@ -1,6 +1,7 @@
 //! What a basis that is guessed shows of the linear program of a node.
 ghost use Rattle.std.specs.Prelude.{◌≡◌, ◌≤◌, ℕ, true, List, map, length, Option, IfOk, IfSome};
 ghost use Rattle.cip_rational.specs.Rational.{◌+ℚ◌, le_test};
+ghost use Rattle.cip_problem.specs.Choices.{greater};
 ghost use Rattle.cip_problem.specs.WellFormed.{columns};
 ghost use Rattle.cip_problem.specs.Program.{Sides, Row};
 ghost use Rattle.cip_linear.specs.LinearProgram.{IsPoint};
@@ -221,11 +222,12 @@ fn may_come_together(program: &Program, basis: &Basis, beside: &Beside) -> bool 
 
 /// Of two bounds the greater one, as far as they are there.
 fn greater_bound(bound: Option<Frac>, other: Option<Frac>) -> Option<Frac>
-    ensures { (program : Program) → (lent : Lent) → (box : List Sides) → IfSome bound (ShowsBound program lent box)
+    ensures greater { result ≡ greater bound other }
+    ensures shows { (program : Program) → (lent : Lent) → (box : List Sides) → IfSome bound (ShowsBound program lent box)
         → IfSome other (ShowsBound program lent box) → IfSome result (ShowsBound program lent box) }
 {
     match (bound, other) {
-        (Some(own), Some(more)) => Some(if is_at_most(more, own) { own } else { more }),
+        (Some(own), Some(more)) => Some(if is_at_most(own, more) { more } else { own }),
         (None, more) => more,
         (own, None) => own,
     }
