@@ -7,7 +7,7 @@ use Rattle.std.proofs.Math.Nat.{one-dvd}
 use borrow.Author.Differences.{true_is_lt, true_is_le, false_is_le, false_is_lt, Apart-out}
 use Rattle.std.proofs.lemmas.Bool.Decides.{nat_tests}
 use Rattle.cip_rational.specs.Rational.{ℚ, ratio, integer, negate, inverse, absolute, numerator, denominator, IsWhole, zeroℚ, oneℚ, ◌<ℚ◌, le_test, is_ratio, floor, ceil}
-use Rattle.cip_rational.proofs.Rational.Ratio.{integer_ratio, ratio_same, ratio-lt, lt-ratio, ratio-le_test}
+use Rattle.cip_rational.proofs.Rational.Ratio.{integer_ratio, ratio-negate, ratio_same, ratio-lt, lt-ratio, ratio-le_test}
 use Rattle.cip_rational.proofs.Rational.Lowest.{numerator_lowest, denominator_lowest, inverse-pos, inverse-negsuc, unsigned_abs-neg}
 use Rattle.cip_rational.proofs.Rational.Whole.{is_whole-denominator, denominator-is_whole, floor-ratio, ceil-ratio}
 use Rattle.cip_rational.proofs.Rational.Rounding.{integer-zero, integer-one}
@@ -63,6 +63,18 @@ negative_le n d p t = sym (false_is_le (pos 0 *ℤ pos d) (n *ℤ pos 1) (omega 
 
 positive_le : (n : ℤ) (d : ℕ) → 0 < d → int_lt n (pos 0) ≡ false → int_le (pos 0 *ℤ pos d) (n *ℤ pos 1) ≡ true
 positive_le n d p t = sym (true_is_le (pos 0 *ℤ pos d) (n *ℤ pos 1) (omega (arith, ints)))
+
+pub lowest_ratio : (n : ℤ) (d : ℕ) (q : ℚ) → n ≡ numerator q → d ≡ denominator q → ratio n d ≡ q
+lowest_ratio n d q over under = rw (over, under) (is_ratio q)
+
+pub kept_lowest : (m n : ℤ) (k d : ℕ) → m ≡ n → k ≡ d → AreLowest n d → AreLowest (to_z w128 (of_z w128 m)) k
+kept_lowest m n k d e f h = rw (e, f, kept n h.over_small) h
+
+pub negated_lowest : (n : ℤ) (d : ℕ) → AreLowest n d → AreLowest (to_z w128 (of_z w128 (pos 0 -ℤ to_z w128 (of_z w128 n)))) d
+negated_lowest n d h = rw (negated n h.over_small) (AreLowest-neg n d h)
+
+pub negated_ratio : (n : ℤ) (d : ℕ) (q : ℚ) → AreLowest n d → ratio n d ≡ q → ratio (to_z w128 (of_z w128 (pos 0 -ℤ to_z w128 (of_z w128 n)))) d ≡ negate q
+negated_ratio n d q h e = ap (λ z. ratio z d) (negated n h.over_small) ∙ sym (ratio-negate n d) ∙ ap negate e
 
 module _ (n : ℤ) (d : ℕ) (q : ℚ) (h : AreLowest n d) (e : ratio n d ≡ q) where
   pub numerator_is : n ≡ numerator q

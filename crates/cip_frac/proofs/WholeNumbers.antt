@@ -1,8 +1,9 @@
 -- Sums and products of whole numbers, whose denominators are 1.
-use Rattle.std.proofs.Common.{◌≡◌, ℕ, ◌*◌, ◌<◌, ◌^◌, ℤ, pos, ◌+ℤ◌, ◌*ℤ◌, unsigned_abs, true, false, sym, ap, subst, ◌∙◌, refl, arith, lit<, inl, Bool, cond, Option, Some, None, Ok, Err}
+use Rattle.std.proofs.Common.{◌≡◌, ℕ, ◌*◌, ◌<◌, ◌^◌, ℤ, pos, ◌+ℤ◌, ◌*ℤ◌, unsigned_abs, true, false, sym, ap, subst, ◌∙◌, refl, arith, lit<, inl, Bool, cond, Option, Some, None, Ok, Err, FitsSigned}
+use Rattle.std.specs.Int.{w128}
 use Rattle.std.specs.Prelude.{MatchOption}
 use lib.Bits.{bit_or}
-use Rattle.std.proofs.lemmas.Int.{unsigned_abs-mul}
+use Rattle.std.proofs.lemmas.Int.{unsigned_abs-mul, to_z-of_z}
 use Rattle.std.proofs.lemmas.Nat.{le_or_l, le_or_r}
 use Rattle.cip_rational.specs.Rational.{ℚ, ◌+ℚ◌, ◌*ℚ◌, ratio, numerator, denominator}
 use Rattle.cip_rational.specs.Range.{sum_overflows, product_overflows}
@@ -28,6 +29,14 @@ made_lowest z r h = let e : read r ≡ z = ap read h.1 ∙ kept z h.0 in rw e (A
 -- the same for a product
 pub made_product : (z w r : ℤ) → (unsigned_abs z * unsigned_abs w < 2 ^ 127) × (r ≡ z *ℤ w) → AreLowest (read r) 1
 made_product z w r h = made_lowest (z *ℤ w) r (rw (unsigned_abs-mul z w) h.0, h.1)
+
+pub product_made : (z w r : ℤ) (q : ℚ) → FitsSigned w128 z → FitsSigned w128 w → (unsigned_abs (read z) * unsigned_abs (read w) < 2 ^ 127) × (r ≡ read z *ℤ read w) → q ≡ ratio (read r) 1 → (unsigned_abs (z *ℤ w) < 2 ^ 127) × (q ≡ ratio (z *ℤ w) 1)
+product_made z w r q fz fw h e =
+    let kz : read z ≡ z = to_z-of_z w128 z fz in
+    let kw : read w ≡ w = to_z-of_z w128 w fw in
+    let h' : (unsigned_abs z * unsigned_abs w < 2 ^ 127) × (r ≡ z *ℤ w) = rw (kz, kw) at h in
+    let small : unsigned_abs (z *ℤ w) < 2 ^ 127 = rw (unsigned_abs-mul z w) h'.0 in
+    (small, e ∙ ap (λ n. ratio (read n) 1) h'.1 ∙ ap (λ n. ratio n 1) (kept (z *ℤ w) small))
 
 module _ (x y : ℚ) (a c : ℤ) (b d : ℕ) (ea : a ≡ numerator x) (eb : b ≡ denominator x) (ha : AreLowest a b) (ec : c ≡ numerator y) (ed : d ≡ denominator y) (hc : AreLowest c d) (one_b : b ≡ 1) (one_d : d ≡ 1) where
   ea1 : 1 ≡ denominator x

@@ -7,6 +7,7 @@ ghost use Rattle.cip_frac.specs.FractionFault.{quotient_of, IsFaultOf};
 
 use crate::bounded::{LARGEST, floor_part_of};
 use crate::gcd::{gcd, short_gcd};
+use crate::kept::{Signed, Unsigned};
 use crate::words::short;
 use std::marker::Model;
 
@@ -23,9 +24,12 @@ pub enum FracFault {
 /// A contract sees it as the rational number that it stands for.
 #[derive(Clone, Copy, Debug)]
 pub struct Frac {
-    numerator: i128,
-    denominator: u128,
+    numerator: Signed,
+    denominator: Unsigned,
 }
+
+// rows of programs hold millions of them
+const _: () = prove!(size_of::<Frac>() == 32);
 
 impl Model for Frac {
     ghost use Rattle.cip_rational.specs.Rational.{ℚ, coded_ℚ};
@@ -62,10 +66,7 @@ impl From<i64> for Frac {
 
     #[inline]
     fn from(p: i64) -> Frac {
-        Frac {
-            numerator: p as i128,
-            denominator: 1,
-        }
+        Frac::of_lowest(p as i128, 1)
     }
 }
 
@@ -77,10 +78,7 @@ impl Frac {
     pub fn zero() -> Frac
         ensures { result ≡ zeroℚ }
     {
-        Frac {
-            numerator: 0,
-            denominator: 1,
-        }
+        Frac::of_lowest(0, 1)
     }
 
     /// The number 1.
@@ -88,10 +86,7 @@ impl Frac {
     pub fn one() -> Frac
         ensures { result ≡ oneℚ }
     {
-        Frac {
-            numerator: 1,
-            denominator: 1,
-        }
+        Frac::of_lowest(1, 1)
     }
 
     /// p / q in lowest terms. `ZeroBelow` comes exactly where q is 0; `Wide` exactly where it isn't, and in lowest
@@ -111,10 +106,7 @@ impl Frac {
             return Err(FracFault::Wide);
         }
         let numerator = with_sign((p < 0) != (q < 0), size);
-        Ok(Frac {
-            numerator,
-            denominator,
-        })
+        Ok(Frac::of_lowest(numerator, denominator))
     }
 
     /// p itself. `Wide` comes for -2^127 alone, and no other fault.
@@ -126,10 +118,7 @@ impl Frac {
         if p == i128::MIN {
             return Err(FracFault::Wide);
         }
-        Ok(Frac {
-            numerator: p,
-            denominator: 1,
-        })
+        Ok(Frac::of_lowest(p, 1))
     }
 
     /// The numerator in lowest terms, which has the sign of the number: from -(2^127-1) to 2^127-1.
@@ -138,7 +127,7 @@ impl Frac {
         ensures value { result ≡ numerator self }
         ensures bounded { magnitude result ≤ largest }
     {
-        self.numerator
+        self.terms().0
     }
 
     /// The denominator in lowest terms: from 1 to 2^127-1.
@@ -147,7 +136,7 @@ impl Frac {
         ensures value { result ≡ pos (denominator self) }
         ensures bounded { magnitude result ≤ largest }
     {
-        self.denominator as i128
+        self.terms().1 as i128
     }
 
     /// The number with the other sign; always in range.
@@ -155,10 +144,8 @@ impl Frac {
     pub fn neg(self) -> Frac
         ensures { result ≡ negate self }
     {
-        Frac {
-            numerator: -self.numerator,
-            denominator: self.denominator,
-        }
+        let (numerator, denominator) = self.terms();
+        Frac::of_lowest(-numerator, denominator)
     }
 
     /// How far the number is from 0; always in range.
@@ -166,7 +153,8 @@ impl Frac {
     pub fn abs(self) -> Frac
         ensures { result ≡ absolute self }
     {
-        if self.numerator < 0 { self.neg() } else { self }
+        let (numerator, _) = self.terms();
+        if numerator < 0 { self.neg() } else { self }
     }
 
     /// Whether the number is whole: its denominator in lowest terms is 1.
@@ -174,7 +162,7 @@ impl Frac {
     pub fn is_whole(self) -> bool
         ensures { IsTrue result ↔ IsWhole self }
     {
-        self.denominator == 1
+        self.terms().1 == 1
     }
 
     /// Whether the number is 0.
@@ -182,7 +170,7 @@ impl Frac {
     pub fn is_zero(self) -> bool
         ensures { IsTrue result ↔ (self ≡ zeroℚ) }
     {
-        self.numerator == 0
+        self.terms().0 == 0
     }
 
     /// Whether the number is below 0.
@@ -190,7 +178,7 @@ impl Frac {
     pub fn is_negative(self) -> bool
         ensures { IsTrue result ↔ (self <ℚ zeroℚ) }
     {
-        self.numerator < 0
+        self.terms().0 < 0
     }
 
     /// Whether the number is above 0.
@@ -198,7 +186,7 @@ impl Frac {
     pub fn is_positive(self) -> bool
         ensures { IsTrue result ↔ (zeroℚ <ℚ self) }
     {
-        self.numerator > 0
+        self.terms().0 > 0
     }
 
     /// The greatest whole number that is at most this one: from -(2^127-1) to 2^127-1.
@@ -206,7 +194,8 @@ impl Frac {
     pub fn floor(self) -> i128
         ensures { result ≡ floor self }
     {
-        floor_part_of(self.numerator, self.denominator)
+        let (numerator, denominator) = self.terms();
+        floor_part_of(numerator, denominator)
     }
 
     /// The least whole number that is at least this one: from -(2^127-1) to 2^127-1.
@@ -214,7 +203,8 @@ impl Frac {
     pub fn ceil(self) -> i128
         ensures { result ≡ ceil self }
     {
-        -floor_part_of(-self.numerator, self.denominator)
+        let (numerator, denominator) = self.terms();
+        -floor_part_of(-numerator, denominator)
     }
 
     /// The greatest whole number that is at most this one, as a fraction; always in range.
@@ -222,10 +212,8 @@ impl Frac {
     pub fn rounded_down(self) -> Frac
         ensures { result ≡ integer (floor self) }
     {
-        Frac {
-            numerator: floor_part_of(self.numerator, self.denominator),
-            denominator: 1,
-        }
+        let (numerator, denominator) = self.terms();
+        Frac::of_lowest(floor_part_of(numerator, denominator), 1)
     }
 
     /// The least whole number that is at least this one, as a fraction; always in range.
@@ -242,10 +230,11 @@ impl Frac {
         requires { self ≢ zeroℚ }
         ensures { result ≡ inverse self }
     {
-        Frac {
-            numerator: with_sign(self.numerator < 0, self.denominator),
-            denominator: self.numerator.unsigned_abs(),
-        }
+        let (numerator, denominator) = self.terms();
+        Frac::of_lowest(
+            with_sign(numerator < 0, denominator),
+            numerator.unsigned_abs(),
+        )
     }
 
     // A number from its lowest terms.
@@ -255,8 +244,8 @@ impl Frac {
         ensures { result ≡ ratio numerator denominator }
     {
         Frac {
-            numerator,
-            denominator,
+            numerator: Signed::new(numerator),
+            denominator: Unsigned::new(denominator),
         }
     }
 
@@ -282,11 +271,12 @@ impl Frac {
             (λ terms. (terms.0 ≡ numerator self) × (terms.1 ≡ denominator self)
             × (magnitude (numerator self) ≤ 2 ^ 63) × (terms.1 < 2 ^ 63)) }
     {
-        if self.denominator > i64::MAX as u128 {
+        let (numerator, denominator) = self.terms();
+        if denominator > i64::MAX as u128 {
             return None;
         }
-        match short(self.numerator) {
-            Some(numerator) => Some((numerator, self.denominator as u64)),
+        match short(numerator) {
+            Some(numerator) => Some((numerator, denominator as u64)),
             None => None,
         }
     }
@@ -298,6 +288,6 @@ impl Frac {
         ensures under { result.1 ≡ denominator self }
         ensures lowest { AreLowest result.0 result.1 }
     {
-        (self.numerator, self.denominator)
+        (self.numerator.get(), self.denominator.get())
     }
 }

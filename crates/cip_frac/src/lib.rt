@@ -5,6 +5,7 @@ mod bounded;
 mod fraction;
 mod gcd;
 mod in_place;
+mod kept;
 mod operations;
 mod order;
 mod text;

@@ -2,5 +2,6 @@ pub mod ComingBack
 pub mod Going
 pub mod LentRows
 pub mod SidesJudged
+pub mod SplitParts
 pub mod SplitCutsTold
 pub mod PassedOn

@@ -105,6 +105,20 @@ impl Row {
         }
     }
 
+    /// A row without terms between two sides, `None` for an open one, with room for so many terms. `Err` comes where
+    /// the growth was refused.
+    pub fn with_room(
+        alloc: Global,
+        low: Option<Frac>,
+        high: Option<Frac>,
+        count: usize,
+    ) -> Result<Row, AllocError>
+        ensures { IfOk result (λ row. row ≡ record { terms = []; low = low; high = high }) }
+    {
+        let terms = SmallVec::with_capacity(alloc, count)?;
+        Ok(Row { terms, low, high })
+    }
+
     /// The row of these terms between two sides, `None` for an open one. `NotRising` and `ZeroTerm`
     /// name the first term that cannot stand in a row, the former where both hold; `NoMemory` comes
     /// where a growth was refused before it.

@@ -1,4 +1,5 @@
 pub mod Meaning
+pub mod NamePieces
 pub mod NamePlaces
 pub mod SmallPrograms
 pub mod GroupLaws

@@ -1,6 +1,6 @@
 -- The places of names among names, and in the order of names.
-use Rattle.std.proofs.Common.{◌≡◌, ℕ, zero, suc, ◌+◌, ◌<◌, Bool, true, false, cond, ◌||◌, List, [], ◌∷◌, ◌++◌, map, length, Option, None, Some, refl, sym, ◌∙◌, ap, subst, inl, inr, ◌⊎◌, arith, Less, Equal, Greater, Ordering, is_eq, add-zero, zero-add}
-use Rattle.std.specs.Prelude.{slice_get, slice_index_or, IfSome, option_map}
+use Rattle.std.proofs.Common.{◌≡◌, ℕ, zero, suc, ◌+◌, ◌<◌, Bool, true, false, cond, ◌||◌, List, [], ◌∷◌, ◌++◌, length, Option, None, Some, refl, sym, ◌∙◌, ap, subst, inl, inr, ◌⊎◌, arith, Less, Equal, Greater, Ordering, is_eq, add-zero, zero-add}
+use Rattle.std.specs.Prelude.{slice_get, IfSome, option_map}
 use Rattle.std.specs.Str.{bytes_eq}
 use Rattle.std.specs.Map.{lookup}
 use Rattle.std.specs.BTreeMap.{insert_entry}
@@ -159,23 +159,17 @@ once (x ∷ xs) apart = (go (list_any (bytes_eq x) xs) refl, once xs (apart_tail
         let first : number_of (x ∷ xs) x ≡ Some 0 = ap (λ b. cond b (Some 0) (position_from (bytes_eq x) (0 + 1) xs)) here in
         absurd (cc (number, first))
 
--- ---- keys
-
--- the name at a place
-pub key_at : {K : Type 0} (f : K → List ℕ) (keys : List K) (k : ℕ) (key : K) (name : List ℕ) → k < length keys → key ≡ slice_index_or keys k key → bytes_eq (f key) name ≡ true → slice_get (map f keys) k ≡ Some name
-key_at f [] k key name l e b = absurd (omega (arith, l))
-key_at f (x ∷ xs) zero key name l e b = ap (λ y. Some (f y)) (sym e) ∙ ap Some (same (f key) name b)
-key_at f (x ∷ xs) (suc k) key name l e b = key_at f xs k key name (omega (arith, l)) e b
+-- ---- a name that is found, and one name more
 
 pub number_within : (names : List (List ℕ)) (name : List ℕ) (o : Option ℕ) → o ≡ number_of names name → IfSome o (λ number. number < length names)
 number_within names name None e = tt
 number_within names name (Some k) e = number_below names name k (sym e)
 
 -- one name more, in the order and in the list
-pub found_push : (names after : List (List ℕ)) (new copy name : List ℕ) (k : ℕ) (old found : Option ℕ) → copy ≡ new → k ≡ length names → number_of names new ≡ None
-    → found ≡ cond (bytes_eq name copy) (Some k) old → old ≡ number_of names name → after ≡ names ++ new ∷ [] → found ≡ number_of after name
-found_push names after new copy name k old found c l absent f o a =
-    f ∙ ap (λ b. cond (bytes_eq name b) (Some k) old) c ∙ ap (λ n. cond (bytes_eq name new) (Some n) old) l ∙ ap (cond (bytes_eq name new) (Some (length names))) o
+pub found_push : (names after : List (List ℕ)) (new name : List ℕ) (k : ℕ) (old found : Option ℕ) → k ≡ length names → number_of names new ≡ None
+    → found ≡ cond (bytes_eq name new) (Some k) old → old ≡ number_of names name → after ≡ names ++ new ∷ [] → found ≡ number_of after name
+found_push names after new name k old found l absent f o a =
+    f ∙ ap (λ n. cond (bytes_eq name new) (Some n) old) l ∙ ap (cond (bytes_eq name new) (Some (length names))) o
     ∙ sym (number_push names new name absent) ∙ ap (λ ns. number_of ns name) (sym a)
 
 pub apart_after : (names after : List (List ℕ)) (new : List ℕ) → number_of names new ≡ None → AreApart names → after ≡ names ++ new ∷ [] → AreApart after

@@ -1,29 +1,167 @@
-//! Hints where a name may stand among others: numbers by the fingerprints of names. A hint says nothing until the
-//! name at its number was compared, so no contract speaks of fingerprints.
-ghost use Rattle.std.specs.Prelude.{◌≡◌, ◌<◌, Some, length, map, slice_get, IfSome};
+//! Names that stand one behind another in a list of bytes, and hints where a name may stand among them: a table of
+//! numbers by the fingerprints of names. A hint says nothing until the name at its number was compared, so no contract
+//! speaks of fingerprints, nor of the places of the table. A name whose number has over 17 bits has no hint.
+ghost use Rattle.std.specs.Prelude.{◌≡◌, ℕ, ◌<◌, Some, length, slice_get, slice_index, IfSome};
+ghost use Rattle.cip_model.specs.Keys.{pieces_from, start_from, AreRising};
 
-use indexmap::IndexMap;
+use std::alloc::{AllocError, Global};
 
-/// The fingerprint of a name, of 19 bits: so few that a map of them stays quick, whatever the names are.
-pub(crate) fn fingerprint(name: &[u8]) -> u32 {
+/// How many places of the table are looked at for a fingerprint.
+const MOST_LOOKS: usize = 16;
+
+/// The bits of a hint that have the number of a name and 1 more; the others are of the name's fingerprint.
+const NUMBER: u32 = 0x1_FFFF;
+
+/// Hints by fingerprints, of 4 bytes each: none yet, or as many places as a power of two. A free place is 0.
+#[derive(Debug, Drop)]
+pub(crate) struct Hints {
+    places: Vec<u32>,
+}
+
+/// Where the piece of this number starts: where the one before it ends.
+fn start_of(ends: &[u32], number: usize) -> usize
+    requires { number < length ends.now }
+    ensures { result ≡ start_from 0 ends.now number }
+{
+    if number == 0 {
+        0
+    } else {
+        ends[number - 1] as usize
+    }
+}
+
+/// The piece of this number, of pieces that stand one behind another.
+pub(crate) fn piece<'a>(bytes: &'a [u8], ends: &[u32], number: usize) -> &'a [u8]
+    requires rising { AreRising 0 ends.now (length bytes.now) }
+    requires there { number < length ends.now }
+    ensures { slice_get (pieces_from 0 bytes.now ends.now) number ≡ Some result.now }
+{
+    let start = start_of(ends, number);
+    let end = ends[number] as usize;
+    &bytes[start..end]
+}
+
+/// The fingerprint of a name.
+fn fingerprint(name: &[u8]) -> u64 {
     let mut print = 0xCBF2_9CE4_8422_2325u64;
     for byte in name {
         print = (print ^ u64::from(*byte)).wrapping_mul(0x0000_0100_0000_01B3);
     }
-    ((print >> 45) ^ (print & 0x7_FFFF)) as u32
+    print ^ (print >> 32)
 }
 
-/// The number of a name by the hints, if they have it.
-pub(crate) fn hinted(hints: &IndexMap<u32, usize>, keys: &[Vec<u8>], name: &[u8]) -> Option<usize>
-    ensures { IfSome result (λ number. slice_get (map (λ key. key.items) keys.now) number ≡ Some name.now) }
+/// The bits of a fingerprint that its hint has.
+fn marked(print: u64) -> u32 {
+    (print >> 32) as u32 & !NUMBER
+}
+
+/// The place that a look for a fingerprint goes to, in a table of this many places.
+fn place_of(print: u64, look: usize, places: usize) -> usize
+    requires { 0 < places }
+    ensures { result < places }
 {
-    let number = hints.get(&fingerprint(name)).copied().unwrap_or(keys.len());
-    if number >= keys.len() {
+    (print as usize).wrapping_add(look) & (places - 1)
+}
+
+/// Puts the hint of a name's number at the first free place that is looked at for it, or nowhere.
+fn put_in(places: &mut [u32], print: u64, number: usize) {
+    let count = places.len();
+    if count == 0 || number >= NUMBER as usize {
+        return;
+    }
+    for look in 0..MOST_LOOKS {
+        let at = place_of(print, look, count);
+        if places[at] == 0 {
+            places[at] = marked(print) | (number as u32 + 1);
+            return;
+        }
+    }
+}
+
+/// A table of so many places with the hints of these names.
+fn table(alloc: Global, count: usize, bytes: &[u8], ends: &[u32]) -> Result<Vec<u32>, AllocError>
+    requires { AreRising 0 ends.now (length bytes.now) }
+{
+    let mut places = vec![in alloc; 0u32; count]?;
+    for number in 0..ends.len() {
+        put_in(
+            places.as_mut_slice(),
+            fingerprint(piece(bytes, ends, number)),
+            number,
+        );
+    }
+    Ok(places)
+}
+
+/// The number that a hint gives, if the name stands there.
+fn hinted(hint: u32, mark: u32, bytes: &[u8], ends: &[u32], name: &[u8]) -> Option<usize>
+    requires { AreRising 0 ends.now (length bytes.now) }
+    ensures { IfSome result (λ number. slice_get (pieces_from 0 bytes.now ends.now) number ≡ Some name.now) }
+{
+    if hint & !NUMBER != mark {
         return None;
     }
-    if keys[number].as_slice() == name {
+    let behind = (hint & NUMBER) as usize;
+    if behind == 0 || behind > ends.len() {
+        return None;
+    }
+    let number = behind - 1;
+    if piece(bytes, ends, number) == name {
         Some(number)
     } else {
+        None
+    }
+}
+
+impl Hints {
+    /// No hint yet.
+    pub(crate) fn new(alloc: Global) -> Hints {
+        Hints {
+            places: Vec::new(alloc),
+        }
+    }
+
+    /// Hints that a name comes behind those that stand one behind another. `Err` comes where a growth was refused.
+    pub(crate) fn put(
+        &mut self,
+        alloc: Global,
+        bytes: &[u8],
+        ends: &[u32],
+        name: &[u8],
+    ) -> Result<(), AllocError>
+        requires { AreRising 0 ends.now (length bytes.now) }
+    {
+        let number = ends.len();
+        let count = self.places.len();
+        if number >= count / 16 * 9 {
+            let wider = if count == 0 { 16 } else { count * 2 };
+            self.places = table(alloc, wider, bytes, ends)?;
+        }
+        put_in(self.places.as_mut_slice(), fingerprint(name), number);
+        Ok(())
+    }
+
+    /// The number of a name, of names that stand one behind another, if the hints have it.
+    pub(crate) fn find(&self, bytes: &[u8], ends: &[u32], name: &[u8]) -> Option<usize>
+        requires { AreRising 0 ends.now (length bytes.now) }
+        ensures { IfSome result (λ number. slice_get (pieces_from 0 bytes.now ends.now) number ≡ Some name.now) }
+    {
+        let print = fingerprint(name);
+        let mark = marked(print);
+        let places = self.places.as_slice();
+        let count = places.len();
+        if count == 0 {
+            return None;
+        }
+        for look in 0..MOST_LOOKS {
+            let hint = places[place_of(print, look, count)];
+            if hint == 0 {
+                return None;
+            }
+            if let Some(number) = hinted(hint, mark, bytes, ends, name) {
+                return Some(number);
+            }
+        }
         None
     }
 }

@@ -1,25 +1,26 @@
 //! Names and their numbers.
-ghost use Rattle.std.specs.Prelude.{◌≡◌, ℕ, ◌<◌, ◌++◌, ◌∷◌, ◌↔◌, [], List, Some, None, IsTrue, length, vec_len, vec_capacity, slice_get, if◌then◌else◌, IfSome, OnOk, OnErr};
+ghost use Rattle.std.specs.Prelude.{◌≡◌, ℕ, ◌+◌, ◌<◌, ◌++◌, ◌∷◌, ◌↔◌, [], List, Some, None, IsTrue, length, vec_len, vec_capacity, slice_get, if◌then◌else◌, IfSome, IfOk, OnOk, OnErr};
 ghost use Rattle.std.specs.BTreeMap.{get_by};
 ghost use Rattle.std.specs.Cmp.Lexicographic.{slice_cmp};
 ghost use Rattle.std.specs.Ordering.{nat_cmp};
 ghost use Rattle.std.specs.Str.{bytes_eq};
 ghost use Rattle.cip_problem.specs.Names.{number_of};
 
-use crate::name_hints::{fingerprint, hinted};
-use indexmap::IndexMap;
+use crate::name_hints::{Hints, piece};
 use std::alloc::{AllocError, Global};
 use std::collections::BTreeMap;
 use std::marker::Model;
 
-/// Distinct names; the number of a name is its place, from 0. A name is sought by hints, and where these have it not in
-/// the order of names, so that no choice of names makes the search long.
+/// Distinct names; the number of a name is its place, from 0. The names stand one behind another in a list of bytes, of
+/// which `ends` has the place behind each. A name is sought by hints, and where these have it not in the order of
+/// names, so that no choice of names makes the search long.
 #[derive(Debug, Drop)]
 pub struct Names {
     alloc: Global,
-    keys: Vec<Vec<u8>>,
+    bytes: Vec<u8>,
+    ends: Vec<u32>,
     order: BTreeMap<Vec<u8>, usize>,
-    hints: IndexMap<u32, usize>,
+    hints: Hints,
 }
 
 impl Model for Names {
@@ -50,12 +51,22 @@ fn put(order: &mut BTreeMap<Vec<u8>, usize>, name: Vec<u8>, number: usize) -> Re
     Ok(())
 }
 
-/// Puts a name behind others, for which there is room.
-fn push(keys: &mut Vec<Vec<u8>>, name: Vec<u8>)
-    requires { vec_len keys.old < vec_capacity keys.old }
-    ensures { keys.new.items ≡ keys.old.items ++ name ∷ [] }
+/// Puts the place behind a name behind those of others, for which there is room.
+fn push(ends: &mut Vec<u32>, end: u32)
+    requires { vec_len ends.old < vec_capacity ends.old }
+    ensures { ends.new.items ≡ ends.old.items ++ end ∷ [] }
 {
-    let _ = keys.push(name);
+    let _ = ends.push(end);
+}
+
+/// The place behind so many bytes more. `Err` comes where it is no `u32`.
+fn end_of(start: usize, more: usize) -> Result<u32, AllocError>
+    ensures { IfOk result (λ end. end ≡ start + more) }
+{
+    match start.checked_add(more) {
+        Some(end) if end <= u32::MAX as usize => Ok(end as u32),
+        _ => Err(AllocError),
+    }
 }
 
 impl Names {
@@ -67,9 +78,10 @@ impl Names {
     {
         Names {
             alloc,
-            keys: Vec::new(alloc),
+            bytes: Vec::new(alloc),
+            ends: Vec::new(alloc),
             order: BTreeMap::new(alloc),
-            hints: IndexMap::new(alloc),
+            hints: Hints::new(alloc),
         }
     }
 
@@ -77,14 +89,14 @@ impl Names {
     pub fn len(&self) -> usize
         ensures { result ≡ length self.now }
     {
-        self.keys.len()
+        self.ends.len()
     }
 
     /// Whether there is no name.
     pub fn is_empty(&self) -> bool
         ensures { IsTrue result ↔ (self.now ≡ []) }
     {
-        self.keys.is_empty()
+        self.len() == 0
     }
 
     /// The number of a name, from 0, or `None` where it is not there.
@@ -92,7 +104,10 @@ impl Names {
         ensures number { result ≡ number_of self.now name.now }
         ensures within { IfSome result (λ number. number < length self.now) }
     {
-        match hinted(&self.hints, self.keys.as_slice(), name) {
+        match self
+            .hints
+            .find(self.bytes.as_slice(), self.ends.as_slice(), name)
+        {
             Some(number) => Some(number),
             None => self.order.get(name).copied(),
         }
@@ -103,41 +118,39 @@ impl Names {
         requires { number < length self.now }
         ensures { slice_get self.now number ≡ Some result.now }
     {
-        let key = &self.keys[number];
-        key.as_slice()
+        piece(self.bytes.as_slice(), self.ends.as_slice(), number)
     }
 
     /// No name stands twice. Nothing is done.
     pub fn stand_once(&self)
         ensures { StandOnce self.now }
     {
-        let _ = &self.keys;
+        let _ = &self.ends;
     }
 
-    /// Hints the number that the next name gets, unless its fingerprint has a hint.
-    fn hint(&mut self, name: &[u8]) -> Result<(), AllocError>
-        ensures { self.new ≡ self.old }
-    {
-        let print = fingerprint(name);
-        if self.hints.get(&print).is_none() {
-            self.hints.insert(print, self.keys.len())?;
-        }
-        Ok(())
-    }
-
-    /// Puts a name that is not there yet at the end. `Err` comes where a growth was refused, and
-    /// changes nothing.
+    /// Puts a name that is not there yet at the end. `Err` comes where a growth was refused, or the names would have
+    /// more bytes than `u32::MAX`, and changes nothing.
     pub fn add(&mut self, name: Vec<u8>) -> Result<(), AllocError>
         requires { number_of self.old name.items ≡ None }
         ensures ok { OnOk result (self.new ≡ self.old ++ name.items ∷ []) }
         ensures err { OnErr result (self.new ≡ self.old) }
     {
-        self.hint(name.as_slice())?;
-        let number = self.keys.len();
-        let copy = name.as_slice().to_vec(self.alloc)?;
-        self.keys.reserve(1)?;
-        put(&mut self.order, copy, number)?;
-        push(&mut self.keys, name);
+        let start = self.bytes.len();
+        let number = self.ends.len();
+        let end = end_of(start, name.len())?;
+        self.hints.put(
+            self.alloc,
+            self.bytes.as_slice(),
+            self.ends.as_slice(),
+            name.as_slice(),
+        )?;
+        self.ends.reserve(1)?;
+        self.bytes.extend_from_slice(name.as_slice())?;
+        if let Err(error) = put(&mut self.order, name, number) {
+            self.bytes.truncate(start);
+            return Err(error);
+        }
+        push(&mut self.ends, end);
         Ok(())
     }
 }

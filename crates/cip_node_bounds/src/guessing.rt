@@ -223,8 +223,9 @@ fn may_come_together(program: &Program, basis: &Basis, beside: &Beside) -> bool 
 /// Of two bounds the greater one, as far as they are there.
 fn greater_bound(bound: Option<Frac>, other: Option<Frac>) -> Option<Frac>
     ensures greater { result ≡ greater bound other }
-    ensures shows { (program : Program) → (lent : Lent) → (box : List Sides) → IfSome bound (ShowsBound program lent box)
-        → IfSome other (ShowsBound program lent box) → IfSome result (ShowsBound program lent box) }
+    ensures shows { (program : Program) → (lent : Lent) → (box : List Sides)
+        → IfSome bound (ShowsBound program lent box) → IfSome other (ShowsBound program lent box)
+        → IfSome result (ShowsBound program lent box) }
 {
     match (bound, other) {
         (Some(own), Some(more)) => Some(if is_at_most(own, more) { more } else { own }),

@@ -3,13 +3,17 @@ use Rattle.std.proofs.Common.{◌≡◌, ◌⊎◌, inl, inr, ℕ, zero, suc, �
 use Rattle.std.specs.Prelude.{Result, Ok, Err, IsErr, IfOk}
 use Rattle.std.proofs.lemmas.Bool.{cases_lt}
 use Rattle.std.proofs.lemmas.Option.{none-some, same_Some, slice_get-get_or}
-use Rattle.std.proofs.lemmas.List.{map-append, reverse-append, take_more, take-append-drop, length-take, get_or-take, length_push, get_or_append_left, get_or_push}
+use Rattle.std.proofs.lemmas.List.{map-append, reverse-append, take_more, take-append-drop, length-take, get_or-take, length_push, get_or_append_left, get_or_default, get_or_push}
 use Rattle.std.proofs.lemmas.List.Elements.{All-push, All-take}
 use Rattle.cip_rational.specs.Rational.{ℚ}
 use Rattle.cip_problem.specs.Box.{IsInBox}
 use Rattle.cip_domain.specs.Changes.{Region, Change, tightened, narrowed}
-use Rattle.cip_domain.specs.Domain.{Domain, region_of, region_at, KeepsMarks}
+use Rattle.cip_domain.specs.Side.{Side}
+use Rattle.cip_domain.specs.declared.stores.Tightened.{Tightened}
+use Rattle.cip_domain.specs.declared.stores.Tightened.TheVariants.{Yes, Same, Empty}
+use Rattle.cip_domain.specs.Domain.{Domain, region_of, region_at, KeepsMarks, after_tightening}
 use Rattle.cip_domain.specs.Narrowing.{ArePlainPast, IsNarrowed}
+use Rattle.cip_domain.proofs.Marks.{keeps_itself}
 use Rattle.cip_tree.specs.declared.notes.Note.{Note}
 use Rattle.cip_tree.specs.Origins.{Origin}
 use Rattle.cip_tree.specs.declared.walks.Stop.{Stop}
@@ -113,6 +117,20 @@ walked_kept root slots ids old new e first same w = record {
     there = λ place slot f g. same k d l ∙ s.there place slot f g;
   });
 }
+
+-- where a side is tightened the marks so far stand still
+one_more : (before : List Region) (region new : Region) (mark : ℕ) → mark ≤ length before → get_or ((before ++ region ∷ []) ++ new ∷ []) mark new ≡ get_or (before ++ region ∷ []) mark region
+one_more before region new mark l =
+    let within : mark < length (before ++ region ∷ []) = omega (arith, l, length_push before region) in
+    get_or_append_left (before ++ region ∷ []) (new ∷ []) new mark within ∙ get_or_default (before ++ region ∷ []) mark new region within
+
+pub tightening_keeps : (answer : Tightened) (old new : Domain) (column : ℕ) (side : Side) (value : ℚ) → new ≡ after_tightening answer old column side value → KeepsMarks old new
+tightening_keeps Yes old new column side value e = subst (KeepsMarks old) (sym e) (record {
+  grows = omega (arith, length_push old.before (region_of old));
+  same = λ mark l. one_more old.before (region_of old) (region_of (after_tightening Yes old column side value)) mark l;
+})
+tightening_keeps Same old new column side value e = subst (KeepsMarks old) (sym e) (keeps_itself old)
+tightening_keeps Empty old new column side value e = subst (KeepsMarks old) (sym e) (keeps_itself old)
 
 pub walked_marks : (root : Region) (slots : Slots) (ids : ℕ) (old new : Way) → new.stops ≡ old.stops → AreHeld old.domain old.stops → KeepsMarks old.domain new.domain → IsWalked root slots ids old → IsWalked root slots ids new
 walked_marks root slots ids old new e held keeps w =

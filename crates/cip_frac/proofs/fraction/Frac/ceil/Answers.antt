@@ -1,6 +1,6 @@
-use Rattle.cip_frac.proofs.Fields.{ceil_field}
+use Rattle.cip_frac.proofs.Fields.{ceil_field, lowest_ratio}
 use Rattle.cip_frac.proofs.fraction.Frac.ceil.Goals as goal
 
 pub returns : goal.returns
 returns c =
-    ceil_field c.self.inside.numerator c.self.inside.denominator c.args.self c.self.invariant c.self.view_is c.floor_part_of.result c.floor_part_of.ensures.value c.floor_part_of.ensures.no_greater
+    ceil_field _ _ c.args.self c.terms-numerator.ensures.lowest (lowest_ratio _ _ c.args.self c.terms-numerator.ensures.over c.terms-numerator.ensures.under) c.floor_part_of.result c.floor_part_of.ensures.value c.floor_part_of.ensures.no_greater

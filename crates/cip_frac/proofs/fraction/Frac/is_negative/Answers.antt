@@ -1,6 +1,6 @@
-use Rattle.cip_frac.proofs.Fields.{negative_test}
+use Rattle.cip_frac.proofs.Fields.{negative_test, lowest_ratio}
 use Rattle.cip_frac.proofs.fraction.Frac.is_negative.Goals as goal
 
 pub returns : goal.returns
 returns c =
-    negative_test c.self.inside.numerator c.self.inside.denominator c.args.self c.self.invariant c.self.view_is
+    negative_test _ _ c.args.self c.terms.ensures.lowest (lowest_ratio _ _ c.args.self c.terms.ensures.over c.terms.ensures.under)

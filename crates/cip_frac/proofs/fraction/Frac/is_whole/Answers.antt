@@ -1,5 +1,5 @@
-use Rattle.cip_frac.proofs.Fields.{whole_test}
+use Rattle.cip_frac.proofs.Fields.{whole_test, lowest_ratio}
 use Rattle.cip_frac.proofs.fraction.Frac.is_whole.Goals as goal
 
 pub returns : goal.returns
-returns c = whole_test c.self.inside.numerator c.self.inside.denominator c.args.self c.self.invariant c.self.view_is
+returns c = whole_test _ _ c.args.self c.terms.ensures.lowest (lowest_ratio _ _ c.args.self c.terms.ensures.over c.terms.ensures.under)

@@ -1,18 +1,10 @@
-use Rattle.std.proofs.Common.{ap, sym, ◌∙◌}
-use Rattle.cip_rational.specs.Rational.{ratio, negate}
-use Rattle.cip_rational.proofs.Rational.Ratio.{ratio-negate}
-use Rattle.cip_frac.proofs.Casts.{negated}
-use Rattle.cip_frac.proofs.Fields.{AreLowest-neg}
-use Rattle.cip_frac.specs.LowestTerms.{AreLowest}
-use Rattle.std.proofs.Common.{subst}
+use Rattle.std.proofs.Common.{◌∙◌}
+use Rattle.cip_frac.proofs.Fields.{negated_lowest, negated_ratio, lowest_ratio}
 use Rattle.cip_frac.proofs.fraction.Frac.neg.Goals as goal
 
-pub invariant_of-result : goal.invariant_of-result
-invariant_of-result c =
-    subst (λ n. AreLowest n c.self.inside.denominator) (sym (negated c.self.inside.numerator c.self.invariant.over_small))
-    (AreLowest-neg c.self.inside.numerator c.self.inside.denominator c.self.invariant)
+pub of_lowest-requires : goal.of_lowest-requires
+of_lowest-requires c = negated_lowest _ _ c.terms-numerator.ensures.lowest
 
 pub returns : goal.returns
 returns c =
-    ap (λ n. ratio n c.self.inside.denominator) (negated c.self.inside.numerator c.self.invariant.over_small)
-    ∙ sym (ratio-negate c.self.inside.numerator c.self.inside.denominator) ∙ ap negate c.self.view_is
+    c.of_lowest.ensures ∙ negated_ratio _ _ c.args.self c.terms-numerator.ensures.lowest (lowest_ratio _ _ c.args.self c.terms-numerator.ensures.over c.terms-numerator.ensures.under)

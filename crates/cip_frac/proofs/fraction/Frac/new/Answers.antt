@@ -1,3 +1,4 @@
+use Rattle.std.proofs.Common.{◌∙◌}
 use Rattle.cip_frac.proofs.Quotients.{common_some, quotient_wide, quotient_lowest, quotient_value}
 use Rattle.cip_frac.proofs.fraction.Frac.new.Goals as goal
 
@@ -13,10 +14,11 @@ pub returns-then-size-gt-LARGEST : goal.returns-then-size-gt-LARGEST
 returns-then-size-gt-LARGEST c =
     quotient_wide c.args.p c.args.q c.ranges.p c.ranges.q c.if-q-eq0.false c.unsigned_abs-over.result c.unsigned_abs-under.result c.gcd-common.result c.unsigned_abs-over.ensures.value c.unsigned_abs-under.ensures.value c.gcd-common.ensures c.then-size-gt-LARGEST.either
 
-pub invariant_of-result : goal.invariant_of-result
-invariant_of-result c =
+pub of_lowest-requires : goal.of_lowest-requires
+of_lowest-requires c =
     quotient_lowest c.args.p c.args.q c.ranges.p c.ranges.q c.if-q-eq0.false c.unsigned_abs-over.result c.unsigned_abs-under.result c.gcd-common.result c.unsigned_abs-over.ensures.value c.unsigned_abs-under.ensures.value c.gcd-common.ensures c.with_sign-numerator.result c.with_sign-numerator.ensures c.if-size-gt-LARGEST.false c.if-denominator-gt-LARGEST.false
 
 pub returns : goal.returns
 returns c =
-    quotient_value c.args.p c.args.q c.ranges.p c.ranges.q c.if-q-eq0.false c.unsigned_abs-over.result c.unsigned_abs-under.result c.gcd-common.result c.unsigned_abs-over.ensures.value c.unsigned_abs-under.ensures.value c.gcd-common.ensures c.with_sign-numerator.result c.with_sign-numerator.ensures c.if-size-gt-LARGEST.false c.if-denominator-gt-LARGEST.false
+    let is = quotient_value c.args.p c.args.q c.ranges.p c.ranges.q c.if-q-eq0.false c.unsigned_abs-over.result c.unsigned_abs-under.result c.gcd-common.result c.unsigned_abs-over.ensures.value c.unsigned_abs-under.ensures.value c.gcd-common.ensures c.with_sign-numerator.result c.with_sign-numerator.ensures c.if-size-gt-LARGEST.false c.if-denominator-gt-LARGEST.false in
+    (is.0, c.of_lowest.ensures ∙ is.1)

@@ -1,5 +1,5 @@
-use Rattle.cip_frac.proofs.Fields.{numerator_field}
+use Rattle.cip_frac.proofs.Fields.{numerator_field, lowest_ratio}
 use Rattle.cip_frac.proofs.fraction.Frac.numerator.Goals as goal
 
 pub returns-clause-value : goal.returns-clause-value
-returns-clause-value c = numerator_field c.self.inside.numerator c.self.inside.denominator c.args.self c.self.invariant c.self.view_is
+returns-clause-value c = numerator_field _ _ c.args.self c.terms.ensures.lowest (lowest_ratio _ _ c.args.self c.terms.ensures.over c.terms.ensures.under)

@@ -10,12 +10,12 @@ pub returns-then-p-eqminus170141183460469231731687303715884105728 : goal.returns
 returns-then-p-eqminus170141183460469231731687303715884105728 c =
     (refl, least_is c.args.p c.if-p-eqminus170141183460469231731687303715884105728.true c.ranges.p, least_is_outside c.args.p c.if-p-eqminus170141183460469231731687303715884105728.true c.ranges.p)
 
-pub invariant_of-result : goal.invariant_of-result
-invariant_of-result c =
+pub of_lowest-requires : goal.of_lowest-requires
+of_lowest-requires c =
     let h = not_least c.args.p c.if-p-eqminus170141183460469231731687303715884105728.false c.ranges.p in
     subst (λ z. AreLowest z 1) (sym (kept c.args.p h)) (AreLowest-whole c.args.p h)
 
 pub returns : goal.returns
 returns c =
     let h = not_least c.args.p c.if-p-eqminus170141183460469231731687303715884105728.false c.ranges.p in
-    ap (λ z. ratio z 1) (kept c.args.p h) ∙ integer_ratio c.args.p
+    c.of_lowest.ensures ∙ ap (λ z. ratio z 1) (kept c.args.p h) ∙ integer_ratio c.args.p

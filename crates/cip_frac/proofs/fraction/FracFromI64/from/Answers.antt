@@ -6,9 +6,9 @@ use Rattle.cip_rational.proofs.Rational.Ratio.{integer_ratio}
 use Rattle.cip_frac.proofs.Fields.{AreLowest-whole}
 use Rattle.cip_frac.proofs.fraction.FracFromI64.from.Goals as goal
 
-pub invariant_of-result : goal.invariant_of-result
-invariant_of-result c =
+pub of_lowest-requires : goal.of_lowest-requires
+of_lowest-requires c =
     subst (λ n. AreLowest n 1) (sym (widened c.args.p c.ranges.p)) (AreLowest-whole c.args.p (widened_small c.args.p c.ranges.p))
 
 pub returns : goal.returns
-returns c = ap (λ n. ratio n 1) (widened c.args.p c.ranges.p) ∙ integer_ratio c.args.p
+returns c = c.of_lowest.ensures ∙ ap (λ n. ratio n 1) (widened c.args.p c.ranges.p) ∙ integer_ratio c.args.p
