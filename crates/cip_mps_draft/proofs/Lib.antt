@@ -3,6 +3,5 @@ pub mod ColumnLaws
 pub mod ValueLaws
 pub mod ListLaws
 pub mod TakenLaws
-pub mod RowTermLaws
 pub mod CostLaws
 pub mod ProgramLaws

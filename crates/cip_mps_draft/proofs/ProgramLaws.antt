@@ -1,5 +1,5 @@
 -- The objective, the names of the rows that are kept, and that the program is well-formed.
-use Rattle.std.proofs.Common.{◌≡◌, ℕ, zero, suc, ◌+◌, ◌<◌, ◌≤◌, Bool, true, false, cond, ◌||◌, List, [], ◌∷◌, ◌++◌, length, map, take, drop, Option, None, Some, refl, sym, ap, subst, ◌∙◌, arith, All}
+use Rattle.std.proofs.Common.{◌≡◌, ℕ, zero, suc, ◌+◌, ◌<◌, ◌≤◌, Bool, true, false, not, cond, ◌||◌, List, [], ◌∷◌, ◌++◌, length, map, take, drop, Option, None, Some, refl, sym, ap, subst, ◌∙◌, arith, All}
 use Rattle.std.specs.Prelude.{slice_get, slice_index_or, nat_lt, unwrap_or}
 use Rattle.std.specs.List.{AllByRecursion, filter, list_all, list_any}
 use Rattle.std.specs.Str.{bytes_eq}
@@ -66,7 +66,7 @@ take_absent (x ∷ xs) name (suc k) e = go (bytes_eq name x) refl e (take_absent
     go false p q h = is_in-cons x (take k xs) name ∙ or_false _ _ p (h (next_inside _ k q))
 
 -- one row more
-pub kept_more : (names : List (List ℕ)) (rows : List RowRead) (k : ℕ) (name : List ℕ) (row : RowRead) → slice_get names k ≡ Some name → k < length rows → row ≡ slice_index_or rows k row
+pub kept_more : (names : List (List ℕ)) (rows : List RowRead) (k : ℕ) (name : List ℕ) (row : RowRead) → slice_get names k ≡ Some name → k < length rows → row ≡ slice_index_or rows k no_row
     → kept_names (take (suc k) names) (take (suc k) rows) ≡ cond (is_kept row) (kept_names (take k names) (take k rows) ++ name ∷ []) (kept_names (take k names) (take k rows))
 kept_more [] rows k name row e l r = absurd (cc)
 kept_more (x ∷ xs) [] k name row e l r = absurd (omega (arith, l))
@@ -82,6 +82,14 @@ kept_more (x ∷ xs) (y ∷ ys) (suc k) name row e l r = go (is_kept y) (is_kept
     go true false h = ap (λ ns. x ∷ ns) h
     go false true h = h
     go false false h = h
+
+-- the name of a row that isn't of type N
+pub kept_unless : (free : Bool) (row : RowRead) (names : List (List ℕ)) (name : List ℕ) → free ≡ is_free row.kind → cond free names (names ++ name ∷ []) ≡ cond (is_kept row) (names ++ name ∷ []) names
+kept_unless free row names name e = ap (λ b. cond b names (names ++ name ∷ [])) e ∙ go (is_free row.kind)
+  where
+    go : (b : Bool) → cond b names (names ++ name ∷ []) ≡ cond (not b) (names ++ name ∷ []) names
+    go true = refl
+    go false = refl
 
 -- ---- a well-formed program
 

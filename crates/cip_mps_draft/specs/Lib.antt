@@ -1,4 +1,3 @@
-pub mod RowDrafts
 pub mod ColumnDrafts
 pub mod DraftStates
 pub mod FoundRows

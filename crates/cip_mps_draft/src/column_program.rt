@@ -8,9 +8,9 @@ ghost use Rattle.cip_mps_steps.specs.MpsSoundState.{rises};
 ghost use Rattle.cip_mps_draft.specs.Costs.{held_behind};
 
 use crate::column_draft::ColumnDraft;
-use crate::row_draft::Held;
 use cip_frac::Frac;
 use cip_lin::{Bounds, Choices};
+use cip_mps_rows::Held;
 use std::alloc::{AllocError, Global};
 
 /// A cost in the minimised form.

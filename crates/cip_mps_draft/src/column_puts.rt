@@ -51,18 +51,18 @@ impl Draft {
     /// Puts a number of a column at the end of a row, whose other numbers stand on columns before that. `Err` comes
     /// where a growth was refused, and changes nothing.
     fn hold(&mut self, row: Option<usize>, column: u32, value: Frac) -> Result<(), AllocError>
-        requires within { IfSome row (λ number. number < vec_len self.old.rows) }
+        requires within { IfSome row (λ number. number < length self.old.rows) }
         requires is_column { column < length self.old.column_names }
         requires open { IfSome row
-            (λ number. held_below column (slice_index_or self.old.rows.items number no_row).held ≡ true) }
+            (λ number. held_below column (slice_index_or self.old.rows number no_row).held ≡ true) }
         ensures { OnOk result (kept self.new
-            ≡ record (kept self.old) { rows = changed no_row self.old.rows.items row (with_held column value) }) }
+            ≡ record (kept self.old) { rows = changed no_row self.old.rows row (with_held column value) }) }
     {
         match row {
             None => Ok(()),
             Some(number) => {
-                let row = &mut self.rows[number];
-                row.hold(column, value)
+                self.rows.hold(number, column, value)?;
+                Ok(())
             }
         }
     }
@@ -78,11 +78,11 @@ impl Draft {
         requires found { AreFound self.old.row_names values.now rows }
         requires apart { has_twins (values_of values.now) ≡ false }
         requires open_first { IfSome rows.first
-            (λ number. held_below column (slice_index_or self.old.rows.items number no_row).held ≡ true) }
+            (λ number. held_below column (slice_index_or self.old.rows number no_row).held ≡ true) }
         requires open_second { IfSome rows.second
-            (λ number. held_below column (slice_index_or self.old.rows.items number no_row).held ≡ true) }
+            (λ number. held_below column (slice_index_or self.old.rows number no_row).held ≡ true) }
         ensures { OnOk result (kept self.new ≡ record (kept self.old) {
-          rows = put_values (with_held column) self.old.row_names self.old.rows.items (values_of values.now);
+          rows = put_values (with_held column) self.old.row_names self.old.rows (values_of values.now);
         }) }
     {
         self.hold(rows.first, column, values.first.number.value())?;

@@ -34,11 +34,11 @@ impl Draft {
     /// Whether the row of a number has a number in the column of a number.
     fn holds(&self, column: Option<usize>, row: Option<usize>) -> bool
         requires column { IfSome column (λ number. number < vec_len self.now.columns) }
-        requires row { IfSome row (λ number. number < vec_len self.now.rows) }
-        ensures { result ≡ holds column (item_at no_row self.now.rows.items row) }
+        requires row { IfSome row (λ number. number < length self.now.rows) }
+        ensures { result ≡ holds column (item_at no_row self.now.rows row) }
     {
         match (column, row) {
-            (Some(column), Some(row)) => self.rows[row].holds(column as u32),
+            (Some(column), Some(row)) => self.rows.holds(row, column as u32),
             _ => false,
         }
     }

@@ -6,8 +6,8 @@ ghost use Rattle.cip_mps_steps.specs.MpsState.{is_kept};
 ghost use Rattle.cip_mps_steps.specs.MpsSoundState.{held_below};
 
 use crate::column_draft::ColumnDraft;
-use crate::row_draft::RowDraft;
 use cip_mps_lines::Part;
+use cip_mps_rows::RowTable;
 use cip_name_index::NameIndex;
 use std::alloc::Global;
 
@@ -21,7 +21,7 @@ pub struct Draft {
     pub(crate) sense: Option<bool>,
     pub(crate) row_names: NameIndex,
     /// The rows of these names, with those of type N.
-    pub(crate) rows: Vec<RowDraft>,
+    pub(crate) rows: RowTable,
     pub(crate) column_names: NameIndex,
     pub(crate) columns: Vec<ColumnDraft>,
     /// How many rows aren't of type N.
@@ -30,11 +30,11 @@ pub struct Draft {
     pub(crate) entries: usize,
     /// The row that is looked at first for the next name.
     pub(crate) near: usize,
-    ghost rows_named: { vec_len rows ≡ length row_names },
+    ghost rows_named: { length rows ≡ length row_names },
     ghost columns_named: { vec_len columns ≡ length column_names },
-    ghost rows_counted: { row_count ≡ length (filter is_kept rows.items) },
+    ghost rows_counted: { row_count ≡ length (filter is_kept rows) },
     ghost few_rows: { row_count ≤ most_rows },
     ghost few_columns: { vec_len columns ≤ most_columns },
     ghost few_entries: { entries ≤ most_entries },
-    ghost rows_below: { list_all (λ row. held_below (length column_names) row.held) rows.items ≡ true },
+    ghost rows_below: { list_all (λ row. held_below (length column_names) row.held) rows ≡ true },
 }

@@ -1,5 +1,5 @@
 //! Names and their numbers.
-ghost use Rattle.std.specs.Prelude.{◌≡◌, ◌<◌, vec_len, IfSome};
+ghost use Rattle.std.specs.Prelude.{◌≡◌, ◌<◌, length, vec_len, IfSome};
 ghost use Rattle.cip_mps_rules.specs.MpsWords.{number_in};
 ghost use Rattle.cip_mps_draft.specs.FoundRows.{AreFound};
 
@@ -36,7 +36,7 @@ impl Draft {
     /// The number of the row of this name.
     pub(crate) fn find_row(&self, name: &[u8]) -> Option<usize>
         ensures number { result ≡ number_in self.now.row_names name.now }
-        ensures within { IfSome result (λ number. number < vec_len self.now.rows) }
+        ensures within { IfSome result (λ number. number < length self.now.rows) }
     {
         self.row_names.find(name)
     }

@@ -12,40 +12,21 @@ ghost use Rattle.cip_mps_draft.specs.DraftStates.{kept};
 
 use crate::column_program::{bounds_of, choices_of, costs_of, minimized, wholes_of};
 use crate::draft::Draft;
-use crate::row_draft::{Held, RowDraft};
-use crate::row_program::finished_rows;
 use cip_frac::Frac;
 use cip_lin::{Bounds, Choices, Row};
 use cip_model::{Names, Parts, Program, Sense};
+use cip_mps_rows::RowTable;
 use cip_mps_steps::numbers_are_of_names;
 use cip_name_index::NameIndex;
 use std::alloc::{AllocError, Global};
 
-impl RowDraft {
-    /// Its numbers, by rising column.
-    fn numbers(&self) -> &[Held]
-        ensures items { result.now ≡ self.now.held }
-        ensures rising { rises self.now.held ≡ true }
-    {
-        self.held.as_slice()
-    }
-
-    /// Its right-hand side, 0 where it has none.
-    fn right_side_or_zero(&self) -> Frac
-        ensures { result ≡ right_side_of self.now }
-    {
-        self.right_side.unwrap_or(Frac::zero())
-    }
-}
-
 /// The number of the first row of type N.
-fn objective_at(rows: &[RowDraft]) -> Option<usize>
+fn objective_at(rows: &RowTable) -> Option<usize>
     ensures { MatchOption result (objective_row rows.now ≡ no_row)
         (λ number. (number < length rows.now) × (objective_row rows.now ≡ slice_index_or rows.now number no_row)) }
 {
     for number in 0..rows.len() {
-        let row = &rows[number];
-        if row.is_free() {
+        if rows.is_free(number) {
             return Some(number);
         }
     }
@@ -56,7 +37,7 @@ fn objective_at(rows: &[RowDraft]) -> Option<usize>
 fn objective_costs(
     alloc: Global,
     sense: Option<bool>,
-    rows: &[RowDraft],
+    rows: &RowTable,
     columns: usize,
 ) -> Result<Vec<Frac>, AllocError>
     requires { columns ≤ most_columns }
@@ -65,46 +46,42 @@ fn objective_costs(
     match objective_at(rows) {
         None => costs_of(alloc, sense, &[], columns),
         Some(number) => {
-            let row = &rows[number];
-            costs_of(alloc, sense, row.numbers(), columns)
+            let held = rows.numbers(alloc, number)?;
+            costs_of(alloc, sense, held.as_slice(), columns)
         }
     }
 }
 
 /// The constant of the cost, in the minimised form: a right-hand side of the objective is subtracted.
-fn objective_constant(sense: Option<bool>, rows: &[RowDraft]) -> Frac
+fn objective_constant(sense: Option<bool>, rows: &RowTable) -> Frac
     ensures { result ≡ minimized_by sense (negate (right_side_of (objective_row rows.now))) }
 {
     match objective_at(rows) {
         None => minimized(sense, Frac::zero().neg()),
-        Some(number) => {
-            let row = &rows[number];
-            minimized(sense, row.right_side_or_zero().neg())
-        }
+        Some(number) => minimized(sense, rows.right_side_or_zero(number).neg()),
     }
 }
 
-/// Puts the name of a row behind others, unless it is of type N. `Err` comes where a growth was refused.
-fn keep_name(alloc: Global, kept: &mut Names, name: &[u8], row: &RowDraft) -> Result<(), AllocError>
+/// Puts the name of a row behind others, unless the row is of type N. `Err` comes where a growth was refused.
+fn keep_name(alloc: Global, kept: &mut Names, name: &[u8], free: bool) -> Result<(), AllocError>
     requires { is_in kept.old name.now ≡ false }
-    ensures { OnOk result (kept.new ≡ (if is_kept row.now then kept.old ++ name.now ∷ [] else kept.old)) }
+    ensures { OnOk result (kept.new ≡ (if free then kept.old else kept.old ++ name.now ∷ [])) }
 {
     numbers_are_of_names();
-    if !row.is_free() {
+    if !free {
         kept.add(name.to_vec(alloc)?)?;
     }
     Ok(())
 }
 
 /// The names of the rows that aren't of type N.
-fn names_of(alloc: Global, names: &NameIndex, rows: &[RowDraft]) -> Result<Names, AllocError>
+fn names_of(alloc: Global, names: &NameIndex, rows: &RowTable) -> Result<Names, AllocError>
     requires { length names.now ≡ length rows.now }
     ensures { IfOk result (λ kept. kept ≡ kept_names names.now rows.now) }
 {
     let mut kept = Names::new(alloc);
     for number in 0..rows.len() {
-        let row = &rows[number];
-        keep_name(alloc, &mut kept, names.name(number), row)?;
+        keep_name(alloc, &mut kept, names.name(number), rows.is_free(number))?;
     }
     Ok(kept)
 }
@@ -133,9 +110,9 @@ impl Draft {
     /// Its names of rows, costs, whole columns, bounds and choices. `Err` comes where a growth was refused.
     fn copied(&self) -> Result<Copied, AllocError>
         ensures row_names { IfOk result (λ copied. copied.row_names
-            ≡ kept_names self.now.row_names self.now.rows.items) }
+            ≡ kept_names self.now.row_names self.now.rows) }
         ensures costs { IfOk result (λ copied. copied.costs.items
-            ≡ costs_from self.now.sense (objective_row self.now.rows.items).held 0 (length self.now.column_names)) }
+            ≡ costs_from self.now.sense (objective_row self.now.rows).held 0 (length self.now.column_names)) }
         ensures whole { IfOk result (λ copied. copied.whole.items
             ≡ map (λ column. (settled column).whole) self.now.columns.items) }
         ensures bounds { IfOk result (λ copied. copied.bounds
@@ -145,13 +122,12 @@ impl Draft {
             then map (λ column. choice_of (settled column)) self.now.columns.items else [])) }
     {
         let alloc = self.alloc;
-        let rows = self.rows.as_slice();
         let columns = self.columns.as_slice();
         let whole = wholes_of(alloc, columns)?;
         let bounds = bounds_of(alloc, columns)?;
         let choices = choices_of(alloc, columns)?;
-        let costs = objective_costs(alloc, self.sense, rows, columns.len())?;
-        let row_names = names_of(alloc, &self.row_names, rows)?;
+        let costs = objective_costs(alloc, self.sense, &self.rows, columns.len())?;
+        let row_names = names_of(alloc, &self.row_names, &self.rows)?;
         Ok(Copied {
             row_names,
             costs,
@@ -161,18 +137,22 @@ impl Draft {
         })
     }
 
-    /// The names of its columns, and the rows of the program. `Err` comes where a growth was refused.
+    /// The names of its columns, and the rows of the program; what else it has is freed first. `Err` comes where a
+    /// growth was refused.
     fn into_rows(self) -> Result<(Names, Vec<Row>), AllocError>
         ensures names { IfOk result (λ parts. parts.0 ≡ self.column_names) }
-        ensures rows { IfOk result (λ parts. parts.1.items ≡ map finished_row (filter is_kept self.rows.items)) }
+        ensures rows { IfOk result (λ parts. parts.1.items ≡ map finished_row (filter is_kept self.rows)) }
     {
         let Draft {
-            alloc,
+            row_names,
             rows,
             column_names,
+            columns,
             ..
         } = self;
-        let rows = finished_rows(alloc, rows)?;
+        drop(row_names);
+        drop(columns);
+        let rows = rows.into_rows()?;
         Ok((column_names.into_names(), rows))
     }
 
@@ -181,7 +161,7 @@ impl Draft {
         ensures { IfOk result (λ program. program ≡ program_from (kept self)) }
     {
         let copied = self.copied()?;
-        let constant = objective_constant(self.sense, self.rows.as_slice());
+        let constant = objective_constant(self.sense, &self.rows);
         let sense = sense_of(self.sense);
         let (column_names, rows) = self.into_rows()?;
         let Copied {

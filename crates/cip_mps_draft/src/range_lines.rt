@@ -1,5 +1,5 @@
 //! The lines of RANGES.
-ghost use Rattle.std.specs.Prelude.{◌≡◌, ◌<◌, false, None, Some, vec_len, IfSome};
+ghost use Rattle.std.specs.Prelude.{◌≡◌, ◌<◌, false, None, Some, length, IfSome};
 ghost use Rattle.std.specs.List.{list_any};
 ghost use Rattle.cip_mps_lines.specs.MpsLines.{values_of};
 ghost use Rattle.cip_mps_rules.specs.MpsRules.{least};
@@ -18,12 +18,12 @@ use cip_mps_lines::Pairs;
 impl Draft {
     /// Whether the row of a number has a value in RANGES.
     fn has_range(&self, row: Option<usize>) -> bool
-        requires { IfSome row (λ number. number < vec_len self.now.rows) }
-        ensures { result ≡ has_range (item_at no_row self.now.rows.items row) }
+        requires { IfSome row (λ number. number < length self.now.rows) }
+        ensures { result ≡ has_range (item_at no_row self.now.rows row) }
     {
         match row {
             None => false,
-            Some(number) => self.rows[number].has_range(),
+            Some(number) => self.rows.has_range(number),
         }
     }
 
@@ -42,12 +42,12 @@ impl Draft {
 
     /// Whether the row of a number is of type N.
     fn is_free_at(&self, row: Option<usize>) -> bool
-        requires { IfSome row (λ number. number < vec_len self.now.rows) }
-        ensures { result ≡ is_free_at (item_at no_row self.now.rows.items row) }
+        requires { IfSome row (λ number. number < length self.now.rows) }
+        ensures { result ≡ is_free_at (item_at no_row self.now.rows row) }
     {
         match row {
             None => false,
-            Some(number) => self.rows[number].is_free(),
+            Some(number) => self.rows.is_free(number),
         }
     }
 
@@ -66,12 +66,12 @@ impl Draft {
 
     /// Whether a side of the row of a number can't be formed with a value in RANGES.
     fn is_wide_with_range(&self, row: Option<usize>, value: Frac) -> bool
-        requires { IfSome row (λ number. number < vec_len self.now.rows) }
-        ensures { result ≡ overflows_with None (Some value) (item_at no_row self.now.rows.items row) }
+        requires { IfSome row (λ number. number < length self.now.rows) }
+        ensures { result ≡ overflows_with None (Some value) (item_at no_row self.now.rows row) }
     {
         match row {
             None => false,
-            Some(number) => self.rows[number].is_wide_with_range(value),
+            Some(number) => self.rows.is_wide_with_range(number, value),
         }
     }
 
@@ -125,14 +125,13 @@ impl Draft {
 
     /// Sets the value in RANGES of the row of a number.
     fn set_range(&mut self, row: Option<usize>, value: Frac)
-        requires within { IfSome row (λ number. number < vec_len self.old.rows) }
-        requires fits { overflows_with None (Some value) (item_at no_row self.old.rows.items row) ≡ false }
+        requires within { IfSome row (λ number. number < length self.old.rows) }
+        requires fits { overflows_with None (Some value) (item_at no_row self.old.rows row) ≡ false }
         ensures { kept self.new
-            ≡ record (kept self.old) { rows = changed no_row self.old.rows.items row (with_range value) } }
+            ≡ record (kept self.old) { rows = changed no_row self.old.rows row (with_range value) } }
     {
         if let Some(number) = row {
-            let row = &mut self.rows[number];
-            row.set_range(value);
+            self.rows.set_range(number, value);
         }
     }
 
@@ -141,7 +140,7 @@ impl Draft {
         requires found { AreFound self.old.row_names values.now rows }
         requires passed { least (range_tests (kept self.old) (values_of values.now)) ≡ None }
         ensures { kept self.new ≡ record (kept self.old) {
-          rows = put_values with_range self.old.row_names self.old.rows.items (values_of values.now);
+          rows = put_values with_range self.old.row_names self.old.rows (values_of values.now);
         } }
     {
         self.set_range(rows.first, values.first.number.value());

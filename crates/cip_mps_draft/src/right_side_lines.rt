@@ -1,5 +1,5 @@
 //! The lines of RHS.
-ghost use Rattle.std.specs.Prelude.{◌≡◌, ◌<◌, false, None, Some, vec_len, IfSome};
+ghost use Rattle.std.specs.Prelude.{◌≡◌, ◌<◌, false, None, Some, length, IfSome};
 ghost use Rattle.std.specs.List.{list_any};
 ghost use Rattle.cip_mps_lines.specs.MpsLines.{values_of};
 ghost use Rattle.cip_mps_rules.specs.MpsRules.{least};
@@ -18,12 +18,12 @@ use cip_mps_lines::Pairs;
 impl Draft {
     /// Whether the row of a number has a value in RHS.
     fn has_right_side(&self, row: Option<usize>) -> bool
-        requires { IfSome row (λ number. number < vec_len self.now.rows) }
-        ensures { result ≡ has_right_side (item_at no_row self.now.rows.items row) }
+        requires { IfSome row (λ number. number < length self.now.rows) }
+        ensures { result ≡ has_right_side (item_at no_row self.now.rows row) }
     {
         match row {
             None => false,
-            Some(number) => self.rows[number].has_right_side(),
+            Some(number) => self.rows.has_right_side(number),
         }
     }
 
@@ -42,12 +42,12 @@ impl Draft {
 
     /// Whether a side of the row of a number can't be formed with a value in RHS.
     fn is_wide_with_right_side(&self, row: Option<usize>, value: Frac) -> bool
-        requires { IfSome row (λ number. number < vec_len self.now.rows) }
-        ensures { result ≡ overflows_with (Some value) None (item_at no_row self.now.rows.items row) }
+        requires { IfSome row (λ number. number < length self.now.rows) }
+        ensures { result ≡ overflows_with (Some value) None (item_at no_row self.now.rows row) }
     {
         match row {
             None => false,
-            Some(number) => self.rows[number].is_wide_with_right_side(value),
+            Some(number) => self.rows.is_wide_with_right_side(number, value),
         }
     }
 
@@ -98,14 +98,13 @@ impl Draft {
 
     /// Sets the value in RHS of the row of a number.
     fn set_right_side(&mut self, row: Option<usize>, value: Frac)
-        requires within { IfSome row (λ number. number < vec_len self.old.rows) }
-        requires fits { overflows_with (Some value) None (item_at no_row self.old.rows.items row) ≡ false }
+        requires within { IfSome row (λ number. number < length self.old.rows) }
+        requires fits { overflows_with (Some value) None (item_at no_row self.old.rows row) ≡ false }
         ensures { kept self.new
-            ≡ record (kept self.old) { rows = changed no_row self.old.rows.items row (with_right_side value) } }
+            ≡ record (kept self.old) { rows = changed no_row self.old.rows row (with_right_side value) } }
     {
         if let Some(number) = row {
-            let row = &mut self.rows[number];
-            row.set_right_side(value);
+            self.rows.set_right_side(number, value);
         }
     }
 
@@ -114,7 +113,7 @@ impl Draft {
         requires found { AreFound self.old.row_names values.now rows }
         requires passed { least (right_side_tests (kept self.old) (values_of values.now)) ≡ None }
         ensures { kept self.new ≡ record (kept self.old) {
-          rows = put_values with_right_side self.old.row_names self.old.rows.items (values_of values.now);
+          rows = put_values with_right_side self.old.row_names self.old.rows (values_of values.now);
         } }
     {
         self.set_right_side(rows.first, values.first.number.value());

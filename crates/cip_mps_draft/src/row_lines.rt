@@ -10,7 +10,6 @@ ghost use Rattle.cip_mps_draft.specs.DraftStates.{kept};
 ghost use Rattle.cip_mps_draft.specs.DraftLines.{row_line_tests};
 
 use crate::draft::Draft;
-use crate::row_draft::RowDraft;
 use cip_model::{LONGEST_NAME, MOST_ROWS};
 use cip_mps_lines::RowKind;
 use cip_mps_sides::is_free_kind;
@@ -42,14 +41,16 @@ impl Draft {
         requires few { (not (is_free (row_kind_in kind)) && nat_le most_rows self.old.row_count) ≡ false }
         ensures { OnOk result (kept self.new ≡ record (kept self.old) {
           row_names = self.old.row_names ++ name.now ∷ [];
-          rows = self.old.rows.items ++ new_row (row_kind_in kind) ∷ [];
+          rows = self.old.rows ++ new_row (row_kind_in kind) ∷ [];
           row_count = if is_free (row_kind_in kind) then self.old.row_count else self.old.row_count + 1;
         }) }
     {
         let owned = name.to_vec(self.alloc)?;
-        self.rows.reserve(1)?;
-        self.row_names.add(owned)?;
-        let _ = self.rows.push(RowDraft::new(self.alloc, kind));
+        self.rows.push(kind)?;
+        if self.row_names.add(owned).is_err() {
+            self.rows.pop();
+            return Err(AllocError);
+        }
         if !is_free_kind(kind) {
             self.row_count += 1;
         }

@@ -16,8 +16,8 @@ ghost use Rattle.cip_mps_draft.specs.DraftStates.{kept};
 
 use crate::column_program::any_lacks_sides;
 use crate::draft::Draft;
-use crate::row_draft::RowDraft;
 use cip_mps_lines::{Part, sense_of};
+use cip_mps_rows::RowTable;
 use cip_text::Fields;
 use std::alloc::AllocError;
 
@@ -77,10 +77,15 @@ fn any_same(opened: &[Part], part: Part) -> bool
 }
 
 /// Whether a row is of type N.
-fn any_free(rows: &[RowDraft]) -> bool
+fn any_free(rows: &RowTable) -> bool
     ensures { result ≡ list_any (λ row. is_free row.kind) rows.now }
 {
-    rows.iter().any(|row| row.is_free())
+    for number in 0..rows.len() {
+        if rows.is_free(number) {
+            return true;
+        }
+    }
+    false
 }
 
 /// Whether a section line has a wrong number of words behind its first.
@@ -142,9 +147,9 @@ impl Draft {
 
     /// Whether a row is of type N.
     fn has_objective(&self) -> bool
-        ensures { result ≡ list_any is_free (map (λ row. row.kind) self.now.rows.items) }
+        ensures { result ≡ list_any is_free (map (λ row. row.kind) self.now.rows) }
     {
-        any_free(self.rows.as_slice())
+        any_free(&self.rows)
     }
 
     /// Whether a semi-continuous column lacks one of the bounds that it must have.

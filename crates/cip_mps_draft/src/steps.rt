@@ -13,6 +13,7 @@ ghost use Rattle.cip_mps_draft.specs.DraftSteps.{IsStep, PlacesJoin};
 use crate::draft::Draft;
 use crate::sections::sense_fault;
 use cip_mps_lines::{BoundKind, BoundNumber, Line, Pairs, Part, RowKind, sense_of};
+use cip_mps_rows::RowTable;
 use cip_mps_steps::lines_have_tests;
 use cip_name_index::NameIndex;
 use cip_text::Fields;
@@ -172,7 +173,7 @@ impl Draft {
             opened: Vec::new(alloc),
             sense: None,
             row_names: NameIndex::new(alloc),
-            rows: Vec::new(alloc),
+            rows: RowTable::new(alloc),
             column_names: NameIndex::new(alloc),
             columns: Vec::new(alloc),
             row_count: 0,

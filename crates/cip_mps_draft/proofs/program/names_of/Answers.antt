@@ -1,6 +1,7 @@
-use Rattle.std.proofs.Common.{◌++◌, ◌∷◌, [], cond, ap, sym, ◌∙◌, take, add-one}
-use Rattle.cip_mps_steps.specs.MpsState.{is_kept, kept_names}
-use Rattle.cip_mps_draft.proofs.ProgramLaws.{kept_absent, take_absent, kept_more}
+use Rattle.std.proofs.Common.{◌++◌, ◌∷◌, [], cond, refl, ap, sym, ◌∙◌, take, add-one, arith}
+use Rattle.std.specs.Prelude.{slice_index_or}
+use Rattle.cip_mps_steps.specs.MpsState.{no_row, is_kept, kept_names}
+use Rattle.cip_mps_draft.proofs.ProgramLaws.{kept_absent, take_absent, kept_more, kept_unless}
 use Rattle.cip_mps_draft.proofs.program.names_of.Goals as goal
 
 pub keep_name-requires : goal.keep_name-requires
@@ -13,7 +14,8 @@ pub loop-number-preserved : goal.loop-number-preserved
 loop-number-preserved c =
     let n = c.loop-number.number in
     let name = c.name.result.now in
-    let row = c.index-rows-number.result in
-    c.in_ok-keep_name.ensures ∙ ap (λ ns. cond (is_kept row) (ns ++ name ∷ []) ns) c.loop-number.invariant
-    ∙ sym (kept_more c.args.names.now c.args.rows.now n name row c.name.ensures.name c.loop-number-test.true c.index-rows-number.is)
+    let row = slice_index_or c.args.rows.now n no_row in
+    c.in_ok-keep_name.ensures ∙ kept_unless c.is_free.result row c.loop-number.kept name c.is_free.ensures
+    ∙ ap (λ ns. cond (is_kept row) (ns ++ name ∷ []) ns) c.loop-number.invariant
+    ∙ sym (kept_more c.args.names.now c.args.rows.now n name row c.name.ensures.name (omega (arith, c.loop-number-test.true, c.len-number-end.ensures)) refl)
     ∙ ap (λ k. kept_names (take k c.args.names.now) (take k c.args.rows.now)) (sym (add-one n))

@@ -5,4 +5,4 @@ use Rattle.cip_mps_draft.proofs.ListLaws.{list_any_map}
 use Rattle.cip_mps_draft.proofs.draft.Draft.has_objective.Goals as goal
 
 pub returns : goal.returns
-returns c = rw (← c.as_slice.ensures.value) (c.any_free.ensures ∙ sym (list_any_map is_free (λ (row : RowRead). row.kind) c.as_slice.result.now))
+returns c = c.any_free.ensures ∙ sym (list_any_map is_free (λ (row : RowRead). row.kind) c.args.self.now.rows)

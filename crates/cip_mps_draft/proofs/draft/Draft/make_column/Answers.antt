@@ -7,4 +7,4 @@ pub invariant_of-self-2-clause-rows_below : goal.invariant_of-self-2-clause-rows
 invariant_of-self-2-clause-rows_below c =
     let names = c.args.self.now.column_names in
     let l : length names ≤ length c.add.new.self = rw c.in_ok-add.ensures.ok (omega (arith, length-append names (c.in_ok-owned.owned.items ∷ []))) in
-    more_below (length names) (length c.add.new.self) c.args.self.now.rows.items l c.args.self.now.rows_below
+    more_below (length names) (length c.add.new.self) c.args.self.now.rows l c.args.self.now.rows_below

@@ -15,7 +15,7 @@ hold_values-requires-clause-open_first c =
     let p = passes_column state c.args.name.now (values_of c.args.values.now) c.requires.passed in
     let column = number_in state.column_names c.args.name.now in
     let free = first_free state column c.args.values.now.first.row.now (second_in c.args.values.now.second) (value_in c.args.values.now.first) c.args.rows.first refl c.requires.rows.first p.none_held in
-    opened state c.args.name.now c.args.rows.first c.in_ok-number.number c.make_column.new.self.rows.items c.in_ok-number.ensures.number
+    opened state c.args.name.now c.args.rows.first c.in_ok-number.number c.make_column.new.self.rows c.in_ok-number.ensures.number
     (ap (λ s. s.rows) c.in_ok-number.ensures.state) c.args.self.now.rows_below free p.last
 
 pub hold_values-requires-clause-open_second : goal.hold_values-requires-clause-open_second
@@ -24,5 +24,5 @@ hold_values-requires-clause-open_second c =
     let p = passes_column state c.args.name.now (values_of c.args.values.now) c.requires.passed in
     let column = number_in state.column_names c.args.name.now in
     let free = second_free state column c.args.values.now.second c.args.rows.second c.requires.rows.second (right_false _ (list_any (λ value. holds column (row_at state value.row)) (second_in c.args.values.now.second)) p.none_held) in
-    opened state c.args.name.now c.args.rows.second c.in_ok-number.number c.make_column.new.self.rows.items c.in_ok-number.ensures.number
+    opened state c.args.name.now c.args.rows.second c.in_ok-number.number c.make_column.new.self.rows c.in_ok-number.ensures.number
     (ap (λ s. s.rows) c.in_ok-number.ensures.state) c.args.self.now.rows_below free p.last

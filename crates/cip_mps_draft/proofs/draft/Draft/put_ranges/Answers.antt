@@ -20,7 +20,7 @@ set_range-requires-in-Some-clause-fits c =
     let second = value_in c.in-Some.pair in
     let passed : least (range_tests state (first ∷ second ∷ [])) ≡ None = subst (λ (o : Option Pair). least (range_tests state (first ∷ second_in o)) ≡ None) c.in-Some.is c.requires.passed in
     let p = passes (range_tests state (first ∷ second ∷ [])) passed in
-    let rows : c.set_range.new.self.rows.items ≡ changed no_row state.rows c.args.rows.first (with_range c.value.result) = ap (λ s. s.rows) c.set_range.ensures in
+    let rows : c.set_range.new.self.rows ≡ changed no_row state.rows c.args.rows.first (with_range c.value.result) = ap (λ s. s.rows) c.set_range.ensures in
     let found : c.args.rows.second ≡ number_in state.row_names second.row = rw c.in-Some.is at c.requires.found.second in
     let apart : bytes_eq first.row second.row ≡ false = left_false _ false (left_false _ _ (right_false _ _ p.1.1.1.1.0)) in
     rw rows

@@ -1,19 +1,27 @@
-use Rattle.std.proofs.Common.{◌<◌, length, arith, ap}
+use Rattle.std.proofs.Common.{◌≡◌, ◌<◌, List, true, length, refl, sym, subst, ◌∙◌}
+use Rattle.std.specs.Prelude.{slice_index_or}
+use Rattle.std.specs.List.{filter, list_all}
+use Rattle.std.proofs.Math.ListN.{length-set}
+use Rattle.cip_mps_steps.specs.MpsState.{RowRead, no_row, is_kept}
+use Rattle.cip_mps_steps.specs.MpsSteps.{with_right_side}
 use Rattle.cip_mps_steps.specs.MpsSoundState.{held_below}
-use Rattle.std.proofs.Common.{◌≡◌, true}
-use Rattle.cip_mps_draft.proofs.RowLaws.{still_counted, still_below}
+use Rattle.cip_mps_draft.proofs.RowLaws.{changed_counted, changed_below}
 use Rattle.cip_mps_draft.proofs.draft.Draft.set_right_side.Goals as goal
 
-pub invariant_of-self-clause-rows_counted : goal.invariant_of-self-clause-rows_counted
-invariant_of-self-clause-rows_counted c =
-    let within = rw c.in-Some.is at c.requires.within in
-    let l : c.in-Some.number < length c.args.self.now.rows.items = omega (arith, within, c.args.self.now.rows.ok) in
-    still_counted _ _ _ c.index_mut-row.result.now c.set_right_side.new.self l c.index_mut-row.ensures.value (ap (λ r. r.kind) c.set_right_side.ensures) c.args.self.now.rows_counted
-
-pub invariant_of-self-clause-rows_below : goal.invariant_of-self-clause-rows_below
-invariant_of-self-clause-rows_below c =
-    let within = rw c.in-Some.is at c.requires.within in
-    let n = length c.args.self.now.column_names in
-    let l : c.in-Some.number < length c.args.self.now.rows.items = omega (arith, within, c.args.self.now.rows.ok) in
-    still_below n c.args.self.now.rows.items c.in-Some.number c.index_mut-row.result.now c.set_right_side.new.self l c.index_mut-row.ensures.value
-    (λ (h : held_below n c.index_mut-row.result.now.held ≡ true). rw c.set_right_side.ensures h) c.args.self.now.rows_below
+pub invariant_of-self : goal.invariant_of-self
+invariant_of-self c =
+    let self = c.args.self.now in
+    let number = c.in-Some.number in
+    let n = length self.column_names in
+    let put = with_right_side c.args.value in
+    let within : number < length self.rows = rw c.in-Some.is at c.requires.within in
+    let new = sym c.set_right_side.ensures in
+    record {
+      rows_named = subst (λ (rows : List RowRead). length rows ≡ length self.row_names) new (length-set self.rows number (put (slice_index_or self.rows number no_row)) ∙ self.rows_named);
+      columns_named = self.columns_named;
+      rows_counted = subst (λ (rows : List RowRead). self.row_count ≡ length (filter is_kept rows)) new (changed_counted self.row_count self.rows number put within (λ row. refl) self.rows_counted);
+      few_rows = self.few_rows;
+      few_columns = self.few_columns;
+      few_entries = self.few_entries;
+      rows_below = subst (λ (rows : List RowRead). list_all (λ row. held_below n row.held) rows ≡ true) new (changed_below n self.rows number put (λ row below. below) self.rows_below);
+    }

@@ -1,0 +1,4 @@
+pub mod Entries
+pub mod GroupEntries
+pub mod Tables
+pub mod GroupedRows
