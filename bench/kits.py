@@ -3,7 +3,7 @@
 
     bench/kits.py PROGRAM [--programs N] [--kits N] [--seed N] [--chunk N] [--keep FOLDER]
 
-PROGRAM is the built `cip_kit_rows` (`rt run` in its folder leaves it in `out`), or a command in quotes. Each of N
+PROGRAM is the built `cip_run_rows` (`rt run` in its folder leaves it in `out`), or a command in quotes. Each of N
 programs (200) has from 2 to 4 columns and from 1 to 3 rows, and is searched once without plugins and with N kits (50);
 the program is called on N of them at once (20). FOLDER keeps what it is called on.
 A kit has up to six plugins and up to three on its shelf, of all kinds that are asked: most propose and wish at random,
@@ -94,7 +94,7 @@ def kit_by(draw):
 
 @dataclass
 class Answer:
-    """What a search printed: its status, the cost, the bound, the point, the trace, and the line on the kit."""
+    """What a search printed: its status, the cost, the bound, the point, the trace, and the line on a kit, if any."""
 
     status: str
     cost: Fraction
@@ -110,13 +110,14 @@ def number_in(text):
 
 def answer_in(lines):
     """The answer of the lines behind those of a call."""
-    told = [line[2:] for line in lines[2:] if line.startswith("> ")]
+    told = [line[2:] for line in lines if line.startswith("> ")]
+    kit = next((line for line in lines if line.startswith("kit ")), "")
     if not told or told[-1] != "end":
-        return Answer("broken off", None, None, [], [], lines[1] if len(lines) > 1 else "")
+        return Answer("broken off", None, None, [], [], kit)
     said = dict(line.split(" ", 1) for line in told[:-1] if not line.startswith(("trace ", "ray ")))
     point = [Fraction(value) for name, value in said.items() if re.fullmatch(r"x\d", name)]
     trace = [line.split(" ", 4)[1:] for line in told if line.startswith("trace ")]
-    return Answer(said["status"], number_in(said.get("cost")), number_in(said.get("bound")), point, trace, lines[1])
+    return Answer(said["status"], number_in(said.get("cost")), number_in(said.get("bound")), point, trace, kit)
 
 
 def answers_in(lines, runs):

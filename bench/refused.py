@@ -3,7 +3,7 @@
 
     bench/refused.py PROGRAM ROW..
 
-PROGRAM is the built `cip_kit_rows` (`rt run` in its folder leaves it in `out`), each ROW a file of its `data`. It is
+PROGRAM is the built `cip_run_rows` (`rt run` in its folder leaves it in `out`), each ROW a file of its `data`. It is
 run once as it is, which counts its requests for memory, and then once for each of them, of which that one is refused.
 A call of the row may then print the same bytes, trace lines left aside, with the same status; or want of memory (6)
 without figures, or with a cost that isn't better and a bound that isn't worse than those; or the program ends, where

@@ -167,31 +167,55 @@ impl Pooled {
     }
 }
 
-/// A combination rests that cites the cutoff row.
-fn cutoff_rests(alloc: Global) -> bool {
+impl Pooled {
+    /// A combination rests that cites the cutoff row.
+    fn tells_cutoff(&mut self, alloc: Global) -> bool {
+        self.rests(&mut no_combo(alloc), RowId::Cutoff) == Some(true)
+    }
+
+    /// What a test asks of an empty pool.
+    fn is_so(&mut self, alloc: Global, what: What) -> bool {
+        match what {
+            What::KnowsRows => self.knows_rows(alloc),
+            What::LosesRows => self.loses_rows(),
+            What::ReleasesRows => self.releases_rows(),
+            What::TellsRestingRows => self.tells_resting_rows(alloc),
+            What::TellsCutoff => self.tells_cutoff(alloc),
+        }
+    }
+}
+
+/// What an empty pool is asked.
+#[derive(Clone, Copy)]
+enum What {
+    KnowsRows,
+    LosesRows,
+    ReleasesRows,
+    TellsRestingRows,
+    TellsCutoff,
+}
+
+/// Asks an empty pool.
+fn is_so(alloc: Global, what: What) -> bool {
     match empty_pool(alloc) {
-        Some(pooled) => pooled.rests(&mut no_combo(alloc), RowId::Cutoff) == Some(true),
+        Some(mut pooled) => pooled.is_so(alloc, what),
         None => false,
     }
 }
 
 #[test]
 fn resting_rows_are_told_and_let_go(rt: HostRuntime) {
-    let mut pooled = empty_pool(rt.alloc()).expect(&rt, "memory");
-    assert!(rt; pooled.releases_rows());
-    let mut other = empty_pool(rt.alloc()).expect(&rt, "memory");
-    assert!(rt; other.tells_resting_rows(rt.alloc()));
-    assert!(rt; cutoff_rests(rt.alloc()));
+    assert!(rt; is_so(rt.alloc(), What::ReleasesRows));
+    assert!(rt; is_so(rt.alloc(), What::TellsRestingRows));
+    assert!(rt; is_so(rt.alloc(), What::TellsCutoff));
 }
 
 #[test]
 fn a_row_is_known_inside_its_scope(rt: HostRuntime) {
-    let mut pooled = empty_pool(rt.alloc()).expect(&rt, "memory");
-    assert!(rt; pooled.knows_rows(rt.alloc()));
+    assert!(rt; is_so(rt.alloc(), What::KnowsRows));
 }
 
 #[test]
 fn a_full_pool_is_full_until_rows_go(rt: HostRuntime) {
-    let mut pooled = empty_pool(rt.alloc()).expect(&rt, "memory");
-    assert!(rt; pooled.loses_rows());
+    assert!(rt; is_so(rt.alloc(), What::LosesRows));
 }

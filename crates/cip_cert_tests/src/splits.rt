@@ -181,9 +181,21 @@ fn fill_asked(asked: &mut Asked) -> Result<(), AllocError> {
     Ok(())
 }
 
+/// Fills the last of these rows.
+fn is_last_filled(rows: &mut [Row]) -> bool {
+    match rows.last_mut() {
+        Some(row) => is_row_filled(row),
+        None => false,
+    }
+}
+
 fn is_asked_filled(alloc: Global, asked: &mut Asked) -> bool {
-    let mut row = Row::empty(alloc, Some(fraction(1, 2)), None);
-    is_row_filled(&mut row) && fill_asked(asked).is_ok() && asked.own.push(row).is_ok()
+    fill_asked(asked).is_ok()
+        && asked
+            .own
+            .push(Row::empty(alloc, Some(fraction(1, 2)), None))
+            .is_ok()
+        && is_last_filled(asked.own.as_mut_slice())
 }
 
 /// The answer to a cut is this one.
@@ -213,14 +225,14 @@ fn is_case(alloc: Global, asked: &Asked, case: &Case, room: &mut SplitRoom) -> b
     is_as(asked, case, &mut cut, room)
 }
 
-/// The first case that is answered otherwise; their number where there is none.
-fn first_wrong(alloc: Global, asked: &Asked, room: &mut SplitRoom) -> usize {
-    for at in 0..CASES.len() {
-        if !is_case(alloc, asked, &CASES[at], room) {
+/// The first of some cases that is answered otherwise; their number where there is none.
+fn first_wrong(alloc: Global, cases: &[Case], asked: &Asked, room: &mut SplitRoom) -> usize {
+    for at in 0..cases.len() {
+        if !is_case(alloc, asked, &cases[at], room) {
             return at;
         }
     }
-    CASES.len()
+    cases.len()
 }
 
 /// The two scratches in which split cuts are checked.
@@ -242,17 +254,37 @@ impl SplitRoom {
     }
 }
 
+/// All cases are answered so.
+fn are_cases(alloc: Global, asked: &Asked, room: &mut SplitRoom) -> bool {
+    first_wrong(alloc, CASES.as_slice(), asked, room) == CASES.len()
+}
+
+/// Two coefficients stand in the first scratch.
+fn is_first(room: &SplitRoom, one: Frac, other: Frac) -> bool {
+    room.first.row.entries() == [one, other].as_slice()
+}
+
 /// All cases are answered so, and the coefficients of the first stand in the first scratch.
 fn are_answered(alloc: Global, asked: &mut Asked, room: &mut SplitRoom) -> bool {
     is_asked_filled(alloc, asked)
-        && first_wrong(alloc, asked, room) == CASES.len()
+        && are_cases(alloc, asked, room)
         && is_case(alloc, asked, &ROUNDED, room)
-        && room.first.row.entries() == [Frac::one(), Frac::from(2)].as_slice()
+        && is_first(room, Frac::one(), Frac::from(2))
+}
+
+/// The same, in a room for two columns.
+fn are_answered_in_room(alloc: Global, asked: &mut Asked) -> bool {
+    match SplitRoom::new(alloc, 2) {
+        Some(mut room) => are_answered(alloc, asked, &mut room),
+        None => false,
+    }
 }
 
 #[test]
 fn split_cuts_answer_as_worked_out(rt: HostRuntime) {
-    let mut asked = Asked::new(rt.alloc(), 2).expect(&rt, "memory");
-    let mut room = SplitRoom::new(rt.alloc(), 2).expect(&rt, "memory");
-    assert!(rt; are_answered(rt.alloc(), &mut asked, &mut room));
+    let is_so = match Asked::new(rt.alloc(), 2) {
+        Ok(mut asked) => are_answered_in_room(rt.alloc(), &mut asked),
+        Err(_) => false,
+    };
+    assert!(rt; is_so);
 }

@@ -15,16 +15,6 @@ pub(crate) const TWO_COLUMNS: &str =
     "ROWS\n N COST\n L R\nCOLUMNS\n a COST -2 R 2\n b COST -1 R 2\nRHS\n RHS R 3\n\
     BOUNDS\n BV B a\n BV B b\nENDATA\n";
 
-/// Minimise -5a - 4b - 3c with 2a + 3b + c <= 5, 4a + b + 2c <= 11 and 3a + 4b + 2c <= 8, each whole from 0 to 10.
-pub(crate) const THREE_COLUMNS: &str = "ROWS\n N COST\n L R\n L S\n L T\nCOLUMNS\n\
-    \x20a COST -5 R 2\n a S 4 T 3\n b COST -4 R 3\n b S 1 T 4\n c COST -3 R 1\n c S 2 T 2\n\
-    RHS\n RHS R 5 S 11\n RHS T 8\nBOUNDS\n UI B a 10\n UI B b 10\n UI B c 10\nENDATA\n";
-
-/// Minimise a with a >= 2 and a <= 1, whole from 0 to 5.
-pub(crate) const CROSSED_ROWS: &str =
-    "ROWS\n N COST\n G R\n L S\nCOLUMNS\n a COST 1 R 1\n a S 1\nRHS\n RHS R 2 S 1\n\
-    BOUNDS\n UI B a 5\nENDATA\n";
-
 /// Minimise 3a + 4b with a + b >= 1/2, where a is whole from 0 to 3 and b at least 0.
 pub(crate) const MIXED_COLUMNS: &str =
     "ROWS\n N COST\n G R\nCOLUMNS\n a COST 3 R 1\n b COST 4 R 1\nRHS\n RHS R 0.5\n\

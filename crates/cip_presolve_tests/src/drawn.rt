@@ -3,7 +3,7 @@
 use std::alloc::Global;
 
 /// Sixteen words, of which one is drawn.
-type Words = [&'static str; 16];
+pub(crate) type Words = [&'static str; 16];
 
 const ROW_TYPES: Words = [
     "L", "L", "L", "L", "L", "L", "L", "G", "G", "G", "G", "G", "G", "G", "E", "E",
@@ -21,7 +21,7 @@ const FACTORS: Words = [
     "-4", "-3", "-2", "-2", "-1", "-1", "-1", "1", "1", "1", "1", "2", "2", "3", "4", "5",
 ];
 
-const RIGHT_SIDES: Words = [
+pub(crate) const RIGHT_SIDES: Words = [
     "-5", "-3", "-1", "0", "1", "2", "3", "4", "5", "6", "7", "8", "9", "11", "13", "15",
 ];
 
@@ -29,7 +29,7 @@ const LOWS: Words = [
     "0", "0", "0", "0", "0", "0", "0", "0", "1", "1", "1", "1", "2", "2", "3", "3",
 ];
 
-const HIGHS: Words = [
+pub(crate) const HIGHS: Words = [
     "1", "2", "3", "3", "4", "4", "5", "5", "6", "6", "7", "7", "8", "8", "9", "9",
 ];
 
@@ -56,7 +56,7 @@ fn draw(number: u64, what: u64, at: u64) -> u64 {
 }
 
 /// One of these words.
-fn word(words: &Words, drawn: u64) -> &'static str {
+pub(crate) fn word(words: &Words, drawn: u64) -> &'static str {
     words[(drawn % 16) as usize]
 }
 
@@ -125,7 +125,16 @@ pub(crate) struct Sheet {
 }
 
 impl Sheet {
-    fn put(&mut self, pieces: &[&str]) {
+    /// One without text.
+    pub(crate) fn empty(alloc: Global) -> Sheet {
+        Sheet {
+            text: String::new(alloc),
+            is_whole: true,
+        }
+    }
+
+    /// Writes these pieces, one behind the other.
+    pub(crate) fn put(&mut self, pieces: &[&str]) {
         for piece in pieces {
             if self.text.push_str(piece).is_err() {
                 self.is_whole = false;
@@ -182,10 +191,7 @@ impl Sheet {
     /// The text of the program of a number.
     pub(crate) fn new(alloc: Global, number: u64) -> Sheet {
         let shape = Shape::of(number);
-        let mut sheet = Sheet {
-            text: String::new(alloc),
-            is_whole: true,
-        };
+        let mut sheet = Sheet::empty(alloc);
         let sense = if draw(number, 15, 0) % 2 == 0 {
             "MIN"
         } else {

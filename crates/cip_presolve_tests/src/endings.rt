@@ -7,7 +7,7 @@ use cip_solve::{Alone, Log, Options, Presolved, solve_by};
 use std::alloc::Global;
 
 /// What a search ends with: a least cost, or which word.
-#[derive(Clone, Copy, Debug, PartialEq, Eq)]
+#[derive(Clone, Copy, PartialEq)]
 pub(crate) enum Ending {
     Optimal(Frac),
     Infeasible,

@@ -1,9 +1,12 @@
-//! Tests of presolve: single calls on programs worked out by hand, and random programs, of which the reduced and the
-//! whole one are searched.
+//! Tests of presolve and of the search behind it: single calls on programs worked out by hand, random programs, of
+//! which the reduced and the whole one are searched, and random programs with semi-continuous columns, whose choices
+//! are enumerated.
 #![tactic(auto)]
 
 #[cfg(test)]
 mod calls;
+#[cfg(test)]
+mod choices;
 #[cfg(test)]
 mod drawn;
 #[cfg(test)]

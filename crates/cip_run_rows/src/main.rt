@@ -1,8 +1,14 @@
-//! Calls `run` on the rows that the words name, files that lie where it runs, over stores and sinks in memory, and
-//! prints what came of each call. README.md says how a row is written.
+//! Calls `run` on the rows that the words name, files that lie where it runs, over stores and sinks in memory, with the
+//! plugins that a row says, and prints what came of each call. README.md says how a row is written.
 #![tactic(auto)]
 
+mod acts;
+mod calling;
+mod draws;
+mod fakes;
+mod fields;
 mod lines;
+mod plugs;
 mod row;
 mod setup;
 mod showing;

@@ -1,8 +1,7 @@
 //! The parts of a row.
-ghost use Rattle.std.specs.Prelude.{◌<◌};
-
+use crate::fields::key_and_value;
 use crate::lines::put_lines;
-use crate::setup::{Setup, key_and_value};
+use crate::setup::Setup;
 use cip_builtins::Words;
 use cip_io::MemoryStore;
 use std::alloc::{AllocError, Global};
@@ -37,6 +36,11 @@ impl<'a> Row<'a> {
         self.runs.split("\nrun")
     }
 
+    /// The lines of all runs.
+    pub fn shared(&self) -> &'a str {
+        self.shared
+    }
+
     /// The setup of a run; `None` where a line is none of a head.
     pub fn setup(&self, own: &'a str) -> Option<Setup<'a>> {
         let mut setup = Setup::new();
@@ -58,16 +62,9 @@ impl<'a> Row<'a> {
         Ok(words)
     }
 
-    /// The store of a run, with the texts, of which one pull gives at most `piece` bytes.
-    pub fn store(
-        &self,
-        alloc: Global,
-        setup: &Setup<'_>,
-        piece: usize,
-    ) -> Result<MemoryStore, AllocError>
-        requires { 0 < piece }
-    {
-        let mut store = MemoryStore::new(alloc, piece);
+    /// The store of a run, with the texts.
+    pub fn store(&self, alloc: Global, setup: &Setup<'_>) -> Result<MemoryStore, AllocError> {
+        let mut store = MemoryStore::new(alloc, setup.piece);
         if let Some(call) = setup.fail {
             store.fail_at(call)?;
         }
@@ -75,19 +72,27 @@ impl<'a> Row<'a> {
             return Ok(store);
         };
         for text in texts.split("\ntext ") {
-            add_text(alloc, &mut store, text, setup.cut)?;
+            add_text(alloc, &mut store, text, setup)?;
         }
         Ok(store)
+    }
+
+    /// The number of bytes of all texts, or some more.
+    pub fn text_bytes(&self) -> usize {
+        match self.texts {
+            Some(texts) => texts.len(),
+            None => 0,
+        }
     }
 }
 
 /// Adds a text under the name in its first line: the lines behind that, the last one without its line feed where it
-/// is cut.
+/// is cut; of these the first bytes, where not all are kept.
 fn add_text(
     alloc: Global,
     store: &mut MemoryStore,
     text: &str,
-    cut: Option<&str>,
+    setup: &Setup<'_>,
 ) -> Result<(), AllocError> {
     let Some((name, lines)) = text.split_once('\n') else {
         return store.add(text, b"");
@@ -95,8 +100,9 @@ fn add_text(
     let mut text = String::new(alloc);
     put_lines(lines, &mut text)?;
     let whole = text.as_str();
-    match whole.strip_suffix('\n') {
-        Some(short) if cut == Some(name) => store.add(name, short.as_bytes()),
-        _ => store.add(name, whole.as_bytes()),
-    }
+    let bytes = match whole.strip_suffix('\n') {
+        Some(short) if setup.cut == Some(name) => short.as_bytes(),
+        _ => whole.as_bytes(),
+    };
+    store.add(name, bytes.get(..setup.kept).unwrap_or(bytes))
 }

@@ -1,47 +1,14 @@
-//! A call of `run`, and what came of it.
-ghost use Rattle.std.specs.Prelude.{◌<◌};
-
+//! What came of a call of `run`.
+use crate::calling::{Outcome, outcome_of};
 use crate::row::Row;
 use crate::setup::Setup;
-use cip_builtins::{Log, Mark, no_plugins, run, run_with_builtins};
+use cip_builtins::{Log, Mark};
 use cip_io::MemorySink;
-use std::alloc::{AllocError, Global};
 use std::io;
 
 /// A row, or an answer, that can't be read.
 pub fn unread() -> io::Error {
     io::Error::from(io::ErrorKind::InvalidData)
-}
-
-/// What a call of `run` did.
-#[derive(Drop)]
-struct Outcome {
-    status: u8,
-    out: MemorySink,
-    logs: Vec<Log>,
-}
-
-/// Calls `run` as a row and the lines of one of its runs say, with a store of such pieces.
-fn outcome_of(
-    alloc: Global,
-    row: &Row<'_>,
-    own: &str,
-    setup: &Setup<'_>,
-    piece: usize,
-) -> Result<Outcome, AllocError>
-    requires { 0 < piece }
-{
-    let words = row.words(alloc, own)?;
-    let mut store = row.store(alloc, setup, piece)?;
-    let mut out = MemorySink::new(alloc, setup.room)?;
-    let mut logs = Vec::new(alloc);
-    let status = if setup.builtins {
-        run_with_builtins(alloc, &words, &mut store, &mut out, &mut logs)?
-    } else {
-        let mut kit = no_plugins(alloc);
-        run(alloc, &words, &mut store, &mut out, &mut kit, &mut logs)
-    };
-    Ok(Outcome { status, out, logs })
 }
 
 /// Prints the bytes that the sink took: a line behind `> `, and behind `- ` a last one that has no line feed.
@@ -58,10 +25,10 @@ fn show_taken(rt: &impl Print, out: &MemorySink) -> io::Result<()> {
     Ok(())
 }
 
-/// Prints the numbers of entries of the logs.
-fn show_entries(rt: &impl Print, logs: &[Log]) -> io::Result<()> {
+/// Prints the number of entries of each log, between two texts.
+fn show_entries(rt: &impl Print, logs: &[Log], front: &str, back: &str) -> io::Result<()> {
     for log in logs {
-        println!(rt; "entries {}", log.taken.len())?;
+        print!(rt; "{front}{}{back}", log.taken.len())?;
     }
     Ok(())
 }
@@ -86,10 +53,34 @@ fn show_log(rt: &impl Print, log: &Log) -> io::Result<()> {
     Ok(())
 }
 
+/// Prints how many plugins are left in the kit, and the numbers of those that are spent, `-` for one without.
+fn show_kit(rt: &impl Print, outcome: &Outcome) -> io::Result<()> {
+    let (start, shelf) = outcome.left;
+    print!(rt; "kit {start} {shelf}, spent")?;
+    for number in &outcome.spent {
+        match number {
+            Some(number) => print!(rt; " {number}")?,
+            None => print!(rt; " -")?,
+        }
+    }
+    println!(rt; "")
+}
+
+/// Prints the status; with a kit how many nodes each log has, and what is left of the kit, and else the number of logs.
+fn show_status(rt: &impl Print, setup: &Setup<'_>, outcome: &Outcome) -> io::Result<()> {
+    print!(rt; "status {}", outcome.status)?;
+    if !setup.kit {
+        return println!(rt; ", logs {}", outcome.logs.len());
+    }
+    show_entries(rt, outcome.logs.as_slice(), ", nodes ", "")?;
+    println!(rt; "")?;
+    show_kit(rt, outcome)
+}
+
 /// Prints what is wanted of the logs.
 fn show_logs(rt: &impl Print, setup: &Setup<'_>, logs: &[Log]) -> io::Result<()> {
     if setup.entries {
-        show_entries(rt, logs)?;
+        show_entries(rt, logs, "entries ", "\n")?;
     }
     if setup.log {
         for log in logs {
@@ -99,50 +90,96 @@ fn show_logs(rt: &impl Print, setup: &Setup<'_>, logs: &[Log]) -> io::Result<()>
     Ok(())
 }
 
-/// The least smaller piece with which the call comes to another status or to other bytes.
-fn unlike(
-    alloc: Global,
-    row: &Row<'_>,
-    own: &str,
-    setup: &Setup<'_>,
-    outcome: &Outcome,
-) -> Result<Option<usize>, AllocError> {
-    for piece in 1..setup.piece {
-        let other = outcome_of(alloc, row, own, setup, piece)?;
-        if other.status != outcome.status || other.out.taken() != outcome.out.taken() {
-            return Ok(Some(piece));
-        }
-    }
-    Ok(None)
-}
-
-/// Prints whether the call comes to the same with all smaller pieces, where that is wanted.
-fn show_unlike(
+/// Prints whether the call comes to the same status and bytes with all smaller pieces, or the least with which it
+/// doesn't.
+fn show_alike(
     rt: &(impl Print + AllocGlobal),
     row: &Row<'_>,
     own: &str,
     setup: &Setup<'_>,
     outcome: &Outcome,
 ) -> io::Result<()> {
-    if !setup.alike {
-        return Ok(());
+    for piece in 1..setup.piece {
+        let mut other = *setup;
+        other.piece = piece;
+        let other = outcome_of(rt.alloc(), row, own, &other)?;
+        if other.status != outcome.status || other.out.taken() != outcome.out.taken() {
+            return println!(rt; "unlike with piece {piece}");
+        }
     }
-    match unlike(rt.alloc(), row, own, setup, outcome)? {
-        None => println!(rt; "alike"),
-        Some(piece) => println!(rt; "unlike with piece {piece}"),
-    }
+    println!(rt; "alike")
 }
 
-/// Calls `run` once, and prints the lines of the call, the status and the number of logs, what is wanted of these, and
-/// the bytes.
+/// Prints whether each smaller sink takes just a front part of the answer, with status 5, or the least that takes
+/// something else.
+fn show_rooms(
+    rt: &(impl Print + AllocGlobal),
+    row: &Row<'_>,
+    own: &str,
+    setup: &Setup<'_>,
+    answer: &[u8],
+) -> io::Result<()> {
+    for room in 0..answer.len() {
+        let mut short = *setup;
+        short.room = room;
+        let short = outcome_of(rt.alloc(), row, own, &short)?;
+        if short.status != 5 || Some(short.out.taken()) != answer.get(..room) {
+            return println!(rt; "room {room} takes something else");
+        }
+    }
+    println!(rt; "all {} rooms take a front part", answer.len())
+}
+
+/// Prints from how many bytes of the texts on which status comes.
+fn show_fronts(
+    rt: &(impl Print + AllocGlobal),
+    row: &Row<'_>,
+    own: &str,
+    setup: &Setup<'_>,
+) -> io::Result<()> {
+    let mut last = None;
+    for kept in 0..row.text_bytes() {
+        let mut front = *setup;
+        front.kept = kept;
+        let front = outcome_of(rt.alloc(), row, own, &front)?;
+        if last != Some(front.status) {
+            println!(rt; "from {kept} bytes: status {}", front.status)?;
+        }
+        last = Some(front.status);
+    }
+    Ok(())
+}
+
+/// Prints what else is tried.
+fn show_more(
+    rt: &(impl Print + AllocGlobal),
+    row: &Row<'_>,
+    own: &str,
+    setup: &Setup<'_>,
+    outcome: &Outcome,
+) -> io::Result<()> {
+    if setup.alike {
+        show_alike(rt, row, own, setup, outcome)?;
+    }
+    if setup.rooms {
+        show_rooms(rt, row, own, setup, outcome.out.taken())?;
+    }
+    if setup.fronts {
+        show_fronts(rt, row, own, setup)?;
+    }
+    Ok(())
+}
+
+/// Calls `run` once, and prints the lines of the call, the status, what is wanted of the logs, what is left of the kit,
+/// what else is tried, and the bytes.
 pub fn show_run(rt: &(impl Print + AllocGlobal), row: &Row<'_>, own: &str) -> io::Result<()> {
     let Some(setup) = row.setup(own) else {
         return Err(unread());
     };
     println!(rt; "run{own}")?;
-    let outcome = outcome_of(rt.alloc(), row, own, &setup, setup.piece)?;
-    println!(rt; "status {}, logs {}", outcome.status, outcome.logs.len())?;
+    let outcome = outcome_of(rt.alloc(), row, own, &setup)?;
+    show_status(rt, &setup, &outcome)?;
     show_logs(rt, &setup, outcome.logs.as_slice())?;
-    show_unlike(rt, row, own, &setup, &outcome)?;
+    show_more(rt, row, own, &setup, &outcome)?;
     show_taken(rt, &outcome.out)
 }

@@ -1,2 +1,0 @@
-pub mod AddedRows
-pub mod PlainLeaves
