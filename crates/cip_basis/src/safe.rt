@@ -11,7 +11,7 @@ use cip_guess::Outcome;
 use std::alloc::{AllocError, Global};
 
 /// What rounded multipliers show of a linear program.
-#[derive(Debug, Drop)]
+#[derive(Drop)]
 pub enum Safe {
     /// No point costs less.
     Bound { cost: Frac },

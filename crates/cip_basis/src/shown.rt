@@ -14,7 +14,7 @@ use cip_lin::Combo;
 use std::alloc::{AllocError, Global};
 
 /// What is shown of a linear program.
-#[derive(Debug, Drop)]
+#[derive(Drop)]
 pub enum Shown {
     /// A point of least cost, that cost, and the combination that bounds the costs by as much.
     Optimal {

@@ -2,7 +2,7 @@
 use cip_dictionary::Move;
 
 /// Which way a value goes.
-#[derive(Clone, Copy, Debug, PartialEq, Eq)]
+#[derive(Clone, Copy, PartialEq, Eq)]
 pub enum Heading {
     /// It rises.
     Up,
@@ -11,7 +11,7 @@ pub enum Heading {
 }
 
 /// What the rule says at a state. Variables go by number, columns first, then rows.
-#[derive(Clone, Copy, Debug, PartialEq, Eq)]
+#[derive(Clone, Copy, PartialEq, Eq)]
 pub enum Step {
     /// An end: the low side of this variable is above its high one, so there is no point.
     Crossed(u32),

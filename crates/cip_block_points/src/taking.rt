@@ -13,7 +13,7 @@ use cip_model::Program;
 use std::alloc::AllocError;
 
 /// What became of a point that was offered for a block.
-#[derive(Clone, Copy, Debug, PartialEq, Eq)]
+#[derive(Clone, Copy, PartialEq, Eq)]
 pub enum Taken {
     /// It is a point of the block, and adding it to the pool came to this.
     Offered(Added),

@@ -25,7 +25,7 @@ use std::alloc::{AllocError, Global};
 const TOO_LONG: u32 = 9;
 
 /// A text of blocks as far as it came.
-#[derive(Debug, Drop)]
+#[derive(Drop)]
 pub struct BlockText<'a> {
     pub(crate) pieces: Pieces,
     pub(crate) words: BlockWords<'a>,

@@ -21,7 +21,7 @@ use std::alloc::{AllocError, Global};
 
 /// What the words so far said: where the next word stands, how many blocks there are, if that was said, which of them
 /// were begun, and the place of each row of the program.
-#[derive(Debug, Drop)]
+#[derive(Drop)]
 pub(crate) struct BlockWords<'a> {
     pub(crate) alloc: Global,
     pub(crate) program: &'a Program,

@@ -10,7 +10,7 @@ use cip_row_sums::short;
 use std::alloc::{AllocError, Global};
 
 /// A branching rule: the first whole column whose value at the last point isn't whole, at that value rounded down.
-#[derive(Clone, Copy, Debug, Drop)]
+#[derive(Clone, Copy, Drop)]
 pub struct FirstRule;
 
 /// The split of the first column that has one.

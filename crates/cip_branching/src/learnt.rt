@@ -3,14 +3,14 @@ use cip_row_sums::UNIT;
 use std::alloc::{AllocError, Global};
 
 /// Which half of a split.
-#[derive(Clone, Copy, PartialEq, Eq, Debug)]
+#[derive(Clone, Copy, PartialEq, Eq)]
 pub(crate) enum Direction {
     Down,
     Up,
 }
 
 /// A mean of costs, each of which is told roughly, over 2^24.
-#[derive(Clone, Copy, Debug)]
+#[derive(Clone, Copy)]
 struct Mean {
     sum: i64,
     count: u32,

@@ -11,7 +11,7 @@ use std::alloc::{AllocError, Global};
 
 /// A branching rule: the whole column whose value at the last point is farthest from a whole number, the first of such
 /// columns, at that value rounded down.
-#[derive(Clone, Copy, Debug, Drop)]
+#[derive(Clone, Copy, Drop)]
 pub struct MostFractionalRule;
 
 /// How far a value is from the nearest whole number; none where that leaves the range.

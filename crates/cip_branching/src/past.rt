@@ -6,7 +6,7 @@ use std::alloc::{AllocError, Global};
 const MOST: u64 = 1 << 14;
 
 /// A split, with what the linear program cost there and how far the column's value was above the place, roughly.
-#[derive(Clone, Copy, Debug)]
+#[derive(Clone, Copy)]
 pub(crate) struct PastSplit {
     pub(crate) col: u32,
     pub(crate) at: i128,

@@ -22,7 +22,7 @@ use cip_tree::Node;
 use std::alloc::AllocError;
 
 /// What became of proposals.
-#[derive(Clone, Copy, Debug, PartialEq, Eq)]
+#[derive(Clone, Copy, PartialEq, Eq)]
 pub enum Came {
     /// None was accepted.
     Quiet,

@@ -35,7 +35,7 @@ pub struct Plugins<R> {
 
 /// What the last linear program of a node came to, as plugins see it: its point, if it has one and that was found, and
 /// the combination that shows its least cost, or that it has no point.
-#[derive(Clone, Copy, Debug, Drop)]
+#[derive(Clone, Copy, Drop)]
 pub struct Last<'p> {
     /// The point.
     pub point: Option<&'p [Frac]>,

@@ -11,7 +11,7 @@ use cip_roster::Seated;
 use std::alloc::{AllocError, Global};
 
 /// What is asked and told where there are no plugins: nobody.
-#[derive(Clone, Copy, Debug, Drop)]
+#[derive(Clone, Copy, Drop)]
 pub struct NoPlugins;
 
 impl Seated for NoPlugins {

@@ -3,7 +3,7 @@ use cip_frac::Frac;
 use cip_lin::Combo;
 
 /// A value for each column of a block, by rising number of the column.
-#[derive(Debug, Drop)]
+#[derive(Drop)]
 pub struct BlockPoint {
     /// The values.
     pub values: Vec<Frac>,
@@ -11,7 +11,7 @@ pub struct BlockPoint {
 
 /// A proof that no point of a block costs less than a bound. It names rows and columns by their places, from 0, among
 /// the block's.
-#[derive(Debug, Drop)]
+#[derive(Drop)]
 pub enum BoundTree {
     /// The costs have the bound of this combination.
     Bound(Combo),
@@ -27,7 +27,7 @@ pub enum BoundTree {
 }
 
 /// Points of a block, and a proof of what its points cost at least.
-#[derive(Debug, Drop)]
+#[derive(Drop)]
 pub struct Priced {
     /// The points.
     pub points: Vec<BlockPoint>,

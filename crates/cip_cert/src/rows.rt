@@ -2,7 +2,7 @@
 use cip_lin::{Bounds, Row};
 
 /// A row of the pool: it may be used in boxes inside its scope.
-#[derive(Debug, Drop)]
+#[derive(Drop)]
 pub struct PoolRow {
     /// Its id.
     pub id: u64,
@@ -15,7 +15,7 @@ pub struct PoolRow {
 }
 
 /// What names of rows mean, lent for a check.
-#[derive(Clone, Copy, Debug, Drop)]
+#[derive(Clone, Copy, Drop)]
 pub struct Rows<'a> {
     /// The program's rows, by number.
     pub own: &'a [Row],

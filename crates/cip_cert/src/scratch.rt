@@ -11,7 +11,7 @@ use std::alloc::{AllocError, Global};
 /// A row and a box of so many columns, reused from check to check. After `derive` has accepted, the row holds the
 /// coefficients of the aggregated row; after any other check, and after a fault, anything. Checks leave the box as it
 /// is.
-#[derive(Debug, Drop)]
+#[derive(Drop)]
 pub struct Scratch {
     /// The coefficients.
     pub row: SparseRow,

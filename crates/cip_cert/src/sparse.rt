@@ -12,7 +12,7 @@ use std::alloc::{AllocError, Global};
 use std::marker::Model;
 
 /// A row with one coefficient for each column, and the columns that were touched since it was cleared.
-#[derive(Debug, Drop)]
+#[derive(Drop)]
 pub struct SparseRow {
     entries: Vec<Frac>,
     touched: Vec<u32>,

@@ -4,7 +4,7 @@ use cip_frac::Frac;
 use cip_lin::Combo;
 
 /// A column of a split's form with its coefficient.
-#[derive(Clone, Copy, Debug, PartialEq, Eq)]
+#[derive(Clone, Copy, PartialEq, Eq)]
 pub struct FormTerm {
     /// The number of the column, from 0.
     pub col: u32,
@@ -16,7 +16,7 @@ pub struct FormTerm {
 /// that the left combination and `left_factor` times the form being at most `k` add up to a row, on the right the
 /// right combination and `right_factor` times the form being at least `k + 1`. Nothing is checked here: what it proves
 /// is for `split_row` to say.
-#[derive(Debug, Drop)]
+#[derive(Drop)]
 pub struct SplitCut {
     /// Whole columns by rising number, each with a coefficient that isn't 0.
     pub form: Vec<FormTerm>,

@@ -7,7 +7,7 @@ use cip_frac::Frac;
 use std::marker::Model;
 
 /// A point that a pool holds. Contracts see its id, its block and its values.
-#[derive(Debug, Drop)]
+#[derive(Drop)]
 pub struct HeldPoint {
     id: u32,
     block: u32,

@@ -16,7 +16,7 @@ use std::marker::Model;
 pub const MOST_POINTS: usize = 65_536;
 
 /// What adding a point came to.
-#[derive(Clone, Copy, Debug, PartialEq, Eq)]
+#[derive(Clone, Copy, PartialEq, Eq)]
 pub enum Added {
     /// The point is held now, and this is its id.
     New(u32),
@@ -27,7 +27,7 @@ pub enum Added {
 }
 
 /// A pool of points of blocks. Contracts see the points that are held, by their ids from 0 up.
-#[derive(Debug, Drop)]
+#[derive(Drop)]
 pub struct ColumnPool {
     alloc: Global,
     points: Vec<HeldPoint>,

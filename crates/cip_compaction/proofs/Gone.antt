@@ -1,7 +1,6 @@
 -- Columns that are gone and their forms, and the numbers of those that stay.
 use Rattle.std.proofs.Common.{◌≡◌, ◌⊎◌, ℕ, zero, suc, ◌+◌, ◌<◌, Bool, true, false, List, [], ◌∷◌, length, Option, None, Some, IfSome, slice_get, refl, sym, ap, ◌∙◌, subst, arith, inl, inr, true≢false}
 use Rattle.std.specs.Prelude.{slice_index_or, map}
-use Rattle.std.specs.List.{AllByRecursion}
 use Rattle.std.proofs.lemmas.Option.{none-some, same_Some}
 use Rattle.cip_rational.specs.Rational.{ℚ, ◌+ℚ◌, ◌*ℚ◌, zeroℚ, ◌≤ℚ◌, IsWhole, integer, numerator}
 use Rattle.cip_rational.specs.Range.{fits_range}
@@ -11,7 +10,6 @@ use Rattle.cip_rational.proofs.Rational.Whole.{IsWhole-zero, whole_is}
 use Rattle.cip_problem.specs.Program.{Term, Sides, Row, Program}
 use Rattle.cip_problem.specs.Activity.{value_at}
 use Rattle.cip_problem.specs.Box.{Between, IsInBox, sides_at}
-use Rattle.cip_problem.specs.Points.{IsSatisfied}
 use Rattle.cip_problem.specs.RowTerms.{column_at, coefficient_at, AreTerms}
 use Rattle.cip_problem.proofs.Points.AtPlaces.{in_box_at}
 use Rattle.cip_leaving.specs.Reduced.{IsRelaxed}
@@ -20,9 +18,8 @@ use Rattle.cip_leaving.specs.Pairs.{IsWholeIn, IsAssignment}
 use Rattle.cip_leaving.specs.Compacting.{Stays, IsGone, HoldsBack}
 use Rattle.cip_leaving.proofs.PassedOn.{placed_value, spread_value, spread_gone, same_form, gathered_at}
 use Rattle.cip_leaving.proofs.PassedOn.{sides_number}
-use Rattle.cip_postsolve.specs.FormEnds.{FormAssigns}
-use Rattle.cip_leaving.specs.ColumnsOut.{IsPlainAndFree, GoesAtValue, GoesWhole, GoesByForm, MayGo, MayAllGo, IsIn, TermsIn, SourcesStay}
-use Rattle.cip_leaving.specs.SpentRows.{IsSpent, RowGoes}
+use Rattle.cip_leaving.specs.ColumnsOut.{IsPlainAndFree, GoesAtValue, GoesByForm, MayGo, MayAllGo, IsIn, TermsIn, SourcesStay}
+use Rattle.cip_leaving.specs.SpentRows.{IsSpent}
 use Rattle.cip_compaction.specs.EntriesLeft.{gone_of, entries_left, old_numbers, new_numbers}
 use Rattle.cip_compaction.specs.LeftProgram.{moved_term}
 

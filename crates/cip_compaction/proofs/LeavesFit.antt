@@ -1,6 +1,6 @@
 -- Whole values come back without overflow.
-use Rattle.std.proofs.Common.{◌≡◌, ◌⊎◌, ℕ, ◌/◌, ◌*◌, ◌≤◌, ℤ, Bool, true, false, cond, List, Option, None, Some, Result, Ok, Err, slice_get, refl, sym, ap, ◌∙◌, subst, arith, inl, inr, true≢false}
-use Rattle.std.specs.Prelude.{pos, ◌+ℤ◌, ◌*ℤ◌, unsigned_abs, IsOk}
+use Rattle.std.proofs.Common.{◌≡◌, ◌⊎◌, ℕ, ◌/◌, ◌≤◌, ℤ, Bool, true, false, cond, List, Option, Some, Result, Ok, Err, slice_get, refl, sym, ap, ◌∙◌, subst, arith, inl, inr, true≢false}
+use Rattle.std.specs.Prelude.{pos, ◌+ℤ◌, ◌*ℤ◌, IsOk}
 use Rattle.std.proofs.lemmas.Nat.Gcd.{IsGcd-swap}
 use Rattle.cip_rational.specs.Gcd.{gcd}
 use Rattle.cip_rational.proofs.Gcd.{gcd_unique}
@@ -17,7 +17,7 @@ use Rattle.cip_problem.specs.Program.{Program}
 use Rattle.cip_problem.specs.Activity.{value_at}
 use Rattle.cip_frac.specs.declared.operations.Wide.{Wide}
 use Rattle.cip_frac.specs.Outcomes.{and_then, sum_outcome, product_added}
-use Rattle.cip_leaving.specs.Forms.{Form, constant_form, placed, gathered}
+use Rattle.cip_leaving.specs.Forms.{Form, placed, gathered}
 use Rattle.cip_leaving.specs.Pairs.{IsAssignment}
 use Rattle.cip_leaving.specs.WholeParts.{with_wholes}
 use Rattle.cip_leaving.specs.Compacting.{Stays}

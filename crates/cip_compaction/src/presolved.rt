@@ -18,7 +18,7 @@ use cip_postsolve::{ColumnForm, Steps};
 use std::alloc::{AllocError, Global};
 
 /// A reduced program, how its points come back, and for each of its columns the old number.
-#[derive(Debug, Drop)]
+#[derive(Drop)]
 pub struct Presolved {
     pub reduced: Program,
     pub steps: Steps,

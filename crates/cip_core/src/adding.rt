@@ -18,7 +18,7 @@ use cip_tree::Node;
 use std::alloc::AllocError;
 
 /// What asking for a row came to.
-#[derive(Debug, Drop)]
+#[derive(Drop)]
 pub enum Asked {
     /// The check accepts the combination, and the pool says this of its row.
     Told(Added),

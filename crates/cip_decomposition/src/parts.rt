@@ -3,7 +3,7 @@ use cip_model::{Blocks, Bounds, Choices, Row};
 
 /// What a block asks of its points (a pricing subproblem). Its columns are numbered from 0 by rising number in the
 /// program.
-#[derive(Debug, Drop)]
+#[derive(Drop)]
 pub struct Subproblem {
     /// The block's rows, by rising number in the program. They name columns by their numbers in the block.
     pub rows: Vec<Row>,
@@ -17,7 +17,7 @@ pub struct Subproblem {
 }
 
 /// A program that falls into blocks: whose its columns and rows are, and what each block asks of its points.
-#[derive(Debug, Drop)]
+#[derive(Drop)]
 pub struct Decomposed {
     /// The rows and columns of each block, and those of no block, by rising number.
     pub blocks: Blocks,

@@ -26,7 +26,7 @@ use std::marker::Model;
 
 /// A state of the simplex method. Variables go by number, columns first, then rows; a row of the dictionary is named
 /// by its basic variable.
-#[derive(Debug, Drop)]
+#[derive(Drop)]
 pub struct Dict {
     pub(crate) sides: Vec<Sides>,
     pub(crate) standing: Vec<Option<Stand>>,

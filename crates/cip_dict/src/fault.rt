@@ -3,7 +3,7 @@ use cip_dictionary::EntryPlace;
 use std::alloc::AllocError;
 
 /// The first operation of a move that leaves the range of fractions.
-#[derive(Clone, Copy, Debug, PartialEq, Eq)]
+#[derive(Clone, Copy, PartialEq, Eq)]
 pub struct OutOfRange {
     /// Where it is formed.
     pub place: EntryPlace,

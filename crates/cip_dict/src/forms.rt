@@ -27,7 +27,7 @@ const MOST_ROOM: usize = 1 << 26;
 
 /// The entries of a line on all variables; none where a variable has no line. Those that aren't 0 are kept, each with
 /// its variable, by rising variable: as whole numbers over one denominator, all below 2^42, or as fractions.
-#[derive(Debug, Drop)]
+#[derive(Drop)]
 pub(crate) struct Form {
     /// The fractions, where it isn't whole.
     pub(crate) entries: Vec<(u32, Frac)>,

@@ -3,7 +3,7 @@ use crate::forms::Form;
 use cip_frac::Frac;
 
 /// What a move writes of a dictionary: the rows of the basic variables and of the cost, and the values.
-#[derive(Debug, Drop)]
+#[derive(Drop)]
 pub(crate) struct Lists {
     /// The row of each variable; none where it isn't basic.
     pub(crate) rows: Vec<Form>,
@@ -16,7 +16,7 @@ pub(crate) struct Lists {
 }
 
 /// The fractions of a line, once they are asked for.
-#[derive(Debug, Drop)]
+#[derive(Drop)]
 pub(crate) struct Spelled {
     pub(crate) entries: Vec<(u32, Frac)>,
     /// Whether these are the entries of the line.
@@ -24,7 +24,7 @@ pub(crate) struct Spelled {
 }
 
 /// Lists to work with as lines are written.
-#[derive(Debug, Drop)]
+#[derive(Drop)]
 pub(crate) struct Scratch {
     /// The fractions of the row of the variable that enters.
     pub(crate) entering: Spelled,
@@ -37,7 +37,7 @@ pub(crate) struct Scratch {
 }
 
 /// Room for the lists that a move writes, and for the row of the variable that enters.
-#[derive(Debug, Drop)]
+#[derive(Drop)]
 pub(crate) struct Room {
     pub(crate) entering: Form,
     pub(crate) scratch: Scratch,

@@ -14,7 +14,7 @@ const MOST_SPARE: usize = 1 << 21;
 
 /// Lists of dictionaries that are done with, to be filled anew, so that little is allocated for the next one. What
 /// they held is of no account.
-#[derive(Debug, Drop)]
+#[derive(Drop)]
 pub struct Spare {
     numbers: Vec<Vec<Frac>>,
     entries: Vec<Vec<(u32, Frac)>>,

@@ -1,7 +1,7 @@
 //! Where a nonbasic variable stands, and the moves from one dictionary to the next.
 
 /// Where a nonbasic variable stands.
-#[derive(Clone, Copy, Debug, PartialEq, Eq)]
+#[derive(Clone, Copy, PartialEq, Eq)]
 pub enum Stand {
     /// At its low side.
     Low,
@@ -12,7 +12,7 @@ pub enum Stand {
 }
 
 /// A move from one dictionary to the next. Variables go by number, columns first, then rows.
-#[derive(Clone, Copy, Debug, PartialEq, Eq)]
+#[derive(Clone, Copy, PartialEq, Eq)]
 pub enum Move {
     /// The basic variable named first leaves, to where it then stands; the one named second enters.
     Exchange(u32, u32, Stand),

@@ -9,7 +9,7 @@ use std::alloc::{AllocError, Global};
 use std::marker::Model;
 
 /// A box with the choices of its columns.
-#[derive(Debug, Drop)]
+#[derive(Drop)]
 pub struct Region {
     bounds: Bounds,
     choices: Choices,

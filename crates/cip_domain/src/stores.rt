@@ -17,7 +17,7 @@ use std::alloc::{AllocError, Global};
 use std::marker::Model;
 
 /// What tightening a side came to.
-#[derive(Clone, Copy, Debug, PartialEq, Eq)]
+#[derive(Clone, Copy, PartialEq, Eq)]
 pub enum Tightened {
     /// The side is the value now.
     Yes,
@@ -28,7 +28,7 @@ pub enum Tightened {
 }
 
 /// How many changes had been made, at some moment.
-#[derive(Clone, Copy, Debug, PartialEq, Eq)]
+#[derive(Clone, Copy, PartialEq, Eq)]
 pub struct Checkpoint {
     changes: usize,
 }
@@ -54,7 +54,7 @@ impl Checkpoint {
 
 // What of a column was otherwise before a step: a side; a choice that was on; or one of the own sides of a choice that
 // was open, which takes two steps.
-#[derive(Clone, Copy, Debug)]
+#[derive(Clone, Copy)]
 enum Was {
     Low,
     High,
@@ -64,7 +64,7 @@ enum Was {
 }
 
 // A column, and what of it was otherwise before a step: of a side its value.
-#[derive(Clone, Copy, Debug)]
+#[derive(Clone, Copy)]
 struct Saved {
     col: u32,
     was: Was,
@@ -129,7 +129,7 @@ fn own_high_of(choice: &Choice) -> Option<Frac>
 
 /// A region with its earlier states. Contracts see its box and its choices, the regions before each change that can be
 /// undone, the oldest first, and for how many more changes there is room.
-#[derive(Debug, Drop)]
+#[derive(Drop)]
 pub struct DomainStore {
     region: Region,
     trail: Vec<Saved>,

@@ -8,7 +8,7 @@ use cip_frac::Frac;
 use cip_report::Shown;
 
 /// The parked leaf of least bound, the first of these: its values and choices, its bound, and by what it is shown.
-#[derive(Debug, Drop)]
+#[derive(Drop)]
 pub struct Worst {
     /// The value of each whole column, by rising column.
     pub leaf: Vec<Frac>,

@@ -11,7 +11,7 @@ use cip_lin::{Row, Sides, Term};
 use std::marker::Model;
 
 /// A value as an affine form of that of one column: a constant, and a factor times the value of that column.
-#[derive(Clone, Copy, Debug, PartialEq, Eq)]
+#[derive(Clone, Copy, PartialEq, Eq)]
 pub struct ColumnForm {
     /// What is added.
     pub constant: Frac,

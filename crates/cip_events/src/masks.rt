@@ -6,7 +6,7 @@ ghost use Rattle.cip_events.specs.declared.events.EventKind.{EventKind as Kind};
 use crate::events::EventKind;
 
 /// The kinds of events that are wanted.
-#[derive(Clone, Copy, Debug, PartialEq, Eq)]
+#[derive(Clone, Copy, PartialEq, Eq)]
 pub struct EventMask {
     wanted: [bool; 13],
 }

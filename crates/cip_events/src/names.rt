@@ -5,7 +5,7 @@ ghost use Rattle.cip_events.specs.Names.{shown_byte, shown_name};
 use std::marker::Model;
 
 /// A name of at most 64 bytes. Contracts see it as the list of its bytes.
-#[derive(Debug, Drop)]
+#[derive(Drop)]
 pub struct Name {
     bytes: [u8; 64],
     length: usize,

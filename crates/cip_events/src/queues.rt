@@ -7,7 +7,7 @@ use std::collections::VecDeque;
 use std::marker::Model;
 
 /// Events in the order in which they were pushed. Contracts see the queue as their list.
-#[derive(Debug, Drop)]
+#[derive(Drop)]
 pub struct EventQueue {
     waiting: VecDeque<Event>,
 }

@@ -3,7 +3,7 @@ use crate::names::Name;
 use crate::words::Word;
 
 /// A line of the trace. Lines are numbered from 1 in their order.
-#[derive(Clone, Copy, Debug)]
+#[derive(Clone, Copy)]
 pub struct TraceLine {
     /// The number of the plugin.
     pub id: u32,
@@ -12,7 +12,7 @@ pub struct TraceLine {
 }
 
 /// The lines that were kept, with the names of the plugins that they speak of.
-#[derive(Debug, Drop)]
+#[derive(Drop)]
 pub struct Trace {
     /// The name of each plugin that was included, by its number.
     pub names: Vec<Name>,

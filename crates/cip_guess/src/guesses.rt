@@ -25,7 +25,7 @@ const FEW_MOVES: usize = 2_000;
 const MOST_WORK: u64 = 1 << 33;
 
 /// How a guess ends. Any of it may be wrong.
-#[derive(Clone, Copy, PartialEq, Eq, Debug)]
+#[derive(Clone, Copy, PartialEq, Eq)]
 pub enum Outcome {
     /// The basis is optimal.
     Optimal,

@@ -14,7 +14,7 @@ const PARTS: i128 = 1 << 20;
 const MOST_BITS: i32 = 62;
 
 /// A row, by its number, with a multiplier that is rounded.
-#[derive(Clone, Copy, PartialEq, Eq, Debug)]
+#[derive(Clone, Copy, PartialEq, Eq)]
 pub struct RowMultiplier {
     /// The row.
     pub row: u32,

@@ -5,7 +5,7 @@ use crate::stops::Stop;
 use std::alloc::Global;
 
 /// Where a variable of a linear program stands in a basis.
-#[derive(Clone, Copy, PartialEq, Eq, Debug)]
+#[derive(Clone, Copy, PartialEq, Eq)]
 pub enum Standing {
     /// It is basic: its value follows from those of the others.
     Basic,

@@ -16,7 +16,7 @@ pub(crate) struct Placed {
 }
 
 /// A move of a column.
-#[derive(Clone, Copy, Debug)]
+#[derive(Clone, Copy)]
 pub(crate) struct Move {
     pub(crate) col: u32,
     pub(crate) by: Frac,

@@ -4,7 +4,7 @@ use cip_lin::Row;
 use std::alloc::{AllocError, Global};
 
 /// How many sides of rows keep a column from going down, and from going up.
-#[derive(Clone, Copy, Debug)]
+#[derive(Clone, Copy)]
 struct Lock {
     down: u32,
     up: u32,

@@ -13,7 +13,7 @@ const MOST_MORE: usize = 1 << 18;
 
 /// What is left of a heuristic's share. Each call adds some passes over the program, or a part of that, and work begins
 /// once there is as much as the last work took; twice as much where that came to nothing.
-#[derive(Clone, Copy, Debug)]
+#[derive(Clone, Copy)]
 pub(crate) struct Share {
     part: usize,
     pass: usize,

@@ -6,7 +6,7 @@ use cip_row_sums::short;
 use std::alloc::AllocError;
 
 /// A class of rows. Each row is in one.
-#[derive(Clone, Copy, PartialEq, Eq, Debug)]
+#[derive(Clone, Copy, PartialEq, Eq)]
 pub enum Class {
     /// The rows of no other class.
     Linear,

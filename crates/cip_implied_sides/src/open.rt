@@ -42,7 +42,7 @@ impl Found {
 
 /// The places of the terms that leave the least activity of a row open, and the greatest one, where each is the only
 /// one that does.
-#[derive(Clone, Copy, Debug)]
+#[derive(Clone, Copy)]
 pub struct OpenPlaces {
     low: Option<usize>,
     high: Option<usize>,

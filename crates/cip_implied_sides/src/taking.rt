@@ -11,7 +11,7 @@ use cip_steps::{Draft, Outcome, Sides, extent, is_far};
 use std::alloc::{AllocError, Global};
 
 /// A column, and sides for it.
-#[derive(Clone, Copy, Debug)]
+#[derive(Clone, Copy)]
 struct ColumnSides {
     column: u32,
     sides: Sides,

@@ -11,7 +11,7 @@ use std::marker::Model;
 
 /// The cheapest feasible point that was offered, with its cost in the minimised form. Contracts see it with the number
 /// of columns for which there is room.
-#[derive(Debug, Drop)]
+#[derive(Drop)]
 pub struct Incumbent {
     cost: Option<Frac>,
     point: Vec<Frac>,

@@ -2,7 +2,7 @@
 use cip_model::Verdict;
 
 /// What offering a point comes to.
-#[derive(Clone, Copy, Debug, PartialEq, Eq)]
+#[derive(Clone, Copy, PartialEq, Eq)]
 pub enum Offered {
     /// The point is feasible, and cheaper than what was held: it is held now.
     Taken,

@@ -4,7 +4,7 @@ use cip_io::Failed;
 use std::alloc::AllocError;
 
 /// Why nothing was read of a text. Its faults are of the kinds `K`.
-#[derive(Clone, Copy, Debug, PartialEq, Eq)]
+#[derive(Clone, Copy, PartialEq, Eq)]
 pub enum Unread<K> {
     /// The store failed.
     StoreFailed,

@@ -34,7 +34,7 @@ pub enum JudgeFault {
 }
 
 /// What a proposal comes to.
-#[derive(Clone, Copy, Debug, PartialEq, Eq)]
+#[derive(Clone, Copy, PartialEq, Eq)]
 pub enum Judged {
     /// It was taken.
     Accepted,

@@ -22,7 +22,7 @@ use cip_tree::Node;
 use std::alloc::{AllocError, Global};
 
 /// What a proposal came to, and what is left of the node in work.
-#[derive(Debug, Drop)]
+#[derive(Drop)]
 pub enum Ruled {
     /// The node is in work still.
     Kept(Node, Judged),

@@ -8,7 +8,7 @@ use cip_core::Program;
 use std::alloc::{AllocError, Global};
 
 /// Two scratches: each has room for just the columns of the program that is searched.
-#[derive(Debug, Drop)]
+#[derive(Drop)]
 pub struct Scratches {
     /// The one for all checks.
     pub first: Scratch,

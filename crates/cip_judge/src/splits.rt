@@ -16,7 +16,7 @@ use cip_tree::{Node, SplitFault};
 use std::alloc::AllocError;
 
 /// What a split of a node came to.
-#[derive(Debug, Drop)]
+#[derive(Drop)]
 pub enum Parted {
     /// The node has ended, and its halves have these numbers.
     Halves(u64, u64),

@@ -3,7 +3,7 @@ use cip_cert::CutFault;
 use cip_frac::Frac;
 
 /// What is shown of points.
-#[derive(Clone, Copy, Debug, PartialEq, Eq)]
+#[derive(Clone, Copy, PartialEq, Eq)]
 pub enum TreeBound {
     /// They cost at least this much.
     Finite(Frac),

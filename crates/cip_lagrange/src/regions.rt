@@ -10,7 +10,7 @@ use cip_lin::{Bounds, Choice, Choices, Sides};
 
 /// A box with the choices of its columns; those past the end of the choices are plain. The check of a tree goes down to
 /// the halves in it, and leaves it as it was.
-#[derive(Debug, Drop)]
+#[derive(Drop)]
 pub struct TreeRegion {
     /// The sides of each column.
     pub bounds: Bounds,
@@ -19,7 +19,7 @@ pub struct TreeRegion {
 }
 
 /// A half that a check goes down to: its number, and the split that gives it.
-#[derive(Clone, Copy, Debug)]
+#[derive(Clone, Copy)]
 pub(crate) struct Half {
     /// The number of the half.
     pub(crate) node: u128,

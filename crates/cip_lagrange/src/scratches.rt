@@ -13,7 +13,7 @@ use cip_lin::Bounds;
 use std::alloc::{AllocError, Global};
 
 /// The box and the costs of a block, which are set anew for each bound.
-#[derive(Debug, Drop)]
+#[derive(Drop)]
 pub struct BlockScratch {
     /// The box, with the program's choices of the block's columns.
     pub region: TreeRegion,
@@ -22,7 +22,7 @@ pub struct BlockScratch {
 }
 
 /// What the Lagrangian bound of a program works in, made once for its blocks and reused from call to call.
-#[derive(Debug, Drop)]
+#[derive(Drop)]
 pub struct LagrangeScratch {
     /// What is left of the costs of each column.
     pub rests: Vec<Frac>,

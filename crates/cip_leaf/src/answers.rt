@@ -3,7 +3,7 @@ use cip_frac::Frac;
 use cip_model::Place;
 
 /// By what a wide leaf is shown.
-#[derive(Clone, Copy, Debug, PartialEq, Eq)]
+#[derive(Clone, Copy, PartialEq, Eq)]
 pub enum Shown {
     /// A fixed part, what a side leaves of it, a first value, or a sum of the test of the point or of the ray overflows
     /// there.
@@ -13,7 +13,7 @@ pub enum Shown {
 }
 
 /// What is answered of a leaf.
-#[derive(Debug, Drop)]
+#[derive(Drop)]
 pub enum LeafAnswer {
     /// A point of the leaf of least cost. `check` says `Feasible` of it, with this cost.
     Best {

@@ -3,7 +3,7 @@ use cip_equalities::Row;
 use std::alloc::{AllocError, Global};
 
 /// In how many rows each column has a term.
-#[derive(Debug, Drop)]
+#[derive(Drop)]
 pub(crate) struct RowCounts {
     counts: Vec<u32>,
 }

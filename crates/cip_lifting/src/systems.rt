@@ -7,7 +7,7 @@ use cip_frac::{Frac, short_gcd};
 use std::alloc::{AllocError, Global};
 
 /// How long the parts of a solution may be.
-#[derive(Clone, Copy, PartialEq, Eq, Debug)]
+#[derive(Clone, Copy, PartialEq, Eq)]
 pub enum Length {
     /// Up to 55 bits.
     Short,
@@ -16,7 +16,7 @@ pub enum Length {
 }
 
 /// Which system of a matrix is meant.
-#[derive(Clone, Copy, PartialEq, Eq, Debug)]
+#[derive(Clone, Copy, PartialEq, Eq)]
 pub enum Direction {
     /// Values of the columns, for a right side of each row.
     Rows,

@@ -56,7 +56,7 @@ pub trait PieceText {
 }
 
 /// A reader of texts of a format: a text as far as it came, and nothing once a growth was refused.
-#[derive(Debug, Drop)]
+#[derive(Drop)]
 pub struct PieceReader<T> {
     pub(crate) text: Option<T>,
 }

@@ -12,7 +12,7 @@ const LONGEST_TEXT: usize = 67_108_864;
 
 /// A text as far as it came: the bytes of the line that has not ended, how many lines have ended and how many bytes
 /// were looked at, and the first fault of a line that has ended. Behind a fault no bytes are kept.
-#[derive(Debug, Drop)]
+#[derive(Drop)]
 pub struct Pieces {
     pub(crate) line: Vec<u8>,
     pub(crate) filled: bool,

@@ -15,7 +15,7 @@ use cip_lp_tokens::{LineTokens, LpPart, Token};
 use std::alloc::{AllocError, Global};
 
 /// What was read of the tokens of a text. Behind End none is looked at.
-#[derive(Debug, Drop)]
+#[derive(Drop)]
 pub(crate) struct LineReader {
     pub(crate) statements: Statements,
     pub(crate) ended: bool,

@@ -33,7 +33,7 @@ const TOO_LONG: u32 = 12;
 
 /// An LP text as far as it came: what its tokens have said that have ended, how many lines have ended, whether no token
 /// of the line that has not ended was read, its bytes behind these tokens, how many bytes there are, and the fault.
-#[derive(Debug, Drop)]
+#[derive(Drop)]
 pub struct LpText {
     pub(crate) alloc: Global,
     pub(crate) lines: LineReader,

@@ -7,7 +7,7 @@ use std::alloc::Global;
 use std::marker::Model;
 
 /// A program as far as the tokens of an LP text have said it.
-#[derive(Debug, Drop)]
+#[derive(Drop)]
 pub struct LpDraft {
     pub(crate) alloc: Global,
     pub(crate) maximized: bool,

@@ -12,7 +12,7 @@ use std::alloc::{AllocError, Global};
 use std::marker::Model;
 
 /// The number of a column in a form.
-#[derive(Clone, Copy, Debug)]
+#[derive(Clone, Copy)]
 pub(crate) struct FormTerm {
     pub(crate) column: u32,
     pub(crate) value: Frac,
@@ -47,7 +47,7 @@ impl FormTerm {
 }
 
 /// A form: numbers of columns, kept in the order in which they came. Contracts see them by rising column.
-#[derive(Debug, Drop)]
+#[derive(Drop)]
 pub(crate) struct Form {
     pub(crate) terms: Vec<FormTerm>,
     /// By column, where its number stands among the terms. Of a column that has none it says nothing.

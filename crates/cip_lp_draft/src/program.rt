@@ -44,37 +44,33 @@ impl LpDraft {
         }
     }
 
-    /// The program that was said. `Err` comes where a growth was refused.
-    pub fn into_program(self) -> Result<Program, AllocError>
-        ensures { IfOk result (λ program. program ≡ facts.program_of self) }
+    /// The program that was said, whose columns have these sides.
+    fn into_bounded(self, bounds: Bounds) -> Program
+        requires { bounds ≡ self.bounds }
+        ensures { result ≡ facts.program_of self }
     {
-        let bounds = bounds_of(self.alloc, self.sides.as_slice())?;
-        let LpDraft {
-            alloc,
-            maximized,
-            row_names,
-            rows,
-            column_names,
-            costs,
-            whole,
-            constant,
-            ..
-        } = self;
-        let sense = if maximized {
+        let sense = if self.maximized {
             Sense::Maximize
         } else {
             Sense::Minimize
         };
-        Ok(Program::new(Parts {
-            column_names: column_names.into_names(),
-            row_names: row_names.into_names(),
-            rows,
-            costs,
-            constant,
+        Program::new(Parts {
+            column_names: self.column_names.into_names(),
+            row_names: self.row_names.into_names(),
+            rows: self.rows,
+            costs: self.costs,
+            constant: self.constant,
             sense,
-            whole,
+            whole: self.whole,
             bounds,
-            choices: Choices::new(alloc),
-        }))
+            choices: Choices::new(self.alloc),
+        })
+    }
+
+    /// The program that was said. `Err` comes where a growth was refused.
+    pub fn into_program(self) -> Result<Program, AllocError>
+        ensures { IfOk result (λ program. program ≡ facts.program_of self) }
+    {
+        bounds_of(self.alloc, self.sides.as_slice()).map(|bounds| self.into_bounded(bounds))
     }
 }

@@ -3,7 +3,7 @@ use cip_lp_draft::{Amount, Limit};
 use cip_lp_tokens::Relation;
 
 /// Where a token stands in its statement.
-#[derive(Clone, Copy, PartialEq, Eq, Debug)]
+#[derive(Clone, Copy, PartialEq, Eq)]
 pub(crate) enum Stage {
     /// A statement may begin.
     Start,
@@ -50,7 +50,7 @@ pub(crate) enum Stage {
 }
 
 /// What is kept of the statement in hand.
-#[derive(Debug, Drop)]
+#[derive(Drop)]
 pub(crate) struct Place {
     /// Where the next token stands.
     pub(crate) stage: Stage,

@@ -14,7 +14,7 @@ use cip_lp_tokens::{LpPart, Relation, Token};
 use std::alloc::{AllocError, Global};
 
 /// What the tokens of a text have said, and where the next one stands.
-#[derive(Debug, Drop)]
+#[derive(Drop)]
 pub struct Statements {
     /// The program as far as it goes.
     pub(crate) draft: LpDraft,

@@ -12,7 +12,7 @@ use crate::pieces::{Piece, Pieces};
 use crate::words::{LpPart, Relation, WordMeaning, is_second, word_meaning};
 
 /// A token of a line.
-#[derive(Clone, Copy, Debug)]
+#[derive(Clone, Copy)]
 pub enum Token<'a> {
     /// A section word.
     Opening(LpPart),
@@ -42,7 +42,7 @@ pub enum Token<'a> {
 }
 
 /// The tokens of a line, from one of them on.
-#[derive(Clone, Copy, Debug)]
+#[derive(Clone, Copy)]
 pub struct LineTokens<'a> {
     pub(crate) pieces: Pieces<'a>,
     /// No token was handed out.

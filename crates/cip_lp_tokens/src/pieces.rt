@@ -13,7 +13,7 @@ use crate::lengths::{begins_name, begins_number, name_length, number_length};
 use crate::words::Relation;
 
 /// A piece of a line.
-#[derive(Clone, Copy, Debug)]
+#[derive(Clone, Copy)]
 pub(crate) enum Piece<'a> {
     Word(&'a [u8]),
     Number(&'a [u8]),
@@ -24,7 +24,7 @@ pub(crate) enum Piece<'a> {
 }
 
 /// The pieces of a line, from one of them on.
-#[derive(Clone, Copy, Debug)]
+#[derive(Clone, Copy)]
 pub(crate) struct Pieces<'a> {
     pub(crate) rest: &'a [u8],
 }

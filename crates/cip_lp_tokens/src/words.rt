@@ -6,7 +6,7 @@ ghost use Rattle.cip_lp_rules.specs.LpWords as text;
 ghost use Rattle.cip_lp_tokens.specs.LpKinds.{meaning_shown};
 
 /// A section of a text.
-#[derive(Clone, Copy, PartialEq, Eq, Debug)]
+#[derive(Clone, Copy, PartialEq, Eq)]
 pub enum LpPart {
     /// What stands before the first section.
     NoPart,
@@ -27,7 +27,7 @@ pub enum LpPart {
 }
 
 /// A relation between a form and a value.
-#[derive(Clone, Copy, PartialEq, Eq, Debug)]
+#[derive(Clone, Copy, PartialEq, Eq)]
 pub enum Relation {
     /// `<`, `<=` or `=<`.
     AtMost,

@@ -7,7 +7,7 @@ use cip_frac::Frac;
 use std::marker::Model;
 
 /// A number with its sign. Contracts see whether it is 0 beside it.
-#[derive(Clone, Copy, Debug)]
+#[derive(Clone, Copy)]
 pub struct Amount {
     /// The number.
     pub value: Frac,

@@ -9,7 +9,7 @@ use cip_frac::Frac;
 use cip_mps_lines::{BoundNumber, NumberFault, number};
 
 /// The value of a bound; where there is none, infinity, upwards or downwards.
-#[derive(Clone, Copy, Debug)]
+#[derive(Clone, Copy)]
 pub struct Limit {
     /// The value.
     pub value: Option<Frac>,

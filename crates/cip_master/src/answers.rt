@@ -3,7 +3,7 @@ use cip_frac::Frac;
 use cip_master_prices::Shown;
 
 /// The weight of a point that is held.
-#[derive(Clone, Copy, Debug, PartialEq, Eq)]
+#[derive(Clone, Copy, PartialEq, Eq)]
 pub struct PointWeight {
     /// The id of the point.
     pub id: u32,
@@ -12,7 +12,7 @@ pub struct PointWeight {
 }
 
 /// A mixture of held points: the weights of each block's points sum to 1.
-#[derive(Debug, Drop)]
+#[derive(Drop)]
 pub struct Weights {
     /// The values of the columns of no block, by rising number.
     pub free: Vec<Frac>,
@@ -35,7 +35,7 @@ pub enum MasterCause {
 }
 
 /// What the master program answers.
-#[derive(Debug, Drop)]
+#[derive(Drop)]
 pub enum MasterAnswer {
     /// A mixture of held points of least cost.
     Prices {

@@ -15,7 +15,7 @@ use cip_simplex::{LpAnswer, Solver, Start};
 use std::alloc::{AllocError, Global};
 
 /// The master program of the points that a pool holds in a box, kept while the pool grows.
-#[derive(Debug, Drop)]
+#[derive(Drop)]
 pub struct Master {
     /// The linear program.
     pub program: MasterProgram,

@@ -7,7 +7,7 @@ use cip_model::Program;
 
 /// A program that falls into blocks, a box of it, and the points of its blocks that are held, lent to the master
 /// program.
-#[derive(Clone, Copy, Debug, Drop)]
+#[derive(Clone, Copy, Drop)]
 pub struct MasterTask<'a> {
     /// The program.
     pub program: &'a Program,
@@ -20,7 +20,7 @@ pub struct MasterTask<'a> {
 }
 
 /// Multipliers and prices, with what they leave.
-#[derive(Debug, Drop)]
+#[derive(Drop)]
 pub struct Shown {
     /// A multiplier for each master row, by rising number of the row.
     pub multipliers: Vec<Frac>,

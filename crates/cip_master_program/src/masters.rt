@@ -5,7 +5,7 @@ use std::alloc::AllocError;
 
 /// The master program of held points: its columns are those of no block, and then a weight for each point by rising id.
 /// Points that are new are put behind the others.
-#[derive(Debug, Drop)]
+#[derive(Drop)]
 pub struct MasterProgram {
     /// The master rows, by rising number in the program, over the columns of no block and the weights.
     pub masters: Vec<Row>,

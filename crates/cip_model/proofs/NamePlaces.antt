@@ -1,13 +1,12 @@
 -- The places of names among names, and in the order of names.
-use Rattle.std.proofs.Common.{◌≡◌, ℕ, zero, suc, ◌+◌, ◌<◌, Bool, true, false, cond, ◌||◌, List, [], ◌∷◌, ◌++◌, length, Option, None, Some, refl, sym, ◌∙◌, ap, subst, inl, inr, ◌⊎◌, arith, Less, Equal, Greater, Ordering, is_eq, add-zero, zero-add}
-use Rattle.std.specs.Prelude.{slice_get, IfSome, option_map}
+use Rattle.std.proofs.Common.{◌≡◌, ℕ, zero, suc, ◌+◌, ◌<◌, ◌==◌, Bool, true, false, cond, ◌||◌, List, [], ◌∷◌, ◌++◌, length, Option, None, Some, refl, sym, ◌∙◌, ap, subst, inl, inr, ◌⊎◌, arith, Less, Equal, Greater, Ordering, is_eq, add-zero, zero-add}
+use Rattle.std.specs.Prelude.{slice_get, nat_lt, IfSome, option_map}
+use Rattle.std.proofs.lemmas.Bool.{ltb-true, eqb-true}
 use Rattle.std.specs.Str.{bytes_eq}
 use Rattle.std.specs.Map.{lookup}
 use Rattle.std.specs.BTreeMap.{insert_entry}
 use Rattle.std.specs.Ordering.{nat_cmp, match_ordering}
-use Rattle.std.specs.Cmp.Lexicographic.{slice_cmp}
 use Rattle.std.specs.List.{position_from, list_any}
-use Rattle.std.proofs.lemmas.Map.Text.{is_eq-slice_cmp}
 use Rattle.std.proofs.lemmas.Slice.Eq.{bytes_eq-Decides}
 use Rattle.cip_problem.specs.Names.{number_of}
 use Rattle.cip_parts.specs.NamesOnce.{StandOnce}
@@ -28,7 +27,7 @@ position_push t i (x ∷ xs) y = go (t x) (position_push t (i + 1) xs y)
     go true h = refl
     go false h = h ∙ ap (λ n. or_else (position_from t (i + 1) xs) (cond (t y) (Some n) None)) (omega arith)
 
-same : (a b : List ℕ) → bytes_eq a b ≡ true → a ≡ b
+pub same : (a b : List ℕ) → bytes_eq a b ≡ true → a ≡ b
 same a b h = (bytes_eq-Decides a b).0 h
 
 -- the number of a name among names, one of which is new
@@ -60,44 +59,55 @@ position_below t i (x ∷ xs) k e = go (t x) e (position_below t (i + 1) xs k)
 pub number_below : (names : List (List ℕ)) (name : List ℕ) (k : ℕ) → number_of names name ≡ Some k → k < length names
 number_below names name k e = let l : k < 0 + length names = position_below (bytes_eq name) 0 names k e in omega (arith, l)
 
--- ---- the order of names
+-- ---- an order
 
-module _ {K : Type 0} (f : K → List ℕ) where
-  -- the number that the order has for a name
-  abbrev pub in_order : List (K × ℕ) → List ℕ → Option ℕ
-  in_order es name = lookup (λ q. is_eq (slice_cmp nat_cmp name (f q))) es
+module _ {K Q : Type 0} (f : K → Q) (c : Q → Q → Ordering) (e : Q → Q → Bool) (is_e : (x y : Q) → is_eq (c x y) ≡ e x y) (same_e : (x y : Q) → e x y ≡ true → x ≡ y) where
+  -- the number that an order has for a key
+  abbrev pub in_order : List (K × ℕ) → Q → Option ℕ
+  in_order es q = lookup (λ k. is_eq (c q (f k))) es
 
-  pub order_push : (es : List (K × ℕ)) (k : K) (v : ℕ) (name : List ℕ) → in_order es (f k) ≡ None → in_order (insert_entry (λ x y. slice_cmp nat_cmp (f x) (f y)) es k v) name ≡ cond (bytes_eq name (f k)) (Some v) (in_order es name)
-  order_push [] k v name absent = ap (λ b. cond b (Some v) None) (is_eq-slice_cmp name (f k))
-  order_push (e ∷ es) k v name absent = go (slice_cmp nat_cmp (f k) (f e.0)) refl (order_push es k v name)
+  pub order_push : (es : List (K × ℕ)) (k : K) (v : ℕ) (q : Q) → in_order es (f k) ≡ None → in_order (insert_entry (λ x y. c (f x) (f y)) es k v) q ≡ cond (e q (f k)) (Some v) (in_order es q)
+  order_push [] k v q absent = ap (λ b. cond b (Some v) None) (is_e q (f k))
+  order_push (x ∷ es) k v q absent = go (c (f k) (f x.0)) refl (order_push es k v q)
     where
-      rest : (b : Bool) → is_eq (slice_cmp nat_cmp (f k) (f e.0)) ≡ b → cond b (Some e.1) (in_order es (f k)) ≡ None → in_order es (f k) ≡ None
+      rest : (b : Bool) → is_eq (c (f k) (f x.0)) ≡ b → cond b (Some x.1) (in_order es (f k)) ≡ None → in_order es (f k) ≡ None
       rest true p h = absurd (cc)
       rest false p h = h
 
-      apart : (b : Bool) → is_eq (slice_cmp nat_cmp (f k) (f e.0)) ≡ b → cond b (Some e.1) (in_order es (f k)) ≡ None → bytes_eq (f k) (f e.0) ≡ false
+      apart : (b : Bool) → is_eq (c (f k) (f x.0)) ≡ b → cond b (Some x.1) (in_order es (f k)) ≡ None → e (f k) (f x.0) ≡ false
       apart true p h = absurd (cc)
-      apart false p h = sym (is_eq-slice_cmp (f k) (f e.0)) ∙ p
+      apart false p h = sym (is_e (f k) (f x.0)) ∙ p
 
-      swap : (a b : Bool) → bytes_eq name (f e.0) ≡ a → bytes_eq name (f k) ≡ b → bytes_eq (f k) (f e.0) ≡ false → cond a (Some e.1) (cond b (Some v) (in_order es name)) ≡ cond b (Some v) (cond a (Some e.1) (in_order es name))
-      swap true true p q n =
-          let x : name ≡ f e.0 = same name (f e.0) p in
-          let y : name ≡ f k = same name (f k) q in
-          let z : bytes_eq (f k) (f e.0) ≡ true = ap (λ w. bytes_eq w (f e.0)) (sym y) ∙ p in absurd (cc)
-      swap true false p q n = refl
-      swap false true p q n = refl
-      swap false false p q n = refl
+      swap : (a b : Bool) → e q (f x.0) ≡ a → e q (f k) ≡ b → e (f k) (f x.0) ≡ false → cond a (Some x.1) (cond b (Some v) (in_order es q)) ≡ cond b (Some v) (cond a (Some x.1) (in_order es q))
+      swap true true p r n =
+          let y : q ≡ f k = same_e q (f k) r in
+          let z : e (f k) (f x.0) ≡ true = ap (λ w. e w (f x.0)) (sym y) ∙ p in absurd (cc)
+      swap true false p r n = refl
+      swap false true p r n = refl
+      swap false false p r n = refl
 
-      go : (o : Ordering) → slice_cmp nat_cmp (f k) (f e.0) ≡ o
-          → (in_order es (f k) ≡ None → in_order (insert_entry (λ x y. slice_cmp nat_cmp (f x) (f y)) es k v) name ≡ cond (bytes_eq name (f k)) (Some v) (in_order es name))
-          → in_order (match_ordering o ((k, v) ∷ e ∷ es) ((e.0, v) ∷ es) (e ∷ insert_entry (λ x y. slice_cmp nat_cmp (f x) (f y)) es k v)) name ≡ cond (bytes_eq name (f k)) (Some v) (in_order (e ∷ es) name)
-      go Less p more = ap (λ b. cond b (Some v) (in_order (e ∷ es) name)) (is_eq-slice_cmp name (f k))
-      go Equal p more = let q : is_eq (slice_cmp nat_cmp (f k) (f e.0)) ≡ true = ap is_eq p in let a = apart (is_eq (slice_cmp nat_cmp (f k) (f e.0))) refl absent in let t : bytes_eq (f k) (f e.0) ≡ true = sym (is_eq-slice_cmp (f k) (f e.0)) ∙ q in absurd (cc)
+      go : (o : Ordering) → c (f k) (f x.0) ≡ o
+          → (in_order es (f k) ≡ None → in_order (insert_entry (λ x y. c (f x) (f y)) es k v) q ≡ cond (e q (f k)) (Some v) (in_order es q))
+          → in_order (match_ordering o ((k, v) ∷ x ∷ es) ((x.0, v) ∷ es) (x ∷ insert_entry (λ x y. c (f x) (f y)) es k v)) q ≡ cond (e q (f k)) (Some v) (in_order (x ∷ es) q)
+      go Less p more = ap (λ b. cond b (Some v) (in_order (x ∷ es) q)) (is_e q (f k))
+      go Equal p more = let r : is_eq (c (f k) (f x.0)) ≡ true = ap is_eq p in let a = apart (is_eq (c (f k) (f x.0))) refl absent in let t : e (f k) (f x.0) ≡ true = sym (is_e (f k) (f x.0)) ∙ r in absurd (cc)
       go Greater p more =
-          ap (λ t. cond (is_eq (slice_cmp nat_cmp name (f e.0))) (Some e.1) t) (more (rest (is_eq (slice_cmp nat_cmp (f k) (f e.0))) refl absent))
-          ∙ ap (λ b. cond b (Some e.1) (cond (bytes_eq name (f k)) (Some v) (in_order es name))) (is_eq-slice_cmp name (f e.0))
-          ∙ swap (bytes_eq name (f e.0)) (bytes_eq name (f k)) refl refl (apart (is_eq (slice_cmp nat_cmp (f k) (f e.0))) refl absent)
-          ∙ ap (λ b. cond (bytes_eq name (f k)) (Some v) (cond b (Some e.1) (in_order es name))) (sym (is_eq-slice_cmp name (f e.0)))
+          ap (λ t. cond (is_eq (c q (f x.0))) (Some x.1) t) (more (rest (is_eq (c (f k) (f x.0))) refl absent))
+          ∙ ap (λ b. cond b (Some x.1) (cond (e q (f k)) (Some v) (in_order es q))) (is_e q (f x.0))
+          ∙ swap (e q (f x.0)) (e q (f k)) refl refl (apart (is_eq (c (f k) (f x.0))) refl absent)
+          ∙ ap (λ b. cond (e q (f k)) (Some v) (cond b (Some x.1) (in_order es q))) (sym (is_e q (f x.0)))
+
+pub same_nat : (j k : ℕ) → (j == k) ≡ true → j ≡ k
+same_nat j k e = eqb-true j k e
+
+pub is_eq-nat_cmp : (j k : ℕ) → is_eq (nat_cmp j k) ≡ (j == k)
+is_eq-nat_cmp j k = go (nat_lt j k) (j == k) refl refl
+  where
+    go : (a b : Bool) → nat_lt j k ≡ a → (j == k) ≡ b → is_eq (cond a Less (cond b Equal Greater)) ≡ b
+    go false true p q = refl
+    go false false p q = refl
+    go true false p q = refl
+    go true true p q = absurd (let l : j < k = ltb-true j k p in let e : j ≡ k = eqb-true j k q in omega (arith, l, e))
 
 -- ---- names stay apart
 

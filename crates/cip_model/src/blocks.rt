@@ -13,7 +13,7 @@ pub const MOST_BLOCKS: usize = 4_096;
 
 /// The blocks of a program, by their numbers from 0, with the rows and columns of each; its master rows, which are of
 /// no block; and its columns of no block. Rows and columns stand by rising number.
-#[derive(Debug, Drop)]
+#[derive(Drop)]
 pub struct Blocks {
     by_rows: Groups,
     by_columns: Groups,

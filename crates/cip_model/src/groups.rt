@@ -6,7 +6,7 @@ ghost use Rattle.cip_model.specs.NumberLists.{lists_of};
 use std::alloc::{AllocError, Global};
 
 /// Numbers by their groups, each by rising number, and the numbers of no group.
-#[derive(Debug, Drop)]
+#[derive(Drop)]
 pub(crate) struct Groups {
     pub(crate) groups: Vec<Vec<u32>>,
     pub(crate) rest: Vec<u32>,

@@ -6,6 +6,7 @@ mod checks;
 mod groups;
 mod limits;
 mod name_hints;
+mod name_order;
 mod names;
 mod parts;
 mod programs;

@@ -13,7 +13,7 @@ const MOST_LOOKS: usize = 16;
 const NUMBER: u32 = 0x1_FFFF;
 
 /// Hints by fingerprints, of 4 bytes each: none yet, or as many places as a power of two. A free place is 0.
-#[derive(Debug, Drop)]
+#[derive(Drop)]
 pub(crate) struct Hints {
     places: Vec<u32>,
 }

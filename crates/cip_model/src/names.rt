@@ -1,25 +1,21 @@
 //! Names and their numbers.
 ghost use Rattle.std.specs.Prelude.{◌≡◌, ℕ, ◌+◌, ◌<◌, ◌++◌, ◌∷◌, ◌↔◌, [], List, Some, None, IsTrue, length, vec_len, vec_capacity, slice_get, if◌then◌else◌, IfSome, IfOk, OnOk, OnErr};
-ghost use Rattle.std.specs.BTreeMap.{get_by};
-ghost use Rattle.std.specs.Cmp.Lexicographic.{slice_cmp};
-ghost use Rattle.std.specs.Ordering.{nat_cmp};
-ghost use Rattle.std.specs.Str.{bytes_eq};
 ghost use Rattle.cip_problem.specs.Names.{number_of};
 
 use crate::name_hints::{Hints, piece};
+use crate::name_order::Order;
 use std::alloc::{AllocError, Global};
-use std::collections::BTreeMap;
 use std::marker::Model;
 
 /// Distinct names; the number of a name is its place, from 0. The names stand one behind another in a list of bytes, of
 /// which `ends` has the place behind each. A name is sought by hints, and where these have it not in the order of
 /// names, so that no choice of names makes the search long.
-#[derive(Debug, Drop)]
+#[derive(Drop)]
 pub struct Names {
     alloc: Global,
     bytes: Vec<u8>,
     ends: Vec<u32>,
-    order: BTreeMap<Vec<u8>, usize>,
+    order: Order,
     hints: Hints,
 }
 
@@ -36,19 +32,6 @@ impl Model for Names {
     ghost view = { names_of };
 
     ghost invariant = { AreOrdered };
-}
-
-/// Puts a new name with its number into the order of names. `Err` comes where a growth was refused, and changes
-/// nothing.
-fn put(order: &mut BTreeMap<Vec<u8>, usize>, name: Vec<u8>, number: usize) -> Result<(), AllocError>
-    requires { get_by (λ key. slice_cmp nat_cmp name.items key.items) order.old ≡ None }
-    ensures ok { OnOk result ((other : List ℕ) → get_by (λ key. slice_cmp nat_cmp other key.items) order.new
-        ≡ (if bytes_eq other name.items then Some number
-        else get_by (λ key. slice_cmp nat_cmp other key.items) order.old)) }
-    ensures err { OnErr result (order.new.entries ≡ order.old.entries) }
-{
-    order.insert(name, number)?;
-    Ok(())
 }
 
 /// Puts the place behind a name behind those of others, for which there is room.
@@ -80,7 +63,7 @@ impl Names {
             alloc,
             bytes: Vec::new(alloc),
             ends: Vec::new(alloc),
-            order: BTreeMap::new(alloc),
+            order: Order::new(alloc),
             hints: Hints::new(alloc),
         }
     }
@@ -109,7 +92,7 @@ impl Names {
             .find(self.bytes.as_slice(), self.ends.as_slice(), name)
         {
             Some(number) => Some(number),
-            None => self.order.get(name).copied(),
+            None => self.order.get(name),
         }
     }
 
@@ -146,7 +129,7 @@ impl Names {
         )?;
         self.ends.reserve(1)?;
         self.bytes.extend_from_slice(name.as_slice())?;
-        if let Err(error) = put(&mut self.order, name, number) {
+        if let Err(error) = self.order.put(name, number) {
             self.bytes.truncate(start);
             return Err(error);
         }

@@ -4,7 +4,7 @@ use cip_frac::Frac;
 use cip_lin::{Bounds, Choices, Row};
 
 /// Which way the cost is to go.
-#[derive(Clone, Copy, Debug, PartialEq, Eq)]
+#[derive(Clone, Copy, PartialEq, Eq)]
 pub enum Sense {
     /// As low as can be.
     Minimize,
@@ -14,7 +14,7 @@ pub enum Sense {
 
 /// The parts of a program: rows and columns by number. Costs and the constant are those of the
 /// minimised form; `whole` says of each column whether it takes whole values only.
-#[derive(Debug, Drop)]
+#[derive(Drop)]
 pub struct Parts {
     /// The names of the columns, at most `MOST_COLUMNS`.
     pub column_names: Names,

@@ -17,7 +17,7 @@ use std::marker::Model;
 
 /// A program: rows and columns by number from 0, at most `MOST_ROWS` and `MOST_COLUMNS`. Costs and
 /// the constant are those of the minimised form.
-#[derive(Debug, Drop)]
+#[derive(Drop)]
 pub struct Program {
     parts: Parts,
 }

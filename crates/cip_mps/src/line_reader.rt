@@ -14,7 +14,7 @@ use cip_mps_draft::{Draft, Line, LinePlace, Part, Program, record_of, said};
 use std::alloc::{AllocError, Global};
 
 /// What was read of the lines that have ended. Behind ENDATA no line is looked at.
-#[derive(Debug, Drop)]
+#[derive(Drop)]
 pub(crate) struct LineReader {
     pub(crate) place: LinePlace,
     pub(crate) draft: Draft,

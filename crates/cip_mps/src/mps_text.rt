@@ -27,7 +27,7 @@ const TOO_MANY: u32 = 18;
 const NO_END: u32 = 17;
 
 /// A text of free MPS as far as it came.
-#[derive(Debug, Drop)]
+#[derive(Drop)]
 pub struct MpsText {
     pub(crate) alloc: Global,
     pub(crate) pieces: Pieces,

@@ -2,16 +2,13 @@
 use Rattle.std.proofs.Common.{◌≡◌, ℕ, zero, suc, ◌<◌, ◌≤◌, Bool, true, false, cond, ◌&&◌, List, [], ◌∷◌, ◌++◌, length, Some, subst, refl, sym, ap, ◌∙◌, arith}
 use Rattle.std.specs.Prelude.{nat_lt, slice_index_or, slice_set, not, Result, Ok, Err, OnOk, OnErr}
 use Rattle.std.specs.List.{filter, list_all}
-use Rattle.std.proofs.lemmas.List.Folds.{list_all-append}
 use Rattle.std.proofs.lemmas.Bool.{and_from, and_parts, lt-ltb, ltb-true}
 use Rattle.cip_rational.specs.Rational.{ℚ}
 use Rattle.cip_mps_steps.specs.MpsState.{RowRead, no_row, is_kept}
 use Rattle.cip_mps_rules.specs.MpsProgram.{is_free}
 use Rattle.cip_mps_steps.specs.MpsSteps.{changed, with_held}
 use Rattle.cip_mps_steps.specs.MpsSoundState.{held_below}
-
-pub all_push : {X : Type 0} (p : X → Bool) (xs : List X) (v : X) → list_all p xs ≡ true → p v ≡ true → list_all p (xs ++ v ∷ []) ≡ true
-all_push p xs v h e = list_all-append p xs (v ∷ []) ∙ and_from (list_all p xs) (p v && true) h (and_from (p v) true e refl)
+use Rattle.cip_mps_rows.proofs.Numbers.{all_push}
 
 -- ---- rows of a draft
 

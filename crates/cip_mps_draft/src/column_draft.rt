@@ -12,7 +12,7 @@ use std::marker::Model;
 
 /// A column: its bounds so far, whether it is whole, whether a record made it semi-continuous, whether a record has set
 /// the low bound, and whether there is any record of it.
-#[derive(Clone, Copy, Debug)]
+#[derive(Clone, Copy)]
 pub(crate) struct ColumnDraft {
     low: Option<Frac>,
     high: Option<Frac>,

@@ -12,7 +12,7 @@ use cip_name_index::NameIndex;
 use std::alloc::Global;
 
 /// A program as far as the lines of a text have said it. Rows of type N are kept like others, and dropped at the end.
-#[derive(Debug, Drop)]
+#[derive(Drop)]
 pub struct Draft {
     pub(crate) alloc: Global,
     /// The sections so far, in their order.

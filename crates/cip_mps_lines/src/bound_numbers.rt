@@ -14,7 +14,7 @@ const FAR: i128 = 100_000_000_000_000_000_000;
 
 /// The text of a bound's value, read. Contracts see what the text says as a bound: infinity and a size of 10^20 or more
 /// are `Huge`, that is no bound.
-#[derive(Debug, Drop)]
+#[derive(Drop)]
 pub struct BoundNumber<'a> {
     text: &'a [u8],
     outcome: Result<Frac, NumberFault>,

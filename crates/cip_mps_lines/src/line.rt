@@ -6,7 +6,7 @@ use crate::words::{BoundKind, Part, RowKind};
 use cip_text::Fields;
 
 /// The name of a row, and a number for it.
-#[derive(Debug, Drop)]
+#[derive(Drop)]
 pub struct Pair<'a> {
     /// The name of the row.
     pub row: &'a [u8],
@@ -15,7 +15,7 @@ pub struct Pair<'a> {
 }
 
 /// The one or two values of a line.
-#[derive(Debug, Drop)]
+#[derive(Drop)]
 pub struct Pairs<'a> {
     /// The first value.
     pub first: Pair<'a>,
@@ -24,7 +24,7 @@ pub struct Pairs<'a> {
 }
 
 /// What a line says.
-#[derive(Debug, Drop)]
+#[derive(Drop)]
 pub enum Line<'a> {
     /// A section line whose word is none of the eight.
     UnknownSection,

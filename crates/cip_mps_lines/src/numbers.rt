@@ -5,7 +5,7 @@ use cip_text::{NumberFault, number};
 use std::marker::Model;
 
 /// A text of a number, read. Contracts see what the text says.
-#[derive(Debug, Drop)]
+#[derive(Drop)]
 pub struct Number<'a> {
     text: &'a [u8],
     outcome: Result<Frac, NumberFault>,

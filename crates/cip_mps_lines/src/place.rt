@@ -8,7 +8,7 @@ use std::marker::Model;
 
 /// Where the next line stands: the section, whether that has said a sense, whether markers make columns whole, and the
 /// set that was met first in the section.
-#[derive(Debug, Drop)]
+#[derive(Drop)]
 pub struct LinePlace {
     part: Part,
     sensed: bool,

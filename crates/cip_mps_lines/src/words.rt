@@ -4,7 +4,7 @@ ghost use Rattle.cip_mps_rules.specs.MpsWords as text;
 ghost use Rattle.cip_mps_lines.specs.MpsKinds.{part_of, row_kind_in, bound_kind_in};
 
 /// A section of a text.
-#[derive(Clone, Copy, PartialEq, Eq, Debug)]
+#[derive(Clone, Copy, PartialEq, Eq)]
 pub enum Part {
     /// What stands before the first section line.
     NoPart,
@@ -27,7 +27,7 @@ pub enum Part {
 }
 
 /// The type of a row.
-#[derive(Clone, Copy, PartialEq, Eq, Debug)]
+#[derive(Clone, Copy, PartialEq, Eq)]
 pub enum RowKind {
     /// N, a row without sides.
     Free,
@@ -40,7 +40,7 @@ pub enum RowKind {
 }
 
 /// The type of a bound.
-#[derive(Clone, Copy, PartialEq, Eq, Debug)]
+#[derive(Clone, Copy, PartialEq, Eq)]
 pub enum BoundKind {
     /// LO.
     Low,

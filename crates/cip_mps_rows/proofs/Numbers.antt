@@ -14,7 +14,7 @@ use Rattle.cip_mps_rows.specs.GroupEntries.{near_entry, far_entry, entries_of}
 use Rattle.cip_mps_rows.specs.declared.groups.Near.{Near}
 use Rattle.cip_mps_rows.specs.declared.groups.Far.{Far}
 
-all_push : {X : Type 0} (p : X → Bool) (xs : List X) (v : X) → list_all p xs ≡ true → p v ≡ true → list_all p (xs ++ v ∷ []) ≡ true
+pub all_push : {X : Type 0} (p : X → Bool) (xs : List X) (v : X) → list_all p xs ≡ true → p v ≡ true → list_all p (xs ++ v ∷ []) ≡ true
 all_push p xs v h e = list_all-append p xs (v ∷ []) ∙ and_from (list_all p xs) (p v && true) h (and_from (p v) true e refl)
 
 -- a number behind all others

@@ -114,13 +114,6 @@ sound_pushed held_to heads groups others head s h l = record {
 
 -- ---- a number more
 
-below_more : (m n : ℕ) (held : List Held) → m ≤ n → held_below m held ≡ true → held_below n held ≡ true
-below_more m n [] l b = refl
-below_more m n (h ∷ hs) l b =
-    let a = and_parts (nat_lt h.column m) (held_below m hs) b in
-    let d : h.column < m = ltb-true h.column m a.0 in
-    and_from (nat_lt h.column n) (held_below n hs) (lt-ltb h.column n (omega (arith, d, l))) (below_more m n hs l a.1)
-
 below_pushed : (column : ℕ) (value : ℚ) (held : List Held) → held_below column held ≡ true → held_below (column + 1) (held ++ record { column = column; value = value } ∷ []) ≡ true
 below_pushed column value [] b = and_from (nat_lt column (column + 1)) true (lt-ltb column (column + 1) (omega arith)) refl
 below_pushed column value (h ∷ hs) b =

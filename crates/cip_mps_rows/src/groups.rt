@@ -13,7 +13,7 @@ use std::marker::Model;
 pub(crate) const GROUP: usize = 64;
 
 /// The number of a row in a column.
-#[derive(Clone, Copy, Debug)]
+#[derive(Clone, Copy)]
 pub struct Held {
     /// The number of the column.
     pub column: u32,
@@ -35,7 +35,7 @@ impl Model for Held {
 }
 
 /// A whole number of 32 bits, with its row in the group and its column.
-#[derive(Clone, Copy, Debug)]
+#[derive(Clone, Copy)]
 pub(crate) struct Near {
     pub(crate) row: u32,
     pub(crate) column: u32,
@@ -43,7 +43,7 @@ pub(crate) struct Near {
 }
 
 /// Any number, with its row in the group and its column.
-#[derive(Clone, Copy, Debug)]
+#[derive(Clone, Copy)]
 pub(crate) struct Far {
     pub(crate) row: u32,
     pub(crate) column: u32,
@@ -52,7 +52,7 @@ pub(crate) struct Far {
 
 /// The numbers of 64 rows in the order of the text: those of each row by rising column. The first are whole numbers of
 /// 32 bits.
-#[derive(Debug, Drop)]
+#[derive(Drop)]
 pub(crate) struct Group {
     pub(crate) near: Vec<Near>,
     pub(crate) far: Vec<Far>,

@@ -13,7 +13,7 @@ use cip_mps_sides::{is_free_kind, is_wide, row_sides};
 use std::marker::Model;
 
 /// A row without its numbers: its type, and its values in RHS and RANGES. The side that RANGES moves can be formed.
-#[derive(Debug, Drop)]
+#[derive(Drop)]
 pub(crate) struct RowHead {
     kind: RowKind,
     right_side: Option<Frac>,

@@ -17,7 +17,7 @@ use std::marker::Model;
 
 /// Rows in the order of a text: each with its type, its numbers by rising column, those that are 0 among them, and its
 /// values in RHS and RANGES. The side that RANGES moves can be formed.
-#[derive(Debug, Drop)]
+#[derive(Drop)]
 pub struct RowTable {
     pub(crate) alloc: Global,
     pub(crate) heads: Vec<RowHead>,

@@ -10,7 +10,7 @@ use std::alloc::{AllocError, Global};
 use std::marker::Model;
 
 /// Distinct names; the number of a name is its place, from 0.
-#[derive(Debug, Drop)]
+#[derive(Drop)]
 pub struct NameIndex {
     names: Names,
 }

@@ -7,7 +7,7 @@ use std::alloc::AllocError;
 const MOST: i128 = 1 << 60;
 
 /// A side of a column that a row implies.
-#[derive(Clone, Copy, Debug)]
+#[derive(Clone, Copy)]
 pub struct Implied {
     /// The column.
     pub col: u32,
@@ -18,7 +18,7 @@ pub struct Implied {
 }
 
 /// What is known of a row by one of its sides.
-#[derive(Clone, Copy, PartialEq, Eq, Debug)]
+#[derive(Clone, Copy, PartialEq, Eq)]
 pub enum Narrowing {
     /// No point of the box keeps it. The last side that was listed leaves its column no value, where there is one.
     Contradiction,
@@ -27,7 +27,7 @@ pub enum Narrowing {
 }
 
 /// Which side of a row it is that implies something.
-#[derive(Clone, Copy, PartialEq, Eq, Debug)]
+#[derive(Clone, Copy, PartialEq, Eq)]
 pub enum Source {
     /// The row is at least its low side.
     AtLeast,
@@ -36,7 +36,7 @@ pub enum Source {
 }
 
 /// A box, with the whole columns; a column that isn't there has no side, and a flag that isn't counts as continuous.
-#[derive(Clone, Copy, Debug)]
+#[derive(Clone, Copy)]
 pub struct Region<'a> {
     /// The sides by column.
     pub sides: &'a [Sides],

@@ -5,7 +5,7 @@ const MOST: u32 = 1 << 10;
 
 /// How many turns go by until the next try: behind each try that brought nothing twice as many and one more, 1,024 at
 /// most, and behind one that brought something so many as is said.
-#[derive(Clone, Copy, Debug)]
+#[derive(Clone, Copy)]
 pub struct Patience {
     rest: u32,
     left: u32,

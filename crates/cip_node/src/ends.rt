@@ -4,7 +4,7 @@ use cip_frac::Frac;
 use cip_leaf::Shown;
 
 /// How a node ended.
-#[derive(Debug, Drop)]
+#[derive(Drop)]
 pub enum NodeEnd {
     /// Its bound isn't below the cost held.
     Pruned,
@@ -30,7 +30,7 @@ pub enum NodeEnd {
 }
 
 /// What was met in the work on a node.
-#[derive(Debug, Drop)]
+#[derive(Drop)]
 pub struct NodeRecord {
     /// What its linear program met, if that showed nothing.
     pub mark: Option<Mark>,

@@ -81,7 +81,7 @@ fn choices_made(alloc: Global, own: &[Choice], now: &[Choice]) -> Result<Vec<boo
 }
 
 /// A leaf of the program as read, and what is known of it.
-#[derive(Debug, Drop)]
+#[derive(Drop)]
 pub(crate) struct Solved {
     pub(crate) values: Vec<Frac>,
     pub(crate) on: Vec<bool>,

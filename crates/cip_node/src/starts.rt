@@ -10,7 +10,7 @@ use std::alloc::Global;
 const MOST_VARIABLES: usize = 1 << 28;
 
 /// The start of the two halves of a node that was split, and whether one of them was worked on.
-#[derive(Debug, Drop)]
+#[derive(Drop)]
 struct Shared {
     start: Start,
     used: bool,
@@ -20,7 +20,7 @@ struct Shared {
 /// ended. Each start leads to a right answer, that of another node, too, and a node without one is solved from the
 /// first state; so no clause says which are kept. Beside them stand the values of the last linear program that had a
 /// point, of whichever node: a node without a point of its own is split by those.
-#[derive(Debug, Drop)]
+#[derive(Drop)]
 pub struct Starts {
     // by split: the halves of split k have the numbers 2k + 1 and 2k + 2
     splits: Vec<Option<Shared>>,

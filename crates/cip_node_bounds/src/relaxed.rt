@@ -26,7 +26,7 @@ use cip_simplex::{Lp, LpAnswer, Solver, Start};
 use std::alloc::{AllocError, Global};
 
 /// Why the linear program of a node shows nothing.
-#[derive(Debug, Drop)]
+#[derive(Drop)]
 pub enum Mark {
     /// These moves by Bland's rule, the last of which is out of range.
     Wide { moves: Vec<Move> },
@@ -38,7 +38,7 @@ pub enum Mark {
 }
 
 /// What the linear program of a node came to.
-#[derive(Debug, Drop)]
+#[derive(Drop)]
 pub enum Relaxed {
     /// A point of least cost, that cost with the constant, and the combination that shows it.
     Bound {

@@ -8,7 +8,7 @@ use crate::columns::{lacking_column, open_column};
 use cip_lin::{Bounds, Choices};
 
 /// What the look of a node's box comes to.
-#[derive(Clone, Copy, Debug, PartialEq, Eq)]
+#[derive(Clone, Copy, PartialEq, Eq)]
 pub enum Looked {
     /// The box has no point, or a whole column of it has no whole value.
     Empty,

@@ -14,7 +14,7 @@ use cip_lin::{Bounds, Choices, Frac, Sides};
 
 /// Where a box is split: the column is at most `at`, or at least `at + 1`; or, where its choice is open, that is made,
 /// off or on.
-#[derive(Clone, Copy, Debug, PartialEq, Eq)]
+#[derive(Clone, Copy, PartialEq, Eq)]
 pub struct SplitPlace {
     /// The number of the column.
     pub col: u32,

@@ -1,7 +1,7 @@
 //! The kinds of plugins.
 
 /// What a plugin is asked for.
-#[derive(Clone, Copy, Debug, PartialEq, Eq)]
+#[derive(Clone, Copy, PartialEq, Eq)]
 pub enum Kind {
     /// Cuts.
     Separator,

@@ -36,7 +36,7 @@ pub struct Guess {
 }
 
 /// A split of the node: the column is at most `at` in one half, and at least `at + 1` in the other.
-#[derive(Clone, Copy, Debug, PartialEq, Eq)]
+#[derive(Clone, Copy, PartialEq, Eq)]
 pub struct Split {
     /// The column.
     pub col: u32,
@@ -77,7 +77,7 @@ pub enum Proposal {
 }
 
 /// A change of the plugins themselves.
-#[derive(Clone, Copy, Debug, PartialEq, Eq)]
+#[derive(Clone, Copy, PartialEq, Eq)]
 pub enum Wish {
     /// The plugin at this place of the shelf is included.
     Include(u32),

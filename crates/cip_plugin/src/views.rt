@@ -3,7 +3,7 @@ use cip_cert::PoolRow;
 use cip_model::{Blocks, Bounds, Combo, Frac, Row};
 
 /// The node in work and the program that is solved, lent for one call.
-#[derive(Clone, Copy, Debug, Drop)]
+#[derive(Clone, Copy, Drop)]
 pub struct View<'a> {
     /// The number of the node in work.
     pub node: u64,

@@ -19,7 +19,7 @@ use cip_text::{Fields, fraction};
 use std::alloc::{AllocError, Global};
 
 /// What the lines that have ended gave: a value for each column of the program, once it was given.
-#[derive(Debug, Drop)]
+#[derive(Drop)]
 pub(crate) struct PointLines<'a> {
     pub(crate) program: &'a Program,
     pub(crate) values: Vec<Option<Frac>>,

@@ -25,7 +25,7 @@ use std::alloc::{AllocError, Global};
 const TOO_LONG: u32 = 6;
 
 /// A text of a point as far as it came.
-#[derive(Debug, Drop)]
+#[derive(Drop)]
 pub struct PointText<'a> {
     pub(crate) alloc: Global,
     pub(crate) pieces: Pieces,

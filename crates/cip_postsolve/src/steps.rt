@@ -14,7 +14,7 @@ use std::marker::Model;
 
 /// What presolve took out: of each column of the program the form of its value where it is gone, and whether it is
 /// whole.
-#[derive(Debug, Drop)]
+#[derive(Drop)]
 pub struct Steps {
     forms: Vec<Option<ColumnForm>>,
     whole: Vec<bool>,

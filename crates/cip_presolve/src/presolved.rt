@@ -9,7 +9,7 @@ use cip_model::Program;
 use std::alloc::{AllocError, Global};
 
 /// What presolve comes to.
-#[derive(Debug, Drop)]
+#[derive(Drop)]
 pub enum PresolveEnd {
     /// The program may be solved in place of the one that was given.
     Reduced(Presolved),

@@ -5,7 +5,7 @@ use cip_lin::Row;
 use std::alloc::{AllocError, Global};
 
 /// Numbers of rows that wait, with a flag for each row that does.
-#[derive(Debug, Drop)]
+#[derive(Drop)]
 pub struct Queue {
     waiting: Vec<u32>,
     marked: Vec<bool>,
@@ -52,7 +52,7 @@ impl Queue {
 }
 
 /// For each column the rows that have a term on it: hints, of which nothing is promised.
-#[derive(Debug, Drop)]
+#[derive(Drop)]
 pub struct RowLists {
     lists: Vec<Vec<u32>>,
 }
@@ -110,7 +110,7 @@ const MOST_STEPS: u32 = 1_000_000;
 
 /// What waits to be looked at, where a change of a column leads, which rows gave a column its form for a substitution,
 /// and how many steps were taken.
-#[derive(Debug, Drop)]
+#[derive(Drop)]
 pub struct Work {
     queue: Queue,
     lists: RowLists,

@@ -12,7 +12,7 @@ use cip_lin::Sides;
 use std::alloc::{AllocError, Global};
 
 /// A row or a column at which no point is feasible.
-#[derive(Clone, Copy, Debug, PartialEq, Eq)]
+#[derive(Clone, Copy, PartialEq, Eq)]
 pub enum Place {
     /// The row of this number, from 0.
     Row(u32),
@@ -21,7 +21,7 @@ pub enum Place {
 }
 
 /// What looking at rows and columns comes to.
-#[derive(Clone, Copy, Debug, PartialEq, Eq)]
+#[derive(Clone, Copy, PartialEq, Eq)]
 pub enum RoundEnd {
     /// Some points may be feasible.
     Open,

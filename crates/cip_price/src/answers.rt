@@ -3,7 +3,7 @@ use cip_frac::Frac;
 use cip_master::{MasterCause, Weights};
 
 /// How much is done.
-#[derive(Clone, Copy, Debug, PartialEq, Eq)]
+#[derive(Clone, Copy, PartialEq, Eq)]
 pub struct PriceLimits {
     /// The most rounds that are asked.
     pub rounds: u32,
@@ -26,7 +26,7 @@ pub enum PriceCause {
 }
 
 /// What pricing answers.
-#[derive(Debug, Drop)]
+#[derive(Drop)]
 pub enum PriceAnswer {
     /// The mixture of these weights costs the bound, and none costs less.
     Closed { bound: Frac, weights: Weights },

@@ -22,7 +22,7 @@ use cip_price_rounds::{AskPricer, PriceTask, ask_blocks};
 use std::alloc::{AllocError, Global};
 
 /// Prices with a mixture at this cost.
-#[derive(Debug, Drop)]
+#[derive(Drop)]
 struct Mixed {
     shown: Shown,
     weights: Weights,

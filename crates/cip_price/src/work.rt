@@ -16,7 +16,7 @@ use cip_price_rounds::PriceTask;
 use std::alloc::{AllocError, Global};
 
 /// What is kept from round to round.
-#[derive(Debug, Drop)]
+#[derive(Drop)]
 pub(crate) struct PriceWork {
     /// The master program.
     pub(crate) master: Master,

@@ -4,7 +4,7 @@ use cip_cert::BoundTree;
 use cip_lagrange::TreeBound;
 
 /// A tree that the check accepts.
-#[derive(Debug, Drop)]
+#[derive(Drop)]
 pub struct Accepted {
     /// The tree.
     pub tree: BoundTree,
@@ -13,7 +13,7 @@ pub struct Accepted {
 }
 
 /// What came of an answer for a block.
-#[derive(Debug, Drop)]
+#[derive(Drop)]
 pub struct BlockAnswer {
     /// What became of the pool as its points were offered.
     pub growth: Growth,

@@ -81,7 +81,7 @@ fn block_region(alloc: Global, task: &PriceTask<'_>, block: u32) -> Result<TreeR
 }
 
 /// What a block is asked.
-#[derive(Debug, Drop)]
+#[derive(Drop)]
 pub(crate) struct BlockAsk {
     /// The block.
     pub(crate) block: u32,

@@ -14,7 +14,7 @@ use cip_columns::{Added, ColumnPool};
 use std::alloc::AllocError;
 
 /// What became of a pool as points were offered.
-#[derive(Clone, Copy, Debug, PartialEq, Eq)]
+#[derive(Clone, Copy, PartialEq, Eq)]
 pub enum Growth {
     /// It is as it was, and each point of the block was held.
     Same,

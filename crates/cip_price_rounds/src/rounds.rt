@@ -20,7 +20,7 @@ use cip_master_prices::Shown;
 use std::alloc::{AllocError, Global};
 
 /// What came of a round.
-#[derive(Debug, Drop)]
+#[derive(Drop)]
 pub struct Round {
     /// What became of the pool. Where it is full, the round ended there.
     pub growth: Growth,

@@ -4,7 +4,7 @@ use cip_lin::Bounds;
 use cip_model::Program;
 
 /// A program that falls into blocks, and a box of it, lent to pricing.
-#[derive(Clone, Copy, Debug, Drop)]
+#[derive(Clone, Copy, Drop)]
 pub struct PriceTask<'a> {
     /// The program.
     pub program: &'a Program,

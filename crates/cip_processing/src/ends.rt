@@ -3,7 +3,7 @@ use cip_node::NodeEnd;
 use cip_turns::Mark;
 
 /// How a node ended, and what was met in the work on it.
-#[derive(Debug, Drop)]
+#[derive(Drop)]
 pub struct Done {
     /// How it ended.
     pub end: NodeEnd,

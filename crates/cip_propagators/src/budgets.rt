@@ -10,7 +10,7 @@ const PART: usize = 2;
 
 /// What is left of a propagator's work. Each call adds a part of a pass over the program, and work that is begun may
 /// take more than is left: then so many calls go by as add that.
-#[derive(Clone, Copy, Debug)]
+#[derive(Clone, Copy)]
 pub(crate) struct Budget {
     pass: usize,
     left: usize,

@@ -19,7 +19,7 @@ use cip_model::Program;
 use itoa::Buffer as Digits;
 
 /// What is told of a program that is drawn from a seed.
-#[derive(Clone, Copy, Debug)]
+#[derive(Clone, Copy)]
 pub struct Drawn {
     /// The seed.
     pub seed: u64,

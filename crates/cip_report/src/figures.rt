@@ -8,7 +8,7 @@ use cip_frac::Frac;
 use cip_leaf::Shown;
 
 /// How a search ended.
-#[derive(Debug, Drop)]
+#[derive(Drop)]
 pub enum Ended {
     /// No feasible point is better than the one held.
     Optimal,
@@ -70,7 +70,7 @@ impl Ended {
 }
 
 /// A feasible point and its cost in the minimised form.
-#[derive(Debug, Drop)]
+#[derive(Drop)]
 pub struct Held {
     /// The cost of the point in the minimised form.
     pub cost: Frac,
@@ -80,7 +80,7 @@ pub struct Held {
 
 /// What a search found, of which all but the number of nodes is printed. Cost and bound are those of the minimised
 /// form.
-#[derive(Debug, Drop)]
+#[derive(Drop)]
 pub struct Answer {
     /// How the search ended.
     pub ended: Ended,

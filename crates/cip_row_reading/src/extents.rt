@@ -10,7 +10,7 @@ ghost use Rattle.cip_row_reading.specs.RowReading.{negated, Encloses, SaysRightl
 use cip_lin::{Bounds, Frac, Least, Row, Sides, Term, add_least, least};
 
 /// What the sides of the columns say of a row.
-#[derive(Clone, Copy, Debug, PartialEq, Eq)]
+#[derive(Clone, Copy, PartialEq, Eq)]
 pub enum RowSays {
     /// Each point of the box satisfies it.
     HoldsAlways,

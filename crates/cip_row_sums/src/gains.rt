@@ -13,7 +13,7 @@ const MOST_UNDER: i128 = 1 << 64;
 const MOST_SMALL: usize = 16;
 
 /// What rounds of cuts at the root gained.
-#[derive(Clone, Copy, Debug)]
+#[derive(Clone, Copy)]
 pub struct Gains {
     cost: Option<i64>,
     stale: u32,

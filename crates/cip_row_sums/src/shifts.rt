@@ -9,7 +9,7 @@ use cip_plugin::View;
 use std::alloc::{AllocError, Global};
 
 /// From which of its sides a column's way is told.
-#[derive(Clone, Copy, PartialEq, Eq, Debug)]
+#[derive(Clone, Copy, PartialEq, Eq)]
 pub enum Aim {
     /// From the side that is nearer.
     Nearest,

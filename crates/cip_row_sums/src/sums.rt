@@ -13,7 +13,7 @@ pub type Terms = Vec<(u32, i64)>;
 const MOST_TERMS: usize = 2_000;
 
 /// At which of its sides a row stands.
-#[derive(Clone, Copy, PartialEq, Eq, Debug)]
+#[derive(Clone, Copy, PartialEq, Eq)]
 pub enum Standing {
     /// At none.
     Between,

@@ -10,7 +10,7 @@ use crate::built::is_same;
 use cip_cert::{Bounds, PoolRow, Row};
 
 /// A row that is held, by its fingerprint and its id, and whether it rests on the cutoff row.
-#[derive(Clone, Copy, Debug, PartialEq, Eq)]
+#[derive(Clone, Copy, PartialEq, Eq)]
 pub(crate) struct Entry {
     pub(crate) print: u64,
     pub(crate) id: u64,

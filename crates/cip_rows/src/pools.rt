@@ -18,7 +18,7 @@ use std::alloc::{AllocError, Global};
 use std::marker::Model;
 
 /// What adding a row came to.
-#[derive(Clone, Copy, Debug, PartialEq, Eq)]
+#[derive(Clone, Copy, PartialEq, Eq)]
 pub enum Added {
     /// The row is held now, and this is its id.
     New(u64),
@@ -30,7 +30,7 @@ pub enum Added {
 
 /// A pool of rows over so many columns. Contracts see the number of columns, the rows that are held by rising id, and
 /// the id that the next new row gets.
-#[derive(Debug, Drop)]
+#[derive(Drop)]
 pub struct RowPool {
     alloc: Global,
     columns: usize,

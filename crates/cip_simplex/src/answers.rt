@@ -4,7 +4,7 @@ use cip_dictionary::Move;
 use cip_lin::Combo;
 
 /// What the simplex method answers on a linear program.
-#[derive(Debug, Drop)]
+#[derive(Drop)]
 pub enum LpAnswer {
     /// A point of least cost.
     Optimal {

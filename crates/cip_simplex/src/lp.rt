@@ -11,7 +11,7 @@ use std::marker::Model;
 
 /// A linear program: rows, others behind them, the sides of each column, and what each column costs. Nothing is copied.
 /// Each column has a cost, the rows stand on its columns, and there are fewer than 2^32 columns and rows.
-#[derive(Debug, Drop)]
+#[derive(Drop)]
 pub struct Lp<'a> {
     rows: &'a [Row],
     others: &'a [&'a Row],

@@ -5,7 +5,7 @@ use std::alloc::Global;
 
 /// Solves linear programs one after another: the lists of each are kept and filled anew for the next one, so that
 /// little is allocated. What they held is of no account.
-#[derive(Debug, Drop)]
+#[derive(Drop)]
 pub struct Solver {
     pub(crate) spare: Spare,
     pub(crate) entries: Vec<(u32, u32, Frac)>,

@@ -16,7 +16,7 @@ use std::alloc::{AllocError, Global};
 use std::marker::Model;
 
 /// Of each column and, after them, of each row, whether it is to be basic, else where it is to stand.
-#[derive(Debug, Drop)]
+#[derive(Drop)]
 pub struct Start {
     standing: Vec<Option<Stand>>,
 }

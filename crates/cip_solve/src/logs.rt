@@ -9,7 +9,7 @@ use cip_tree::{End, Logged};
 use std::alloc::Global;
 
 /// What a search did.
-#[derive(Debug, Drop)]
+#[derive(Drop)]
 pub struct Log {
     /// An entry for each node that was taken and has ended, in that order.
     pub taken: Vec<Logged>,

@@ -28,7 +28,7 @@ use cip_processing::{NodeWork, Presolved, root_bound};
 use std::alloc::Global;
 
 /// What a search may do.
-#[derive(Clone, Copy, Debug, PartialEq, Eq)]
+#[derive(Clone, Copy, PartialEq, Eq)]
 pub struct Options {
     /// The most nodes that it takes, at least 1.
     pub nodes: u64,

@@ -44,7 +44,7 @@ pub trait Works {
 }
 
 /// Work without plugins: nobody is asked.
-#[derive(Clone, Copy, Debug, Drop)]
+#[derive(Clone, Copy, Drop)]
 pub struct Alone;
 
 impl Works for Alone {

@@ -9,7 +9,7 @@ use cip_row_reading::{Bounds, Choices, Frac, Row, Sides};
 use std::marker::Model;
 
 /// A program in work, without names. Contracts see it as a program.
-#[derive(Debug, Drop)]
+#[derive(Drop)]
 pub struct Draft {
     pub(crate) rows: Vec<Row>,
     pub(crate) costs: Vec<Frac>,

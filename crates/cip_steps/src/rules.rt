@@ -14,7 +14,7 @@ use cip_row_reading::{
 use std::alloc::{AllocError, Global};
 
 /// What a rule comes to.
-#[derive(Clone, Copy, Debug, PartialEq, Eq)]
+#[derive(Clone, Copy, PartialEq, Eq)]
 pub enum Outcome {
     /// The row stays.
     Kept,
@@ -27,7 +27,7 @@ pub enum Outcome {
 }
 
 /// A column, and sides for it.
-#[derive(Clone, Copy, Debug)]
+#[derive(Clone, Copy)]
 struct ColumnSides {
     column: u32,
     sides: Sides,

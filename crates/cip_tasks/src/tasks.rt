@@ -22,7 +22,7 @@ use cip_words::{Job, Limits, Words, WordsFault};
 use std::alloc::Global;
 
 /// What is to be done.
-#[derive(Debug, Drop)]
+#[derive(Drop)]
 pub enum Task<'a> {
     /// To solve a program.
     Solve {

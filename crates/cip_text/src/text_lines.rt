@@ -2,7 +2,7 @@
 ghost use Rattle.std.specs.Prelude.{◌+◌, ◌<◌, ◌^◌, length};
 
 /// The lines of a text that say something, from one of its lines on.
-#[derive(Clone, Copy, Debug)]
+#[derive(Clone, Copy)]
 pub struct Lines<'a> {
     pub(crate) rest: &'a [u8],
     pub(crate) number: usize,
@@ -11,13 +11,13 @@ pub struct Lines<'a> {
 }
 
 /// The fields of a line, from one of them on.
-#[derive(Clone, Copy, Debug)]
+#[derive(Clone, Copy)]
 pub struct Fields<'a> {
     pub(crate) rest: &'a [u8],
 }
 
 /// A line that says something.
-#[derive(Clone, Copy, Debug)]
+#[derive(Clone, Copy)]
 pub struct TextLine<'a> {
     /// Its number, counted from 1.
     pub number: usize,

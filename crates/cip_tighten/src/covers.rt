@@ -32,7 +32,7 @@ pub(crate) struct Covers {
 }
 
 /// In which order columns come into a cover.
-#[derive(Clone, Copy, PartialEq, Eq, Debug)]
+#[derive(Clone, Copy, PartialEq, Eq)]
 enum Order {
     /// What is left of the way for the coefficient, the least first.
     ByRate,

@@ -8,7 +8,7 @@ use std::marker::Model;
 
 /// A node that was taken out of a tree: its number, its bound, and the changes that its own work made. Its box is that
 /// of `box_of`.
-#[derive(Debug, Drop)]
+#[derive(Drop)]
 pub struct Node {
     pub(crate) id: u64,
     pub(crate) bound: Option<Frac>,

@@ -5,7 +5,7 @@ ghost use Rattle.cip_tree.specs.Notes.{noted_change};
 use cip_domain::{Change, Frac, Side};
 
 /// A value for one side of a column; it counts where the side is weaker or open.
-#[derive(Clone, Copy, Debug)]
+#[derive(Clone, Copy)]
 pub(crate) struct Note {
     // the number of the column, from 0
     pub(crate) col: u32,

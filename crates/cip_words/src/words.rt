@@ -27,7 +27,7 @@ const MOST_NODES: u64 = 1_099_511_627_776;
 const MOST_SEED: u64 = u64::MAX;
 
 /// The words of a command line, without the program's name.
-#[derive(Debug, Drop)]
+#[derive(Drop)]
 pub struct Words {
     alloc: Global,
     words: Vec<String>,
@@ -47,7 +47,7 @@ impl Model for Words {
 }
 
 /// How a program is searched.
-#[derive(Debug, Drop)]
+#[derive(Drop)]
 pub struct Limits<'a> {
     /// The most nodes that are taken, from 1 to 2^40.
     pub nodes: u64,
@@ -64,7 +64,7 @@ pub struct Limits<'a> {
 }
 
 /// What the words ask for.
-#[derive(Debug, Drop)]
+#[derive(Drop)]
 pub enum Job<'a> {
     /// To solve the program of a text.
     Solve {

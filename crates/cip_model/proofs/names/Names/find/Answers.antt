@@ -5,6 +5,6 @@ use Rattle.cip_model.proofs.names.Names.find.Goals as goal
 
 pub returns-in-None-clause-within : goal.returns-in-None-clause-within
 returns-in-None-clause-within c =
-    let number : c.copied.result ≡ number_of c.args.self.now c.args.name.now =
-    rw (← c.self.view_is) (c.copied.ensures ∙ c.get.ensures.value ∙ c.self.invariant.found c.args.name.now) in
-    number_within c.args.self.now c.args.name.now c.copied.result number
+    let number : c.get.result ≡ number_of c.args.self.now c.args.name.now =
+    rw (← c.self.view_is) (c.get.ensures ∙ c.self.invariant.found c.args.name.now) in
+    number_within c.args.self.now c.args.name.now c.get.result number
