@@ -3,8 +3,8 @@ ghost use Rattle.std.specs.Prelude.{◌≡◌, length, IfSome};
 ghost use Rattle.cip_problem.specs.WellFormed.{columns};
 ghost use Rattle.cip_decomposition.specs.Decompositions.{IsDecompositionOf};
 
+use crate::block_texts::{BLOCKS, PLAIN};
 use crate::pricing::{Told, priced, priced_in};
-use crate::tasks::{BLOCKS, PLAIN};
 use cip_blocks::read_blocks;
 use cip_cert::{BlockPoint, Priced};
 use cip_decomposition::Decomposed;

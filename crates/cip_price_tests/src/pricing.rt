@@ -3,10 +3,10 @@ ghost use Rattle.std.specs.Prelude.{◌≡◌, length};
 ghost use Rattle.cip_problem.specs.WellFormed.{columns};
 ghost use Rattle.cip_decomposition.specs.Decompositions.{IsDecompositionOf};
 
-use crate::pricers::{Branching, Listed, Silent};
-use crate::tasks::{
+use crate::block_texts::{
     BLOCKS, FIRST, FIRST_BLOCKS, MORE, NONE, PLAIN, SECOND, SECOND_BLOCKS, THIRD, THIRD_BLOCKS,
 };
+use crate::pricers::{Branching, Listed, Silent};
 use cip_blocks::read_blocks;
 use cip_cert::{BlockPoint, Priced};
 use cip_columns::ColumnPool;
