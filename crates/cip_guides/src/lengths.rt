@@ -6,5 +6,10 @@ pub(crate) const MOST_UNDER: i128 = 1 << 40;
 
 /// Whether a column that isn't whole has a long value.
 pub(crate) fn has_long_rest(whole: &[bool], point: &[Frac]) -> bool {
-    whole.iter().zip(point).any(|(is_whole, value)| !*is_whole && value.denominator() > MOST_UNDER)
+    for (column, value) in point.iter().enumerate() {
+        if value.denominator() > MOST_UNDER && whole.get(column) == Some(&false) {
+            return true;
+        }
+    }
+    false
 }

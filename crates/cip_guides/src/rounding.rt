@@ -8,7 +8,7 @@ use crate::locks::Locks;
 use crate::wholes::nearest;
 use cip_frac::Frac;
 use cip_plugin::{Guess, Heuristic, Plugin, View};
-use cip_row_sums::{cost_of, most_cost, rough};
+use cip_row_sums::{cost_of, has_fraction, most_cost, rough};
 use std::alloc::{AllocError, Global};
 
 // From here on rough values aren't told apart.
@@ -33,14 +33,6 @@ fn is_fractional(whole: &[bool], col: usize, value: Frac) -> bool {
 /// Whether a point is worth rounding: a whole column has a value that isn't whole, and no other value is long.
 fn may_be_rounded(whole: &[bool], point: &[Frac]) -> bool {
     has_fraction(whole, point) && !has_long_rest(whole, point)
-}
-
-/// Whether a point has a whole column whose value isn't whole.
-fn has_fraction(whole: &[bool], point: &[Frac]) -> bool {
-    whole
-        .iter()
-        .zip(point)
-        .any(|(is_whole, value)| *is_whole && !value.is_whole())
 }
 
 /// Whether a point may cost less than what is held, roughly.

@@ -37,9 +37,12 @@ fn side_of(row: &Row, factor: Frac) -> Option<Frac> {
 
 /// Whether none of these is the cutoff row.
 fn are_rows(multiples: &[RowMultiple]) -> bool {
-    multiples
-        .iter()
-        .all(|multiple| multiple.row != RowId::Cutoff)
+    for multiple in multiples {
+        if multiple.row == RowId::Cutoff {
+            return false;
+        }
+    }
+    true
 }
 
 /// A row of these coefficients that is at least a number.

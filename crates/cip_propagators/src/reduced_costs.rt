@@ -51,10 +51,12 @@ fn may_pay(view: &View<'_>) -> bool {
 /// Whether a factor of the bound's rows has a long denominator: then work on these rows is long, and so is the judge's
 /// on each side.
 fn is_long(combo: &Combo) -> bool {
-    combo
-        .rows
-        .iter()
-        .any(|multiple| multiple.factor.denominator() > MOST_UNDER)
+    for multiple in combo.rows.as_slice() {
+        if multiple.factor.denominator() > MOST_UNDER {
+            return true;
+        }
+    }
+    false
 }
 
 /// Whether a column is whole.

@@ -21,6 +21,9 @@ pub struct Gains {
 
 /// What a column costs at a value, roughly, over 2^24; none where that leaves the range.
 fn rough_product(cost: Frac, value: Frac) -> Option<i128> {
+    if cost.is_zero() || value.is_zero() {
+        return Some(0);
+    }
     let product = cost.numerator().checked_mul(i128::from(rough(value)))?;
     product.checked_div(cost.denominator())
 }
@@ -29,8 +32,8 @@ fn rough_product(cost: Frac, value: Frac) -> Option<i128> {
 /// the range.
 pub fn cost_of(costs: &[Frac], point: &[Frac]) -> Option<i64> {
     let mut sum = 0i128;
-    for (cost, value) in costs.iter().zip(point) {
-        if !cost.is_zero() && !value.is_zero() {
+    for (column, value) in point.iter().enumerate() {
+        if let Some(cost) = costs.get(column) {
             sum = sum.checked_add(rough_product(*cost, *value)?)?;
         }
     }
@@ -46,23 +49,34 @@ pub fn most_cost(view: &View<'_>) -> Option<Frac> {
 }
 
 /// Whether a whole column has a value that isn't.
-fn is_fractional(whole: &[bool], point: &[Frac]) -> bool {
-    whole
-        .iter()
-        .zip(point)
-        .any(|(is_whole, value)| *is_whole && !value.is_whole())
+pub fn has_fraction(whole: &[bool], point: &[Frac]) -> bool {
+    for (column, value) in point.iter().enumerate() {
+        if !value.is_whole() && whole.get(column) == Some(&true) {
+            return true;
+        }
+    }
+    false
 }
 
 /// Whether a value of a point has a denominator above this. Each row more makes these longer, and where they leave the
 /// range no linear program shows its optimum.
 pub fn is_long(point: &[Frac], most: i128) -> bool {
-    point.iter().any(|value| value.denominator() > most)
+    for value in point {
+        if value.denominator() > most {
+            return true;
+        }
+    }
+    false
 }
 
 /// Whether costs are whole and stand on whole columns.
 fn has_whole_costs(view: &View<'_>) -> bool {
-    view.costs.iter().zip(view.whole).all(|(cost, is_whole)| cost.is_zero()
-        || (*is_whole && cost.is_whole()))
+    for (column, cost) in view.costs.iter().enumerate() {
+        if !cost.is_zero() && !(cost.is_whole() && view.whole.get(column) == Some(&true)) {
+            return false;
+        }
+    }
+    true
 }
 
 /// Whether a row more may be what keeps the optimum from being shown: it is shown now, a value of its point has a long
@@ -119,7 +133,7 @@ impl Gains {
         if view.node != 0 || self.stale >= MOST_STALE {
             return false;
         }
-        if is_dense(view) || may_lose(view, point) || !is_fractional(view.whole, point) {
+        if is_dense(view) || may_lose(view, point) || !has_fraction(view.whole, point) {
             return false;
         }
         let cost = cost_of(view.costs, point);

@@ -14,7 +14,7 @@ mod tight;
 
 pub use candidates::{Candidate, Candidates, Measure, broken_by, measure_of, score};
 pub use combos::{empty_combo, push_row, push_way};
-pub use gains::{Gains, cost_of, is_long, most_cost};
+pub use gains::{Gains, cost_of, has_fraction, is_long, most_cost};
 pub use numbers::{UNIT, kept, product, raised, ratio, rough};
 pub use roundings::{lower, rounded_cut};
 pub use shifts::{Aim, Shift, Shifted, list_nearest, place_of};

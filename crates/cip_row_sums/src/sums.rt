@@ -246,7 +246,12 @@ impl Sum {
 
     /// Whether a row is one of its rows.
     pub fn uses(&self, id: RowId) -> bool {
-        self.used.iter().any(|used| used.id == id)
+        for used in self.used.as_slice() {
+            if used.id == id {
+                return true;
+            }
+        }
+        false
     }
 
     /// The coefficient of a column; 0 where it has none.

@@ -177,7 +177,7 @@ pub(crate) fn list_divisors(items: &[Shift], divisors: &mut Vec<i64>) -> Result<
             return Ok(());
         }
         let size = shift.coef.saturating_abs();
-        if shift.is_whole && shift.is_between() && !divisors.iter().any(|by| *by == size) {
+        if shift.is_whole && shift.is_between() && !divisors.contains(&size) {
             divisors.push(size)?;
         }
     }
