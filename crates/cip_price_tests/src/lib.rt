@@ -1,6 +1,6 @@
-//! Tests of pricing and of what it stands on: bounding trees, the Lagrangian bound, the pool of columns, points of blocks
-//! and master programs on programs worked out by hand, and rounds of pricing on such and on some at random, whose mixtures
-//! were solved as a whole elsewhere.
+//! Tests of pricing and of what it stands on: bounding trees, the Lagrangian bound, the pool of columns, points of
+//! blocks and master programs, worked out by hand; rounds of pricing on programs worked out by hand, and on some at
+//! random, whose mixtures were solved as a whole elsewhere.
 #![tactic(auto)]
 
 #[cfg(test)]
