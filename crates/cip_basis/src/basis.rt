@@ -1,5 +1,5 @@
 //! A basis that is guessed, and the systems that are solved for it.
-use crate::combos::{empty_combo, put_costs, put_line, put_multiple, put_multiples, row_of};
+use crate::combos::{empty_combo, put_costs, put_line, put_multiples, put_own_row};
 use crate::matrix::make_matrix;
 use crate::mended_points::mended_point;
 use crate::placement::Placement;
@@ -211,6 +211,35 @@ impl Basis {
         Ok(self.is_in_range)
     }
 
+    /// Puts the multipliers of the costs into a combination; whether their parts are at most so long.
+    fn put_costs(
+        &mut self,
+        given: &Given,
+        size: Length,
+        combo: &mut Combo,
+    ) -> Result<bool, AllocError> {
+        put_costs(given, &self.placement, &mut self.right)?;
+        self.multipliers(given, size, false, combo)
+    }
+
+    /// Puts the multipliers into a combination that is to show that a basic variable can't be brought between its
+    /// sides, being below, or above, them; whether their parts are at most so long.
+    fn put_break(
+        &mut self,
+        given: &Given,
+        variable: u32,
+        below: bool,
+        size: Length,
+        combo: &mut Combo,
+    ) -> Result<bool, AllocError> {
+        put_line(given, &self.placement, variable, &mut self.right)?;
+        if !self.multipliers(given, size, below, combo)? {
+            return Ok(false);
+        }
+        put_own_row(given, variable, below, &mut combo.rows)?;
+        Ok(true)
+    }
+
     /// The multipliers of the costs as a combination, where their parts are at most so long.
     pub(crate) fn cost_combo(
         &mut self,
@@ -218,12 +247,11 @@ impl Basis {
         given: &Given,
         size: Length,
     ) -> Result<Option<Combo>, AllocError> {
-        put_costs(given, &self.placement, &mut self.right)?;
         let mut combo = empty_combo(alloc);
-        if self.multipliers(given, size, false, &mut combo)? {
-            Ok(Some(combo))
-        } else {
-            Ok(None)
+        match self.put_costs(given, size, &mut combo) {
+            Ok(true) => Ok(Some(combo)),
+            Ok(false) => Ok(None),
+            Err(_) => Err(AllocError),
         }
     }
 
@@ -237,16 +265,11 @@ impl Basis {
         below: bool,
         size: Length,
     ) -> Result<Option<Combo>, AllocError> {
-        put_line(given, &self.placement, variable, &mut self.right)?;
         let mut combo = empty_combo(alloc);
-        if !self.multipliers(given, size, below, &mut combo)? {
-            return Ok(None);
+        match self.put_break(given, variable, below, size, &mut combo) {
+            Ok(true) => Ok(Some(combo)),
+            Ok(false) => Ok(None),
+            Err(_) => Err(AllocError),
         }
-        if let Some(row) = row_of(given, variable) {
-            let one = Frac::one();
-            let factor = if below { one } else { one.neg() };
-            put_multiple(given, row, factor, &mut combo.rows)?;
-        }
-        Ok(Some(combo))
     }
 }

@@ -44,6 +44,24 @@ pub(crate) fn put_multiple(
     Ok(())
 }
 
+/// Puts a loose row with a multiplier, or its opposite, times a whole number into a combination; whether that is in
+/// range.
+fn put_scaled(
+    given: &Given,
+    number: u32,
+    multiplier: Frac,
+    scale: u64,
+    is_turned: bool,
+    rows: &mut Vec<RowMultiple>,
+) -> Result<bool, AllocError> {
+    let Some(factor) = scaled(multiplier, scale) else {
+        return Ok(false);
+    };
+    let turned = if is_turned { factor.neg() } else { factor };
+    put_multiple(given, number, turned, rows)?;
+    Ok(true)
+}
+
 /// Puts the loose rows with their multipliers, or the opposites of these, into a combination; whether all are in range.
 pub(crate) fn put_multiples(
     given: &Given,
@@ -55,11 +73,9 @@ pub(crate) fn put_multiples(
 ) -> Result<bool, AllocError> {
     let sized = placement.rows.iter().zip(scales.iter());
     for ((number, scale), multiplier) in sized.zip(multipliers.iter()) {
-        let Some(factor) = scaled(*multiplier, *scale) else {
+        if !put_scaled(given, *number, *multiplier, *scale, is_turned, rows)? {
             return Ok(false);
-        };
-        let turned = if is_turned { factor.neg() } else { factor };
-        put_multiple(given, *number, turned, rows)?;
+        }
     }
     Ok(true)
 }
@@ -106,6 +122,22 @@ pub(crate) fn put_line(
         }
     }
     Ok(())
+}
+
+/// Puts the row of a basic variable, if it is that of one, once into a combination that is to show that it can't be
+/// brought between its sides, being below, or above, them.
+pub(crate) fn put_own_row(
+    given: &Given,
+    variable: u32,
+    below: bool,
+    rows: &mut Vec<RowMultiple>,
+) -> Result<(), AllocError> {
+    let Some(row) = row_of(given, variable) else {
+        return Ok(());
+    };
+    let one = Frac::one();
+    let factor = if below { one } else { one.neg() };
+    put_multiple(given, row, factor, rows)
 }
 
 /// The number of the row of a variable, if it is that of one.

@@ -23,8 +23,9 @@ pub fn point_cost(costs: &[Frac], point: &[Frac]) -> Option<Frac>
 }
 
 /// The values, where they are a point of the linear program and no sum that says so is out of range.
-fn tested(problem: &Problem<'_>, values: Option<Vec<Frac>>) -> Option<Vec<Frac>>
+pub(crate) fn tested(problem: &Problem<'_>, values: Option<Vec<Frac>>) -> Option<Vec<Frac>>
     requires ready { IsReady problem.now }
+    ensures long { IfSome result (λ point. length point.items ≡ length problem.entry.now.bounds.now) }
     ensures point { IfSome result (λ point. IsPoint (program_of problem.entry.now) point.items) }
 {
     let point = values?;

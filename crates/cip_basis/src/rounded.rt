@@ -64,6 +64,55 @@ fn combo_of(alloc: Global, given: &Given, multipliers: &[Frac]) -> Result<Combo,
     Ok(combo)
 }
 
+/// Whether the multipliers of rows are to be turned for how a guess ended.
+fn is_turned(outcome: Outcome) -> bool {
+    match outcome {
+        Outcome::Broken { below, .. } => below,
+        _ => false,
+    }
+}
+
+/// The multipliers of all rows, by those that are listed at the end of a guess.
+fn spread(
+    alloc: Global,
+    given: &Given,
+    outcome: Outcome,
+    list: &[RowMultiplier],
+) -> Result<Vec<Frac>, AllocError> {
+    let mut multipliers = Vec::new(alloc);
+    multipliers.resize(given.rows(), Frac::zero())?;
+    set_all(given, list, is_turned(outcome), multipliers.as_mut_slice());
+    set_broken(given, outcome, multipliers.as_mut_slice());
+    Ok(multipliers)
+}
+
+/// The multipliers of all rows at the end of a guess, rounded; none where a number is out of range.
+fn rounded_multipliers(
+    alloc: Global,
+    guess: &Guess,
+    given: &Given,
+    outcome: Outcome,
+) -> Result<Option<Vec<Frac>>, AllocError> {
+    let mut list = Vec::new(alloc);
+    match guess.list_multipliers(outcome, &mut list) {
+        Ok(true) => spread(alloc, given, outcome, list.as_slice()).map(Some),
+        Ok(false) => Ok(None),
+        Err(_) => Err(AllocError),
+    }
+}
+
+/// The rows with multipliers that are mended as a combination; none where that fails.
+fn mended_combo(
+    alloc: Global,
+    given: &Given,
+    mending: &mut Mending,
+) -> Result<Option<Combo>, AllocError> {
+    if !mending.mend(given)? {
+        return Ok(None);
+    }
+    combo_of(alloc, given, mending.multipliers.as_slice()).map(Some)
+}
+
 /// A combination by the multipliers at the end of a guess: it bounds the costs where the basis is said to be optimal,
 /// and shows that there is no point where a variable can't be brought between its sides, if the check accepts it. None
 /// where a number is out of range, or it can't be mended.
@@ -73,28 +122,14 @@ pub(crate) fn rounded_combo(
     given: &Given,
     outcome: Outcome,
 ) -> Result<Option<Combo>, AllocError> {
-    let mut list = Vec::new(alloc);
-    if !guess.list_multipliers(outcome, &mut list)? {
+    let Some(multipliers) = rounded_multipliers(alloc, guess, given, outcome)? else {
         return Ok(None);
-    }
-    let is_turned = match outcome {
-        Outcome::Broken { below, .. } => below,
-        _ => false,
     };
-    let mut multipliers = Vec::new(alloc);
-    multipliers.resize(given.rows(), Frac::zero())?;
-    set_all(
-        given,
-        list.as_slice(),
-        is_turned,
-        multipliers.as_mut_slice(),
-    );
-    set_broken(given, outcome, multipliers.as_mut_slice());
-    let rests = first_rests(alloc, given, outcome)?;
-    let mut mending = Mending::new(alloc, multipliers, rests);
-    if !mending.mend(given)? {
-        return Ok(None);
+    match first_rests(alloc, given, outcome) {
+        Ok(rests) => {
+            let mut mending = Mending::new(alloc, multipliers, rests);
+            mended_combo(alloc, given, &mut mending)
+        }
+        Err(_) => Err(AllocError),
     }
-    let combo = combo_of(alloc, given, mending.multipliers.as_slice())?;
-    Ok(Some(combo))
 }

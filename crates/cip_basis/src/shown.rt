@@ -1,11 +1,12 @@
 //! What is shown of a linear program.
 ghost use Rattle.std.specs.Prelude.{◌≡◌, ◌≤◌, length, IfOk, IfSome};
+ghost use Rattle.cip_linear.specs.LinearProgram.{IsPoint};
 ghost use Rattle.cip_basis.specs.Shown.{IsReady, IsShown, program_of};
 
 use crate::basis::Basis;
 use crate::checks::{is_emptied, least_cost};
+use crate::near::tested;
 use crate::problem::Problem;
-use crate::tests::is_point;
 use cip_cert::Scratch;
 use cip_frac::Frac;
 use cip_guess::Outcome;
@@ -26,6 +27,45 @@ pub enum Shown {
     Empty,
 }
 
+/// The point of a basis, where it is one of the program.
+fn own_point(
+    alloc: Global,
+    basis: &mut Basis,
+    problem: &Problem<'_>,
+    size: Length,
+) -> Result<Option<Vec<Frac>>, AllocError>
+    requires ready { IsReady problem.now }
+    ensures long { IfOk result (λ found. IfSome found
+        (λ point. length point.items ≡ length problem.entry.now.bounds.now)) }
+    ensures point { IfOk result (λ found. IfSome found
+        (λ point. IsPoint (program_of problem.entry.now) point.items)) }
+{
+    match basis.point(alloc, &problem.given(), size) {
+        Ok(values) => Ok(tested(problem, values)),
+        Err(_) => Err(AllocError),
+    }
+}
+
+/// A point with its cost and a combination, where that bounds the costs by as much.
+fn least(
+    problem: &Problem<'_>,
+    point: Vec<Frac>,
+    combo: Combo,
+    scratch: &mut Scratch,
+) -> Option<Shown>
+    requires ready { IsReady problem.now }
+    requires room { length problem.now.bounds.now ≤ length scratch.old.row.entries }
+    requires long { length point.items ≡ length problem.now.bounds.now }
+    requires point { IsPoint (program_of problem.now) point.items }
+    ensures shown { IfSome result (IsShown (program_of problem.entry.now)) }
+    ensures room { length scratch.new.row.entries ≡ length scratch.old.row.entries }
+{
+    match least_cost(problem, point.as_slice(), &combo, scratch) {
+        Some(cost) => Some(Shown::Optimal { point, cost, combo }),
+        None => None,
+    }
+}
+
 /// The point of a basis, where it is optimal.
 fn optimum(
     alloc: Global,
@@ -39,22 +79,27 @@ fn optimum(
     ensures shown { IfOk result (λ found. IfSome found (IsShown (program_of problem.entry.now))) }
     ensures room { length scratch.new.row.entries ≡ length scratch.old.row.entries }
 {
-    let given = problem.given();
-    let Some(point) = basis.point(alloc, &given, size)? else {
+    let Some(point) = own_point(alloc, basis, problem, size)? else {
         return Ok(None);
     };
-    if point.len() != problem.bounds.len() {
-        return Ok(None);
+    match basis.cost_combo(alloc, &problem.given(), size) {
+        Ok(Some(combo)) => Ok(least(problem, point, combo, scratch)),
+        Ok(None) => Ok(None),
+        Err(_) => Err(AllocError),
     }
-    if !is_point(problem, point.as_slice()) {
-        return Ok(None);
-    }
-    let Some(combo) = basis.cost_combo(alloc, &given, size)? else {
-        return Ok(None);
-    };
-    match least_cost(problem, point.as_slice(), &combo, scratch) {
-        Some(cost) => Ok(Some(Shown::Optimal { point, cost, combo })),
-        None => Ok(None),
+}
+
+/// That there is no point, where a combination shows it.
+fn emptied(problem: &Problem<'_>, combo: &Combo, scratch: &mut Scratch) -> Option<Shown>
+    requires ready { IsReady problem.now }
+    requires room { length problem.now.bounds.now ≤ length scratch.old.row.entries }
+    ensures shown { IfSome result (IsShown (program_of problem.entry.now)) }
+    ensures room { length scratch.new.row.entries ≡ length scratch.old.row.entries }
+{
+    if is_emptied(problem, combo, scratch) {
+        Some(Shown::Empty)
+    } else {
+        None
     }
 }
 
@@ -72,15 +117,11 @@ fn emptiness(
     ensures shown { IfOk result (λ found. IfSome found (IsShown (program_of problem.entry.now))) }
     ensures room { length scratch.new.row.entries ≡ length scratch.old.row.entries }
 {
-    let given = problem.given();
     let (variable, below) = broken;
-    let Some(combo) = basis.break_combo(alloc, &given, variable, below, size)? else {
-        return Ok(None);
-    };
-    if is_emptied(problem, &combo, scratch) {
-        Ok(Some(Shown::Empty))
-    } else {
-        Ok(None)
+    match basis.break_combo(alloc, &problem.given(), variable, below, size) {
+        Ok(Some(combo)) => Ok(emptied(problem, &combo, scratch)),
+        Ok(None) => Ok(None),
+        Err(_) => Err(AllocError),
     }
 }
 
@@ -108,6 +149,26 @@ fn shown_by(
     }
 }
 
+/// What a basis shows, at first with short parts.
+fn shown_at_length(
+    alloc: Global,
+    basis: &mut Basis,
+    problem: &Problem<'_>,
+    outcome: Outcome,
+    scratch: &mut Scratch,
+) -> Result<Option<Shown>, AllocError>
+    requires ready { IsReady problem.now }
+    requires room { length problem.now.bounds.now ≤ length scratch.old.row.entries }
+    ensures shown { IfOk result (λ found. IfSome found (IsShown (program_of problem.entry.now))) }
+    ensures room { length scratch.new.row.entries ≡ length scratch.old.row.entries }
+{
+    match shown_by(alloc, basis, problem, outcome, Length::Short, scratch) {
+        Ok(Some(shown)) => Ok(Some(shown)),
+        Ok(None) => shown_by(alloc, basis, problem, outcome, Length::Long, scratch),
+        Err(_) => Err(AllocError),
+    }
+}
+
 /// What a basis that is guessed shows, at first with short parts; with `anew` its table is made anew.
 fn shown_once(
     alloc: Global,
@@ -121,15 +182,11 @@ fn shown_once(
     ensures shown { IfOk result (λ found. IfSome found (IsShown (program_of problem.entry.now))) }
     ensures room { length scratch.new.row.entries ≡ length scratch.old.row.entries }
 {
-    let given = problem.given();
-    let Some(outcome) = basis.ready(alloc, &given, anew)? else {
-        return Ok(None);
-    };
-    let short = shown_by(alloc, basis, problem, outcome, Length::Short, scratch)?;
-    if short.is_some() {
-        return Ok(short);
+    match basis.ready(alloc, &problem.given(), anew) {
+        Ok(Some(outcome)) => shown_at_length(alloc, basis, problem, outcome, scratch),
+        Ok(None) => Ok(None),
+        Err(_) => Err(AllocError),
     }
-    shown_by(alloc, basis, problem, outcome, Length::Long, scratch)
 }
 
 /// What a basis that is guessed shows of a linear program: a point of least cost and that cost, or that there is no
@@ -147,11 +204,12 @@ pub fn show(
     ensures shown { IfOk result (λ found. IfSome found (IsShown (program_of problem.entry.now))) }
     ensures room { length scratch.new.row.entries ≡ length scratch.old.row.entries }
 {
-    let first = shown_once(alloc, basis, problem, false, scratch)?;
-    if first.is_some() || !basis.may_be_rounding() {
-        return Ok(first);
+    match shown_once(alloc, basis, problem, false, scratch) {
+        Ok(Some(shown)) => Ok(Some(shown)),
+        Ok(None) if basis.may_be_rounding() => show_anew(alloc, basis, problem, scratch),
+        Ok(None) => Ok(None),
+        Err(_) => Err(AllocError),
     }
-    show_anew(alloc, basis, problem, scratch)
 }
 
 /// What a basis that is guessed anew, with less rounding, shows of a linear program: a point of least cost and that

@@ -3,7 +3,7 @@ use cip_frac::Frac;
 
 /// What a test of a point of a block answers: the first of these, the number of values, bounds and choices by column,
 /// then whole columns, then rows in order. Columns and rows go by their places in the block.
-#[derive(Clone, Copy, Debug, PartialEq, Eq)]
+#[derive(Clone, Copy, PartialEq, Eq)]
 pub enum PointVerdict {
     /// It is a point of the block.
     Good,

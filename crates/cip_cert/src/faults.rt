@@ -2,7 +2,7 @@
 use cip_frac::Frac;
 
 /// Where in a combination or in a box a fault lies.
-#[derive(Clone, Copy, Debug, PartialEq, Eq)]
+#[derive(Clone, Copy, PartialEq, Eq)]
 pub enum FaultPlace {
     /// An entry of the combination, counted from 0 through its rows, its low sides and its high sides.
     Entry(usize),
@@ -16,7 +16,7 @@ pub enum FaultPlace {
 /// An entry adds its terms by rising column, the product of factor and coefficient and then the sum, and its side's
 /// product last. A bound starts at the right side and adds the columns' least rests by rising column. A single bound is
 /// divided by its coefficient after all columns. The first of these operations that overflows is named.
-#[derive(Clone, Copy, Debug, PartialEq, Eq)]
+#[derive(Clone, Copy, PartialEq, Eq)]
 pub enum CutFault {
     /// There are more than `MOST_MULTIPLES` entries.
     TooLong,

@@ -33,7 +33,7 @@ pub struct SplitCut {
 }
 
 /// A side of a split.
-#[derive(Clone, Copy, Debug, PartialEq, Eq)]
+#[derive(Clone, Copy, PartialEq, Eq)]
 pub enum SplitSide {
     /// Where the form is at most `k`.
     Left,
@@ -44,7 +44,7 @@ pub enum SplitSide {
 /// Why a split cut doesn't prove a row. The variants stand in the order in which they are looked for, but that a
 /// side's combination comes before what is too wide in adding the form to it: so the range of `k + 1` is looked at
 /// first, then the left combination, the sums of the left row, the right combination and the sums of the right row.
-#[derive(Clone, Copy, Debug, PartialEq, Eq)]
+#[derive(Clone, Copy, PartialEq, Eq)]
 pub enum SplitFormFault {
     /// At this place of the form, from 0, the column doesn't rise, or the coefficient is 0.
     FormOrder { at: usize },

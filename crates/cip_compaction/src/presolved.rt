@@ -1,10 +1,14 @@
 //! What is left of a program at the end of presolve, and the way back from it.
-ghost use Rattle.std.specs.Prelude.{◌≡◌, ◌≤◌, None, IfOk, length, map, replicate};
+ghost use Rattle.std.specs.Prelude.{◌≡◌, ◌≤◌, None, IfOk, OnOk, length, map, replicate};
 ghost use Rattle.cip_problem.specs.Limits.{most_columns};
+ghost use Rattle.cip_problem.specs.WellFormed.{IsWellFormed};
 ghost use Rattle.cip_leaving.specs.Programs.{program_from};
 ghost use Rattle.cip_leaving.specs.NarrowedPrograms.{IsStep, IsExactStep};
-ghost use Rattle.cip_leaving.specs.DraftParts.{unnamed};
-ghost use Rattle.cip_compaction.specs.LeftProgram.{left_program, left_columns, staying_rows, moved_row, AllMove, CanLeave};
+ghost use Rattle.cip_leaving.specs.DraftParts.{IsDraft, unnamed};
+ghost use Rattle.cip_leaving.specs.ColumnsOut.{MayAllGo, SourcesStay};
+ghost use Rattle.cip_leaving.specs.SpentRows.{RowsGo};
+ghost use Rattle.cip_compaction.specs.EntriesLeft.{entries_left, gone_of, new_numbers, old_numbers};
+ghost use Rattle.cip_compaction.specs.LeftProgram.{dropped_rows, left_program, left_columns, staying_rows, moved_row, AllMove, CanLeave};
 ghost use Rattle.cip_compaction.specs.PresolvedPrograms.{IsPresolved, IsExactlyPresolved, IsUnchanged, counted};
 
 use crate::copies::{copied_names, names_left};
@@ -12,7 +16,7 @@ use crate::left_lists::{
     bounds_left, choices_left, costs_left, gone_of, numbers_kept, numbers_left, whole_left,
 };
 use crate::left_rows::{dropped_rows, leave_out, move_all};
-use cip_leaving::{Draft, Parts, Program, copied_rows, forms_out};
+use cip_leaving::{Draft, Names, Parts, Program, copied_rows, forms_out};
 use cip_lin::Row;
 use cip_postsolve::{ColumnForm, Steps};
 use std::alloc::{AllocError, Global};
@@ -25,6 +29,20 @@ pub struct Presolved {
     pub kept: Vec<u32>,
 }
 
+/// The names of the rows that are left of a program in work, from another program.
+fn row_names_left(
+    alloc: Global,
+    program: &Program,
+    draft: &Draft,
+    gone: &[bool],
+) -> Result<Names, AllocError>
+    requires { length draft.now.rows ≡ length program.now.row_names }
+    ensures { IfOk result (λ names. names ≡ entries_left (dropped_rows gone.now draft.now.rows) program.now.row_names) }
+{
+    let dropped = dropped_rows(alloc, gone, draft.rows())?;
+    names_left(alloc, dropped.as_slice(), program.row_names())
+}
+
 /// What is left of a program in work, but for the rows, with the names of another program.
 fn columns_left(
     alloc: Global,
@@ -35,36 +53,68 @@ fn columns_left(
     requires { CanLeave program.now draft.now gone.now }
     ensures { IfOk result (λ parts. program_from parts ≡ left_columns program.now draft.now gone.now) }
 {
-    let column_names = names_left(alloc, gone, program.column_names())?;
-    let dropped = dropped_rows(alloc, gone, draft.rows())?;
-    let row_names = names_left(alloc, dropped.as_slice(), program.row_names())?;
+    let Ok(column_names) = names_left(alloc, gone, program.column_names()) else {
+        return Err(AllocError);
+    };
+    let Ok(row_names) = row_names_left(alloc, program, draft, gone) else {
+        return Err(AllocError);
+    };
+    let Ok(costs) = costs_left(alloc, gone, draft.costs()) else {
+        return Err(AllocError);
+    };
+    let Ok(whole) = whole_left(alloc, gone, draft.whole()) else {
+        return Err(AllocError);
+    };
+    let Ok(bounds) = bounds_left(alloc, gone, draft.bounds().as_slice()) else {
+        return Err(AllocError);
+    };
+    let Ok(choices) = choices_left(alloc, gone, draft.choices().as_slice()) else {
+        return Err(AllocError);
+    };
     Ok(Parts {
         column_names,
         row_names,
         rows: Vec::new(alloc),
-        costs: costs_left(alloc, gone, draft.costs())?,
+        costs,
         constant: draft.constant(),
         sense: program.sense(),
-        whole: whole_left(alloc, gone, draft.whole())?,
-        bounds: bounds_left(alloc, gone, draft.bounds().as_slice())?,
-        choices: choices_left(alloc, gone, draft.choices().as_slice())?,
+        whole,
+        bounds,
+        choices,
     })
 }
 
+/// Gives the rows that are left the new numbers of their columns. `Err` comes where the memory for one was refused.
+fn renumber(alloc: Global, rows: &mut Vec<Row>, gone: &[bool]) -> Result<(), AllocError>
+    requires few { length gone.now ≤ most_columns }
+    requires moves { AllMove (new_numbers 0 gone.now) rows.old.items }
+    ensures { OnOk result (rows.new.items ≡ map (moved_row (new_numbers 0 gone.now)) rows.old.items) }
+{
+    let numbers = numbers_left(alloc, gone)?;
+    move_all(alloc, rows, numbers.as_slice())
+}
+
 /// The rows that are left of a program in work, over the new numbers of its columns.
-fn rows_left(
-    alloc: Global,
-    draft: Draft,
-    gone: &[bool],
-    numbers: &[u32],
-) -> Result<Vec<Row>, AllocError>
-    requires { AllMove numbers.now (staying_rows gone.now draft.rows) }
-    ensures { IfOk result (λ rows. rows.items ≡ map (moved_row numbers.now) (staying_rows gone.now draft.rows)) }
+fn rows_left(alloc: Global, draft: Draft, gone: &[bool]) -> Result<Vec<Row>, AllocError>
+    requires few { length gone.now ≤ most_columns }
+    requires moves { AllMove (new_numbers 0 gone.now) (staying_rows gone.now draft.rows) }
+    ensures { IfOk result (λ rows. rows.items
+        ≡ map (moved_row (new_numbers 0 gone.now)) (staying_rows gone.now draft.rows)) }
 {
     let mut rows = draft.into_rows();
     leave_out(&mut rows, gone);
-    move_all(alloc, &mut rows, numbers)?;
+    renumber(alloc, &mut rows, gone)?;
     Ok(rows)
+}
+
+/// The program of these parts, with other rows.
+fn with_rows(parts: Parts, rows: Vec<Row>) -> Program
+    requires { IsWellFormed (record (program_from parts) { rows = rows.items }) }
+    ensures { result ≡ record (program_from parts) { rows = rows.items } }
+{
+    let mut parts = parts;
+    parts.rows = rows;
+    Program::new(parts)
 }
 
 /// What is left of a program in work, with the names of another program.
@@ -77,10 +127,76 @@ fn left(
     requires { CanLeave program.now draft gone.now }
     ensures { IfOk result (λ reduced. reduced ≡ left_program program.now draft gone.now) }
 {
-    let numbers = numbers_left(alloc, gone)?;
-    let mut parts = columns_left(alloc, program, &draft, gone)?;
-    parts.rows = rows_left(alloc, draft, gone, numbers.as_slice())?;
-    Ok(Program::new(parts))
+    let parts = columns_left(alloc, program, &draft, gone)?;
+    let rows = rows_left(alloc, draft, gone)?;
+    Ok(with_rows(parts, rows))
+}
+
+/// The columns that are left out, by their forms and by flags, with the old numbers of those that stay, and the whole
+/// columns of the program.
+#[derive(Drop)]
+struct LeftOut {
+    forms: Vec<Option<ColumnForm>>,
+    gone: Vec<bool>,
+    kept: Vec<u32>,
+    whole: Vec<bool>,
+}
+
+/// The columns that are left out of a program in work. `Err` comes where a growth was refused.
+#[tactic(auto, using(crate::proofs::LeftPairs::compacting))]
+fn left_out(
+    alloc: Global,
+    program: &Program,
+    draft: &Draft,
+    equalities: bool,
+) -> Result<LeftOut, AllocError>
+    requires { IsDraft draft.now }
+    ensures may { IfOk result (λ out. MayAllGo draft.now out.forms.items) }
+    ensures sources { IfOk result (λ out. SourcesStay out.forms.items) }
+    ensures rows { IfOk result (λ out. RowsGo out.forms.items draft.now.rows) }
+    ensures gone { IfOk result (λ out. out.gone.items ≡ gone_of out.forms.items) }
+    ensures lists { IfOk result (λ out. (out.kept.items ≡ old_numbers 0 out.gone.items)
+        × (out.whole.items ≡ program.now.integral)) }
+{
+    let Ok(forms) = forms_out(alloc, draft, equalities) else {
+        return Err(AllocError);
+    };
+    let Ok(gone) = gone_of(alloc, forms.as_slice()) else {
+        return Err(AllocError);
+    };
+    let Ok(kept) = numbers_kept(alloc, gone.as_slice()) else {
+        return Err(AllocError);
+    };
+    let Ok(whole) = program.whole().to_vec(alloc) else {
+        return Err(AllocError);
+    };
+    Ok(LeftOut {
+        forms,
+        gone,
+        kept,
+        whole,
+    })
+}
+
+/// A reduced program with the way back from it.
+fn way_back(out: LeftOut, reduced: Program) -> Presolved
+    ensures { result ≡ record {
+      reduced = reduced;
+      steps = record { forms = out.forms.items; whole = out.whole.items };
+      kept = out.kept;
+    } }
+{
+    let LeftOut {
+        forms,
+        kept,
+        whole,
+        ..
+    } = out;
+    Presolved {
+        reduced,
+        steps: Steps::new(forms, whole),
+        kept,
+    }
 }
 
 /// What presolve gives at the end of its steps: the columns of one value that no row has are left out, and where
@@ -100,32 +216,47 @@ pub fn compacted(
         → IsExactlyPresolved program.now presolved) }
 {
     let _bounds = draft.bounds();
-    let forms = forms_out(alloc, &draft, equalities)?;
-    let gone = gone_of(alloc, forms.as_slice())?;
-    let whole = program.whole().to_vec(alloc)?;
-    let kept = numbers_kept(alloc, gone.as_slice())?;
-    let reduced = left(alloc, program, draft, gone.as_slice())?;
-    Ok(Presolved {
-        reduced,
-        steps: Steps::new(forms, whole),
-        kept,
-    })
+    let _columns = program.columns();
+    let out = left_out(alloc, program, &draft, equalities)?;
+    let reduced = left(alloc, program, draft, out.gone.as_slice())?;
+    Ok(way_back(out, reduced))
 }
 
 /// The same program by itself.
 fn copied(alloc: Global, program: &Program) -> Result<Program, AllocError>
     ensures { IfOk result (λ copy. copy ≡ program.now) }
 {
+    let Ok(column_names) = copied_names(alloc, program.column_names()) else {
+        return Err(AllocError);
+    };
+    let Ok(row_names) = copied_names(alloc, program.row_names()) else {
+        return Err(AllocError);
+    };
+    let Ok(rows) = copied_rows(alloc, program.rows()) else {
+        return Err(AllocError);
+    };
+    let Ok(costs) = program.costs().to_vec(alloc) else {
+        return Err(AllocError);
+    };
+    let Ok(whole) = program.whole().to_vec(alloc) else {
+        return Err(AllocError);
+    };
+    let Ok(bounds) = program.bounds().copied(alloc) else {
+        return Err(AllocError);
+    };
+    let Ok(choices) = program.choices().copied(alloc) else {
+        return Err(AllocError);
+    };
     Ok(Program::new(Parts {
-        column_names: copied_names(alloc, program.column_names())?,
-        row_names: copied_names(alloc, program.row_names())?,
-        rows: copied_rows(alloc, program.rows())?,
-        costs: program.costs().to_vec(alloc)?,
+        column_names,
+        row_names,
+        rows,
+        costs,
         constant: program.constant(),
         sense: program.sense(),
-        whole: program.whole().to_vec(alloc)?,
-        bounds: program.bounds().copied(alloc)?,
-        choices: program.choices().copied(alloc)?,
+        whole,
+        bounds,
+        choices,
     }))
 }
 

@@ -1,6 +1,6 @@
 -- A side of a node in work is tightened.
-use Rattle.std.proofs.Common.{◌≡◌, inl, inr, ℕ, ◌≤◌, unsigned_abs, Bool, true, false, List, [], ◌∷◌, Option, None, Some, IfSome, refl, sym, ap, ◌∙◌, subst, arith, true≢false}
-use Rattle.std.specs.Prelude.{slice_set}
+use Rattle.std.proofs.Common.{◌≡◌, inl, inr, ℕ, ◌≤◌, unsigned_abs, Bool, true, false, List, [], ◌∷◌, Option, None, Some, IfSome, Result, Ok, Err, refl, sym, ap, ◌∙◌, subst, arith, true≢false}
+use Rattle.std.specs.Prelude.{slice_set, IfOk, MatchResult}
 use Rattle.std.proofs.lemmas.List.{set-get_or}
 use Rattle.cip_rational.specs.Rational.{ℚ, floor, ceil}
 use Rattle.cip_rational.proofs.Rational.Extremes.{minimum_either, maximum_either}
@@ -14,6 +14,9 @@ use Rattle.cip_problem.proofs.Points.AtPlaces.{in_box_at}
 use Rattle.cip_cuts.specs.Improving.{HoldsInBox}
 use Rattle.cip_lin.specs.declared.sides.Side.{Side}
 use Rattle.cip_domain.specs.Changes.{Region, Change, side_change, tightened}
+use Rattle.cip_domain.specs.Domain.{tightening}
+use Rattle.cip_domain.specs.declared.stores.Tightened.{Tightened}
+use Rattle.cip_domain.specs.declared.stores.Tightened.TheVariants.{Yes, Same, Empty}
 use Rattle.cip_leaves.specs.WideLeaf.{IsWideLeaf}
 use Rattle.cip_search.proofs.Bounds.{no_more_itself}
 use Rattle.cip_search.proofs.Members.{here, later, here_or_later}
@@ -23,12 +26,12 @@ use Rattle.cip_node_rules.specs.OpenColumns.{is_whole_at}
 use Rattle.cip_node_rules.specs.SplitRules.{AreNear}
 use Rattle.cip_tree.specs.declared.notes.Note.{Note}
 use Rattle.cip_tree.specs.Nodes.{TakenNode, Nodes, node_in, region_of, shown, IsTaken}
-use Rattle.cip_tree.specs.Tightening.{IsNoted}
+use Rattle.cip_tree.specs.Tightening.{region_after, IsNoted, IsTightened}
 use Rattle.cip_tree.proofs.Within.{in_wider, within_changes}
-use Rattle.cip_core.specs.CoreStates.{CoreState, reduced_of, way_of, held_of, IsAtWork}
+use Rattle.cip_core.specs.CoreStates.{CoreState, reduced_of, way_of, held_of, IsSound, IsAtWork}
 use Rattle.cip_core.specs.KeptNodes.{state_of, farthest, IsNearBox, IsKept, AllMatter}
 use Rattle.cip_core.specs.Later.{IsNarrower, IsLaterAt}
-use Rattle.cip_core.specs.SidesTold.{IsSideTold}
+use Rattle.cip_core.specs.SidesTold.{IsSideTold, IsSideTaken, touched_by}
 use Rattle.cip_core.proofs.CoreSteps.{with_tree}
 use Rattle.cip_core.proofs.HeldAfter.{itself}
 use Rattle.cip_core.proofs.KeptSteps.{near_set, near_apart}
@@ -170,3 +173,64 @@ module _ (core : CoreState) (node has : TakenNode) (tree : Nodes) (e : tree ≡ 
   later_unchanged w =
       subst (λ t. IsLaterAt core node (with_tree core t) has) (sym e)
       (subst (IsLaterAt core node core) (sym f) (later_at_itself core node w))
+
+-- ---- by what it came to
+
+module _ (core : CoreState) (node has : TakenNode) (col : ℕ) (side : Side) (value : ℚ) (tree : Nodes) (touched : Bool) where
+  abbrev note : Note
+  note = record { col = col; side = side; value = value }
+
+  abbrev pub told_core : CoreState
+  told_core = record core { tree = tree; touched = touched }
+
+  core_unchanged : tree ≡ core.tree → touched ≡ core.touched → told_core ≡ core
+  core_unchanged t b = λ i. record core { tree = t i; touched = b i }
+
+  later_here : tree ≡ core.tree → has ≡ node → touched ≡ core.touched → IsAtWork core node → IsLaterAt core node told_core has
+  later_here t n b w =
+      subst (λ (k : CoreState). IsLaterAt core node k has) (sym (core_unchanged t b)) (subst (IsLaterAt core node core) (sym n) (later_at_itself core node w))
+
+  taken_here : (answer : Tightened) → answer ≡ tightening (sides_at core.tree.work.box col) side value → tree ≡ core.tree → has ≡ node → touched ≡ core.touched → region_after answer (region_of core.tree node) (side_change col side value) ≡ region_of core.tree node → IsSideTaken core told_core node has col side value answer
+  taken_here answer o t n b r = record {
+    outcome = o;
+    region = ap (λ (k : Nodes). region_of k has) t ∙ ap (region_of core.tree) n ∙ sym r;
+    node = n ∙ ap (λ (k : TakenNode). record node { notes = k.notes }) (sym n);
+    core = ap (λ (k : Nodes). record core { tree = k; touched = touched }) (t ∙ ap (λ (k : Nodes). record core.tree { work = k.work }) (sym t));
+    same = λ _. (core_unchanged t b, n);
+  }
+
+  taken_noted : Yes ≡ tightening (sides_at core.tree.work.box col) side value → IsNoted core.tree tree node has note → IsSideTaken core told_core node has col side value Yes
+  taken_noted o t = record {
+    outcome = o;
+    region = t.region;
+    node = t.node ∙ ap (λ (k : TakenNode). record node { notes = k.notes }) (sym t.node);
+    core = ap (λ (k : Nodes). record core { tree = k; touched = touched }) (t.tree ∙ ap (λ (k : Nodes). record core.tree { work = k.work }) (sym t.tree));
+    same = λ n. absurd (n refl);
+  }
+
+  pub later_told : {E : Type 0} (told : Result Tightened E) → touched ≡ touched_by told core.touched → IsAtWork core node → IsSideTold core node col side value → MatchResult told (λ answer. IsTightened answer core.tree tree node has note) (λ _. (tree ≡ core.tree) × (has ≡ node)) → IsLaterAt core node told_core has
+  later_told (Ok Yes) b w s t = subst (λ (u : Bool). IsLaterAt core node (record core { tree = tree; touched = u }) has) (sym b) (later_tightened core node has col side value tree w s t)
+  later_told (Ok Same) b w s t = later_here t.0 t.1 b w
+  later_told (Ok Empty) b w s t = later_here t.0 t.1 b w
+  later_told (Err error) b w s t = later_here t.0 t.1 b w
+
+  pub taken_told : {E : Type 0} (told : Result Tightened E) → touched ≡ touched_by told core.touched → IfOk told (λ answer. answer ≡ tightening (sides_at core.tree.work.box col) side value) → MatchResult told (λ answer. IsTightened answer core.tree tree node has note) (λ _. (tree ≡ core.tree) × (has ≡ node)) → MatchResult told (IsSideTaken core told_core node has col side value) (λ _. (told_core ≡ core) × (has ≡ node))
+  taken_told (Ok Yes) b o t = taken_noted o t
+  taken_told (Ok Same) b o t = taken_here Same o t.0 t.1 b refl
+  taken_told (Ok Empty) b o t = taken_here Empty o t.0 t.1 b refl
+  taken_told (Err error) b o t = (core_unchanged t.0 b, t.1)
+
+  was_untouched : {E : Type 0} (told : Result Tightened E) (before : Bool) → touched_by told before ≡ false → before ≡ false
+  was_untouched (Ok Yes) before e = absurd (true≢false e)
+  was_untouched (Ok Same) before e = e
+  was_untouched (Ok Empty) before e = e
+  was_untouched (Err error) before e = e
+
+  pub sound_told : {E : Type 0} (told : Result Tightened E) → touched ≡ touched_by told core.touched → IsSound core → IsSound told_core
+  sound_told told b s = record {
+    is_held = s.is_held;
+    valid = s.valid;
+    same = s.same;
+    bare = λ e. s.bare (was_untouched told core.touched (sym b ∙ e));
+    back = s.back;
+  }

@@ -1,5 +1,5 @@
 -- A side of a node in work is told, and taken where it is stronger.
-use Rattle.std.specs.Prelude.{◌≡◌, ◌≢◌, ℕ, ◌<◌, true, Some}
+use Rattle.std.specs.Prelude.{◌≡◌, ◌≢◌, ℕ, ◌<◌, Bool, true, Some, Result, Ok, Err}
 use Rattle.cip_rational.specs.Rational.{ℚ}
 use Rattle.cip_problem.specs.Box.{no_sides, sides_at}
 use Rattle.cip_problem.specs.WellFormed.{columns}
@@ -9,7 +9,7 @@ use Rattle.cip_domain.specs.Changes.{with_side, side_change}
 use Rattle.cip_domain.specs.Domain.{tightening}
 use Rattle.cip_domain.specs.Narrowing.{Meets}
 use Rattle.cip_domain.specs.declared.stores.Tightened.{Tightened}
-use Rattle.cip_domain.specs.declared.stores.Tightened.TheVariants.{Yes}
+use Rattle.cip_domain.specs.declared.stores.Tightened.TheVariants.{Yes, Same, Empty}
 use Rattle.cip_node_rules.specs.OpenColumns.{is_whole_at}
 use Rattle.cip_node_rules.specs.SplitRules.{AreNear}
 use Rattle.cip_tree.specs.Nodes.{TakenNode, region_of, box_of}
@@ -37,3 +37,10 @@ pub record IsSideTaken
     pub node : has ≡ record had { notes = has.notes }
     pub core : new ≡ record old { tree = record old.tree { work = new.tree.work }; touched = new.touched }
     pub same : answer ≢ Yes → (new ≡ old) × (has ≡ had)
+
+-- whether a row was added or a side tightened by now, by what a side came to and by what was so before
+abbrev pub touched_by : {E : Type 0} → Result Tightened E → (before : Bool) → Bool
+touched_by (Ok Yes) before = true
+touched_by (Ok Same) before = before
+touched_by (Ok Empty) before = before
+touched_by (Err error) before = before

@@ -2,13 +2,25 @@
 ghost use Rattle.std.specs.Prelude.{◌≡◌, MatchResult};
 ghost use Rattle.cip_core.specs.CoreStates.{IsAtWork};
 ghost use Rattle.cip_core.specs.Later.{IsLaterAt};
-ghost use Rattle.cip_core.specs.SidesTold.{IsSideTold, IsSideTaken};
+ghost use Rattle.cip_core.specs.SidesTold.{IsSideTold, IsSideTaken, touched_by};
 
 use crate::cores::Core;
 use cip_domain::{Side, Tightened};
 use cip_frac::Frac;
 use cip_tree::Node;
 use std::alloc::AllocError;
+
+/// Whether a row was added or a side tightened by now, where that was so before a side was told, or not.
+fn touched_by(told: &Result<Tightened, AllocError>, before: bool) -> bool
+    ensures { result ≡ touched_by told.now before }
+{
+    match told {
+        Ok(Tightened::Yes) => true,
+        Ok(Tightened::Same) => before,
+        Ok(Tightened::Empty) => before,
+        Err(_) => before,
+    }
+}
 
 impl<'a> Core<'a> {
     /// Tightens a side of a column of a node in work, by its number from 0, to a value that each improving point of
@@ -29,13 +41,8 @@ impl<'a> Core<'a> {
         ensures later { IsLaterAt self.old node.old self.new node.new }
     {
         let _columns = self.reduced.columns();
-        match self.tree.tighten(node, col, side, value)? {
-            Tightened::Yes => {
-                self.touched = true;
-                Ok(Tightened::Yes)
-            }
-            Tightened::Same => Ok(Tightened::Same),
-            Tightened::Empty => Ok(Tightened::Empty),
-        }
+        let told = self.tree.tighten(node, col, side, value);
+        self.touched = touched_by(&told, self.touched);
+        told
     }
 }

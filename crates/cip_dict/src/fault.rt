@@ -10,7 +10,7 @@ pub struct OutOfRange {
 }
 
 /// Why an exchange isn't made.
-#[derive(Clone, Copy, Debug, PartialEq, Eq)]
+#[derive(Clone, Copy, PartialEq, Eq)]
 pub enum MoveFault {
     /// The first operation that leaves the range of fractions is formed there.
     OutOfRange { place: EntryPlace },
@@ -30,7 +30,7 @@ impl From<AllocError> for MoveFault {
 }
 
 /// Why there is no first state.
-#[derive(Clone, Copy, Debug, PartialEq, Eq)]
+#[derive(Clone, Copy, PartialEq, Eq)]
 pub enum FirstFault {
     /// The first operation that leaves the range of fractions is formed there.
     OutOfRange { place: EntryPlace },

@@ -1,7 +1,7 @@
 //! The places of a dictionary at which an operation is formed.
 
 /// A line of a dictionary.
-#[derive(Clone, Copy, Debug, PartialEq, Eq)]
+#[derive(Clone, Copy, PartialEq, Eq)]
 pub enum Line {
     /// The row of a basic variable, by the number of that variable.
     Row(u32),
@@ -10,7 +10,7 @@ pub enum Line {
 }
 
 /// A place: an entry of a line, or its value.
-#[derive(Clone, Copy, Debug, PartialEq, Eq)]
+#[derive(Clone, Copy, PartialEq, Eq)]
 pub struct EntryPlace {
     /// The line.
     pub line: Line,

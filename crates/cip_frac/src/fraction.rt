@@ -12,7 +12,7 @@ use crate::words::short;
 use std::marker::Model;
 
 /// Why two integers make no fraction.
-#[derive(Clone, Copy, PartialEq, Eq, Debug)]
+#[derive(Clone, Copy, PartialEq, Eq)]
 pub enum FracFault {
     /// The number below is 0.
     ZeroBelow,

@@ -11,7 +11,7 @@ use crate::gcd::{denominators_gcd, gcd, short_gcd};
 use crate::words::{cross_sum, short_part_of, short_signed_part_of, wide_common, wide_product};
 
 /// Which of the four operations it was.
-#[derive(Clone, Copy, PartialEq, Eq, Debug)]
+#[derive(Clone, Copy, PartialEq, Eq)]
 pub enum Operation {
     /// `add`
     Sum,
@@ -24,7 +24,7 @@ pub enum Operation {
 }
 
 /// An operation that goes past the range, and the two numbers it was given.
-#[derive(Clone, Copy, PartialEq, Eq, Debug)]
+#[derive(Clone, Copy, PartialEq, Eq)]
 pub struct Wide {
     /// The operation.
     pub op: Operation,

@@ -60,6 +60,24 @@ fn may_enter(variables: &Variables, number: u32, entry: i64, rises: bool) -> boo
     !variable.is_fixed() && variable.may_go((entry > 0) == rises)
 }
 
+/// The loose variable at a place, where it may enter with this entry.
+fn pick_at(
+    table: &Table,
+    variables: &Variables,
+    place: usize,
+    entry: i64,
+    rises: bool,
+) -> Option<Pick> {
+    if entry.unsigned_abs() < PIVOT || !may_enter(variables, table.loose_at(place), entry, rises) {
+        return None;
+    }
+    Some(Pick {
+        ratio: ratio(entry_at(table.costs.as_slice(), place), entry),
+        place,
+        size: entry.saturating_abs(),
+    })
+}
+
 /// Lists the loose variables that may enter.
 pub(crate) fn list_picks(
     table: &Table,
@@ -72,18 +90,10 @@ pub(crate) fn list_picks(
         return Ok(());
     };
     let rises = leaving.standing == Standing::Low;
-    for (place, item) in line.entries.iter().enumerate() {
-        let entry = *item;
-        if entry.unsigned_abs() < PIVOT
-            || !may_enter(variables, table.loose_at(place), entry, rises)
-        {
-            continue;
+    for (place, entry) in line.entries.iter().enumerate() {
+        if let Some(pick) = pick_at(table, variables, place, *entry, rises) {
+            picks.push(pick)?;
         }
-        picks.push(Pick {
-            ratio: ratio(entry_at(table.costs.as_slice(), place), entry),
-            place,
-            size: entry.saturating_abs(),
-        })?;
     }
     picks.sort_unstable();
     Ok(())

@@ -1,6 +1,8 @@
 //! Guesses, kept from program to program.
 use crate::anew::make_anew;
-use crate::dual::{Lists, Tolerances, dual_move, loose_tolerances, tight_tolerances, worst};
+use crate::dual::{
+    Leaving, Lists, Tolerances, dual_move, loose_tolerances, tight_tolerances, worst,
+};
 use crate::given::Given;
 use crate::moves::settle;
 use crate::multipliers::{RowMultiplier, list_rounded, rounded_number};
@@ -66,6 +68,74 @@ fn begins_with(list: &[u64], start: &[u64]) -> bool {
     match list.split_at_checked(start.len()) {
         Some((front, _)) => front == start,
         None => false,
+    }
+}
+
+/// Whether the table of a program isn't too great.
+fn has_few_entries(given: &Given) -> bool {
+    let width = given.columns() as u64;
+    let height = (given.rows() as u64).saturating_add(1);
+    width.saturating_mul(height) <= MOST_ENTRIES
+}
+
+/// The most moves of a guess on so many variables.
+fn most_moves(variables: usize) -> usize {
+    FEW_MOVES
+        .saturating_add(variables)
+        .saturating_add(variables)
+}
+
+/// The tolerances of a table, by whether it was made anew.
+fn tolerances(anew: bool) -> Tolerances {
+    if anew {
+        tight_tolerances()
+    } else {
+        loose_tolerances()
+    }
+}
+
+/// The variable of a row, which is basic.
+fn row_variable(given: &Given, number: usize, variables: &Variables) -> Variable {
+    let mut variable = Variable::new(Standing::Basic);
+    if let Some(row) = given.row(number) {
+        variable.up = row_up(row, variables);
+    }
+    variable
+}
+
+/// Puts the variables of the rows from one on at the end.
+fn push_rows(given: &Given, first: usize, variables: &mut Variables) -> Result<(), Stop> {
+    for number in first..given.rows() {
+        let variable = row_variable(given, number, variables);
+        variables.push(variable)?;
+    }
+    Ok(())
+}
+
+/// A move of the primal simplex method, or how the guess ends.
+fn primal_step(table: &mut Table, variables: &mut Variables, rate: i64) -> Result<Step, Stop> {
+    let made = primal_move(table, variables, rate)?;
+    Ok(match made {
+        PrimalMove::Made => Step::Moved,
+        PrimalMove::Optimal => Step::Ended(Outcome::Optimal),
+        PrimalMove::Endless => Step::Ended(Outcome::Endless),
+    })
+}
+
+/// A move by which a variable leaves that is outside its sides, or that it can't.
+fn dual_step(
+    table: &mut Table,
+    variables: &mut Variables,
+    lists: &mut Lists,
+    leaving: Leaving,
+    tolerances: Tolerances,
+) -> Result<Step, Stop> {
+    let variable = table.basic_at(leaving.line);
+    let below = leaving.standing == Standing::Low;
+    if dual_move(table, variables, lists, leaving, tolerances)? {
+        Ok(Step::Moved)
+    } else {
+        Ok(Step::Ended(Outcome::Broken { variable, below }))
     }
 }
 
@@ -180,13 +250,7 @@ impl Guess {
     /// Takes rows that came at the end, which are basic.
     fn grow(&mut self, alloc: Global, given: &Given) -> Result<(), Stop> {
         let known = self.variables.len().saturating_sub(self.columns);
-        for number in known..given.rows() {
-            let mut variable = Variable::new(Standing::Basic);
-            if let Some(row) = given.row(number) {
-                variable.up = row_up(row, &self.variables);
-            }
-            self.variables.push(variable)?;
-        }
+        push_rows(given, known, &mut self.variables)?;
         self.take_ids(given.ids)?;
         self.renew(alloc, given)
     }
@@ -216,27 +280,15 @@ impl Guess {
 
     /// One move, or how the guess ends.
     fn step(&mut self, tolerances: Tolerances) -> Result<Step, Stop> {
-        let Some(leaving) = worst(&self.table, &self.variables, tolerances.outside) else {
-            let made = primal_move(&mut self.table, &mut self.variables, tolerances.rate)?;
-            return Ok(match made {
-                PrimalMove::Made => Step::Moved,
-                PrimalMove::Optimal => Step::Ended(Outcome::Optimal),
-                PrimalMove::Endless => Step::Ended(Outcome::Endless),
-            });
-        };
-        let variable = self.table.basic_at(leaving.line);
-        let below = leaving.standing == Standing::Low;
-        let moved = dual_move(
-            &mut self.table,
-            &mut self.variables,
-            &mut self.lists,
-            leaving,
-            tolerances,
-        )?;
-        if moved {
-            Ok(Step::Moved)
-        } else {
-            Ok(Step::Ended(Outcome::Broken { variable, below }))
+        match worst(&self.table, &self.variables, tolerances.outside) {
+            Some(leaving) => dual_step(
+                &mut self.table,
+                &mut self.variables,
+                &mut self.lists,
+                leaving,
+                tolerances,
+            ),
+            None => primal_step(&mut self.table, &mut self.variables, tolerances.rate),
         }
     }
 
@@ -277,23 +329,15 @@ impl Guess {
     /// The guess on a program.
     fn guessed(&mut self, alloc: Global, given: &Given, anew: bool) -> Result<Outcome, Stop> {
         self.has_table = false;
-        let width = given.columns() as u64;
-        let height = (given.rows() as u64).saturating_add(1);
-        if width.saturating_mul(height) > MOST_ENTRIES {
+        if !has_few_entries(given) {
             return Err(Stop::GaveUp);
         }
         self.table.allow(MOST_WORK);
         self.ready(alloc, given, anew)?;
         self.has_table = true;
         self.variables.take_sides(given);
-        let tolerances = if anew {
-            tight_tolerances()
-        } else {
-            loose_tolerances()
-        };
-        let size = self.variables.len();
-        let limit = FEW_MOVES.saturating_add(size).saturating_add(size);
-        self.run(limit, tolerances)
+        let limit = most_moves(self.variables.len());
+        self.run(limit, tolerances(anew))
     }
 
     /// Guesses how a linear program ends, from the basis of the last guess: where the variables stand then is told by

@@ -1,8 +1,16 @@
 //! What moves do to the values.
 use crate::fixed::{kept, product, quotient};
 use crate::stops::Stop;
-use crate::table::{Table, entry_at, sum_at, sum_of};
+use crate::table::{Line, Table, entry_at, sum_at, sum_of};
 use crate::variables::{Standing, Variables};
+
+/// A loose variable goes to the side that its reduced cost asks for; its value there.
+fn settle_one(variables: &mut Variables, number: u32, cost: i64, rate: i64) -> i64 {
+    let mut variable = variables.get(number);
+    variable.settle(cost, rate);
+    variables.set(number, variable);
+    variable.value
+}
 
 /// Each loose variable goes to the side that its reduced cost asks for, and stands in a list.
 fn settle_loose(
@@ -13,11 +21,18 @@ fn settle_loose(
 ) -> Result<(), Stop> {
     values.clear();
     for (place, number) in table.loose.iter().enumerate() {
-        let mut variable = variables.get(*number);
-        variable.settle(entry_at(table.costs.as_slice(), place), rate);
-        variables.set(*number, variable);
-        values.push(variable.value)?;
+        let cost = entry_at(table.costs.as_slice(), place);
+        values.push(settle_one(variables, *number, cost, rate))?;
     }
+    Ok(())
+}
+
+/// The basic variable of a line gets its value from those of the loose ones.
+fn settle_basic(line: &Line, variables: &mut Variables, values: &[i64]) -> Result<(), Stop> {
+    let mut variable = variables.get(line.variable);
+    variable.standing = Standing::Basic;
+    variable.value = kept(sum_at(line.entries.as_slice(), values))?;
+    variables.set(line.variable, variable);
     Ok(())
 }
 
@@ -30,11 +45,16 @@ pub(crate) fn settle(
 ) -> Result<(), Stop> {
     settle_loose(table, variables, rate, values)?;
     for line in &table.lines {
-        let mut variable = variables.get(line.variable);
-        variable.standing = Standing::Basic;
-        variable.value = kept(sum_at(line.entries.as_slice(), values.as_slice()))?;
-        variables.set(line.variable, variable);
+        settle_basic(line, variables, values.as_slice())?;
     }
+    Ok(())
+}
+
+/// The value of a variable changes by so much.
+fn move_by(variables: &mut Variables, number: u32, by: i128) -> Result<(), Stop> {
+    let mut variable = variables.get(number);
+    variable.value = kept(i128::from(variable.value).wrapping_add(by))?;
+    variables.set(number, variable);
     Ok(())
 }
 
@@ -42,13 +62,10 @@ pub(crate) fn settle(
 fn follow(table: &Table, variables: &mut Variables, place: usize, by: i64) -> Result<(), Stop> {
     for line in &table.lines {
         let entry = entry_at(line.entries.as_slice(), place);
-        if entry == 0 {
-            continue;
+        if entry != 0 {
+            let more = product(entry, by)?;
+            move_by(variables, line.variable, i128::from(more))?;
         }
-        let mut variable = variables.get(line.variable);
-        let sum = i128::from(variable.value).wrapping_add(i128::from(product(entry, by)?));
-        variable.value = kept(sum)?;
-        variables.set(line.variable, variable);
     }
     Ok(())
 }
@@ -56,11 +73,7 @@ fn follow(table: &Table, variables: &mut Variables, place: usize, by: i64) -> Re
 /// The loose variable at a place moves by so much, and the basic ones follow.
 fn shift(table: &Table, variables: &mut Variables, place: usize, by: i64) -> Result<(), Stop> {
     follow(table, variables, place, by)?;
-    let number = table.loose_at(place);
-    let mut variable = variables.get(number);
-    variable.value = kept(i128::from(variable.value).wrapping_add(i128::from(by)))?;
-    variables.set(number, variable);
-    Ok(())
+    move_by(variables, table.loose_at(place), i128::from(by))
 }
 
 /// The variable of a line goes to a side and becomes loose, the loose one at a place basic.
@@ -101,10 +114,8 @@ pub(crate) fn follow_all(
     ways: &[(usize, i64)],
 ) -> Result<(), Stop> {
     for line in &table.lines {
-        let mut variable = variables.get(line.variable);
         let more = sum_of(line.entries.as_slice(), ways);
-        variable.value = kept(i128::from(variable.value).wrapping_add(more))?;
-        variables.set(line.variable, variable);
+        move_by(variables, line.variable, more)?;
     }
     Ok(())
 }

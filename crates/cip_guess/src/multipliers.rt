@@ -65,6 +65,36 @@ pub(crate) fn rounded_number(number: i64, power: i32) -> Option<Frac> {
     Frac::new(i128::from(times), PARTS).ok()
 }
 
+/// A variable that is loose: what a line takes of it, and the line's own power of two.
+#[derive(Clone, Copy)]
+struct Loose {
+    variable: usize,
+    entry: i64,
+    own: i32,
+}
+
+/// Lists a loose variable with what a line takes of it, where it is a row and that isn't 0. Answers whether it can be
+/// rounded.
+fn list_loose(
+    loose: Loose,
+    variables: &Variables,
+    columns: usize,
+    out: &mut Vec<RowMultiplier>,
+) -> Result<bool, AllocError> {
+    if loose.variable < columns {
+        return Ok(true);
+    }
+    let power = variables.up(loose.variable).wrapping_sub(loose.own);
+    let Some(times) = rounded(loose.entry, power) else {
+        return Ok(false);
+    };
+    if times != 0 {
+        let row = number_of(loose.variable.wrapping_sub(columns));
+        out.push(RowMultiplier { row, times })?;
+    }
+    Ok(true)
+}
+
 /// Lists the loose rows with what a line takes of them, where that isn't 0: the line's own power of two is given.
 /// Answers whether all can be rounded.
 pub(crate) fn list_rounded(
@@ -77,17 +107,13 @@ pub(crate) fn list_rounded(
 ) -> Result<bool, AllocError> {
     out.clear();
     for (entry, number) in entries.iter().zip(loose.iter()) {
-        let variable = *number as usize;
-        if variable < columns {
-            continue;
-        }
-        let power = variables.up(variable).wrapping_sub(own);
-        let Some(times) = rounded(*entry, power) else {
-            return Ok(false);
+        let one = Loose {
+            variable: *number as usize,
+            entry: *entry,
+            own,
         };
-        if times != 0 {
-            let row = number_of(variable.wrapping_sub(columns));
-            out.push(RowMultiplier { row, times })?;
+        if !list_loose(one, variables, columns, out)? {
+            return Ok(false);
         }
     }
     Ok(true)

@@ -3,7 +3,7 @@ use crate::dual::PIVOT;
 use crate::fixed::{OPEN, ratio};
 use crate::moves::{exchange, flip};
 use crate::stops::Stop;
-use crate::table::{Table, entry_at};
+use crate::table::{Line, Table, entry_at};
 use crate::variables::{Standing, Variable, Variables};
 
 /// A loose variable that enters: its place, and whether it rises.
@@ -74,6 +74,33 @@ fn reach_of(variable: Variable, entry: i64, rises: bool) -> Option<(i64, Standin
     }
 }
 
+/// How far the basic variable of a line lets the loose one go, if it stops it.
+fn reach_at(line: usize, item: &Line, variables: &Variables, entering: Entering) -> Option<Reach> {
+    let entry = entry_at(item.entries.as_slice(), entering.place);
+    if entry.unsigned_abs() < PIVOT {
+        return None;
+    }
+    match reach_of(variables.get(item.variable), entry, entering.rises) {
+        Some((length, standing)) => Some(Reach {
+            length,
+            size: entry.saturating_abs(),
+            line: Some(line),
+            standing,
+        }),
+        None => None,
+    }
+}
+
+/// The shorter of two reaches, and of equal ones that of the greater entry, unless the first is that of no line.
+fn shorter(first: Reach, second: Reach) -> Reach {
+    let is_tie = second.length == first.length && first.line.is_some() && second.size > first.size;
+    if second.length < first.length || is_tie {
+        second
+    } else {
+        first
+    }
+}
+
 /// The shortest reach over all lines, and of equal ones that of the greatest entry.
 fn shortest(table: &Table, variables: &Variables, entering: Entering) -> Reach {
     let own = variables.get(table.loose_at(entering.place));
@@ -84,23 +111,8 @@ fn shortest(table: &Table, variables: &Variables, entering: Entering) -> Reach {
         standing: Standing::Low,
     };
     for (line, item) in table.lines.iter().enumerate() {
-        let entry = entry_at(item.entries.as_slice(), entering.place);
-        let size = entry.saturating_abs();
-        if entry.unsigned_abs() < PIVOT {
-            continue;
-        }
-        let variable = variables.get(item.variable);
-        let Some((length, standing)) = reach_of(variable, entry, entering.rises) else {
-            continue;
-        };
-        let is_tie = length == reach.length && reach.line.is_some() && size > reach.size;
-        if length < reach.length || is_tie {
-            reach = Reach {
-                length,
-                size,
-                line: Some(line),
-                standing,
-            };
+        if let Some(other) = reach_at(line, item, variables, entering) {
+            reach = shorter(reach, other);
         }
     }
     reach

@@ -115,6 +115,72 @@ fn put_in_all(
     Ok(work)
 }
 
+/// Fills the line of a number by the row of that number; there is one, or it is the next.
+fn fill_at(
+    alloc: Global,
+    lines: &mut Vec<Line>,
+    number: usize,
+    given: &Given,
+    variables: &Variables,
+) -> Result<(), Stop> {
+    let Some(row) = given.row(number) else {
+        return Err(Stop::GaveUp);
+    };
+    if number >= lines.len() {
+        lines.push(Line {
+            variable: 0,
+            entries: Vec::new(alloc),
+        })?;
+    }
+    let columns = given.columns();
+    let variable = columns.wrapping_add(number);
+    match lines.get_mut(number) {
+        Some(line) => {
+            line.variable = number_of(variable);
+            let up = variables.up(variable);
+            fill_line(&mut line.entries, row, columns, up, variables)
+        }
+        None => Ok(()),
+    }
+}
+
+/// Solves a line for the loose variable at a place, which becomes its own; answers the bits of the greatest entry.
+fn turn_line(
+    lines: &mut [Line],
+    line: usize,
+    incoming: u32,
+    place: usize,
+    pivot: &mut Vec<(usize, i64)>,
+) -> Result<i32, Stop> {
+    let Some(own) = lines.get_mut(line) else {
+        return Err(Stop::GaveUp);
+    };
+    own.variable = incoming;
+    solve_line(own.entries.as_mut_slice(), place, pivot)
+}
+
+/// Puts the solved line, which has this number, into all others and into the costs; answers how many entries were
+/// written.
+fn put_in_others(
+    lines: &mut [Line],
+    costs: &mut [i64],
+    own: usize,
+    place: usize,
+    pivot: &[(usize, i64)],
+    wide: i32,
+) -> Result<u64, Stop> {
+    let written = put_in_all(lines, own, place, pivot, wide)?;
+    let more = put_in(costs, place, pivot, wide)?;
+    Ok(written.wrapping_add(more))
+}
+
+/// A variable becomes the loose one at a place.
+fn set_loose(loose: &mut [u32], place: usize, variable: u32) {
+    if let Some(number) = loose.get_mut(place) {
+        *number = variable;
+    }
+}
+
 /// Fills a line by a row.
 fn fill_line(
     entries: &mut Vec<i64>,
@@ -209,24 +275,9 @@ impl Table {
         given: &Given,
         variables: &Variables,
     ) -> Result<(), Stop> {
-        let columns = given.columns();
         self.lines.truncate(given.rows());
         for number in 0..given.rows() {
-            let Some(row) = given.row(number) else {
-                return Err(Stop::GaveUp);
-            };
-            if number >= self.lines.len() {
-                self.lines.push(Line {
-                    variable: 0,
-                    entries: Vec::new(alloc),
-                })?;
-            }
-            let variable = columns.wrapping_add(number);
-            if let Some(line) = self.lines.get_mut(number) {
-                line.variable = number_of(variable);
-                let up = variables.up(variable);
-                fill_line(&mut line.entries, row, columns, up, variables)?;
-            }
+            fill_at(alloc, &mut self.lines, number, given, variables)?;
         }
         Ok(())
     }
@@ -260,18 +311,18 @@ impl Table {
     pub(crate) fn swap(&mut self, line: usize, place: usize) -> Result<(), Stop> {
         let incoming = self.loose_at(place);
         let outgoing = self.basic_at(line);
-        let Some(own) = self.lines.get_mut(line) else {
-            return Err(Stop::GaveUp);
-        };
-        own.variable = incoming;
-        let wide = solve_line(own.entries.as_mut_slice(), place, &mut self.pivot)?;
-        let pivot = self.pivot.as_slice();
-        let written = put_in_all(self.lines.as_mut_slice(), line, place, pivot, wide)?;
-        let more = put_in(self.costs.as_mut_slice(), place, pivot, wide)?;
-        if let Some(number) = self.loose.get_mut(place) {
-            *number = outgoing;
-        }
-        self.spend(written.wrapping_add(more))
+        let lines = self.lines.as_mut_slice();
+        let wide = turn_line(lines, line, incoming, place, &mut self.pivot)?;
+        let written = put_in_others(
+            self.lines.as_mut_slice(),
+            self.costs.as_mut_slice(),
+            line,
+            place,
+            self.pivot.as_slice(),
+            wide,
+        )?;
+        set_loose(self.loose.as_mut_slice(), place, outgoing);
+        self.spend(written)
     }
 }
 

@@ -2,6 +2,7 @@
 use crate::fixed::{OPEN, fixed};
 use crate::given::Given;
 use crate::stops::Stop;
+use cip_lin::{Frac, Sides};
 use std::alloc::Global;
 
 /// Where a variable of a linear program stands in a basis.
@@ -25,6 +26,14 @@ pub(crate) struct Variable {
     pub(crate) high: i64,
     pub(crate) standing: Standing,
     pub(crate) up: i32,
+}
+
+/// A side times a power of two; what stands for an open one where it is open or too great.
+fn fixed_side(side: Option<Frac>, up: i32, open: i64) -> i64 {
+    match side {
+        Some(side) => fixed(side, up).unwrap_or(open),
+        None => open,
+    }
 }
 
 impl Variable {
@@ -112,6 +121,12 @@ impl Variable {
         self.stand(self.nearest(wants_low));
     }
 
+    /// Takes these sides; one that is too great counts as open.
+    fn take_sides(&mut self, sides: Sides) {
+        self.low = fixed_side(sides.low, self.up, -OPEN);
+        self.high = fixed_side(sides.high, self.up, OPEN);
+    }
+
     /// Puts it at its other side.
     pub(crate) fn flip(&mut self) {
         if self.standing == Standing::Low {
@@ -194,15 +209,7 @@ impl Variables {
     /// Takes the sides of a linear program; one that is too great counts as open.
     pub(crate) fn take_sides(&mut self, given: &Given) {
         for (number, variable) in self.items.iter_mut().enumerate() {
-            let sides = given.sides(number);
-            variable.low = match sides.low {
-                Some(low) => fixed(low, variable.up).unwrap_or(-OPEN),
-                None => -OPEN,
-            };
-            variable.high = match sides.high {
-                Some(high) => fixed(high, variable.up).unwrap_or(OPEN),
-                None => OPEN,
-            };
+            variable.take_sides(given.sides(number));
         }
     }
 }

@@ -4,7 +4,7 @@ use cip_core::{PostsolveFault, Verdict};
 use cip_tree::SplitFault;
 
 /// What a proposal names that isn't there, or is too far away. It is looked at before all else.
-#[derive(Clone, Copy, Debug, PartialEq, Eq)]
+#[derive(Clone, Copy, PartialEq, Eq)]
 pub enum NodeFault {
     /// A point hasn't as many values as the reduced program has columns.
     BadLength,
@@ -15,7 +15,7 @@ pub enum NodeFault {
 }
 
 /// Why a proposal is refused.
-#[derive(Clone, Copy, Debug, PartialEq, Eq)]
+#[derive(Clone, Copy, PartialEq, Eq)]
 pub enum JudgeFault {
     /// By what it names.
     Node(NodeFault),

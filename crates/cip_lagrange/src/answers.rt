@@ -13,7 +13,7 @@ pub enum TreeBound {
 
 /// Why a tree shows nothing: the first fault in the order of the tree, a node before its low half, and that before its
 /// high half. A node has a number: the root is 1, and the halves of node `n` are `2 * n` and `2 * n + 1`.
-#[derive(Clone, Copy, Debug, PartialEq, Eq)]
+#[derive(Clone, Copy, PartialEq, Eq)]
 pub enum TreeFault {
     /// A split has 64 splits above it.
     TooDeep,
@@ -26,7 +26,7 @@ pub enum TreeFault {
 
 /// Why multipliers with trees show nothing: the first fault, where multipliers come before the columns of no block, and
 /// those before the blocks.
-#[derive(Clone, Copy, Debug, PartialEq, Eq)]
+#[derive(Clone, Copy, PartialEq, Eq)]
 pub enum LagrangeFault {
     /// The multiplier of this row, a master row by its number in the program, isn't 0, and the row lacks the side that
     /// it uses: the low one above 0, the high one below 0.

@@ -38,7 +38,10 @@ fn shown_of(alloc: Global, parts: &Parts) -> Result<Option<Shown>, AllocError>
     let rows = parts.rows.as_slice();
     let costs = parts.costs.as_slice();
     let problem = Problem::of_rows(rows, &parts.bounds, costs);
-    show(alloc, &mut basis, &problem, &mut scratch)
+    let found = show(alloc, &mut basis, &problem, &mut scratch);
+    drop(basis);
+    drop(scratch);
+    found
 }
 
 /// What a basis that is guessed shows of a leaf with this program: a point of least cost, or that there is none; none

@@ -3,9 +3,12 @@ ghost use Rattle.std.specs.Prelude.{◌≡◌, ◌≤◌, [], length, All, IfOk,
 ghost use Rattle.cip_problem.specs.Activity.{StandsBelow};
 ghost use Rattle.cip_problem.specs.Limits.{most_rows};
 ghost use Rattle.cip_problem.specs.WellFormed.{IsWellFormed};
+ghost use Rattle.cip_bland.specs.NoRepeat.{whole_answer};
+ghost use Rattle.cip_simplex.specs.LpAnswers.{IsAnswer};
 ghost use Rattle.cip_simplex.specs.LpShape.{IsSolvable};
 ghost use Rattle.cip_leaves.specs.Leaf.{IsLeaf, Leaf, IsLeafOf};
 ghost use Rattle.cip_leaves.specs.LeafProgram as program_spec;
+ghost use Rattle.cip_leaves.specs.LeafProgram.{program_of_leaf};
 ghost use Rattle.cip_leaf.specs.Building.{IsRowsFault};
 ghost use Rattle.cip_leaf.specs.LeafAnswers.{IsLeafAnswer, IsValuesAnswer, EndsInOptimum, EndsInRay, EndsOutOfRange, IsWideAnswer};
 ghost use Rattle.cip_leaf.specs.LeafAnswers.{IsFirstAlong};
@@ -33,6 +36,29 @@ pub(crate) struct Parts {
     pub(crate) costs: Vec<Frac>,
 }
 
+/// The rows of the program of a leaf; `Wide` names the first row whose fixed part overflows, or what a side leaves of
+/// it.
+fn rows_of_leaf(alloc: Global, program: &Decided, leaf: &[Frac]) -> Result<Vec<Row>, RowsFault>
+    ensures { MatchResult result
+        (λ rows. rows.items ≡ (program_spec.program_of_leaf program.now leaf.now).rows)
+        (IsRowsFault program.now.rows (program_spec.merged program.now.integral leaf.now [])) }
+{
+    let whole = program.whole();
+    let Ok(point) = merged(alloc, whole, leaf, &[]) else {
+        return Err(RowsFault::NoMemory);
+    };
+    let Ok(numbers) = new_numbers(alloc, whole) else {
+        return Err(RowsFault::NoMemory);
+    };
+    rows_left(
+        alloc,
+        program.rows(),
+        whole,
+        numbers.as_slice(),
+        point.as_slice(),
+    )
+}
+
 /// The lists of the program of a leaf; `Wide` names the first row whose fixed part overflows, or what a side leaves of
 /// it.
 fn parts_of_leaf(alloc: Global, program: &Decided, leaf: &[Frac]) -> Result<Parts, RowsFault>
@@ -40,18 +66,13 @@ fn parts_of_leaf(alloc: Global, program: &Decided, leaf: &[Frac]) -> Result<Part
         (IsProgramOf program.now leaf.now)
         (IsRowsFault program.now.rows (program_spec.merged program.now.integral leaf.now [])) }
 {
-    let whole = program.whole();
-    let point = merged(alloc, whole, leaf, &[])?;
-    let numbers = new_numbers(alloc, whole)?;
-    let rows = rows_left(
-        alloc,
-        program.rows(),
-        whole,
-        numbers.as_slice(),
-        point.as_slice(),
-    )?;
-    let bounds = program.continuous_sides(alloc)?;
-    let costs = continuous_costs(alloc, whole, program.costs())?;
+    let rows = rows_of_leaf(alloc, program, leaf)?;
+    let Ok(bounds) = program.continuous_sides(alloc) else {
+        return Err(RowsFault::NoMemory);
+    };
+    let Ok(costs) = continuous_costs(alloc, program.whole(), program.costs()) else {
+        return Err(RowsFault::NoMemory);
+    };
     Ok(Parts {
         rows,
         bounds,
@@ -155,6 +176,56 @@ fn out_of_range(alloc: Global, parts: &Parts, moves: usize) -> Result<LeafAnswer
     })
 }
 
+/// The answer on a leaf with this program, by how Bland's list ends. `Err` where memory was refused.
+fn answer_at(
+    alloc: Global,
+    program: &Decided,
+    wholes: &[Frac],
+    parts: &Parts,
+    end: LpAnswer,
+) -> Result<LeafAnswer, AllocError>
+    requires leaf { IsLeaf program.now wholes.now }
+    requires formed { IsWellFormed program.now }
+    requires parts { IsProgramOf program.now wholes.now parts.now }
+    requires end { IsAnswer (whole_answer (program_of_leaf program.now wholes.now)) end }
+    ensures { IfOk result (IsValuesAnswer program.now wholes.now) }
+{
+    match end {
+        LpAnswer::Optimal { point, combo, .. } => {
+            drop(combo);
+            optimum(alloc, program, wholes, point.as_slice())
+        }
+        LpAnswer::Infeasible { .. } => Ok(LeafAnswer::NoPoint),
+        LpAnswer::Unbounded { point, ray } => {
+            endless(alloc, program, wholes, point.as_slice(), ray.as_slice())
+        }
+        LpAnswer::Wide { moves } => out_of_range(alloc, parts, moves.len()),
+        LpAnswer::Limit => unreachable!(),
+    }
+}
+
+/// The answer on a leaf with this program: what few moves show of it, and else how Bland's list ends. `Err` where memory
+/// was refused.
+fn answer_by_moves(
+    alloc: Global,
+    solver: &mut Solver,
+    program: &Decided,
+    wholes: &[Frac],
+    parts: &Parts,
+) -> Result<LeafAnswer, AllocError>
+    requires leaf { IsLeaf program.now wholes.now }
+    requires formed { IsWellFormed program.now }
+    requires parts { IsProgramOf program.now wholes.now parts.now }
+    ensures { IfOk result (IsValuesAnswer program.now wholes.now) }
+{
+    let lp = Lp::new(parts.rows.as_slice(), &parts.bounds, parts.costs.as_slice());
+    if let Some(found) = shown_by_few(alloc, solver, program, wholes, &lp)? {
+        return Ok(found);
+    }
+    let end = solve_fully(alloc, solver, &lp)?;
+    answer_at(alloc, program, wholes, parts, end)
+}
+
 /// The answer on a leaf with this program: what a basis that is guessed shows of it, else what few moves do, and else
 /// how Bland's list ends. `Err` where memory was refused.
 fn answer_on(
@@ -168,22 +239,14 @@ fn answer_on(
     requires parts { IsProgramOf program.now wholes.now parts.now }
     ensures { IfOk result (IsValuesAnswer program.now wholes.now) }
 {
-    if let Some(found) = shown_by_basis(alloc, program, wholes, parts)? {
-        return Ok(found);
-    }
-    let lp = Lp::new(parts.rows.as_slice(), &parts.bounds, parts.costs.as_slice());
-    let mut solver = Solver::new(alloc);
-    if let Some(found) = shown_by_few(alloc, &mut solver, program, wholes, &lp)? {
-        return Ok(found);
-    }
-    match solve_fully(alloc, &mut solver, &lp)? {
-        LpAnswer::Optimal { point, .. } => optimum(alloc, program, wholes, point.as_slice()),
-        LpAnswer::Infeasible { .. } => Ok(LeafAnswer::NoPoint),
-        LpAnswer::Unbounded { point, ray } => {
-            endless(alloc, program, wholes, point.as_slice(), ray.as_slice())
+    match shown_by_basis(alloc, program, wholes, parts)? {
+        Some(found) => Ok(found),
+        None => {
+            let mut solver = Solver::new(alloc);
+            let answer = answer_by_moves(alloc, &mut solver, program, wholes, parts);
+            drop(solver);
+            answer
         }
-        LpAnswer::Wide { moves } => out_of_range(alloc, parts, moves.len()),
-        LpAnswer::Limit => unreachable!(),
     }
 }
 

@@ -76,6 +76,54 @@ fn reduce_row(
     Ok(())
 }
 
+/// The row at a place of a matrix modulo the prime, in the row at that place.
+fn reduce_at(
+    matrix: &[Vec<(u32, i64)>],
+    at: usize,
+    columns: &mut Columns,
+    rows: &mut [SparseRow],
+) -> Result<(), AllocError> {
+    match (matrix.get(at), rows.get_mut(at)) {
+        (Some(numbers), Some(row)) => reduce_row(numbers.as_slice(), short(at), columns, row),
+        _ => Ok(()),
+    }
+}
+
+/// The first rows of a matrix modulo the prime.
+fn reduce_rows(
+    matrix: &[Vec<(u32, i64)>],
+    size: usize,
+    columns: &mut Columns,
+    rows: &mut [SparseRow],
+) -> Result<(), AllocError> {
+    for at in 0..size {
+        reduce_at(matrix, at, columns, rows)?;
+    }
+    Ok(())
+}
+
+/// Takes a multiple off the row with a number, if there is one; the other list gets what it was.
+fn take_multiple(
+    rows: &mut [SparseRow],
+    number: u32,
+    multiple: Multiple<'_>,
+    columns: &mut Columns,
+    out: &mut SparseRow,
+) -> Result<(), AllocError> {
+    if let Some(row) = rows.get_mut(number as usize) {
+        write_difference(row.as_slice(), multiple, number, columns, out)?;
+        mem::swap(row, out);
+    }
+    Ok(())
+}
+
+/// A row was solved.
+fn set_done(are_done: &mut [bool], number: u32) {
+    if let Some(is_done) = are_done.get_mut(number as usize) {
+        *is_done = true;
+    }
+}
+
 impl Elimination {
     /// Nothing.
     pub(crate) fn new(alloc: Global) -> Elimination {
@@ -104,14 +152,8 @@ impl Elimination {
         self.is_done.resize(size, false)?;
         ready_lists(alloc, &mut self.rows, size)?;
         self.columns.begin(alloc, size)?;
-        for at in 0..size {
-            if let Some(numbers) = matrix.get(at) {
-                if let Some(row) = self.rows.get_mut(at) {
-                    reduce_row(numbers.as_slice(), short(at), &mut self.columns, row)?;
-                }
-            }
-        }
-        Ok(())
+        let rows = self.rows.as_mut_slice();
+        reduce_rows(matrix, size, &mut self.columns, rows)
     }
 
     /// The row that is left and has the fewest numbers, if it has any.
@@ -148,10 +190,7 @@ impl Elimination {
 
     /// Takes a column out of a row, by the row that is worked with.
     fn take_out(&mut self, number: u32, pivot: Pivot) -> Result<(), AllocError> {
-        let Some(row) = self.rows.get_mut(number as usize) else {
-            return Ok(());
-        };
-        let there = number_on(row.as_slice(), pivot.column);
+        let there = number_on(self.row(number), pivot.column);
         if there == 0 {
             return Ok(());
         }
@@ -166,15 +205,8 @@ impl Elimination {
             factor,
             column: pivot.column,
         };
-        write_difference(
-            row.as_slice(),
-            multiple,
-            number,
-            &mut self.columns,
-            &mut self.out,
-        )?;
-        mem::swap(row, &mut self.out);
-        Ok(())
+        let rows = self.rows.as_mut_slice();
+        take_multiple(rows, number, multiple, &mut self.columns, &mut self.out)
     }
 
     /// Whether a row was solved.
@@ -200,26 +232,32 @@ impl Elimination {
         Ok(())
     }
 
-    /// Solves one more row for a column, and takes that out of the rows that are left; whether there is one.
-    fn advance(&mut self) -> Result<bool, AllocError> {
+    /// The row that is solved next, which comes to be worked with, and the column that it is solved for, if there is
+    /// one.
+    fn choose(&mut self) -> Result<Option<Pivot>, AllocError> {
         let Some(row) = self.shortest() else {
-            return Ok(false);
+            return Ok(None);
         };
         self.copy_row(row)?;
-        let Some((column, number)) = rarest(self.own.as_slice(), &self.columns) else {
+        match rarest(self.own.as_slice(), &self.columns) {
+            Some((column, number)) => Ok(Some(Pivot {
+                row,
+                column,
+                inverse: inverse(number),
+            })),
+            None => Ok(None),
+        }
+    }
+
+    /// Solves one more row for a column, and takes that out of the rows that are left; whether there is one.
+    fn advance(&mut self) -> Result<bool, AllocError> {
+        let Some(pivot) = self.choose()? else {
             return Ok(false);
         };
-        let pivot = Pivot {
-            row,
-            column,
-            inverse: inverse(number),
-        };
         self.pivots.push(pivot)?;
-        if let Some(is_done) = self.is_done.get_mut(row as usize) {
-            *is_done = true;
-        }
+        set_done(self.is_done.as_mut_slice(), pivot.row);
         lose_all(self.own.as_slice(), &mut self.columns);
-        if self.columns.count(column) > 0 {
+        if self.columns.count(pivot.column) > 0 {
             self.take_out_all(pivot)?;
         }
         Ok(true)

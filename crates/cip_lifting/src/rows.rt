@@ -20,6 +20,21 @@ pub(crate) fn ready_lists<T: Drop>(
     Ok(())
 }
 
+/// Puts a number at the end of the list at a place, if there is one.
+fn push_at(lists: &mut [Vec<u32>], place: usize, number: u32) -> Result<(), AllocError> {
+    if let Some(list) = lists.get_mut(place) {
+        list.push(number)?;
+    }
+    Ok(())
+}
+
+/// Counts one more at a place, if there is a count.
+fn count_one(counts: &mut [u32], place: usize) {
+    if let Some(count) = counts.get_mut(place) {
+        *count = count.saturating_add(1);
+    }
+}
+
 /// In which rows each column stands, or stood, and in how many that are left it does.
 #[derive(Drop)]
 pub(crate) struct Columns {
@@ -53,12 +68,8 @@ impl Columns {
 
     /// A column comes to stand in a row.
     pub(crate) fn gain(&mut self, column: u32, row: u32) -> Result<(), AllocError> {
-        if let Some(rows) = self.within.get_mut(column as usize) {
-            rows.push(row)?;
-        }
-        if let Some(count) = self.counts.get_mut(column as usize) {
-            *count = count.saturating_add(1);
-        }
+        push_at(self.within.as_mut_slice(), column as usize, row)?;
+        count_one(self.counts.as_mut_slice(), column as usize);
         Ok(())
     }
 
@@ -97,6 +108,68 @@ pub(crate) struct Multiple<'a> {
     pub(crate) column: u32,
 }
 
+/// A column of a row or of the other one whose multiple is taken off it: what is left there, and which of them have it.
+#[derive(Clone, Copy)]
+struct Place {
+    column: u32,
+    left: u64,
+    is_own: bool,
+    is_other: bool,
+}
+
+/// The first column of a row from a place on, or of the other one from a place on.
+#[inline]
+fn first_place(
+    own: &[(u32, u64)],
+    here: usize,
+    multiple: Multiple<'_>,
+    there: usize,
+) -> Option<Place> {
+    let (column, left, is_own, is_other) = match (own.get(here), multiple.row.get(there)) {
+        (Some(mine), Some(other)) if mine.0 == other.0 => {
+            let left = minus(mine.1, times(multiple.factor, other.1));
+            (mine.0, left, true, true)
+        }
+        (Some(mine), Some(other)) if mine.0 < other.0 => (mine.0, mine.1, true, false),
+        (_, Some(other)) => (
+            other.0,
+            minus(0, times(multiple.factor, other.1)),
+            false,
+            true,
+        ),
+        (Some(mine), None) => (mine.0, mine.1, true, false),
+        (None, None) => return None,
+    };
+    Some(Place {
+        column,
+        left,
+        is_own,
+        is_other,
+    })
+}
+
+/// Writes what is left on a column, unless it is taken out or nothing is left; the columns of the row with this number
+/// change so.
+#[inline]
+fn write_place(
+    place: Place,
+    taken: u32,
+    number: u32,
+    columns: &mut Columns,
+    out: &mut Vec<(u32, u64)>,
+) -> Result<(), AllocError> {
+    if place.is_own && place.is_other && (place.column == taken || place.left == 0) {
+        columns.lose(place.column);
+        return Ok(());
+    }
+    out.push((place.column, place.left))?;
+    if place.is_own {
+        Ok(())
+    } else {
+        columns.gain(place.column, number)
+    }
+}
+
 /// Writes a row less a multiple of another; the columns of the row with this number change so.
 pub(crate) fn write_difference(
     own: &[(u32, u64)],
@@ -109,31 +182,15 @@ pub(crate) fn write_difference(
     let mut here = 0usize;
     let mut there = 0usize;
     for _ in 0..own.len().saturating_add(multiple.row.len()) {
-        match (own.get(here), multiple.row.get(there)) {
-            (Some(mine), Some(other)) if mine.0 == other.0 => {
-                let left = minus(mine.1, times(multiple.factor, other.1));
-                if mine.0 == multiple.column || left == 0 {
-                    columns.lose(mine.0);
-                } else {
-                    out.push((mine.0, left))?;
-                }
-                here = here.wrapping_add(1);
-                there = there.wrapping_add(1);
-            }
-            (Some(mine), Some(other)) if mine.0 < other.0 => {
-                out.push(*mine)?;
-                here = here.wrapping_add(1);
-            }
-            (_, Some(other)) => {
-                out.push((other.0, minus(0, times(multiple.factor, other.1))))?;
-                columns.gain(other.0, number)?;
-                there = there.wrapping_add(1);
-            }
-            (Some(mine), None) => {
-                out.push(*mine)?;
-                here = here.wrapping_add(1);
-            }
-            (None, None) => return Ok(()),
+        let Some(place) = first_place(own, here, multiple, there) else {
+            return Ok(());
+        };
+        write_place(place, multiple.column, number, columns, out)?;
+        if place.is_own {
+            here = here.wrapping_add(1);
+        }
+        if place.is_other {
+            there = there.wrapping_add(1);
         }
     }
     Ok(())

@@ -9,7 +9,7 @@ use std::alloc::{AllocError, Global};
 use std::marker::Model;
 
 /// The low and the high side of a column; a side that is not there is open.
-#[derive(Clone, Copy, Debug, PartialEq, Eq)]
+#[derive(Clone, Copy, PartialEq, Eq)]
 pub struct Sides {
     /// The least value, itself allowed.
     pub low: Option<Frac>,
@@ -184,7 +184,7 @@ fn is_box_inside(own: &[Sides], outer: &[Sides]) -> bool
 }
 
 /// A box: the sides of each column, by its number.
-#[derive(Debug, Drop)]
+#[derive(Drop)]
 pub struct Bounds {
     sides: Vec<Sides>,
 }

@@ -10,7 +10,7 @@ use std::alloc::{AllocError, Global};
 use std::marker::Model;
 
 // The kinds of choices.
-#[derive(Clone, Copy, Debug)]
+#[derive(Clone, Copy)]
 enum Kind {
     Plain,
     Open(Sides),
@@ -20,7 +20,7 @@ enum Kind {
 
 /// What is chosen of a column. A plain column has no choice. A semi-continuous one has the value 0, or one between its
 /// own sides: its choice is open, with these sides, or off, at 0, or on, between them.
-#[derive(Clone, Copy, Debug)]
+#[derive(Clone, Copy)]
 pub struct Choice {
     kind: Kind,
 }
@@ -122,7 +122,7 @@ impl Choice {
 
 /// The choices of columns, by their numbers from 0; the columns past the end are plain, so a program without
 /// semi-continuous columns needs none.
-#[derive(Debug, Drop)]
+#[derive(Drop)]
 pub struct Choices {
     list: Vec<Choice>,
 }

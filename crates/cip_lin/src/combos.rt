@@ -2,7 +2,7 @@
 use cip_frac::Frac;
 
 /// The name of a row.
-#[derive(Clone, Copy, Debug, PartialEq, Eq)]
+#[derive(Clone, Copy, PartialEq, Eq)]
 pub enum RowId {
     /// A row of the program, by its number from 0.
     Own(u32),
@@ -13,7 +13,7 @@ pub enum RowId {
 }
 
 /// A row with a factor.
-#[derive(Clone, Copy, Debug, PartialEq, Eq)]
+#[derive(Clone, Copy, PartialEq, Eq)]
 pub struct RowMultiple {
     /// The name of the row.
     pub row: RowId,
@@ -22,7 +22,7 @@ pub struct RowMultiple {
 }
 
 /// A bound of a column with a factor.
-#[derive(Clone, Copy, Debug, PartialEq, Eq)]
+#[derive(Clone, Copy, PartialEq, Eq)]
 pub struct ColumnMultiple {
     /// The number of the column, from 0.
     pub col: u32,
@@ -31,7 +31,7 @@ pub struct ColumnMultiple {
 }
 
 /// A combination of rows and bounds. Nothing is checked here: what it proves is for a check to say.
-#[derive(Debug, Drop)]
+#[derive(Drop)]
 pub struct Combo {
     /// Rows, each with a factor that isn't 0.
     pub rows: Vec<RowMultiple>,

@@ -12,7 +12,7 @@ use std::alloc::{AllocError, Global};
 use std::marker::Model;
 
 /// One product of a linear sum: a column and the coefficient that stands on it.
-#[derive(Clone, Copy, Debug, PartialEq, Eq)]
+#[derive(Clone, Copy, PartialEq, Eq)]
 pub struct Term {
     /// The number of the column, from 0.
     pub col: u32,
@@ -46,7 +46,7 @@ impl Default for Term {
 }
 
 /// Why a row or a term was refused. `at` is the place of the term in the row, from 0.
-#[derive(Clone, Copy, Debug, PartialEq, Eq)]
+#[derive(Clone, Copy, PartialEq, Eq)]
 pub enum RowFault {
     /// The column of the term is not above that of the term before it.
     NotRising { at: usize },
@@ -57,7 +57,7 @@ pub enum RowFault {
 }
 
 /// A row: its terms by rising column, none with the coefficient 0, and its two sides.
-#[derive(Debug, Drop)]
+#[derive(Drop)]
 pub struct Row {
     terms: SmallVec<Term, 4>,
     low: Option<Frac>,

@@ -1,7 +1,7 @@
 //! Which side of a column.
 
 /// A side of a column.
-#[derive(Clone, Copy, Debug, PartialEq, Eq)]
+#[derive(Clone, Copy, PartialEq, Eq)]
 pub enum Side {
     /// The low side.
     Low,

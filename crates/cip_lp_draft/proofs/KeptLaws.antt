@@ -4,7 +4,7 @@ use Rattle.std.specs.Prelude.{All, IfSome, is_some, is_none, nat_le, slice_set}
 use Rattle.std.proofs.lemmas.List.{length-set}
 use Rattle.std.proofs.lemmas.List.Elements.{All-nil}
 use Rattle.cip_problem.specs.Limits.{most_columns}
-use Rattle.cip_problem.specs.Program.{Row}
+use Rattle.cip_problem.specs.Program.{Row, Sides}
 use Rattle.cip_rational.specs.Rational.{ℚ, zeroℚ}
 use Rattle.cip_mps_rules.specs.MpsWords.{number_in, is_in}
 use Rattle.cip_mps_rules.specs.MpsRules.{rule, least}
@@ -126,6 +126,20 @@ term_put old amount name f t column form entries h e fe ce te fo en =
     subst IsKeptLp put k
 
 -- ---- columns
+
+-- a column that is new stands behind the others
+pub column_put : (f : LpFacts) (name : List ℕ) (names : List (List ℕ)) (costs : List ℚ) (bounds : List Sides) (integral : List Bool) → number_in f.column_names name ≡ None
+    → names ≡ f.column_names ++ name ∷ [] → costs ≡ f.costs ++ zeroℚ ∷ [] → bounds ≡ f.bounds ++ default_sides ∷ [] → integral ≡ f.integral ++ false ∷ []
+    → ◌≡◌ {A = LpFacts} (record f { column_names = names; costs = costs; bounds = bounds; integral = integral }) (with_column f name)
+column_put f name names costs bounds integral e n c b w =
+    let more : ◌≡◌ {A = LpFacts} (record f { column_names = names; costs = costs; bounds = bounds; integral = integral }) (record f { column_names = f.column_names ++ name ∷ []; costs = f.costs ++ zeroℚ ∷ []; bounds = f.bounds ++ default_sides ∷ []; integral = f.integral ++ false ∷ [] }) =
+    λ i. record f { column_names = n i; costs = c i; bounds = b i; integral = w i } in
+    more ∙ sym (ap (λ (o : Option ℕ). cond (is_some o) f (record f { column_names = f.column_names ++ name ∷ []; costs = f.costs ++ zeroℚ ∷ []; bounds = f.bounds ++ default_sides ∷ []; integral = f.integral ++ false ∷ [] })) e)
+
+-- and where none was put, all is as it was
+pub column_unput : (f : LpFacts) (names : List (List ℕ)) (costs : List ℚ) (bounds : List Sides) (integral : List Bool) → names ≡ f.column_names → costs ≡ f.costs → bounds ≡ f.bounds → integral ≡ f.integral
+    → ◌≡◌ {A = LpFacts} (record f { column_names = names; costs = costs; bounds = bounds; integral = integral }) f
+column_unput f names costs bounds integral n c b w = λ i. record f { column_names = n i; costs = c i; bounds = b i; integral = w i }
 
 -- the number of a column is small
 pub small_number : (o : Option ℕ) (n : ℕ) → IfSome o (λ k. k < n) → n ≤ most_columns → IfSome o (λ k. k < most_columns)

@@ -1,5 +1,6 @@
 //! Columns, in the order of first mention.
-ghost use Rattle.std.specs.Prelude.{◌≡◌, ◌<◌, None, length, IfOk, OnOk, IfSome, is_none, ◌&&◌, nat_le};
+ghost use Rattle.std.specs.Prelude.{◌≡◌, ◌<◌, ◌++◌, ◌∷◌, [], false, None, length, IfOk, OnOk, OnErr, IfSome, is_none, ◌&&◌, nat_le};
+ghost use Rattle.cip_rational.specs.Rational.{zeroℚ};
 ghost use Rattle.cip_problem.specs.Limits.{most_columns};
 ghost use Rattle.cip_mps_rules.specs.MpsWords.{number_in};
 ghost use Rattle.cip_lp_rules.specs.LpFacts as facts;
@@ -11,7 +12,8 @@ use crate::draft::LpDraft;
 use cip_frac::Frac;
 use cip_lin::Sides;
 use cip_model::{LONGEST_NAME, MOST_COLUMNS};
-use std::alloc::AllocError;
+use cip_name_index::NameIndex;
+use std::alloc::{AllocError, Global};
 
 /// Whether a name is too long.
 pub(crate) fn is_long(name: &[u8]) -> bool
@@ -28,6 +30,34 @@ fn default_sides() -> Sides
         low: Some(Frac::zero()),
         high: None,
     }
+}
+
+/// Puts a column of this name behind the others. `Err` comes where a growth was refused, and changes nothing.
+fn put_column(
+    alloc: Global,
+    names: &mut NameIndex,
+    costs: &mut Vec<Frac>,
+    sides: &mut Vec<Sides>,
+    whole: &mut Vec<bool>,
+    name: &[u8],
+) -> Result<(), AllocError>
+    requires { number_in names.old name.now ≡ None }
+    ensures ok { OnOk result ((names.new ≡ names.old ++ name.now ∷ [])
+        × (costs.new.items ≡ costs.old.items ++ zeroℚ ∷ [])
+        × (sides.new.items ≡ sides.old.items ++ facts.default_sides ∷ [])
+        × (whole.new.items ≡ whole.old.items ++ false ∷ [])) }
+    ensures err { OnErr result ((names.new ≡ names.old) × (costs.new.items ≡ costs.old.items)
+        × (sides.new.items ≡ sides.old.items) × (whole.new.items ≡ whole.old.items)) }
+{
+    costs.reserve(1)?;
+    sides.reserve(1)?;
+    whole.reserve(1)?;
+    let owned = name.to_vec(alloc)?;
+    names.add(owned)?;
+    costs.push_reserved(Frac::zero());
+    sides.push_reserved(default_sides());
+    whole.push_reserved(false);
+    Ok(())
 }
 
 impl LpDraft {
@@ -62,15 +92,15 @@ impl LpDraft {
         ensures number { IfOk result (λ number. number ≡ length self.old.column_names) }
         ensures ok { OnOk result (self.new ≡ facts.with_column self.old name.now) }
     {
-        let owned = name.to_vec(self.alloc)?;
         let number = self.costs.len() as u32;
-        self.costs.reserve(1)?;
-        self.whole.reserve(1)?;
-        self.sides.reserve(1)?;
-        self.column_names.add(owned)?;
-        self.costs.push_reserved(Frac::zero());
-        self.sides.push_reserved(default_sides());
-        self.whole.push_reserved(false);
+        put_column(
+            self.alloc,
+            &mut self.column_names,
+            &mut self.costs,
+            &mut self.sides,
+            &mut self.whole,
+            name,
+        )?;
         Ok(number)
     }
 

@@ -1,6 +1,8 @@
 -- The code's sections, relations and words, as those of a text.
 use lib.Chars.{codes}
-use Rattle.std.specs.Prelude.{true, false}
+use Rattle.std.specs.Prelude.{ℕ, true, false, List}
+use Rattle.std.specs.Str.{str_to_ascii_lowercase}
+use Rattle.cip_mps_rules.specs.MpsWords.{Word}
 use Rattle.cip_lp_rules.specs.LpWords as text
 use Rattle.cip_lp_tokens.specs.declared.words.LpPart.{LpPart}
 use Rattle.cip_lp_tokens.specs.declared.words.LpPart.TheVariants.{NoPart, Minimize, Maximize, Constraints, Bounds, Generals, Binaries, End}
@@ -34,3 +36,7 @@ meaning_shown Such = text.OpensWith (codes "that") text.Constraints
 meaning_shown Outside = text.Outside
 meaning_shown Free = text.FreeWord
 meaning_shown Infinity = text.Infinity
+
+-- a word with what it means, in small letters
+abbrev pub word_shown : List ℕ → WordMeaning → Word text.WordMeaning
+word_shown word meaning = text.with_meaning (str_to_ascii_lowercase word) (meaning_shown meaning)

@@ -193,7 +193,10 @@ impl<'a> Pieces<'a> {
         ensures { result ≡ is_over (line_pieces self.now.rest.now) }
     {
         let mut ahead = *self;
-        ahead.next_piece().is_none()
+        match ahead.next_piece() {
+            None => true,
+            Some(_) => false,
+        }
     }
 
     /// Whether `:` comes next.

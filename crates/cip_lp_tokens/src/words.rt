@@ -1,9 +1,10 @@
 //! The words of LP texts that are never names, and relations.
 ghost use lib.Chars.{codes};
-ghost use Rattle.std.specs.Prelude.{◌≡◌, option_map, if◌then◌else◌};
+ghost use Rattle.std.specs.Prelude.{◌≡◌, map, option_map, if◌then◌else◌};
 ghost use Rattle.std.specs.Str.{bytes_eq, str_to_ascii_lowercase};
+ghost use Rattle.cip_mps_rules.specs.MpsWords.{meaning_in};
 ghost use Rattle.cip_lp_rules.specs.LpWords as text;
-ghost use Rattle.cip_lp_tokens.specs.LpKinds.{meaning_shown};
+ghost use Rattle.cip_lp_tokens.specs.LpKinds.{meaning_shown, word_shown};
 
 /// A section of a text.
 #[derive(Clone, Copy, PartialEq, Eq)]
@@ -54,67 +55,55 @@ pub(crate) enum WordMeaning {
     Infinity,
 }
 
+/// The words that are never names, in small letters, and what they mean.
+const WORDS: [(&[u8], WordMeaning); 27] = [
+    (b"minimize", WordMeaning::Opens(LpPart::Minimize)),
+    (b"minimum", WordMeaning::Opens(LpPart::Minimize)),
+    (b"min", WordMeaning::Opens(LpPart::Minimize)),
+    (b"maximize", WordMeaning::Opens(LpPart::Maximize)),
+    (b"maximum", WordMeaning::Opens(LpPart::Maximize)),
+    (b"max", WordMeaning::Opens(LpPart::Maximize)),
+    (b"subject", WordMeaning::Subject),
+    (b"such", WordMeaning::Such),
+    (b"st", WordMeaning::Opens(LpPart::Constraints)),
+    (b"s.t.", WordMeaning::Opens(LpPart::Constraints)),
+    (b"bounds", WordMeaning::Opens(LpPart::Bounds)),
+    (b"bound", WordMeaning::Opens(LpPart::Bounds)),
+    (b"generals", WordMeaning::Opens(LpPart::Generals)),
+    (b"general", WordMeaning::Opens(LpPart::Generals)),
+    (b"gen", WordMeaning::Opens(LpPart::Generals)),
+    (b"binaries", WordMeaning::Opens(LpPart::Binaries)),
+    (b"binary", WordMeaning::Opens(LpPart::Binaries)),
+    (b"bin", WordMeaning::Opens(LpPart::Binaries)),
+    (b"end", WordMeaning::Opens(LpPart::End)),
+    (b"semi", WordMeaning::Outside),
+    (b"semis", WordMeaning::Outside),
+    (b"sos", WordMeaning::Outside),
+    (b"sos1", WordMeaning::Outside),
+    (b"sos2", WordMeaning::Outside),
+    (b"free", WordMeaning::Free),
+    (b"inf", WordMeaning::Infinity),
+    (b"infinity", WordMeaning::Infinity),
+];
+
+/// What a word means by a list of words; their letters, and its own, may be large or small.
+fn meaning_in(words: &[(&[u8], WordMeaning)], word: &[u8]) -> Option<WordMeaning>
+    ensures { option_map meaning_shown result
+        ≡ meaning_in (map (λ known. word_shown known.0.now known.1) words.now) (str_to_ascii_lowercase word.now) }
+{
+    for known in words {
+        if word.eq_ignore_ascii_case(known.0) {
+            return Some(known.1);
+        }
+    }
+    None
+}
+
 /// What a word means that is never a name; its letters may be large or small.
 pub(crate) fn word_meaning(word: &[u8]) -> Option<WordMeaning>
     ensures { option_map meaning_shown result ≡ text.word_meaning word.now }
 {
-    if word.eq_ignore_ascii_case(b"minimize") {
-        Some(WordMeaning::Opens(LpPart::Minimize))
-    } else if word.eq_ignore_ascii_case(b"minimum") {
-        Some(WordMeaning::Opens(LpPart::Minimize))
-    } else if word.eq_ignore_ascii_case(b"min") {
-        Some(WordMeaning::Opens(LpPart::Minimize))
-    } else if word.eq_ignore_ascii_case(b"maximize") {
-        Some(WordMeaning::Opens(LpPart::Maximize))
-    } else if word.eq_ignore_ascii_case(b"maximum") {
-        Some(WordMeaning::Opens(LpPart::Maximize))
-    } else if word.eq_ignore_ascii_case(b"max") {
-        Some(WordMeaning::Opens(LpPart::Maximize))
-    } else if word.eq_ignore_ascii_case(b"subject") {
-        Some(WordMeaning::Subject)
-    } else if word.eq_ignore_ascii_case(b"such") {
-        Some(WordMeaning::Such)
-    } else if word.eq_ignore_ascii_case(b"st") {
-        Some(WordMeaning::Opens(LpPart::Constraints))
-    } else if word.eq_ignore_ascii_case(b"s.t.") {
-        Some(WordMeaning::Opens(LpPart::Constraints))
-    } else if word.eq_ignore_ascii_case(b"bounds") {
-        Some(WordMeaning::Opens(LpPart::Bounds))
-    } else if word.eq_ignore_ascii_case(b"bound") {
-        Some(WordMeaning::Opens(LpPart::Bounds))
-    } else if word.eq_ignore_ascii_case(b"generals") {
-        Some(WordMeaning::Opens(LpPart::Generals))
-    } else if word.eq_ignore_ascii_case(b"general") {
-        Some(WordMeaning::Opens(LpPart::Generals))
-    } else if word.eq_ignore_ascii_case(b"gen") {
-        Some(WordMeaning::Opens(LpPart::Generals))
-    } else if word.eq_ignore_ascii_case(b"binaries") {
-        Some(WordMeaning::Opens(LpPart::Binaries))
-    } else if word.eq_ignore_ascii_case(b"binary") {
-        Some(WordMeaning::Opens(LpPart::Binaries))
-    } else if word.eq_ignore_ascii_case(b"bin") {
-        Some(WordMeaning::Opens(LpPart::Binaries))
-    } else if word.eq_ignore_ascii_case(b"end") {
-        Some(WordMeaning::Opens(LpPart::End))
-    } else if word.eq_ignore_ascii_case(b"semi") {
-        Some(WordMeaning::Outside)
-    } else if word.eq_ignore_ascii_case(b"semis") {
-        Some(WordMeaning::Outside)
-    } else if word.eq_ignore_ascii_case(b"sos") {
-        Some(WordMeaning::Outside)
-    } else if word.eq_ignore_ascii_case(b"sos1") {
-        Some(WordMeaning::Outside)
-    } else if word.eq_ignore_ascii_case(b"sos2") {
-        Some(WordMeaning::Outside)
-    } else if word.eq_ignore_ascii_case(b"free") {
-        Some(WordMeaning::Free)
-    } else if word.eq_ignore_ascii_case(b"inf") {
-        Some(WordMeaning::Infinity)
-    } else if word.eq_ignore_ascii_case(b"infinity") {
-        Some(WordMeaning::Infinity)
-    } else {
-        None
-    }
+    meaning_in(&WORDS, word)
 }
 
 /// Whether a word is `that`, or `to`; its letters may be large or small.

@@ -21,7 +21,7 @@ pub struct Weights {
 }
 
 /// Why the master program isn't solved.
-#[derive(Clone, Copy, Debug, PartialEq, Eq)]
+#[derive(Clone, Copy, PartialEq, Eq)]
 pub enum MasterCause {
     /// A coefficient of a held point is out of range, or a move of the simplex method is.
     Wide,

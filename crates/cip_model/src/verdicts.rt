@@ -2,7 +2,7 @@
 use cip_frac::Frac;
 
 /// Where an operation overflows: in the sum of a row, or in that of the cost.
-#[derive(Clone, Copy, Debug, PartialEq, Eq)]
+#[derive(Clone, Copy, PartialEq, Eq)]
 pub enum Place {
     /// The row of this number, from 0.
     Row(u32),
@@ -12,7 +12,7 @@ pub enum Place {
 
 /// What a test of a point answers: the first of these, bounds and choices by column, then whole columns, then
 /// rows in order, then the cost.
-#[derive(Clone, Copy, Debug, PartialEq, Eq)]
+#[derive(Clone, Copy, PartialEq, Eq)]
 pub enum Verdict {
     /// The point is feasible, at this cost of the minimised form.
     Feasible(Frac),

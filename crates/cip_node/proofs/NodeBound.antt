@@ -1,11 +1,12 @@
 -- What the linear program of a node says of its bound.
-use Rattle.std.proofs.Common.{◌≡◌, ℕ, Bool, true, false, List, length, Contains, Option, None, Some, IfSome, option_map, refl, sym, ap, ◌∙◌, subst}
+use Rattle.std.proofs.Common.{◌≡◌, ℕ, Bool, true, false, List, length, Contains, Option, None, Some, IfSome, option_map, Result, Ok, Err, refl, sym, ap, ◌∙◌, subst}
+use Rattle.std.specs.Prelude.{IfOk, MatchResult}
 use Rattle.std.proofs.lemmas.List.Elements.{All-contains}
 use Rattle.cip_rational.specs.Rational.{ℚ, integer, ceil}
 use Rattle.cip_problem.specs.Program.{Sides, Row, Program}
 use Rattle.cip_problem.specs.WellFormed.{IsWellFormed}
 use Rattle.cip_problem.proofs.Points.AtPlaces.{IsInBox-long}
-use Rattle.cip_linear.specs.LinearProgram.{IsPoint}
+use Rattle.cip_linear.specs.LinearProgram.{IsPoint, HasNoPoint}
 use Rattle.cip_cuts.specs.Improving.{IsValidRow, IsBoundIn}
 use Rattle.cip_cuts.proofs.Improving.{fewer}
 use Rattle.cip_leaves.specs.Searched.{NoMore}
@@ -22,10 +23,14 @@ use Rattle.cip_core.specs.Relaxing.{node_program, ShowsLeast, ShowsBound, ShowsN
 use Rattle.cip_core.specs.Telling.{IsValidPool, NodeProgramsTell}
 use Rattle.cip_core.proofs.PassedOn.{told}
 use Rattle.cip_core.specs.Mark.{Mark}
+use Rattle.cip_core.specs.Offered.{Offered}
+use Rattle.cip_core.specs.PostsolveFault.{PostsolveFault}
 use Rattle.cip_core.specs.CoreStates.{CoreState, reduced_of, held_of, rows_lent, IsSound, IsAtWork}
-use Rattle.cip_core.proofs.CoreSteps.{work_long}
-use Rattle.cip_core.specs.Steps.{IsTriedBack}
-use Rattle.cip_node.specs.Bounding.{IsMarkOf, IsAsGood, HasTried, point_of, IsFound}
+use Rattle.cip_core.proofs.CoreSteps.{work_long, trimmed_is}
+use Rattle.cip_core.specs.Steps.{IsTriedBack, IsOfferedBack, IsNotBack, IsRaisedTo}
+use Rattle.cip_core.specs.Relaxed.{Relaxed}
+use Rattle.cip_core.specs.Relaxed.TheVariants as came
+use Rattle.cip_node.specs.Bounding.{IsRelaxedOf, IsMarkOf, IsAsGood, HasTried, point_of, IsFound, told_of}
 use Rattle.cip_node.specs.declared.bounding.Found.{Found}
 
 -- a row that is valid below the cost that it needs is valid below the cost held
@@ -68,6 +73,32 @@ pub tried_if : {X : Type 0} (f : X → List ℚ) (core : CoreState) (box : List 
 tried_if f core box None mark h k = λ e. cc
 tried_if f core box (Some v) mark h k = (h, k)
 
+-- ---- what a linear program tells
+
+-- one that tells nothing has no point
+pub none_told : (core : CoreState) (relaxed : Relaxed) → None ≡ told_of relaxed → IsRelaxedOf core relaxed → HasNoPoint (node_program (reduced_of core) (rows_lent core) core.tree.work.box)
+none_told core came.Empty e h = h
+none_told core (came.Bound point bound combo) e h = cc
+none_told core (came.Near point bound) e h = cc
+none_told core (came.Falls point) e h = cc
+none_told core (came.Unsolved mark point bound) e h = cc
+
+-- its bound, if it shows one, holds in a node's box
+pub bound_told : (core : CoreState) (own : List Sides) (relaxed : Relaxed) → core.tree.work.box ≡ own → NodeProgramsTell (reduced_of core) (held_of core) (rows_lent core) core.tree.work.box → IsRelaxedOf core relaxed → IfSome (told_of relaxed) (λ told. IfSome told.bound (IsBoundIn (reduced_of core) (held_of core) own))
+bound_told core own came.Empty e t h = tt
+bound_told core own (came.Bound point bound combo) e t h = subst (λ x. IsBoundIn (reduced_of core) (held_of core) x bound) e (t.bound point.items bound h)
+bound_told core own (came.Near point bound) e t h = subst (λ x. IsBoundIn (reduced_of core) (held_of core) x bound) e (t.safe bound h.shows)
+bound_told core own (came.Falls point) e t h = tt
+bound_told core own (came.Unsolved mark point bound) e t h = safe_if core core.tree.work.box own bound e t h.1.1
+
+-- its point, if it found one, is as long as the program has columns
+pub long_told : (core : CoreState) (n : ℕ) (relaxed : Relaxed) → length core.tree.work.box ≡ n → IsRelaxedOf core relaxed → IfSome (told_of relaxed) (λ told. IfSome told.found.point (λ v. length v.items ≡ n))
+long_told core n came.Empty e h = tt
+long_told core n (came.Bound point bound combo) e h = point_long core core.tree.work.box point.items h.optimal.is_point ∙ e
+long_told core n (came.Near point bound) e h = point_long core core.tree.work.box point.items h.is_point ∙ e
+long_told core n (came.Falls point) e h = point_long core core.tree.work.box point.items h.is_point ∙ e
+long_told core n (came.Unsolved mark point bound) e h = as_long (λ v. v.items) (length core.tree.work.box) n point e (long_if (λ v. v.items) core core.tree.work.box point h.1.0)
+
 -- what was found by a point of least cost, beside a bound that is no less
 found_least : (core : CoreState) (held : Option ℚ) (box : List Sides) (bound : Option ℚ) (point : List ℚ) (b : ℚ) (found : Found) → point_of found ≡ Some point → found.mark ≡ None → NodeProgramsTell (reduced_of core) held (rows_lent core) box → ShowsLeast (reduced_of core) (rows_lent core) box point b → NoMore (Some b) bound → IsTriedBack core point → IsFound core box bound found
 found_least core held box bound point b found p m t s l tried = record {
@@ -91,6 +122,18 @@ found_falling core held box bound point found p m t s tried = record {
   good = subst (IsAsGood core box bound) (sym m) (t.falling point bound s);
   tried = subst (λ o. HasTried core box o found.mark) (sym p) (s.is_point, tried);
 }
+
+-- ---- a point that was offered
+
+-- what holds whether there is an answer or not, by what holds where there is one
+pub on_ok : {A E : Type 0} (r : Result A E) (P Q : Type 0) → (P → Q) → IfOk r (λ _. P) → IfOk r (λ _. Q)
+on_ok (Ok a) P Q f h = f h
+on_ok (Err e) P Q f h = tt
+
+-- the region of a node in work stays, as the region in work does
+pub offered_region : (old new : CoreState) (node : TakenNode) (point : List ℚ) (r : Result Offered PostsolveFault) → IsAtWork old node → IsAtWork new node → MatchResult r (IsOfferedBack old new point) (IsNotBack old new point) → region_of new.tree node ≡ region_of old.tree node
+offered_region old new node point (Ok answer) w v h = sym v.region ∙ ap (λ (n : Nodes). n.work) (trimmed_is old.tree new.tree (held_of new) h.offered.trimmed) ∙ w.region
+offered_region old new node point (Err fault) w v h = ap (λ (k : CoreState). region_of k.tree node) h.same
 
 -- ---- what was found in the region in work, seen after its point was offered
 
@@ -129,3 +172,11 @@ module _ (core : CoreState) (tree : Nodes) (holding : Holding) (node now : Taken
         good = subst (IsAsGood new box now.bound) (sym m) (subst (λ b. IsMarkOf core b mark) own_box marked);
         tried = subst (λ o. HasTried new box o found.mark) (sym p) (subst (HasTried new box (option_map f point)) (sym m) (tried_if f new box point mark points tried));
       }
+
+  -- what a linear program tells was found so, once its bound was raised to and its point offered
+  pub told_found : (relaxed : Relaxed) → IsRelaxedOf core relaxed → IfSome (told_of relaxed) (λ told. IfSome told.bound (λ b. IsRaisedTo core b now.bound) → IfSome told.found.point (λ v. IsTriedBack (offered_core core tree holding) v.items) → IsFound (offered_core core tree holding) (box_of tree now) now.bound told.found)
+  told_found came.Empty h = tt
+  told_found (came.Bound point bound combo) h = λ raised tried. least_found point.items bound (record { point = Some point; combo = Some combo; mark = None }) refl refl h raised.plain tried
+  told_found (came.Near point bound) h = λ raised tried. near_found point.items bound (record { point = Some point; combo = None; mark = None }) refl refl h (raised.whole h.good.whole) tried
+  told_found (came.Falls point) h = λ raised tried. falling_found point.items (record { point = Some point; combo = None; mark = None }) refl refl h tried
+  told_found (came.Unsolved mark point bound) h = λ raised tried. unsolved_found (λ v. v.items) point mark (record { point = point; combo = None; mark = Some mark }) refl refl h.0 h.1.0 tried

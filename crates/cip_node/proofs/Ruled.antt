@@ -1,6 +1,7 @@
 -- A split by the rules is one that the tree can make: at a whole column it leaves a whole value on both sides of a near
 -- box, and else the column's choice is open.
 use Rattle.std.proofs.Common.{◌≡◌, inl, inr, ℕ, zero, suc, ◌+◌, ◌<◌, ℤ, Bool, true, false, not, List, [], ◌∷◌, length, Option, None, Some, slice_get, refl, sym, ap, ◌∙◌, subst, arith, true≢false}
+use Rattle.std.specs.Prelude.{MatchOption}
 use Rattle.std.proofs.lemmas.Bool.{and_parts}
 use Rattle.std.proofs.lemmas.Option.{slice_get_within}
 use Rattle.cip_rational.specs.Rational.{ℚ}
@@ -97,3 +98,23 @@ core_place core node point column at formed up e r =
 pub settled_not_open : (integral : List Bool) (box : List Sides) (choices : List Choice) → IsSettledBox integral box choices → ¬ IsOpenBox integral box choices
 settled_not_open integral box choices s (inl (column, first)) = true≢false (sym first.passes ∙ s.no_two column first.within)
 settled_not_open integral box choices s (inr (column, first)) = true≢false (sym first.passes ∙ s.made column first.within)
+
+-- ---- the place that was chosen
+
+module _ {R : Type 0} (col : R → ℕ) (at : R → ℤ) (result : Option R) (integral : List Bool) (work : Region) where
+  -- by lists that are the region's
+  pub placed : (whole : List Bool) (box : List Sides) (choices : List Choice) (point : Option (List ℚ)) → whole ≡ integral → box ≡ work.box → choices ≡ work.choices → MatchOption result (IsSettledBox whole box choices) (λ place. IsNodeRule whole box choices point (col place) (at place)) → MatchOption result (IsSettledBox integral work.box work.choices) (λ place. IsNodeRule integral work.box work.choices point (col place) (at place))
+  placed whole box choices point w b k h =
+      subst (λ (cs : List Choice). MatchOption result (IsSettledBox integral work.box cs) (λ place. IsNodeRule integral work.box cs point (col place) (at place))) k
+      (subst (λ (ss : List Sides). MatchOption result (IsSettledBox integral ss choices) (λ place. IsNodeRule integral ss choices point (col place) (at place))) b
+      (subst (λ (ws : List Bool). MatchOption result (IsSettledBox ws box choices) (λ place. IsNodeRule ws box choices point (col place) (at place))) w h))
+
+  -- by the point of the region's linear program
+  pub placed_by : (given : Option (List ℚ)) (point : List ℚ) → given ≡ Some point → MatchOption result (IsSettledBox integral work.box work.choices) (λ place. IsNodeRule integral work.box work.choices (Some point) (col place) (at place)) → MatchOption result (IsSettledBox integral work.box work.choices) (λ place. IsSplitBy integral work given (col place) (at place))
+  placed_by given point e h =
+      subst (λ (g : Option (List ℚ)). MatchOption result (IsSettledBox integral work.box work.choices) (λ place. IsSplitBy integral work g (col place) (at place))) (sym e) h
+
+-- or by others, where it has none
+pub placed_past : {R : Type 0} (col : R → ℕ) (at : R → ℤ) (result : Option R) (integral : List Bool) (work : Region) (last : Option (List ℚ)) → MatchOption result (IsSettledBox integral work.box work.choices) (λ place. IsNodeRule integral work.box work.choices last (col place) (at place)) → MatchOption result (IsSettledBox integral work.box work.choices) (λ place. IsSplitBy integral work None (col place) (at place))
+placed_past col at None integral work last h = h
+placed_past col at (Some place) integral work last h = (last, h)

@@ -14,9 +14,11 @@ use Rattle.cip_core.specs.NodeRows.{usable_rows}
 use Rattle.cip_core.specs.Relaxing.{node_program, IsMark, IsRelaxed}
 use Rattle.cip_core.specs.Mark.{Mark}
 use Rattle.cip_core.specs.Relaxed.{Relaxed}
+use Rattle.cip_core.specs.Relaxed.TheVariants as came
 use Rattle.cip_core.specs.CoreStates.{CoreState, reduced_of, held_of, rows_lent}
 use Rattle.cip_core.specs.Steps.{IsTriedBack}
 use Rattle.cip_node.specs.declared.bounding.Found.{Found}
+use Rattle.cip_node.specs.declared.bounding.Told.{Told}
 use Rattle.cip_node.specs.declared.bounding.Bounded.{Bounded}
 use Rattle.cip_node.specs.declared.bounding.Bounded.TheVariants.{Empty, Open}
 
@@ -24,6 +26,18 @@ use Rattle.cip_node.specs.declared.bounding.Bounded.TheVariants.{Empty, Open}
 abbrev pub IsRelaxedOf : CoreState → Relaxed → Type 0
 IsRelaxedOf core relaxed =
     IsRelaxed (reduced_of core) (rows_lent core) core.tree.work.box (columns (reduced_of core)) relaxed
+
+-- what a linear program tells: the bound that it shows, and what it found
+abbrev pub told_of : Relaxed → Option Told
+told_of came.Empty = None
+told_of (came.Bound point bound combo) =
+    Some (record { bound = Some bound; found = record { point = Some point; combo = Some combo; mark = None } })
+told_of (came.Near point bound) =
+    Some (record { bound = Some bound; found = record { point = Some point; combo = None; mark = None } })
+told_of (came.Falls point) =
+    Some (record { bound = None; found = record { point = Some point; combo = None; mark = None } })
+told_of (came.Unsolved mark point bound) =
+    Some (record { bound = bound; found = record { point = point; combo = None; mark = Some mark } })
 
 -- a mark says what the linear program of a box met
 abbrev pub IsMarkOf : CoreState → List Sides → Mark → Type 0

@@ -1,17 +1,19 @@
 //! The linear program of a node in work.
-ghost use Rattle.std.specs.Prelude.{◌≡◌, length, IfOk, IfSome};
+ghost use Rattle.std.specs.Prelude.{◌≡◌, ◌≢◌, None, Some, Err, length, IfOk, IfSome};
 ghost use Rattle.cip_problem.specs.WellFormed.{columns};
 ghost use Rattle.cip_cuts.specs.Improving.{IsBoundIn};
 ghost use Rattle.cip_tree.specs.Nodes.{region_of, box_of};
 ghost use Rattle.cip_core.specs.CoreStates.{reduced_of, held_of, IsAtWork};
 ghost use Rattle.cip_core.specs.Later.{IsLaterAt};
-ghost use Rattle.cip_core.specs.Steps.{IsTriedBack};
-ghost use Rattle.cip_node.specs.Bounding.{IsRelaxedOf, IsBounded};
+ghost use Rattle.cip_core.specs.PostsolveFault.TheVariants.{NoMemory};
+ghost use Rattle.cip_core.specs.Steps.{IsTriedBack, IsRaisedTo};
+ghost use Rattle.cip_node.specs.Bounding.{IsRelaxedOf, IsBounded, told_of};
 ghost use Rattle.cip_node.specs.SameRows.{HasSameRows};
 
 use crate::works::NodeWork;
 use cip_core::{Core, Mark, PostsolveFault, Relaxed};
 use cip_frac::Frac;
+use cip_incumbent::Offered;
 use cip_lin::Combo;
 use cip_node_rules::are_whole;
 use cip_tree::Node;
@@ -38,6 +40,69 @@ pub enum Bounded {
     Open(Found),
 }
 
+/// What the linear program of a node tells: the bound that it shows, if it shows one, and what it found.
+#[derive(Drop)]
+struct Told {
+    bound: Option<Frac>,
+    found: Found,
+}
+
+/// What was found without a mark.
+fn found_at(point: Vec<Frac>, combo: Option<Combo>) -> Found
+    ensures { result ≡ record { point = Some point; combo = combo; mark = None } }
+{
+    Found {
+        point: Some(point),
+        combo,
+        mark: None,
+    }
+}
+
+/// What a linear program tells; `None` where it has no point.
+fn told_by(relaxed: Relaxed) -> Option<Told>
+    ensures { result ≡ told_of relaxed }
+{
+    match relaxed {
+        Relaxed::Empty => None,
+        Relaxed::Bound {
+            point,
+            bound,
+            combo,
+        } => Some(Told {
+            bound: Some(bound),
+            found: found_at(point, Some(combo)),
+        }),
+        Relaxed::Near { point, bound } => Some(Told {
+            bound: Some(bound),
+            found: found_at(point, None),
+        }),
+        Relaxed::Falls { point } => Some(Told {
+            bound: None,
+            found: found_at(point, None),
+        }),
+        Relaxed::Unsolved { mark, point, bound } => Some(Told {
+            bound,
+            found: Found {
+                point,
+                combo: None,
+                mark: Some(mark),
+            },
+        }),
+    }
+}
+
+/// What the offer of what a point comes back as comes to; a point that doesn't come back in range is passed over. `Err`
+/// comes where memory was refused.
+fn passed_over(offered: Result<Offered, PostsolveFault>) -> Result<(), AllocError>
+    ensures { IfOk result (λ _. offered ≢ Err NoMemory) }
+{
+    match offered {
+        Ok(_) => Ok(()),
+        Err(PostsolveFault::Wide) => Ok(()),
+        Err(PostsolveFault::NoMemory) => Err(AllocError),
+    }
+}
+
 /// Offers what a point of a linear program comes back as, if it has whole values on whole columns; a point that doesn't
 /// come back in range is passed over. `Err` comes where memory was refused.
 fn offer_whole(
@@ -58,11 +123,7 @@ fn offer_whole(
     if !are_whole(reduced.whole(), point) {
         return Ok(());
     }
-    match core.offer_back(alloc, node, point) {
-        Ok(_) => Ok(()),
-        Err(PostsolveFault::Wide) => Ok(()),
-        Err(PostsolveFault::NoMemory) => Err(AllocError),
-    }
+    passed_over(core.offer_back(alloc, node, point))
 }
 
 /// Offers what a point comes back as, if there is one and it has whole values on whole columns, as `offer_whole` does.
@@ -92,11 +153,43 @@ fn raise_if(core: &Core<'_>, node: &mut Node, bound: Option<Frac>)
     requires holds { IfSome bound
         (IsBoundIn (reduced_of core.now) (held_of core.now) (box_of core.now.tree node.old)) }
     ensures later { IsLaterAt core.now node.old core.now node.new }
+    ensures raised { IfSome bound (λ b. IsRaisedTo core.now b node.new.bound) }
     ensures node { node.new ≡ record node.old { bound = node.new.bound } }
 {
     match bound {
         None => {}
         Some(bound) => core.raise(node, bound),
+    }
+}
+
+/// What the linear program of a node in work leaves of it: its bound rises to what that shows, also beside a mark, and
+/// what a point that is whole on whole columns comes back as is offered. `Err` comes where memory was refused.
+fn leave(
+    core: &mut Core<'_>,
+    alloc: Global,
+    node: &mut Node,
+    relaxed: Relaxed,
+) -> Result<Bounded, AllocError>
+    requires at_work { IsAtWork core.old node.old }
+    requires relaxed { IsRelaxedOf core.old relaxed }
+    ensures later { IsLaterAt core.old node.old core.new node.new }
+    ensures bounded { IfOk result (IsBounded core.new node.new) }
+    ensures region { region_of core.new.tree node.new ≡ region_of core.old.tree node.old }
+    ensures frame { core.new ≡ record core.old { tree = core.new.tree; incumbent = core.new.incumbent } }
+{
+    core.is_sound();
+    match told_by(relaxed) {
+        None => Ok(Bounded::Empty),
+        Some(Told { bound, found }) => {
+            raise_if(core, node, bound);
+            match offer_if(core, alloc, node, &found.point) {
+                Ok(()) => Ok(Bounded::Open(found)),
+                Err(error) => {
+                    drop(found);
+                    Err(error)
+                }
+            }
+        }
     }
 }
 
@@ -124,48 +217,7 @@ impl<'a> NodeWork<'a> {
         ensures region { region_of self.new.core.tree node.new ≡ region_of self.old.core.tree node.old }
         ensures rows { HasSameRows self.old.core self.new.core }
     {
-        self.core.is_sound();
-        match self.relaxed(alloc, node)? {
-            Relaxed::Empty => Ok(Bounded::Empty),
-            Relaxed::Bound {
-                point,
-                bound,
-                combo,
-            } => {
-                self.core.raise(node, bound);
-                offer_whole(&mut self.core, alloc, node, point.as_slice())?;
-                Ok(Bounded::Open(Found {
-                    point: Some(point),
-                    combo: Some(combo),
-                    mark: None,
-                }))
-            }
-            Relaxed::Near { point, bound } => {
-                self.core.raise(node, bound);
-                offer_whole(&mut self.core, alloc, node, point.as_slice())?;
-                Ok(Bounded::Open(Found {
-                    point: Some(point),
-                    combo: None,
-                    mark: None,
-                }))
-            }
-            Relaxed::Falls { point } => {
-                offer_whole(&mut self.core, alloc, node, point.as_slice())?;
-                Ok(Bounded::Open(Found {
-                    point: Some(point),
-                    combo: None,
-                    mark: None,
-                }))
-            }
-            Relaxed::Unsolved { mark, point, bound } => {
-                raise_if(&self.core, node, bound);
-                offer_if(&mut self.core, alloc, node, &point)?;
-                Ok(Bounded::Open(Found {
-                    point,
-                    combo: None,
-                    mark: Some(mark),
-                }))
-            }
-        }
+        let relaxed = self.relaxed(alloc, node)?;
+        leave(&mut self.core, alloc, node, relaxed)
     }
 }

@@ -6,7 +6,7 @@ ghost use Rattle.cip_node.specs.Looking.{CanWorkOn, IsLeafNode, IsOpenNode};
 ghost use Rattle.cip_node.specs.NodeEnds.{HasEnded, IsLeafEnd};
 ghost use Rattle.cip_node.specs.SameRows.{HasSameRows};
 
-use crate::bounding::Bounded;
+use crate::bounding::{Bounded, Found};
 use crate::ends::{NodeEnd, NodeRecord};
 use crate::leaves::solve_leaf;
 use crate::settling::settle;
@@ -78,10 +78,15 @@ impl<'a> NodeWork<'a> {
             }
             Ok(Bounded::Open(found)) => {
                 let ended = self.branch(node, given, &found);
-                self.starts.note(found.point);
+                let Found { point, combo, mark } = found;
+                self.starts.note(point);
+                drop(combo);
                 match ended {
-                    Err(error) => Err(error),
-                    Ok(end) => Ok((end, NodeRecord { mark: found.mark })),
+                    Err(error) => {
+                        drop(mark);
+                        Err(error)
+                    }
+                    Ok(end) => Ok((end, NodeRecord { mark })),
                 }
             }
         }

@@ -42,13 +42,13 @@ impl<'a> NodeWork<'a> {
         ensures region { region_of self.new.core.tree node.new ≡ region_of self.old.core.tree node.old }
         ensures rows { HasSameRows self.old.core self.new.core }
     {
-        let mut last = self.bound(alloc, node)?;
         for _ in 0..MOST_ROUNDS {
+            let last = self.bound(alloc, node)?;
             if !self.add_rows(node, &last) {
                 return Ok(last);
             }
-            last = self.bound(alloc, node)?;
+            drop(last);
         }
-        Ok(last)
+        self.bound(alloc, node)
     }
 }

@@ -3,6 +3,7 @@
 
 mod asking;
 mod boxed;
+mod called;
 mod kinds;
 mod kits;
 mod plugins;

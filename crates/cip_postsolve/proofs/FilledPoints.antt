@@ -147,6 +147,9 @@ pub all_taken : (forms : List (Option Form)) (whole : List Bool) (point all tota
 all_taken forms whole point all total k l h =
     sym (append-nil all) ∙ ap (λ t. all ++ t) (sym (none_left forms whole point (drop k point) k (shorter _ _ k l))) ∙ h
 
+pub below_both : (end one other k : ℕ) → end ≡ min one other → k < end → (k < one) × (k < other)
+below_both end one other k e l = (omega (arith, e, l), omega (arith, e, l))
+
 fits_one : (forms : List (Option Form)) (whole : List Bool) (point : List ℚ) (k : ℕ) (o : Option Form) → WholesFit forms whole point → slice_get forms k ≡ Some o → slice_get whole k ≡ Some true → IsOk (value_outcome o point k)
 fits_one forms whole point k None f g h = refl
 fits_one forms whole point k (Some form) f g h = f k form g h

@@ -1,6 +1,6 @@
 -- Values put at the places of the columns that take one.
 use Rattle.std.proofs.Common.{◌≡◌, ℕ, zero, suc, ◌+◌, ◌<◌, ◌≤◌, Bool, true, false, List, [], ◌∷◌, ◌++◌, length, drop, Option, None, Some, refl, sym, ap, ◌∙◌, arith, add-one, append_assoc, append-nil}
-use Rattle.std.specs.Prelude.{map, is_none}
+use Rattle.std.specs.Prelude.{map, is_none, is_some, not}
 use Rattle.std.proofs.Math.ListN.{get_or}
 use Rattle.cip_rational.specs.Rational.{ℚ, zeroℚ}
 use Rattle.cip_equalities.specs.Forms.{Form, placed, gathered}
@@ -19,6 +19,23 @@ none_next (x ∷ xs) zero l = absurd (omega (arith, l))
 none_next (x ∷ xs) (suc k) l = none_next xs k (omega (arith, l))
 
 -- ---- flags
+
+-- the test that tells that there is none
+pub not_some : (o : Option Form) (r : Bool) → is_some o ≡ not r → r ≡ is_none o
+not_some None true e = refl
+not_some None false e = e
+not_some (Some x) true e = e
+not_some (Some x) false e = refl
+
+pub one_left : (forms : List (Option Form)) (left new all : List Bool) (k : ℕ) (o d : Option Form) → k < length forms → get_or forms k d ≡ o → left ++ map is_none (drop k forms) ≡ all → new ≡ left ++ is_none o ∷ [] → new ++ map is_none (drop (k + 1) forms) ≡ all
+one_left forms left new all k o d l g h e =
+    rw add-one
+    (ap (λ t. t ++ map is_none (drop (suc k) forms)) e
+    ∙ append_assoc left (is_none o ∷ []) (map is_none (drop (suc k) forms))
+    ∙ ap (λ fs. left ++ map is_none fs) (sym (next_of forms k o d l g)) ∙ h)
+
+pub all_left : (forms : List (Option Form)) (left all : List Bool) (k : ℕ) → length forms ≤ k → left ++ map is_none (drop k forms) ≡ all → left ≡ all
+all_left forms left all k l h = sym (append-nil left) ∙ ap (λ fs. left ++ map is_none fs) (sym (none_next forms k l)) ∙ h
 
 later_drop : (k : ℕ) (whole : List Bool) → drop (suc k) whole ≡ later_flags (drop k whole)
 later_drop zero [] = refl
@@ -70,6 +87,10 @@ one_placed takes values point new all k at after t d l g h e f =
 pub all_placed : (takes : List Bool) (values point all : List ℚ) (k at : ℕ) → length takes ≤ k → point ++ with_wholes (drop k takes) (drop at values) ≡ all → point ≡ all
 all_placed takes values point all k at l h =
     sym (append-nil point) ∙ ap (λ ts. point ++ with_wholes ts (drop at values)) (sym (none_next takes k l)) ∙ h
+
+-- the places of the values don't pass those of the columns
+pub few_behind : (at column behind : ℕ) → at ≤ column → behind ≤ at + 1 → behind ≤ column + 1
+few_behind at column behind h l = omega (arith, h, l)
 
 pub ruleset placing = (one_placed, all_placed)
 

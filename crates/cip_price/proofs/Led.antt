@@ -1,11 +1,14 @@
 -- Rounds, one after another.
-use Rattle.std.proofs.Common.{◌≡◌, ℕ, suc, ◌<◌, List, [], ◌++◌, Option, None, Some, sym, subst, arith}
+use Rattle.std.proofs.Common.{◌≡◌, ℕ, suc, ◌<◌, ◌≤◌, length, List, [], ◌++◌, Option, None, Some, sym, subst, arith}
 use Rattle.cip_rational.specs.Rational.{ℚ}
 use Rattle.cip_columns.specs.PoolPoints.{PoolPoint}
 use Rattle.cip_master_prices.specs.MasterTasks.{Task}
 use Rattle.cip_price_rounds.specs.Asks.{Asked, Told, Tells}
-use Rattle.cip_price_rounds.specs.PriceRounds.{told_in}
-use Rattle.cip_price_rounds.proofs.Telling.{tells_none, tells_from, front_none, front_behind, may_none, told_both}
+use Rattle.cip_price_rounds.specs.PriceRounds.{told_in, AreAll, IsRound}
+use Rattle.cip_price_rounds.specs.declared.offering.Growth.{Growth}
+use Rattle.cip_price_rounds.specs.declared.offering.Growth.TheVariants.{Same, Grown, Full}
+use Rattle.cip_price_rounds.specs.declared.rounds.Round.{Round}
+use Rattle.cip_price_rounds.proofs.Telling.{tells_none, tells_from, front_none, front_all, front_behind, may_none, told_both}
 use Rattle.cip_price.specs.PricedRounds.{Ran, None_asked, with_cause, Ends, Out_of_rounds, Is_unsolved, IsRunBy, IsCutShort}
 use Rattle.cip_price.specs.Worked.{IsStep, At_cause, At_round, MayStep}
 use Rattle.cip_price.specs.declared.answers.PriceAnswer.{PriceAnswer}
@@ -122,3 +125,20 @@ cut_short limit task told middle telling first points best n r m = record {
   few = m.few;
   tells = front_behind told middle telling (told_in task r.asks) (told_in task m.asks) r.tells m.tells;
 }
+
+-- a whole round behind which memory was refused
+pub round_may : (task : Task) (rests prices : List ℚ) (told telling : Option (List Told)) (points next : List PoolPoint)
+    (round : Round) → IsRound task rests prices told telling points next round → MayStep task told telling
+round_may task rests prices told telling points next round r = record {
+  rests = rests;
+  asks = r.asks;
+  are_asks = r.are_asks;
+  few = few round.growth r.all;
+  tells = front_all told telling (told_in task r.asks) r.tells;
+}
+  where
+    few : (growth : Growth) → AreAll task prices r.asks round growth
+        → length r.asks ≤ length task.kept.subproblems.items
+    few Same all = omega (arith, all.0)
+    few Grown all = omega (arith, all.0)
+    few Full all = all

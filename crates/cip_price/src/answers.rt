@@ -12,7 +12,7 @@ pub struct PriceLimits {
 }
 
 /// Why pricing isn't closed.
-#[derive(Clone, Copy, Debug, PartialEq, Eq)]
+#[derive(Clone, Copy, PartialEq, Eq)]
 pub enum PriceCause {
     /// As many rounds as are allowed were asked, and each added a point.
     Rounds,

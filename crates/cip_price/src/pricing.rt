@@ -1,10 +1,10 @@
 //! Pricing.
-ghost use Rattle.std.specs.Prelude.{[], IfOk, MatchResult};
+ghost use Rattle.std.specs.Prelude.{◌≡◌, [], None, IfOk, MatchResult};
 ghost use Rattle.cip_master_prices.specs.MasterTasks.{IsTask};
 ghost use Rattle.cip_price_rounds.specs.PriceTasks.{task_at};
 ghost use Rattle.cip_price_rounds.specs.OfferedPoints.{Grows};
 ghost use Rattle.cip_price.specs.PriceAnswers.{PriceHolds};
-ghost use Rattle.cip_price.specs.PricedRounds.{IsPricedBy, IsCutShort};
+ghost use Rattle.cip_price.specs.PricedRounds.{IsRunBy, IsPricedBy, IsCutShort};
 ghost use Rattle.cip_master.specs.MasterAnswers.{IsPriced, IsFarkas};
 ghost use Rattle.cip_price.specs.RoundEnds.{IsRoundBehind};
 ghost use Rattle.cip_price.specs.Worked.{IsReady, BestHolds, StandsBehind, IsStep, MayStep};
@@ -30,7 +30,6 @@ struct Mixed {
 }
 
 /// One round at prices: what is answered behind it, if no further one is to be asked.
-#[tactic(auto, using(cip_price_rounds::proofs::Telling::front_all))]
 fn round_at_prices<A: AskPricer>(
     alloc: Global,
     task: &PriceTask<'_>,
@@ -131,6 +130,34 @@ fn one_round<A: AskPricer>(
     }
 }
 
+/// The rounds, at most so many: what is answered behind the first that ends them, or behind the last.
+fn price_in_rounds<A: AskPricer>(
+    alloc: Global,
+    task: &PriceTask<'_>,
+    pool: &mut ColumnPool,
+    asker: &mut A,
+    limits: PriceLimits,
+    work: &mut PriceWork,
+) -> Result<PriceAnswer, AllocError>
+    requires task { IsTask (task_at task.now pool.old) }
+    requires ready { IsReady (task_at task.now pool.old) work.old }
+    requires best { work.old.best ≡ None }
+    ensures by { MatchResult result
+        (IsRunBy limits.moves limits.rounds (task_at task.entry.now []) (A.told asker.old) (A.told asker.new)
+        pool.old pool.new)
+        (λ _. IsCutShort limits.moves (task_at task.entry.now []) (A.told asker.old) (A.told asker.new) pool.old) }
+    ensures holds { IfOk result (PriceHolds (task_at task.entry.now []) pool.new) }
+    ensures grows { Grows pool.old pool.new }
+    ensures task { IsTask (task_at task.entry.now pool.new) }
+{
+    for _round in 0..limits.rounds {
+        if let Some(answer) = one_round(alloc, task, pool, asker, limits.moves, work)? {
+            return Ok(answer);
+        }
+    }
+    Ok(with_cause(&work.best, PriceCause::Rounds))
+}
+
 /// Prices the blocks of a program in a box, in rounds: the master program of the points that are held is solved, and
 /// each block is asked for points and a tree at what its multipliers leave of the costs. Points of the block are put
 /// into the pool, and the others are dropped, of each of which who answered is told right behind the ask; a tree counts
@@ -161,10 +188,7 @@ pub fn price<A: AskPricer>(
         return Ok(PriceAnswer::NoPoint);
     }
     let mut work = PriceWork::new(alloc, task, pool)?;
-    for _round in 0..limits.rounds {
-        if let Some(answer) = one_round(alloc, task, pool, asker, limits.moves, &mut work)? {
-            return Ok(answer);
-        }
-    }
-    Ok(with_cause(&work.best, PriceCause::Rounds))
+    let answer = price_in_rounds(alloc, task, pool, asker, limits, &mut work);
+    drop(work);
+    answer
 }

@@ -1,6 +1,6 @@
 -- A round, block by block.
 use Rattle.std.proofs.Common.{◌≡◌, ◌≢◌, ℕ, zero, suc, ◌+◌, ◌<◌, ◌≤◌, Bool, true, false, cond, ◌||◌, List, [], ◌∷◌, ◌++◌, length, Option, None, Some, refl, sym, ap, ◌∙◌, subst, arith, true≢false}
-use Rattle.std.specs.Prelude.{Vec, IfSome, IsSome}
+use Rattle.std.specs.Prelude.{Vec, IfSome, IsSome, Result, Ok, Err, OnOk, MatchResult}
 use Rattle.std.specs.Global.{Global}
 use Rattle.std.proofs.lemmas.List.{append-nil, length_push}
 use Rattle.cip_rational.specs.Rational.{ℚ}
@@ -12,14 +12,14 @@ use Rattle.cip_lagrange.specs.declared.answers.TreeBound.{TreeBound}
 use Rattle.cip_master_prices.specs.MasterTasks.{Task}
 use Rattle.cip_price_rounds.specs.Asks.{Asked, Told, Tells, MayTellTo}
 use Rattle.cip_price_rounds.specs.OfferedPoints.{Grows, AreIn, IsOffered, joint}
-use Rattle.cip_price_rounds.specs.BlockAsks.{costs_in, ask_of, points_in, tree_in, shown_by, shown_in, closes, bound_in, AcceptsTree, told_of, AnswersBlock, MayAnswer}
-use Rattle.cip_price_rounds.specs.PriceRounds.{AreAsks, told_in, first_open, is_empty_bound, shows_none, cons_tree, trees_in, AreHeldOf, IsGrown, first_gap, IsTreePut, AreTrees, IsTold, AreAll, IsRound, MayRound}
+use Rattle.cip_price_rounds.specs.BlockAsks.{costs_in, ask_at, ask_of, points_in, tree_in, shown_by, shown_in, closes, bound_in, AcceptsTree, told_of, AnswersBlock, MayAnswer}
+use Rattle.cip_price_rounds.specs.PriceRounds.{AreAsks, told_in, first_open, is_empty_bound, shows_none, cons_tree, trees_in, AreHeldOf, IsGrown, first_gap, IsTreePut, AreTrees, IsTold, IsBlockPut, AreAll, IsRound, MayRound}
 use Rattle.cip_price_rounds.specs.declared.answers.Accepted.{Accepted}
 use Rattle.cip_price_rounds.specs.declared.answers.BlockAnswer.{BlockAnswer}
 use Rattle.cip_price_rounds.specs.declared.offering.Growth.{Growth}
 use Rattle.cip_price_rounds.specs.declared.offering.Growth.TheVariants.{Same, Grown, Full}
 use Rattle.cip_price_rounds.specs.declared.rounds.Round.{Round}
-use Rattle.cip_price_rounds.proofs.Telling.{tells_none, tells_from, front_from, front_all, told_more}
+use Rattle.cip_price_rounds.proofs.Telling.{tells_none, tells_from, may_none, front_none, front_from, front_all, told_more}
 use Rattle.cip_price_rounds.proofs.Offered.{grows_by, all_grown}
 
 -- ---- asks
@@ -216,52 +216,83 @@ pub record IsRoundTo (task : Task) (rests prices : List ℚ) (told telling : Opt
   pub grown : IsGrown task asks before after round.growth
   pub is_told : IsTold task prices asks round
 
-pub record ArePut (block : ℕ) (price : ℚ) (found : BlockAnswer) (before after : Round) : Type 0 where
-  pub growth : after.growth ≡ joint before.growth found.growth
-  pub gap : after.gap ≡ first_gap before.gap block (closes price (bound_in found.accepted))
-  pub none : after.is_empty ≡ (before.is_empty || is_empty_bound (bound_in found.accepted))
-  pub trees : IsTreePut before.trees found.accepted after.trees
+-- of a block that wasn't asked nothing is told, and of one that was all there is to tell
+pub may_nothing : (task : Task) (costs : List ℚ) (block : ℕ) (told : Option (List Told)) → MayAnswer task costs block told told
+may_nothing task costs block told = record {
+  answer = None;
+  tells = front_none told told (told_of task (ask_at task costs block None)) (may_none told);
+}
+
+may_all : (task : Task) (costs : List ℚ) (block : ℕ) (told telling : Option (List Told))
+    (before after : List PoolPoint) (found : BlockAnswer) → AnswersBlock task costs block told telling before after found
+    → MayAnswer task costs block told telling
+may_all task costs block told telling before after found a = record {
+  answer = a.answer;
+  tells = front_all told telling (told_of task (ask_at task costs block a.answer)) a.tells;
+}
+
+-- one more block was asked, unless want of memory cut it short
+pub block_put : {E : Type 0} (task : Task) (rests prices : List ℚ) (block : ℕ) (price : ℚ) (told telling : Option (List Told))
+    (points next : List PoolPoint) (before after : Round) (found : BlockAnswer) (result : Result (Unit {0}) E)
+    → price ≡ value_at prices block
+    → AnswersBlock task (costs_in task rests block) block told telling points next found
+    → OnOk result (after.growth ≡ joint before.growth found.growth)
+    → OnOk result (after.gap ≡ first_gap before.gap block (closes price (bound_in found.accepted)))
+    → OnOk result (after.is_empty ≡ (before.is_empty || is_empty_bound (bound_in found.accepted)))
+    → OnOk result (IsTreePut before.trees found.accepted after.trees)
+    → MatchResult result (λ _. IsBlockPut task rests prices block told telling points next before after)
+    (λ _. MayAnswer task (costs_in task rests block) block told telling)
+block_put task rests prices block price told telling points next before after found (Ok done) e a g h n t = record {
+  found = found;
+  answers = a;
+  put = record {
+    growth = g;
+    gap = h ∙ ap (λ p. first_gap before.gap block (closes p (bound_in found.accepted))) e;
+    none = n;
+    trees = t;
+  };
+}
+block_put task rests prices block price told telling points next before after found (Err fault) e a g h n t =
+    may_all task (costs_in task rests block) block told telling points next found a
 
 module _ (task : Task) (rests prices : List ℚ) (told middle last : Option (List Told))
-    (first pool next : List PoolPoint) (before after : Round) (n : ℕ) (price : ℚ) (found : BlockAnswer)
-    (going : before.growth ≢ Full) (r : IsRoundTo task rests prices told middle first pool before n)
-    (a : AnswersBlock task (costs_in task rests n) n middle last pool next found) (price_is : price ≡ value_at prices n)
-    (put : ArePut n price found before after) where
-  shown_is : bound_in found.accepted ≡ shown_by task (costs_in task rests n) n (tree_in a.answer)
-  shown_is = shown_of task (costs_in task rests n) n (tree_in a.answer) found.accepted a.comes.accepted
+    (first pool next : List PoolPoint) (before after : Round) (n : ℕ) (going : before.growth ≢ Full)
+    (r : IsRoundTo task rests prices told middle first pool before n)
+    (b : IsBlockPut task rests prices n middle last pool next before after) where
+  shown_is : bound_in b.found.accepted ≡ shown_by task (costs_in task rests n) n (tree_in b.answers.answer)
+  shown_is = shown_of task (costs_in task rests n) n (tree_in b.answers.answer) b.found.accepted b.answers.comes.accepted
 
   pub round_more : IsRoundTo task rests prices told last first next after (n + 1)
   round_more = record {
-    asks = r.asks ++ ask_of task rests n a.answer ∷ [];
+    asks = r.asks ++ ask_of task rests n b.answers.answer ∷ [];
     are_asks =
-        subst (λ k. AreAsks task rests 0 (r.asks ++ ask_of task rests k a.answer ∷ [])) (omega arith)
-        (asks_more task rests 0 n r.asks a.answer r.long r.are_asks);
-    long = length_push r.asks (ask_of task rests n a.answer) ∙ ap (λ k. k + 1) r.long;
+        subst (λ k. AreAsks task rests 0 (r.asks ++ ask_of task rests k b.answers.answer ∷ [])) (omega arith)
+        (asks_more task rests 0 n r.asks b.answers.answer r.long r.are_asks);
+    long = length_push r.asks (ask_of task rests n b.answers.answer) ∙ ap (λ k. k + 1) r.long;
     tells =
-        subst (λ (ts : List Told). Tells told ts last) (sym (told_more task r.asks (ask_of task rests n a.answer)))
-        (tells_from told middle last (told_in task r.asks) (told_of task (ask_of task rests n a.answer)) r.tells a.tells);
+        subst (λ (ts : List Told). Tells told ts last) (sym (told_more task r.asks (ask_of task rests n b.answers.answer)))
+        (tells_from told middle last (told_in task r.asks) (told_of task (ask_of task rests n b.answers.answer)) r.tells
+        b.answers.tells);
     grown =
-        subst (IsGrown task (r.asks ++ ask_of task rests n a.answer ∷ []) first next) (sym put.growth)
-        (grown_more task r.asks (ask_of task rests n a.answer) first pool next before.growth found.growth going r.grown
-        a.comes.offered);
+        subst (IsGrown task (r.asks ++ ask_of task rests n b.answers.answer ∷ []) first next) (sym b.put.growth)
+        (grown_more task r.asks (ask_of task rests n b.answers.answer) first pool next before.growth b.found.growth going
+        r.grown b.answers.comes.offered);
     is_told = record {
       gap =
-          put.gap
-          ∙ ap (λ g. first_gap g n (closes price (bound_in found.accepted))) r.is_told.gap
-          ∙ ap (λ b. first_gap (first_open task prices r.asks) n (closes price b)) shown_is
-          ∙ ap (λ p. first_gap (first_open task prices r.asks) n
-          (closes p (shown_by task (costs_in task rests n) n (tree_in a.answer)))) price_is
-          ∙ sym (open_more task prices r.asks (ask_of task rests n a.answer));
+          b.put.gap
+          ∙ ap (λ g. first_gap g n (closes (value_at prices n) (bound_in b.found.accepted))) r.is_told.gap
+          ∙ ap (λ t. first_gap (first_open task prices r.asks) n (closes (value_at prices n) t)) shown_is
+          ∙ sym (open_more task prices r.asks (ask_of task rests n b.answers.answer));
       none =
-          put.none
-          ∙ ap (λ t. t || is_empty_bound (bound_in found.accepted)) r.is_told.none
-          ∙ ap (λ b. shows_none task r.asks || is_empty_bound b) shown_is
-          ∙ sym (none_more task r.asks (ask_of task rests n a.answer));
+          b.put.none
+          ∙ ap (λ t. t || is_empty_bound (bound_in b.found.accepted)) r.is_told.none
+          ∙ ap (λ t. shows_none task r.asks || is_empty_bound t) shown_is
+          ∙ sym (none_more task r.asks (ask_of task rests n b.answers.answer));
       trees =
           subst (λ (ts : Option (List BoundTree)). AreTrees ts after.trees)
-          (sym (trees_more task r.asks (ask_of task rests n a.answer)))
-          (trees_put task (costs_in task rests n) n (tree_in a.answer) (trees_in task r.asks) before.trees found.accepted
-          after.trees r.is_told.trees a.comes.accepted put.trees);
+          (sym (trees_more task r.asks (ask_of task rests n b.answers.answer)))
+          (trees_put task (costs_in task rests n) n (tree_in b.answers.answer) (trees_in task r.asks) before.trees
+          b.found.accepted after.trees r.is_told.trees b.answers.comes.accepted b.put.trees);
     };
   }
 
@@ -314,17 +345,7 @@ round_full task rests prices told telling before after round n l e r = record {
   all = subst (AreAll task prices r.asks round) (sym e) (omega (arith, r.long, l));
 }
 
--- want of memory cut it short: before a block was asked, or behind the ask
-pub round_stopped : (task : Task) (rests prices : List ℚ) (told telling : Option (List Told))
-    (before after : List PoolPoint) (round : Round) (n : ℕ) → n < length task.kept.subproblems.items
-    → IsRoundTo task rests prices told telling before after round n → MayRound task rests told telling
-round_stopped task rests prices told telling before after round n l r = record {
-  asks = r.asks;
-  are_asks = r.are_asks;
-  few = omega (arith, r.long, l);
-  tells = front_all told telling (told_in task r.asks) r.tells;
-}
-
+-- want of memory cut it short
 pub round_cut : (task : Task) (rests prices : List ℚ) (told middle last : Option (List Told))
     (first pool : List PoolPoint) (round : Round) (n : ℕ) → n < length task.kept.subproblems.items
     → IsRoundTo task rests prices told middle first pool round n
@@ -339,13 +360,3 @@ round_cut task rests prices told middle last first pool round n l r m = record {
       subst (λ (ts : List Told). MayTellTo [] ts told last) (sym (told_more task r.asks (ask_of task rests n m.answer)))
       (front_from told middle last (told_in task r.asks) (told_of task (ask_of task rests n m.answer)) r.tells m.tells);
 }
-
-pub round_unput : (task : Task) (rests prices : List ℚ) (told middle last : Option (List Told))
-    (first pool next : List PoolPoint) (round : Round) (n : ℕ) (found : BlockAnswer)
-    → n < length task.kept.subproblems.items → IsRoundTo task rests prices told middle first pool round n
-    → AnswersBlock task (costs_in task rests n) n middle last pool next found → MayRound task rests told last
-round_unput task rests prices told middle last first pool next round n found l r a =
-    round_cut task rests prices told middle last first pool round n l r (record {
-      answer = a.answer;
-      tells = front_all middle last (told_of task (ask_of task rests n a.answer)) a.tells;
-    })

@@ -10,11 +10,12 @@ use Rattle.cip_lagrange.specs.declared.answers.TreeBound.{TreeBound}
 use Rattle.cip_lagrange.specs.declared.answers.TreeBound.TheVariants.{Finite, NoPoint}
 use Rattle.cip_master_prices.specs.MasterTasks.{Task}
 use Rattle.cip_price_rounds.specs.Asks.{Asked, Told, Tells, MayTellTo}
-use Rattle.cip_price_rounds.specs.OfferedPoints.{Grows, AreIn, IsLeftOut}
-use Rattle.cip_price_rounds.specs.BlockAsks.{ask_of, points_in, tree_in, told_of, shown_in, closes}
+use Rattle.cip_price_rounds.specs.OfferedPoints.{Grows, AreIn, IsLeftOut, joint}
+use Rattle.cip_price_rounds.specs.BlockAsks.{costs_in, ask_of, points_in, tree_in, told_of, shown_in, closes, bound_in, AnswersBlock}
 use Rattle.cip_price_rounds.specs.declared.offering.Growth.{Growth}
 use Rattle.cip_price_rounds.specs.declared.offering.Growth.TheVariants.{Same, Grown, Full}
 use Rattle.cip_price_rounds.specs.declared.answers.Accepted.{Accepted}
+use Rattle.cip_price_rounds.specs.declared.answers.BlockAnswer.{BlockAnswer}
 use Rattle.cip_price_rounds.specs.declared.rounds.Round.{Round}
 
 -- each is the ask of its block at what is left of the costs, the blocks counted from a first one
@@ -92,6 +93,20 @@ IsTreePut None accepted after = after ≡ None
 IsTreePut (Some trees) None after = after ≡ None
 IsTreePut (Some trees) (Some accepted) None = ⊥
 IsTreePut (Some trees) (Some accepted) (Some after) = after.items ≡ trees.items ++ accepted.tree ∷ []
+
+-- what came of the answer for one more block, at this price
+pub record ArePut (block : ℕ) (price : ℚ) (found : BlockAnswer) (before after : Round) : Type 0 where
+  pub growth : after.growth ≡ joint before.growth found.growth
+  pub gap : after.gap ≡ first_gap before.gap block (closes price (bound_in found.accepted))
+  pub none : after.is_empty ≡ (before.is_empty || is_empty_bound (bound_in found.accepted))
+  pub trees : IsTreePut before.trees found.accepted after.trees
+
+-- one more block was asked, and what came of its answer is put
+pub record IsBlockPut (task : Task) (rests prices : List ℚ) (block : ℕ) (told telling : Option (List Told))
+    (points next : List PoolPoint) (before after : Round) : Type 0 where
+  pub found : BlockAnswer
+  pub answers : AnswersBlock task (costs_in task rests block) block told telling points next found
+  pub put : ArePut block (value_at prices block) found before after
 
 -- these are the trees, if there are any
 abbrev pub AreTrees : Option (List BoundTree) → Option (Vec BoundTree Global) → Type 0

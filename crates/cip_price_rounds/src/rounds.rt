@@ -1,11 +1,11 @@
 //! A round: each block is asked.
-ghost use Rattle.std.specs.Prelude.{◌≡◌, ◌||◌, false, [], None, length, IfOk, OnOk, IfSome, IsSome, MatchResult};
+ghost use Rattle.std.specs.Prelude.{◌≡◌, ◌<◌, ◌||◌, false, [], None, length, IfOk, OnOk, IfSome, IsSome, MatchResult};
 ghost use Rattle.cip_problem.specs.WellFormed.{columns};
 ghost use Rattle.cip_master_prices.specs.MasterTasks.{IsTask};
 ghost use Rattle.cip_price_rounds.specs.PriceTasks.{task_at};
 ghost use Rattle.cip_price_rounds.specs.OfferedPoints.{Grows, joint};
-ghost use Rattle.cip_price_rounds.specs.BlockAsks.{closes, bound_in};
-ghost use Rattle.cip_price_rounds.specs.PriceRounds.{is_empty_bound, first_gap, IsTreePut, IsRound, MayRound};
+ghost use Rattle.cip_price_rounds.specs.BlockAsks.{closes, bound_in, costs_in, AnswersBlock, MayAnswer};
+ghost use Rattle.cip_price_rounds.specs.PriceRounds.{is_empty_bound, first_gap, IsTreePut, IsBlockPut, IsRound, MayRound};
 
 use crate::answers::{Accepted, BlockAnswer};
 use crate::asker::AskPricer;
@@ -137,6 +137,72 @@ impl Round {
     }
 }
 
+/// What the blocks of a round are asked with.
+#[derive(Clone, Copy)]
+struct RoundAsk<'a> {
+    alloc: Global,
+    task: &'a PriceTask<'a>,
+    shown: &'a Shown,
+}
+
+impl RoundAsk<'_> {
+    /// Asks a block, as `BlockAsk::ask` does.
+    fn block_answer<A: AskPricer>(
+        &self,
+        pool: &mut ColumnPool,
+        asker: &mut A,
+        scratch: &mut Scratch,
+        block: u32,
+    ) -> Result<BlockAnswer, AllocError>
+        requires task { IsTask (task_at self.now.task.now pool.old) }
+        requires rests { length self.now.shown.now.rests.items ≡ columns self.now.task.now.program.now }
+        requires block { block < length self.now.task.now.blocks.now.subproblems.items }
+        requires room { length scratch.old.row.entries ≡ columns self.now.task.now.program.now }
+        ensures asked { let task = task_at self.entry.now.task.now [] in
+            let costs = costs_in task self.entry.now.shown.now.rests.items block in
+            MatchResult result
+            (AnswersBlock task costs block (A.told asker.old) (A.told asker.new) pool.old pool.new)
+            (λ _. MayAnswer task costs block (A.told asker.old) (A.told asker.new)) }
+        ensures grows { Grows pool.old pool.new }
+        ensures task { IsTask (task_at self.entry.now.task.now pool.new) }
+        ensures room { length scratch.new.row.entries ≡ length scratch.old.row.entries }
+    {
+        let mut ask = BlockAsk::new(self.alloc, self.task, self.shown.rests.as_slice(), block)?;
+        let answer = ask.ask(self.alloc, self.task, pool, asker, scratch);
+        drop(ask);
+        answer
+    }
+
+    /// Asks the next block, and puts what comes of its answer.
+    fn ask_next<A: AskPricer>(
+        &self,
+        pool: &mut ColumnPool,
+        asker: &mut A,
+        scratch: &mut Scratch,
+        block: u32,
+        round: &mut Round,
+    ) -> Result<(), AllocError>
+        requires task { IsTask (task_at self.now.task.now pool.old) }
+        requires rests { length self.now.shown.now.rests.items ≡ columns self.now.task.now.program.now }
+        requires prices { length self.now.shown.now.prices.items
+            ≡ length self.now.task.now.blocks.now.subproblems.items }
+        requires block { block < length self.now.task.now.blocks.now.subproblems.items }
+        requires room { length scratch.old.row.entries ≡ columns self.now.task.now.program.now }
+        ensures put { let task = task_at self.entry.now.task.now [] in
+            let shown = self.entry.now.shown.now in
+            MatchResult result
+            (λ _. IsBlockPut task shown.rests.items shown.prices.items block (A.told asker.old) (A.told asker.new)
+            pool.old pool.new round.old round.new)
+            (λ _. MayAnswer task (costs_in task shown.rests.items block) block (A.told asker.old) (A.told asker.new)) }
+        ensures grows { Grows pool.old pool.new }
+        ensures task { IsTask (task_at self.entry.now.task.now pool.new) }
+        ensures room { length scratch.new.row.entries ≡ length scratch.old.row.entries }
+    {
+        let found = self.block_answer(pool, asker, scratch, block)?;
+        round.put(block, self.shown.prices[block as usize], found)
+    }
+}
+
 /// Asks each block in order for points and a tree, at what multipliers leave of the costs: points of the block are put
 /// into the pool, the others are dropped, of each of which who answered is told right behind the ask; a tree counts
 /// where its check accepts it. A round ends behind the answer for which the pool hasn't room. `Err` comes where memory
@@ -162,11 +228,16 @@ pub fn ask_blocks<A: AskPricer>(
     ensures room { length scratch.new.row.entries ≡ length scratch.old.row.entries }
 {
     let _blocks = task.program.columns();
+    let asks = RoundAsk { alloc, task, shown };
     let mut round = Round::new(alloc);
     for at in 0..task.blocks.subproblems.len() {
-        let mut ask = BlockAsk::new(alloc, task, shown.rests.as_slice(), at as u32)?;
-        let found = ask.ask(alloc, task, pool, asker, scratch)?;
-        round.put(at as u32, shown.prices[at], found)?;
+        match asks.ask_next(pool, asker, scratch, at as u32, &mut round) {
+            Ok(()) => (),
+            Err(error) => {
+                drop(round);
+                return Err(error);
+            }
+        }
         if is_full(round.growth) {
             return Ok(round);
         }

@@ -16,7 +16,7 @@ use cip_price::{AskPricer, PointVerdict, PriceCause, PriceLimits};
 use std::alloc::{AllocError, Global};
 
 /// A point that is dropped.
-#[derive(Clone, Copy, Debug, PartialEq, Eq)]
+#[derive(Clone, Copy, PartialEq, Eq)]
 struct Note {
     block: u32,
     place: usize,

@@ -16,7 +16,7 @@ use cip_model::Program;
 use std::alloc::{AllocError, Global};
 
 /// What is answered.
-#[derive(Clone, Copy, Debug, PartialEq, Eq)]
+#[derive(Clone, Copy, PartialEq, Eq)]
 enum Told {
     /// A mixture at this cost.
     Cost(Frac),

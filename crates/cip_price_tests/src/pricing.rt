@@ -19,7 +19,7 @@ use cip_price::{AskPricer, MasterCause, PriceAnswer, PriceCause, PriceLimits, Pr
 use std::alloc::{AllocError, Global};
 
 /// What is answered; a bound or a cost as numerator and denominator.
-#[derive(Clone, Copy, Debug, PartialEq, Eq)]
+#[derive(Clone, Copy, PartialEq, Eq)]
 pub enum Told {
     /// It is closed at this cost.
     Closed(i128, i128),

@@ -18,7 +18,7 @@ use Rattle.cip_turns.specs.Later.{IsLater, IsLaterAt}
 use Rattle.cip_turns.specs.Steps.{IsTried, IsTriedBack}
 use Rattle.cip_turns.proofs.PassedOn.{work_long}
 use Rattle.cip_turns.proofs.PassedOn.{no_dearer_trans}
-use Rattle.cip_node.specs.Bounding.{IsAsGood, HasTried, point_of, IsFound}
+use Rattle.cip_node.specs.Bounding.{IsAsGood, HasTried, point_of, IsFound, IsBounded}
 use Rattle.cip_node_rules.specs.declared.looks.Looked.{Looked}
 use Rattle.cip_node_rules.specs.declared.looks.Looked.TheVariants as look
 use Rattle.cip_node.specs.Looking.{IsLook, IsOpenNode}
@@ -28,7 +28,10 @@ use Rattle.cip_turns.specs.Noted.{IsSameNode}
 use Rattle.cip_turns.specs.Round.TheVariants as rounds
 use Rattle.cip_turns.specs.Came.{Came}
 use Rattle.cip_turns.specs.Came.TheVariants as came
-use Rattle.cip_processing.specs.NodesReached.{IsFoundAt, IsFoundBy, IsSeen}
+use Rattle.cip_turns.specs.Enforcing.{IsVerdict}
+use Rattle.cip_turns.specs.declared.enforcing.Verdict.{Verdict}
+use Rattle.cip_turns.specs.declared.enforcing.Verdict.TheVariants as said
+use Rattle.cip_processing.specs.NodesReached.{IsFoundAt, IsFoundBy, IsOpenBounded, left_by, IsReachedIf, reached_by, IsSeen}
 
 module _ (old new : CoreState) (later : IsLater old new) (pool : new.pool ≡ old.pool) (box : List Sides) where
   good_later : (bound : Option ℚ) (mark : Option Mark) → IsAsGood old box bound mark → IsAsGood new box bound mark
@@ -84,6 +87,14 @@ found_long core node found formed at_work h =
     subst (λ (n : ℕ). IfSome (point_of found) (λ values. length values ≡ n))
     (sym (ap (λ (r : Region). length r.box) at_work.region) ∙ work_long core node formed at_work) h.long
 
+-- ---- by what handlers said
+
+pub decided : (old new : CoreState) (had has : TakenNode) (found : Found) (verdict : Verdict) → IsLaterAt old had new has → IsOpenNode old had → IsFoundAt old had found → IsVerdict old new had has verdict → IsReachedIf new has (reached_by found verdict)
+decided old new had has found said.Quiet l o f v = (open_stays old new had has l v.same o, found_stays old new had has found l v.pool v.same f)
+decided old new had has found said.Emptied l o f v = v
+decided old new had has found said.Changed l o f v = tt
+decided old new had has found (said.Place split) l o f v = (open_stays old new had has l v.0.same o, found_stays old new had has found l v.0.pool v.0.same f, v.1)
+
 -- ---- by what came of a round
 
 pub found_open : (what : Came) (core : CoreState) (node : TakenNode) (found : Found) → what ≢ came.Emptied → IsFoundBy what core node found → IsFoundAt core node found
@@ -95,6 +106,18 @@ pub found_by : (what : Came) (core : CoreState) (node : TakenNode) (found : Foun
 found_by came.Emptied core node found other h = absurd (other refl)
 found_by came.Quiet core node found other h = h
 found_by came.Accepted core node found other h = h
+
+-- what rounds leave is what their last linear program leaves
+pub bounded_by : (what : Came) (core : CoreState) (node : TakenNode) (found : Found) → IsFoundBy what core node found → IsBounded core node (left_by what found)
+bounded_by came.Emptied core node found h = h
+bounded_by came.Quiet core node found h = h
+bounded_by came.Accepted core node found h = h
+
+-- it is left open where none showed that it has no improving point
+pub open_by : (what : Came) (found : Found) → IsOpenBounded (left_by what found) → what ≢ came.Emptied
+open_by came.Emptied found h = absurd h
+open_by came.Quiet found h = λ e. cc
+open_by came.Accepted found h = λ e. cc
 
 -- ---- looks
 

@@ -18,6 +18,8 @@ use Rattle.cip_turns.specs.Judged.{Judged}
 use Rattle.cip_turns.specs.Served.{Used}
 use Rattle.cip_turns.specs.Came.{Came}
 use Rattle.cip_turns.specs.Came.TheVariants as came
+use Rattle.cip_turns.specs.declared.enforcing.Verdict.{Verdict}
+use Rattle.cip_turns.specs.declared.enforcing.Verdict.TheVariants as said
 use Rattle.cip_processing.specs.declared.reached.Reached.{Reached}
 use Rattle.cip_processing.specs.declared.reached.Reached.TheVariants as stage
 
@@ -38,6 +40,12 @@ abbrev pub IsOpenBounded : Bounded → Type 0
 IsOpenBounded solved.Empty = ⊥
 IsOpenBounded (solved.Open found) = Unit {0}
 
+-- what rounds leave of a node, by what came of the last one and by what its linear program found
+abbrev pub left_by : Came → Found → Bounded
+left_by came.Emptied found = solved.Empty
+left_by came.Quiet found = solved.Open found
+left_by came.Accepted found = solved.Open found
+
 -- what another look at its box comes to
 abbrev pub IsSeen : CoreState → TakenNode → Looked → Type 0
 IsSeen core node look.Empty = IsShownEmpty core node
@@ -56,6 +64,13 @@ IsReached core node (stage.Place found split) =
 abbrev pub IsReachedIf : CoreState → TakenNode → Option Reached → Type 0
 IsReachedIf core node None = Unit {0}
 IsReachedIf core node (Some reached) = IsReached core node reached
+
+-- what an open node comes to by what handlers said: it goes back to its sides where a side or a row was accepted
+abbrev pub reached_by : Found → Verdict → Option Reached
+reached_by found said.Quiet = Some (stage.Open found)
+reached_by found said.Emptied = Some stage.Empty
+reached_by found said.Changed = None
+reached_by found (said.Place split) = Some (stage.Place found split)
 
 -- ---- steps of a node, which may be in work or not yet
 

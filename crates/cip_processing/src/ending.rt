@@ -66,12 +66,16 @@ fn end_by_rule(
     ensures pool { work.new.core.pool ≡ work.old.core.pool }
 {
     let ended = work.branch(node, given, &found);
-    work.starts.keep(found.point, found.combo);
+    let Found { point, combo, mark } = found;
+    work.starts.keep(point, combo);
     match ended {
-        Err(error) => Err(error),
+        Err(error) => {
+            drop(mark);
+            Err(error)
+        }
         Ok(end) => Ok(Done {
             end,
-            mark: found.mark,
+            mark,
             proposed: false,
             taken: false,
         }),
@@ -127,6 +131,7 @@ fn end_open<R: Asks>(
     match ask_rules(plugins, alloc, &work.core, &node, last_of(&found)) {
         Err(error) => {
             work.core.go_back(node, given);
+            drop(found);
             Err(error)
         }
         Ok(None) => end_by_rule(work, node, given, found),

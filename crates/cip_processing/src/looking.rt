@@ -9,7 +9,7 @@ ghost use Rattle.cip_turns.specs.Served.{Used};
 ghost use Rattle.cip_processing.specs.NodesReached.{IsSeen};
 
 use crate::telling::{last_kept, tell_now};
-use cip_node::NodeWork;
+use cip_node::Starts;
 use cip_node_rules::{Looked, look_at};
 use cip_tree::Node;
 use cip_turns::{Asks, Came, Core, Plugins};
@@ -32,25 +32,26 @@ fn look_again(core: &Core<'_>, node: &Node) -> Looked
 /// whichever node. `Err` comes where memory was refused.
 pub(crate) fn narrow<R: Asks>(
     alloc: Global,
-    work: &mut NodeWork<'_>,
+    core: &mut Core<'_>,
+    starts: &Starts,
     plugins: &mut Plugins<R>,
     node: &mut Node,
 ) -> Result<Looked, AllocError>
-    requires ready { IsReady work.old.core node.old plugins.old.scratches
+    requires ready { IsReady core.old node.old plugins.old.scratches
         × IsSound (R.state plugins.old.roster) (R.room plugins.old.roster) }
-    ensures come { HasCome work.old.core node.old (R.state plugins.old.roster) work.new.core node.new
+    ensures come { HasCome core.old node.old (R.state plugins.old.roster) core.new node.new
         plugins.new.scratches (R.state plugins.new.roster) (R.room plugins.new.roster) }
     ensures used { IfOk result (λ looked. looked ≢ Empty → Used (Propagate ∷ []) (R.state plugins.old.roster)
         plugins.old.judged.items (R.state plugins.new.roster) plugins.new.judged.items) }
-    ensures seen { IfOk result (IsSeen work.new.core node.new) }
+    ensures seen { IfOk result (IsSeen core.new node.new) }
 {
-    let columns = work.core.reduced().columns();
-    let last = last_kept(&work.starts, columns);
-    match plugins.propagate(alloc, &mut work.core, node, last)? {
+    let columns = core.reduced().columns();
+    let last = last_kept(starts, columns);
+    match plugins.propagate(alloc, core, node, last)? {
         Came::Emptied => Ok(Looked::Empty),
         _ => {
-            tell_now(alloc, &work.core, plugins, node, None, last)?;
-            Ok(look_again(&work.core, node))
+            tell_now(alloc, core, plugins, node, None, last)?;
+            Ok(look_again(core, node))
         }
     }
 }

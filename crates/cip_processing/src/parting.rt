@@ -60,12 +60,16 @@ pub(crate) fn end_parted(
     ensures pool { work.new.core.pool ≡ work.old.core.pool }
 {
     let parted = part(work, node, given, split);
-    work.starts.keep(found.point, found.combo);
+    let Found { point, combo, mark } = found;
+    work.starts.keep(point, combo);
     match parted {
-        Err(error) => Err(error),
+        Err(error) => {
+            drop(mark);
+            Err(error)
+        }
         Ok(halves) => Ok(Done {
             end: NodeEnd::Split(halves.0, halves.1),
-            mark: found.mark,
+            mark,
             proposed: true,
             taken: false,
         }),

@@ -15,37 +15,31 @@ use cip_events::EventKind;
 use cip_node::{Bounded, Found, NodeWork};
 use cip_node_rules::Looked;
 use cip_tree::Node;
-use cip_turns::{Asks, Plugins, Round};
+use cip_turns::{Asks, Core, Plugins, Round};
 use std::alloc::{AllocError, Global};
 
 /// Asks for points, while a node is in work, behind its linear program, and tells what happened. `Err` comes where
 /// memory was refused.
 fn improve<R: Asks>(
     alloc: Global,
-    work: &mut NodeWork<'_>,
+    core: &mut Core<'_>,
     plugins: &mut Plugins<R>,
     node: &mut Node,
     found: &Found,
 ) -> Result<(), AllocError>
-    requires ready { IsReady work.old.core node.old plugins.old.scratches
+    requires ready { IsReady core.old node.old plugins.old.scratches
         × IsSound (R.state plugins.old.roster) (R.room plugins.old.roster) }
-    requires open_ { IsOpenNode work.old.core node.old × IsFoundAt work.old.core node.old found.now }
-    ensures come { HasCome work.old.core node.old (R.state plugins.old.roster) work.new.core node.new
+    requires open_ { IsOpenNode core.old node.old × IsFoundAt core.old node.old found.now }
+    ensures come { HasCome core.old node.old (R.state plugins.old.roster) core.new node.new
         plugins.new.scratches (R.state plugins.new.roster) (R.room plugins.new.roster) }
     ensures used { IfOk result (λ _. Used (Search ∷ []) (R.state plugins.old.roster) plugins.old.judged.items
         (R.state plugins.new.roster) plugins.new.judged.items) }
-    ensures open_ { IsOpenNode work.new.core node.new × IsFoundAt work.new.core node.new found.now }
+    ensures open_ { IsOpenNode core.new node.new × IsFoundAt core.new node.new found.now }
 {
-    tell_now(
-        alloc,
-        &work.core,
-        plugins,
-        node,
-        Some(EventKind::LpSolved),
-        last_of(found),
-    )?;
-    let _came = plugins.ask_round(alloc, &mut work.core, node, Round::Points, last_of(found))?;
-    tell_now(alloc, &work.core, plugins, node, None, last_of(found))
+    let last = last_of(found);
+    tell_now(alloc, core, plugins, node, Some(EventKind::LpSolved), last)?;
+    let _came = plugins.ask_round(alloc, core, node, Round::Points, last)?;
+    tell_now(alloc, core, plugins, node, None, last)
 }
 
 /// Solves the linear program of an open node in work, with rounds for rows, and asks for points. `Err` comes where
@@ -67,10 +61,13 @@ fn relax_and_improve<R: Asks>(
 {
     match separate(alloc, work, plugins, node)? {
         Bounded::Empty => Ok(Reached::Empty),
-        Bounded::Open(found) => {
-            improve(alloc, work, plugins, node, &found)?;
-            Ok(Reached::Open(found))
-        }
+        Bounded::Open(found) => match improve(alloc, &mut work.core, plugins, node, &found) {
+            Err(error) => {
+                drop(found);
+                Err(error)
+            }
+            Ok(()) => Ok(Reached::Open(found)),
+        },
     }
 }
 
@@ -90,7 +87,7 @@ pub(crate) fn pass<R: Asks>(
         plugins.old.judged.items (R.state plugins.new.roster) plugins.new.judged.items) }
     ensures reached { IfOk result (IsReached work.new.core node.new) }
 {
-    match narrow(alloc, work, plugins, node)? {
+    match narrow(alloc, &mut work.core, &work.starts, plugins, node)? {
         Looked::Empty => Ok(Reached::Empty),
         Looked::Leaf => Ok(Reached::Leaf),
         Looked::Open => relax_and_improve(alloc, work, plugins, node),

@@ -7,14 +7,15 @@ ghost use Rattle.cip_node.specs.Bounding.{IsBounded};
 ghost use Rattle.cip_turns.specs.Noted.{IsReady, HasCome};
 ghost use Rattle.cip_turns.specs.Served.{Used};
 ghost use Rattle.cip_turns.specs.Came.TheVariants.{Emptied};
-ghost use Rattle.cip_processing.specs.NodesReached.{IsFoundAt, IsFoundBy, IsOpenBounded};
+ghost use Rattle.cip_processing.specs.NodesReached.{IsFoundAt, IsFoundBy, IsOpenBounded, left_by};
 
-use crate::telling::{last_of, offered_kind, queue_both, tell_now};
+use crate::telling::{last_of, offered_kind, queue_known, tell_now};
 use cip_events::EventKind;
 use cip_node::{Bounded, Found, NodeWork};
 use cip_tree::Node;
 use cip_turns::{Asks, Came, Plugins, Round};
 use std::alloc::{AllocError, Global};
+use std::mem;
 
 // The most rounds in which rows are asked for, each time.
 const MOST_ROUNDS: u32 = 20;
@@ -41,9 +42,14 @@ fn solve_lp<R: Asks>(
     let before = work.core.held_cost();
     let bounded = work.bound(alloc, node)?;
     let is_silent = plugins.roster.has_none();
-    let offered = offered_kind(alloc, &work.core, node, before, &bounded, is_silent)?;
-    queue_both(plugins, node.id(), solved, offered)?;
-    Ok(bounded)
+    let offered = offered_kind(alloc, &work.core, node, before, &bounded, is_silent);
+    match queue_known(plugins, node.id(), solved, offered) {
+        Err(error) => {
+            drop(bounded);
+            Err(error)
+        }
+        Ok(()) => Ok(bounded),
+    }
 }
 
 /// Solves the linear program of a node in work again, behind rows that were added, and keeps what it finds; `Emptied`
@@ -66,7 +72,7 @@ fn solve_again<R: Asks>(
     match solve_lp(alloc, work, plugins, node, None)? {
         Bounded::Empty => Ok(Came::Emptied),
         Bounded::Open(newer) => {
-            *found = newer;
+            drop(mem::replace(found, newer));
             Ok(Came::Accepted)
         }
     }
@@ -97,9 +103,53 @@ fn cut_once<R: Asks>(
     }
 }
 
-/// Asks for rows in rounds, while a node is in work: behind one in which none was added, or behind 20, none follows.
-/// What is answered is what the last linear program leaves. `Err` comes where memory was refused.
+/// Tells what waits behind the linear program of a node in work, and asks for rows in rounds: behind one in which none
+/// was added, or behind 20, none follows. What is kept is what the last linear program found. `Err` comes where memory
+/// was refused.
 fn cut_in_rounds<R: Asks>(
+    alloc: Global,
+    work: &mut NodeWork<'_>,
+    plugins: &mut Plugins<R>,
+    node: &mut Node,
+    found: &mut Found,
+) -> Result<Came, AllocError>
+    requires ready { IsReady work.old.core node.old plugins.old.scratches
+        × IsSound (R.state plugins.old.roster) (R.room plugins.old.roster) }
+    requires found { IsFoundAt work.old.core node.old found.old }
+    ensures come { HasCome work.old.core node.old (R.state plugins.old.roster) work.new.core node.new
+        plugins.new.scratches (R.state plugins.new.roster) (R.room plugins.new.roster) }
+    ensures used { IfOk result (λ came. came ≢ Emptied → Used (Separate ∷ []) (R.state plugins.old.roster)
+        plugins.old.judged.items (R.state plugins.new.roster) plugins.new.judged.items) }
+    ensures region { region_of work.new.core.tree node.new ≡ region_of work.old.core.tree node.old }
+    ensures found { IfOk result (λ came. IsFoundBy came work.new.core node.new found.new) }
+{
+    tell_now(alloc, &work.core, plugins, node, None, last_of(found))?;
+    let mut came = cut_once(alloc, work, plugins, node, found)?;
+    for _ in 1..MOST_ROUNDS {
+        let Came::Accepted = came else {
+            break;
+        };
+        came = cut_once(alloc, work, plugins, node, found)?;
+    }
+    Ok(came)
+}
+
+/// What rounds leave of a node, behind which its linear program found this.
+fn left_by(came: Came, found: Found) -> Bounded
+    ensures { result ≡ left_by came found }
+{
+    match came {
+        Came::Emptied => {
+            drop(found);
+            Bounded::Empty
+        }
+        Came::Quiet | Came::Accepted => Bounded::Open(found),
+    }
+}
+
+/// Tells what waits behind the linear program of a node in work, which found this, and asks for rows in rounds. What is
+/// answered is what the last linear program leaves. `Err` comes where memory was refused.
+fn cut<R: Asks>(
     alloc: Global,
     work: &mut NodeWork<'_>,
     plugins: &mut Plugins<R>,
@@ -117,16 +167,12 @@ fn cut_in_rounds<R: Asks>(
     ensures bounded { IfOk result (IsBounded work.new.core node.new) }
 {
     let mut found = found;
-    let mut came = cut_once(alloc, work, plugins, node, &mut found)?;
-    for _ in 1..MOST_ROUNDS {
-        let Came::Accepted = came else {
-            break;
-        };
-        came = cut_once(alloc, work, plugins, node, &mut found)?;
-    }
-    match came {
-        Came::Emptied => Ok(Bounded::Empty),
-        _ => Ok(Bounded::Open(found)),
+    match cut_in_rounds(alloc, work, plugins, node, &mut found) {
+        Err(error) => {
+            drop(found);
+            Err(error)
+        }
+        Ok(came) => Ok(left_by(came, found)),
     }
 }
 
@@ -149,9 +195,6 @@ pub(crate) fn separate<R: Asks>(
 {
     match solve_lp(alloc, work, plugins, node, Some(EventKind::FirstLpSolved))? {
         Bounded::Empty => Ok(Bounded::Empty),
-        Bounded::Open(found) => {
-            tell_now(alloc, &work.core, plugins, node, None, last_of(&found))?;
-            cut_in_rounds(alloc, work, plugins, node, found)
-        }
+        Bounded::Open(found) => cut(alloc, work, plugins, node, found),
     }
 }

@@ -134,6 +134,20 @@ pub(crate) fn queue_both<R: Asks>(
     queue_if(plugins, node, second)
 }
 
+/// Puts up to two events of a node behind those that wait, in this order, where it is known what the second is. `Err`
+/// comes where memory was refused.
+pub(crate) fn queue_known<R: Asks>(
+    plugins: &mut Plugins<R>,
+    node: u64,
+    first: Option<EventKind>,
+    second: Result<Option<EventKind>, AllocError>,
+) -> Result<(), AllocError>
+    ensures roster { plugins.new.roster ≡ plugins.old.roster }
+    ensures rest { (plugins.new.scratches ≡ plugins.old.scratches) × (plugins.new.judged ≡ plugins.old.judged) }
+{
+    queue_both(plugins, node, first, second?)
+}
+
 /// Tells all that waits, and then this, if it is given, while a node is in work. `Err` comes where memory was refused:
 /// what was called before it stands.
 pub(crate) fn tell_now<R: Asks>(

@@ -1,5 +1,5 @@
 //! Passes over a node in work, behind each of which handlers look at its point.
-ghost use Rattle.std.specs.Prelude.{◌∷◌, [], IfOk};
+ghost use Rattle.std.specs.Prelude.{◌≡◌, ◌∷◌, [], IfOk};
 ghost use Rattle.cip_events.specs.Events.{event_at};
 ghost use Rattle.cip_events.specs.declared.events.EventKind.TheVariants.{NodeFocused};
 ghost use Rattle.cip_plugin.specs.Calls.{OnEvent};
@@ -7,19 +7,63 @@ ghost use Rattle.cip_roster.specs.Turns.{IsSound};
 ghost use Rattle.cip_node.specs.Looking.{IsOpenNode};
 ghost use Rattle.cip_turns.specs.Noted.{IsReady, HasCome};
 ghost use Rattle.cip_turns.specs.Served.{Used};
-ghost use Rattle.cip_processing.specs.NodesReached.{IsFoundAt, IsReached, IsReachedIf};
+ghost use Rattle.cip_turns.specs.Enforcing.{IsVerdict};
+ghost use Rattle.cip_processing.specs.NodesReached.{IsFoundAt, IsReached, IsReachedIf, reached_by};
 ghost use Rattle.cip_processing.specs.NodesReached.{IsUsedIn, IsUsedIf, asks_in_pass};
 
 use crate::passes::pass;
 use crate::reached::Reached;
 use crate::telling::{last_of, tell_now};
-use cip_node::{Found, NodeWork};
+use cip_node::{Found, NodeWork, Starts};
 use cip_tree::Node;
-use cip_turns::{Asks, Plugins, Verdict, enforce};
+use cip_turns::{Asks, Core, Plugins, Verdict, enforce};
 use std::alloc::{AllocError, Global};
 
 // How often a node goes back to its sides at most.
 const MOST_RETURNS: u32 = 20;
+
+/// Asks handlers what they say of an open node in work, and tells what happened. `Err` comes where memory was refused.
+fn hear<R: Asks>(
+    alloc: Global,
+    core: &mut Core<'_>,
+    plugins: &mut Plugins<R>,
+    node: &mut Node,
+    found: &Found,
+) -> Result<Verdict, AllocError>
+    requires ready { IsReady core.old node.old plugins.old.scratches
+        × IsSound (R.state plugins.old.roster) (R.room plugins.old.roster) }
+    ensures come { HasCome core.old node.old (R.state plugins.old.roster) core.new node.new
+        plugins.new.scratches (R.state plugins.new.roster) (R.room plugins.new.roster) }
+    ensures used { IfOk result (λ _. Used [] (R.state plugins.old.roster) plugins.old.judged.items
+        (R.state plugins.new.roster) plugins.new.judged.items) }
+    ensures said { IfOk result (IsVerdict core.old core.new node.old node.new) }
+{
+    let last = last_of(found);
+    let said = enforce(plugins, alloc, core, node, last)?;
+    tell_now(alloc, core, plugins, node, None, last)?;
+    Ok(said)
+}
+
+/// What the work on an open node has come to behind what handlers said. `None`: a side or a row was accepted, and the
+/// linear values of the node are kept.
+fn reached_by(starts: &mut Starts, found: Found, said: Verdict) -> Option<Reached>
+    ensures { result ≡ reached_by found said }
+{
+    match said {
+        Verdict::Quiet => Some(Reached::Open(found)),
+        Verdict::Emptied => {
+            drop(found);
+            Some(Reached::Empty)
+        }
+        Verdict::Changed => {
+            let Found { point, combo, mark } = found;
+            starts.keep(point, combo);
+            drop(mark);
+            None
+        }
+        Verdict::Place(split) => Some(Reached::Place(found, split)),
+    }
+}
 
 /// Asks handlers what they say of an open node in work, and tells what happened. `None`: a side or a row was accepted,
 /// and the node goes back to its sides. `Err` comes where memory was refused.
@@ -39,16 +83,12 @@ fn decide<R: Asks>(
         (R.state plugins.new.roster) plugins.new.judged.items) }
     ensures reached { IfOk result (IsReachedIf work.new.core node.new) }
 {
-    let said = enforce(plugins, alloc, &mut work.core, node, last_of(&found))?;
-    tell_now(alloc, &work.core, plugins, node, None, last_of(&found))?;
-    match said {
-        Verdict::Quiet => Ok(Some(Reached::Open(found))),
-        Verdict::Emptied => Ok(Some(Reached::Empty)),
-        Verdict::Changed => {
-            work.starts.keep(found.point, found.combo);
-            Ok(None)
+    match hear(alloc, &mut work.core, plugins, node, &found) {
+        Err(error) => {
+            drop(found);
+            Err(error)
         }
-        Verdict::Place(split) => Ok(Some(Reached::Place(found, split))),
+        Ok(said) => Ok(reached_by(&mut work.starts, found, said)),
     }
 }
 

@@ -6,6 +6,7 @@ pub mod Ending
 pub mod Giving
 pub mod Granting
 pub mod Keeping
+pub mod Moving
 pub mod OneEvent
 pub mod Ranking
 pub mod Sitting

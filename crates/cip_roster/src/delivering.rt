@@ -110,7 +110,11 @@ fn tell_one<R: Steps>(
     roster.reserve_turns(1)?;
     match turn(roster, alloc, id, Question::OnEvent(event), view) {
         None => Ok(()),
-        Some(given) => grant(roster, alloc, id, wishes_of(&given), queue, view),
+        Some(given) => {
+            let granted = grant(roster, alloc, id, wishes_of(&given), queue, view);
+            drop(given);
+            granted
+        }
     }
 }
 

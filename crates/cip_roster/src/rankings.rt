@@ -34,6 +34,13 @@ impl Rankings {
         }
     }
 
+    /// None is kept any more.
+    pub(crate) fn clear(&mut self)
+        ensures { self.new ≡ no_rankings }
+    {
+        *self = Rankings::none();
+    }
+
     /// Takes out the ranking of a kind, if it is kept.
     pub(crate) fn take(&mut self, kind: Kind) -> Option<Vec<Key>>
         ensures taken { result ≡ ranking_of kind self.old }

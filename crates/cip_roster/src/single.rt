@@ -1,12 +1,11 @@
 //! The single steps of a roster of boxed plugins.
-ghost use Rattle.std.specs.Prelude.{◌≡◌, ◌+◌, ◌-◌, ◌++◌, ◌<◌, [], ◌∷◌, min, vec_len, vec_capacity};
+ghost use Rattle.std.specs.Prelude.{◌≡◌, ◌+◌, ◌-◌, ◌++◌, ◌<◌, [], ◌∷◌, min, OnOk, vec_len, vec_capacity};
 ghost use Rattle.cip_events.specs.Names.{shown_name};
 ghost use Rattle.cip_plugin.specs.Asking.{ask_of};
 ghost use Rattle.cip_seats.specs.Lives.{word_of_ask};
 ghost use Rattle.cip_seats.specs.Seats.{Seat};
 ghost use Rattle.cip_seats.specs.Steps.{IsSeated, switch_word};
 
-use crate::rankings::Rankings;
 use crate::rosters::{Roster, Seated};
 use crate::slots::{Sits, Slot};
 use crate::steps::{Seats, Steps};
@@ -14,7 +13,6 @@ use cip_events::{Event, Name, Word};
 use cip_plugin::{AnyPlugin, Given, Kind, Question, Tells, View};
 use cip_seats::{Key, WishFault};
 use std::alloc::{AllocError, Global};
-use std::cmp::Reverse;
 use std::mem;
 
 /// The most turns for whose lines room can be asked for at once.
@@ -40,6 +38,17 @@ fn word_of_switch(on: bool) -> Word
     ensures { result ≡ switch_word on }
 {
     if on { Word::Enabled } else { Word::Disabled }
+}
+
+/// Makes room for one more seat and its name. `Err` comes where a growth was refused. Neither changes what is there.
+fn reserve_one(slots: &mut Vec<Slot>, names: &mut Vec<Name>) -> Result<(), AllocError>
+    ensures slots { slots.new.items ≡ slots.old.items }
+    ensures names { names.new.items ≡ names.old.items }
+    ensures seat { OnOk result (vec_len slots.new < vec_capacity slots.new) }
+    ensures name { OnOk result (vec_len names.new < vec_capacity names.new) }
+{
+    slots.reserve(1)?;
+    names.reserve(1)
 }
 
 impl Roster {
@@ -102,11 +111,10 @@ impl Steps for Roster {
     }
 
     fn key(&self, id: u32) -> Option<Key> {
-        let slot = self.slots.get(id as usize)?;
-        Some(Key {
-            rank: Reverse(slot.priority),
-            id,
-        })
+        match self.slots.get(id as usize) {
+            None => None,
+            Some(slot) => Some(slot.key(id)),
+        }
     }
 
     fn holds(&self, place: u32) -> Result<(), WishFault> {
@@ -127,8 +135,7 @@ impl Steps for Roster {
 
     fn reserve_seat(&mut self) -> Result<(), AllocError> {
         self.reserve_turns(3)?;
-        self.slots.reserve(1)?;
-        self.names.reserve(1)
+        reserve_one(&mut self.slots, &mut self.names)
     }
 
     fn note(&mut self, id: u32, word: Word) {
@@ -148,7 +155,7 @@ impl Steps for Roster {
     }
 
     fn exit_solve(&mut self, id: u32) {
-        self.rankings = Rankings::none();
+        self.rankings.clear();
         self.slots[id as usize].exit_solve();
         self.note(id, Word::ExitSolve);
     }
@@ -172,18 +179,18 @@ impl Steps for Roster {
     }
 
     fn switch(&mut self, id: u32, on: bool) {
-        self.rankings = Rankings::none();
+        self.rankings.clear();
         self.slots[id as usize].turn(on);
         self.note(id, word_of_switch(on));
     }
 
     fn set_priority(&mut self, id: u32, priority: i32) {
-        self.rankings = Rankings::none();
+        self.rankings.clear();
         self.slots[id as usize].priority = priority;
     }
 
     fn come(&mut self, place: u32) {
-        self.rankings = Rankings::none();
+        self.rankings.clear();
         match mem::replace(&mut self.shelf[place as usize], None) {
             None => unreachable!(),
             Some(plugin) => self.take_seat(plugin),

@@ -1,5 +1,5 @@
 //! A plugin that was included, with what the roster knows of it.
-ghost use Rattle.std.specs.Prelude.{◌≡◌, true, false, is_ok, if◌then◌else◌};
+ghost use Rattle.std.specs.Prelude.{◌≡◌, Some, true, false, is_ok, if◌then◌else◌};
 ghost use Rattle.cip_plugin.specs.Calls.{Init, InitSolve, Asked, ExitSolve, Exit};
 ghost use Rattle.cip_plugin.specs.Answers.{answer};
 ghost use Rattle.cip_plugin.specs.Asking.{asks, ask_of, answer_of};
@@ -7,14 +7,16 @@ ghost use Rattle.cip_seats.specs.Seats.{Seat, is_on, is_live};
 ghost use Rattle.cip_seats.specs.Calling.{is_ready};
 ghost use Rattle.cip_seats.specs.Wishing.{is_to_hear};
 ghost use Rattle.cip_seats.specs.Steps.{IsCalled, IsTurned, IsSeated};
+ghost use Rattle.cip_roster.specs.Nexts.{key_of};
 
 use cip_events::{Event, EventMask};
 use cip_plugin::{
     AnyPlugin, BranchRule, ConsHandler, EventHandler, Given, Heuristic, Kind, Pricer, Propagator,
     Question, Separator, Tells, View,
 };
-use cip_seats::Stage;
+use cip_seats::{Key, Stage};
 use std::alloc::{AllocError, Global};
+use std::cmp::Reverse;
 use std::marker::PhantomData;
 
 /// A plugin with its priority and its interest, as it told them at first; how far its life has come, whether it is
@@ -135,6 +137,16 @@ impl Slot {
             enabled: true,
             offs: 0,
             boxes: PhantomData,
+        }
+    }
+
+    /// Its key, by the number that it is given, as its priority is now.
+    pub(crate) fn key(&self, id: u32) -> Key
+        ensures { Some result ≡ key_of id (Some (⟦<Slot as Sits>⟧.seat self.now)) }
+    {
+        Key {
+            rank: Reverse(self.priority),
+            id,
         }
     }
 

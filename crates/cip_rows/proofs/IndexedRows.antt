@@ -13,7 +13,7 @@ use Rattle.cip_cert.specs.Pool.{AreRising}
 use Rattle.cip_cert.specs.Resting.{released}
 use Rattle.cip_rows.specs.declared.index.Entry.{Entry}
 use Rattle.cip_rows.specs.Mixed.{fingerprint}
-use Rattle.cip_rows.specs.RowIndex.{AreSorted, IsIndex, entry_of}
+use Rattle.cip_rows.specs.RowIndex.{AreSorted, IsIndex, IsEntered, entry_of}
 use Rattle.cip_rows.specs.RowPools.{Serves, IsKnown, IsUnknown}
 
 -- ---- looking up
@@ -32,6 +32,15 @@ entry_default : (entries : List Entry) (i : ℕ) (d e : Entry) → i < length en
 entry_default [] i d e h = absurd (omega (arith, h))
 entry_default (x ∷ xs) zero d e h = refl
 entry_default (x ∷ xs) (suc i) d e h = entry_default xs i d e (omega (arith, h))
+
+-- an entry of which no row with its id serves
+pub passed_next : (rows : List PoolRow) (row : Row) (box : List Sides) (entries : List Entry) (at : ℕ) (entry : Entry) → at < length entries → AllWithin (IsPassed rows row box) entries 0 at → All (λ (kept : PoolRow). kept.id ≡ (get_or entries at entry).id → ¬ Serves row box kept) rows → AllWithin (IsPassed rows row box) entries 0 (at + 1)
+passed_next rows row box entries at entry l b h k d z m j e n f s = elim (cases_lt k at) [
+  | inl below ↦ b k d z below j e n f s
+  | inr above ↦
+      let same : k ≡ at = omega (arith, above, m) in
+      h j e n (ap (λ (x : Entry). x.id) (sym f) ∙ ap (λ i. (get_or entries i d).id) same ∙ ap (λ (x : Entry). x.id) (entry_default entries at d entry l)) s
+]
 
 -- after the last entry with the fingerprint
 pub passed_rest : (rows : List PoolRow) (row : Row) (box : List Sides) (entries : List Entry) (print at : ℕ) (entry : Entry) → print ≡ fingerprint row → AreSorted entries → at < length entries → (get_or entries at entry).print ≢ print → print ≤ (get_or entries at entry).print → AllWithin (IsPassed rows row box) entries 0 at → AllWithin (IsPassed rows row box) entries 0 (length entries)
@@ -108,16 +117,21 @@ contains_inserted xs i y x h (k, l, e) = elim (cases_lt k i) [
   | inr b ↦ (k + 1, omega (arith, l, length-insert xs i y h), get_or-insert_above xs i y x k b h ∙ e)
 ]
 
--- the index with the entry of another row
-pushed : (rows : List PoolRow) (entries : List Entry) (kept : PoolRow) (place : ℕ) → IsIndex rows entries → place ≤ length entries → AllWithin (λ (entry : Entry). entry.print < fingerprint kept.row) entries 0 place → AllWithin (λ (entry : Entry). fingerprint kept.row ≤ entry.print) entries place (length entries) → IsIndex (rows ++ kept ∷ []) (insert entries place (entry_of kept))
-pushed rows entries kept place index h before after = record {
-  sorted = IsNonDecreasingBy-insert (λ (entry : Entry). entry.print) entries place (entry_of kept) index.sorted h (λ k d l. omega (arith, before k d (omega arith) l)) after;
-  covers = All-push (λ r. Contains (insert entries place (entry_of kept)) (entry_of r)) rows kept (All-weaker (λ r. Contains entries (entry_of r)) (λ r. Contains (insert entries place (entry_of kept)) (entry_of r)) (λ r c. contains_inserted entries place (entry_of kept) (entry_of r) h c) rows index.covers) (place, omega (arith, h, length-insert entries place (entry_of kept) h), get_or-insert_at entries place (entry_of kept) (entry_of kept) h);
+-- an entry that is put where its fingerprint belongs
+pub entered : (entries : List Entry) (entry : Entry) (place : ℕ) → AreSorted entries → place ≤ length entries → AllWithin (λ (e : Entry). e.print < entry.print) entries 0 place → AllWithin (λ (e : Entry). entry.print ≤ e.print) entries place (length entries) → IsEntered entries entry (insert entries place entry)
+entered entries entry place sorted h before after = record {
+  sorted = IsNonDecreasingBy-insert (λ (e : Entry). e.print) entries place entry sorted h (λ k d l. omega (arith, before k d (omega arith) l)) after;
+  own = (place, omega (arith, h, length-insert entries place entry h), get_or-insert_at entries place entry entry h);
+  others = λ other c. contains_inserted entries place entry other h c;
 }
 
-pub index_pushed : (rows : List PoolRow) (entries : List Entry) (kept : PoolRow) (print place : ℕ) → print ≡ fingerprint kept.row → IsIndex rows entries → place ≤ length entries → AllWithin (λ (entry : Entry). entry.print < print) entries 0 place → AllWithin (λ (entry : Entry). print ≤ entry.print) entries place (length entries) → IsIndex (rows ++ kept ∷ []) (insert entries place (record { print = print; id = kept.id; rests = kept.rests }))
-index_pushed rows entries kept print place p index h before after =
-    subst (λ n. AllWithin (λ (entry : Entry). entry.print < n) entries 0 place → AllWithin (λ (entry : Entry). n ≤ entry.print) entries place (length entries) → IsIndex (rows ++ kept ∷ []) (insert entries place (record { print = n; id = kept.id; rests = kept.rests }))) (sym p) (pushed rows entries kept place index h) before after
+-- the index with the entry of another row
+pub index_entered : (rows : List PoolRow) (entries after : List Entry) (kept : PoolRow) (print : ℕ) → print ≡ fingerprint kept.row → IsIndex rows entries → IsEntered entries (record { print = print; id = kept.id; rests = kept.rests }) after → IsIndex (rows ++ kept ∷ []) after
+index_entered rows entries after kept print p index e = record {
+  sorted = e.sorted;
+  covers = All-push (λ r. Contains after (entry_of r)) rows kept (All-weaker (λ r. Contains entries (entry_of r)) (λ r. Contains after (entry_of r)) (λ r c. e.others (entry_of r) c) rows index.covers)
+      (subst (λ n. Contains after (record { print = n; id = kept.id; rests = kept.rests })) p e.own);
+}
 
 -- no id is below the first one
 pub first_least : (rows : List PoolRow) (first : PoolRow) → AreRising rows → first ≡ get_or rows 0 first → (k : ℕ) (d : PoolRow) → k < length rows → first.id ≤ (get_or rows k d).id

@@ -1,5 +1,5 @@
 -- What holds of a pool when rows come and go.
-use Rattle.std.proofs.Common.{◌≡◌, ◌≢◌, ℕ, suc, ◌+◌, ◌-◌, ◌<◌, ◌≤◌, ◌==◌, Bool, true, false, cond, List, [], ◌∷◌, ◌++◌, length, take, drop, filter, ap, ◌∙◌, subst, arith, length-append, length-drop, get_or-drop, take_at}
+use Rattle.std.proofs.Common.{◌≡◌, ◌≢◌, ℕ, suc, ◌+◌, ◌-◌, ◌<◌, ◌≤◌, ◌==◌, Bool, true, false, cond, List, [], ◌∷◌, ◌++◌, length, take, drop, filter, sym, ap, ◌∙◌, subst, arith, length-append, length-drop, get_or-drop, take_at}
 use Rattle.std.proofs.lemmas.Bool.{or_parts, eqb-false}
 use Rattle.std.proofs.lemmas.List.Elements.{All-push, All-weaker, All-filter, All-drop, All-tail}
 use Rattle.std.proofs.lemmas.List.Quantifiers.{all_pairs_push}
@@ -27,6 +27,13 @@ one_more pool row scope rests k stands fits room =
       few = omega (arith, length-append pool.rows (record { id = pool.next; row = row; scope = scope; rests = rests } ∷ []), k.few, rows);
       ids = omega (arith, k.ids, ids);
     }
+
+pub has_place : (len capacity : ℕ) → len + 1 ≤ capacity → len < capacity
+has_place len capacity h = omega (arith, h)
+
+-- the scopes of all rows are as long as a box of the pool's columns
+pub scopes_like : (pool : Pool) (box : List Sides) → IsSoundPool pool → length box ≡ pool.columns → HaveScopesLike box pool.rows
+scopes_like pool box k e i d l = (k.fits i d l).scope ∙ sym e
 
 length-filtered : {X : Type 0} (p : X → Bool) (xs : List X) → length (filter p xs) ≤ length xs
 length-filtered p [] = omega arith

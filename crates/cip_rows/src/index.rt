@@ -1,13 +1,14 @@
 //! The index of a pool: the ids of its rows by their fingerprints.
-ghost use Rattle.std.specs.Prelude.{◌≡◌, ◌≢◌, ◌<◌, ◌≤◌, ◌==◌, not, nat_le, length, All, MatchOption, MatchBool, IsTrue, ◌↔◌};
+ghost use Rattle.std.specs.Prelude.{◌≡◌, ◌≢◌, ◌<◌, ◌≤◌, ◌==◌, not, nat_le, length, All, MatchOption, MatchBool, OnOk, OnErr, IsTrue, ◌↔◌};
 ghost use Rattle.std.specs.List.{AllWithin, HoldsAt, filter};
 ghost use Rattle.cip_cert.specs.Pool.{AreRising};
 ghost use Rattle.cip_rows.specs.Mixed.{fingerprint};
-ghost use Rattle.cip_rows.specs.RowIndex.{AreSorted, IsIndex};
+ghost use Rattle.cip_rows.specs.RowIndex.{AreSorted, IsEntered, IsIndex};
 ghost use Rattle.cip_rows.specs.RowPools.{HaveScopesLike, IsKnown, IsUnknown, Serves};
 
 use crate::built::is_same;
 use cip_cert::{Bounds, PoolRow, Row};
+use std::alloc::AllocError;
 
 /// A row that is held, by its fingerprint and its id, and whether it rests on the cutoff row.
 #[derive(Clone, Copy, PartialEq, Eq)]
@@ -96,6 +97,18 @@ pub(crate) fn known(
         }
     }
     None
+}
+
+/// Puts an entry where its fingerprint belongs. `Err` comes where a growth was refused; the entries are as they were
+/// then.
+pub(crate) fn enter(entries: &mut Vec<Entry>, entry: Entry) -> Result<(), AllocError>
+    requires { AreSorted entries.old.items }
+    ensures ok { OnOk result (IsEntered entries.old.items entry entries.new.items) }
+    ensures err { OnErr result (entries.new.items ≡ entries.old.items) }
+{
+    let place = first_from(entries.as_slice(), entry.print);
+    entries.insert(place, entry)?;
+    Ok(())
 }
 
 /// Takes the entries of a row out.

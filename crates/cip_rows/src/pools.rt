@@ -1,16 +1,17 @@
 //! The pool: it keeps rows with their scopes, finds equal ones, and lets the oldest go.
-ghost use Rattle.std.specs.Prelude.{◌≡◌, ◌<◌, ◌≤◌, ◌==◌, [], length, not, drop, ◌-◌, MatchOption, MatchResult, OnOk, OnErr, false, IsTrue, ◌↔◌};
+ghost use Rattle.std.specs.Prelude.{◌≡◌, ◌<◌, ◌≤◌, ◌==◌, Bool, [], length, vec_len, vec_capacity, not, drop, ◌-◌, MatchOption, MatchResult, false, IsTrue, ◌↔◌};
 ghost use Rattle.std.specs.List.{filter};
 ghost use Rattle.cip_problem.specs.Activity.{StandsBelow};
 ghost use Rattle.cip_cuts.specs.Cuts.{row_of};
 ghost use Rattle.cip_cert.specs.Resting.{released};
 ghost use Rattle.cip_rows.specs.Mixed.{fingerprint};
-ghost use Rattle.cip_rows.specs.RowPools.{IsSoundPool, usable_in, is_full, with_row, kept_pool_rows};
+ghost use Rattle.cip_rows.specs.RowIndex.{AreSorted, IsEntered};
+ghost use Rattle.cip_rows.specs.RowPools.{IsSoundPool, IsUnknown, usable_in, is_full, kept_pool_rows};
 ghost use Rattle.cip_rows.specs.Adding.{IsAdded};
 
 use crate::built::row_from;
 use crate::fingerprints::fingerprint;
-use crate::index::{Entry, first_from, forget, forget_below, forget_resting, known};
+use crate::index::{Entry, enter, forget, forget_below, forget_resting, known};
 use crate::limits::{KEPT_POOL_ROWS, MOST_IDS, MOST_POOL_ROWS};
 use crate::usable::Usable;
 use cip_cert::{Bounds, Frac, PoolRow, Row, Scratch};
@@ -54,6 +55,30 @@ impl Model for RowPool {
         × IsIndex p.rows.items p.entries.items };
 }
 
+/// Makes room for another row, whose entry is put into the index, and copies its scope. `Err` comes where memory was
+/// refused; rows and entries are as they were then.
+fn entered(
+    alloc: Global,
+    rows: &mut Vec<PoolRow>,
+    entries: &mut Vec<Entry>,
+    entry: Entry,
+    scope: &Bounds,
+) -> Result<Bounds, AllocError>
+    requires { AreSorted entries.old.items }
+    ensures rows { rows.new.items ≡ rows.old.items }
+    ensures entered { MatchResult result
+        (λ copy. (copy ≡ scope.now) × (vec_len rows.new < vec_capacity rows.new)
+        × IsEntered entries.old.items entry entries.new.items)
+        (λ _. entries.new.items ≡ entries.old.items) }
+{
+    rows.reserve(1)?;
+    let copy = scope.copied(alloc)?;
+    match enter(entries, entry) {
+        Ok(()) => Ok(copy),
+        Err(_) => Err(AllocError),
+    }
+}
+
 impl RowPool {
     /// A pool without rows, for boxes of so many columns.
     pub fn new(alloc: Global, columns: usize) -> RowPool
@@ -90,27 +115,57 @@ impl RowPool {
         self.rows.len() == MOST_POOL_ROWS || self.next == MOST_IDS
     }
 
-    // Puts a row, which has this fingerprint, with its scope at the end, and its entry into the index.
-    fn push(&mut self, print: u64, row: Row, scope: Bounds, rests: bool) -> Result<(), AllocError>
+    // Why a row, which has this fingerprint, isn't added, if it isn't: an equal one whose scope holds its own is held,
+    // or there is no room.
+    fn refused(&self, print: u64, row: &Row, scope: &Bounds) -> Option<Added>
+        requires print { print ≡ fingerprint row.now }
+        requires columns { length scope.now ≡ self.now.columns }
+        ensures { MatchOption result
+            (IsUnknown self.now.rows row.now scope.now × (is_full self.now ≡ false))
+            (λ added. (rests : Bool) → IsAdded self.now row.now scope.now rests self.now added) }
+    {
+        let rows = self.rows.as_slice();
+        match known(rows, self.entries.as_slice(), print, row, scope) {
+            Some(id) => Some(Added::Known(id)),
+            None if self.is_full() => Some(Added::Full),
+            None => None,
+        }
+    }
+
+    // Puts a row, which has this fingerprint, with a copy of its scope at the end, and its entry into the index.
+    fn push(
+        &mut self,
+        print: u64,
+        row: Row,
+        scope: &Bounds,
+        rests: bool,
+    ) -> Result<Added, AllocError>
         requires print { print ≡ fingerprint row }
-        requires columns { length scope ≡ self.old.columns }
+        requires columns { length scope.now ≡ self.old.columns }
         requires stands { StandsBelow self.old.columns row.terms }
-        requires room { is_full self.old ≡ false }
-        ensures ok { OnOk result (self.new ≡ with_row self.old row scope rests) }
-        ensures err { OnErr result (self.new ≡ self.old) }
+        requires new { IsUnknown self.old.rows row scope.now × (is_full self.old ≡ false) }
+        ensures added { MatchResult result (IsAdded self.old row scope.now rests self.new) (λ _. self.new ≡ self.old) }
+        ensures columns { self.new.columns ≡ self.old.columns }
     {
         let id = self.next;
-        let place = first_from(self.entries.as_slice(), print);
-        self.rows.reserve(1)?;
-        self.entries.insert(place, Entry { print, id, rests })?;
-        self.rows.push_reserved(PoolRow {
-            id,
-            row,
-            scope,
-            rests,
-        });
-        self.next += 1;
-        Ok(())
+        let entry = Entry { print, id, rests };
+        let (rows, entries) = (&mut self.rows, &mut self.entries);
+        match entered(self.alloc, rows, entries, entry, scope) {
+            Ok(scope) => {
+                self.rows.push_reserved(PoolRow {
+                    id,
+                    row,
+                    scope,
+                    rests,
+                });
+                self.next += 1;
+                Ok(Added::New(id))
+            }
+            Err(_) => {
+                drop(row);
+                Err(AllocError)
+            }
+        }
     }
 
     /// Adds the row that says, in boxes inside `scope`, that the sum of the products of the coefficients, which stand
@@ -138,16 +193,13 @@ impl RowPool {
             return Err(AllocError);
         };
         let print = fingerprint(&row);
-        let rows = self.rows.as_slice();
-        if let Some(id) = known(rows, self.entries.as_slice(), print, &row, scope) {
-            return Ok(Added::Known(id));
+        match self.refused(print, &row, scope) {
+            Some(added) => {
+                drop(row);
+                Ok(added)
+            }
+            None => self.push(print, row, scope, rests),
         }
-        if self.is_full() {
-            return Ok(Added::Full);
-        }
-        let id = self.next;
-        self.push(print, row, scope.copied(self.alloc)?, rests)?;
-        Ok(Added::New(id))
     }
 
     /// The rows whose scope holds this box, of as many columns as the pool's, by rising id.

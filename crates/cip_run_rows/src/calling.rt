@@ -31,13 +31,50 @@ fn is_few(kit: &Kit) -> bool
     kit.start.len() < 1_000 && kit.shelf.len() < 1_000
 }
 
-/// The numbers of the plugins of a kit that are spent.
-fn spent_of(alloc: Global, kit: &Kit) -> Result<Vec<Option<u32>>, AllocError> {
-    let mut numbers = Vec::new(alloc);
+/// Lists the numbers of the plugins of a kit that are spent.
+fn list_spent(kit: &Kit, numbers: &mut Vec<Option<u32>>) -> Result<(), AllocError> {
     for spent in &kit.spent {
         numbers.push(spent.id)?;
     }
-    Ok(numbers)
+    Ok(())
+}
+
+/// The plugin that a line says; none where there is none of its kind.
+fn plugin_of(alloc: Global, plug: &Plug<'_>) -> Result<Option<AnyPlugin>, AllocError> {
+    let fake = Box::new(alloc, Fake::new(alloc, plug)?)?;
+    Ok(match plug.kind {
+        Kind::Separator => Some(AnyPlugin::Separator(fake)),
+        Kind::Propagator => Some(AnyPlugin::Propagator(fake)),
+        Kind::Heuristic => Some(AnyPlugin::Heuristic(fake)),
+        Kind::BranchRule => Some(AnyPlugin::BranchRule(fake)),
+        Kind::ConsHandler => Some(AnyPlugin::ConsHandler(fake)),
+        Kind::EventHandler => Some(AnyPlugin::EventHandler(fake)),
+        Kind::Pricer => None,
+    })
+}
+
+/// Puts the plugin that a line says, if it says one, at the end of a list.
+fn put_plugin(alloc: Global, line: &str, list: &mut Vec<AnyPlugin>) -> Result<(), AllocError> {
+    let Some(plug) = Plug::read(line) else {
+        return Ok(());
+    };
+    match plugin_of(alloc, &plug)? {
+        Some(plugin) => list.push(plugin)?,
+        None => {}
+    }
+    Ok(())
+}
+
+/// Puts the plugins of lines into a kit.
+fn put_plugins(alloc: Global, lines: &str, kit: &mut Kit) -> Result<(), AllocError> {
+    for line in lines.split('\n') {
+        match key_and_value(line) {
+            ("start", said) => put_plugin(alloc, said, &mut kit.start)?,
+            ("shelf", said) => put_plugin(alloc, said, &mut kit.shelf)?,
+            _ => {}
+        }
+    }
+    Ok(())
 }
 
 /// Calls `run` as a row and the lines of one of its runs say, with this kit or the built-in plugins.
@@ -47,25 +84,37 @@ fn call(
     own: &str,
     setup: &Setup<'_>,
     kit: &mut Kit,
-) -> Result<Outcome, AllocError> {
+    outcome: &mut Outcome,
+) -> Result<(), AllocError> {
     let words = row.words(alloc, own)?;
     let mut store = row.store(alloc, setup)?;
-    let mut out = MemorySink::new(alloc, setup.room)?;
-    let mut logs = Vec::new(alloc);
-    let status = if setup.builtins {
-        run_with_builtins(alloc, &words, &mut store, &mut out, &mut logs)?
+    let out = &mut outcome.out;
+    let logs = &mut outcome.logs;
+    outcome.status = if setup.builtins {
+        run_with_builtins(alloc, &words, &mut store, out, logs)?
     } else if is_few(kit) {
-        run(alloc, &words, &mut store, &mut out, kit, &mut logs)
+        run(alloc, &words, &mut store, out, kit, logs)
     } else {
         255
     };
-    Ok(Outcome {
-        status,
-        out,
-        logs,
-        left: (kit.start.len(), kit.shelf.len()),
-        spent: spent_of(alloc, kit)?,
-    })
+    Ok(())
+}
+
+/// Fills a kit with the plugins that a row and the lines of one of its runs say, calls `run` so, and notes what is left
+/// of the kit.
+fn serve(
+    alloc: Global,
+    row: &Row<'_>,
+    own: &str,
+    setup: &Setup<'_>,
+    kit: &mut Kit,
+    outcome: &mut Outcome,
+) -> Result<(), AllocError> {
+    put_plugins(alloc, row.shared(), kit)?;
+    put_plugins(alloc, own, kit)?;
+    call(alloc, row, own, setup, kit, outcome)?;
+    outcome.left = (kit.start.len(), kit.shelf.len());
+    list_spent(kit, &mut outcome.spent)
 }
 
 /// Calls `run` as a row and the lines of one of its runs say, with a kit of the plugins of these lines, and such a
@@ -76,30 +125,21 @@ pub fn outcome_of(
     own: &str,
     setup: &Setup<'_>,
 ) -> Result<Outcome, AllocError> {
+    let mut outcome = Outcome {
+        status: 255,
+        out: MemorySink::new(alloc, setup.room)?,
+        logs: Vec::new(alloc),
+        left: (0, 0),
+        spent: Vec::new(alloc),
+    };
     let mut kit = no_plugins(alloc);
-    for line in row.shared().split('\n').chain(own.split('\n')) {
-        let (place, line) = key_and_value(line);
-        if place != "start" && place != "shelf" {
-            continue;
-        }
-        let Some(plug) = Plug::read(line) else {
-            continue;
-        };
-        let fake = Fake::new(alloc, &plug)?;
-        let plugin = match plug.kind {
-            Kind::Separator => AnyPlugin::Separator(Box::new(alloc, fake)?),
-            Kind::Propagator => AnyPlugin::Propagator(Box::new(alloc, fake)?),
-            Kind::Heuristic => AnyPlugin::Heuristic(Box::new(alloc, fake)?),
-            Kind::BranchRule => AnyPlugin::BranchRule(Box::new(alloc, fake)?),
-            Kind::ConsHandler => AnyPlugin::ConsHandler(Box::new(alloc, fake)?),
-            Kind::EventHandler => AnyPlugin::EventHandler(Box::new(alloc, fake)?),
-            Kind::Pricer => continue,
-        };
-        if place == "start" {
-            kit.start.push(plugin)?;
-        } else {
-            kit.shelf.push(plugin)?;
+    let served = serve(alloc, row, own, setup, &mut kit, &mut outcome);
+    drop(kit);
+    match served {
+        Ok(()) => Ok(outcome),
+        Err(error) => {
+            drop(outcome);
+            Err(error)
         }
     }
-    call(alloc, row, own, setup, &mut kit)
 }

@@ -61,10 +61,9 @@ fn kind_of(word: &str) -> Option<Kind> {
 /// The events of a name, or all of them by the word `any`.
 fn mask_of(word: &str) -> EventMask {
     let mut mask = EventMask::empty();
-    for at in 0..EVENTS.len() {
-        let (name, kind) = EVENTS[at];
-        if word == "any" || word == name {
-            mask = mask.with(kind);
+    for event in &EVENTS {
+        if word == "any" || word == event.0 {
+            mask = mask.with(event.1);
         }
     }
     mask

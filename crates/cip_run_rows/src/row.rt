@@ -44,35 +44,27 @@ impl<'a> Row<'a> {
     /// The setup of a run; `None` where a line is none of a head.
     pub fn setup(&self, own: &'a str) -> Option<Setup<'a>> {
         let mut setup = Setup::new();
-        for line in self.shared.split('\n').chain(own.split('\n')) {
-            setup.read(line)?;
-        }
+        setup.read_all(self.shared)?;
+        setup.read_all(own)?;
         Some(setup)
     }
 
     /// The words of a run.
     pub fn words(&self, alloc: Global, own: &str) -> Result<Words, AllocError> {
         let mut words = Words::new(alloc)?;
-        for line in self.shared.split('\n').chain(own.split('\n')) {
-            let (key, value) = key_and_value(line);
-            if key == "word" {
-                words.add(value)?;
-            }
-        }
+        add_words(self.shared, &mut words)?;
+        add_words(own, &mut words)?;
         Ok(words)
     }
 
     /// The store of a run, with the texts.
     pub fn store(&self, alloc: Global, setup: &Setup<'_>) -> Result<MemoryStore, AllocError> {
-        let mut store = MemoryStore::new(alloc, setup.piece);
+        let mut store = MemoryStore::new(alloc, setup.piece.max(1));
         if let Some(call) = setup.fail {
             store.fail_at(call)?;
         }
-        let Some(texts) = self.texts else {
-            return Ok(store);
-        };
-        for text in texts.split("\ntext ") {
-            add_text(alloc, &mut store, text, setup)?;
+        if let Some(texts) = self.texts {
+            add_texts(alloc, &mut store, texts, setup)?;
         }
         Ok(store)
     }
@@ -84,6 +76,29 @@ impl<'a> Row<'a> {
             None => 0,
         }
     }
+}
+
+/// Adds the words of lines.
+fn add_words(lines: &str, words: &mut Words) -> Result<(), AllocError> {
+    for line in lines.split('\n') {
+        if let ("word", word) = key_and_value(line) {
+            words.add(word)?;
+        }
+    }
+    Ok(())
+}
+
+/// Adds all texts of a row.
+fn add_texts(
+    alloc: Global,
+    store: &mut MemoryStore,
+    texts: &str,
+    setup: &Setup<'_>,
+) -> Result<(), AllocError> {
+    for text in texts.split("\ntext ") {
+        add_text(alloc, store, text, setup)?;
+    }
+    Ok(())
 }
 
 /// Adds a text under the name in its first line: the lines behind that, the last one without its line feed where it

@@ -1,6 +1,4 @@
 //! What the lines of a head say besides words and plugins.
-ghost use Rattle.std.specs.Prelude.{◌<◌};
-
 use crate::fields::key_and_value;
 use crate::plugs::is_plug;
 
@@ -31,7 +29,6 @@ pub struct Setup<'a> {
     pub rooms: bool,
     /// Whether all front parts of the texts are tried too.
     pub fronts: bool,
-    ghost some: { 0 < piece },
 }
 
 impl<'a> Setup<'a> {
@@ -53,25 +50,78 @@ impl<'a> Setup<'a> {
         }
     }
 
-    /// Does what a line says; `None` where it is none of a head.
-    pub fn read(&mut self, line: &'a str) -> Option<()> {
-        let (key, value) = key_and_value(line);
-        match (key, value) {
-            ("", "") | ("#" | "word", _) => {}
-            ("piece", _) => self.piece = value.parse().ok().filter(|piece| *piece > 0)?,
-            ("fail", _) => self.fail = Some(value.parse().ok()?),
-            ("room", _) => self.room = value.parse().ok()?,
-            ("cut", _) => self.cut = Some(value),
-            ("kept", _) => self.kept = value.parse().ok()?,
-            ("start" | "shelf", _) if is_plug(value) => self.kit = true,
-            ("builtins", "") => self.builtins = true,
-            ("entries", "") => self.entries = true,
-            ("log", "") => self.log = true,
-            ("alike", "") => self.alike = true,
-            ("rooms", "") => self.rooms = true,
-            ("fronts", "") => self.fronts = true,
+    /// Takes a number that a line says; `None` where it says none.
+    fn take_number(&mut self, key: &str, value: &str) -> Option<()> {
+        let number = value.parse::<usize>().ok()?;
+        match key {
+            "piece" if number > 0 => self.piece = number,
+            "fail" => self.fail = Some(number as u64),
+            "room" => self.room = number,
+            "kept" => self.kept = number,
             _ => return None,
         }
         Some(())
+    }
+
+    /// Does what a line of one word says; `None` where it says nothing.
+    fn take_flag(&mut self, key: &str) -> Option<()> {
+        match key {
+            "" | "#" | "word" => {}
+            "builtins" => self.builtins = true,
+            "entries" => self.entries = true,
+            "log" => self.log = true,
+            "alike" => self.alike = true,
+            "rooms" => self.rooms = true,
+            "fronts" => self.fronts = true,
+            _ => return None,
+        }
+        Some(())
+    }
+
+    /// Does what a line says; `None` where it is none of a head.
+    fn read(&mut self, line: &'a str) -> Option<()> {
+        let (key, value) = key_and_value(line);
+        match key {
+            "#" | "word" => Some(()),
+            "cut" => {
+                self.cut = Some(value);
+                Some(())
+            }
+            "start" | "shelf" if is_plug(value) => {
+                self.kit = true;
+                Some(())
+            }
+            _ if value.is_empty() => self.take_flag(key),
+            _ => self.take_number(key, value),
+        }
+    }
+
+    /// Does what lines say; `None` where one is none of a head.
+    pub fn read_all(&mut self, lines: &'a str) -> Option<()> {
+        for line in lines.split('\n') {
+            self.read(line)?;
+        }
+        Some(())
+    }
+
+    /// The same with pieces of this size.
+    pub fn with_piece(&self, piece: usize) -> Self {
+        let mut other = *self;
+        other.piece = piece;
+        other
+    }
+
+    /// The same with a sink that takes so many bytes.
+    pub fn with_room(&self, room: usize) -> Self {
+        let mut other = *self;
+        other.room = room;
+        other
+    }
+
+    /// The same with so many bytes of each text.
+    pub fn with_kept(&self, kept: usize) -> Self {
+        let mut other = *self;
+        other.kept = kept;
+        other
     }
 }

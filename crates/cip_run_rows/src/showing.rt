@@ -4,6 +4,8 @@ use crate::row::Row;
 use crate::setup::Setup;
 use cip_builtins::{Log, Mark};
 use cip_io::MemorySink;
+use cip_tree::{End, Logged};
+use std::alloc::{AllocError, Global};
 use std::io;
 
 /// A row, or an answer, that can't be read.
@@ -42,10 +44,26 @@ fn word_of(mark: &Mark) -> &'static str {
     }
 }
 
+/// Prints an entry of a log: the node, its bound and how it ended.
+fn show_entry(rt: &impl Print, entry: &Logged) -> io::Result<()> {
+    print!(rt; "node {}", entry.id)?;
+    match entry.bound {
+        Some(bound) => print!(rt; ", bound {bound}")?,
+        None => print!(rt; ", no bound")?,
+    }
+    match entry.end {
+        End::Split { col, at, low, high } => println!(rt;
+            ", split of {col} at {at} into {low} and {high}"
+        ),
+        End::Closed => println!(rt; ", closed"),
+        End::Parked => println!(rt; ", parked"),
+    }
+}
+
 /// Prints the entries of a log, and then its marks.
 fn show_log(rt: &impl Print, log: &Log) -> io::Result<()> {
     for entry in &log.taken {
-        println!(rt; "{entry:?}")?;
+        show_entry(rt, entry)?;
     }
     for (number, mark) in &log.marks {
         println!(rt; "mark {number} {}", word_of(mark))?;
@@ -90,6 +108,20 @@ fn show_logs(rt: &impl Print, setup: &Setup<'_>, logs: &[Log]) -> io::Result<()>
     Ok(())
 }
 
+/// Whether a call comes to the same status and bytes as another one.
+fn is_alike(
+    alloc: Global,
+    row: &Row<'_>,
+    own: &str,
+    setup: &Setup<'_>,
+    outcome: &Outcome,
+) -> Result<bool, AllocError> {
+    let other = outcome_of(alloc, row, own, setup)?;
+    let is_alike = other.status == outcome.status && other.out.taken() == outcome.out.taken();
+    drop(other);
+    Ok(is_alike)
+}
+
 /// Prints whether the call comes to the same status and bytes with all smaller pieces, or the least with which it
 /// doesn't.
 fn show_alike(
@@ -100,14 +132,25 @@ fn show_alike(
     outcome: &Outcome,
 ) -> io::Result<()> {
     for piece in 1..setup.piece {
-        let mut other = *setup;
-        other.piece = piece;
-        let other = outcome_of(rt.alloc(), row, own, &other)?;
-        if other.status != outcome.status || other.out.taken() != outcome.out.taken() {
+        if !is_alike(rt.alloc(), row, own, &setup.with_piece(piece), outcome)? {
             return println!(rt; "unlike with piece {piece}");
         }
     }
     println!(rt; "alike")
+}
+
+/// Whether a call whose sink is too short has status 5, and a front part of an answer.
+fn takes_front(
+    alloc: Global,
+    row: &Row<'_>,
+    own: &str,
+    setup: &Setup<'_>,
+    answer: &[u8],
+) -> Result<bool, AllocError> {
+    let short = outcome_of(alloc, row, own, setup)?;
+    let is_front = short.status == 5 && Some(short.out.taken()) == answer.get(..setup.room);
+    drop(short);
+    Ok(is_front)
 }
 
 /// Prints whether each smaller sink takes just a front part of the answer, with status 5, or the least that takes
@@ -120,14 +163,19 @@ fn show_rooms(
     answer: &[u8],
 ) -> io::Result<()> {
     for room in 0..answer.len() {
-        let mut short = *setup;
-        short.room = room;
-        let short = outcome_of(rt.alloc(), row, own, &short)?;
-        if short.status != 5 || Some(short.out.taken()) != answer.get(..room) {
+        if !takes_front(rt.alloc(), row, own, &setup.with_room(room), answer)? {
             return println!(rt; "room {room} takes something else");
         }
     }
     println!(rt; "all {} rooms take a front part", answer.len())
+}
+
+/// The status of a call.
+fn status_of(alloc: Global, row: &Row<'_>, own: &str, setup: &Setup<'_>) -> Result<u8, AllocError> {
+    let outcome = outcome_of(alloc, row, own, setup)?;
+    let status = outcome.status;
+    drop(outcome);
+    Ok(status)
 }
 
 /// Prints from how many bytes of the texts on which status comes.
@@ -139,13 +187,11 @@ fn show_fronts(
 ) -> io::Result<()> {
     let mut last = None;
     for kept in 0..row.text_bytes() {
-        let mut front = *setup;
-        front.kept = kept;
-        let front = outcome_of(rt.alloc(), row, own, &front)?;
-        if last != Some(front.status) {
-            println!(rt; "from {kept} bytes: status {}", front.status)?;
+        let status = status_of(rt.alloc(), row, own, &setup.with_kept(kept))?;
+        if last != Some(status) {
+            println!(rt; "from {kept} bytes: status {status}")?;
         }
-        last = Some(front.status);
+        last = Some(status);
     }
     Ok(())
 }
@@ -170,16 +216,28 @@ fn show_more(
     Ok(())
 }
 
-/// Calls `run` once, and prints the lines of the call, the status, what is wanted of the logs, what is left of the kit,
-/// what else is tried, and the bytes.
+/// Prints the status of a call, what is wanted of the logs, what is left of the kit, what else is tried, and the bytes.
+fn show_outcome(
+    rt: &(impl Print + AllocGlobal),
+    row: &Row<'_>,
+    own: &str,
+    setup: &Setup<'_>,
+    outcome: &Outcome,
+) -> io::Result<()> {
+    show_status(rt, setup, outcome)?;
+    show_logs(rt, setup, outcome.logs.as_slice())?;
+    show_more(rt, row, own, setup, outcome)?;
+    show_taken(rt, &outcome.out)
+}
+
+/// Calls `run` once, and prints the lines of the call and what came of it.
 pub fn show_run(rt: &(impl Print + AllocGlobal), row: &Row<'_>, own: &str) -> io::Result<()> {
     let Some(setup) = row.setup(own) else {
         return Err(unread());
     };
     println!(rt; "run{own}")?;
     let outcome = outcome_of(rt.alloc(), row, own, &setup)?;
-    show_status(rt, &setup, &outcome)?;
-    show_logs(rt, &setup, outcome.logs.as_slice())?;
-    show_more(rt, row, own, &setup, &outcome)?;
-    show_taken(rt, &outcome.out)
+    let shown = show_outcome(rt, row, own, &setup, &outcome);
+    drop(outcome);
+    shown
 }

@@ -5,7 +5,7 @@ ghost use Rattle.cip_seats.specs.FaultNames.{name_of};
 use std::alloc::AllocError;
 
 /// What is wrong with a wish.
-#[derive(Clone, Copy, Debug, PartialEq, Eq)]
+#[derive(Clone, Copy, PartialEq, Eq)]
 pub enum WishFault {
     /// The shelf has no such place.
     NoSuchPlace,

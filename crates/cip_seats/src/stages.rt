@@ -1,7 +1,7 @@
 //! How far a plugin's life has come.
 
 /// The stages of a life, in order.
-#[derive(Clone, Copy, Debug, PartialEq, Eq)]
+#[derive(Clone, Copy, PartialEq, Eq)]
 pub enum Stage {
     /// It has a seat, and wasn't called yet.
     Fresh,

@@ -24,3 +24,7 @@ left_alone kept log stock trace e = record { same = refl; untold = e }
 pub nobody_called : (alone kept : Bool) (log : List Entry) (stock : Stock) (trace : Option Trace) → log ≡ [] → trace ≡ None → IsKitAfter alone kept log stock stock trace
 nobody_called true kept log stock trace l e = record { same = refl; untold = e }
 nobody_called false kept log stock trace l e = inr (record { same = refl; untold = e }, l)
+
+-- the same lines are told
+pub kit_told : (kept : Bool) (log : List Entry) (had has : Stock) (trace told : Option Trace) → told ≡ trace → IsKitAfter false kept log had has trace → IsKitAfter false kept log had has told
+kit_told kept log had has trace told e k = subst (IsKitAfter false kept log had has) (sym e) k

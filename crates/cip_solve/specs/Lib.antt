@@ -2,6 +2,7 @@ pub mod Answered
 pub mod FirstStops
 pub mod Logs
 pub mod NodesWorked
+pub mod Outsets
 pub mod Reducing
 pub mod Searching
 pub mod Solved

@@ -187,7 +187,13 @@ impl<'a> Search<'a> {
         ensures marked { log.new.marks ≡ self.entry.marks }
     {
         let Search { work, worst, marks } = self;
-        let NodeWork { core, .. } = work;
+        let NodeWork {
+            core,
+            solver,
+            starts,
+        } = work;
+        drop(solver);
+        drop(starts);
         let answer = answer_at(&core, worst, stop, options, point);
         log.taken = core.take_log();
         log.marks = marks;

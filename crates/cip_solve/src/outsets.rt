@@ -1,13 +1,12 @@
 //! How a search begins, and one with plugins.
-ghost use Rattle.std.specs.Prelude.{◌≡◌, IfOk, OnErr, length, vec_len, vec_capacity};
+ghost use Rattle.std.specs.Prelude.{◌≡◌, IfOk, OnErr, vec_len, vec_capacity};
 ghost use Rattle.cip_problem.specs.WellFormed.{columns};
 ghost use Rattle.cip_processing.specs.PresolvedPrograms.{IsPresolved};
 ghost use Rattle.cip_processing.specs.Beginning.{AreNearColumns};
 ghost use Rattle.cip_processing.specs.ProposalsJudged.{HaveRoom};
 ghost use Rattle.cip_processing.specs.Turns.{IsSound};
 ghost use Rattle.cip_kits.specs.Kits.{stock_of, IsFew, HasBegun, HasRoomFor};
-ghost use Rattle.cip_solve.specs.Reducing.{IsOfReduced};
-ghost use Rattle.cip_solve.specs.Searching.{IsAtRoot};
+ghost use Rattle.cip_solve.specs.Outsets.{HasBegunWith};
 
 use crate::asking::Asking;
 use cip_frac::Frac;
@@ -75,8 +74,27 @@ fn ask(alloc: Global, core: &Core<'_>, kit: &mut Kit, kept: bool) -> Result<Rost
     begin(alloc, kit, kept, &opening.view(core))
 }
 
-/// Lets go of what a search would have worked with.
-fn let_go(_work: NodeWork<'_>, _scratches: Scratches, _point: Vec<Frac>) {}
+/// What a search begins with of the program that presolve made of one, before a node was taken. `Err` comes where memory
+/// was refused.
+pub(crate) fn begun_with<'p>(
+    alloc: Global,
+    program: &'p Program,
+    presolved: &'p Presolved,
+) -> Result<Begun<'p>, AllocError>
+    requires near { AreNearColumns presolved.now.reduced }
+    requires back { IsPresolved program.now presolved.now }
+    ensures { IfOk result (HasBegunWith program.now presolved.now) }
+{
+    let columns = program.columns();
+    let point = vec![in alloc; Frac::zero(); columns]?;
+    match NodeWork::new(alloc, program, presolved) {
+        Err(error) => Err(error),
+        Ok(work) => {
+            work.core.is_sound();
+            Ok(Begun { work, point })
+        }
+    }
+}
 
 /// What a search with the plugins of a kit begins with of the program that presolve made of one, after these had their
 /// first calls. `Err` comes where memory was refused: then nobody was called, and the kit is as it was.
@@ -90,10 +108,7 @@ pub(crate) fn set_out<'p>(
     requires near { AreNearColumns presolved.now.reduced }
     requires back { IsPresolved program.now presolved.now }
     requires few { IsFew (stock_of ⟦<AnyPlugin as Tells>⟧.who kit.old) }
-    ensures root { IfOk result (λ outset. IsAtRoot outset.begun.work.core
-        × (outset.begun.work.core.program ≡ program.now)) }
-    ensures back { IfOk result (λ outset. IsOfReduced outset.begun.work.core presolved.now) }
-    ensures point { IfOk result (λ outset. length outset.begun.point.items ≡ columns program.now) }
+    ensures start { IfOk result (λ outset. HasBegunWith program.now presolved.now outset.begun) }
     ensures ready { IfOk result (λ outset.
         HaveRoom outset.asking.plugins.scratches (columns presolved.now.reduced)
         × IsSound (⟦<Roster as Seated>⟧.state outset.asking.plugins.roster)
@@ -105,22 +120,25 @@ pub(crate) fn set_out<'p>(
     ensures err { OnErr result (stock_of ⟦<AnyPlugin as Tells>⟧.who kit.new
         ≡ stock_of ⟦<AnyPlugin as Tells>⟧.who kit.old) }
 {
-    let columns = program.columns();
-    let point = vec![in alloc; Frac::zero(); columns]?;
     let scratches = Scratches::new(alloc, &presolved.reduced)?;
-    let work = NodeWork::new(alloc, program, presolved)?;
-    work.core.is_sound();
-    match ask(alloc, &work.core, kit, kept) {
-        Ok(roster) => Ok(Outset {
-            begun: Begun { work, point },
-            asking: Asking {
-                plugins: Plugins::new(alloc, scratches, roster),
-                is_refused: false,
-            },
-        }),
+    match begun_with(alloc, program, presolved) {
         Err(error) => {
-            let_go(work, scratches, point);
+            drop(scratches);
             Err(error)
         }
+        Ok(begun) => match ask(alloc, &begun.work.core, kit, kept) {
+            Err(error) => {
+                drop(begun);
+                drop(scratches);
+                Err(error)
+            }
+            Ok(roster) => Ok(Outset {
+                begun,
+                asking: Asking {
+                    plugins: Plugins::new(alloc, scratches, roster),
+                    is_refused: false,
+                },
+            }),
+        },
     }
 }

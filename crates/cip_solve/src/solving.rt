@@ -16,15 +16,16 @@ ghost use Rattle.cip_solve.specs.SplitsServed.{splits_in, HasServed};
 
 use crate::finish::search_from;
 use crate::logs::Log;
-use crate::outsets::{Begun, Outset, set_out};
+use crate::outsets::{Outset, begun_with, set_out};
 use crate::reducing::reduced_for;
 use crate::works::{Alone, Works};
 use cip_endings::{Answer, Ended};
+use cip_events::Trace;
 use cip_frac::Frac;
 use cip_kits::{end, is_bare};
 use cip_model::Program;
 use cip_plugin::{AnyPlugin, Kit, Tells};
-use cip_processing::{NodeWork, Presolved, root_bound};
+use cip_processing::{Presolved, root_bound};
 use std::alloc::Global;
 
 /// What a search may do.
@@ -108,17 +109,17 @@ pub fn solve_by<W: Works>(
 {
     log.taken.clear();
     log.marks.clear();
-    let columns = program.columns();
-    let Ok(point) = vec![in alloc; Frac::zero(); columns] else {
-        return unsearched(program);
-    };
-    match NodeWork::new(alloc, program, presolved) {
+    match begun_with(alloc, program, presolved) {
         Err(_) => unsearched(program),
-        Ok(work) => {
-            work.core.is_sound();
-            search_from(Begun { work, point }, presolved, works, alloc, options, log)
-        }
+        Ok(begun) => search_from(begun, presolved, works, alloc, options, log),
     }
+}
+
+/// An answer with these lines of a trace, if there are any.
+fn with_trace(answer: Answer, trace: Option<Trace>) -> Answer
+    ensures { result ≡ record answer { trace = trace } }
+{
+    Answer { trace, ..answer }
 }
 
 /// Searches so with the plugins of a kit. Where memory is refused before a node is taken, nobody was called.
@@ -144,13 +145,16 @@ fn solve_with(
 {
     log.taken.clear();
     log.marks.clear();
-    let Ok(outset) = set_out(alloc, program, presolved, kit, options.trace) else {
-        return unsearched(program);
-    };
-    let Outset { begun, mut asking } = outset;
-    let mut answer = search_from(begun, presolved, &mut asking, alloc, options, log);
-    answer.trace = end(alloc, kit, &mut asking.plugins.roster, options.trace);
-    answer
+    match set_out(alloc, program, presolved, kit, options.trace) {
+        Err(_) => unsearched(program),
+        Ok(outset) => {
+            let Outset { begun, mut asking } = outset;
+            let answer = search_from(begun, presolved, &mut asking, alloc, options, log);
+            let trace = end(alloc, kit, &mut asking.plugins.roster, options.trace);
+            drop(asking);
+            with_trace(answer, trace)
+        }
+    }
 }
 
 /// Whether nobody is asked in a search: it is to go without plugins, or the kit has none.
@@ -217,6 +221,10 @@ pub fn solve(
     match reduced_for(alloc, program, options.presolve) {
         Err(_) => unsearched(program),
         Ok(None) => infeasible(program),
-        Ok(Some(presolved)) => solve_reduced(alloc, program, &presolved, options, kit, log),
+        Ok(Some(presolved)) => {
+            let answer = solve_reduced(alloc, program, &presolved, options, kit, log);
+            drop(presolved);
+            answer
+        }
     }
 }

@@ -10,6 +10,7 @@ pub mod Parted
 pub mod Paths
 pub mod Queues
 pub mod Restaged
+pub mod Rooms
 pub mod SplitColumns
 pub mod Starts
 pub mod Tightening

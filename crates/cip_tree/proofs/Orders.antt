@@ -43,13 +43,13 @@ open_not_ended s e f = let g : Open ≡ Ended = sym e ∙ f in cc
 pub open_not_parked : (s : Stage) → s ≡ Open → s ≢ Parked
 open_not_parked s e f = let g : Open ≡ Parked = sym e ∙ f in cc
 
-open_is_not : Open ≢ Ended
+pub open_is_not : Open ≢ Ended
 open_is_not e = cc
 
 taken_is_not : Taken ≢ Ended
 taken_is_not e = cc
 
-parked_is_not : Parked ≢ Ended
+pub parked_is_not : Parked ≢ Ended
 parked_is_not e = cc
 
 -- ---- a node in work is open again

@@ -19,7 +19,7 @@ use Rattle.cip_tree.specs.Origins.{Origin}
 use Rattle.cip_tree.specs.declared.walks.Stop.{Stop}
 use Rattle.cip_tree.specs.Notes.{noted_change, noted}
 use Rattle.cip_tree.specs.Slots.{Slot, Slots, slot_at, above, HasParent, AreSoundSlots, IsLinked}
-use Rattle.cip_tree.specs.Walks.{Way, last_stop, AreRising, AreHeld, AreNarrowed, Arrives, EndsThere, IsRegionAt, IsStop, IsWalked, IsParent, Climbs, StandsAt, IsReached}
+use Rattle.cip_tree.specs.Walks.{Way, last_stop, AreRising, AreHeld, AreNarrowed, Arrives, EndsThere, IsRegionAt, IsStop, IsWalked, IsParent, IsDescent, Climbs, StandsAt, IsReached}
 use Rattle.cip_tree.proofs.Keeping.{same_slot}
 use Rattle.cip_tree.proofs.Links.{first_above, up_of_kept, step_up}
 use Rattle.cip_tree.specs.Origins.{filled, after}
@@ -249,9 +249,6 @@ module _ (root : Region) (slots : Slots) (place : ℕ) (kept : AreSoundSlots slo
       now_plain : ArePlainPast (region_of old.domain)
       now_plain = subst ArePlainPast (sym now_is) (after_plain root (above u.number slots u.origin) st.walked.plain)
 
-      mid_plain : (mid : Region) → mid ≡ narrowed (region_of old.domain) (noted u.notes) → ArePlainPast mid
-      mid_plain mid e = subst ArePlainPast (sym e) (past_stays (region_of old.domain) (noted u.notes) now_plain)
-
       not_reached : (new : Way) → ((point : List ℚ) → ¬ IsInBox (tightened (narrowed (region_of old.domain) (noted u.notes)) (filled root.choices o.change)).box point) → IsReached root slots place (region_of new.domain) false
       not_reached new h slot f point k =
           h point (subst (λ r. IsInBox (tightened (narrowed r (noted u.notes)) (filled root.choices o.change)).box point) (sym now_is)
@@ -265,25 +262,18 @@ module _ (root : Region) (slots : Slots) (place : ℕ) (kept : AreSoundSlots slo
           reached = if_failed (IsReached root slots place (region_of new.domain)) r f;
         }
 
-        -- no point meets the notes
-        pub step_by_notes : {E : Type 0} → new.stops ≡ old.stops → KeepsMarks old.domain new.domain → (ArePlainPast (region_of old.domain) → AreNarrowed (region_of old.domain) (region_of new.domain) (noted u.notes) false) → Arrives {E = E} root slots ids new place (Ok false)
-        step_by_notes e keeps h = record {
+        -- no point meets the notes and the change that gave the node
+        pub step_empty : {E : Type 0} → new.stops ≡ old.stops → KeepsMarks old.domain new.domain → (ArePlainPast (region_of old.domain) → AreNarrowed (region_of old.domain) (region_of new.domain) (filled root.choices o.change ∷ noted u.notes) false) → Arrives {E = E} root slots ids new place (Ok false)
+        step_empty e keeps h = record {
           walked = walked_marks root slots ids old new e held keeps st.walked;
-          reached = not_reached new (λ point k. h now_plain point (after_first (region_of old.domain) ((filled root.choices o.change) ∷ []) (noted u.notes) point k));
-        }
-
-        -- no point meets the change that gave the node
-        pub step_by_change : {E : Type 0} (mid : Region) → new.stops ≡ old.stops → KeepsMarks old.domain new.domain → (ArePlainPast (region_of old.domain) → AreNarrowed (region_of old.domain) mid (noted u.notes) true) → (ArePlainPast mid → IsNarrowed mid (region_of new.domain) (filled root.choices o.change) false) → Arrives {E = E} root slots ids new place (Ok false)
-        step_by_change mid e keeps h g = record {
-          walked = walked_marks root slots ids old new e held keeps st.walked;
-          reached = not_reached new (λ point k. g (mid_plain mid (h now_plain)) point (subst (λ r. IsInBox (tightened r (filled root.choices o.change)).box point) (sym (h now_plain)) k));
+          reached = not_reached new (h now_plain);
         }
 
         -- the node is reached
-        module _ (mid : Region) (h : ArePlainPast (region_of old.domain) → AreNarrowed (region_of old.domain) mid (noted u.notes) true) (g : ArePlainPast mid → IsNarrowed mid (region_of new.domain) (filled root.choices o.change) true) where
+        module _ (h : ArePlainPast (region_of old.domain) → AreNarrowed (region_of old.domain) (region_of new.domain) (filled root.choices o.change ∷ noted u.notes) true) where
           arrived : IsRegionAt root slots place (region_of new.domain)
           arrived slot f =
-              g (mid_plain mid (h now_plain)) ∙ ap (λ r. tightened r (filled root.choices o.change)) (h now_plain ∙ ap (λ r. narrowed r (noted u.notes)) now_is ∙ sym (after_notes root u.notes (above u.number slots u.origin)))
+              h now_plain ∙ ap (λ r. tightened r (filled root.choices o.change)) (ap (λ r. narrowed r (noted u.notes)) now_is ∙ sym (after_notes root u.notes (above u.number slots u.origin)))
               ∙ sym (ap (after root) above_read) ∙ ap (λ (t : Slot). after root (above t.number slots t.origin)) (same_slot slots place s slot here f)
 
           pub step_taken : {E : Type 0} (stop : Stop) → new.stops ≡ old.stops ++ stop ∷ [] → KeepsMarks old.domain new.domain → stop.number ≡ s.number → region_at new.domain stop.mark ≡ region_of new.domain → Arrives {E = E} root slots ids new place (Ok true)
@@ -301,6 +291,37 @@ module _ (root : Region) (slots : Slots) (place : ℕ) (kept : AreSoundSlots slo
             };
             reached = λ slot f. arrived slot f;
           }
+
+-- the same by how the node is reached
+module _ (root : Region) (slots : Slots) (place number : ℕ) (notes : List Note) (o : Origin) (kept : AreSoundSlots slots) (d : IsDescent slots place number notes o) (ids parent : ℕ) (p : IsParent slots place parent) (old new : Way) (held : AreHeld old.domain old.stops) (st : StandsAt root slots ids old parent) where
+  pub descent_failed : {E : Type 0} (r : Result Bool E) → new.stops ≡ old.stops → KeepsMarks old.domain new.domain → IsErr r → Arrives root slots ids new place r
+  descent_failed r e keeps f = step_failed root slots place kept d.slot d.found o d.origin_is d.parent d.parent_found parent p ids old st new held r e keeps f
+
+  pub descent_empty : {E : Type 0} → new.stops ≡ old.stops → KeepsMarks old.domain new.domain → (ArePlainPast (region_of old.domain) → AreNarrowed (region_of old.domain) (region_of new.domain) (filled root.choices o.change ∷ noted notes) false) → Arrives {E = E} root slots ids new place (Ok false)
+  descent_empty e keeps h =
+      step_empty root slots place kept d.slot d.found o d.origin_is d.parent d.parent_found parent p ids old st new held e keeps
+      (subst (λ l. ArePlainPast (region_of old.domain) → AreNarrowed (region_of old.domain) (region_of new.domain) (filled root.choices o.change ∷ noted l) false) d.notes_are h)
+
+  pub descent_taken : {E : Type 0} (mark : ℕ) → new.stops ≡ old.stops ++ record { number = number; mark = mark } ∷ [] → KeepsMarks old.domain new.domain → (ArePlainPast (region_of old.domain) → AreNarrowed (region_of old.domain) (region_of new.domain) (filled root.choices o.change ∷ noted notes) true) → region_at new.domain mark ≡ region_of new.domain → Arrives {E = E} root slots ids new place (Ok true)
+  descent_taken mark e keeps h m =
+      step_taken root slots place kept d.slot d.found o d.origin_is d.parent d.parent_found parent p ids old st new held
+      (subst (λ l. ArePlainPast (region_of old.domain) → AreNarrowed (region_of old.domain) (region_of new.domain) (filled root.choices o.change ∷ noted l) true) d.notes_are h)
+      (record { number = number; mark = mark }) e keeps d.number_is m
+
+-- notes that no point meets with another change
+pub none_more : (before : Region) (change : Change) (earlier : List Change) → ((point : List ℚ) → ¬ IsInBox (narrowed before earlier).box point) → (point : List ℚ) → ¬ IsInBox (narrowed before (change ∷ earlier)).box point
+none_more before change earlier h point k = h point (after_first before (change ∷ []) earlier point k)
+
+-- after notes, a region after another change
+more_narrowed : {E : Type 0} (before mid after : Region) (change : Change) (earlier : List Change) (r : Result Bool E) → mid ≡ narrowed before earlier → IfOk r (IsNarrowed mid after change) → IfOk r (AreNarrowed before after (change ∷ earlier))
+more_narrowed before mid after change earlier (Ok true) e h = h ∙ ap (λ r. tightened r change) e
+more_narrowed before mid after change earlier (Ok false) e h = λ point k. h point (subst (λ r. IsInBox (tightened r change).box point) (sym e) k)
+more_narrowed before mid after change earlier (Err x) e h = tt
+
+pub narrowed_more : {E : Type 0} (before mid after : Region) (notes : List Note) (change : Change) (r : Result Bool E) → (ArePlainPast before → AreNarrowed before mid (noted notes) true) → (ArePlainPast mid → IfOk r (IsNarrowed mid after change)) → ArePlainPast before → IfOk r (AreNarrowed before after (change ∷ noted notes))
+narrowed_more before mid after notes change r f g p =
+    let e : mid ≡ narrowed before (noted notes) = f p in
+    more_narrowed before mid after change (noted notes) r e (g (subst ArePlainPast (sym e) (past_stays before (noted notes) p)))
 
 -- the region at the last mark is the one that stands
 pub mark_here : (domain : Domain) (mark : ℕ) → mark ≡ length domain.before → region_at domain mark ≡ region_of domain

@@ -10,6 +10,7 @@ pub mod Queue
 pub mod Searched
 pub mod Slots
 pub mod Splitting
+pub mod Started
 pub mod Tightening
 pub mod Tracked
 pub mod Walks

@@ -9,7 +9,7 @@ use Rattle.cip_domain.specs.Narrowing.{ArePlainPast}
 use Rattle.cip_tree.specs.declared.walks.Stop.{Stop}
 use Rattle.cip_tree.specs.declared.notes.Note.{Note}
 use Rattle.cip_tree.specs.Notes.{noted}
-use Rattle.cip_tree.specs.Origins.{after}
+use Rattle.cip_tree.specs.Origins.{Origin, after}
 use Rattle.cip_tree.specs.Slots.{Slot, Slots, slot_at, above}
 
 -- the region is the node's; or the node's box has no point at all
@@ -82,6 +82,17 @@ pub record IsParent (slots : Slots) (place parent : ℕ) : Type 0 where
   pub found : slot_at slots place ≡ Some slot
   pub change : Change
   pub origin : slot.origin ≡ Some (record { parent = parent; change = change })
+
+-- how the node at a place is reached from its parent: its number, what the parent's own work noted, and by which split
+-- it was given
+pub record IsDescent (slots : Slots) (place number : ℕ) (notes : List Note) (origin : Origin) : Type 0 where
+  pub slot : Slot
+  pub found : slot_at slots place ≡ Some slot
+  pub number_is : number ≡ slot.number
+  pub origin_is : slot.origin ≡ Some origin
+  pub parent : Slot
+  pub parent_found : slot_at slots origin.parent ≡ Some parent
+  pub notes_are : notes ≡ parent.notes
 
 -- a node is kept at a place, and the way ends there
 pub record EndsThere (slots : Slots) (stops : List Stop) (place : ℕ) : Type 0 where

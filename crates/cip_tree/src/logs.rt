@@ -4,7 +4,7 @@ ghost use Rattle.cip_tree.specs.Searched.{SearchedLogsAreLogs};
 use cip_domain::Frac;
 
 /// How a node ended.
-#[derive(Clone, Copy, Debug, PartialEq, Eq)]
+#[derive(Clone, Copy, PartialEq, Eq)]
 pub enum End {
     /// Two new nodes: `low` has a whole column at most `at`, `high` at least `at + 1`; where the choice of the column
     /// was open, it is off in `low` and on in `high`.
@@ -21,7 +21,7 @@ pub enum End {
 }
 
 /// A node that was taken and has ended, with the bound that it had then.
-#[derive(Clone, Copy, Debug, PartialEq, Eq)]
+#[derive(Clone, Copy, PartialEq, Eq)]
 pub struct Logged {
     /// The node's number.
     pub id: u64,

@@ -9,7 +9,7 @@ use cip_domain::{Sides, can_halve};
 use std::alloc::AllocError;
 
 /// Why a node was not split.
-#[derive(Clone, Copy, Debug, PartialEq, Eq)]
+#[derive(Clone, Copy, PartialEq, Eq)]
 pub enum SplitFault {
     /// The column is neither a whole one that is plain nor one whose choice is open.
     NotWhole,

@@ -5,6 +5,7 @@ ghost use Rattle.slab.specs.Slab.{HasRoomFor};
 ghost use Rattle.cip_problem.specs.Log.{Closed, Parked, Split};
 ghost use Rattle.cip_problem.specs.Wholes.{AllHaveWholes};
 ghost use Rattle.cip_tree.specs.Searched.{IsSearched, IsOpenIn};
+ghost use Rattle.cip_tree.specs.Started.{IsStarted};
 ghost use Rattle.cip_problem.specs.Box.{sides_at};
 ghost use Rattle.cip_domain.specs.Domain.{tightening};
 ghost use Rattle.cip_domain.specs.Narrowing.{ArePlainPast};
@@ -108,6 +109,56 @@ fn first_node(bound: &Option<Frac>, place: usize) -> OpenNode
     }
 }
 
+/// What the tree of one open node begins with.
+#[derive(Drop)]
+struct Started {
+    whole: Vec<bool>,
+    rooted: Rooted,
+    queue: Queue,
+    parked: Vec<OpenNode>,
+    log: Vec<Logged>,
+    work: Region,
+}
+
+/// What the tree of a root begins with: the root is kept and waits, and has room to be parked and to be logged; `Err`
+/// where the memory for it was refused.
+fn root_parts(
+    alloc: Global,
+    root: &Region,
+    whole: &[bool],
+    bound: &Option<Frac>,
+) -> Result<Started, AllocError>
+    ensures whole { IfOk result (λ parts. parts.whole.items ≡ whole.now) }
+    ensures started { IfOk result (IsStarted root.now bound.now) }
+{
+    let Ok(whole) = whole.to_vec(alloc) else {
+        return Err(AllocError);
+    };
+    let Ok(rooted) = kept_root(alloc) else {
+        return Err(AllocError);
+    };
+    let Ok(queue) = Queue::new(alloc, first_node(bound, rooted.place)) else {
+        return Err(AllocError);
+    };
+    let Ok(parked) = Vec::with_capacity(alloc, 1) else {
+        return Err(AllocError);
+    };
+    let Ok(log) = Vec::with_capacity(alloc, 1) else {
+        return Err(AllocError);
+    };
+    let Ok(work) = root.copied(alloc) else {
+        return Err(AllocError);
+    };
+    Ok(Started {
+        whole,
+        rooted,
+        queue,
+        parked,
+        log,
+        work,
+    })
+}
+
 /// Makes room for the halves of a node: to keep them, to wait, to be parked, and for their entries in the log and that
 /// of the node itself. `Err` comes where a growth was refused. The contents stay as they are.
 fn make_room(
@@ -169,6 +220,27 @@ fn split_entry(node: &Node, col: u32, at: i128, low: u64) -> Logged
 }
 
 impl Tree {
+    /// The tree of one open node with this region and this bound, by what it begins with.
+    fn begun(alloc: Global, root: Region, bound: Option<Frac>, parts: Started) -> Tree
+        requires past { ArePlainPast root }
+        requires started { IsStarted root bound parts }
+        ensures { IsNew result root parts.whole.items bound }
+    {
+        Tree {
+            alloc,
+            root,
+            root_bound: bound,
+            whole: parts.whole,
+            kept: parts.rooted.kept,
+            queue: parts.queue,
+            parked: parts.parked,
+            log: parts.log,
+            ids: 1,
+            in_work: 0,
+            walk: Walk::new(alloc, parts.work),
+        }
+    }
+
     /// The tree of one open node, number 0, with this region, which is in work, and this bound, `None` where none is
     /// known; `whole` says of each column whether it wants whole values. `Err` comes where the memory for it was
     /// refused.
@@ -182,26 +254,10 @@ impl Tree {
         requires past { ArePlainPast root }
         ensures { IfOk result (λ tree. IsNew tree root whole.now bound) }
     {
-        let whole = whole.to_vec(alloc)?;
-        let work = root.copied(alloc)?;
-        let parked = Vec::with_capacity(alloc, 1)?;
-        let log = Vec::with_capacity(alloc, 1)?;
-        let Rooted { kept, place } = kept_root(alloc)?;
-        let queue = Queue::new(alloc, first_node(&bound, place))?;
-        let walk = Walk::new(alloc, work);
-        Ok(Tree {
-            alloc,
-            root,
-            root_bound: bound,
-            whole,
-            kept,
-            queue,
-            parked,
-            log,
-            ids: 1,
-            in_work: 0,
-            walk,
-        })
+        match root_parts(alloc, &root, whole, &bound) {
+            Ok(parts) => Ok(Tree::begun(alloc, root, bound, parts)),
+            Err(_) => Err(AllocError),
+        }
     }
 
     /// How many nodes are open, those in work aside. Each of them is open in the log.

@@ -9,11 +9,12 @@ ghost use Rattle.cip_domain.specs.Narrowing.{ArePlainPast};
 ghost use Rattle.cip_tree.specs.Notes.{noted};
 ghost use Rattle.cip_tree.specs.Slots.{Slots, AreSoundSlots};
 ghost use Rattle.cip_tree.specs.Tightening.{region_after};
-ghost use Rattle.cip_tree.specs.Walks.{last_stop, AreNarrowed, EndsAt, EndsThere, IsParent, Climbs, IsWalked, StaysWalked, GoesBack, StepsDown, Descends, Enters};
+ghost use Rattle.cip_tree.specs.Walks.{last_stop, AreNarrowed, EndsAt, EndsThere, IsParent, IsDescent, Climbs, IsWalked, StaysWalked, GoesBack, StepsDown, Descends, Enters};
 
 use crate::kept::Kept;
 use crate::notes::{Note, change_of};
-use cip_domain::{Checkpoint, DomainStore, Frac, Region, Side, Tightened};
+use crate::origins::Origin;
+use cip_domain::{Change, Checkpoint, DomainStore, Frac, Region, Side, Tightened};
 use slab::Slab;
 use std::alloc::{AllocError, Global};
 use std::marker::Model;
@@ -51,6 +52,37 @@ struct Climb {
     top: usize,
 }
 
+/// How a node is reached from its parent: its number, what the parent's own work noted, and by which split it was
+/// given.
+#[derive(Clone, Copy)]
+struct Descent<'a> {
+    number: u64,
+    notes: &'a [Note],
+    origin: &'a Origin,
+}
+
+/// How the node at a place is reached from its parent; `None` where none is kept there, or it is a root.
+fn way_down(kept: &Slab<Kept>, place: usize) -> Option<Descent<'_>>
+    requires { AreSoundSlots kept.now.slots }
+    ensures { MatchOption result ((parent : ℕ) → ¬ IsParent kept.now.slots place parent)
+        (λ d. IsDescent kept.now.slots place d.number d.notes.now d.origin.now) }
+{
+    let Some(slot) = kept.get(place) else {
+        return None;
+    };
+    let Some(origin) = &slot.origin else {
+        return None;
+    };
+    let Some(above) = kept.get(origin.parent()) else {
+        return None;
+    };
+    Some(Descent {
+        number: slot.number,
+        notes: above.notes.as_slice(),
+        origin,
+    })
+}
+
 /// Makes the changes of notes, the oldest first; whether a point can meet them. The region at each mark so far stays.
 /// `Err` comes where memory was refused.
 fn narrow_by(domain: &mut DomainStore, notes: &[Note]) -> Result<bool, AllocError>
@@ -64,6 +96,20 @@ fn narrow_by(domain: &mut DomainStore, notes: &[Note]) -> Result<bool, AllocErro
         }
     }
     Ok(true)
+}
+
+/// Makes the changes of notes, the oldest first, and then another one; whether a point can meet them. The region at
+/// each mark so far stays. `Err` comes where memory was refused.
+fn narrow_more(domain: &mut DomainStore, notes: &[Note], change: Change) -> Result<bool, AllocError>
+    ensures narrowed { ArePlainPast (region_of domain.old)
+        → IfOk result (AreNarrowed (region_of domain.old) (region_of domain.new) (change ∷ noted notes.now)) }
+    ensures marks { KeepsMarks domain.old domain.new }
+{
+    if narrow_by(domain, notes)? {
+        domain.narrow(change)
+    } else {
+        Ok(false)
+    }
 }
 
 impl Walk {
@@ -212,24 +258,16 @@ impl Walk {
         requires kept { AreSoundSlots kept.now.slots }
         ensures { StepsDown root.now kept.now.slots self.old self.new place result }
     {
-        let Some(slot) = kept.get(place) else {
+        let Some(below) = way_down(kept, place) else {
             return Ok(true);
         };
-        let Some(origin) = &slot.origin else {
-            return Ok(true);
-        };
-        let Some(above) = kept.get(origin.parent()) else {
-            return Ok(true);
-        };
-        if !narrow_by(&mut self.domain, above.notes.as_slice())? {
-            return Ok(false);
-        }
-        if !self.domain.narrow(origin.change(root.choices()))? {
+        let change = below.origin.change(root.choices());
+        if !narrow_more(&mut self.domain, below.notes, change)? {
             return Ok(false);
         }
         let mark = self.domain.mark();
         self.stops.push(Stop {
-            number: slot.number,
+            number: below.number,
             mark,
         })?;
         Ok(true)

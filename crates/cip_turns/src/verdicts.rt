@@ -162,7 +162,7 @@ fn take_said<R: Asks>(
     core: &mut Core<'_>,
     node: &mut Node,
     id: u32,
-    said: Enforced,
+    said: &Enforced,
 ) -> Result<Verdict, AllocError>
     requires ready { IsReady core.old node.old plugins.old.scratches }
     requires sound { IsSound (R.state plugins.old.roster) (R.room plugins.old.roster) }
@@ -173,10 +173,10 @@ fn take_said<R: Asks>(
     ensures verdict { IfOk result (IsVerdict core.old core.new node.old node.new) }
 {
     match said {
-        Enforced::Cutoff(combo) => take_cutoff(plugins, core, node, id, &combo),
-        Enforced::Reduced(told) => take_reduced(plugins, core, node, id, &told),
-        Enforced::Separated(cut) => take_separated(plugins, core, node, id, &cut),
-        Enforced::Branched(split) => take_branched(plugins, core, node, id, split),
+        Enforced::Cutoff(combo) => take_cutoff(plugins, core, node, id, combo),
+        Enforced::Reduced(told) => take_reduced(plugins, core, node, id, told),
+        Enforced::Separated(cut) => take_separated(plugins, core, node, id, cut),
+        Enforced::Branched(split) => take_branched(plugins, core, node, id, *split),
         Enforced::Infeasible => take_word(plugins, core, node, id),
         Enforced::Feasible => take_word(plugins, core, node, id),
     }
@@ -201,6 +201,10 @@ pub(crate) fn take_verdict<R: Asks>(
 {
     match given {
         None => Ok(Verdict::Quiet),
-        Some(said) => take_said(plugins, core, node, id, said),
+        Some(said) => {
+            let verdict = take_said(plugins, core, node, id, &said);
+            drop(said);
+            verdict
+        }
     }
 }

@@ -94,7 +94,7 @@ pub enum Job<'a> {
 }
 
 /// Why words give no job.
-#[derive(Clone, Copy, Debug, PartialEq, Eq)]
+#[derive(Clone, Copy, PartialEq, Eq)]
 pub enum WordsFault {
     /// They are not accepted.
     Refused,

@@ -15,4 +15,4 @@ of_rows-problem-requires-clause-rows c =
 pub returns : goal.returns
 returns c =
     let made = rw (c.as_slice-rows.ensures.value, c.as_slice-costs.ensures.value) at c.of_rows-problem.ensures.program in
-    subst (λ (p : LinearProgram). IfOk c.show.result (λ found. IfSome found (IsShown p))) made c.show.ensures.shown
+    subst (λ (p : LinearProgram). IfOk c.show-found.result (λ found. IfSome found (IsShown p))) made c.show-found.ensures.shown

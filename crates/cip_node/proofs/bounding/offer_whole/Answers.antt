@@ -1,8 +1,11 @@
-use Rattle.std.proofs.Common.{◌∙◌, ap, subst}
+use Rattle.std.proofs.Common.{◌≢◌, Err, ◌∙◌, ap, subst}
 use Rattle.cip_problem.specs.Program.{Program}
 use Rattle.cip_problem.specs.Points.{AreWhole}
+use Rattle.cip_core.specs.PostsolveFault.TheVariants.{NoMemory}
+use Rattle.cip_core.specs.Steps.{IsTriedBack}
 use Rattle.cip_core.proofs.Relations.{later_at_itself}
 use Rattle.cip_node.proofs.Fractional.{fractional_tried}
+use Rattle.cip_node.proofs.NodeBound.{on_ok, offered_region}
 use Rattle.cip_node.proofs.bounding.offer_whole.Goals as goal
 
 pub returns-then-not-are_whole-clause-later : goal.returns-then-not-are_whole-clause-later
@@ -13,3 +16,17 @@ returns-then-not-are_whole-clause-tried c =
     let core = c.args.core.now in
     fractional_tried core c.args.point.now c.is_sound.ensures.formed c.is_sound.ensures.reduced c.is_sound.ensures.sound c.requires.values
     (subst (λ w. ¬ AreWhole w c.args.point.now) (c.whole.ensures.whole ∙ ap (λ (p : Program). p.integral) c.reduced-reduced.ensures) c.if-not-are_whole.ensures)
+
+pub returns-clause-later : goal.returns-clause-later
+returns-clause-later c = c.offer_back.ensures.later
+
+pub returns-clause-tried : goal.returns-clause-tried
+returns-clause-tried c =
+    on_ok c.passed_over.result (c.offer_back.result ≢ Err NoMemory) (IsTriedBack c.offer_back.new.self c.args.point.now) c.offer_back.ensures.tried c.passed_over.ensures
+
+pub returns-clause-region : goal.returns-clause-region
+returns-clause-region c =
+    offered_region c.args.core.now c.offer_back.new.self c.args.node.now c.args.point.now c.offer_back.result c.requires.at_work c.offer_back.ensures.later.at_work c.offer_back.ensures.offered
+
+pub returns-clause-frame : goal.returns-clause-frame
+returns-clause-frame c = c.offer_back.ensures.frame

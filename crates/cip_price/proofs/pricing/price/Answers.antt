@@ -1,16 +1,13 @@
-use Rattle.std.proofs.Common.{◌≡◌, ℕ, suc, ◌+◌, Bool, [], refl, sym, subst, arith}
+use Rattle.std.proofs.Common.{Bool, [], refl, sym, subst}
+use Rattle.std.specs.Prelude.{MatchResult}
 use Rattle.std.proofs.lemmas.Result.{MatchResult-from_err}
 use Rattle.cip_price_rounds.specs.PriceTasks.{task_at}
-use Rattle.cip_price_rounds.proofs.Offered.{grows_none, grows_by}
 use Rattle.cip_price_rounds.proofs.Telling.{tells_none}
-use Rattle.cip_price.specs.PriceAnswers.{PriceHolds}
-use Rattle.cip_price.specs.PricedRounds.{IsPricedUnless}
-use Rattle.cip_price.specs.Worked.{BestHolds, StandsBehind}
-use Rattle.cip_price.specs.declared.answers.PriceCause.TheVariants.{Rounds}
+use Rattle.cip_price.specs.PricedRounds.{IsPricedUnless, IsCutShort}
 use Rattle.cip_price.specs.declared.answers.PriceAnswer.TheVariants.{NoPoint}
 use Rattle.cip_price.proofs.Crossed.{crossed_empties}
-use Rattle.cip_price.proofs.Standing.{cause_holds, none_held}
-use Rattle.cip_price.proofs.Led.{ran_begun, IsRanTo, ran_out, ComesTo, step_on, cut_none, cut_short}
+use Rattle.cip_price.proofs.Standing.{none_held}
+use Rattle.cip_price.proofs.Led.{cut_none}
 use Rattle.cip_price.proofs.pricing.price.Goals as goal
 
 pub returns-then-has_crossed-clause-by : goal.returns-then-has_crossed-clause-by
@@ -30,75 +27,12 @@ returns-in_err-work-clause-by g c =
     (λ _. cut_none c.args.limits.moves (task_at c.args.task.now []) (g.A.AskPricer.told c.args.asker.now)
     c.args.pool.now)
 
-pub loop-round-init : goal.loop-round-init
-loop-round-init g c = record {
-  ran =
-      ran_begun c.args.limits.moves (task_at c.args.task.now []) (g.A.AskPricer.told c.args.asker.now) c.args.pool.now
-      c.in_ok-work.work.best c.in_ok-work.ensures.best;
-  ready = c.in_ok-work.ensures.ready;
-  best = subst (BestHolds (task_at c.args.task.now [])) (sym c.in_ok-work.ensures.best) tt;
-  grows = grows_none c.args.pool.now;
-  task = c.requires;
-}
-
-pub returns-in_err-answer-clause-by : goal.returns-in_err-answer-clause-by
-returns-in_err-answer-clause-by g c =
-    MatchResult-from_err c.from_residual-in_err-answer.result _ _ c.from_residual-in_err-answer.ensures.0
-    (λ _. cut_short c.args.limits.moves (task_at c.args.task.now []) (g.A.AskPricer.told c.args.asker.now)
-    (g.A.AskPricer.told c.loop-round.asker) (g.A.AskPricer.told c.one_round.new.asker) c.args.pool.now c.loop-round.pool
-    c.loop-round.work.best c.loop-round._round c.loop-round.invariant.ran c.in_err-answer.ensures.step)
-
-pub returns-in-Some-clause-by : goal.returns-in-Some-clause-by
-returns-in-Some-clause-by g c =
-    subst (λ (t : Bool). IsPricedUnless t c.args.limits.moves c.args.limits.rounds (task_at c.args.task.now [])
-    (g.A.AskPricer.told c.args.asker.now) (g.A.AskPricer.told c.one_round.new.asker) c.args.pool.now c.one_round.new.pool
-    c.in-Some.answer)
-    c.if-has_crossed.ensures
-    (subst (ComesTo c.args.limits.moves c.args.limits.rounds (task_at c.args.task.now [])
-    (g.A.AskPricer.told c.args.asker.now) (g.A.AskPricer.told c.one_round.new.asker) c.args.pool.now c.one_round.new.pool
-    c.one_round.new.work.best c.loop-round._round) c.in-Some.is
-    (step_on c.args.limits.moves c.args.limits.rounds (task_at c.args.task.now []) (g.A.AskPricer.told c.args.asker.now)
-    (g.A.AskPricer.told c.loop-round.asker) (g.A.AskPricer.told c.one_round.new.asker) c.args.pool.now c.loop-round.pool
-    c.one_round.new.pool c.loop-round.work.best c.one_round.new.work.best c.loop-round._round c.in_ok-answer.field-0
-    c.loop-round-test.true c.loop-round.invariant.ran c.in_ok-answer.ensures.step))
-
-pub loop-round-preserved : goal.loop-round-preserved
-loop-round-preserved g c =
-    let task = task_at c.args.task.now [] in
-    let stands = subst (StandsBehind task c.one_round.new.pool c.one_round.new.work) c.in_default.is
-    c.in_ok-answer.ensures.stands in
-    let next : suc c.loop-round._round ≡ c.loop-round._round + 1 = omega arith in
-    record {
-      ran =
-          subst (λ (n : ℕ). IsRanTo c.args.limits.moves task (g.A.AskPricer.told c.args.asker.now)
-          (g.A.AskPricer.told c.one_round.new.asker) c.args.pool.now c.one_round.new.pool c.one_round.new.work.best n) next
-          (subst (ComesTo c.args.limits.moves c.args.limits.rounds task (g.A.AskPricer.told c.args.asker.now)
-          (g.A.AskPricer.told c.one_round.new.asker) c.args.pool.now c.one_round.new.pool c.one_round.new.work.best
-          c.loop-round._round) c.in_default.is
-          (step_on c.args.limits.moves c.args.limits.rounds task (g.A.AskPricer.told c.args.asker.now)
-          (g.A.AskPricer.told c.loop-round.asker) (g.A.AskPricer.told c.one_round.new.asker) c.args.pool.now
-          c.loop-round.pool c.one_round.new.pool c.loop-round.work.best c.one_round.new.work.best c.loop-round._round
-          c.in_ok-answer.field-0 c.loop-round-test.true c.loop-round.invariant.ran c.in_ok-answer.ensures.step));
-      ready = stands.0;
-      best = stands.1;
-      grows =
-          grows_by c.args.pool.now c.loop-round.pool c.one_round.new.pool c.loop-round.invariant.grows
-          c.in_ok-answer.ensures.grows;
-      task = c.in_ok-answer.ensures.task;
-    }
-
 pub returns-clause-by : goal.returns-clause-by
 returns-clause-by g c =
-    subst (λ (t : Bool). IsPricedUnless t c.args.limits.moves c.args.limits.rounds (task_at c.args.task.now [])
-    (g.A.AskPricer.told c.args.asker.now) (g.A.AskPricer.told c.loop-round.asker) c.args.pool.now c.loop-round.pool
-    c.with_cause.result)
-    c.if-has_crossed.ensures
-    (ran_out c.args.limits.moves c.args.limits.rounds (task_at c.args.task.now []) (g.A.AskPricer.told c.args.asker.now)
-    (g.A.AskPricer.told c.loop-round.asker) c.args.pool.now c.loop-round.pool c.loop-round.work.best c.loop-round._round
-    c.with_cause.result (omega arith) c.with_cause.ensures c.loop-round.invariant.ran)
-
-pub returns-clause-holds : goal.returns-clause-holds
-returns-clause-holds g c =
-    subst (PriceHolds (task_at c.args.task.now []) c.loop-round.pool) (sym c.with_cause.ensures)
-    (cause_holds (task_at c.args.task.now []) c.loop-round.pool c.loop-round.work.best Rounds
-    c.loop-round.invariant.best)
+    subst (λ (t : Bool). MatchResult c.price_in_rounds-answer.result
+    (IsPricedUnless t c.args.limits.moves c.args.limits.rounds (task_at c.args.task.now [])
+    (g.A.AskPricer.told c.args.asker.now) (g.A.AskPricer.told c.price_in_rounds-answer.new.asker) c.args.pool.now
+    c.price_in_rounds-answer.new.pool)
+    (λ _. IsCutShort c.args.limits.moves (task_at c.args.task.now []) (g.A.AskPricer.told c.args.asker.now)
+    (g.A.AskPricer.told c.price_in_rounds-answer.new.asker) c.args.pool.now))
+    c.if-has_crossed.ensures c.price_in_rounds-answer.ensures.by

@@ -1,7 +1,17 @@
 use Rattle.std.proofs.Common.{[], refl, ◌∙◌}
+use Rattle.std.proofs.lemmas.Result.{MatchResult-from_err}
 use Rattle.cip_price_rounds.specs.PriceTasks.{task_at}
 use Rattle.cip_price.proofs.Standing.{none_held, open_going, round_trees, ready_grown, prices_stand}
+use Rattle.cip_price.proofs.Led.{round_may}
 use Rattle.cip_price.proofs.pricing.round_at_prices.Goals as goal
+
+pub returns-in_err-summed-clause-behind : goal.returns-in_err-summed-clause-behind
+returns-in_err-summed-clause-behind g c =
+    let shown = c.args.mixed.shown in
+    MatchResult-from_err c.from_residual-in_err-summed.result _ _ c.from_residual-in_err-summed.ensures.0
+    (λ _. round_may (task_at c.args.task.now []) shown.rests.items shown.prices.items
+    (g.A.AskPricer.told c.args.asker.now) (g.A.AskPricer.told c.ask_blocks.new.asker) c.args.pool.now
+    c.ask_blocks.new.pool c.in_ok-round.round c.in_ok-round.ensures.round)
 
 pub sum_at_prices-requires-clause-trees : goal.sum_at_prices-requires-clause-trees
 sum_at_prices-requires-clause-trees g c = λ e.

@@ -52,6 +52,10 @@ loop-at-preserved g c =
       task = c.in_ok-next.ensures.task;
     }
 
+pub returns-in_err-next-clause-grows : goal.returns-in_err-next-clause-grows
+returns-in_err-next-clause-grows g c =
+    grows_by c.args.pool.now c.loop-at.pool c.offer.new.pool c.loop-at.invariant.grows c.in_err-next.ensures.grows
+
 pub returns-clause-offered : goal.returns-clause-offered
 returns-clause-offered g c =
     subst (λ (ps : List BlockPoint). IsOffered (task_at c.args.task.now []) c.args.block ps c.args.pool.now c.loop-at.pool

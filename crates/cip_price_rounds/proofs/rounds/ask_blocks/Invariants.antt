@@ -8,10 +8,10 @@ use Rattle.cip_price_rounds.proofs.rounds.ask_blocks.Given as goal
 
 abbrev pub invariant-loop-at : goal.invariant-loop-at
 invariant-loop-at g l = record {
-  round : IsRoundTo (task_at l.task []) l.shown.rests.items l.shown.prices.items (g.A.AskPricer.told l.fn.asker)
+  round : IsRoundTo (task_at l.fn.task []) l.shown.rests.items l.shown.prices.items (g.A.AskPricer.told l.fn.asker)
       (g.A.AskPricer.told l.asker) l.fn.pool l.pool l.round l.at;
   going : l.round.growth ≢ Full;
   grows : Grows l.fn.pool l.pool;
-  task : IsTask (task_at l.task l.pool);
+  task : IsTask (task_at l.fn.task l.pool);
   room : length l.scratch.row.entries ≡ length l.fn.scratch.row.entries;
 }

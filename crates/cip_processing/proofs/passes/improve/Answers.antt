@@ -12,14 +12,14 @@ returns-in_err-_came-clause-come g c = come_further _ _ _ _ _ _ _ _ _ _ _ _ _ c.
 
 pub returns-in_err-_came-clause-open_ : goal.returns-in_err-_came-clause-open_
 returns-in_err-_came-clause-open_ g c = (
-  open_stays c.args.work.now.core c.ask_round.new.core c.args.node.now c.ask_round.new.node c.ask_round.ensures.come.later (c.ask_round.ensures.node points_not_sides) c.requires.open_.0,
-  found_stays c.args.work.now.core c.ask_round.new.core c.args.node.now c.ask_round.new.node c.args.found.now c.ask_round.ensures.come.later (c.ask_round.ensures.pool points_not_cuts) (c.ask_round.ensures.node points_not_sides) c.requires.open_.1,
+  open_stays c.args.core.now c.ask_round.new.core c.args.node.now c.ask_round.new.node c.ask_round.ensures.come.later (c.ask_round.ensures.node points_not_sides) c.requires.open_.0,
+  found_stays c.args.core.now c.ask_round.new.core c.args.node.now c.ask_round.new.node c.args.found.now c.ask_round.ensures.come.later (c.ask_round.ensures.pool points_not_cuts) (c.ask_round.ensures.node points_not_sides) c.requires.open_.1,
 )
 
 pub returns-clause-open_ : goal.returns-clause-open_
 returns-clause-open_ g c = (
-  open_stays c.args.work.now.core c.ask_round.new.core c.args.node.now c.ask_round.new.node c.ask_round.ensures.come.later (c.ask_round.ensures.node points_not_sides) c.requires.open_.0,
-  found_stays c.args.work.now.core c.ask_round.new.core c.args.node.now c.ask_round.new.node c.args.found.now c.ask_round.ensures.come.later (c.ask_round.ensures.pool points_not_cuts) (c.ask_round.ensures.node points_not_sides) c.requires.open_.1,
+  open_stays c.args.core.now c.ask_round.new.core c.args.node.now c.ask_round.new.node c.ask_round.ensures.come.later (c.ask_round.ensures.node points_not_sides) c.requires.open_.0,
+  found_stays c.args.core.now c.ask_round.new.core c.args.node.now c.ask_round.new.node c.args.found.now c.ask_round.ensures.come.later (c.ask_round.ensures.pool points_not_cuts) (c.ask_round.ensures.node points_not_sides) c.requires.open_.1,
 )
 
 pub returns-clause-come : goal.returns-clause-come

@@ -8,13 +8,13 @@ use Rattle.cip_processing.proofs.Using.{in_further}
 use Rattle.cip_processing.proofs.passes.pass.Goals as goal
 
 pub returns-in-Empty-clause-reached : goal.returns-in-Empty-clause-reached
-returns-in-Empty-clause-reached g c = subst (IsSeen c.narrow.new.work.core c.narrow.new.node) c.in-Empty.is c.in_ok-narrow.ensures.seen
+returns-in-Empty-clause-reached g c = subst (IsSeen c.narrow.new.core c.narrow.new.node) c.in-Empty.is c.in_ok-narrow.ensures.seen
 
 pub returns-in-Leaf-clause-reached : goal.returns-in-Leaf-clause-reached
-returns-in-Leaf-clause-reached g c = subst (IsSeen c.narrow.new.work.core c.narrow.new.node) c.in-Leaf.is c.in_ok-narrow.ensures.seen
+returns-in-Leaf-clause-reached g c = subst (IsSeen c.narrow.new.core c.narrow.new.node) c.in-Leaf.is c.in_ok-narrow.ensures.seen
 
 pub relax_and_improve-requires-clause-open_ : goal.relax_and_improve-requires-clause-open_
-relax_and_improve-requires-clause-open_ g c = subst (IsSeen c.narrow.new.work.core c.narrow.new.node) c.in-Open.is c.in_ok-narrow.ensures.seen
+relax_and_improve-requires-clause-open_ g c = subst (IsSeen c.narrow.new.core c.narrow.new.node) c.in-Open.is c.in_ok-narrow.ensures.seen
 
 pub returns-in-Open-clause-come : goal.returns-in-Open-clause-come
 returns-in-Open-clause-come g c = come_further _ _ _ _ _ _ _ _ _ _ _ _ _ c.narrow.ensures.come c.relax_and_improve.ensures.come

@@ -16,13 +16,13 @@ improve-requires-clause-open_ g c = (
   subst (IsBounded c.separate.new.work.core c.separate.new.node) c.in-Open.is c.in_ok-separate.ensures.bounded,
 )
 
-pub returns-in_err-improve-in-Open-clause-come : goal.returns-in_err-improve-in-Open-clause-come
-returns-in_err-improve-in-Open-clause-come g c = come_further _ _ _ _ _ _ _ _ _ _ _ _ _ c.separate.ensures.come c.improve.ensures.come
+pub returns-in-Err-clause-come : goal.returns-in-Err-clause-come
+returns-in-Err-clause-come g c = come_further _ _ _ _ _ _ _ _ _ _ _ _ _ c.separate.ensures.come c.improve.ensures.come
 
-pub returns-in_ok-improve-in-Open-clause-come : goal.returns-in_ok-improve-in-Open-clause-come
-returns-in_ok-improve-in-Open-clause-come g c = come_further _ _ _ _ _ _ _ _ _ _ _ _ _ c.separate.ensures.come c.improve.ensures.come
+pub returns-in-Ok-clause-come : goal.returns-in-Ok-clause-come
+returns-in-Ok-clause-come g c = come_further _ _ _ _ _ _ _ _ _ _ _ _ _ c.separate.ensures.come c.improve.ensures.come
 
-pub returns-in_ok-improve-in-Open-clause-used : goal.returns-in_ok-improve-in-Open-clause-used
-returns-in_ok-improve-in-Open-clause-used g c =
+pub returns-in-Ok-clause-used : goal.returns-in-Ok-clause-used
+returns-in-Ok-clause-used g c =
     used_further (Separate ∷ []) (Search ∷ []) _ _ _ _ _ _ c.separate.ensures.come.sound.settled
-    (c.in_ok-separate.ensures.used (subst IsOpenBounded (sym c.in-Open.is) tt)) c.in_ok-improve-in-Open.ensures.used
+    (c.in_ok-separate.ensures.used (subst IsOpenBounded (sym c.in-Open.is) tt)) c.in-Ok.ensures.used

@@ -1,7 +1,9 @@
-use Rattle.std.proofs.Common.{ℕ, List, pos, arith, subst, sym, ◌∙◌, get_or}
+use Rattle.std.proofs.Common.{ℕ, List, pos, arith, refl, subst, sym, ◌∙◌, get_or, take_all}
 use Rattle.cip_plugin.specs.Asking.{ask_of}
 use Rattle.cip_seats.specs.declared.keys.Key.{Key}
-use Rattle.cip_roster.proofs.Turning.{SoFar, all_still, ids_next, so_far_more}
+use Rattle.cip_seats.specs.Calling.{Called, ids_of}
+use Rattle.cip_roster.specs.Turns.{handed}
+use Rattle.cip_roster.proofs.Turning.{SoFar, all_still, ids_next, so_far_more, so_far_none}
 use Rattle.cip_roster.proofs.calling.call.Goals as goal
 
 pub loop-key-preserved : goal.loop-key-preserved
@@ -24,3 +26,46 @@ loop-key-preserved g c =
       capacity = omega (arith, c.loop-key.invariant.capacity, c.turn_into.ensures.capacity);
       rankings = c.turn_into.ensures.rankings ∙ c.loop-key.invariant.rankings;
     }
+
+pub loop-key-init : goal.loop-key-init
+loop-key-init g c = record {
+  so_far = so_far_none (ask_of c.args.question) (g.R.Seated.state c.args.roster.now) c.args.given.now.items;
+  ready = c.requires.ready;
+  lines = omega arith;
+  length = omega arith;
+  capacity = refl;
+  rankings = refl;
+}
+
+pub turn_into-requires-clause-ready : goal.turn_into-requires-clause-ready
+turn_into-requires-clause-ready g c =
+    c.loop-key.invariant.ready c.loop-key.key-index (record { rank = record { 0 = pos 0 }; id = 0 }) c.loop-key-test.true
+
+pub turn_into-requires-clause-lines : goal.turn_into-requires-clause-lines
+turn_into-requires-clause-lines g c =
+    omega (arith, c.requires.lines, c.loop-key.invariant.lines, c.loop-key-test.true)
+
+pub turn_into-requires-clause-room : goal.turn_into-requires-clause-room
+turn_into-requires-clause-room g c =
+    omega (
+      arith,
+      c.requires.room,
+      c.loop-key.invariant.length,
+      c.loop-key.invariant.capacity,
+      c.loop-key-test.true,
+    )
+
+pub returns-clause-called : goal.returns-clause-called
+returns-clause-called g c =
+    subst (λ (keys : List Key). Called (ids_of keys) (ask_of c.args.question) (g.R.Seated.state c.args.roster.now)
+    (g.R.Seated.state c.loop-key.roster) (handed c.args.given.now.items c.loop-key.given.items))
+    (take_all c.loop-key.key-index c.args.keys.now c.loop-key-test.false) c.loop-key.invariant.so_far.called
+
+pub returns-clause-kept : goal.returns-clause-kept
+returns-clause-kept g c = c.loop-key.invariant.so_far.kept
+
+pub returns-clause-room : goal.returns-clause-room
+returns-clause-room g c = omega (arith, c.loop-key.invariant.lines)
+
+pub returns-clause-rankings : goal.returns-clause-rankings
+returns-clause-rankings g c = c.loop-key.invariant.rankings

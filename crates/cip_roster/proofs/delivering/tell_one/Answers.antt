@@ -10,16 +10,16 @@ returns-then-not-is_to_hear-clause-told g c =
     told_passed c.args.view.now.node c.args.event c.args.id (g.R.Seated.state c.args.roster.now) c.args.queue.now
     c.requires.seat (sym c.if-not-is_to_hear.ensures)
 
-pub grant-requires-clause-sound : goal.grant-requires-clause-sound
-grant-requires-clause-sound g c =
+pub grant-granted-requires-clause-sound : goal.grant-granted-requires-clause-sound
+grant-granted-requires-clause-sound g c =
     turned_sound c.args.id (OnEvent c.args.event) (g.R.Seated.state c.args.roster.now)
     (g.R.Seated.state c.reserve_turns.new.self) (g.R.Seated.state c.turn.new.roster) c.turn.result
     (g.R.Seated.room c.args.roster.now) (g.R.Seated.room c.reserve_turns.new.self) (g.R.Seated.room c.turn.new.roster)
     c.reserve_turns.ensures.state c.requires.sound c.turn.ensures.turn c.in_ok-reserve_turns.ensures.room
     c.turn.ensures.room (c.turn.ensures.rankings ∙ c.reserve_turns.ensures.rankings)
 
-pub grant-requires-clause-seat : goal.grant-requires-clause-seat
-grant-requires-clause-seat g c =
+pub grant-granted-requires-clause-seat : goal.grant-granted-requires-clause-seat
+grant-granted-requires-clause-seat g c =
     turned_there c.args.id c.args.id (OnEvent c.args.event) (g.R.Seated.state c.args.roster.now)
     (g.R.Seated.state c.reserve_turns.new.self) (g.R.Seated.state c.turn.new.roster) c.turn.result
     c.reserve_turns.ensures.state c.turn.ensures.turn c.requires.seat
@@ -42,13 +42,13 @@ pub returns-in-Some-clause-told : goal.returns-in-Some-clause-told
 returns-in-Some-clause-told g c =
     told_wishes c.args.view.now.node c.args.event c.args.id c.turn.result c.in-Some.given c.wishes_of.result.now
     (g.R.Seated.state c.args.roster.now) (g.R.Seated.state c.reserve_turns.new.self)
-    (g.R.Seated.state c.turn.new.roster) (g.R.Seated.state c.grant.new.roster) c.args.queue.now c.grant.new.queue
-    c.grant.result c.reserve_turns.ensures.state c.requires.seat (sym c.if-not-is_to_hear.ensures) c.turn.ensures.turn
-    c.in-Some.is c.wishes_of.ensures c.grant.ensures.took
+    (g.R.Seated.state c.turn.new.roster) (g.R.Seated.state c.grant-granted.new.roster) c.args.queue.now c.grant-granted.new.queue
+    c.grant-granted.result c.reserve_turns.ensures.state c.requires.seat (sym c.if-not-is_to_hear.ensures) c.turn.ensures.turn
+    c.in-Some.is c.wishes_of.ensures c.grant-granted.ensures.took
 
 pub returns-in-Some-clause-err : goal.returns-in-Some-clause-err
 returns-in-Some-clause-err g c =
     ran_turn c.args.id (OnEvent c.args.event) (g.R.Seated.state c.args.roster.now)
     (g.R.Seated.state c.reserve_turns.new.self) (g.R.Seated.state c.turn.new.roster)
-    (g.R.Seated.state c.grant.new.roster) c.turn.result c.grant.result c.reserve_turns.ensures.state
-    c.turn.ensures.turn c.grant.ensures.err
+    (g.R.Seated.state c.grant-granted.new.roster) c.turn.result c.grant-granted.result c.reserve_turns.ensures.state
+    c.turn.ensures.turn c.grant-granted.ensures.err

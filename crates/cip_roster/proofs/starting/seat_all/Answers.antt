@@ -1,6 +1,10 @@
-use Rattle.std.proofs.Common.{◌≡◌, ◌∷◌, arith, ap, length, refl, rules}
+use Rattle.std.proofs.Common.{◌≡◌, ◌∷◌, ◌∙◌, ◌≤◌, List, arith, ap, length, map, refl, rules, subst, vec_len}
 use Rattle.std.specs.Vec.Iter.{drain_items}
-use Rattle.cip_roster.proofs.Beginning.{seating_more, seating_none}
+use Rattle.cip_events.specs.Names.{shown_name}
+use Rattle.cip_plugin.specs.Who.{Who}
+use Rattle.cip_roster.specs.Begun.{AreSeated}
+use Rattle.cip_roster.proofs.Beginning.{seating_more, seating_names, seating_none, seating_seats}
+use Rattle.cip_roster.proofs.Moving.{whole_range}
 use Rattle.cip_roster.proofs.starting.seat_all.Goals as goal
 
 pub loop-plugin-init : goal.loop-plugin-init
@@ -23,3 +27,42 @@ loop-plugin-preserved g c =
       room = rw c.seat.ensures.room c.loop-plugin.invariant.room;
       spare = omega (arith, c.seat.ensures.spare, c.loop-plugin.invariant.spare, ap length split);
     }
+
+pub seat-requires : goal.seat-requires
+seat-requires g c =
+    let split : drain_items c.loop-plugin.plugin-iterator ≡ c.in-Some.plugin ∷ drain_items c.next.new.self =
+    c.in-Some.ensures.steps.0 in
+    omega (arith, c.loop-plugin.invariant.spare, ap length split)
+
+pub returns-clause-seats : goal.returns-clause-seats
+returns-clause-seats g c =
+    let fits : length c.args.plugins.now.items ≤ vec_len c.args.plugins.now = search rules in
+    let from : drain_items c.into_iter-plugin-iterator.result ≡ c.args.plugins.now.items =
+    ap (λ it. drain_items it) c.into_iter-plugin-iterator.ensures.into_iter_gives ∙ c.drain-plugin-items.ensures.rest
+    ∙ whole_range c.args.plugins.now.items (vec_len c.args.plugins.now) fits in
+    subst (λ (whos : List Who). AreSeated whos (g.R.Seated.state c.loop-plugin.roster).seats)
+    (ap (map g.P.Tells.who) from)
+    (seating_seats _ _ (g.R.Seated.state c.args.roster.now) (g.R.Seated.state c.loop-plugin.roster)
+    (ap (map g.P.Tells.who) c.in-None.ensures.steps.0) c.loop-plugin.invariant.so_far)
+
+pub returns-clause-names : goal.returns-clause-names
+returns-clause-names g c =
+    let fits : length c.args.plugins.now.items ≤ vec_len c.args.plugins.now = search rules in
+    let from : drain_items c.into_iter-plugin-iterator.result ≡ c.args.plugins.now.items =
+    ap (λ it. drain_items it) c.into_iter-plugin-iterator.ensures.into_iter_gives ∙ c.drain-plugin-items.ensures.rest
+    ∙ whole_range c.args.plugins.now.items (vec_len c.args.plugins.now) fits in
+    seating_names _ _ (g.R.Seated.state c.args.roster.now) (g.R.Seated.state c.loop-plugin.roster)
+    (ap (map g.P.Tells.who) c.in-None.ensures.steps.0) c.loop-plugin.invariant.so_far
+    ∙ ap (λ (whos : List Who). map (λ (who : Who). shown_name who.label) whos) (ap (map g.P.Tells.who) from)
+
+pub returns-clause-places : goal.returns-clause-places
+returns-clause-places g c = c.loop-plugin.invariant.so_far.places
+
+pub returns-clause-lines : goal.returns-clause-lines
+returns-clause-lines g c = c.loop-plugin.invariant.so_far.lines
+
+pub returns-clause-kept : goal.returns-clause-kept
+returns-clause-kept g c = c.loop-plugin.invariant.so_far.kept
+
+pub returns-clause-room : goal.returns-clause-room
+returns-clause-room g c = c.loop-plugin.invariant.room

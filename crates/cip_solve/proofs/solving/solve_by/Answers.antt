@@ -1,4 +1,4 @@
-use Rattle.std.proofs.Common.{ap, sym, subst}
+use Rattle.std.proofs.Common.{◌∙◌, ap, sym, subst}
 use Rattle.cip_problem.specs.Program.{Program}
 use Rattle.cip_problem.specs.WellFormed.{columns}
 use Rattle.cip_tree.specs.Entries as tree
@@ -7,45 +7,39 @@ use Rattle.cip_solve.specs.FirstStops.{StopsFirst}
 use Rattle.cip_solve.specs.Logs.{entries_of}
 use Rattle.cip_processing.specs.PresolvedPrograms.{IsUnchanged}
 use Rattle.cip_solve.specs.Solved.{IsSolvedBy}
-use Rattle.cip_solve.proofs.BegunLaws.{at_root, of_reduced, unsearched_by}
+use Rattle.cip_solve.proofs.BegunLaws.{unsearched_by}
 use Rattle.cip_solve.proofs.solving.solve_by.Goals as goal
 
 pub search_from-requires-clause-root : goal.search_from-requires-clause-root
-search_from-requires-clause-root g c =
-    let presolved = c.args.presolved.now in
-    let sound = c.is_sound.ensures in
-    at_root c.args.program.now presolved.reduced presolved.steps c.in-Ok-new.work.core c.in-Ok-new.ensures sound.sound sound.formed sound.reduced
+search_from-requires-clause-root g c = c.in-Ok.ensures.root
 
 pub search_from-requires-clause-back : goal.search_from-requires-clause-back
-search_from-requires-clause-back g c =
-    of_reduced c.args.program.now c.args.presolved.now c.in-Ok-new.work.core c.in-Ok-new.ensures c.requires.back c.is_sound.ensures.formed c.is_sound.ensures.reduced
+search_from-requires-clause-back g c = c.in-Ok.ensures.back
+
+pub search_from-requires-clause-point : goal.search_from-requires-clause-point
+search_from-requires-clause-point g c = c.in-Ok.ensures.point ∙ sym (ap columns c.in-Ok.ensures.program_is)
 
 pub search_from-requires-clause-ready : goal.search_from-requires-clause-ready
-search_from-requires-clause-ready g c = subst (λ (r : Program). g.W.Works.is_ready c.args.works.now (columns r)) (sym c.in-Ok-new.ensures.reduced_is) c.requires.ready
+search_from-requires-clause-ready g c = subst (λ (r : Program). g.W.Works.is_ready c.args.works.now (columns r)) (sym c.in-Ok.ensures.back.reduced_is) c.requires.ready
 
-pub returns-in-Ok-new-clause-solved : goal.returns-in-Ok-new-clause-solved
-returns-in-Ok-new-clause-solved g c = λ presolve alone p q.
+pub returns-in-Ok-clause-solved : goal.returns-in-Ok-clause-solved
+returns-in-Ok-clause-solved g c = λ presolve alone p q.
     let log = c.search_from.new.log in
-    let of_program = c.in-Ok-new.ensures.program_is in
+    let of_program = c.in-Ok.ensures.program_is in
     subst (λ (p : Program). IsSolvedBy p c.args.options.now.nodes c.args.options.now.gap presolve alone (entries_of log) log.marks.items (answer_of c.search_from.result))
     of_program (c.search_from.ensures.solved presolve alone (λ e. subst (λ (of : Program). IsUnchanged of c.args.presolved.now) (sym of_program) (p e)) q)
 
-pub returns-in-Ok-new-clause-first : goal.returns-in-Ok-new-clause-first
-returns-in-Ok-new-clause-first g c =
-    subst (λ (p : Program). StopsFirst p c.args.options.now.gap (entries_of c.search_from.new.log)) c.in-Ok-new.ensures.program_is c.search_from.ensures.first
+pub returns-in-Ok-clause-first : goal.returns-in-Ok-clause-first
+returns-in-Ok-clause-first g c =
+    subst (λ (p : Program). StopsFirst p c.args.options.now.gap (entries_of c.search_from.new.log)) c.in-Ok.ensures.program_is c.search_from.ensures.first
 
-pub returns-in-Ok-new-clause-asked : goal.returns-in-Ok-new-clause-asked
-returns-in-Ok-new-clause-asked g c = (
-  subst (λ (r : Program). g.W.Works.is_ready c.search_from.new.works (columns r)) c.in-Ok-new.ensures.reduced_is c.search_from.ensures.asked.0,
+pub returns-in-Ok-clause-asked : goal.returns-in-Ok-clause-asked
+returns-in-Ok-clause-asked g c = (
+  subst (λ (r : Program). g.W.Works.is_ready c.search_from.new.works (columns r)) c.in-Ok.ensures.back.reduced_is c.search_from.ensures.asked.0,
   c.search_from.ensures.asked.1,
 )
-
-pub returns-in_default-clause-solved : goal.returns-in_default-clause-solved
-returns-in_default-clause-solved g c = λ presolve alone p q.
-    unsearched_by c.args.program.now c.args.options.now.nodes c.args.options.now.gap presolve alone _ _ _ (ap tree.entries_of c.clear.ensures.items) c.clear-2.ensures.items
-    (c.unsearched.ensures.solved c.args.options.now.nodes c.args.options.now.gap)
 
 pub returns-in-Err-clause-solved : goal.returns-in-Err-clause-solved
 returns-in-Err-clause-solved g c = λ presolve alone p q.
     unsearched_by c.args.program.now c.args.options.now.nodes c.args.options.now.gap presolve alone _ _ _ (ap tree.entries_of c.clear.ensures.items) c.clear-2.ensures.items
-    (c.unsearched-in-Err.ensures.solved c.args.options.now.nodes c.args.options.now.gap)
+    (c.unsearched.ensures.solved c.args.options.now.nodes c.args.options.now.gap)

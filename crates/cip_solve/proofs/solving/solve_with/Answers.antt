@@ -1,34 +1,61 @@
-use Rattle.std.proofs.Common.{ap, false, inl, sym, subst, true≢false}
+use Rattle.std.proofs.Common.{◌∙◌, ap, false, inl, sym, subst, true≢false}
 use Rattle.cip_problem.specs.Program.{Program}
+use Rattle.cip_problem.specs.WellFormed.{columns}
 use Rattle.cip_tree.specs.Entries as tree
+use Rattle.cip_endings.specs.Answer.{Answer}
 use Rattle.cip_endings.specs.AnswerOf.{answer_of}
+use Rattle.cip_processing.specs.ProposalsJudged.{HaveRoom}
+use Rattle.cip_solve.specs.FirstStops.{StopsFirst}
 use Rattle.cip_solve.specs.Logs.{entries_of}
 use Rattle.cip_processing.specs.PresolvedPrograms.{IsUnchanged}
 use Rattle.cip_solve.specs.Solved.{IsSolvedBy}
 use Rattle.cip_solve.proofs.BegunLaws.{unsearched_by}
-use Rattle.cip_solve.proofs.KitLaws.{room_there}
+use Rattle.cip_solve.proofs.KitLaws.{room_there, kit_told}
 use Rattle.cip_solve.proofs.solving.solve_with.Goals as goal
 
-pub returns-in_default-clause-solved : goal.returns-in_default-clause-solved
-returns-in_default-clause-solved g c =
+pub returns-in-Err-clause-solved : goal.returns-in-Err-clause-solved
+returns-in-Err-clause-solved g c =
     unsearched_by c.args.program.now c.args.options.now.nodes c.args.options.now.gap c.args.options.now.presolve false _ _ _ (ap tree.entries_of c.clear.ensures.items) c.clear-2.ensures.items
     (c.unsearched.ensures.solved c.args.options.now.nodes c.args.options.now.gap)
 
-pub end-requires-clause-room : goal.end-requires-clause-room
-end-requires-clause-room g c = room_there _ _ _ _ _ c.in-Ok.ensures.room c.search_from-answer.ensures.asked.1
+pub search_from-answer-requires-clause-root : goal.search_from-answer-requires-clause-root
+search_from-answer-requires-clause-root g c = c.in-Ok.ensures.start.root
 
-pub returns-clause-solved : goal.returns-clause-solved
-returns-clause-solved g c =
+pub search_from-answer-requires-clause-back : goal.search_from-answer-requires-clause-back
+search_from-answer-requires-clause-back g c = c.in-Ok.ensures.start.back
+
+pub search_from-answer-requires-clause-point : goal.search_from-answer-requires-clause-point
+search_from-answer-requires-clause-point g c = c.in-Ok.ensures.start.point ∙ sym (ap columns c.in-Ok.ensures.start.program_is)
+
+pub search_from-answer-requires-clause-ready : goal.search_from-answer-requires-clause-ready
+search_from-answer-requires-clause-ready g c = (
+  subst (λ (r : Program). HaveRoom c.in-Ok.outset.asking.plugins.scratches (columns r)) (sym c.in-Ok.ensures.start.back.reduced_is) c.in-Ok.ensures.ready.0,
+  c.in-Ok.ensures.ready.1,
+)
+
+pub end-trace-requires-clause-room : goal.end-trace-requires-clause-room
+end-trace-requires-clause-room g c = room_there _ _ _ _ _ c.in-Ok.ensures.room c.search_from-answer.ensures.asked.1
+
+pub returns-in-Ok-clause-solved : goal.returns-in-Ok-clause-solved
+returns-in-Ok-clause-solved g c =
     let log = c.search_from-answer.new.log in
-    subst (λ (p : Program). IsSolvedBy p c.args.options.now.nodes c.args.options.now.gap c.args.options.now.presolve false (entries_of log) log.marks.items (answer_of c.search_from-answer.result))
-    c.in-Ok.ensures.root.1 (c.search_from-answer.ensures.solved c.args.options.now.presolve false (λ e. subst (λ (p : Program). IsUnchanged p c.args.presolved.now) (sym c.in-Ok.ensures.root.1) (c.requires.same e)) (λ e. absurd (true≢false (sym e))))
+    let of_program = c.in-Ok.ensures.start.program_is in
+    let solved = subst (λ (p : Program). IsSolvedBy p c.args.options.now.nodes c.args.options.now.gap c.args.options.now.presolve false (entries_of log) log.marks.items (answer_of c.search_from-answer.result))
+    of_program (c.search_from-answer.ensures.solved c.args.options.now.presolve false (λ e. subst (λ (p : Program). IsUnchanged p c.args.presolved.now) (sym of_program) (c.requires.same e)) (λ e. absurd (true≢false (sym e)))) in
+    subst (λ (a : Answer). IsSolvedBy c.args.program.now c.args.options.now.nodes c.args.options.now.gap c.args.options.now.presolve false (entries_of log) log.marks.items (answer_of a)) (sym c.with_trace.ensures) solved
 
-pub returns-clause-kit : goal.returns-clause-kit
-returns-clause-kit g c = inl (record {
+pub returns-in-Ok-clause-nodes : goal.returns-in-Ok-clause-nodes
+returns-in-Ok-clause-nodes g c = ap (λ (a : Answer). a.nodes) c.with_trace.ensures ∙ c.search_from-answer.ensures.nodes
+
+pub returns-in-Ok-clause-first : goal.returns-in-Ok-clause-first
+returns-in-Ok-clause-first g c = subst (λ (p : Program). StopsFirst p c.args.options.now.gap (entries_of c.search_from-answer.new.log)) c.in-Ok.ensures.start.program_is c.search_from-answer.ensures.first
+
+pub returns-in-Ok-clause-kit : goal.returns-in-Ok-clause-kit
+returns-in-Ok-clause-kit g c = kit_told _ _ _ _ _ _ (ap (λ (a : Answer). a.trace) c.with_trace.ensures) (inl (record {
   between = _;
   begun = _;
   left = _;
   begins = c.in-Ok.ensures.begun;
   served = c.search_from-answer.ensures.asked.1;
-  ends = c.end.ensures.ended;
-})
+  ends = c.end-trace.ensures.ended;
+}))

@@ -15,4 +15,4 @@ returns-in-None-clause-judged g c = none_judged _ c.args.id c.args.given _ refl 
 
 pub returns-in-Some-clause-judged : goal.returns-in-Some-clause-judged
 returns-in-Some-clause-judged g c =
-    one_judged_on c.take_said.result _ c.args.id c.args.given c.in-Some.said _ _ refl c.in-Some.is c.take_said.ensures.judged
+    one_judged_on c.take_said-verdict.result _ c.args.id c.args.given c.in-Some.said _ _ refl c.in-Some.is c.take_said-verdict.ensures.judged

@@ -2,10 +2,11 @@ use Rattle.std.proofs.Common.{◌∙◌, [], ◌∷◌, ◌++◌, cond, ap}
 use Rattle.cip_events.specs.declared.words.Word.{Word}
 use Rattle.cip_plugin.specs.Calls.{Asked}
 use Rattle.cip_plugin.specs.Answers.{answer}
-use Rattle.cip_plugin.specs.Asking.{answer_of, ask_of}
+use Rattle.cip_plugin.specs.Asking.{answer_of, ask_of, asks}
+use Rattle.cip_seats.specs.Seats.{Seat, is_on}
 use Rattle.cip_seats.specs.Steps.{IsCalled, line}
 use Rattle.cip_seats.proofs.Joining.{called_once}
-use Rattle.cip_roster.proofs.Sitting.{sat_there}
+use Rattle.cip_roster.proofs.Sitting.{sat_there, seat_there, seat_within}
 use Rattle.cip_roster.proofs.single.RosterSteps.ask.Goals as goal
 
 pub returns-clause-run : goal.returns-clause-run
@@ -17,3 +18,18 @@ returns-clause-run g c =
     c.note.ensures.places c.note.ensures.names c.note.ensures.kept (c.note.ensures.lines ∙ ap (λ (w : Word).
     cond c.args.self.now.journal.kept (c.args.self.now.journal.lines.items ++ line c.args.id w ∷ [])
     c.args.self.now.journal.lines.items) c.word_for-word.ensures)
+
+pub index_mut-requires : goal.index_mut-requires
+index_mut-requires g c =
+    seat_within _ c.args.self.now.slots.items c.args.id _ c.requires.ready.seat c.args.self.now.slots.ok.0
+    c.requires.ready.at
+
+pub ask-given-requires-clause-on : goal.ask-given-requires-clause-on
+ask-given-requires-clause-on g c =
+    ap is_on (seat_there _ c.args.self.now.slots.items c.args.id c.index_mut.result.now c.requires.ready.seat
+    c.requires.ready.at c.index_mut.ensures.value) ∙ c.requires.ready.on
+
+pub ask-given-requires-clause-fits : goal.ask-given-requires-clause-fits
+ask-given-requires-clause-fits g c =
+    ap (λ (s : Seat). asks s.who.kind (ask_of c.args.question)) (seat_there _ c.args.self.now.slots.items c.args.id
+    c.index_mut.result.now c.requires.ready.seat c.requires.ready.at c.index_mut.ensures.value) ∙ c.requires.ready.fits

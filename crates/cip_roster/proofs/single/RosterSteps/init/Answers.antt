@@ -2,8 +2,18 @@ use Rattle.cip_plugin.specs.Calls.{Init}
 use Rattle.cip_seats.specs.declared.stages.Stage.TheVariants as stages
 use Rattle.cip_seats.specs.Steps.{IsCalled}
 use Rattle.cip_seats.proofs.Joining.{called_once}
-use Rattle.cip_roster.proofs.Sitting.{called_as, sat_there, stands_there}
+use Rattle.cip_roster.proofs.Sitting.{called_as, sat_there, seat_within, stage_there, stands_there}
 use Rattle.cip_roster.proofs.single.RosterSteps.init.Goals as goal
+
+pub index_mut-requires : goal.index_mut-requires
+index_mut-requires g c =
+    seat_within _ c.args.self.now.slots.items c.args.id _ c.requires.at.seat c.args.self.now.slots.ok.0
+    c.requires.at.at
+
+pub init-requires : goal.init-requires
+init-requires g c =
+    stage_there _ c.args.self.now.slots.items c.args.id c.index_mut.result.now c.requires.at.seat stages.Fresh
+    c.requires.at.at c.index_mut.ensures.value c.requires.at.stands
 
 pub returns-clause-run : goal.returns-clause-run
 returns-clause-run g c =

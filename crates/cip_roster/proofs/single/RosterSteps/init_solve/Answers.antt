@@ -2,8 +2,18 @@ use Rattle.cip_plugin.specs.Calls.{InitSolve}
 use Rattle.cip_seats.specs.declared.stages.Stage.TheVariants as stages
 use Rattle.cip_seats.specs.Steps.{IsCalled}
 use Rattle.cip_seats.proofs.Joining.{called_once}
-use Rattle.cip_roster.proofs.Sitting.{called_as, sat_there, stands_there}
+use Rattle.cip_roster.proofs.Sitting.{called_as, sat_there, seat_within, stage_there, stands_there}
 use Rattle.cip_roster.proofs.single.RosterSteps.init_solve.Goals as goal
+
+pub index_mut-requires : goal.index_mut-requires
+index_mut-requires g c =
+    seat_within _ c.args.self.now.slots.items c.args.id _ c.requires.at.seat c.args.self.now.slots.ok.0
+    c.requires.at.at
+
+pub init_solve-requires : goal.init_solve-requires
+init_solve-requires g c =
+    stage_there _ c.args.self.now.slots.items c.args.id c.index_mut.result.now c.requires.at.seat stages.Begun
+    c.requires.at.at c.index_mut.ensures.value c.requires.at.stands
 
 pub returns-clause-run : goal.returns-clause-run
 returns-clause-run g c =

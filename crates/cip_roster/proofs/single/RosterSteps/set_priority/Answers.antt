@@ -3,8 +3,13 @@ use Rattle.std.proofs.Math.Facts.{to_z-of_z}
 use Rattle.cip_seats.specs.declared.stages.Stage.TheVariants as stages
 use Rattle.cip_seats.specs.Seats.{Seat}
 use Rattle.cip_seats.proofs.Joining.{ranked_once}
-use Rattle.cip_roster.proofs.Sitting.{sat_there, stage_there, stands_there}
+use Rattle.cip_roster.proofs.Sitting.{sat_there, seat_within, stage_there, stands_there}
 use Rattle.cip_roster.proofs.single.RosterSteps.set_priority.Goals as goal
+
+pub index_mut-requires : goal.index_mut-requires
+index_mut-requires g c =
+    seat_within _ c.args.self.now.slots.items c.args.id _ c.requires.at.seat c.args.self.now.slots.ok.0
+    c.requires.at.at
 
 pub returns-clause-run : goal.returns-clause-run
 returns-clause-run g c =

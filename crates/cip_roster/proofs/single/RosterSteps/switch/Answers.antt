@@ -3,8 +3,23 @@ use Rattle.cip_events.specs.declared.words.Word.{Word}
 use Rattle.cip_seats.specs.declared.stages.Stage.TheVariants as stages
 use Rattle.cip_seats.specs.Steps.{IsTurned, line}
 use Rattle.cip_seats.proofs.Joining.{turned_once}
-use Rattle.cip_roster.proofs.Sitting.{sat_there, stands_there}
+use Rattle.cip_roster.proofs.Sitting.{on_there, sat_there, seat_within, stage_there, stands_there}
 use Rattle.cip_roster.proofs.single.RosterSteps.switch.Goals as goal
+
+pub index_mut-requires : goal.index_mut-requires
+index_mut-requires g c =
+    seat_within _ c.args.self.now.slots.items c.args.id _ c.requires.at.seat c.args.self.now.slots.ok.0
+    c.requires.at.at
+
+pub turn-requires-clause-playing : goal.turn-requires-clause-playing
+turn-requires-clause-playing g c =
+    stage_there _ c.args.self.now.slots.items c.args.id c.index_mut.result.now c.requires.at.seat stages.Playing
+    c.requires.at.at c.index_mut.ensures.value c.requires.at.stands
+
+pub turn-requires-clause-other : goal.turn-requires-clause-other
+turn-requires-clause-other g c =
+    on_there _ c.args.self.now.slots.items c.args.id c.index_mut.result.now c.requires.at.seat _ c.requires.at.at
+    c.index_mut.ensures.value c.requires.other
 
 pub returns-clause-run : goal.returns-clause-run
 returns-clause-run g c =

@@ -1,5 +1,5 @@
 use Rattle.cip_tree.specs.Nodes.{node_in}
-use Rattle.std.proofs.Common.{ap, subst, sym, arith, filter, refl, ◌≤◌, ℕ, count_by}
+use Rattle.std.proofs.Common.{ap, subst, sym, filter, refl, ◌≤◌, ℕ, count_by}
 use Rattle.std.specs.List.Sorted.{IsPermutation}
 use Rattle.cip_tree.specs.Entries.{entries_of}
 use Rattle.cip_tree.specs.Nodes.{filled_base, Nodes}
@@ -10,6 +10,7 @@ use Rattle.cip_tree.proofs.Orders.{nodes_equal}
 use Rattle.cip_tree.proofs.Closing.{closed_nodes, none_closed, closed_length}
 use Rattle.cip_tree.proofs.Freeing.{freed_order, freed_nodes, freed_parked, freed_places}
 use Rattle.cip_tree.proofs.Tracking.{tracked_freed}
+use Rattle.cip_tree.proofs.Rooms.{room_fewer}
 use Rattle.cip_tree.proofs.WalkedOn.{walked_freed}
 use Rattle.cip_tree.proofs.trees.Tree.close_from.Goals as goal
 
@@ -19,14 +20,9 @@ release_from-requires-clause-once c = subst (λ l. (place : ℕ) → count_by (i
 pub invariant_of-self : goal.invariant_of-self
 invariant_of-self c =
     let freed = subst (λ l. AreReleased c.self.inside.kept.slots c.release_from.new.kept.slots (dearer c.args.cost l)) c.as_slice.ensures c.release_from.ensures.slots in
-    let room = c.self.invariant.1 in
     let shorter = closed_length c.args.cost c.self.inside.queue.nodes c.keep_below.new.self.nodes c.keep_below.ensures.nodes in (
       freed_order c.self.inside.root c.self.inside.kept.slots c.release_from.new.kept.slots c.args.cost c.self.inside.queue.nodes c.keep_below.new.self.nodes c.self.inside.parked.items c.self.inside.ids c.self.inside.in_work c.self.invariant.0 freed c.release_from.ensures.kept c.keep_below.ensures.nodes,
-      record {
-        queue = omega (arith, room.queue, c.keep_below.ensures.room, shorter);
-        parked = omega (arith, room.parked, shorter);
-        log = omega (arith, room.log, shorter);
-      },
+      room_fewer _ _ _ _ _ _ _ c.self.invariant.1 shorter c.keep_below.ensures.room,
       tracked_freed (node_in c.self.inside.root 0 c.self.inside.root_bound) c.self.inside.whole.items c.self.inside.kept.slots c.release_from.new.kept.slots c.self.inside.ids (entries_of c.self.inside.log.items) c.self.invariant.2 c.self.invariant.0.kept _ freed c.release_from.ensures.kept,
       walked_freed c.self.inside.root c.self.inside.kept.slots c.release_from.new.kept.slots c.self.inside.ids c.self.inside.walk c.self.invariant.0.kept c.self.invariant.3 _ freed c.release_from.ensures.kept,
     )

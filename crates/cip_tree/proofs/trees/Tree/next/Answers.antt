@@ -8,6 +8,7 @@ use Rattle.cip_tree.proofs.Filled.{after_base}
 use Rattle.cip_tree.specs.Inside.{nodes_at}
 use Rattle.cip_tree.proofs.Orders.{first_kept, first_stands, first_order, first_parked, first_found, first_number, first_fresh, first_others, first_nodes, first_before, nodes_equal}
 use Rattle.cip_tree.proofs.Tracking.{tracked_first, first_unended}
+use Rattle.cip_tree.proofs.Rooms.{room_first}
 use Rattle.cip_tree.proofs.WalkedOn.{walked_first}
 use Rattle.cip_tree.proofs.trees.Tree.next.Goals as goal
 
@@ -18,14 +19,9 @@ restage-notes-requires c =
 
 pub invariant_of-self-2 : goal.invariant_of-self-2
 invariant_of-self-2 c =
-    let room = c.self.invariant.1 in
     let shorter = length_permutation _ _ c.in_ok-first.ensures.0 in (
       first_order c.self.inside.root c.self.inside.kept.slots c.restage-notes.new.kept.slots c.in_ok-first.first c.restage-notes.result.items c.new-none.result.items c.self.inside.queue.nodes c.pop.new.self.nodes c.self.inside.parked.items c.self.inside.ids c.self.inside.in_work c.self.invariant.0 c.in_ok-first.ensures.0 c.restage-notes.ensures.slots c.new-none.ensures.items,
-      record {
-        queue = omega (arith, room.queue, c.in_ok-first.ensures.2);
-        parked = omega (arith, room.parked, shorter);
-        log = omega (arith, room.log, shorter);
-      },
+      room_first _ _ _ _ _ _ _ c.self.invariant.1 shorter c.in_ok-first.ensures.2,
       tracked_first (node_in c.self.inside.root 0 c.self.inside.root_bound) c.self.inside.whole.items c.self.inside.kept.slots c.restage-notes.new.kept.slots c.self.inside.ids (entries_of c.self.inside.log.items) c.self.invariant.2 c.self.invariant.0.kept c.in_ok-first.first c.restage-notes.result.items _
           (first_stands c.self.inside.root c.self.inside.kept.slots c.restage-notes.new.kept.slots c.in_ok-first.first [] [] c.self.inside.queue.nodes c.pop.new.self.nodes c.self.inside.parked.items c.self.inside.ids c.self.inside.in_work c.self.invariant.0 c.in_ok-first.ensures.0)
           c.restage-notes.ensures.slots,

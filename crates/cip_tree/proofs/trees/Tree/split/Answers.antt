@@ -1,4 +1,4 @@
-use Rattle.std.proofs.Common.{◌≡◌, ◌+◌, ◌-◌, ◌∷◌, ◌++◌, [], Some, None, map, get_or, rules, to_z, of_z, to_z-of_z, sym, ap, ◌∙◌, subst, refl, arith}
+use Rattle.std.proofs.Common.{◌≡◌, ◌+◌, ◌-◌, ◌∷◌, ◌++◌, [], Some, None, map, get_or, rules, to_z, of_z, to_z-of_z, sym, ap, ◌∙◌, subst, refl}
 use Rattle.std.specs.List.Sorted.{IsPermutation}
 use Rattle.std.specs.Int.{w128}
 use Rattle.std.proofs.lemmas.List.{map-append}
@@ -19,6 +19,7 @@ use Rattle.cip_tree.proofs.Parted.{part_order, part_parked, part_nodes, part_gon
 use Rattle.cip_tree.specs.Tracked.{IsTracked}
 use Rattle.cip_tree.proofs.Within.{halves_hold}
 use Rattle.cip_tree.proofs.Tracking.{tracked_split}
+use Rattle.cip_tree.proofs.Rooms.{room_second, room_split}
 use Rattle.cip_tree.proofs.WalkedOn.{walked_split}
 use Rattle.cip_tree.proofs.Filled.{after_base, unfilled}
 use Rattle.cip_tree.proofs.trees.Tree.split.Goals as goal
@@ -33,7 +34,7 @@ pub push-requires-2 : goal.push-requires-2
 push-requires-2 c =
     let base = unfilled c.self.inside.root.choices (get_or (bases c.self.inside.kept.slots) c.node.inside.place None) c.requires.taken.base (ap (λ (t : Nodes). base_at t c.node.inside.place) c.self.view_is ∙ ap (λ (x : TakenNode). base_at c.args.self.now x.place) c.node.view_is ∙ c.requires.taken.found) in
     let some = taken_some c.self.inside.root c.self.inside.kept.slots c.self.inside.kept.slots c.node.inside.place c.self.inside.queue.nodes c.self.inside.parked.items c.self.inside.ids c.self.inside.in_work base.raw c.self.invariant.0 base.found in
-    omega (arith, some, c.in_ok-make_room.ensures.room.1, c.push.ensures.room)
+    room_second _ _ _ some c.in_ok-make_room.ensures.room.1 c.push.ensures.room
 
 pub overflow_sub-self : goal.overflow_sub-self
 overflow_sub-self c =
@@ -43,7 +44,7 @@ overflow_sub-self c =
 pub invariant_of-self-2 : goal.invariant_of-self-2
 invariant_of-self-2 c =
     let base = unfilled c.self.inside.root.choices (get_or (bases c.self.inside.kept.slots) c.node.inside.place None) c.requires.taken.base (ap (λ (t : Nodes). base_at t c.node.inside.place) c.self.view_is ∙ ap (λ (x : TakenNode). base_at c.args.self.now x.place) c.node.view_is ∙ c.requires.taken.found) in
-    let at_is : to_z w128 (of_z w128 c.args.at) ≡ c.args.at = search (rules, to_z-of_z) in
+    let at_is : to_z w128 (of_z w128 c.args.at) ≡ c.args.at = to_z-of_z c.ranges.at in
     let parting : IsParting c.args.self.now c.args.node.now c.args.col c.args.at c.in_ok-parting.parting = subst (λ z. IsParting c.args.self.now c.args.node.now c.args.col z c.in_ok-parting.parting) at_is (c.in_ok-parting.ensures c.args.node.now c.requires.work) in
     let halves = parting.halves in
     let low_change = half_change (low_part c.in_ok-parting.parting) c.args.col c.args.at in
@@ -82,11 +83,7 @@ invariant_of-self-2 c =
     let high_is = high_after ∙ sym (ap (λ n. region_in (high_node n c.args.col c.args.at)) node_is) in
     let room = c.in_ok-make_room.ensures.room in (
       subst (λ l. IsInOrder c.part-low_place.new.kept.slots c.push-2.new.self.nodes l (c.self.inside.ids + 2) (c.self.inside.in_work - 1)) (sym c.make_room.ensures.parked) (part_order c.self.inside.root c.self.inside.kept.slots c.part-low_place.new.kept.slots c.node.inside.place c.node.inside.notes.items c.part-low_place.result.0 c.part-low_place.result.1 low_change high_change c.self.inside.queue.nodes c.self.inside.parked.items c.self.inside.ids c.self.inside.in_work base.raw c.self.invariant.0 base.found parted c.node.inside.bound c.push.new.self.nodes c.push-2.new.self.nodes first second),
-      record {
-        queue = omega (arith, some, room.1, c.push.ensures.room, c.push-2.ensures.room);
-        parked = omega (arith, some, room.2, one, two);
-        log = omega (arith, some, room.3, one, two, c.push_reserved.ensures.len, c.push_reserved.ensures.capacity);
-      },
+      room_split _ _ _ _ _ _ _ _ _ _ _ _ some one two room.1 c.push.ensures.room c.push-2.ensures.room room.2 room.3 c.push_reserved.ensures.len c.push_reserved.ensures.capacity,
       subst (IsTracked (node_in c.self.inside.root 0 c.self.inside.root_bound) c.self.inside.whole.items c.part-low_place.new.kept.slots (c.self.inside.ids + 2)) (sym log)
           (tracked_split c.self.inside.root_bound c.self.inside.whole.items c.self.inside.root c.self.inside.kept.slots c.part-low_place.new.kept.slots c.node.inside.place c.node.inside.notes.items c.part-low_place.result.0 c.part-low_place.result.1 low_change high_change c.self.inside.queue.nodes c.self.inside.parked.items c.self.inside.ids c.self.inside.in_work base.raw c.self.invariant.0 base.found parted (map entry_of c.self.inside.log.items) c.self.invariant.2 c.args.col c.args.at c.node.inside.id c.node.inside.bound number can low_is high_is),
       walked_split c.self.inside.root c.self.inside.kept.slots c.part-low_place.new.kept.slots c.node.inside.place c.node.inside.notes.items c.part-low_place.result.0 c.part-low_place.result.1 low_change high_change c.self.inside.queue.nodes c.self.inside.parked.items c.self.inside.ids c.self.inside.in_work base.raw c.self.invariant.0 base.found parted c.self.inside.walk c.self.invariant.3,
@@ -95,7 +92,7 @@ invariant_of-self-2 c =
 pub returns : goal.returns
 returns c =
     let base = unfilled c.self.inside.root.choices (get_or (bases c.self.inside.kept.slots) c.node.inside.place None) c.requires.taken.base (ap (λ (t : Nodes). base_at t c.node.inside.place) c.self.view_is ∙ ap (λ (x : TakenNode). base_at c.args.self.now x.place) c.node.view_is ∙ c.requires.taken.found) in
-    let at_is : to_z w128 (of_z w128 c.args.at) ≡ c.args.at = search (rules, to_z-of_z) in
+    let at_is : to_z w128 (of_z w128 c.args.at) ≡ c.args.at = to_z-of_z c.ranges.at in
     let parting : IsParting c.args.self.now c.args.node.now c.args.col c.args.at c.in_ok-parting.parting = subst (λ z. IsParting c.args.self.now c.args.node.now c.args.col z c.in_ok-parting.parting) at_is (c.in_ok-parting.ensures c.args.node.now c.requires.work) in
     let halves = parting.halves in
     let low_change = half_change (low_part c.in_ok-parting.parting) c.args.col c.args.at in

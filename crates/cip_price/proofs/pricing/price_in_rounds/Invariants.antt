@@ -4,7 +4,7 @@ use Rattle.cip_price_rounds.specs.PriceTasks.{task_at}
 use Rattle.cip_price_rounds.specs.OfferedPoints.{Grows}
 use Rattle.cip_price.specs.Worked.{IsReady, BestHolds}
 use Rattle.cip_price.proofs.Led.{IsRanTo}
-use Rattle.cip_price.proofs.pricing.price.Given as goal
+use Rattle.cip_price.proofs.pricing.price_in_rounds.Given as goal
 
 abbrev pub invariant-loop-round : goal.invariant-loop-round
 invariant-loop-round g l = record {

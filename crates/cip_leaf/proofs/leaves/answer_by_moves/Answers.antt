@@ -1,0 +1,23 @@
+use Rattle.std.proofs.Common.{◌≡◌, ◌∙◌, sym, subst}
+use Rattle.cip_linear.specs.LinearProgram.{LinearProgram}
+use Rattle.cip_bland.specs.NoRepeat.{whole_answer}
+use Rattle.cip_simplex.specs.LpAnswers.{IsAnswer}
+use Rattle.cip_simplex.specs.LpShape.{IsSolvable}
+use Rattle.cip_leaves.specs.LeafProgram.{program_of_leaf}
+use Rattle.cip_leaf.proofs.Answered.{leaf_solvable}
+use Rattle.cip_leaf.proofs.leaves.answer_by_moves.Goals as goal
+
+pub new-lp-requires : goal.new-lp-requires
+new-lp-requires c =
+    rw (c.as_slice.ensures.value, c.as_slice-2.ensures.value) (subst IsSolvable (sym c.requires.parts) (leaf_solvable c.args.program.now c.args.wholes.now c.requires.formed))
+
+pub shown_by_few-requires-clause-linear : goal.shown_by_few-requires-clause-linear
+shown_by_few-requires-clause-linear c =
+    let made = rw (c.as_slice.ensures.value, c.as_slice-2.ensures.value) at c.new-lp.ensures in
+    made ∙ c.requires.parts
+
+pub answer_at-requires-clause-end : goal.answer_at-requires-clause-end
+answer_at-requires-clause-end c =
+    let made = rw (c.as_slice.ensures.value, c.as_slice-2.ensures.value) at c.new-lp.ensures in
+    let linear : c.new-lp.result ≡ program_of_leaf c.args.program.now c.args.wholes.now = made ∙ c.requires.parts in
+    subst (λ (p : LinearProgram). IsAnswer (whole_answer p) c.in_ok-end.end) linear c.in_ok-end.ensures.answer

@@ -1,0 +1,286 @@
+//! A boxed plugin of each kind, called as those of the other kinds are.
+ghost use Rattle.std.specs.Prelude.{◌≡◌, true, List, Option, [], ◌∷◌, is_ok};
+ghost use Rattle.cip_plugin.specs.Answers.{answer};
+ghost use Rattle.cip_plugin.specs.Asking.{answer_of, ask_of, asks};
+ghost use Rattle.cip_plugin.specs.Callbacks.{call_of};
+ghost use Rattle.cip_plugin.specs.Calls.{Asked, Call};
+ghost use Rattle.cip_plugin.specs.Telling.{Heard};
+ghost use Rattle.cip_plugin.specs.declared.kinds.Kind.{Kind};
+ghost use Rattle.cip_plugin.specs.declared.kinds.Kind.TheVariants as kinds;
+
+use crate::asking::{Given, Question};
+use crate::plugins::{
+    BranchRule, ConsHandler, EventHandler, Heuristic, Pricer, Propagator, Separator,
+};
+use crate::views::View;
+use std::alloc::{AllocError, Global};
+
+/// One of the callbacks that plugins of all kinds have.
+#[derive(Clone, Copy)]
+pub(crate) enum Callback<'a> {
+    /// It was included.
+    Init(Global),
+    /// It was included, and the search is on.
+    InitSolve(Global, &'a View<'a>),
+    /// It is freed, or the search ends.
+    ExitSolve,
+    /// It is called no more.
+    Exit,
+}
+
+/// What a boxed plugin is called by, whatever its kind is.
+pub(crate) trait Called {
+    ghost calls: { Self → Option (List Call) };
+
+    ghost kind: { Kind };
+
+    /// Calls it back. `Err`: it wanted memory that was refused.
+    fn call_back(&mut self, callback: Callback<'_>) -> Result<(), AllocError>
+        ensures { Heard (calls self.old) (call_of callback.entry (is_ok result) ∷ []) (calls self.new) };
+
+    /// Asks it for something that its kind is asked for. `Err`: it wanted memory that was refused.
+    fn ask(
+        &mut self,
+        alloc: Global,
+        question: Question<'_>,
+        view: &View<'_>,
+    ) -> Result<Given, AllocError>
+        requires { asks kind (ask_of question) ≡ true }
+        ensures { Heard (calls self.old) (Asked (ask_of question.entry) (answer result answer_of) ∷ [])
+            (calls self.new) };
+}
+
+impl Called for Box<dyn Separator> {
+    ghost calls = { λ b. (Separator-box b).Plugin.told b.value };
+
+    ghost kind = { kinds.Separator };
+
+    fn call_back(&mut self, callback: Callback<'_>) -> Result<(), AllocError> {
+        match callback {
+            Callback::Init(alloc) => self.init(alloc),
+            Callback::InitSolve(alloc, view) => self.init_solve(alloc, view),
+            Callback::ExitSolve => {
+                self.exit_solve();
+                Ok(())
+            }
+            Callback::Exit => {
+                self.exit();
+                Ok(())
+            }
+        }
+    }
+
+    fn ask(
+        &mut self,
+        alloc: Global,
+        question: Question<'_>,
+        view: &View<'_>,
+    ) -> Result<Given, AllocError> {
+        match question {
+            Question::Separate => self.separate(alloc, view).map(Given::Cuts),
+            _ => unreachable!(),
+        }
+    }
+}
+
+impl Called for Box<dyn Propagator> {
+    ghost calls = { λ b. (Propagator-box b).Plugin.told b.value };
+
+    ghost kind = { kinds.Propagator };
+
+    fn call_back(&mut self, callback: Callback<'_>) -> Result<(), AllocError> {
+        match callback {
+            Callback::Init(alloc) => self.init(alloc),
+            Callback::InitSolve(alloc, view) => self.init_solve(alloc, view),
+            Callback::ExitSolve => {
+                self.exit_solve();
+                Ok(())
+            }
+            Callback::Exit => {
+                self.exit();
+                Ok(())
+            }
+        }
+    }
+
+    fn ask(
+        &mut self,
+        alloc: Global,
+        question: Question<'_>,
+        view: &View<'_>,
+    ) -> Result<Given, AllocError> {
+        match question {
+            Question::Propagate => self.propagate(alloc, view).map(Given::Reductions),
+            _ => unreachable!(),
+        }
+    }
+}
+
+impl Called for Box<dyn Pricer> {
+    ghost calls = { λ b. (Pricer-box b).Plugin.told b.value };
+
+    ghost kind = { kinds.Pricer };
+
+    fn call_back(&mut self, callback: Callback<'_>) -> Result<(), AllocError> {
+        match callback {
+            Callback::Init(alloc) => self.init(alloc),
+            Callback::InitSolve(alloc, view) => self.init_solve(alloc, view),
+            Callback::ExitSolve => {
+                self.exit_solve();
+                Ok(())
+            }
+            Callback::Exit => {
+                self.exit();
+                Ok(())
+            }
+        }
+    }
+
+    fn ask(
+        &mut self,
+        alloc: Global,
+        question: Question<'_>,
+        view: &View<'_>,
+    ) -> Result<Given, AllocError> {
+        match question {
+            Question::Price { block, costs } => self
+                .price(alloc, view, block, costs)
+                .map(Given::Priced),
+            _ => unreachable!(),
+        }
+    }
+}
+
+impl Called for Box<dyn Heuristic> {
+    ghost calls = { λ b. (Heuristic-box b).Plugin.told b.value };
+
+    ghost kind = { kinds.Heuristic };
+
+    fn call_back(&mut self, callback: Callback<'_>) -> Result<(), AllocError> {
+        match callback {
+            Callback::Init(alloc) => self.init(alloc),
+            Callback::InitSolve(alloc, view) => self.init_solve(alloc, view),
+            Callback::ExitSolve => {
+                self.exit_solve();
+                Ok(())
+            }
+            Callback::Exit => {
+                self.exit();
+                Ok(())
+            }
+        }
+    }
+
+    fn ask(
+        &mut self,
+        alloc: Global,
+        question: Question<'_>,
+        view: &View<'_>,
+    ) -> Result<Given, AllocError> {
+        match question {
+            Question::Search => self.search(alloc, view).map(Given::Guesses),
+            _ => unreachable!(),
+        }
+    }
+}
+
+impl Called for Box<dyn BranchRule> {
+    ghost calls = { λ b. (BranchRule-box b).Plugin.told b.value };
+
+    ghost kind = { kinds.BranchRule };
+
+    fn call_back(&mut self, callback: Callback<'_>) -> Result<(), AllocError> {
+        match callback {
+            Callback::Init(alloc) => self.init(alloc),
+            Callback::InitSolve(alloc, view) => self.init_solve(alloc, view),
+            Callback::ExitSolve => {
+                self.exit_solve();
+                Ok(())
+            }
+            Callback::Exit => {
+                self.exit();
+                Ok(())
+            }
+        }
+    }
+
+    fn ask(
+        &mut self,
+        alloc: Global,
+        question: Question<'_>,
+        view: &View<'_>,
+    ) -> Result<Given, AllocError> {
+        match question {
+            Question::Branch => self.branch(alloc, view).map(Given::Split),
+            _ => unreachable!(),
+        }
+    }
+}
+
+impl Called for Box<dyn ConsHandler> {
+    ghost calls = { λ b. (ConsHandler-box b).Plugin.told b.value };
+
+    ghost kind = { kinds.ConsHandler };
+
+    fn call_back(&mut self, callback: Callback<'_>) -> Result<(), AllocError> {
+        match callback {
+            Callback::Init(alloc) => self.init(alloc),
+            Callback::InitSolve(alloc, view) => self.init_solve(alloc, view),
+            Callback::ExitSolve => {
+                self.exit_solve();
+                Ok(())
+            }
+            Callback::Exit => {
+                self.exit();
+                Ok(())
+            }
+        }
+    }
+
+    fn ask(
+        &mut self,
+        alloc: Global,
+        question: Question<'_>,
+        view: &View<'_>,
+    ) -> Result<Given, AllocError> {
+        match question {
+            Question::Enforce => self.enforce(alloc, view).map(Given::Enforced),
+            Question::Separate => self.separate(alloc, view).map(Given::Cuts),
+            Question::Propagate => self.propagate(alloc, view).map(Given::Reductions),
+            _ => unreachable!(),
+        }
+    }
+}
+
+impl Called for Box<dyn EventHandler> {
+    ghost calls = { λ b. (EventHandler-box b).Plugin.told b.value };
+
+    ghost kind = { kinds.EventHandler };
+
+    fn call_back(&mut self, callback: Callback<'_>) -> Result<(), AllocError> {
+        match callback {
+            Callback::Init(alloc) => self.init(alloc),
+            Callback::InitSolve(alloc, view) => self.init_solve(alloc, view),
+            Callback::ExitSolve => {
+                self.exit_solve();
+                Ok(())
+            }
+            Callback::Exit => {
+                self.exit();
+                Ok(())
+            }
+        }
+    }
+
+    fn ask(
+        &mut self,
+        alloc: Global,
+        question: Question<'_>,
+        view: &View<'_>,
+    ) -> Result<Given, AllocError> {
+        match question {
+            Question::OnEvent(event) => self.on_event(alloc, &event, view).map(Given::Wishes),
+            _ => unreachable!(),
+        }
+    }
+}

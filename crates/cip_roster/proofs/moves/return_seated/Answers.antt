@@ -1,0 +1,76 @@
+use Rattle.std.proofs.Common.{◌≡◌, ◌∷◌, ◌∙◌, ◌≤◌, [], ◌++◌, Some, None, ap, arith, length, map, refl, rules, sym, vec_len}
+use Rattle.std.specs.Vec.Iter.{drain_items}
+use Rattle.cip_roster.specs.Moved.{numbered}
+use Rattle.cip_roster.proofs.Moving.{moved_all, moved_one, whole_range}
+use Rattle.cip_roster.proofs.moves.return_seated.Goals as goal
+
+pub loop-seat-init : goal.loop-seat-init
+loop-seat-init g c =
+    let fits : length c.args.seated.now.items ≤ vec_len c.args.seated.now = search rules in
+    let from : drain_items c.into_iter-seat-iterator.result ≡ c.args.seated.now.items =
+    ap (λ it. drain_items it) c.into_iter-seat-iterator.ensures.into_iter_gives ∙ c.drain-seat-items.ensures.rest
+    ∙ whole_range c.args.seated.now.items (vec_len c.args.seated.now) fits in
+    let count = ap length from in
+    record {
+      moved = refl;
+      most = omega (arith, c.requires.numbers, count);
+      numbers = omega arith;
+      filled = omega arith;
+      room = omega (arith, c.requires.room, count);
+      capacity = refl;
+    }
+
+pub push_reserved-requires : goal.push_reserved-requires
+push_reserved-requires g c =
+    let split : drain_items c.loop-seat.seat-iterator ≡ c.in-Some.seat ∷ drain_items c.next.new.self =
+    c.in-Some.ensures.steps.0 in
+    omega (arith, c.loop-seat.invariant.room, ap length split)
+
+pub overflow_add-id : goal.overflow_add-id
+overflow_add-id g c =
+    let split : drain_items c.loop-seat.seat-iterator ≡ c.in-Some.seat ∷ drain_items c.next.new.self =
+    c.in-Some.ensures.steps.0 in
+    omega (arith, c.loop-seat.invariant.most, c.loop-seat.invariant.numbers, ap length split)
+
+pub loop-seat-preserved : goal.loop-seat-preserved
+loop-seat-preserved g c =
+    let split : drain_items c.loop-seat.seat-iterator ≡ c.in-Some.seat ∷ drain_items c.next.new.self =
+    c.in-Some.ensures.steps.0 in
+    let before = c.loop-seat.invariant in
+    let pushed = c.push_reserved.ensures in
+    let count = ap length split in
+    record {
+      moved = moved_one _ _ _ _ _ _ (ap (numbered g.S.Leaves.left c.loop-seat.id) split)
+          (pushed.items ∙ ap (λ y. c.loop-seat.spent.items ++ y ∷ []) c.leave.ensures) before.moved;
+      most = before.most;
+      numbers = omega (arith, before.numbers, count);
+      filled = omega (arith, before.filled, pushed.len);
+      room = omega (arith, before.room, pushed.len, pushed.capacity, count);
+      capacity = pushed.capacity ∙ before.capacity;
+    }
+
+pub returns-clause-moved : goal.returns-clause-moved
+returns-clause-moved g c =
+    let fits : length c.args.seated.now.items ≤ vec_len c.args.seated.now = search rules in
+    let from : drain_items c.into_iter-seat-iterator.result ≡ c.args.seated.now.items =
+    ap (λ it. drain_items it) c.into_iter-seat-iterator.ensures.into_iter_gives ∙ c.drain-seat-items.ensures.rest
+    ∙ whole_range c.args.seated.now.items (vec_len c.args.seated.now) fits in
+    moved_all _ _ _ _ _ (ap (numbered g.S.Leaves.left c.loop-seat.id) c.in-None.ensures.steps.0)
+    (ap (numbered g.S.Leaves.left 0) from) c.loop-seat.invariant.moved
+
+pub returns-clause-length : goal.returns-clause-length
+returns-clause-length g c =
+    let fits : length c.args.seated.now.items ≤ vec_len c.args.seated.now = search rules in
+    let from : drain_items c.into_iter-seat-iterator.result ≡ c.args.seated.now.items =
+    ap (λ it. drain_items it) c.into_iter-seat-iterator.ensures.into_iter_gives ∙ c.drain-seat-items.ensures.rest
+    ∙ whole_range c.args.seated.now.items (vec_len c.args.seated.now) fits in
+    omega (
+      arith,
+      c.loop-seat.invariant.filled,
+      c.loop-seat.invariant.numbers,
+      ap length c.in-None.ensures.steps.0,
+      ap length from,
+    )
+
+pub returns-clause-capacity : goal.returns-clause-capacity
+returns-clause-capacity g c = c.loop-seat.invariant.capacity

@@ -1,0 +1,61 @@
+use Rattle.std.proofs.Common.{◌≡◌, ◌∷◌, ◌∙◌, ◌≤◌, [], ◌++◌, Some, None, ap, arith, length, map, refl, rules, sym, vec_len}
+use Rattle.std.specs.Vec.Iter.{drain_items}
+use Rattle.std.proofs.Common.{count_by}
+use Rattle.std.specs.Prelude.{is_some}
+use Rattle.cip_roster.specs.Moved.{unnumbered}
+use Rattle.cip_roster.proofs.Moving.{counted_none, counted_one, moved_all, moved_one, none_there, whole_range}
+use Rattle.cip_roster.proofs.moves.return_shelved.Goals as goal
+
+pub loop-held-init : goal.loop-held-init
+loop-held-init g c =
+    let fits : length c.args.shelf.now.items ≤ vec_len c.args.shelf.now = search rules in
+    let from : drain_items c.into_iter-held-iterator.result ≡ c.args.shelf.now.items =
+    ap (λ it. drain_items it) c.into_iter-held-iterator.ensures.into_iter_gives ∙ c.drain-held-items.ensures.rest
+    ∙ whole_range c.args.shelf.now.items (vec_len c.args.shelf.now) fits in
+    record {
+      moved = refl;
+      room = omega (arith, c.requires, ap (count_by is_some) from);
+    }
+
+pub push_reserved-requires : goal.push_reserved-requires
+push_reserved-requires g c =
+    let split : drain_items c.loop-held.held-iterator ≡ Some c.in-Some-held.plugin ∷ drain_items c.next.new.self =
+    c.in-Some.ensures.steps.0 ∙ ap (λ held. held ∷ drain_items c.next.new.self) c.in-Some-held.is in
+    omega (arith, c.loop-held.invariant.room, counted_one _ _ _ split)
+
+pub loop-held-preserved-in-Some-held : goal.loop-held-preserved-in-Some-held
+loop-held-preserved-in-Some-held g c =
+    let split : drain_items c.loop-held.held-iterator ≡ Some c.in-Some-held.plugin ∷ drain_items c.next.new.self =
+    c.in-Some.ensures.steps.0 ∙ ap (λ held. held ∷ drain_items c.next.new.self) c.in-Some-held.is in
+    record {
+      moved = moved_one _ _ _ _ _ _ (ap (unnumbered g.P.Leaves.left) split)
+          (c.push_reserved.ensures.items ∙ ap (λ y. c.loop-held.spent.items ++ y ∷ []) c.leave.ensures)
+          c.loop-held.invariant.moved;
+      room = omega (
+        arith,
+        c.loop-held.invariant.room,
+        c.push_reserved.ensures.len,
+        c.push_reserved.ensures.capacity,
+        counted_one _ _ _ split,
+      );
+    }
+
+pub loop-held-preserved : goal.loop-held-preserved
+loop-held-preserved g c =
+    let split : drain_items c.loop-held.held-iterator ≡ None ∷ drain_items c.next.new.self =
+    c.in-Some.ensures.steps.0 ∙ ap (λ held. held ∷ drain_items c.next.new.self)
+    (none_there c.in-Some.held c.in_default.not-Some) in
+    record {
+      moved = ap (λ l. c.loop-held.spent.items ++ l) (sym (ap (unnumbered g.P.Leaves.left) split))
+          ∙ c.loop-held.invariant.moved;
+      room = omega (arith, c.loop-held.invariant.room, counted_none _ _ split);
+    }
+
+pub returns-clause-moved : goal.returns-clause-moved
+returns-clause-moved g c =
+    let fits : length c.args.shelf.now.items ≤ vec_len c.args.shelf.now = search rules in
+    let from : drain_items c.into_iter-held-iterator.result ≡ c.args.shelf.now.items =
+    ap (λ it. drain_items it) c.into_iter-held-iterator.ensures.into_iter_gives ∙ c.drain-held-items.ensures.rest
+    ∙ whole_range c.args.shelf.now.items (vec_len c.args.shelf.now) fits in
+    moved_all _ _ _ _ _ (ap (unnumbered g.P.Leaves.left) c.in-None.ensures.steps.0)
+    (ap (unnumbered g.P.Leaves.left) from) c.loop-held.invariant.moved

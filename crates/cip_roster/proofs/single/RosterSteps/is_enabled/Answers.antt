@@ -1,0 +1,12 @@
+use Rattle.cip_seats.specs.Wishing.{is_enabled}
+use Rattle.cip_roster.proofs.Sitting.{said_past, said_there}
+use Rattle.cip_roster.proofs.single.RosterSteps.is_enabled.Goals as goal
+
+pub returns-in-None : goal.returns-in-None
+returns-in-None g c =
+    said_past _ is_enabled c.args.self.now.slots.items _ c.args.id c.deref.ensures.value c.in-None.ensures.lookup.3
+
+pub returns-in-Some : goal.returns-in-Some
+returns-in-Some g c =
+    said_there _ is_enabled c.args.self.now.slots.items _ c.args.id c.in-Some.slot.now c.deref.ensures.value
+    c.in-Some.ensures.lookup.3.0 c.in-Some.ensures.lookup.1

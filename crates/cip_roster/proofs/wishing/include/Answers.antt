@@ -1,0 +1,37 @@
+use Rattle.std.proofs.Common.{◌∙◌, ap, subst}
+use Rattle.std.specs.Prelude.{slice_get}
+use Rattle.cip_plugin.specs.declared.proposals.Wish.TheVariants.{Include}
+use Rattle.cip_seats.specs.Seats.{State}
+use Rattle.cip_seats.specs.Wishing.{Granted, place_fault}
+use Rattle.cip_roster.proofs.Turning.{sound_more}
+use Rattle.cip_roster.proofs.wishing.include.Goals as goal
+
+pub returns-in_err-reserve_seat-clause-sound : goal.returns-in_err-reserve_seat-clause-sound
+returns-in_err-reserve_seat-clause-sound g c =
+    sound_more (g.R.Seated.state c.args.roster.now) (g.R.Seated.state c.reserve_seat.new.self)
+    (g.R.Seated.room c.args.roster.now) (g.R.Seated.room c.reserve_seat.new.self) c.reserve_seat.ensures.state
+    c.reserve_seat.ensures.grows c.reserve_seat.ensures.rankings c.requires.sound
+
+pub returns-in_err-push-clause-sound : goal.returns-in_err-push-clause-sound
+returns-in_err-push-clause-sound g c =
+    sound_more (g.R.Seated.state c.args.roster.now) (g.R.Seated.state c.reserve_seat.new.self)
+    (g.R.Seated.room c.args.roster.now) (g.R.Seated.room c.reserve_seat.new.self) c.reserve_seat.ensures.state
+    c.reserve_seat.ensures.grows c.reserve_seat.ensures.rankings c.requires.sound
+
+pub welcome-requires-clause-sound : goal.welcome-requires-clause-sound
+welcome-requires-clause-sound g c =
+    sound_more (g.R.Seated.state c.args.roster.now) (g.R.Seated.state c.reserve_seat.new.self)
+    (g.R.Seated.room c.args.roster.now) (g.R.Seated.room c.reserve_seat.new.self) c.reserve_seat.ensures.state
+    c.reserve_seat.ensures.grows c.reserve_seat.ensures.rankings c.requires.sound
+
+pub welcome-requires-clause-held : goal.welcome-requires-clause-held
+welcome-requires-clause-held g c =
+    ap (λ (s : State). place_fault (slice_get s.places c.args.place)) c.reserve_seat.ensures.state
+    ∙ c.in_ok-holds.ensures
+
+pub returns-clause-came : goal.returns-clause-came
+returns-clause-came g c = record {
+  granted = subst (λ (s : State). Granted (Include c.args.place) s (g.R.Seated.state c.welcome.new.roster))
+      c.reserve_seat.ensures.state c.welcome.ensures.granted;
+  fine = c.in_ok-holds.ensures;
+}

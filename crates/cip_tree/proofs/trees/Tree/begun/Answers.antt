@@ -1,0 +1,40 @@
+use Rattle.cip_domain.specs.Domain.{region_of}
+use Rattle.cip_tree.specs.Nodes.{filled_base, node_in}
+use Rattle.std.proofs.Common.{◌∷◌, [], List, ap, sym, ◌∙◌, subst, refl, length}
+use Rattle.cip_tree.specs.declared.queue.OpenNode.{OpenNode}
+use Rattle.cip_tree.specs.Inside.{IsInOrder, nodes_at}
+use Rattle.cip_tree.proofs.Starts.{root_order, root_nodes, root_bases}
+use Rattle.cip_tree.specs.Entries.{entries_of}
+use Rattle.cip_tree.specs.Tracked.{IsTracked}
+use Rattle.cip_tree.proofs.Tracking.{tracked_root}
+use Rattle.cip_tree.specs.Walks.{Way, IsWalked}
+use Rattle.cip_tree.proofs.Rooms.{room_root}
+use Rattle.cip_tree.proofs.WalkedOn.{walked_new}
+use Rattle.cip_tree.proofs.trees.Tree.begun.Goals as goal
+
+pub invariant_of-result : goal.invariant_of-result
+invariant_of-result c =
+    let node : OpenNode = record { bound = c.args.bound; id = 0; place = c.args.parts.rooted.place } in
+    let one = ap (λ (l : List OpenNode). length l) c.requires.started.queue in
+    let order = root_order c.args.parts.rooted.kept.slots c.args.parts.rooted.place c.requires.started.kept c.requires.started.others node refl refl in (
+      subst (λ q. IsInOrder c.args.parts.rooted.kept.slots q c.args.parts.parked.items 1 0) (sym c.requires.started.queue)
+          (subst (λ p. IsInOrder c.args.parts.rooted.kept.slots (node ∷ []) p 1 0) (sym c.requires.started.parked) order),
+      room_root _ _ _ _ one c.requires.started.parked_room c.requires.started.log_room,
+      subst (λ l. IsTracked (node_in c.args.root 0 c.args.bound) c.args.parts.whole.items c.args.parts.rooted.kept.slots 1 (entries_of l)) (sym c.requires.started.log)
+          (tracked_root c.args.root c.args.parts.whole.items c.args.bound c.args.parts.rooted.kept.slots c.args.parts.rooted.place c.requires.started.kept c.requires.started.others),
+      subst (IsWalked c.args.root c.args.parts.rooted.kept.slots 1) (sym c.new.ensures) (walked_new c.args.root c.args.parts.work c.args.parts.rooted.kept.slots 1 c.requires.started.work c.requires.past order.given),
+    )
+
+pub returns : goal.returns
+returns c =
+    let node : OpenNode = record { bound = c.args.bound; id = 0; place = c.args.parts.rooted.place } in
+    record {
+      open_ = ap (nodes_at c.args.root c.args.parts.rooted.kept.slots) c.requires.started.queue ∙ root_nodes c.args.parts.rooted.kept.slots c.args.parts.rooted.place c.requires.started.kept c.requires.started.others c.args.root node refl;
+      root = refl;
+      integral_is = refl;
+      parked = ap (nodes_at c.args.root c.args.parts.rooted.kept.slots) c.requires.started.parked;
+      taken = λ k. ap (filled_base c.args.root.choices) (root_bases c.args.parts.rooted.kept.slots c.args.parts.rooted.place c.requires.started.kept c.requires.started.others k);
+      ids = refl;
+      log = ap (λ l. entries_of l) c.requires.started.log;
+      work = ap (λ (w : Way). region_of w.domain) c.new.ensures ∙ c.requires.started.work;
+    }
