@@ -39,40 +39,24 @@ fn list_spent(kit: &Kit, numbers: &mut Vec<Option<u32>>) -> Result<(), AllocErro
     Ok(())
 }
 
-/// The plugin that a line says; none where there is none of its kind.
-fn plugin_of(alloc: Global, plug: &Plug<'_>) -> Result<Option<AnyPlugin>, AllocError> {
-    let fake = Box::new(alloc, Fake::new(alloc, plug)?)?;
-    Ok(match plug.kind {
-        Kind::Separator => Some(AnyPlugin::Separator(fake)),
-        Kind::Propagator => Some(AnyPlugin::Propagator(fake)),
-        Kind::Heuristic => Some(AnyPlugin::Heuristic(fake)),
-        Kind::BranchRule => Some(AnyPlugin::BranchRule(fake)),
-        Kind::ConsHandler => Some(AnyPlugin::ConsHandler(fake)),
-        Kind::EventHandler => Some(AnyPlugin::EventHandler(fake)),
-        Kind::Pricer => None,
-    })
-}
-
-/// Puts the plugin that a line says, if it says one, at the end of a list.
-fn put_plugin(alloc: Global, line: &str, list: &mut Vec<AnyPlugin>) -> Result<(), AllocError> {
-    let Some(plug) = Plug::read(line) else {
-        return Ok(());
-    };
-    match plugin_of(alloc, &plug)? {
-        Some(plugin) => list.push(plugin)?,
-        None => {}
+/// The plugin that a line of a head puts into a kit, and whether into its start; none where it puts in none.
+fn plug_of<'a>(line: &'a str) -> Option<(bool, Plug<'a>)> {
+    let (place, said) = key_and_value(line);
+    if place != "start" && place != "shelf" {
+        return None;
     }
-    Ok(())
+    match Plug::read(said) {
+        Some(plug) => Some((place == "start", plug)),
+        None => None,
+    }
 }
 
-/// Puts the plugins of lines into a kit.
-fn put_plugins(alloc: Global, lines: &str, kit: &mut Kit) -> Result<(), AllocError> {
-    for line in lines.split('\n') {
-        match key_and_value(line) {
-            ("start", said) => put_plugin(alloc, said, &mut kit.start)?,
-            ("shelf", said) => put_plugin(alloc, said, &mut kit.shelf)?,
-            _ => {}
-        }
+/// Puts a plugin at the end of a kit's start or shelf.
+fn put(kit: &mut Kit, is_start: bool, plugin: AnyPlugin) -> Result<(), AllocError> {
+    if is_start {
+        kit.start.push(plugin)?;
+    } else {
+        kit.shelf.push(plugin)?;
     }
     Ok(())
 }
@@ -100,21 +84,25 @@ fn call(
     Ok(())
 }
 
-/// Fills a kit with the plugins that a row and the lines of one of its runs say, calls `run` so, and notes what is left
-/// of the kit.
-fn serve(
+/// The same, with a new outcome, which says what is left of the kit.
+fn answered(
     alloc: Global,
     row: &Row<'_>,
     own: &str,
     setup: &Setup<'_>,
     kit: &mut Kit,
-    outcome: &mut Outcome,
-) -> Result<(), AllocError> {
-    put_plugins(alloc, row.shared(), kit)?;
-    put_plugins(alloc, own, kit)?;
-    call(alloc, row, own, setup, kit, outcome)?;
+) -> Result<Outcome, AllocError> {
+    let mut outcome = Outcome {
+        status: 255,
+        out: MemorySink::new(alloc, setup.room)?,
+        logs: Vec::new(alloc),
+        left: (0, 0),
+        spent: Vec::new(alloc),
+    };
+    call(alloc, row, own, setup, kit, &mut outcome)?;
     outcome.left = (kit.start.len(), kit.shelf.len());
-    list_spent(kit, &mut outcome.spent)
+    list_spent(kit, &mut outcome.spent)?;
+    Ok(outcome)
 }
 
 /// Calls `run` as a row and the lines of one of its runs say, with a kit of the plugins of these lines, and such a
@@ -125,21 +113,22 @@ pub fn outcome_of(
     own: &str,
     setup: &Setup<'_>,
 ) -> Result<Outcome, AllocError> {
-    let mut outcome = Outcome {
-        status: 255,
-        out: MemorySink::new(alloc, setup.room)?,
-        logs: Vec::new(alloc),
-        left: (0, 0),
-        spent: Vec::new(alloc),
-    };
     let mut kit = no_plugins(alloc);
-    let served = serve(alloc, row, own, setup, &mut kit, &mut outcome);
-    drop(kit);
-    match served {
-        Ok(()) => Ok(outcome),
-        Err(error) => {
-            drop(outcome);
-            Err(error)
-        }
+    for line in row.shared().split('\n').chain(own.split('\n')) {
+        let Some((is_start, plug)) = plug_of(line) else {
+            continue;
+        };
+        let fake = Fake::new(alloc, &plug)?;
+        let plugin = match plug.kind {
+            Kind::Separator => AnyPlugin::Separator(Box::new(alloc, fake)?),
+            Kind::Propagator => AnyPlugin::Propagator(Box::new(alloc, fake)?),
+            Kind::Heuristic => AnyPlugin::Heuristic(Box::new(alloc, fake)?),
+            Kind::BranchRule => AnyPlugin::BranchRule(Box::new(alloc, fake)?),
+            Kind::ConsHandler => AnyPlugin::ConsHandler(Box::new(alloc, fake)?),
+            Kind::EventHandler => AnyPlugin::EventHandler(Box::new(alloc, fake)?),
+            Kind::Pricer => continue,
+        };
+        put(&mut kit, is_start, plugin)?;
     }
+    answered(alloc, row, own, setup, &mut kit)
 }
