@@ -6,11 +6,14 @@ use cip_branching::{FirstRule, MostFractionalRule, PseudoCostRule};
 use cip_guides::{DiveHeuristic, ExchangeHeuristic, RoundHeuristic};
 use cip_handlers::{Class, ClassHandler};
 use cip_io::{Sink, Store};
-use cip_main::{Log, Words, no_plugins, run};
+use cip_main::{Log, Words, run};
 use cip_plugin::{AnyPlugin, Kit, Tells};
 use cip_propagators::{ActivityPropagator, ReducedCostPropagator};
 use cip_tighten::{CoverSeparator, MixedSeparator, RoundingSeparator};
 use std::alloc::{AllocError, Global};
+
+/// How many built-in plugins there are.
+const PLUGINS: usize = 15;
 
 /// Whether a kit has few enough plugins for a call.
 fn is_few(kit: &Kit) -> bool
@@ -43,36 +46,43 @@ pub fn run_with_builtins<S: Store, K: Sink>(
     out: &mut K,
     logs: &mut Vec<Log>,
 ) -> Result<u8, AllocError> {
-    let mut kit = no_plugins(alloc);
+    let mut start = Vec::with_capacity(alloc, PLUGINS)?;
     let linear = Box::new(alloc, ClassHandler::new(alloc, Class::Linear))?;
-    kit.start.push(AnyPlugin::ConsHandler(linear))?;
+    start.push_reserved(AnyPlugin::ConsHandler(linear));
     let knapsack = Box::new(alloc, ClassHandler::new(alloc, Class::Knapsack))?;
-    kit.start.push(AnyPlugin::ConsHandler(knapsack))?;
+    start.push_reserved(AnyPlugin::ConsHandler(knapsack));
     let setpack = Box::new(alloc, ClassHandler::new(alloc, Class::SetPack))?;
-    kit.start.push(AnyPlugin::ConsHandler(setpack))?;
+    start.push_reserved(AnyPlugin::ConsHandler(setpack));
     let setpart = Box::new(alloc, ClassHandler::new(alloc, Class::SetPart))?;
-    kit.start.push(AnyPlugin::ConsHandler(setpart))?;
+    start.push_reserved(AnyPlugin::ConsHandler(setpart));
     let rounding = Box::new(alloc, RoundingSeparator::new(alloc))?;
-    kit.start.push(AnyPlugin::Separator(rounding))?;
+    start.push_reserved(AnyPlugin::Separator(rounding));
     let cover = Box::new(alloc, CoverSeparator::new(alloc))?;
-    kit.start.push(AnyPlugin::Separator(cover))?;
+    start.push_reserved(AnyPlugin::Separator(cover));
     let mir = Box::new(alloc, MixedSeparator::new(alloc))?;
-    kit.start.push(AnyPlugin::Separator(mir))?;
+    start.push_reserved(AnyPlugin::Separator(mir));
     let activity = Box::new(alloc, ActivityPropagator::new(alloc))?;
-    kit.start.push(AnyPlugin::Propagator(activity))?;
+    start.push_reserved(AnyPlugin::Propagator(activity));
     let redcost = Box::new(alloc, ReducedCostPropagator::new(alloc))?;
-    kit.start.push(AnyPlugin::Propagator(redcost))?;
+    start.push_reserved(AnyPlugin::Propagator(redcost));
     let round = Box::new(alloc, RoundHeuristic::new(alloc))?;
-    kit.start.push(AnyPlugin::Heuristic(round))?;
+    start.push_reserved(AnyPlugin::Heuristic(round));
     let dive = Box::new(alloc, DiveHeuristic::new(alloc))?;
-    kit.start.push(AnyPlugin::Heuristic(dive))?;
+    start.push_reserved(AnyPlugin::Heuristic(dive));
     let exchange = Box::new(alloc, ExchangeHeuristic::new(alloc))?;
-    kit.start.push(AnyPlugin::Heuristic(exchange))?;
+    start.push_reserved(AnyPlugin::Heuristic(exchange));
     let pseudo = Box::new(alloc, PseudoCostRule::new(alloc))?;
-    kit.start.push(AnyPlugin::BranchRule(pseudo))?;
+    start.push_reserved(AnyPlugin::BranchRule(pseudo));
     let mostfrac = Box::new(alloc, MostFractionalRule::new())?;
-    kit.start.push(AnyPlugin::BranchRule(mostfrac))?;
+    start.push_reserved(AnyPlugin::BranchRule(mostfrac));
     let first = Box::new(alloc, FirstRule::new())?;
-    kit.start.push(AnyPlugin::BranchRule(first))?;
-    run_with(alloc, words, store, out, &mut kit, logs)
+    start.push_reserved(AnyPlugin::BranchRule(first));
+    let mut kit = Kit {
+        start,
+        shelf: Vec::new(alloc),
+        spent: Vec::new(alloc),
+    };
+    let status = run_with(alloc, words, store, out, &mut kit, logs);
+    drop(kit);
+    status
 }

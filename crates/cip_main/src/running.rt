@@ -68,9 +68,16 @@ pub fn run<S: Store, K: Sink>(
 {
     match read_task(alloc, words, kit.start.as_slice(), store) {
         Ok(Task::Solve { program, limits }) => {
-            solve_and_report(alloc, &program, &limits, kit, out, logs)
+            let status = solve_and_report(alloc, &program, &limits, kit, out, logs);
+            drop(program);
+            status
         }
-        Ok(Task::Check { program, point }) => check_and_report(&program, point.as_slice(), out),
+        Ok(Task::Check { program, point }) => {
+            let status = check_and_report(&program, point.as_slice(), out);
+            drop(point);
+            drop(program);
+            status
+        }
         Ok(
             Task::Generate {
                 program,
@@ -86,7 +93,9 @@ pub fn run<S: Store, K: Sink>(
                 rows,
                 entries,
             };
-            solve_drawn(alloc, drawn, &program, kit, out, logs)
+            let status = solve_drawn(alloc, drawn, &program, kit, out, logs);
+            drop(program);
+            status
         }
         Err(answer) => say(out, answer),
     }

@@ -4,15 +4,15 @@ use Rattle.cip_main.proofs.running.run.Goals as goal
 
 pub returns-in-Ok-Solve : goal.returns-in-Ok-Solve
 returns-in-Ok-Solve g c =
-    answered _ _ _ _ (asked_of _ _ _ _ c.as_slice.ensures.value) (rw c.in-Ok-Solve.field-0-is at c.in-Ok-Solve.ensures) c.solve_and_report.ensures
+    answered _ _ _ _ (asked_of _ _ _ _ c.as_slice.ensures.value) (rw c.in-Ok-Solve.field-0-is at c.in-Ok-Solve.ensures) c.solve_and_report-status.ensures
 
 pub returns-in-Ok-Check : goal.returns-in-Ok-Check
 returns-in-Ok-Check g c =
-    verdict_told _ _ _ _ _ (asked_of _ _ _ _ c.as_slice.ensures.value) (rw c.in-Ok-Check.field-0-is at c.in-Ok-Check.ensures) c.as_slice-in-Ok-Check.ensures.value (record { tells = c.check_and_report.ensures.says; holds = c.check_and_report.ensures.holds; no_search = refl; same_kit = refl })
+    verdict_told _ _ _ _ _ (asked_of _ _ _ _ c.as_slice.ensures.value) (rw c.in-Ok-Check.field-0-is at c.in-Ok-Check.ensures) c.as_slice-in-Ok-Check.ensures.value (record { tells = c.check_and_report-status.ensures.says; holds = c.check_and_report-status.ensures.holds; no_search = refl; same_kit = refl })
 
 pub returns-in-Err : goal.returns-in-Err
 returns-in-Err g c = plain_told _ _ c.in-Err.answer (asked_of _ _ _ _ c.as_slice.ensures.value) c.in-Err.ensures c.say.ensures refl refl
 
 pub returns-in-Ok-Generate : goal.returns-in-Ok-Generate
 returns-in-Ok-Generate g c =
-    drawn_answered _ _ _ _ _ _ _ (asked_of _ _ _ _ c.as_slice.ensures.value) (rw c.in-Ok-Generate.field-0-is at c.in-Ok-Generate.ensures) c.solve_drawn.ensures
+    drawn_answered _ _ _ _ _ _ _ (asked_of _ _ _ _ c.as_slice.ensures.value) (rw c.in-Ok-Generate.field-0-is at c.in-Ok-Generate.ensures) c.solve_drawn-status.ensures
