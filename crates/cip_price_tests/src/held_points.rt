@@ -32,7 +32,7 @@ pub const LOOSE: &str =
     \x20R2: 2 y1 + 2 y2 <= 3\n R3: x1 + x2 + y1 + y2 <= 3\nBinaries\n x1 x2 y1 y2\nEnd\n";
 
 /// Points, each with its block.
-const POINTS: [(u32, i64, i64); 6] = [
+static POINTS: [(u32, i64, i64); 6] = [
     (0, 0, 0),
     (0, 1, 0),
     (0, 0, 1),

@@ -30,7 +30,7 @@ enum Told {
 /// allowed.
 type Ask = (&'static str, usize, bool, u32);
 
-const ASKS: [Ask; 9] = [
+static ASKS: [Ask; 9] = [
     (PLAIN, 6, false, 1000),
     (TIGHT, 6, false, 1000),
     (OPEN, 6, false, 1000),
@@ -141,7 +141,11 @@ fn answered_on(
         pool: &pool,
     };
     match Master::new(alloc, &task) {
-        Ok(mut master) => answered_twice(alloc, &task, &mut master, limit),
+        Ok(mut master) => {
+            let told = answered_twice(alloc, &task, &mut master, limit);
+            drop(master);
+            told
+        }
         Err(_) => None,
     }
 }
@@ -157,16 +161,24 @@ fn answered(alloc: Global, program: &Program, ask: Ask) -> Option<(Told, Told)> 
     }
 }
 
+/// What is answered, and again, where the program is read.
+fn told_of(alloc: Global, ask: Ask) -> Option<(Told, Told)> {
+    match read_lp(alloc, ask.0.as_bytes()) {
+        Ok(program) => {
+            let told = answered(alloc, &program, ask);
+            drop(program);
+            told
+        }
+        Err(_) => None,
+    }
+}
+
 /// Whether this is answered, and again.
 fn is_answered(alloc: Global, at: usize) -> bool {
     if at >= ASKS.len() {
         return false;
     }
-    let ask = ASKS[at];
-    match read_lp(alloc, ask.0.as_bytes()) {
-        Ok(program) => answered(alloc, &program, ask) == Some((want(at), want(at))),
-        Err(_) => false,
-    }
+    told_of(alloc, ASKS[at]) == Some((want(at), want(at)))
 }
 
 /// The first case in which something else is answered.

@@ -47,7 +47,7 @@ enum Trees {
 /// What is asked: a program, the multiplier of the master row, and the trees.
 type Ask = (&'static str, i64, Trees);
 
-const ASKS: [Ask; 10] = [
+static ASKS: [Ask; 10] = [
     (PLAIN, 0, Trees::Split),
     (PLAIN, 1, Trees::Split),
     (PLAIN, -1, Trees::Boxes),
@@ -173,16 +173,25 @@ fn answer_on(
     )
 }
 
+/// What is answered, where the program is read.
+fn told_of(alloc: Global, ask: Ask) -> Option<Result<TreeBound, LagrangeFault>> {
+    let (text, multiplier, trees) = ask;
+    match read_lp(alloc, text.as_bytes()) {
+        Ok(program) => {
+            let told = answer_on(alloc, &program, multiplier, trees);
+            drop(program);
+            told
+        }
+        Err(_) => None,
+    }
+}
+
 /// Whether this is answered.
 fn is_answered(alloc: Global, at: usize) -> bool {
     if at >= ASKS.len() {
         return false;
     }
-    let (text, multiplier, trees) = ASKS[at];
-    match read_lp(alloc, text.as_bytes()) {
-        Ok(program) => answer_on(alloc, &program, multiplier, trees) == Some(want(at)),
-        Err(_) => false,
-    }
+    told_of(alloc, ASKS[at]) == Some(want(at))
 }
 
 /// The first case in which something else is answered.

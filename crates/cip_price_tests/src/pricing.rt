@@ -47,7 +47,7 @@ enum Who {
 /// What is asked: a program, its blocks, who prices, and how many rounds and moves are allowed.
 type Ask = (&'static str, &'static str, Who, u32, u32);
 
-const ASKS: [Ask; 14] = [
+static ASKS: [Ask; 14] = [
     (PLAIN, BLOCKS, Who::All, 100, 1000),
     (PLAIN, BLOCKS, Who::Silent, 100, 1000),
     (PLAIN, BLOCKS, Who::Zeros, 100, 1000),
@@ -197,16 +197,24 @@ fn answered(alloc: Global, program: &Program, ask: Ask) -> Option<Told> {
     }
 }
 
+/// What is answered, where the program is read.
+fn told_of(alloc: Global, ask: Ask) -> Option<Told> {
+    match read_lp(alloc, ask.0.as_bytes()) {
+        Ok(program) => {
+            let told = answered(alloc, &program, ask);
+            drop(program);
+            told
+        }
+        Err(_) => None,
+    }
+}
+
 /// Whether this is answered.
 fn is_answered(alloc: Global, at: usize) -> bool {
     if at >= ASKS.len() {
         return false;
     }
-    let ask = ASKS[at];
-    match read_lp(alloc, ask.0.as_bytes()) {
-        Ok(program) => answered(alloc, &program, ask) == Some(want(at)),
-        Err(_) => false,
-    }
+    told_of(alloc, ASKS[at]) == Some(want(at))
 }
 
 /// The first case in which something else is answered.

@@ -25,7 +25,7 @@ pub enum Shape {
     Again,
 }
 
-const SHAPES: [Shape; 7] = [
+static SHAPES: [Shape; 7] = [
     Shape::Halved,
     Shape::Emptied,
     Shape::BothEmpty,

@@ -66,7 +66,7 @@ pub const FINDERS: [Fake; 3] = [
 ];
 
 /// What is written as they are called: by falling priority, those that answer with their first 64 points.
-const LINES: [(u32, &'static str); 13] = [
+static LINES: [(u32, &'static str); 13] = [
     (0, "init"),
     (0, "init_solve"),
     (1, "init"),

@@ -30,7 +30,7 @@ enum Case {
     Ends,
 }
 
-const CASES: [Case; 9] = [
+static CASES: [Case; 9] = [
     Case::Nothing,
     Case::Ranks,
     Case::Wishes,
@@ -65,13 +65,15 @@ fn comes_true(kit: &mut Kit, alloc: Global, view: &View<'_>, case: Case) -> Resu
     requires { length kit.old.start.items + length kit.old.shelf.items < 2 ^ 32 }
 {
     let mut roster = Roster::start(alloc, kit, true, view)?;
-    match case {
+    let is_so = match case {
         Case::Nothing => gives_nothing(&mut roster, alloc, view),
         Case::Ranks => are_ranked(&mut roster, alloc, view),
         Case::Wishes => Ok(are_wished(&mut roster, alloc, view)),
         Case::Tells(delivery) => is_told(&mut roster, alloc, view, delivery.lines),
         Case::Ends => ends_well(&mut roster, kit, alloc, view),
-    }
+    };
+    drop(roster);
+    is_so
 }
 
 /// Whether a case comes true.

@@ -12,7 +12,7 @@ use std::alloc::{AllocError, Global};
 
 /// What is written where 0 tells and 1 doesn't, one more is included from the shelf and 1 is freed, the others are
 /// called, what they give is refused, and all are closed.
-const LINES: [(u32, &'static str); 16] = [
+static LINES: [(u32, &'static str); 16] = [
     (0, "init"),
     (0, "init_solve"),
     (1, "init"),

@@ -8,7 +8,7 @@ use cip_roster::{Roster, Seated, WishFault};
 use std::alloc::Global;
 
 /// Wishes in their order, where one heuristic stands on the shelf, and the fault of each.
-const WISHES: [(Wish, Option<WishFault>); 14] = [
+static WISHES: [(Wish, Option<WishFault>); 14] = [
     (Wish::Include(9), Some(WishFault::NoSuchPlace)),
     (Wish::Free(0), Some(WishFault::NoSuchPlugin)),
     (Wish::Include(0), None),
@@ -26,7 +26,7 @@ const WISHES: [(Wish, Option<WishFault>); 14] = [
 ];
 
 /// What is written meanwhile.
-const LINES: [(u32, &'static str); 6] = [
+static LINES: [(u32, &'static str); 6] = [
     (0, "init"),
     (0, "init_solve"),
     (0, "disabled"),

@@ -46,7 +46,7 @@ const THREE_COLUMNS: Case = Case {
     is_quick: true,
 };
 
-const CASES: [Case; 5] = [
+static CASES: [Case; 5] = [
     THREE_COLUMNS,
     // two units are no three
     Case {

@@ -26,7 +26,7 @@ struct Case {
     expected: Expected,
 }
 
-const CASES: [Case; 7] = [
+static CASES: [Case; 7] = [
     // minimise -2a - b with 2a + 2b <= 3, each from 0 to 1: at 1, 1/2
     Case {
         program: Written {

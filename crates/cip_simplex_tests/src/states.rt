@@ -32,7 +32,7 @@ const SMALL: Case = Case {
     steps: &[],
 };
 
-const CASES: [Case; 12] = [
+static CASES: [Case; 12] = [
     // an exchange solves the row for its column
     Case {
         steps: &[

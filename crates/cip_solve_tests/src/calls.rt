@@ -252,10 +252,13 @@ fn stays_same(alloc: Global) -> bool {
     let Some(program) = program_of(alloc, THREE_COLUMNS) else {
         return false;
     };
-    match Presolved::same(alloc, &program) {
-        Ok(presolved) => is_same(alloc, &program, &presolved),
-        Err(_) => false,
+    let mut is_so = false;
+    if let Ok(presolved) = Presolved::same(alloc, &program) {
+        is_so = is_same(alloc, &program, &presolved);
+        drop(presolved);
     }
+    drop(program);
+    is_so
 }
 
 #[test]

@@ -24,12 +24,27 @@ fn ending_of(answer: &Answer) -> Ending {
     }
 }
 
+/// What an answer ends with, and what it holds.
+fn told_by(answer: Answer) -> (Ending, Option<Held>) {
+    let ending = ending_of(&answer);
+    let Answer {
+        ended,
+        best,
+        trace,
+        ..
+    } = answer;
+    drop(ended);
+    drop(trace);
+    (ending, best)
+}
+
 /// What a search of a program by itself ends with, and what it holds then; nothing where a side is too far.
 pub(crate) fn searched(alloc: Global, program: &Program) -> (Ending, Option<Held>) {
     let Ok(same) = Presolved::same(alloc, program) else {
         return (Ending::Other, None);
     };
     if !has_near_columns(&same.reduced) {
+        drop(same);
         return (Ending::Other, None);
     }
     let options = Options {
@@ -39,13 +54,9 @@ pub(crate) fn searched(alloc: Global, program: &Program) -> (Ending, Option<Held
         plain: true,
         trace: false,
     };
-    let answer = solve_by(
-        alloc,
-        program,
-        &same,
-        &options,
-        &mut Alone,
-        &mut Log::new(alloc),
-    );
-    (ending_of(&answer), answer.best)
+    let mut log = Log::new(alloc);
+    let answer = solve_by(alloc, program, &same, &options, &mut Alone, &mut log);
+    drop(log);
+    drop(same);
+    told_by(answer)
 }

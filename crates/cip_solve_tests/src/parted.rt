@@ -33,7 +33,7 @@ struct Case {
     expected: Expected,
 }
 
-const CASES: [Case; 7] = [
+static CASES: [Case; 7] = [
     Case {
         text: TWO_COLUMNS,
         col: 1,
@@ -190,18 +190,24 @@ fn is_begun(alloc: Global, program: &Program, case: &Case, is_rule: bool) -> boo
     let Ok(presolved) = Presolved::same(alloc, program) else {
         return false;
     };
-    if !has_near_columns(&presolved.reduced) {
-        return false;
+    let mut is_so = false;
+    if has_near_columns(&presolved.reduced) {
+        if let Ok(mut core) = Core::new(alloc, program, &presolved) {
+            is_so = is_taken(alloc, &mut core, case, is_rule);
+            drop(core);
+        }
     }
-    match Core::new(alloc, program, &presolved) {
-        Ok(mut core) => is_taken(alloc, &mut core, case, is_rule),
-        Err(_) => false,
-    }
+    drop(presolved);
+    is_so
 }
 
 fn is_as(alloc: Global, case: &Case, is_rule: bool) -> bool {
     match program_of(alloc, case.text) {
-        Some(program) => is_begun(alloc, &program, case, is_rule),
+        Some(program) => {
+            let is_so = is_begun(alloc, &program, case, is_rule);
+            drop(program);
+            is_so
+        }
         None => false,
     }
 }

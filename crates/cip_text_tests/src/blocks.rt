@@ -19,7 +19,7 @@ const TWO: &str = "\\ three\nNBLOCKS 02\nBLOCK 1\nR1\nBLOCK 2 R2\n";
 /// Two rows in one block.
 const ONE: &str = "NBLOCKS 1\nBLOCK 1\nR2\nR3\n";
 
-const CASES: [(&str, Told); 4] = [
+static CASES: [(&str, Told); 4] = [
     (TWO, Told::Block(0, 1, 1)),
     (TWO, Told::Block(1, 1, 2)),
     (TWO, Told::Rest(1, 1)),

@@ -3,7 +3,7 @@ use cip_words::{Job, Words, WordsFault};
 use std::alloc::Global;
 
 /// Words, and how many nodes they ask for at most, over the text `M`; 0 where they are refused.
-const CASES: [(&[&str], u64); 32] = [
+static CASES: [(&[&str], u64); 32] = [
     (&["solve", "M"], 1_000_000),
     (&["solve", "M", "--nodes", "5"], 5),
     (&["solve", "--nodes=7", "--plain", "M"], 7),
@@ -42,7 +42,7 @@ const CASES: [(&[&str], u64); 32] = [
 ];
 
 /// Words, and whether they ask for a plain search, and for a trace.
-const FLAGS: [(&[&str], bool, bool); 4] = [
+static FLAGS: [(&[&str], bool, bool); 4] = [
     (&["solve", "M"], false, false),
     (&["solve", "M", "--plain"], true, false),
     (&["solve", "--trace", "M"], false, true),

@@ -21,13 +21,26 @@ fn feed(reader: &mut LpReader, terms: &str, behind: &str) -> Result<(), ReadFaul
     reader.feed(behind.as_bytes())
 }
 
+/// What is wrong with a text that was read to its end.
+fn fault_at_end(reader: LpReader) -> Option<ReadFault<LpKind>> {
+    match reader.finish() {
+        Ok(program) => {
+            drop(program);
+            None
+        }
+        Err(fault) => Some(fault),
+    }
+}
+
 /// The fault of such a text: line and kind.
 fn fault_of(alloc: Global, terms: &str, behind: &str) -> Option<(usize, u32)> {
     let mut reader = LpReader::new(alloc);
-    let fed = feed(&mut reader, terms, behind);
-    let ended = match fed {
-        Ok(()) => reader.finish().err(),
-        Err(fault) => Some(fault),
+    let ended = match feed(&mut reader, terms, behind) {
+        Ok(()) => fault_at_end(reader),
+        Err(fault) => {
+            drop(reader);
+            Some(fault)
+        }
     };
     match ended {
         Some(ReadFault::Faulty(fault)) => Some((fault.line, fault.kind.number())),

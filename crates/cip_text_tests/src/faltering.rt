@@ -7,7 +7,7 @@ use std::io;
 use std::rt::Files;
 
 /// The names of a system's files, which differ by blanks at their ends, and their texts.
-const FILES: [(&str, &[u8]); 3] = [("M", TEXT), (" M", b"front"), ("M ", b"other")];
+static FILES: [(&str, &[u8]); 3] = [("M", TEXT), (" M", b"front"), ("M ", b"other")];
 
 /// The text of the file of this name.
 fn text_of(name: &str) -> Option<&'static [u8]> {
@@ -149,7 +149,7 @@ impl Files for FalteringFiles {
 }
 
 /// The greatest piece, which read has which fault, and what each call answers: one that was interrupted has none.
-const READS: [(usize, usize, io::ErrorKind, &[usize]); 8] = [
+static READS: [(usize, usize, io::ErrorKind, &[usize]); 8] = [
     (4, 0, io::ErrorKind::TimedOut, &[4, 4, 2, 0, 0]),
     (4, 1, io::ErrorKind::TimedOut, &[99, 4, 4, 2, 0]),
     (4, 3, io::ErrorKind::TimedOut, &[4, 4, 99, 2, 0]),
@@ -186,7 +186,7 @@ fn a_read_is_short_or_fails_in_mid_file(rt: HostRuntime) {
 }
 
 /// Names in the order in which they are chosen, and the pieces that are pulled of each before the next.
-const CHOSEN: [(&str, &[usize], &[u8]); 5] = [
+static CHOSEN: [(&str, &[usize], &[u8]); 5] = [
     ("M", &[4], b"0123"),
     (" M", &[4, 1, 0], b"front"),
     ("M ", &[4, 1, 0], b"other"),
@@ -249,7 +249,7 @@ impl io::Write for FalteringWriter {
 }
 
 /// Which call takes nothing, its fault if it answers one, and how many bytes are taken before the push fails.
-const WRITES: [(usize, Option<io::ErrorKind>, usize); 6] = [
+static WRITES: [(usize, Option<io::ErrorKind>, usize); 6] = [
     (0, None, 10),
     (1, None, 0),
     (2, Some(io::ErrorKind::BrokenPipe), 3),

@@ -38,7 +38,7 @@ fn store_of(alloc: Global, greatest_piece: usize) -> Result<MemoryStore, AllocEr
 }
 
 /// The greatest piece of a store, and the sizes that its calls answer.
-const PIECES: [(usize, &[usize]); 3] = [
+static PIECES: [(usize, &[usize]); 3] = [
     (1, &[1, 99, 1, 1, 1, 1, 1, 1, 1, 1, 1, 0]),
     (4, &[4, 99, 4, 2, 0]),
     (8, &[6, 99, 4, 0]),
@@ -83,7 +83,7 @@ fn has_room_for_ten(alloc: Global) -> bool {
         return false;
     };
     push_all(&mut sink, b"0123").is_ok()
-        && sink.push(b"456") == Ok(3)
+        && matches!(sink.push(b"456"), Ok(3))
         && push_all(&mut sink, b"789ab").is_err()
         && sink.taken() == TEXT
         && sink.push(b"c").is_err()

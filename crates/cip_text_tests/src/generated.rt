@@ -8,7 +8,7 @@ use std::alloc::Global;
 type Drawn = (u64, usize, usize);
 
 /// What is drawn, the sum of the costs in the text, and the number of entries, as another program works them out.
-const CASES: [(Drawn, i64, usize); 7] = [
+static CASES: [(Drawn, i64, usize); 7] = [
     ((0, 0, 0), 0, 0),
     ((0, 1, 0), 15, 0),
     ((1, 1, 0), 9, 0),

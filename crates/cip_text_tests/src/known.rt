@@ -52,7 +52,7 @@ fn known_behind(alloc: Global, text: &[u8]) -> usize {
 /// Where a token ends: before a blank, a mark or a comment that it doesn't go on with; a relation before a third byte;
 /// a number before what is no exponent; a section word where the word behind it ends. And at a line feed each token has
 /// ended.
-const ENDS: [(&[u8], usize); 12] = [
+static ENDS: [(&[u8], usize); 12] = [
     (b"x ", 2),
     (b"x:", 2),
     (b"x\\", 2),

@@ -20,7 +20,7 @@ fn has(store: &DomainStore, sides: Sides) -> bool {
 }
 
 /// A change of the one column, what it answers, and the sides then.
-const STEPS: [(Side, i64, Tightened, (i64, i64)); 4] = [
+static STEPS: [(Side, i64, Tightened, (i64, i64)); 4] = [
     (Side::High, 2, Tightened::Yes, (0, 2)),
     (Side::High, 2, Tightened::Same, (0, 2)),
     (Side::Low, 3, Tightened::Empty, (0, 2)),
@@ -75,7 +75,7 @@ fn sides_are_tightened_and_put_back(rt: HostRuntime) {
 
 /// A low side of the column from 0 to 5, which is 0 or from 2 to 5; whether it is made to be on; what that answers, the
 /// sides then, and whether the choice is open then.
-const CHOICES: [(i64, bool, Tightened, (i64, i64), bool); 4] = [
+static CHOICES: [(i64, bool, Tightened, (i64, i64), bool); 4] = [
     (0, false, Tightened::Yes, (0, 0), false),
     (0, true, Tightened::Yes, (2, 5), false),
     (3, true, Tightened::Yes, (3, 5), false),

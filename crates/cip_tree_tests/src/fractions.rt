@@ -19,7 +19,7 @@ fn is_fraction(value: Frac, parts: Parts) -> bool {
 }
 
 /// Two integers, and the parts of their fraction.
-const MADE: [(Parts, Result<Parts, FracFault>); 4] = [
+static MADE: [(Parts, Result<Parts, FracFault>); 4] = [
     ((i128::MIN, 2), Ok((HALF_LEAST, 1))),
     ((6, -4), Ok((-3, 2))),
     ((1, 0), Err(FracFault::ZeroBelow)),
@@ -35,7 +35,7 @@ fn is_made((p, q): Parts, want: Result<Parts, FracFault>) -> bool {
 }
 
 /// A fraction, and what it is rounded down and up.
-const ROUNDED: [(Parts, i128, i128); 3] = [((-1, 2), -1, 0), ((7, 2), 3, 4), ((5, 1), 5, 5)];
+static ROUNDED: [(Parts, i128, i128); 3] = [((-1, 2), -1, 0), ((7, 2), 3, 4), ((5, 1), 5, 5)];
 
 fn is_rounded(parts: Parts, low: i128, high: i128) -> bool {
     let Some(x) = fraction(parts) else {
@@ -74,7 +74,7 @@ fn from_two_integers(rt: HostRuntime) {
 }
 
 /// Two fractions and their sum.
-const SUMS: [(Parts, Parts, Option<Parts>); 4] = [
+static SUMS: [(Parts, Parts, Option<Parts>); 4] = [
     ((1, 3), (1, 6), Some((1, 2))),
     ((-HALF_LEAST, 1), (-HALF_LEAST, 1), None),
     ((GREATEST, 2), (GREATEST, 2), None),
@@ -114,7 +114,7 @@ fn operations(rt: HostRuntime) {
 }
 
 /// A number, two factors, and the number with their product added.
-const GROWN: [(Parts, Parts, Parts, Option<Parts>); 5] = [
+static GROWN: [(Parts, Parts, Parts, Option<Parts>); 5] = [
     ((1, 1), (2, 1), (-3, 1), Some((-5, 1))),
     ((1, 2), (1, 3), (3, 4), Some((3, 4))),
     ((1, 1), (SHORT, 1), (3, 1), Some((3 * SHORT + 1, 1))),
@@ -160,7 +160,7 @@ fn in_place(rt: HostRuntime) {
 }
 
 /// A fraction and its text.
-const TEXTS: [(Parts, &str); 3] = [((-3, 7), "-3/7"), ((5, 1), "5"), ((0, 9), "0")];
+static TEXTS: [(Parts, &str); 3] = [((-3, 7), "-3/7"), ((5, 1), "5"), ((0, 9), "0")];
 
 fn is_written(parts: Parts, want: &str) -> bool {
     let Some(x) = fraction(parts) else {

@@ -294,7 +294,7 @@ enum Tried {
     Closed,
 }
 
-const TRIED: [Tried; 12] = [
+static TRIED: [Tried; 12] = [
     Tried::Halves,
     Tried::Split(0, 0, None),
     Tried::Split(0, 2, None),
