@@ -3,3 +3,4 @@ pub mod EndLaws
 pub mod EndedTexts
 pub mod PassedOn
 pub mod WordLaws
+pub mod Mapped

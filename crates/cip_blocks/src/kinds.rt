@@ -6,7 +6,7 @@ use std::{error, fmt};
 
 /// A kind of fault. Of several rules that a word breaks, or that are broken behind the last line, the least kind
 /// counts. It is known by its number, from 1 to 9; `text` has all of them.
-#[derive(Clone, Copy, PartialEq, Eq, Debug)]
+#[derive(Clone, Copy, Debug)]
 pub struct BlockKind {
     pub(crate) number: u32,
     ghost some: { 0 < number },

@@ -4,7 +4,7 @@ ghost use Rattle.cip_block_rules.specs.BlockSteps.{is_placed};
 ghost use Rattle.cip_blocks.specs.WordPlaces.{row_shown, block_of};
 
 /// Where the next word stands.
-#[derive(Clone, Copy, PartialEq, Eq)]
+#[derive(Clone, Copy)]
 pub(crate) enum WordPlace {
     /// One of the four words is due.
     KeywordDue,
@@ -19,7 +19,7 @@ pub(crate) enum WordPlace {
 }
 
 /// The place of a row.
-#[derive(Clone, Copy, PartialEq, Eq)]
+#[derive(Clone, Copy)]
 pub(crate) enum RowPlace {
     /// The row was not named.
     Unnamed,

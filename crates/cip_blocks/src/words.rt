@@ -9,7 +9,7 @@ ghost use Rattle.cip_blocks.specs.SmallNumbers.{small};
 ghost use Rattle.cip_blocks.specs.Keywords.{keyword_shown};
 
 /// One of the four words that are never names.
-#[derive(Clone, Copy, PartialEq, Eq)]
+#[derive(Clone, Copy)]
 pub(crate) enum Keyword {
     /// `PRESOLVED`.
     Presolved,

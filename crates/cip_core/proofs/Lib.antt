@@ -12,3 +12,4 @@ pub mod NearColumns
 pub mod LedBack
 pub mod OfferedBack
 pub mod PassedOn
+pub mod Made

@@ -210,18 +210,29 @@ impl Dive {
         self.set_implied()
     }
 
+    /// Takes what a row implies, and answers whether the box may have a point; not where the share is spent.
+    fn narrow_at(
+        &mut self,
+        view: &View<'_>,
+        number: u32,
+        share: &mut Share,
+    ) -> Result<bool, AllocError> {
+        let Some(row) = view.own.get(number as usize) else {
+            return Ok(false);
+        };
+        if !share.spend(row.terms().len()) || !self.narrow_by(view.whole, row, Source::AtLeast)? {
+            return Ok(false);
+        }
+        self.narrow_by(view.whole, row, Source::AtMost)
+    }
+
     /// Takes what the rows imply that wait, and answers whether the box may have a point; not where the share is spent.
     fn narrow(&mut self, view: &View<'_>, share: &mut Share) -> Result<bool, AllocError> {
         for _ in 0..MOST_ROWS {
             let Some(number) = self.watched.next() else {
                 return Ok(true);
             };
-            let Some(row) = view.own.get(number as usize) else {
-                return Ok(false);
-            };
-            let is_kept = share.spend(row.terms().len())
-                && self.narrow_by(view.whole, row, Source::AtLeast)?
-                && self.narrow_by(view.whole, row, Source::AtMost)?;
+            let is_kept = self.narrow_at(view, number, share)?;
             self.watched.end(number);
             if !is_kept {
                 return Ok(false);
@@ -300,6 +311,23 @@ impl Dive {
         self.fix_second(view, col, first, value, share)
     }
 
+    /// Fixes the column whose turn has this place near its value, and answers whether the box may have a point.
+    fn fix_at(
+        &mut self,
+        view: &View<'_>,
+        point: &[Frac],
+        place: usize,
+        share: &mut Share,
+    ) -> Result<bool, AllocError> {
+        let Some(turn) = self.turns.get(place).copied() else {
+            return Ok(false);
+        };
+        match point.get(turn.col as usize) {
+            Some(value) => self.fix_near(view, turn.col, *value, share),
+            None => Ok(false),
+        }
+    }
+
     /// Fixes the columns of a node near the values of a point, and answers whether the box that is left may be a point
     /// of the program.
     pub(crate) fn go(
@@ -310,13 +338,7 @@ impl Dive {
     ) -> Result<bool, AllocError> {
         self.begin(view, point)?;
         for place in 0..self.turns.len() {
-            let Some(turn) = self.turns.get(place).copied() else {
-                return Ok(false);
-            };
-            let Some(value) = point.get(turn.col as usize) else {
-                return Ok(false);
-            };
-            if !self.fix_near(view, turn.col, *value, share)? {
+            if !self.fix_at(view, point, place, share)? {
                 return Ok(false);
             }
         }

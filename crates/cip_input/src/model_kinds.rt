@@ -5,7 +5,7 @@ use cip_lp::LpKind;
 use cip_mps::MpsKind;
 
 /// A kind of fault of a text of a model.
-#[derive(Clone, Copy, PartialEq, Eq)]
+#[derive(Clone, Copy)]
 pub enum ModelKind {
     /// Of a text of free MPS.
     Mps(MpsKind),

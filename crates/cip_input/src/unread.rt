@@ -4,7 +4,7 @@ use cip_io::Failed;
 use std::alloc::AllocError;
 
 /// Why nothing was read of a text. Its faults are of the kinds `K`.
-#[derive(Clone, Copy, PartialEq, Eq)]
+#[derive(Clone, Copy)]
 pub enum Unread<K> {
     /// The store failed.
     StoreFailed,

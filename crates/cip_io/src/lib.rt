@@ -21,5 +21,5 @@ pub use sound_store::SoundStore;
 pub use store::Store;
 
 /// The outside failed: a fault was counted.
-#[derive(Clone, Copy, PartialEq, Eq)]
+#[derive(Clone, Copy)]
 pub struct Failed;

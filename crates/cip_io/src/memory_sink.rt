@@ -1,5 +1,5 @@
 //! A sink in memory, with a fixed room.
-ghost use Rattle.std.specs.Prelude.{◌≡◌, ◌<◌, ◌≤◌, ◌==◌, min, length, take, IfOk, OnErr, Some, is_err};
+ghost use Rattle.std.specs.Prelude.{◌≡◌, ◌<◌, ◌≤◌, ◌==◌, ◌+◌, ◌-◌, ◌++◌, min, length, take, IfOk, OnErr, Some, is_err};
 ghost use Rattle.cip_io.specs.States.{new_sink, free_room, after_push, after_refusal};
 
 use crate::{Failed, Sink};
@@ -57,13 +57,24 @@ impl Sink for MemorySink {
         ensures err { OnErr result (self.new ≡ after_refusal self.old) }
         ensures later { self.old.faults ≤ self.new.faults }
     {
-        let count = piece.len().min(self.bytes.len() - self.used);
+        let count = fill(&mut self.bytes, self.used, piece);
         if count == 0 {
             self.faults = self.faults.saturating_add(1);
             return Err(Failed);
         }
-        self.bytes[self.used..self.used + count].copy_from_slice(&piece[..count]);
         self.used += count;
         Ok(count)
     }
+}
+
+/// Copies the front of a piece behind the bytes in use, as much as there is room for, and says how much.
+fn fill(bytes: &mut [u8], used: usize, piece: &[u8]) -> usize
+    requires { used ≤ length bytes.old }
+    ensures count { result ≡ min (length bytes.old - used) (length piece.now) }
+    ensures len { length bytes.new ≡ length bytes.old }
+    ensures bytes { take (used + result) bytes.new ≡ take used bytes.old ++ take result piece.now }
+{
+    let count = piece.len().min(bytes.len() - used);
+    bytes[used..used + count].copy_from_slice(&piece[..count]);
+    count
 }

@@ -4,4 +4,5 @@ pub mod LentRows
 pub mod SidesJudged
 pub mod SplitParts
 pub mod SplitCutsTold
+pub mod RowsTold
 pub mod PassedOn

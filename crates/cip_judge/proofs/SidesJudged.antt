@@ -1,5 +1,5 @@
 -- What a side without a fault asks for, and one that leaves no value.
-use Rattle.std.proofs.Common.{◌≡◌, ℕ, ◌<◌, ◌≤◌, ◌^◌, nat_lt, unsigned_abs, Bool, true, false, not, ◌&&◌, if◌then◌else◌, List, Option, None, Some, IfSome, refl, sym, arith, true≢false}
+use Rattle.std.proofs.Common.{◌≡◌, ℕ, ◌<◌, ◌≤◌, ◌^◌, nat_lt, unsigned_abs, Bool, true, false, not, ◌&&◌, if◌then◌else◌, List, Option, None, Some, IfSome, Ok, refl, sym, subst, arith, true≢false}
 use Rattle.std.proofs.lemmas.Bool.{or_parts}
 use Rattle.std.proofs.lemmas.Option.{none-some}
 use Rattle.cip_rational.specs.Rational.{ℚ, ◌≤ℚ◌, floor, ceil}
@@ -20,7 +20,12 @@ use Rattle.cip_domain.specs.declared.stores.Tightened.TheVariants.{Yes, Same, Em
 use Rattle.cip_core.specs.OpenColumns.{is_whole_at}
 use Rattle.cip_core.specs.SplitRules.{AreNear}
 use Rattle.cip_core.specs.KeptNodes.{farthest}
-use Rattle.cip_judge.specs.ReductionsJudged.{is_far, side_fault}
+use Rattle.cip_tree.specs.Nodes.{TakenNode}
+use Rattle.cip_core.specs.CoreStates.{CoreState}
+use Rattle.cip_core.specs.SidesTold.{IsSideTaken}
+use Rattle.cip_domain.specs.declared.stores.Tightened.{Tightened}
+use Rattle.cip_judge.specs.ReductionsJudged.{is_far, side_fault, by_check, judged_by, IsAfterReduction}
+use Rattle.cip_judge.specs.declared.judged.Judged.TheVariants.{Emptied}
 use Rattle.cip_judge.specs.declared.judged.NodeFault.TheVariants.{NoSuchColumn, TooFar}
 
 -- ---- no fault
@@ -83,3 +88,20 @@ none_left program held box column side value h e point i w =
     crossed (sides_at box column) side value (value_at point column)
     (past_of (is_as_strong (sides_at box column) side value) (would_cross (sides_at box column) side value) e)
     (in_box_at box point column w) (h point i w)
+
+-- ---- a side that isn't refused
+
+pub after_side : (old new : CoreState) (had has : TakenNode) (column : ℕ) (side : Side) (value : ℚ) (outcome : Tightened) → IsSideTaken old new had has column side value outcome → IsAfterReduction (judged_by None outcome) old new had has column side value
+after_side old new had has column side value Yes t = subst (IsSideTaken old new had has column side value) t.outcome t
+after_side old new had has column side value Same t = subst (IsSideTaken old new had has column side value) t.outcome t
+after_side old new had has column side value Empty t = t.same (λ e. cc)
+
+pub by_check_ok : (value : ℚ) (outcome : Tightened) → judged_by None outcome ≡ by_check (Ok value) outcome
+by_check_ok value Yes = refl
+by_check_ok value Same = refl
+by_check_ok value Empty = refl
+
+pub emptied_side : (outcome : Tightened) → judged_by None outcome ≡ Emptied → outcome ≡ Empty
+emptied_side Yes e = absurd (cc)
+emptied_side Same e = absurd (cc)
+emptied_side Empty e = refl

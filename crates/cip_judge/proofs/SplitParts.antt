@@ -1,14 +1,30 @@
 -- Whether a column can be split, by its kind and its choice.
-use Rattle.std.proofs.Common.{◌≡◌, ℕ, ◌<◌, Bool, true, false, List, length, get_or, Some, slice_get, refl, ap, ◌∙◌}
+use borrow.Author.Differences.{up, down, sum_is_lem}
+use Rattle.std.proofs.Common.{◌≡◌, ◌⊎◌, inl, inr, ℕ, ◌+◌, ◌<◌, ◌≤◌, ◌^◌, ℤ, pos, negsuc, ◌+ℤ◌, unsigned_abs, Bool, true, false, List, length, get_or, Some, slice_get, refl, sym, ap, ◌∙◌, subst, arith, to_z, of_z}
+use Rattle.std.proofs.lemmas.Int.{to_z-of_z, fits_signed_from_abs}
+use Rattle.std.specs.Int.{w128}
 use Rattle.std.proofs.lemmas.Option.{slice_get-get_or}
-use Rattle.cip_problem.specs.Program.{Choice, Plain, Open, Off, On}
+use Rattle.cip_problem.specs.Program.{Choice, Plain, Open, Off, On, Sides, Program}
+use Rattle.cip_problem.specs.WellFormed.{columns, IsWellFormed}
 use Rattle.cip_problem.specs.Choices.{is_open}
 use Rattle.cip_problem.specs.Log.{CanSplitAt}
 use Rattle.cip_lin.specs.ChoiceParts.{is_plain}
+use Rattle.cip_domain.specs.Halves.{CanHalve}
+use Rattle.cip_core.specs.SplitRules.{LeavesBoth}
+use Rattle.cip_core.specs.KeptNodes.{farthest}
 
 -- the kind of a column that is there
 pub kind_at : (kinds : List Bool) (column : ℕ) (kind : Bool) → column < length kinds → get_or kinds column false ≡ kind → slice_get kinds column ≡ Some kind
 kind_at kinds column kind l e = slice_get-get_or kinds column false l ∙ ap Some e
+
+-- a number that is near is itself as one of 128 bits
+pub near_itself : (at : ℤ) → unsigned_abs at ≤ 2 ^ 100 → to_z w128 (of_z w128 at) ≡ at
+near_itself at near = to_z-of_z w128 at (fits_signed_from_abs w128 at (omega (arith, near)))
+
+-- the kind of a column of a program, by a list that is its kinds
+pub kind_of : (program : Program) (kinds : List Bool) (column : ℕ) (kind : Bool) → kinds ≡ program.integral → IsWellFormed program → column < columns program → get_or kinds column false ≡ kind → slice_get program.integral column ≡ Some kind
+kind_of program kinds column kind e formed inside k =
+    ap (λ (ks : List Bool). slice_get ks column) (sym e) ∙ kind_at kinds column kind (subst (λ n. column < n) (sym (ap length e ∙ formed.integral)) inside) k
 
 pub plain_from : (choice : Choice) → is_plain choice ≡ true → choice ≡ Plain
 plain_from Plain e = refl
@@ -24,3 +40,35 @@ not_splittable (Open own) true plain opened s = absurd (let g : Some true ≡ So
 not_splittable (Open own) false plain opened s = absurd (let g : true ≡ false = opened refl in cc)
 not_splittable Off kind plain opened s = s
 not_splittable On kind plain opened s = s
+
+-- each alone
+pub whole_not_splittable : (choice : Choice) → is_plain choice ≡ false → ¬ CanSplitAt choice (Some true)
+whole_not_splittable choice e = not_splittable choice true (λ _. e) (λ f. absurd (let g : true ≡ false = f in cc))
+
+pub continuous_not_splittable : (choice : Choice) → is_open choice ≡ false → ¬ CanSplitAt choice (Some false)
+continuous_not_splittable choice e = not_splittable choice false (λ f. absurd (let g : false ≡ true = f in cc)) (λ _. e)
+
+-- ---- both halves of a whole column
+
+abs_parts : (z : ℤ) → unsigned_abs z ≡ up z + down z
+abs_parts (pos n) = omega arith
+abs_parts (negsuc n) = omega arith
+
+one_side : (z : ℤ) → (up z ≡ 0) ⊎ (down z ≡ 0)
+one_side (pos n) = inr refl
+one_side (negsuc n) = inl refl
+
+near_next : (n : ℕ) (z : ℤ) → unsigned_abs z ≤ n → unsigned_abs (z +ℤ pos 1) ≤ n + 1
+near_next n (pos m) h = omega (arith, h, abs_parts (pos m +ℤ pos 1), sum_is_lem (pos m) (pos 1))
+near_next n (negsuc m) h = elim (one_side (negsuc m +ℤ pos 1)) [
+  | inl e ↦ omega (arith, e, h, abs_parts (negsuc m +ℤ pos 1), sum_is_lem (negsuc m) (pos 1))
+  | inr e ↦ omega (arith, e, h, abs_parts (negsuc m +ℤ pos 1), sum_is_lem (negsuc m) (pos 1))
+]
+
+pub both_left : (sides : Sides) (ids : ℕ) (at : ℤ) → unsigned_abs at ≤ 2 ^ 100 → CanHalve sides at → LeavesBoth sides (farthest ids + 1) at
+both_left sides ids at near halves = record {
+  near = omega (arith, near);
+  next_near = omega (arith, near_next (2 ^ 100) at near);
+  low = halves.low;
+  high = halves.high;
+}

@@ -8,15 +8,19 @@ use Rattle.cip_lin.specs.declared.sides.Side.{Side}
 use Rattle.cip_cert.specs.Lent.{Multiples}
 use Rattle.cip_cert.specs.Reductions.{reduced}
 use Rattle.cip_cert.specs.declared.faults.CutFault.{CutFault}
+use Rattle.cip_cuts.specs.Improving.{HoldsInBox}
+use Rattle.cip_domain.specs.Changes.{side_change}
 use Rattle.cip_domain.specs.Domain.{tightening}
+use Rattle.cip_domain.specs.Narrowing.{Meets}
 use Rattle.cip_domain.specs.declared.stores.Tightened.{Tightened}
 use Rattle.cip_domain.specs.declared.stores.Tightened.TheVariants.{Yes, Same, Empty}
 use Rattle.cip_core.specs.OpenColumns.{is_whole_at}
 use Rattle.cip_tree.specs.Nodes.{TakenNode}
-use Rattle.cip_core.specs.CoreStates.{CoreState, reduced_of, all_lent}
+use Rattle.cip_core.specs.CoreStates.{CoreState, reduced_of, held_of, all_lent}
 use Rattle.cip_core.specs.SidesTold.{IsSideTaken}
 use Rattle.cip_judge.specs.declared.judged.NodeFault.{NodeFault}
 use Rattle.cip_judge.specs.declared.judged.NodeFault.TheVariants.{NoSuchColumn, TooFar}
+use Rattle.cip_judge.specs.declared.judged.JudgeFault.{JudgeFault}
 use Rattle.cip_judge.specs.declared.judged.JudgeFault.TheVariants.{Node as OfNode, Check as OfCheck}
 use Rattle.cip_judge.specs.declared.judged.Judged.{Judged}
 use Rattle.cip_judge.specs.declared.judged.Judged.TheVariants as judged
@@ -43,6 +47,19 @@ by_check (Ok value) Yes = judged.Accepted
 by_check (Ok value) Same = judged.Accepted
 by_check (Ok value) Empty = judged.Emptied
 by_check (Err fault) outcome = judged.Refused (OfCheck fault)
+
+-- a side is refused with this fault, or comes to what tightening it comes to
+abbrev pub judged_by : Option JudgeFault → Tightened → Judged
+judged_by (Some fault) outcome = judged.Refused fault
+judged_by None Yes = judged.Accepted
+judged_by None Same = judged.Accepted
+judged_by None Empty = judged.Emptied
+
+-- what a side names is there and not too far away, and it follows in the box in work
+pub record IsSideShown (core : CoreState) (column : ℕ) (side : Side) (value : ℚ) : Type 0 where
+  pub named : side_fault (reduced_of core) column value ≡ None
+  pub follows : HoldsInBox (reduced_of core) (held_of core) core.tree.work.box
+      (λ point. Meets point (side_change column side value))
 
 -- what the check of a side answers in the box in work
 abbrev pub side_checked : CoreState → ℕ → Side → ℚ → Multiples → Result ℚ CutFault

@@ -1,6 +1,7 @@
 -- What a row that is proposed comes to, and a combination that is to show that a node is empty.
 use Rattle.std.specs.Prelude.{ℕ, Bool}
 use Rattle.cip_lin.specs.declared.combos.Combo.{Combo}
+use Rattle.cip_rows.specs.declared.pools.Added.{Added}
 use Rattle.cip_rows.specs.declared.pools.Added.TheVariants as added
 use Rattle.cip_core.specs.CoreStates.{CoreState}
 use Rattle.cip_core.specs.RowsAsked.{IsTold, IsRefused}
@@ -28,3 +29,9 @@ IsRowJudged old new combo round local judged.Known =
 IsRowJudged old new combo round local judged.Emptied = ⊥
 IsRowJudged old new combo round local judged.NotBetter = ⊥
 IsRowJudged old new combo round local (judged.Refused of) = IsRowRefused old new combo round local of
+
+-- what a proposal comes to whose row was handed to the pool
+abbrev pub judged_of : Added → Judged
+judged_of (added.New id) = judged.Accepted
+judged_of (added.Known id) = judged.Known
+judged_of added.Full = judged.Refused fault.Full

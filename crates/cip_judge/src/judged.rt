@@ -1,6 +1,10 @@
 //! What judging a proposal comes to.
+ghost use Rattle.std.specs.Prelude.{◌≡◌};
+ghost use Rattle.cip_judge.specs.RowsJudged.{judged_of};
+
 use cip_cert::{CutFault, SplitFormFault};
 use cip_core::{PostsolveFault, Verdict};
+use cip_rows::Added;
 use cip_tree::SplitFault;
 
 /// What a proposal names that isn't there, or is too far away. It is looked at before all else.
@@ -46,4 +50,15 @@ pub enum Judged {
     NotBetter,
     /// It was refused.
     Refused(JudgeFault),
+}
+
+/// What a proposal comes to whose row was handed to the pool.
+pub(crate) fn judged_row(added: Added) -> Judged
+    ensures { result ≡ judged_of added }
+{
+    match added {
+        Added::New(_) => Judged::Accepted,
+        Added::Known(_) => Judged::Known,
+        Added::Full => Judged::Refused(JudgeFault::Full),
+    }
 }

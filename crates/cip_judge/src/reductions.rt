@@ -1,5 +1,5 @@
 //! Sides that are proposed.
-ghost use Rattle.std.specs.Prelude.{◌≡◌, ◌<◌, ◌^◌, nat_lt, unsigned_abs, length, IsOk, IfOk, MatchResult};
+ghost use Rattle.std.specs.Prelude.{◌≡◌, ◌<◌, ◌^◌, nat_lt, unsigned_abs, length, None, IsOk, IfOk, MatchResult};
 ghost use Rattle.cip_problem.specs.WellFormed.{columns};
 ghost use Rattle.cip_cuts.specs.Improving.{HoldsInBox, HasNoImproving};
 ghost use Rattle.cip_cert.specs.Lent.{multiples_of};
@@ -8,7 +8,9 @@ ghost use Rattle.cip_domain.specs.Narrowing.{Meets};
 ghost use Rattle.cip_tree.specs.Nodes.{box_of};
 ghost use Rattle.cip_core.specs.CoreStates.{reduced_of, held_of, IsAtWork};
 ghost use Rattle.cip_core.specs.Later.{IsLaterAt};
+ghost use Rattle.cip_domain.specs.declared.stores.Tightened.{Tightened};
 ghost use Rattle.cip_judge.specs.ReductionsJudged.{is_far as is_far_away, side_fault as fault_of_side, side_checked, reduction_answer, IsAfterReduction};
+ghost use Rattle.cip_judge.specs.ReductionsJudged.{unless_faulty, by_check, judged_by, IsSideShown};
 ghost use Rattle.cip_judge.specs.declared.judged.Judged.TheVariants.{Emptied};
 
 use crate::judged::{JudgeFault, Judged, NodeFault};
@@ -70,6 +72,37 @@ fn checked(core: &Core<'_>, told: &Reduction, scratch: &mut Scratch) -> Result<F
     )
 }
 
+/// Why a side that is proposed is refused: by what it names, or else by the check of its combination.
+fn refusal(core: &Core<'_>, told: &Reduction, scratch: &mut Scratch) -> Option<JudgeFault>
+    requires long { length core.now.tree.work.box ≡ columns (reduced_of core.now) }
+    requires room { length scratch.old.row.entries ≡ columns (reduced_of core.now) }
+    ensures answer { (outcome : Tightened) → judged_by result outcome
+        ≡ unless_faulty (fault_of_side (reduced_of core.now) told.now.col told.now.value) (by_check
+        (side_checked core.now told.now.col told.now.side told.now.value (multiples_of told.now.combo)) outcome) }
+    ensures shown { result ≡ None → IsSideShown core.now told.now.col told.now.side told.now.value }
+    ensures room { length scratch.new.row.entries ≡ length scratch.old.row.entries }
+{
+    core.is_sound();
+    if let Some(fault) = side_fault(core.reduced(), told.col, told.value) {
+        return Some(JudgeFault::Node(fault));
+    }
+    match checked(core, told, scratch) {
+        Err(fault) => Some(JudgeFault::Check(fault)),
+        Ok(_) => None,
+    }
+}
+
+/// What a side that isn't refused comes to, by what tightening it came to.
+fn judged_side(outcome: Tightened) -> Judged
+    ensures { result ≡ judged_by None outcome }
+{
+    match outcome {
+        Tightened::Yes => Judged::Accepted,
+        Tightened::Same => Judged::Accepted,
+        Tightened::Empty => Judged::Emptied,
+    }
+}
+
 /// Judges a side that is proposed while a node is in work. `Accepted` comes exactly where the column is one of the
 /// reduced program's, its value isn't too far away where that is whole, the check of its combination accepts it in the
 /// node's box, and it leaves the column a value: then the side of the node's box is at least as strong. `Emptied`
@@ -94,15 +127,9 @@ pub fn judge_reduction(
     ensures scratch { length scratch.new.row.entries ≡ length scratch.old.row.entries }
 {
     core.is_sound();
-    if let Some(fault) = side_fault(core.reduced(), told.col, told.value) {
-        return Ok(Judged::Refused(JudgeFault::Node(fault)));
+    if let Some(fault) = refusal(core, told, scratch) {
+        return Ok(Judged::Refused(fault));
     }
-    if let Err(fault) = checked(core, told, scratch) {
-        return Ok(Judged::Refused(JudgeFault::Check(fault)));
-    }
-    match core.tighten(node, told.col, told.side, told.value)? {
-        Tightened::Yes => Ok(Judged::Accepted),
-        Tightened::Same => Ok(Judged::Accepted),
-        Tightened::Empty => Ok(Judged::Emptied),
-    }
+    let outcome = core.tighten(node, told.col, told.side, told.value)?;
+    Ok(judged_side(outcome))
 }

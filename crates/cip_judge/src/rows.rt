@@ -4,10 +4,9 @@ ghost use Rattle.cip_core.specs.CoreStates.{IsAtWork};
 ghost use Rattle.cip_core.specs.Later.{IsLaterAt};
 ghost use Rattle.cip_judge.specs.RowsJudged.{IsRowJudged};
 
-use crate::judged::{JudgeFault, Judged};
+use crate::judged::{JudgeFault, Judged, judged_row};
 use cip_core::{Asked, Core};
 use cip_lin::Combo;
-use cip_rows::Added;
 use cip_tree::Node;
 use std::alloc::AllocError;
 
@@ -29,10 +28,9 @@ pub fn judge_row(
     ensures later { IsLaterAt core.old node.now core.new node.now }
     ensures frame { core.new ≡ record core.old { pool = core.new.pool; touched = core.new.touched } }
 {
-    match core.add_row(node, combo, round, local)? {
-        Asked::Told(Added::New(_)) => Ok(Judged::Accepted),
-        Asked::Told(Added::Known(_)) => Ok(Judged::Known),
-        Asked::Told(Added::Full) => Ok(Judged::Refused(JudgeFault::Full)),
-        Asked::Refused(fault) => Ok(Judged::Refused(JudgeFault::Check(fault))),
+    match core.add_row(node, combo, round, local) {
+        Ok(Asked::Told(added)) => Ok(judged_row(added)),
+        Ok(Asked::Refused(fault)) => Ok(Judged::Refused(JudgeFault::Check(fault))),
+        Err(_) => Err(AllocError),
     }
 }

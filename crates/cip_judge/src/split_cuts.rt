@@ -5,11 +5,10 @@ ghost use Rattle.cip_core.specs.CoreStates.{reduced_of, IsAtWork};
 ghost use Rattle.cip_core.specs.Later.{IsLaterAt};
 ghost use Rattle.cip_judge.specs.SplitCutsJudged.{IsCutJudged};
 
-use crate::judged::{JudgeFault, Judged};
+use crate::judged::{JudgeFault, Judged, judged_row};
 use cip_cert::{Scratch, SplitCut};
 use cip_core::Core;
 use cip_lin::Bounds;
-use cip_rows::Added;
 use cip_split::{split_rests_on_cutoff, split_row};
 use cip_tree::Node;
 use std::alloc::AllocError;
@@ -48,10 +47,9 @@ pub fn judge_split_cut(
     let rests = split_rests_on_cutoff(core.rows().pool, cut);
     match split_row(&core.rows(), bounds, cut, first, second) {
         Err(fault) => Ok(Judged::Refused(JudgeFault::SplitForm(fault))),
-        Ok(least) => match core.add_valid(node, first, least, local, rests)? {
-            Added::New(_) => Ok(Judged::Accepted),
-            Added::Known(_) => Ok(Judged::Known),
-            Added::Full => Ok(Judged::Refused(JudgeFault::Full)),
-        },
+        Ok(least) => {
+            let added = core.add_valid(node, first, least, local, rests)?;
+            Ok(judged_row(added))
+        }
     }
 }

@@ -53,13 +53,16 @@ fn no_place(core: &Core<'_>, split: Split) -> Option<SplitFault>
 {
     let whole = core.reduced().whole()[split.col as usize];
     let choice = core.choices().at(split.col);
-    if whole && choice.is_plain() {
+    if whole {
+        if !choice.is_plain() {
+            return Some(SplitFault::NotWhole);
+        }
         if can_halve(core.bounds().sides(split.col), split.at) {
             return None;
         }
         return Some(SplitFault::Outside);
     }
-    if !whole && choice.is_open() {
+    if choice.is_open() {
         None
     } else {
         Some(SplitFault::NotWhole)

@@ -3,7 +3,7 @@ ghost use Rattle.std.specs.Prelude.{◌≡◌, ◌<◌, ◌+◌, ◌^◌};
 ghost use Rattle.cip_line_stream.specs.PieceFaults.{first_fault, stays, fault_when_long};
 
 /// A fault of a text: its line, counted from 1, and the number of its kind.
-#[derive(Clone, Copy, PartialEq, Eq)]
+#[derive(Clone, Copy)]
 pub struct KnownFault {
     /// The line.
     pub line: usize,

@@ -25,7 +25,7 @@ pub trait FaultKind {
 
 /// A faulty text: its first line that breaks a rule, and the least kind that is broken there. The kind says of which
 /// format the text is.
-#[derive(Clone, Copy, PartialEq, Eq, Debug, Error)]
+#[derive(Clone, Copy, Debug, Error)]
 #[error_bound(K: fmt::Display + Drop)]
 #[error("line {line}, {kind}")]
 pub struct TextFault<K> {
@@ -36,7 +36,7 @@ pub struct TextFault<K> {
 }
 
 /// Why a reader gives nothing.
-#[derive(Clone, Copy, PartialEq, Eq, Debug, Error)]
+#[derive(Clone, Copy, Debug, Error)]
 #[error_bound(K: fmt::Display + Drop)]
 pub enum ReadFault<K> {
     /// The text is faulty.

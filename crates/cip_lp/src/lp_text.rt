@@ -21,6 +21,7 @@ use cip_lp_statements::Program;
 use cip_lp_stream::{taken_faults_stay, taken_texts_come_out};
 use cip_lp_tokens::{LineTokens, ends_before, hangs};
 use std::alloc::{AllocError, Global};
+use std::mem;
 
 /// The most bytes of a text.
 const LONGEST_TEXT: usize = 67_108_864;
@@ -93,7 +94,7 @@ impl LpText {
         ensures size { self.new.size ≡ self.old.size }
     {
         if self.fault.is_some() {
-            self.lines = LineReader::new(self.alloc);
+            drop(mem::replace(&mut self.lines, LineReader::new(self.alloc)));
         }
     }
 
@@ -317,6 +318,14 @@ impl LpText {
         answer(known)?;
         Ok(())
     }
+
+    /// The program that the tokens have said.
+    fn into_program(self) -> Result<Program, AllocError>
+        ensures { IfOk result (λ program. program ≡ lp_reading.result (stage_of self)) }
+    {
+        let LpText { lines, .. } = self;
+        lines.into_program()
+    }
 }
 
 impl PieceText for LpText {
@@ -358,8 +367,12 @@ impl PieceText for LpText {
 
     fn finish(self) -> Result<Program, ReadFault<LpKind>> {
         let mut text = self;
-        text.end()?;
-        let LpText { lines, .. } = text;
-        Ok(lines.into_program()?)
+        match text.end() {
+            Ok(()) => Ok(text.into_program()?),
+            Err(fault) => {
+                drop(text);
+                Err(fault)
+            }
+        }
     }
 }

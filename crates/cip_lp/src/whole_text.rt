@@ -16,6 +16,11 @@ pub fn read_lp(alloc: Global, text: &[u8]) -> Result<Program, ReadFault<LpKind>>
     ensures { MatchResult result (λ program. HasLpProgram text.now program) (IsFaultOf text.now) }
 {
     let mut reader = LpReader::new(alloc);
-    reader.feed(text)?;
-    reader.finish()
+    match reader.feed(text) {
+        Ok(()) => reader.finish(),
+        Err(fault) => {
+            drop(reader);
+            Err(fault)
+        }
+    }
 }

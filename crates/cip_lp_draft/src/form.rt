@@ -1,5 +1,5 @@
 //! The form in hand: the numbers of its columns.
-ghost use Rattle.std.specs.Prelude.{◌≡◌, ◌<◌, ◌++◌, ◌∷◌, [], ℕ, nat_lt, true, Some, slice_get, vec_len, OnOk, IfOk};
+ghost use Rattle.std.specs.Prelude.{◌≡◌, ◌<◌, ◌++◌, ◌∷◌, [], ℕ, nat_lt, true, Some, slice_get, vec_len, vec_capacity, OnOk, IfOk};
 ghost use Rattle.std.specs.List.{list_all};
 ghost use Rattle.cip_lp_rules.specs.LpFacts as facts;
 ghost use Rattle.cip_lp_rules.specs.LpSound.{form_rises};
@@ -69,12 +69,21 @@ impl Model for Form {
     ghost invariant = { λ f. ArePlaced f.terms.items f.places.items };
 }
 
-/// Makes room for the place of a column; what was told of other columns stays.
-fn make_room(places: &mut Vec<usize>, column: u32) -> Result<(), AllocError>
+/// Makes room for one number more, and for the place of its column; the numbers and what was told of other columns
+/// stay.
+fn make_room(
+    terms: &mut Vec<FormTerm>,
+    places: &mut Vec<usize>,
+    column: u32,
+) -> Result<(), AllocError>
+    ensures terms { terms.new.items ≡ terms.old.items }
+    ensures len { vec_len terms.new ≡ vec_len terms.old }
+    ensures term_room { OnOk result (vec_len terms.new < vec_capacity terms.new) }
     ensures kept { (other place : ℕ) → slice_get places.old.items other ≡ Some place
         → slice_get places.new.items other ≡ Some place }
     ensures room { OnOk result (column < vec_len places.new) }
 {
+    terms.reserve(1)?;
     let count = column as usize + 1;
     if count <= places.len() {
         return Ok(());
@@ -115,8 +124,7 @@ impl Form {
         ensures ok { OnOk result (self.new ≡ facts.form_with term self.old) }
         ensures err { OnErr result (self.new ≡ self.old) }
     {
-        self.terms.reserve(1)?;
-        make_room(&mut self.places, term.column)?;
+        make_room(&mut self.terms, &mut self.places, term.column)?;
         self.places[term.column as usize] = self.terms.len();
         self.terms.push_reserved(term);
         Ok(())

@@ -1,6 +1,7 @@
 //! The first facts, and the program that was said.
 ghost use Rattle.std.specs.Prelude.{◌≡◌, IfOk};
 ghost use Rattle.cip_lp_rules.specs.LpFacts as facts;
+ghost use Rattle.cip_model.specs.Programs.{is_maximize};
 
 use crate::draft::LpDraft;
 use crate::form::Form;
@@ -19,6 +20,17 @@ fn bounds_of(alloc: Global, sides: &[Sides]) -> Result<Bounds, AllocError>
         bounds.push(*own)?;
     }
     Ok(bounds)
+}
+
+/// Which way the cost is to go.
+fn sense_of(maximized: bool) -> Sense
+    ensures { is_maximize result ≡ maximized }
+{
+    if maximized {
+        Sense::Maximize
+    } else {
+        Sense::Minimize
+    }
 }
 
 impl LpDraft {
@@ -49,21 +61,35 @@ impl LpDraft {
         requires { bounds ≡ self.bounds }
         ensures { result ≡ facts.program_of self }
     {
-        let sense = if self.maximized {
-            Sense::Maximize
-        } else {
-            Sense::Minimize
-        };
+        let LpDraft {
+            alloc,
+            maximized,
+            objective,
+            row_names,
+            rows,
+            row_name,
+            column_names,
+            costs,
+            sides,
+            whole,
+            constant,
+            form,
+            ..
+        } = self;
+        drop(objective);
+        drop(row_name);
+        drop(sides);
+        drop(form);
         Program::new(Parts {
-            column_names: self.column_names.into_names(),
-            row_names: self.row_names.into_names(),
-            rows: self.rows,
-            costs: self.costs,
-            constant: self.constant,
-            sense,
-            whole: self.whole,
+            column_names: column_names.into_names(),
+            row_names: row_names.into_names(),
+            rows,
+            costs,
+            constant,
+            sense: sense_of(maximized),
+            whole,
             bounds,
-            choices: Choices::new(self.alloc),
+            choices: Choices::new(alloc),
         })
     }
 

@@ -6,7 +6,7 @@ use std::{error, fmt};
 
 /// A kind of fault. Of several rules that a line breaks the least kind counts. It is known by its
 /// number, from 1 to 21; `text` has all of them.
-#[derive(Clone, Copy, PartialEq, Eq, Debug)]
+#[derive(Clone, Copy, Debug)]
 pub struct MpsKind {
     pub(crate) number: u32,
     ghost some: { 0 < number },

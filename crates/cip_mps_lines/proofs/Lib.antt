@@ -1,2 +1,4 @@
 pub mod FieldCuts
+pub mod SetLines
 pub mod ValuesRead
+pub mod WordTables

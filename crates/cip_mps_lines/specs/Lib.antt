@@ -3,3 +3,4 @@ pub mod NumbersRead
 pub mod MpsLines
 pub mod FirstWords
 pub mod SkippedSets
+pub mod SetWords

@@ -1,4 +1,5 @@
 -- The code's sections and types of rows and bounds, as those of a text.
+use Rattle.std.specs.Prelude.{ℕ, List}
 use Rattle.cip_mps_rules.specs.MpsWords as text
 use Rattle.cip_mps_lines.specs.declared.words.Part.{Part}
 use Rattle.cip_mps_lines.specs.declared.words.Part.TheVariants.{NoPart, Title, Sense, Rows, Columns, RightSides, Ranges, Bounds, End}
@@ -19,6 +20,10 @@ part_of Ranges = text.Ranges
 part_of Bounds = text.Bounds
 part_of End = text.End
 
+-- a word of a section
+abbrev pub section_word : List ℕ → Part → text.Word text.Part
+section_word word part = record { text = word; meaning = part_of part }
+
 -- the type of a row
 abbrev pub row_kind_in : RowKind → text.RowKind
 row_kind_in Free = text.Free
@@ -38,3 +43,7 @@ bound_kind_in NoLow = text.NoLow
 bound_kind_in NoHigh = text.NoHigh
 bound_kind_in Binary = text.Binary
 bound_kind_in SemiContinuous = text.SemiContinuous
+
+-- a word of a type of bounds
+abbrev pub bound_word : List ℕ → BoundKind → text.Word text.BoundKind
+bound_word word kind = record { text = word; meaning = bound_kind_in kind }

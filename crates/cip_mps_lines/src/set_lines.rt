@@ -4,12 +4,31 @@ ghost use Rattle.cip_mps_rules.specs.MpsSayings as text;
 ghost use Rattle.cip_mps_lines.specs.FirstWords.{texts};
 ghost use Rattle.cip_mps_lines.specs.MpsKinds.{bound_kind_in};
 ghost use Rattle.cip_mps_lines.specs.MpsLines.{saying_of, values_of};
+ghost use Rattle.cip_mps_lines.specs.SetWords.{set_values, set_column};
 
 use crate::bound_numbers::BoundNumber;
 use crate::line::{Line, Pairs};
 use crate::place::LinePlace;
 use crate::values::{one_value, two_values};
 use crate::words::{BoundKind, bound_kind_of};
+
+/// The set and the values of `[set] row value [row value]`, if the words have this form; the set is empty where none is
+/// named.
+fn set_values<'a>(words: &[&'a [u8]]) -> Option<(&'a [u8], Pairs<'a>)>
+    ensures { option_map (λ said. (said.0.now, values_of said.1)) result ≡ set_values (texts words.now) }
+{
+    match words {
+        [row, number] => Some((b"", one_value(row, number))),
+        [set_name, row, number] => Some((set_name, one_value(row, number))),
+        [row, number, other_row, other_number] => {
+            Some((b"", two_values(row, number, other_row, other_number)))
+        }
+        [set_name, row, number, other_row, other_number] => {
+            Some((set_name, two_values(row, number, other_row, other_number)))
+        }
+        _ => None,
+    }
+}
 
 /// A line of RHS with this set.
 fn right_side_of_set<'a>(place: &LinePlace, set_name: &'a [u8], values: Pairs<'a>) -> Line<'a>
@@ -27,20 +46,9 @@ fn right_side_of_set<'a>(place: &LinePlace, set_name: &'a [u8], values: Pairs<'a
 pub(crate) fn right_side_said<'a>(place: &LinePlace, words: &[&'a [u8]]) -> Line<'a>
     ensures { saying_of result ≡ text.right_side_said place.now.set_name (texts words.now) }
 {
-    match words {
-        [row, number] => right_side_of_set(place, b"", one_value(row, number)),
-        [set_name, row, number] => right_side_of_set(place, set_name, one_value(row, number)),
-        [row, number, other_row, other_number] => {
-            right_side_of_set(place, b"", two_values(row, number, other_row, other_number))
-        }
-        [set_name, row, number, other_row, other_number] => {
-            right_side_of_set(
-                place,
-                set_name,
-                two_values(row, number, other_row, other_number),
-            )
-        }
-        _ => Line::Miscounted,
+    match set_values(words) {
+        None => Line::Miscounted,
+        Some((set_name, values)) => right_side_of_set(place, set_name, values),
     }
 }
 
@@ -60,20 +68,9 @@ fn range_of_set<'a>(place: &LinePlace, set_name: &'a [u8], values: Pairs<'a>) ->
 pub(crate) fn range_said<'a>(place: &LinePlace, words: &[&'a [u8]]) -> Line<'a>
     ensures { saying_of result ≡ text.range_said place.now.set_name (texts words.now) }
 {
-    match words {
-        [row, number] => range_of_set(place, b"", one_value(row, number)),
-        [set_name, row, number] => range_of_set(place, set_name, one_value(row, number)),
-        [row, number, other_row, other_number] => {
-            range_of_set(place, b"", two_values(row, number, other_row, other_number))
-        }
-        [set_name, row, number, other_row, other_number] => {
-            range_of_set(
-                place,
-                set_name,
-                two_values(row, number, other_row, other_number),
-            )
-        }
-        _ => Line::Miscounted,
+    match set_values(words) {
+        None => Line::Miscounted,
+        Some((set_name, values)) => range_of_set(place, set_name, values),
     }
 }
 
@@ -112,15 +109,32 @@ fn valued_bound<'a>(place: &LinePlace, kind: BoundKind, words: &[&'a [u8]]) -> L
     }
 }
 
+/// The set and the column of `[set] column`, or `set column value`, if the words have this form; the set is empty where
+/// none is named.
+fn set_column<'a>(words: &[&'a [u8]]) -> Option<(&'a [u8], &'a [u8])>
+    ensures { option_map (λ said. (said.0.now, said.1.now)) result ≡ set_column (texts words.now) }
+{
+    match words {
+        [column] => Some((b"", column)),
+        [set_name, column] => Some((set_name, column)),
+        [set_name, column, _] => Some((set_name, column)),
+        _ => None,
+    }
+}
+
 /// A bound without a value, behind its type: `[set] column`, or `set column value`.
 fn plain_bound<'a>(place: &LinePlace, kind: BoundKind, words: &[&'a [u8]]) -> Line<'a>
     ensures { saying_of result ≡ text.plain_bound place.now.set_name (bound_kind_in kind) (texts words.now) }
 {
-    match words {
-        [column] => bound_of_set(place, kind, b"", column, BoundNumber::none()),
-        [set_name, column] => bound_of_set(place, kind, set_name, column, BoundNumber::none()),
-        [set_name, column, _] => bound_of_set(place, kind, set_name, column, BoundNumber::none()),
-        _ => Line::Miscounted,
+    match set_column(words) {
+        None => Line::Miscounted,
+        Some((set_name, column)) => bound_of_set(
+            place,
+            kind,
+            set_name,
+            column,
+            BoundNumber::none(),
+        ),
     }
 }
 

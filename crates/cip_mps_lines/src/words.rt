@@ -1,10 +1,10 @@
 //! The words of free MPS: sections, senses, types of rows and bounds, markers.
-ghost use Rattle.std.specs.Prelude.{◌≡◌, option_map};
+ghost use Rattle.std.specs.Prelude.{◌≡◌, map, option_map};
 ghost use Rattle.cip_mps_rules.specs.MpsWords as text;
-ghost use Rattle.cip_mps_lines.specs.MpsKinds.{part_of, row_kind_in, bound_kind_in};
+ghost use Rattle.cip_mps_lines.specs.MpsKinds.{part_of, section_word, row_kind_in, bound_kind_in, bound_word};
 
 /// A section of a text.
-#[derive(Clone, Copy, PartialEq, Eq)]
+#[derive(Clone, Copy)]
 pub enum Part {
     /// What stands before the first section line.
     NoPart,
@@ -27,7 +27,7 @@ pub enum Part {
 }
 
 /// The type of a row.
-#[derive(Clone, Copy, PartialEq, Eq)]
+#[derive(Clone, Copy)]
 pub enum RowKind {
     /// N, a row without sides.
     Free,
@@ -40,7 +40,7 @@ pub enum RowKind {
 }
 
 /// The type of a bound.
-#[derive(Clone, Copy, PartialEq, Eq)]
+#[derive(Clone, Copy)]
 pub enum BoundKind {
     /// LO.
     Low,
@@ -64,29 +64,50 @@ pub enum BoundKind {
     SemiContinuous,
 }
 
+/// The words of sections.
+const SECTIONS: [(&[u8], Part); 8] = [
+    (b"NAME", Part::Title),
+    (b"OBJSENSE", Part::Sense),
+    (b"ROWS", Part::Rows),
+    (b"COLUMNS", Part::Columns),
+    (b"RHS", Part::RightSides),
+    (b"RANGES", Part::Ranges),
+    (b"BOUNDS", Part::Bounds),
+    (b"ENDATA", Part::End),
+];
+
+/// The words of types of bounds.
+const BOUND_KINDS: [(&[u8], BoundKind); 10] = [
+    (b"LO", BoundKind::Low),
+    (b"UP", BoundKind::High),
+    (b"FX", BoundKind::Fixed),
+    (b"LI", BoundKind::WholeLow),
+    (b"UI", BoundKind::WholeHigh),
+    (b"FR", BoundKind::Unbounded),
+    (b"MI", BoundKind::NoLow),
+    (b"PL", BoundKind::NoHigh),
+    (b"BV", BoundKind::Binary),
+    (b"SC", BoundKind::SemiContinuous),
+];
+
+/// The section of a word by a list of words, if it is one of them.
+fn section_in(words: &[(&[u8], Part)], word: &[u8]) -> Option<Part>
+    ensures { option_map part_of result
+        ≡ text.meaning_in (map (λ known. section_word known.0.now known.1) words.now) word.now }
+{
+    for known in words {
+        if word == known.0 {
+            return Some(known.1);
+        }
+    }
+    None
+}
+
 /// The section of this word, if it is one of the eight.
 pub(crate) fn section_of(word: &[u8]) -> Option<Part>
     ensures { option_map part_of result ≡ text.section_of word.now }
 {
-    if word == b"NAME".as_slice() {
-        Some(Part::Title)
-    } else if word == b"OBJSENSE".as_slice() {
-        Some(Part::Sense)
-    } else if word == b"ROWS".as_slice() {
-        Some(Part::Rows)
-    } else if word == b"COLUMNS".as_slice() {
-        Some(Part::Columns)
-    } else if word == b"RHS".as_slice() {
-        Some(Part::RightSides)
-    } else if word == b"RANGES".as_slice() {
-        Some(Part::Ranges)
-    } else if word == b"BOUNDS".as_slice() {
-        Some(Part::Bounds)
-    } else if word == b"ENDATA".as_slice() {
-        Some(Part::End)
-    } else {
-        None
-    }
+    section_in(&SECTIONS, word)
 }
 
 /// Whether a sense maximises: `min`, `max`, `minimize` or `maximize` in letters large or small; none for any other
@@ -137,33 +158,24 @@ pub(crate) fn marker_of(word: &[u8]) -> Option<bool>
     }
 }
 
+/// The type of a bound by a list of words, if the word is one of them.
+fn bound_kind_among(words: &[(&[u8], BoundKind)], word: &[u8]) -> Option<BoundKind>
+    ensures { option_map bound_kind_in result
+        ≡ text.meaning_in (map (λ known. bound_word known.0.now known.1) words.now) word.now }
+{
+    for known in words {
+        if word == known.0 {
+            return Some(known.1);
+        }
+    }
+    None
+}
+
 /// The type of a bound, if the word is one of the ten.
 pub(crate) fn bound_kind_of(word: &[u8]) -> Option<BoundKind>
     ensures { option_map bound_kind_in result ≡ text.bound_kind_of word.now }
 {
-    if word == b"LO".as_slice() {
-        Some(BoundKind::Low)
-    } else if word == b"UP".as_slice() {
-        Some(BoundKind::High)
-    } else if word == b"FX".as_slice() {
-        Some(BoundKind::Fixed)
-    } else if word == b"LI".as_slice() {
-        Some(BoundKind::WholeLow)
-    } else if word == b"UI".as_slice() {
-        Some(BoundKind::WholeHigh)
-    } else if word == b"FR".as_slice() {
-        Some(BoundKind::Unbounded)
-    } else if word == b"MI".as_slice() {
-        Some(BoundKind::NoLow)
-    } else if word == b"PL".as_slice() {
-        Some(BoundKind::NoHigh)
-    } else if word == b"BV".as_slice() {
-        Some(BoundKind::Binary)
-    } else if word == b"SC".as_slice() {
-        Some(BoundKind::SemiContinuous)
-    } else {
-        None
-    }
+    bound_kind_among(&BOUND_KINDS, word)
 }
 
 impl BoundKind {

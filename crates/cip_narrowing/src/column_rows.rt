@@ -9,18 +9,27 @@ pub struct ColumnRows {
     rows: Vec<u32>,
 }
 
-/// Whether a column is taken: all are, or continuous ones alone.
-fn is_taken(whole: &[bool], col: u32, only_continuous: bool) -> bool {
-    match whole.get(col as usize) {
-        Some(is_whole) => !(only_continuous && *is_whole),
-        None => false,
+/// Which columns are taken: all, or continuous ones alone.
+#[derive(Clone, Copy)]
+struct Taken<'a> {
+    whole: &'a [bool],
+    only_continuous: bool,
+}
+
+impl<'a> Taken<'a> {
+    /// Whether a column is taken.
+    fn has(&self, col: u32) -> bool {
+        match self.whole.get(col as usize) {
+            Some(is_whole) => !(self.only_continuous && *is_whole),
+            None => false,
+        }
     }
 }
 
 /// Counts the row at the place behind each of its columns.
-fn count_row(row: &Row, whole: &[bool], only_continuous: bool, ends: &mut [u32]) {
+fn count_row(row: &Row, columns: Taken<'_>, ends: &mut [u32]) {
     for term in row.terms() {
-        if is_taken(whole, term.col, only_continuous) {
+        if columns.has(term.col) {
             if let Some(count) = ends.get_mut((term.col as usize).wrapping_add(1)) {
                 *count = count.wrapping_add(1);
             }
@@ -49,6 +58,31 @@ fn put(number: u32, col: u32, ends: &mut [u32], rows: &mut [u32]) {
     *end = end.wrapping_add(1);
 }
 
+/// Counts the rows of each column, and leaves where its list begins; answers how long all lists are.
+fn count_rows(own: &[Row], columns: Taken<'_>, ends: &mut [u32]) -> usize {
+    for row in own {
+        count_row(row, columns, ends);
+    }
+    add_up(ends)
+}
+
+/// Writes a row down at each of its columns.
+fn fill_row(number: u32, row: &Row, columns: Taken<'_>, ends: &mut [u32], rows: &mut [u32]) {
+    for term in row.terms() {
+        if columns.has(term.col) {
+            put(number, term.col, ends, rows);
+        }
+    }
+}
+
+/// Writes rows down at each of their columns.
+fn fill(own: &[Row], columns: Taken<'_>, ends: &mut [u32], rows: &mut [u32]) {
+    for (number, row) in own.iter().enumerate() {
+        let short = u32::try_from(number).unwrap_or(u32::MAX);
+        fill_row(short, row, columns, ends, rows);
+    }
+}
+
 impl ColumnRows {
     /// No column. It takes no memory.
     pub fn new(alloc: Global) -> ColumnRows {
@@ -68,27 +102,16 @@ impl ColumnRows {
     ) -> Result<(), AllocError> {
         self.ends.clear();
         self.rows.clear();
+        let columns = Taken {
+            whole,
+            only_continuous,
+        };
         self.ends.resize(whole.len().saturating_add(1), 0)?;
-        for row in own {
-            count_row(row, whole, only_continuous, self.ends.as_mut_slice());
-        }
-        let count = add_up(self.ends.as_mut_slice());
+        let count = count_rows(own, columns, self.ends.as_mut_slice());
         self.rows.resize(count, 0)?;
-        for (number, row) in own.iter().enumerate() {
-            let short = u32::try_from(number).unwrap_or(u32::MAX);
-            self.fill(short, row, whole, only_continuous);
-        }
+        let (ends, rows) = (self.ends.as_mut_slice(), self.rows.as_mut_slice());
+        fill(own, columns, ends, rows);
         Ok(())
-    }
-
-    /// Writes a row down at each of its columns.
-    fn fill(&mut self, number: u32, row: &Row, whole: &[bool], only_continuous: bool) {
-        for term in row.terms() {
-            if is_taken(whole, term.col, only_continuous) {
-                let ends = self.ends.as_mut_slice();
-                put(number, term.col, ends, self.rows.as_mut_slice());
-            }
-        }
     }
 
     /// Where the list of the column before this one ends.

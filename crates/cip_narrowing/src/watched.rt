@@ -13,6 +13,37 @@ pub struct Watched {
     waiting: Vec<u32>,
 }
 
+/// Has a row wait, if it is there and doesn't wait.
+fn wait_at(number: u32, is_waiting: &mut [bool], waiting: &mut Vec<u32>) -> Result<(), AllocError> {
+    match is_waiting.get_mut(number as usize) {
+        Some(own) if !*own => *own = true,
+        _ => return Ok(()),
+    }
+    waiting.push(number)?;
+    Ok(())
+}
+
+/// Has these rows wait.
+fn wait_all(
+    rows: &[u32],
+    is_waiting: &mut [bool],
+    waiting: &mut Vec<u32>,
+) -> Result<(), AllocError> {
+    for number in rows {
+        wait_at(*number, is_waiting, waiting)?;
+    }
+    Ok(())
+}
+
+/// Has all rows wait.
+fn list_waiting(is_waiting: &mut [bool], waiting: &mut Vec<u32>) -> Result<(), AllocError> {
+    for number in 0..is_waiting.len() {
+        let short = u32::try_from(number).unwrap_or(u32::MAX);
+        wait_at(short, is_waiting, waiting)?;
+    }
+    Ok(())
+}
+
 impl Watched {
     /// No row. It takes no memory.
     pub fn new(alloc: Global) -> Watched {
@@ -30,9 +61,7 @@ impl Watched {
         self.waiting.clear();
         self.is_waiting.clear();
         self.is_waiting.resize(own.len(), false)?;
-        for number in 0..own.len() {
-            self.wait_for(u32::try_from(number).unwrap_or(u32::MAX))?;
-        }
+        list_waiting(self.is_waiting.as_mut_slice(), &mut self.waiting)?;
         self.see(sides)
     }
 
@@ -44,27 +73,13 @@ impl Watched {
 
     /// Has a row wait, where it neither waits nor is in work. `Err` where memory was refused.
     pub fn wait_for(&mut self, number: u32) -> Result<(), AllocError> {
-        let Some(is_waiting) = self.is_waiting.get_mut(number as usize) else {
-            return Ok(());
-        };
-        if !*is_waiting {
-            *is_waiting = true;
-            self.waiting.push(number)?;
-        }
-        Ok(())
+        wait_at(number, self.is_waiting.as_mut_slice(), &mut self.waiting)
     }
 
     /// Has the rows of a column wait that neither wait nor are in work. `Err` where memory was refused.
     pub fn wait_for_column(&mut self, col: u32) -> Result<(), AllocError> {
-        for number in self.columns.rows_of(col) {
-            if let Some(is_waiting) = self.is_waiting.get_mut(*number as usize) {
-                if !*is_waiting {
-                    *is_waiting = true;
-                    self.waiting.push(*number)?;
-                }
-            }
-        }
-        Ok(())
+        let rows = self.columns.rows_of(col);
+        wait_all(rows, self.is_waiting.as_mut_slice(), &mut self.waiting)
     }
 
     /// Takes a box as seen, and has the rows wait of the columns whose sides differ from those that were seen before.

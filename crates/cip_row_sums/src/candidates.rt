@@ -134,6 +134,48 @@ fn is_like_one(list: &[Candidate], picked: &[usize], place: usize) -> bool {
     false
 }
 
+/// Brings a cut, unless it was brought before.
+fn bring(candidate: &mut Candidate, cuts: &mut Vec<Cut>) -> Result<(), AllocError> {
+    if let Some(cut) = candidate.cut.take() {
+        cuts.push(cut)?;
+    }
+    Ok(())
+}
+
+/// Picks the cut at a place and brings it, unless it is nearly parallel to one that was picked.
+fn pick(
+    list: &mut [Candidate],
+    picked: &mut Vec<usize>,
+    place: usize,
+    cuts: &mut Vec<Cut>,
+) -> Result<(), AllocError> {
+    if is_like_one(list, picked.as_slice(), place) {
+        return Ok(());
+    }
+    picked.push(place)?;
+    match list.get_mut(place) {
+        Some(candidate) => bring(candidate, cuts),
+        None => Ok(()),
+    }
+}
+
+/// Brings the best cuts, at most so many; the last of the ranks is the best.
+fn bring_best(
+    ranks: &[Rank],
+    list: &mut [Candidate],
+    picked: &mut Vec<usize>,
+    most: usize,
+    cuts: &mut Vec<Cut>,
+) -> Result<(), AllocError> {
+    for rank in ranks.iter().rev() {
+        if cuts.len() >= most {
+            return Ok(());
+        }
+        pick(list, picked, rank.place, cuts)?;
+    }
+    Ok(())
+}
+
 /// The cuts that were found in a round.
 #[derive(Drop)]
 pub struct Candidates {
@@ -185,20 +227,13 @@ impl Candidates {
     pub fn choose(&mut self, alloc: Global, most: usize) -> Result<Vec<Cut>, AllocError> {
         self.ranks.sort_unstable();
         let mut cuts = Vec::new(alloc);
-        for rank in self.ranks.iter().rev() {
-            if cuts.len() >= most {
-                return Ok(cuts);
-            }
-            if is_like_one(self.list.as_slice(), self.picked.as_slice(), rank.place) {
-                continue;
-            }
-            self.picked.push(rank.place)?;
-            if let Some(candidate) = self.list.get_mut(rank.place) {
-                if let Some(cut) = candidate.cut.take() {
-                    cuts.push(cut)?;
-                }
-            }
-        }
+        bring_best(
+            self.ranks.as_slice(),
+            self.list.as_mut_slice(),
+            &mut self.picked,
+            most,
+            &mut cuts,
+        )?;
         Ok(cuts)
     }
 }

@@ -44,6 +44,11 @@ impl Shift {
         self.way > 0 && !(self.is_unit && self.way >= UNIT)
     }
 
+    /// Whether the column is whole and its value isn't.
+    fn is_fractional(&self) -> bool {
+        self.is_whole && self.way.checked_rem(UNIT) != Some(0)
+    }
+
     /// What the column's coefficient is where that of its way is this one.
     pub fn column_coefficient(&self, number: i64) -> i64 {
         if self.is_turned {
@@ -153,6 +158,27 @@ fn with_coefficient(ways: &[Option<Shift>], term: (u32, i64)) -> Option<Shift> {
     Some(item)
 }
 
+/// The right side of a row behind a column with this coefficient, whose way is told from this side.
+fn right_behind(right: Frac, side: Option<Frac>, coef: i64) -> Option<Frac> {
+    match side {
+        Some(side) => with_product(right, Frac::from(coef.wrapping_neg()), side),
+        None => Some(right),
+    }
+}
+
+/// Tells a way from the other side, that is one further, and answers the right side of its row then.
+fn flipped(item: &mut Shift, from: Frac, right: Frac) -> Option<Frac> {
+    let times = Frac::from(item.coef.wrapping_neg());
+    let behind = with_product(right, times, Frac::one())?;
+    let by = Frac::from(if item.is_turned { -1 } else { 1 });
+    let side = from.add(by).ok()?;
+    item.side = Some(side);
+    item.coef = item.coef.wrapping_neg();
+    item.way = UNIT.wrapping_sub(item.way);
+    item.is_turned = !item.is_turned;
+    Some(behind)
+}
+
 /// A row in the ways of its columns, which is at most its right side.
 #[derive(Drop)]
 pub struct Shifted {
@@ -187,8 +213,7 @@ impl Shifted {
     ) -> Result<(), Stop> {
         self.begin(right);
         for term in terms {
-            let item = found(shift_of(view, point, *term, aim))?;
-            self.add(item, term.1)?;
+            self.add(shift_of(view, point, *term, aim), term.1)?;
         }
         Ok(())
     }
@@ -203,8 +228,7 @@ impl Shifted {
     ) -> Result<(), Stop> {
         self.begin(right);
         for term in terms {
-            let item = found(with_coefficient(ways, *term))?;
-            self.add(item, term.1)?;
+            self.add(with_coefficient(ways, *term), term.1)?;
         }
         Ok(())
     }
@@ -216,16 +240,12 @@ impl Shifted {
         self.is_fractional = false;
     }
 
-    /// Adds the way of a column with this coefficient.
-    fn add(&mut self, item: Shift, coef: i64) -> Result<(), Stop> {
-        if let Some(side) = item.side {
-            let times = Frac::from(coef.wrapping_neg());
-            self.right = found(with_product(self.right, times, side))?;
-        }
-        if item.is_whole && item.way.checked_rem(UNIT) != Some(0) {
-            self.is_fractional = true;
-        }
-        self.items.push(item)?;
+    /// Adds the way of a column with this coefficient, if there is one.
+    fn add(&mut self, item: Option<Shift>, coef: i64) -> Result<(), Stop> {
+        let way = found(item)?;
+        self.right = found(right_behind(self.right, way.side, coef))?;
+        self.is_fractional |= way.is_fractional();
+        self.items.push(way)?;
         Ok(())
     }
 
@@ -246,13 +266,7 @@ impl Shifted {
         let Some(side) = item.side else {
             return Ok(());
         };
-        let by = Frac::from(if item.is_turned { -1 } else { 1 });
-        let times = Frac::from(item.coef.wrapping_neg());
-        self.right = found(with_product(self.right, times, Frac::one()))?;
-        item.side = Some(found(side.add(by).ok())?);
-        item.coef = item.coef.wrapping_neg();
-        item.way = UNIT.wrapping_sub(item.way);
-        item.is_turned = !item.is_turned;
+        self.right = found(flipped(item, side, self.right))?;
         Ok(())
     }
 }

@@ -127,6 +127,24 @@ fn next_both(own: (u32, i64), factor: i64, term: &Term, multiple: Multiple<'_>) 
     })
 }
 
+/// The next column of the two rows, of which one goes on at least.
+#[inline]
+fn next_of(
+    own: Option<&(u32, i64)>,
+    other: Option<&Term>,
+    factor: i64,
+    multiple: Multiple<'_>,
+) -> Option<Next> {
+    let Some(term) = other else {
+        return next_own(*own?, factor);
+    };
+    match own {
+        Some(mine) if mine.0 < term.col => next_own(*mine, factor),
+        Some(mine) if mine.0 == term.col => next_both(*mine, factor, term, multiple),
+        _ => next_other(term, multiple),
+    }
+}
+
 /// Writes a row times a factor with a multiple of another one added, without coefficients of 0. `GaveUp` where a number
 /// is above 2^40 in size, `NoMemory` where memory was refused; a front part is written then.
 pub fn write_sum(
@@ -139,15 +157,10 @@ pub fn write_sum(
     let mut here = 0usize;
     let mut there = 0usize;
     for _ in 0..own.len().saturating_add(multiple.terms.len()) {
-        let next = match (own.get(here), multiple.terms.get(there)) {
-            (None, None) => return Ok(()),
-            (Some(mine), None) => next_own(*mine, factor),
-            (Some(mine), Some(term)) if mine.0 < term.col => next_own(*mine, factor),
-            (Some(mine), Some(term)) if mine.0 == term.col => {
-                next_both(*mine, factor, term, multiple)
-            }
-            (_, Some(term)) => next_other(term, multiple),
-        };
+        if here >= own.len() && there >= multiple.terms.len() {
+            return Ok(());
+        }
+        let next = next_of(own.get(here), multiple.terms.get(there), factor, multiple);
         let step = found(next)?;
         if step.value != 0 {
             out.push((step.col, step.value))?;
@@ -155,6 +168,33 @@ pub fn write_sum(
         here = here.wrapping_add(step.own);
         there = there.wrapping_add(step.other);
     }
+    Ok(())
+}
+
+/// The right side of a sum, taken so often, with a row added so often.
+fn right_of_sum(right: Frac, own: i64, row: &TightRow<'_>, times: i64) -> Option<Frac> {
+    let factor = product(times, row.common)?;
+    let before = with_product(Frac::zero(), right, Frac::from(own))?;
+    with_product(before, row.side, Frac::from(factor))
+}
+
+/// Each row is taken so often as it was.
+fn scale_used(list: &mut [Used], factor: i64) -> Result<(), Stop> {
+    for used in list.iter_mut() {
+        used.times = found(product(used.times, factor))?;
+    }
+    Ok(())
+}
+
+/// The rows of a sum that is taken so often, with a row so often behind them.
+fn use_row(list: &mut Vec<Used>, own: i64, row: &TightRow<'_>, times: i64) -> Result<(), Stop> {
+    scale_used(list.as_mut_slice(), own)?;
+    list.push(Used {
+        id: row.id,
+        standing: row.standing,
+        common: row.common,
+        times,
+    })?;
     Ok(())
 }
 
@@ -212,25 +252,8 @@ impl Sum {
         if self.terms.len() > MOST_TERMS {
             return Err(Stop::GaveUp);
         }
-        let factor = found(product(times, row.common))?;
-        let before = found(with_product(Frac::zero(), self.right, Frac::from(own)))?;
-        self.right = found(with_product(before, row.side, Frac::from(factor)))?;
-        self.scale_used(own)?;
-        self.used.push(Used {
-            id: row.id,
-            standing: row.standing,
-            common: row.common,
-            times,
-        })?;
-        Ok(())
-    }
-
-    /// Each row is taken so often as it was.
-    fn scale_used(&mut self, factor: i64) -> Result<(), Stop> {
-        for used in self.used.iter_mut() {
-            used.times = found(product(used.times, factor))?;
-        }
-        Ok(())
+        self.right = found(right_of_sum(self.right, own, row, times))?;
+        use_row(&mut self.used, own, row, times)
     }
 
     /// The sum with the other sign.

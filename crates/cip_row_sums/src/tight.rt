@@ -82,6 +82,22 @@ pub fn tight_row<'a>(view: &View<'a>, id: RowId, standing: Standing) -> Option<T
     })
 }
 
+/// Lists at which of its sides each row of the program stands at a point.
+fn list_own(view: &View<'_>, point: &[Frac], list: &mut Vec<Standing>) -> Result<(), AllocError> {
+    for row in view.own {
+        list.push(standing_of(row, point))?;
+    }
+    Ok(())
+}
+
+/// The same for the rows of the pool.
+fn list_pool(view: &View<'_>, point: &[Frac], list: &mut Vec<Standing>) -> Result<(), AllocError> {
+    for kept in view.pool {
+        list.push(standing_of(&kept.row, point))?;
+    }
+    Ok(())
+}
+
 /// At which of its sides each row stands at the last point: the program's own, then those of the pool.
 #[derive(Drop)]
 pub struct Standings {
@@ -99,13 +115,8 @@ impl Standings {
     /// Takes a point. `Err` where memory was refused.
     pub fn take(&mut self, view: &View<'_>, point: &[Frac]) -> Result<(), AllocError> {
         self.list.clear();
-        for row in view.own {
-            self.list.push(standing_of(row, point))?;
-        }
-        for kept in view.pool {
-            self.list.push(standing_of(&kept.row, point))?;
-        }
-        Ok(())
+        list_own(view, point, &mut self.list)?;
+        list_pool(view, point, &mut self.list)
     }
 
     /// How many rows there are.

@@ -10,7 +10,7 @@ use cip_io::{Failed, Sink, push_all};
 use itoa::Buffer;
 
 /// An answer without figures.
-#[derive(Clone, Copy, PartialEq, Eq)]
+#[derive(Clone, Copy)]
 pub enum Plain {
     /// The words are not accepted.
     Usage,

@@ -5,7 +5,7 @@ ghost use Rattle.cip_tasks.specs.Refusals.{text_name, line_of, kind_text};
 use cip_input::{BlockKind, ModelKind, PointKind, TextFault};
 
 /// A faulty text: which one it is, and its fault.
-#[derive(Clone, Copy, PartialEq, Eq)]
+#[derive(Clone, Copy)]
 pub enum FaultyText {
     /// The text of the model.
     Model(TextFault<ModelKind>),

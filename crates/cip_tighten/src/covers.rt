@@ -108,6 +108,34 @@ fn thin(cover: &mut Vec<Pick>, sum: i128, limit: i128, kept: &mut Vec<Pick>) -> 
     Ok(())
 }
 
+/// Tells the ways of these columns from their other sides.
+fn flip_all(kept: &[Pick], shifted: &mut Shifted) -> Result<(), Stop> {
+    for pick in kept {
+        shifted.flip(pick.place)?;
+    }
+    Ok(())
+}
+
+/// Lists the coefficients of these columns.
+fn list_coefficients(kept: &[Pick], divisors: &mut Vec<i64>) -> Result<(), Stop> {
+    divisors.clear();
+    for pick in kept {
+        divisors.push(pick.coef)?;
+    }
+    Ok(())
+}
+
+/// Tells a row in the ways of its columns; answers what they come to at most.
+fn take_row(view: &View<'_>, sum: &Sum, shifted: &mut Shifted) -> Result<i128, Stop> {
+    let point = view.point.unwrap_or(&[]);
+    shifted.take(view, point, &sum.terms, sum.right, Aim::Positive)?;
+    let limit = shifted.right.floor();
+    if !shifted.is_fractional || limit < 0 {
+        return Err(Stop::GaveUp);
+    }
+    Ok(limit)
+}
+
 impl Covers {
     /// Nothing.
     pub(crate) fn new(alloc: Global) -> Covers {
@@ -123,11 +151,9 @@ impl Covers {
 
     /// Tells the ways of the cover's columns from their other sides, and lists their coefficients, the greatest first.
     fn turn_cover(&mut self) -> Result<(), Stop> {
-        self.divisors.clear();
-        for pick in &self.kept {
-            self.shifted.flip(pick.place)?;
-            self.divisors.push(pick.coef)?;
-        }
+        let kept = self.kept.as_slice();
+        flip_all(kept, &mut self.shifted)?;
+        list_coefficients(kept, &mut self.divisors)?;
         self.divisors.sort_unstable();
         self.divisors.reverse();
         self.divisors.dedup();
@@ -137,17 +163,16 @@ impl Covers {
 
     /// Finds a cover in an order, and tells the row in the ways of its columns from their costlier values.
     fn find(&mut self, view: &View<'_>, sum: &Sum, order: Order) -> Result<(), Stop> {
-        let point = view.point.unwrap_or(&[]);
-        self.shifted
-            .take(view, point, &sum.terms, sum.right, Aim::Positive)?;
-        let limit = self.shifted.right.floor();
-        if !self.shifted.is_fractional || limit < 0 {
-            return Err(Stop::GaveUp);
-        }
+        let limit = take_row(view, sum, &mut self.shifted)?;
+        self.pick(order, limit)?;
+        self.turn_cover()
+    }
+
+    /// Picks the columns of a cover in an order: their coefficients come to more than the limit.
+    fn pick(&mut self, order: Order, limit: i128) -> Result<(), Stop> {
         list_picks(self.shifted.items.as_slice(), order, &mut self.picks)?;
         let come_to = fill(self.picks.as_slice(), limit, &mut self.cover)?;
-        thin(&mut self.cover, come_to, limit, &mut self.kept)?;
-        self.turn_cover()
+        thin(&mut self.cover, come_to, limit, &mut self.kept)
     }
 
     /// Keeps the cut of the cover that was found, by the greatest of its coefficients and rounded.

@@ -1,7 +1,7 @@
 //! The separator of mixed roundings.
 ghost use Rattle.std.specs.Prelude.{None, codes};
 
-use crate::mixing::{best_division, list_divisors};
+use crate::mixing::{Scored, best_division, list_divisors};
 use crate::paths::go_on;
 use crate::split_cuts::mixed_cut;
 use cip_frac::Frac;
@@ -57,13 +57,18 @@ impl MixedSeparator {
         }
     }
 
-    /// Keeps the best mixed rounding of the sum with its sign.
-    fn mix(&mut self, alloc: Global, view: &View<'_>) -> Result<(), Stop> {
+    /// The best division of the sum with its sign.
+    fn best(&mut self) -> Result<Scored, Stop> {
         let items = self.shifted.items.as_slice();
         list_divisors(items, &mut self.divisors)?;
         let looked_at = items.len().saturating_mul(self.divisors.len());
         self.work = self.work.saturating_add(looked_at);
-        let best = best_division(&self.shifted, self.divisors.as_slice(), &mut self.terms)?;
+        best_division(&self.shifted, self.divisors.as_slice(), &mut self.terms)
+    }
+
+    /// Keeps the best mixed rounding of the sum with its sign.
+    fn mix(&mut self, alloc: Global, view: &View<'_>) -> Result<(), Stop> {
+        let best = self.best()?;
         let cut = mixed_cut(alloc, view, &self.sum, &self.shifted, best)?;
         self.candidates.push(cut)?;
         Ok(())
@@ -97,6 +102,20 @@ impl MixedSeparator {
         Ok(self.candidates.len() > before)
     }
 
+    /// Keeps cuts of the sum, and adds a row to it where there was none; answers whether there was one.
+    fn is_mixed_or_goes_on(
+        &mut self,
+        alloc: Global,
+        view: &View<'_>,
+        point: &[Frac],
+    ) -> Result<bool, Stop> {
+        if self.has_mixed(alloc, view)? {
+            return Ok(true);
+        }
+        go_on(view, point, &self.standings, &self.columns, &mut self.sum)?;
+        Ok(false)
+    }
+
     /// Adds rows to the one at a place until there is a cut, or no more row to add.
     fn search_from(
         &mut self,
@@ -110,10 +129,9 @@ impl MixedSeparator {
         };
         self.sum.begin(&row)?;
         for _ in 1..MOST_ROWS {
-            if self.has_mixed(alloc, view)? {
+            if self.is_mixed_or_goes_on(alloc, view, point)? {
                 return Ok(());
             }
-            go_on(view, point, &self.standings, &self.columns, &mut self.sum)?;
         }
         self.mix_both(alloc, view)
     }

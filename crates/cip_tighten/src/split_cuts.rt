@@ -37,27 +37,36 @@ fn with_side(number: i128, coefficient: i128, shift: Shift) -> Option<i128> {
     }
 }
 
+/// Adds a column to the form; answers the number that the form is at most on the left then.
+fn add_to_form(
+    division: Division,
+    number: i128,
+    shift: &Shift,
+    form: &mut Vec<FormTerm>,
+) -> Result<i128, Stop> {
+    let coefficient = found(form_coefficient(division, *shift))?;
+    if coefficient == 0 {
+        return Ok(number);
+    }
+    let coef = if shift.is_turned {
+        coefficient.wrapping_neg()
+    } else {
+        coefficient
+    };
+    form.push(FormTerm {
+        col: shift.col,
+        coef,
+    })?;
+    found(with_side(number, coefficient, *shift))
+}
+
 /// Writes the form, and answers the number that it is at most on the left.
 fn write_form(division: Division, items: &[Shift], form: &mut Vec<FormTerm>) -> Result<i128, Stop> {
     let mut number = division.floor;
     for shift in items {
-        if !shift.is_whole {
-            continue;
+        if shift.is_whole {
+            number = add_to_form(division, number, shift, form)?;
         }
-        let coefficient = found(form_coefficient(division, *shift))?;
-        if coefficient == 0 {
-            continue;
-        }
-        number = found(with_side(number, coefficient, *shift))?;
-        let coef = if shift.is_turned {
-            coefficient.wrapping_neg()
-        } else {
-            coefficient
-        };
-        form.push(FormTerm {
-            col: shift.col,
-            coef,
-        })?;
     }
     Ok(number)
 }
@@ -81,6 +90,19 @@ fn weights(division: Division, shift: Shift) -> Option<(i128, i128)> {
     }
 }
 
+/// Adds a way to both sides.
+fn push_both(
+    division: Division,
+    shift: &Shift,
+    divisor: i128,
+    left: &mut Combo,
+    right: &mut Combo,
+) -> Result<(), Stop> {
+    let (first, second) = found(weights(division, *shift))?;
+    push_way(left, *shift, first, divisor)?;
+    push_way(right, *shift, second, divisor)
+}
+
 /// Adds the ways to both sides.
 fn push_ways(
     division: Division,
@@ -90,14 +112,29 @@ fn push_ways(
     right: &mut Combo,
 ) -> Result<(), Stop> {
     for shift in items {
-        let (first, second) = found(weights(division, *shift))?;
-        push_way(left, *shift, first, divisor)?;
-        push_way(right, *shift, second, divisor)?;
+        push_both(division, shift, divisor, left, right)?;
     }
     Ok(())
 }
 
-/// Adds the rows: one that fits its side on the right, another on the left.
+/// Adds a row: one that fits its side on the right, another on the left.
+fn push_used(
+    division: Division,
+    used: &Used,
+    divisor: i128,
+    left: &mut Combo,
+    right: &mut Combo,
+) -> Result<(), Stop> {
+    let factor = found(used.factor())?;
+    let times = found(i128::from(factor).checked_mul(division.under))?;
+    if used.fits() {
+        push_row(right, used.id, times.wrapping_neg(), divisor)
+    } else {
+        push_row(left, used.id, times, divisor)
+    }
+}
+
+/// Adds the rows.
 fn push_rows(
     division: Division,
     sum: &Sum,
@@ -106,13 +143,7 @@ fn push_rows(
     right: &mut Combo,
 ) -> Result<(), Stop> {
     for used in &sum.used {
-        let factor = found(used.factor())?;
-        let times = found(i128::from(factor).checked_mul(division.under))?;
-        if used.fits() {
-            push_row(right, used.id, times.wrapping_neg(), divisor)?;
-        } else {
-            push_row(left, used.id, times, divisor)?;
-        }
+        push_used(division, used, divisor, left, right)?;
     }
     Ok(())
 }
@@ -161,6 +192,19 @@ fn write_cut(
     Ok(())
 }
 
+/// Adds the rows and the ways to both sides.
+fn push_sides(
+    division: Division,
+    sum: &Sum,
+    items: &[Shift],
+    divisor: i128,
+    left: &mut Combo,
+    right: &mut Combo,
+) -> Result<(), Stop> {
+    push_rows(division, sum, divisor, left, right)?;
+    push_ways(division, items, divisor, left, right)
+}
+
 /// The split cut of a mixed rounding.
 fn split_of(
     alloc: Global,
@@ -176,8 +220,7 @@ fn split_of(
     let k = write_form(division, items, &mut form)?;
     let mut left = empty_combo(alloc);
     let mut right = empty_combo(alloc);
-    push_rows(division, sum, divisor, &mut left, &mut right)?;
-    push_ways(division, items, divisor, &mut left, &mut right)?;
+    push_sides(division, sum, items, divisor, &mut left, &mut right)?;
     Ok(SplitCut {
         form,
         k,
@@ -186,6 +229,19 @@ fn split_of(
         right,
         right_factor,
     })
+}
+
+/// Takes the common divisor out of the coefficients of a cut; answers what they measured before, and the cut's score.
+fn lower_scored(
+    division: Division,
+    items: &[Shift],
+    terms: &mut Terms,
+) -> Result<(Measure, u128), Stop> {
+    let broken = found(division.broken(items))?;
+    let size = found(measure_of(terms))?;
+    let score = found(score(broken, size))?;
+    lower(terms, size.divisor)?;
+    Ok((size, score))
 }
 
 /// The cut of a mixed rounding.
@@ -198,13 +254,10 @@ pub(crate) fn mixed_cut(
 ) -> Result<Candidate, Stop> {
     let division = best.division;
     let items = shifted.items.as_slice();
-    let broken = found(division.broken(items))?;
     let mut terms = Vec::new(alloc);
     write_cut(alloc, view, division, sum, items, &mut terms)?;
-    let size = found(measure_of(&terms))?;
-    let score = found(score(broken, size))?;
+    let (size, score) = lower_scored(division, items, &mut terms)?;
     let split = split_of(alloc, division, sum, items, size)?;
-    lower(&mut terms, size.divisor)?;
     Ok(Candidate {
         terms,
         square: size.square,

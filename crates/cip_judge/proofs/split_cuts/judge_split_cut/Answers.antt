@@ -1,17 +1,16 @@
 use Rattle.std.proofs.Common.{◌≡◌, ◌∙◌, if◌then◌else◌, length, sym, ap, subst, arith}
 use Rattle.cip_problem.specs.Program.{Program}
-use Rattle.cip_cuts.specs.Cuts.{row_of}
 use Rattle.cip_cuts.specs.Improving.{IsValid}
 use Rattle.cip_linear.specs.Aggregate.{Inequality}
 use Rattle.cip_cert.specs.Lent.{Lent, Fits, lent_of}
 use Rattle.cip_cert.specs.Resting.{valid_below}
-use Rattle.cip_rows.specs.Adding.{IsAdded}
-use Rattle.cip_rows.specs.declared.pools.Added.TheVariants.{New, Known, Full}
 use Rattle.cip_split.specs.SplitMeaning.{split_rests}
 use Rattle.cip_core.specs.CoreStates.{reduced_of, held_of, all_lent}
 use Rattle.cip_core.specs.RowsAsked.{scope_of}
 use Rattle.cip_core.proofs.Relations.{later_at_itself}
 use Rattle.cip_core.proofs.RowsAdded.{lent_fits, scope_long}
+use Rattle.cip_judge.specs.SplitCutsJudged.{IsCutJudged}
+use Rattle.cip_judge.proofs.RowsTold.{cut_judged}
 use Rattle.cip_judge.proofs.SplitCutsTold.{accepted_by, split_there, split_told}
 use Rattle.cip_judge.proofs.split_cuts.judge_split_cut.Goals as goal
 
@@ -60,8 +59,8 @@ add_valid-requires-clause-valid c =
 pub returns-in-Err-clause-later : goal.returns-in-Err-clause-later
 returns-in-Err-clause-later c = later_at_itself c.args.core.now c.args.node.now c.requires.at_work
 
-pub returns-in-New-clause-judged : goal.returns-in-New-clause-judged
-returns-in-New-clause-judged c =
+pub returns-in_ok-added-in-Ok-clause-judged : goal.returns-in_ok-added-in-Ok-clause-judged
+returns-in_ok-added-in-Ok-clause-judged c =
     let core = c.args.core.now in
     let local = c.args.local in
     let boxed : c.scope-bounds.result.now ≡ scope_of core local = c.scope-bounds.ensures ∙ ap (λ b. if local then b else c.bounds-2.result.now) c.bounds.ensures ∙ ap (λ b. if local then core.tree.work.box else b) (c.bounds-2.ensures.bounds ∙ ap (λ (p : Program). p.bounds) c.reduced.ensures) in
@@ -72,35 +71,6 @@ returns-in-New-clause-judged c =
     let accepted = accepted_by core cut local (lent_of c.rows-2.result) c.rows-2.result.whole.now c.scope-bounds.result.now (length c.args.first.now.row.entries) row c.rows-2.ensures.lent c.rows-2.ensures.whole boxed c.requires.room.0 c.in-Ok.ensures.steps in
     let rests = c.split_rests_on_cutoff-rests.ensures ∙ ap (λ (l : Lent). split_rests l.pool cut) c.rows.ensures.lent in
     let new = c.add_valid.new.self in
-    let added = subst (IsAdded core.pool (row_of row) (scope_of core local) c.split_rests_on_cutoff-rests.result new.pool) c.in-New.is c.in_ok-add_valid-in-Ok.ensures.added in
-    (c.in-New.field-0, split_told core new cut local row c.split_rests_on_cutoff-rests.result (New c.in-New.field-0) accepted rests added)
-
-pub returns-in-Known-clause-judged : goal.returns-in-Known-clause-judged
-returns-in-Known-clause-judged c =
-    let core = c.args.core.now in
-    let local = c.args.local in
-    let boxed : c.scope-bounds.result.now ≡ scope_of core local = c.scope-bounds.ensures ∙ ap (λ b. if local then b else c.bounds-2.result.now) c.bounds.ensures ∙ ap (λ b. if local then core.tree.work.box else b) (c.bounds-2.ensures.bounds ∙ ap (λ (p : Program). p.bounds) c.reduced.ensures) in
-    let formed = c.is_sound.ensures.reduced in
-    let long = scope_long core c.args.node.now local formed c.requires.at_work in
-    let cut = c.args.cut.now in
-    let row : Inequality = record { coefficients = c.split_row.new.first.row.entries; least = c.in-Ok.least } in
-    let accepted = accepted_by core cut local (lent_of c.rows-2.result) c.rows-2.result.whole.now c.scope-bounds.result.now (length c.args.first.now.row.entries) row c.rows-2.ensures.lent c.rows-2.ensures.whole boxed c.requires.room.0 c.in-Ok.ensures.steps in
-    let rests = c.split_rests_on_cutoff-rests.ensures ∙ ap (λ (l : Lent). split_rests l.pool cut) c.rows.ensures.lent in
-    let new = c.add_valid.new.self in
-    let added = subst (IsAdded core.pool (row_of row) (scope_of core local) c.split_rests_on_cutoff-rests.result new.pool) c.in-Known.is c.in_ok-add_valid-in-Ok.ensures.added in
-    (c.in-Known.field-0, split_told core new cut local row c.split_rests_on_cutoff-rests.result (Known c.in-Known.field-0) accepted rests added)
-
-pub returns-in-Full-clause-judged : goal.returns-in-Full-clause-judged
-returns-in-Full-clause-judged c =
-    let core = c.args.core.now in
-    let local = c.args.local in
-    let boxed : c.scope-bounds.result.now ≡ scope_of core local = c.scope-bounds.ensures ∙ ap (λ b. if local then b else c.bounds-2.result.now) c.bounds.ensures ∙ ap (λ b. if local then core.tree.work.box else b) (c.bounds-2.ensures.bounds ∙ ap (λ (p : Program). p.bounds) c.reduced.ensures) in
-    let formed = c.is_sound.ensures.reduced in
-    let long = scope_long core c.args.node.now local formed c.requires.at_work in
-    let cut = c.args.cut.now in
-    let row : Inequality = record { coefficients = c.split_row.new.first.row.entries; least = c.in-Ok.least } in
-    let accepted = accepted_by core cut local (lent_of c.rows-2.result) c.rows-2.result.whole.now c.scope-bounds.result.now (length c.args.first.now.row.entries) row c.rows-2.ensures.lent c.rows-2.ensures.whole boxed c.requires.room.0 c.in-Ok.ensures.steps in
-    let rests = c.split_rests_on_cutoff-rests.ensures ∙ ap (λ (l : Lent). split_rests l.pool cut) c.rows.ensures.lent in
-    let new = c.add_valid.new.self in
-    let added = subst (IsAdded core.pool (row_of row) (scope_of core local) c.split_rests_on_cutoff-rests.result new.pool) c.in-Full.is c.in_ok-add_valid-in-Ok.ensures.added in
-    split_told core new cut local row c.split_rests_on_cutoff-rests.result Full accepted rests added
+    let told = c.in_ok-added-in-Ok.added in
+    subst (IsCutJudged core new cut local) (sym c.judged_row.ensures)
+    (cut_judged core new cut local told (split_told core new cut local row c.split_rests_on_cutoff-rests.result told accepted rests c.in_ok-added-in-Ok.ensures.added))

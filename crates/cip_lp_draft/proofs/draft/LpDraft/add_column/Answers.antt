@@ -1,4 +1,4 @@
-use Rattle.std.proofs.Common.{◌≡◌, None, sym, subst, ◌∙◌}
+use Rattle.std.proofs.Common.{◌≡◌, None, sym, subst}
 use Rattle.cip_mps_rules.specs.MpsWords.{number_in}
 use Rattle.cip_lp_rules.specs.LpPlaces.{Mentions}
 use Rattle.cip_lp_rules.specs.LpFacts.{LpFacts, event_fault}

@@ -1,0 +1,40 @@
+-- Lines of RHS, RANGES and BOUNDS by their sets and what stands behind them.
+use Rattle.std.proofs.Common.{◌≡◌, ℕ, List, [], ◌∷◌, Option, None, Some, refl}
+use Rattle.cip_mps_rules.specs.MpsWords.{BoundKind}
+use Rattle.cip_mps_rules.specs.MpsSayings.{Value, Saying, Miscounted, RightSideLine, RangeLine, BoundLine, no_value, of_set, right_side_said, range_said, plain_bound}
+use Rattle.cip_mps_lines.specs.SetWords.{set_values, set_column}
+
+-- what a line with this set and these values says, if they are there
+abbrev pub values_told : (List ℕ → List Value → Saying) → Option (List ℕ) → Option (List ℕ × List Value) → Saying
+values_told saying first None = Miscounted
+values_told saying first (Some said) = of_set first said.0 (saying said.0 said.1)
+
+pub right_side_told : (first : Option (List ℕ)) (words : List (List ℕ)) → values_told RightSideLine first (set_values words) ≡ right_side_said first words
+right_side_told first [] = refl
+right_side_told first (a ∷ []) = refl
+right_side_told first (a ∷ b ∷ []) = refl
+right_side_told first (a ∷ b ∷ c ∷ []) = refl
+right_side_told first (a ∷ b ∷ c ∷ d ∷ []) = refl
+right_side_told first (a ∷ b ∷ c ∷ d ∷ e ∷ []) = refl
+right_side_told first (a ∷ b ∷ c ∷ d ∷ e ∷ f ∷ words) = refl
+
+pub range_told : (first : Option (List ℕ)) (words : List (List ℕ)) → values_told RangeLine first (set_values words) ≡ range_said first words
+range_told first [] = refl
+range_told first (a ∷ []) = refl
+range_told first (a ∷ b ∷ []) = refl
+range_told first (a ∷ b ∷ c ∷ []) = refl
+range_told first (a ∷ b ∷ c ∷ d ∷ []) = refl
+range_told first (a ∷ b ∷ c ∷ d ∷ e ∷ []) = refl
+range_told first (a ∷ b ∷ c ∷ d ∷ e ∷ f ∷ words) = refl
+
+-- what a bound without a value says with this set and this column, if they are there
+abbrev pub plain_told : BoundKind → Option (List ℕ) → Option (List ℕ × List ℕ) → Saying
+plain_told kind first None = Miscounted
+plain_told kind first (Some said) = of_set first said.0 (BoundLine kind said.0 said.1 no_value)
+
+pub plain_bound_told : (first : Option (List ℕ)) (kind : BoundKind) (words : List (List ℕ)) → plain_told kind first (set_column words) ≡ plain_bound first kind words
+plain_bound_told first kind [] = refl
+plain_bound_told first kind (a ∷ []) = refl
+plain_bound_told first kind (a ∷ b ∷ []) = refl
+plain_bound_told first kind (a ∷ b ∷ c ∷ []) = refl
+plain_bound_told first kind (a ∷ b ∷ c ∷ d ∷ words) = refl
