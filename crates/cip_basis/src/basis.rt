@@ -151,17 +151,16 @@ impl Basis {
         Ok(None)
     }
 
-    /// The point of the basis, where parts of its values are at most so long.
-    pub(crate) fn point(
+    /// Puts the values of the point of the basis into a list; whether all are there, and their parts at most so long.
+    fn put_point(
         &mut self,
-        alloc: Global,
         given: &Given,
         size: Length,
-    ) -> Result<Option<Vec<Frac>>, AllocError> {
-        let mut point = Vec::new(alloc);
+        point: &mut Vec<Frac>,
+    ) -> Result<bool, AllocError> {
         self.is_in_range = true;
-        if !put_loose(&self.guess, given, &mut point)? {
-            return Ok(None);
+        if !put_loose(&self.guess, given, point)? {
+            return Ok(false);
         }
         self.is_in_range = false;
         let are_there = put_right_sides(
@@ -173,17 +172,32 @@ impl Basis {
             &mut self.right,
         )?;
         if !are_there {
-            return Ok(None);
+            return Ok(false);
         }
         let right = self.right.as_slice();
         let out = &mut self.solved;
         if !self.system.solve(right, Direction::Rows, size, out)? {
-            return Ok(None);
+            return Ok(false);
         }
         let columns = self.placement.columns.as_slice();
         put_basic(columns, self.solved.as_slice(), point.as_mut_slice());
         self.is_in_range = true;
-        Ok(Some(point))
+        Ok(true)
+    }
+
+    /// The point of the basis, where parts of its values are at most so long.
+    pub(crate) fn point(
+        &mut self,
+        alloc: Global,
+        given: &Given,
+        size: Length,
+    ) -> Result<Option<Vec<Frac>>, AllocError> {
+        let mut point = Vec::new(alloc);
+        match self.put_point(given, size, &mut point) {
+            Ok(true) => Ok(Some(point)),
+            Ok(false) => Ok(None),
+            Err(_) => Err(AllocError),
+        }
     }
 
     /// Solves for the multipliers of the loose rows at the numbers that are kept for the basic columns.

@@ -1,9 +1,9 @@
 //! The multipliers of a basis, as a combination.
 use crate::placement::{Placement, short};
-use crate::values::scaled;
+use crate::values::{number_at, scaled};
 use cip_frac::Frac;
 use cip_guess::Given;
-use cip_lin::{Combo, RowId, RowMultiple};
+use cip_lin::{Combo, Row, RowId, RowMultiple};
 use std::alloc::{AllocError, Global};
 
 /// A combination without rows.
@@ -62,6 +62,14 @@ fn put_scaled(
     Ok(true)
 }
 
+/// A whole number of a list, 1 past its end.
+fn scale_at(scales: &[u64], place: usize) -> u64 {
+    match scales.get(place) {
+        Some(scale) => *scale,
+        None => 1,
+    }
+}
+
 /// Puts the loose rows with their multipliers, or the opposites of these, into a combination; whether all are in range.
 pub(crate) fn put_multiples(
     given: &Given,
@@ -71,9 +79,10 @@ pub(crate) fn put_multiples(
     is_turned: bool,
     rows: &mut Vec<RowMultiple>,
 ) -> Result<bool, AllocError> {
-    let sized = placement.rows.iter().zip(scales.iter());
-    for ((number, scale), multiplier) in sized.zip(multipliers.iter()) {
-        if !put_scaled(given, *number, *multiplier, *scale, is_turned, rows)? {
+    for (place, number) in placement.rows.iter().enumerate() {
+        let multiplier = number_at(multipliers, place);
+        let scale = scale_at(scales, place);
+        if !put_scaled(given, *number, multiplier, scale, is_turned, rows)? {
             return Ok(false);
         }
     }
@@ -93,6 +102,23 @@ pub(crate) fn put_costs(
     Ok(())
 }
 
+/// Sets the number of a column, if that is a basic one.
+fn set_column(out: &mut [Frac], placement: &Placement, column: u32, number: Frac) {
+    let Some(place) = placement.place(column) else {
+        return;
+    };
+    if let Some(own) = out.get_mut(place) {
+        *own = number;
+    }
+}
+
+/// Sets the numbers of the columns of a row.
+fn set_columns(out: &mut [Frac], placement: &Placement, row: &Row) {
+    for term in row.terms() {
+        set_column(out, placement, term.col, term.coef);
+    }
+}
+
 /// What a basic variable takes of the basic columns: of a column 1 on itself, of a row its coefficients.
 pub(crate) fn put_line(
     given: &Given,
@@ -104,22 +130,9 @@ pub(crate) fn put_line(
     out.resize(placement.columns.len(), Frac::zero())?;
     let columns = given.columns();
     if (variable as usize) < columns {
-        if let Some(place) = placement.place(variable) {
-            if let Some(number) = out.get_mut(place) {
-                *number = Frac::one();
-            }
-        }
-        return Ok(());
-    }
-    let Some(row) = given.row((variable as usize).wrapping_sub(columns)) else {
-        return Ok(());
-    };
-    for term in row.terms() {
-        if let Some(place) = placement.place(term.col) {
-            if let Some(number) = out.get_mut(place) {
-                *number = term.coef;
-            }
-        }
+        set_column(out.as_mut_slice(), placement, variable, Frac::one());
+    } else if let Some(row) = given.row((variable as usize).wrapping_sub(columns)) {
+        set_columns(out.as_mut_slice(), placement, row);
     }
     Ok(())
 }

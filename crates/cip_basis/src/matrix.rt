@@ -49,6 +49,26 @@ fn put_row(
     Ok(true)
 }
 
+/// Puts a row, times what makes it whole on the basic columns, into the matrix; answers by what it is multiplied, none
+/// where that or one of its numbers hasn't 64 bits.
+fn put_whole_row(
+    row: &Row,
+    place: usize,
+    placement: &Placement,
+    system: &mut System,
+    scratch: &mut Vec<Frac>,
+) -> Result<Option<u64>, AllocError> {
+    list_coefficients(row, placement, scratch)?;
+    let Some(common) = common_denominator(scratch.as_slice()) else {
+        return Ok(None);
+    };
+    match put_row(row, place, common, placement, system) {
+        Ok(true) => Ok(Some(common)),
+        Ok(false) => Ok(None),
+        Err(error) => Err(error),
+    }
+}
+
 /// Makes the matrix, and lists by what its rows are multiplied; whether its numbers have 64 bits.
 pub(crate) fn make_matrix(
     alloc: Global,
@@ -64,13 +84,9 @@ pub(crate) fn make_matrix(
         let Some(row) = given.row(*number as usize) else {
             return Ok(false);
         };
-        list_coefficients(row, placement, scratch)?;
-        let Some(common) = common_denominator(scratch.as_slice()) else {
-            return Ok(false);
-        };
-        scales.push(common)?;
-        if !put_row(row, place, common, placement, system)? {
-            return Ok(false);
+        match put_whole_row(row, place, placement, system, scratch)? {
+            Some(common) => scales.push(common)?,
+            None => return Ok(false),
         }
     }
     Ok(true)

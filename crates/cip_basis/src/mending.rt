@@ -1,5 +1,6 @@
 //! Multipliers of rows, mended until each rest of a column may lie on a side of it.
 use crate::placement::short;
+use crate::values::number_at;
 use cip_frac::Frac;
 use cip_guess::{Given, rounded_outward};
 use cip_lin::{Row, Sides};
@@ -59,10 +60,7 @@ fn count_spoiled(given: &Given, rests: &[Frac], row: &Row, multiplier: Frac) -> 
     let mut count = 0usize;
     for term in row.terms() {
         let column = term.col as usize;
-        let mut left = match rests.get(column) {
-            Some(rest) => *rest,
-            None => Frac::zero(),
-        };
+        let mut left = number_at(rests, column);
         if !left.add_product(&opposite, &term.coef) {
             return None;
         }
@@ -107,6 +105,30 @@ fn growth(rest: Frac, coef: Frac, sides: Sides) -> Option<Frac> {
     } else {
         rounded_outward(by)
     }
+}
+
+/// A multiplier grows; whether it stays in range.
+fn grow_at(multipliers: &mut [Frac], number: usize, by: Frac) -> bool {
+    match multipliers.get_mut(number) {
+        Some(multiplier) => multiplier.add_assign(by),
+        None => true,
+    }
+}
+
+/// Lists the columns of a row whose rests have no side.
+fn list_spoiled_of(
+    given: &Given,
+    row: &Row,
+    rests: &[Frac],
+    spoiled: &mut Vec<u32>,
+) -> Result<(), AllocError> {
+    for term in row.terms() {
+        let column = term.col as usize;
+        if is_spoiled(given, column, number_at(rests, column)) {
+            spoiled.push(term.col)?;
+        }
+    }
+    Ok(())
 }
 
 impl Mending {
@@ -163,10 +185,7 @@ impl Mending {
 
     /// The rest of a column.
     fn rest(&self, column: u32) -> Frac {
-        match self.rests.get(column as usize) {
-            Some(rest) => *rest,
-            None => Frac::zero(),
-        }
+        number_at(self.rests.as_slice(), column as usize)
     }
 
     /// The row that takes the rest of a column and spoils the fewest columns, with by how much its multiplier grows.
@@ -194,19 +213,13 @@ impl Mending {
         let Some(row) = given.row(number) else {
             return Ok(false);
         };
-        if let Some(multiplier) = self.multipliers.get_mut(number) {
-            if !multiplier.add_assign(by) {
-                return Ok(false);
-            }
+        if !grow_at(self.multipliers.as_mut_slice(), number, by) {
+            return Ok(false);
         }
         if !take_off(self.rests.as_mut_slice(), row, by) {
             return Ok(false);
         }
-        for term in row.terms() {
-            if is_spoiled(given, term.col as usize, self.rest(term.col)) {
-                self.spoiled.push(term.col)?;
-            }
-        }
+        list_spoiled_of(given, row, self.rests.as_slice(), &mut self.spoiled)?;
         Ok(true)
     }
 

@@ -18,6 +18,45 @@ pub(crate) struct Placement {
     places: Vec<u32>,
 }
 
+/// Puts a column at the end, with its place among the basic ones, if it is one.
+fn push_column(
+    columns: &mut Vec<u32>,
+    places: &mut Vec<u32>,
+    number: u32,
+    is_basic: bool,
+) -> Result<(), AllocError> {
+    if !is_basic {
+        return push_number(places, NOWHERE);
+    }
+    push_number(places, short(columns.len()))?;
+    push_number(columns, number)
+}
+
+/// Puts a number at the end.
+fn push_number(numbers: &mut Vec<u32>, number: u32) -> Result<(), AllocError> {
+    if numbers.push(number).is_err() {
+        return Err(AllocError);
+    }
+    Ok(())
+}
+
+/// Lists the basic columns, and for each column its place among them.
+fn list_columns(
+    columns: &mut Vec<u32>,
+    places: &mut Vec<u32>,
+    guess: &Guess,
+    given: &Given,
+) -> Result<(), AllocError> {
+    columns.clear();
+    places.clear();
+    for column in 0..given.columns() {
+        let number = short(column);
+        let is_basic = guess.standing(number) == Standing::Basic;
+        push_column(columns, places, number, is_basic)?;
+    }
+    Ok(())
+}
+
 impl Placement {
     /// Nothing.
     pub(crate) fn new(alloc: Global) -> Placement {
@@ -26,22 +65,6 @@ impl Placement {
             rows: Vec::new(alloc),
             places: Vec::new(alloc),
         }
-    }
-
-    /// Lists the basic columns.
-    fn list_columns(&mut self, guess: &Guess, given: &Given) -> Result<(), AllocError> {
-        self.columns.clear();
-        self.places.clear();
-        for column in 0..given.columns() {
-            let number = short(column);
-            if guess.standing(number) == Standing::Basic {
-                self.places.push(short(self.columns.len()))?;
-                self.columns.push(number)?;
-            } else {
-                self.places.push(NOWHERE)?;
-            }
-        }
-        Ok(())
     }
 
     /// Lists the loose rows.
@@ -58,7 +81,7 @@ impl Placement {
 
     /// Lists both; whether there are as many.
     pub(crate) fn list(&mut self, guess: &Guess, given: &Given) -> Result<bool, AllocError> {
-        self.list_columns(guess, given)?;
+        list_columns(&mut self.columns, &mut self.places, guess, given)?;
         self.list_rows(guess, given)?;
         Ok(self.columns.len() == self.rows.len())
     }

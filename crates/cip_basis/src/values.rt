@@ -5,6 +5,14 @@ use cip_guess::{Given, Guess, Standing};
 use cip_lin::{Row, Sides};
 use std::alloc::AllocError;
 
+/// A number of a list, 0 past its end.
+pub(crate) fn number_at(numbers: &[Frac], place: usize) -> Frac {
+    match numbers.get(place) {
+        Some(number) => *number,
+        None => Frac::zero(),
+    }
+}
+
 /// The value of a variable where it stands; 0 of a basic one, none where the side isn't there.
 fn standing_value(standing: Standing, sides: Sides) -> Option<Frac> {
     match standing {
@@ -70,6 +78,21 @@ fn right_side(row: &Row, standing: Standing, point: &[Frac], scale: u64) -> Opti
     }
 }
 
+/// The right side of a loose row, by its number; none where that isn't there.
+fn right_of(
+    guess: &Guess,
+    given: &Given,
+    number: usize,
+    point: &[Frac],
+    scale: u64,
+) -> Option<Frac> {
+    let standing = guess.standing(short(given.columns().wrapping_add(number)));
+    match given.row(number) {
+        Some(row) => right_side(row, standing, point, scale),
+        None => None,
+    }
+}
+
 /// The right sides of the loose rows; whether all are there.
 pub(crate) fn put_right_sides(
     guess: &Guess,
@@ -80,14 +103,11 @@ pub(crate) fn put_right_sides(
     out: &mut Vec<Frac>,
 ) -> Result<bool, AllocError> {
     out.clear();
-    for (number, scale) in placement.rows.iter().zip(scales.iter()) {
-        let place = *number as usize;
-        let standing = guess.standing(short(given.columns().wrapping_add(place)));
-        let right = match given.row(place) {
-            Some(row) => right_side(row, standing, point, *scale),
-            None => None,
+    for (place, number) in placement.rows.iter().enumerate() {
+        let Some(scale) = scales.get(place) else {
+            return Ok(true);
         };
-        match right {
+        match right_of(guess, given, *number as usize, point, *scale) {
             Some(value) => out.push(value)?,
             None => return Ok(false),
         }
@@ -95,11 +115,18 @@ pub(crate) fn put_right_sides(
     Ok(true)
 }
 
+/// Sets the value of a column.
+fn set_value(point: &mut [Frac], column: usize, value: Frac) {
+    if let Some(place) = point.get_mut(column) {
+        *place = value;
+    }
+}
+
 /// Puts the values of the basic columns into the point.
 pub(crate) fn put_basic(columns: &[u32], values: &[Frac], point: &mut [Frac]) {
-    for (column, value) in columns.iter().zip(values.iter()) {
-        if let Some(place) = point.get_mut(*column as usize) {
-            *place = *value;
+    for (place, column) in columns.iter().enumerate() {
+        if let Some(value) = values.get(place) {
+            set_value(point, *column as usize, *value);
         }
     }
 }

@@ -1,4 +1,5 @@
 pub mod Cleared
+pub mod EntryParts
 pub mod Meaning
 pub mod Pools
 pub mod Released

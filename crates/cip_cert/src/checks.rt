@@ -1,7 +1,9 @@
 //! The checks, each over the row of a scratch.
-ghost use Rattle.std.specs.Prelude.{◌≡◌, ◌≤◌, length, Ok, Err, MatchResult};
+ghost use Rattle.std.specs.Prelude.{◌≡◌, ◌≤◌, List, length, Result, Ok, Err, MatchResult};
+ghost use Rattle.cip_rational.specs.Rational.{ℚ};
 ghost use Rattle.cip_cert.specs.Lent.{lent_of, Fits, multiples_of};
-ghost use Rattle.cip_cert.specs.Checks.{derived, lower_bound_of, rests_of, emptied};
+ghost use Rattle.cip_cert.specs.Checks.{chain, aggregate_of, derived, lower_bound_of, rests_from, rests_of, emptied};
+ghost use Rattle.cip_cert.specs.declared.faults.CutFault.{CutFault};
 
 use crate::aggregate::aggregate;
 use crate::faults::CutFault;
@@ -65,8 +67,9 @@ pub(crate) fn lower_bound_row(
     bound(costs, row.entries(), bounds.as_slice(), least)
 }
 
-/// What costs of 0, or the coefficient of one column alone, come to at least by a combination.
-fn rests_row(
+/// What costs of 0, or the coefficient of one column alone, come to at least by a combination; its row of coefficients
+/// is left behind for what comes after that.
+pub(crate) fn rests_row(
     rows: &Rows<'_>,
     bounds: &Bounds,
     named: Option<u32>,
@@ -77,6 +80,10 @@ fn rests_row(
     requires room { length bounds.now ≤ length row.old.entries }
     ensures steps { result ≡ rests_of (lent_of rows.entry.now) bounds.now (length row.old.entries) named
         (multiples_of combo.now) }
+    ensures next { (more : List ℚ → ℚ → Result ℚ CutFault)
+        → chain (aggregate_of (lent_of rows.entry.now) bounds.now (length row.old.entries) (multiples_of combo.now))
+        (λ summed. chain (rests_from named 0 summed.least summed.coefficients bounds.now) (more summed.coefficients))
+        ≡ chain result (more row.new.entries) }
     ensures columns { length row.new.entries ≡ length row.old.entries }
 {
     let least = match aggregate(rows, bounds, combo, row) {

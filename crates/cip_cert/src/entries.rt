@@ -3,7 +3,7 @@ ghost use Rattle.std.specs.Prelude.{◌≡◌, ◌+◌, ◌≤◌, length, Ok, E
 ghost use Rattle.cip_problem.specs.Activity.{StandsBelow};
 ghost use Rattle.cip_cert.specs.Pool.{pool_row, AreRising};
 ghost use Rattle.cip_cert.specs.Lent.{lent_of, KeptFits, Fits};
-ghost use Rattle.cip_cert.specs.Checks.{most_multiples, chain, in_scope, add_part, row_part, add_row, add_low, add_high, add_rows, add_lows, add_highs};
+ghost use Rattle.cip_cert.specs.Checks.{most_multiples, chain, in_scope, named_row, add_part, row_part, add_row, add_low, add_high, add_rows, add_lows, add_highs};
 
 use crate::faults::CutFault;
 use crate::lookup::pool_place;
@@ -39,26 +39,19 @@ fn add_multiple(
     }
 }
 
-/// Adds a multiple of a row of the pool.
-fn add_kept(
-    pool: &[PoolRow],
-    id: u64,
+/// The row of the pool with an id, if the box lies in its scope.
+fn kept_row<'a>(
+    pool: &'a [PoolRow],
     bounds: &Bounds,
     entry: usize,
-    factor: Frac,
-    least: Frac,
-    row: &mut SparseRow,
-) -> Result<Frac, CutFault>
+    id: u64,
+) -> Result<&'a Row, CutFault>
     requires rising { AreRising pool.now }
     requires fits { All (KeptFits (length bounds.now)) pool.now }
-    requires room { length bounds.now ≤ length row.old.entries }
-    ensures steps { MatchResult result
-        (λ more. chain (chain (in_scope entry bounds.now (pool_row pool.now id)) (row_part entry factor))
-        (add_part entry (record { coefficients = row.old.entries; least = least }))
-        ≡ Ok (record { coefficients = row.new.entries; least = more }))
-        (λ fault. chain (chain (in_scope entry bounds.now (pool_row pool.now id)) (row_part entry factor))
-        (add_part entry (record { coefficients = row.old.entries; least = least })) ≡ Err fault) }
-    ensures columns { length row.new.entries ≡ length row.old.entries }
+    ensures { MatchResult result
+        (λ row. (in_scope entry bounds.now (pool_row pool.now id) ≡ Ok row.now)
+        × StandsBelow (length bounds.now) row.now.terms)
+        (λ fault. in_scope entry bounds.now (pool_row pool.now id) ≡ Err fault) }
 {
     let Some(place) = pool_place(pool, id) else {
         return Err(CutFault::UnknownRow { entry });
@@ -67,7 +60,33 @@ fn add_kept(
     if !bounds.inside(&kept.scope) {
         return Err(CutFault::NotInScope { entry });
     }
-    add_multiple(entry, factor, &kept.row, least, row)
+    Ok(&kept.row)
+}
+
+/// The row that an entry names.
+fn named_row<'a>(
+    rows: &Rows<'a>,
+    bounds: &Bounds,
+    entry: usize,
+    name: RowId,
+) -> Result<&'a Row, CutFault>
+    requires { Fits (length bounds.now) (lent_of rows.now) }
+    ensures { MatchResult result
+        (λ row. (named_row (lent_of rows.now) bounds.now entry name ≡ Ok row.now)
+        × StandsBelow (length bounds.now) row.now.terms)
+        (λ fault. named_row (lent_of rows.now) bounds.now entry name ≡ Err fault) }
+{
+    match name {
+        RowId::Own(number) => match rows.own.get(number as usize) {
+            Some(row) => Ok(row),
+            None => Err(CutFault::UnknownRow { entry }),
+        },
+        RowId::Pool(id) => kept_row(rows.pool, bounds, entry, id),
+        RowId::Cutoff => match rows.cutoff {
+            Some(row) => Ok(row),
+            None => Err(CutFault::UnknownRow { entry }),
+        },
+    }
 }
 
 /// Adds an entry that names a row.
@@ -89,20 +108,9 @@ fn add_row(
         (record { coefficients = row.old.entries; least = least }) ≡ Err fault) }
     ensures columns { length row.new.entries ≡ length row.old.entries }
 {
-    let factor = multiple.factor;
-    match multiple.row {
-        RowId::Own(number) => {
-            if (number as usize) < rows.own.len() {
-                add_multiple(entry, factor, &rows.own[number as usize], least, row)
-            } else {
-                Err(CutFault::UnknownRow { entry })
-            }
-        }
-        RowId::Pool(id) => add_kept(rows.pool, id, bounds, entry, factor, least, row),
-        RowId::Cutoff => match rows.cutoff {
-            Some(named) => add_multiple(entry, factor, named, least, row),
-            None => Err(CutFault::UnknownRow { entry }),
-        },
+    match named_row(rows, bounds, entry, multiple.row) {
+        Ok(named) => add_multiple(entry, multiple.factor, named, least, row),
+        Err(fault) => Err(fault),
     }
 }
 

@@ -4,11 +4,10 @@ ghost use Rattle.cip_rational.specs.Rational.{zeroℚ, le_test};
 ghost use Rattle.cip_cert.specs.Lent.{lent_of, Fits, multiples_of};
 ghost use Rattle.cip_cert.specs.Checks.{quotient_at, round_up_if, round_down_if, implied_low, implied_high, low_allowed, high_allowed, low_reduced, high_reduced};
 
-use crate::aggregate::aggregate;
+use crate::checks::rests_row;
 use crate::faults::{CutFault, FaultPlace};
 use crate::rows::Rows;
 use crate::sparse::SparseRow;
-use crate::walks::rests;
 use cip_frac::Frac;
 use cip_lin::{Bounds, Combo};
 
@@ -116,13 +115,7 @@ pub(crate) fn low_reduced_row(
         (multiples_of combo.now) }
     ensures columns { length row.new.entries ≡ length row.old.entries }
 {
-    let least = match aggregate(rows, bounds, combo, row) {
-        Ok(least) => least,
-        Err(fault) => return Err(fault),
-    };
-    row.sort();
-    let sides = bounds.as_slice();
-    let bound = match rests(Some(column), row.entries(), row.touched(), sides, least) {
+    let bound = match rests_row(rows, bounds, Some(column), combo, row) {
         Ok(bound) => bound,
         Err(fault) => return Err(fault),
     };
@@ -151,13 +144,7 @@ pub(crate) fn high_reduced_row(
         (multiples_of combo.now) }
     ensures columns { length row.new.entries ≡ length row.old.entries }
 {
-    let least = match aggregate(rows, bounds, combo, row) {
-        Ok(least) => least,
-        Err(fault) => return Err(fault),
-    };
-    row.sort();
-    let sides = bounds.as_slice();
-    let bound = match rests(Some(column), row.entries(), row.touched(), sides, least) {
+    let bound = match rests_row(rows, bounds, Some(column), combo, row) {
         Ok(bound) => bound,
         Err(fault) => return Err(fault),
     };

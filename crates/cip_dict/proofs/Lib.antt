@@ -26,6 +26,7 @@ pub mod Settled
 pub mod SparseLines
 pub mod TakenValues
 pub mod Unchanged
+pub mod WideProducts
 pub mod WholeLines
 pub mod WholeLoops
 pub mod WholeParts

@@ -402,6 +402,41 @@ fn ensure_spelled(line: &Form, spelled: &mut Spelled) -> Result<(), AllocError>
     Ok(())
 }
 
+/// Writes another line by fractions; the row of the variable that enters, `new`, is spelled, where that isn't done.
+fn write_by_fractions(
+    line: Line,
+    pivot: &Pivot,
+    new: &Form,
+    row: &Form,
+    out: &mut Form,
+    scratch: &mut Scratch,
+) -> Result<(), MoveFault>
+    requires few { length pivot.now.standing.now < 2 ^ 32 }
+    requires entering { pivot.now.entering < length pivot.now.standing.now }
+    requires leaving { pivot.now.leaving < length pivot.now.standing.now }
+    requires new_long { length new.now ≡ length pivot.now.standing.now }
+    requires new_spelled { HasSpelled new.now scratch.old.entering }
+    requires row_long { length row.now ≡ length pivot.now.standing.now }
+    requires out_long { length out.old ≡ length pivot.now.standing.now }
+    requires is_leaving { value_at new.now pivot.now.leaving ≡ pivot.now.inverse }
+    ensures written { let n = length pivot.now.standing.now in
+        let operations = each n (substituted_operations_by line pivot.now (value_at new.now) (value_at row.now)) in
+        MatchResult result
+        (λ _. (first_overflow operations ≡ None)
+        × (out.new ≡ table n (substituted_by pivot.now (value_at new.now) (value_at row.now))))
+        (IsMoveFault operations) }
+    ensures long { length out.new ≡ length pivot.now.standing.now }
+    ensures spelled { HasSpelled new.now scratch.new.entering }
+{
+    match ensure_spelled(new, &mut scratch.entering) {
+        Ok(()) => {
+            let entries = scratch.entering.entries.as_slice();
+            write_parted(line, pivot, entries, row, out, &mut scratch.row)
+        }
+        Err(_) => Err(MoveFault::NoMemory),
+    }
+}
+
 /// Writes another line: the row of the variable that enters, `new`, put in its place. In `scratch` that row is spelled,
 /// where a line needs it so.
 pub(crate) fn write_substituted(
@@ -429,16 +464,10 @@ pub(crate) fn write_substituted(
     ensures spelled { HasSpelled new.now scratch.new.entering }
 {
     match put_form(pivot, new, row, out, &mut scratch.sums) {
-        Ok(true) => return Ok(()),
-        Ok(false) => (),
-        Err(_) => return Err(MoveFault::NoMemory),
+        Ok(true) => Ok(()),
+        Ok(false) => write_by_fractions(line, pivot, new, row, out, scratch),
+        Err(_) => Err(MoveFault::NoMemory),
     }
-    match ensure_spelled(new, &mut scratch.entering) {
-        Ok(()) => (),
-        Err(_) => return Err(MoveFault::NoMemory),
-    }
-    let entries = scratch.entering.entries.as_slice();
-    write_parted(line, pivot, entries, row, out, &mut scratch.row)
 }
 
 /// The entry of a line on variable k.

@@ -40,27 +40,38 @@ short_size a f = omega (arith, ints, f)
 step_total : (n z : ℤ) → unsigned_abs n < 2 ^ 126 → unsigned_abs z ≤ 2 ^ 126 → unsigned_abs (n +ℤ z) < 2 ^ 127
 step_total n z p q = omega (arith, ints, p, q)
 
--- a product of two integers of 64 bits added to a third of 126
-module _ (n a b : ℤ) (fn : FitsSigned w128 n) (fa : FitsSigned w64 a) (fb : FitsSigned w64 b) (sn : unsigned_abs n < 2 ^ 126) where
-  kept_n : to_z w128 (of_z w128 n) ≡ n
-  kept_n = to_z-of_z w128 n fn
-
+-- a product of two integers of 64 bits
+module _ (a b : ℤ) (fa : FitsSigned w64 a) (fb : FitsSigned w64 b) where
   product_small : unsigned_abs (a *ℤ b) ≤ 2 ^ 126
   product_small =
       let h : unsigned_abs a * unsigned_abs b ≤ 2 ^ 63 * 2 ^ 63 = mul-le-mul (short_size a fa) (short_size b fb) in
       rw (unsigned_abs-mul a b) (omega arith)
 
+  pub product_below : unsigned_abs (a *ℤ b) < 2 ^ 127
+  product_below = omega (arith, product_small)
+
   product_kept : to_z w128 (of_z w128 (a *ℤ b)) ≡ a *ℤ b
-  product_kept = kept (a *ℤ b) (omega (arith, product_small))
+  product_kept = kept (a *ℤ b) product_below
+
+  pub product_fits : FitsSigned w128 (to_z w128 (of_z w128 (to_z w64 (of_z w64 a))) *ℤ to_z w128 (of_z w128 (to_z w64 (of_z w64 b))))
+  product_fits = rw (widened a fa, widened b fb) (fits_signed_from_abs w128 (a *ℤ b) product_below)
+
+  pub product_is : to_z w128 (of_z w128 (to_z w128 (of_z w128 (to_z w64 (of_z w64 a))) *ℤ to_z w128 (of_z w128 (to_z w64 (of_z w64 b))))) ≡ a *ℤ b
+  product_is = rw (widened a fa, widened b fb) product_kept
+
+-- and that added to a third of 126
+module _ (n a b : ℤ) (fn : FitsSigned w128 n) (fa : FitsSigned w64 a) (fb : FitsSigned w64 b) (sn : unsigned_abs n < 2 ^ 126) where
+  kept_n : to_z w128 (of_z w128 n) ≡ n
+  kept_n = to_z-of_z w128 n fn
 
   total_below : unsigned_abs (n +ℤ a *ℤ b) < 2 ^ 127
-  total_below = step_total n (a *ℤ b) sn product_small
+  total_below = step_total n (a *ℤ b) sn (product_small a b fa fb)
 
   pub whole_step_fits : FitsSigned w128 (to_z w128 (of_z w128 n) +ℤ to_z w128 (of_z w128 (to_z w128 (of_z w128 (to_z w64 (of_z w64 a))) *ℤ to_z w128 (of_z w128 (to_z w64 (of_z w64 b))))))
-  whole_step_fits = rw (kept_n, widened a fa, widened b fb, product_kept) (fits_signed_from_abs w128 (n +ℤ a *ℤ b) total_below)
+  whole_step_fits = rw (kept_n, product_is a b fa fb) (fits_signed_from_abs w128 (n +ℤ a *ℤ b) total_below)
 
   pub whole_step_is : to_z w128 (of_z w128 (to_z w128 (of_z w128 n) +ℤ to_z w128 (of_z w128 (to_z w128 (of_z w128 (to_z w64 (of_z w64 a))) *ℤ to_z w128 (of_z w128 (to_z w64 (of_z w64 b))))))) ≡ n +ℤ a *ℤ b
-  whole_step_is = rw (kept_n, widened a fa, widened b fb, product_kept) (kept (n +ℤ a *ℤ b) total_below)
+  whole_step_is = rw (kept_n, product_is a b fa fb) (kept (n +ℤ a *ℤ b) total_below)
 
   pub whole_step_small : unsigned_abs (to_z w128 (of_z w128 (to_z w128 (of_z w128 n) +ℤ to_z w128 (of_z w128 (to_z w128 (of_z w128 (to_z w64 (of_z w64 a))) *ℤ to_z w128 (of_z w128 (to_z w64 (of_z w64 b)))))))) < 2 ^ 127
   whole_step_small = rw whole_step_is total_below

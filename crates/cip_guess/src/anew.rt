@@ -35,11 +35,8 @@ fn greatest(
     let mut found = None;
     let mut most = least;
     for (line, item) in table.lines.iter().enumerate() {
-        if !leaves(variables, item.variable, columns) {
-            continue;
-        }
         let size = entry_at(item.entries.as_slice(), place).saturating_abs();
-        if size > most {
+        if size > most && leaves(variables, item.variable, columns) {
             most = size;
             found = Some(line);
         }

@@ -78,6 +78,22 @@ fn pick_at(
     })
 }
 
+/// Puts the loose variables that may enter at the end of a list, in the order of their places.
+fn put_picks(
+    table: &Table,
+    variables: &Variables,
+    entries: &[i64],
+    rises: bool,
+    picks: &mut Vec<Pick>,
+) -> Result<(), Stop> {
+    for (place, entry) in entries.iter().enumerate() {
+        if let Some(pick) = pick_at(table, variables, place, *entry, rises) {
+            picks.push(pick)?;
+        }
+    }
+    Ok(())
+}
+
 /// Lists the loose variables that may enter.
 pub(crate) fn list_picks(
     table: &Table,
@@ -90,11 +106,7 @@ pub(crate) fn list_picks(
         return Ok(());
     };
     let rises = leaving.standing == Standing::Low;
-    for (place, entry) in line.entries.iter().enumerate() {
-        if let Some(pick) = pick_at(table, variables, place, *entry, rises) {
-            picks.push(pick)?;
-        }
-    }
+    put_picks(table, variables, line.entries.as_slice(), rises, picks)?;
     picks.sort_unstable();
     Ok(())
 }
@@ -205,6 +217,41 @@ pub(crate) fn tight_tolerances() -> Tolerances {
     }
 }
 
+/// The first picks go to their other sides, and the basic variables follow.
+fn turn_before(
+    table: &Table,
+    variables: &mut Variables,
+    before: &[Pick],
+    ways: &mut Vec<(usize, i64)>,
+) -> Result<(), Stop> {
+    if before.is_empty() {
+        return Ok(());
+    }
+    turn_first(table, variables, before, ways)?;
+    follow_all(table, variables, ways.as_slice())
+}
+
+/// A dual move by these picks.
+fn move_by_picks(
+    table: &mut Table,
+    variables: &mut Variables,
+    picks: &[Pick],
+    ways: &mut Vec<(usize, i64)>,
+    leaving: Leaving,
+    tolerances: Tolerances,
+) -> Result<bool, Stop> {
+    let passed = count_passed(table, variables, picks, leaving.gap, tolerances.outside);
+    let Some((before, behind)) = picks.split_at_checked(passed) else {
+        return Ok(false);
+    };
+    let Some(pick) = best_pick(behind, tolerances.rate) else {
+        return Ok(false);
+    };
+    turn_before(table, variables, before, ways)?;
+    exchange(table, variables, leaving.line, pick.place, leaving.standing)?;
+    Ok(true)
+}
+
 /// A dual move: the variable that is outside leaves, after those that go to their other sides. Answers whether there is
 /// one; where there isn't, that line can't be mended.
 pub(crate) fn dual_move(
@@ -216,17 +263,12 @@ pub(crate) fn dual_move(
 ) -> Result<bool, Stop> {
     list_picks(table, variables, leaving, &mut lists.picks)?;
     let picks = lists.picks.as_slice();
-    let passed = count_passed(table, variables, picks, leaving.gap, tolerances.outside);
-    let Some((before, behind)) = picks.split_at_checked(passed) else {
-        return Ok(false);
-    };
-    let Some(pick) = best_pick(behind, tolerances.rate) else {
-        return Ok(false);
-    };
-    if !before.is_empty() {
-        turn_first(table, variables, before, &mut lists.ways)?;
-        follow_all(table, variables, lists.ways.as_slice())?;
-    }
-    exchange(table, variables, leaving.line, pick.place, leaving.standing)?;
-    Ok(true)
+    move_by_picks(
+        table,
+        variables,
+        picks,
+        &mut lists.ways,
+        leaving,
+        tolerances,
+    )
 }

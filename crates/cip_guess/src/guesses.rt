@@ -38,7 +38,7 @@ pub enum Outcome {
 }
 
 /// One step of a guess.
-#[derive(Clone, Copy, PartialEq, Eq)]
+#[derive(Clone, Copy)]
 enum Step {
     Moved,
     Ended(Outcome),

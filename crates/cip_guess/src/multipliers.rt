@@ -1,6 +1,7 @@
 //! Multipliers of rows, rounded.
 use crate::fixed::{BITS, narrow, raised, short_bit_length};
 use crate::given::number_of;
+use crate::table::entry_at;
 use crate::variables::Variables;
 use cip_lin::Frac;
 use std::alloc::AllocError;
@@ -106,10 +107,10 @@ pub(crate) fn list_rounded(
     out: &mut Vec<RowMultiplier>,
 ) -> Result<bool, AllocError> {
     out.clear();
-    for (entry, number) in entries.iter().zip(loose.iter()) {
+    for (place, number) in loose.iter().enumerate() {
         let one = Loose {
             variable: *number as usize,
-            entry: *entry,
+            entry: entry_at(entries, place),
             own,
         };
         if !list_loose(one, variables, columns, out)? {

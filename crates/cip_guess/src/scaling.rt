@@ -78,11 +78,14 @@ fn scale_row(row: &Row, variable: usize, variables: &mut Variables, spans: &mut 
 
 /// Scales the rows, and takes them into the spans of the columns.
 fn scale_rows(given: &Given, variables: &mut Variables, spans: &mut [Span]) {
-    for number in 0..given.rows() {
-        if let Some(row) = given.row(number) {
-            let variable = given.columns().wrapping_add(number);
-            scale_row(row, variable, variables, spans);
-        }
+    let mut variable = given.columns();
+    for row in given.own {
+        scale_row(row, variable, variables, spans);
+        variable = variable.wrapping_add(1);
+    }
+    for row in given.others {
+        scale_row(row, variable, variables, spans);
+        variable = variable.wrapping_add(1);
     }
 }
 

@@ -32,6 +32,17 @@ pub(crate) struct Table {
     work: u64,
 }
 
+/// What a line that is solved for the loose variable at a place takes of it, or of another one whose entry this is.
+#[inline]
+fn solved(entry: i64, is_own: bool, divisor: i64) -> Result<i64, Stop> {
+    if is_own {
+        quotient(UNIT, divisor)
+    } else {
+        let over = quotient(entry, divisor)?;
+        Ok(over.wrapping_neg())
+    }
+}
+
 /// Solves a line for the loose variable at a place; leaves what it then takes of each loose one, and answers the bits
 /// of the greatest.
 fn solve_line(
@@ -46,14 +57,10 @@ fn solve_line(
         if *entry == 0 {
             continue;
         }
-        let solved = if at == place {
-            quotient(UNIT, divisor)?
-        } else {
-            quotient(*entry, divisor)?.wrapping_neg()
-        };
-        *entry = solved;
-        seen |= solved.unsigned_abs();
-        pivot.push((at, solved))?;
+        let number = solved(*entry, at == place, divisor)?;
+        *entry = number;
+        seen |= number.unsigned_abs();
+        pivot.push((at, number))?;
     }
     Ok(short_bit_length(seen))
 }
@@ -88,9 +95,7 @@ fn put_in(
     if bits.wrapping_sub(BITS as i32) > 59 {
         return Err(Stop::GaveUp);
     }
-    if let Some(entry) = entries.get_mut(place) {
-        *entry = 0;
-    }
+    set_entry(entries, place, 0);
     if add_multiple(entries, pivot, factor) >= MOST as u64 {
         return Err(Stop::GaveUp);
     }
@@ -181,6 +186,49 @@ fn set_loose(loose: &mut [u32], place: usize, variable: u32) {
     }
 }
 
+/// Makes all columns loose, in their order.
+fn fill_loose(columns: usize, loose: &mut Vec<u32>) -> Result<(), Stop> {
+    loose.clear();
+    for column in 0..columns {
+        loose.push(number_of(column))?;
+    }
+    Ok(())
+}
+
+/// Puts the cost of a column at the end.
+fn put_cost(
+    given: &Given,
+    variables: &Variables,
+    up: i32,
+    column: usize,
+    costs: &mut Vec<i64>,
+) -> Result<(), Stop> {
+    let cost = fixed(given.cost(column), up.wrapping_sub(variables.up(column)))?;
+    costs.push(cost)?;
+    Ok(())
+}
+
+/// Fills the costs.
+fn fill_costs(
+    given: &Given,
+    variables: &Variables,
+    up: i32,
+    costs: &mut Vec<i64>,
+) -> Result<(), Stop> {
+    costs.clear();
+    for column in 0..given.columns() {
+        put_cost(given, variables, up, column, costs)?;
+    }
+    Ok(())
+}
+
+/// Puts a number at a place of a line.
+fn set_entry(entries: &mut [i64], place: usize, number: i64) {
+    if let Some(entry) = entries.get_mut(place) {
+        *entry = number;
+    }
+}
+
 /// Fills a line by a row.
 fn fill_line(
     entries: &mut Vec<i64>,
@@ -194,9 +242,7 @@ fn fill_line(
     for term in row.terms() {
         let column = term.col as usize;
         let number = fixed(term.coef, up.wrapping_sub(variables.up(column)))?;
-        if let Some(entry) = entries.get_mut(column) {
-            *entry = number;
-        }
+        set_entry(entries.as_mut_slice(), column, number);
     }
     Ok(())
 }
@@ -282,19 +328,6 @@ impl Table {
         Ok(())
     }
 
-    /// Fills the costs.
-    fn fill_costs(&mut self, given: &Given, variables: &Variables, up: i32) -> Result<(), Stop> {
-        self.costs.clear();
-        self.loose.clear();
-        for column in 0..given.columns() {
-            let power = up.wrapping_sub(variables.up(column));
-            let cost = fixed(given.cost(column), power)?;
-            self.costs.push(cost)?;
-            self.loose.push(number_of(column))?;
-        }
-        Ok(())
-    }
-
     /// The table of the rows, in which no column is basic.
     pub(crate) fn fill(
         &mut self,
@@ -304,7 +337,8 @@ impl Table {
         up: i32,
     ) -> Result<(), Stop> {
         self.fill_lines(alloc, given, variables)?;
-        self.fill_costs(given, variables, up)
+        fill_loose(given.columns(), &mut self.loose)?;
+        fill_costs(given, variables, up, &mut self.costs)
     }
 
     /// The variable of a line and the loose one at a place change places.

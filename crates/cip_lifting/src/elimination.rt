@@ -124,6 +124,20 @@ fn set_done(are_done: &mut [bool], number: u32) {
     }
 }
 
+/// Empties the lists of rows and of columns, and has so many of each, none of them done.
+fn ready(
+    alloc: Global,
+    size: usize,
+    is_done: &mut Vec<bool>,
+    rows: &mut Vec<SparseRow>,
+    columns: &mut Columns,
+) -> Result<(), AllocError> {
+    is_done.clear();
+    is_done.resize(size, false)?;
+    ready_lists(alloc, rows, size)?;
+    columns.begin(alloc, size)
+}
+
 impl Elimination {
     /// Nothing.
     pub(crate) fn new(alloc: Global) -> Elimination {
@@ -148,10 +162,13 @@ impl Elimination {
     ) -> Result<(), AllocError> {
         self.operations.clear();
         self.pivots.clear();
-        self.is_done.clear();
-        self.is_done.resize(size, false)?;
-        ready_lists(alloc, &mut self.rows, size)?;
-        self.columns.begin(alloc, size)?;
+        ready(
+            alloc,
+            size,
+            &mut self.is_done,
+            &mut self.rows,
+            &mut self.columns,
+        )?;
         let rows = self.rows.as_mut_slice();
         reduce_rows(matrix, size, &mut self.columns, rows)
     }

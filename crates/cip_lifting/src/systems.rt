@@ -97,6 +97,34 @@ fn divide_rests(rests: &mut [i128]) {
     }
 }
 
+/// Puts a number of a column behind the others of a row.
+#[inline]
+fn put_behind(numbers: &mut Vec<(u32, i64)>, column: usize, number: i64) -> Result<(), AllocError> {
+    numbers.push((short(column), number))?;
+    Ok(())
+}
+
+/// Lists rests modulo the prime.
+fn list_residues(rests: &[i128], residues: &mut Vec<u64>) -> Result<(), AllocError> {
+    residues.clear();
+    for rest in rests {
+        residues.push(residue(*rest))?;
+    }
+    Ok(())
+}
+
+/// Lists right sides times a common denominator; whether they fit.
+fn list_rests(right: &[Frac], common: u64, rests: &mut Vec<i128>) -> Result<bool, AllocError> {
+    rests.clear();
+    for number in right {
+        let Some(rest) = times_whole(*number, common) else {
+            return Ok(false);
+        };
+        rests.push(rest)?;
+    }
+    Ok(true)
+}
+
 impl System {
     /// No system.
     pub fn new(alloc: Global) -> System {
@@ -119,10 +147,10 @@ impl System {
 
     /// Puts a number behind the others of a row, in which columns rise.
     pub fn put(&mut self, row: usize, column: usize, number: i64) -> Result<(), AllocError> {
-        if let Some(numbers) = self.matrix.get_mut(row) {
-            numbers.push((short(column), number))?;
+        match self.matrix.get_mut(row) {
+            Some(numbers) => put_behind(numbers, column, number),
+            None => Ok(()),
         }
-        Ok(())
     }
 
     /// Eliminates the matrix; whether it is regular modulo the prime.
@@ -131,24 +159,9 @@ impl System {
             .eliminate(alloc, self.matrix.as_slice(), self.size)
     }
 
-    /// Takes right sides times a common denominator as rests; whether they fit.
-    fn take_rests(&mut self, right: &[Frac], common: u64) -> Result<bool, AllocError> {
-        self.rests.clear();
-        for number in right {
-            let Some(rest) = times_whole(*number, common) else {
-                return Ok(false);
-            };
-            self.rests.push(rest)?;
-        }
-        Ok(true)
-    }
-
     /// The rests modulo the prime.
     fn reduce_rests(&mut self) -> Result<(), AllocError> {
-        self.right.clear();
-        for rest in &self.rests {
-            self.right.push(residue(*rest))?;
-        }
+        list_residues(self.rests.as_slice(), &mut self.right)?;
         self.values.clear();
         self.values.resize(self.size, 0)
     }
@@ -165,19 +178,29 @@ impl System {
         divide_rests(self.rests.as_mut_slice());
     }
 
+    /// Solves for the next digits of all unknowns.
+    fn solve_digits(&mut self, direction: Direction) {
+        let right = self.right.as_mut_slice();
+        let values = self.values.as_mut_slice();
+        match direction {
+            Direction::Rows => self.elimination.solve(right, values),
+            Direction::Columns => self.elimination.solve_turned(right, values),
+        }
+    }
+
+    /// Lifts one more digit of each unknown.
+    fn lift_once(&mut self, direction: Direction) -> Result<(), AllocError> {
+        self.reduce_rests()?;
+        self.solve_digits(direction);
+        self.lower_rests(direction);
+        self.digits.extend_from_slice(self.values.as_slice())
+    }
+
     /// Lifts so many digits.
     fn lift(&mut self, direction: Direction, count: usize) -> Result<(), AllocError> {
         self.digits.clear();
         for _ in 0..count {
-            self.reduce_rests()?;
-            let right = self.right.as_mut_slice();
-            let values = self.values.as_mut_slice();
-            match direction {
-                Direction::Rows => self.elimination.solve(right, values),
-                Direction::Columns => self.elimination.solve_turned(right, values),
-            }
-            self.lower_rests(direction);
-            self.digits.extend_from_slice(self.values.as_slice())?;
+            self.lift_once(direction)?;
         }
         Ok(())
     }
@@ -231,7 +254,7 @@ impl System {
         let Some(common) = common_denominator(right) else {
             return Ok(false);
         };
-        if !self.take_rests(right, common)? {
+        if !list_rests(right, common, &mut self.rests)? {
             return Ok(false);
         }
         let precision = match length {

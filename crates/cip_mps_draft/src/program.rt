@@ -123,11 +123,21 @@ impl Draft {
     {
         let alloc = self.alloc;
         let columns = self.columns.as_slice();
-        let whole = wholes_of(alloc, columns)?;
-        let bounds = bounds_of(alloc, columns)?;
-        let choices = choices_of(alloc, columns)?;
-        let costs = objective_costs(alloc, self.sense, &self.rows, columns.len())?;
-        let row_names = names_of(alloc, &self.row_names, &self.rows)?;
+        let Ok(whole) = wholes_of(alloc, columns) else {
+            return Err(AllocError);
+        };
+        let Ok(bounds) = bounds_of(alloc, columns) else {
+            return Err(AllocError);
+        };
+        let Ok(choices) = choices_of(alloc, columns) else {
+            return Err(AllocError);
+        };
+        let Ok(costs) = objective_costs(alloc, self.sense, &self.rows, columns.len()) else {
+            return Err(AllocError);
+        };
+        let Ok(row_names) = names_of(alloc, &self.row_names, &self.rows) else {
+            return Err(AllocError);
+        };
         Ok(Copied {
             row_names,
             costs,

@@ -1,5 +1,5 @@
 //! The lines of ROWS.
-ghost use Rattle.std.specs.Prelude.{◌≡◌, ◌++◌, ◌∷◌, ◌+◌, ◌&&◌, [], not, false, None, nat_le, OnOk, option_map, if◌then◌else◌};
+ghost use Rattle.std.specs.Prelude.{◌≡◌, ◌++◌, ◌∷◌, ◌+◌, ◌&&◌, [], not, false, None, nat_le, OnOk, OnErr, option_map, if◌then◌else◌};
 ghost use Rattle.cip_problem.specs.Limits.{most_rows};
 ghost use Rattle.cip_mps_lines.specs.MpsKinds.{row_kind_in};
 ghost use Rattle.cip_mps_rules.specs.MpsWords.{is_in};
@@ -12,8 +12,32 @@ ghost use Rattle.cip_mps_draft.specs.DraftLines.{row_line_tests};
 use crate::draft::Draft;
 use cip_model::{LONGEST_NAME, MOST_ROWS};
 use cip_mps_lines::RowKind;
+use cip_mps_rows::RowTable;
 use cip_mps_sides::is_free_kind;
-use std::alloc::AllocError;
+use cip_name_index::NameIndex;
+use std::alloc::{AllocError, Global};
+
+/// Puts a row with a name behind the others. `Err` comes where a growth was refused, and changes nothing.
+fn put_row(
+    alloc: Global,
+    rows: &mut RowTable,
+    names: &mut NameIndex,
+    kind: RowKind,
+    name: &[u8],
+) -> Result<(), AllocError>
+    requires { is_in names.old name.now ≡ false }
+    ensures ok { OnOk result ((rows.new ≡ rows.old ++ new_row (row_kind_in kind) ∷ [])
+        × (names.new ≡ names.old ++ name.now ∷ [])) }
+    ensures err { OnErr result ((rows.new ≡ rows.old) × (names.new ≡ names.old)) }
+{
+    let owned = name.to_vec(alloc)?;
+    rows.push(kind)?;
+    let added = names.add(owned);
+    if added.is_err() {
+        rows.pop();
+    }
+    added
+}
 
 impl Draft {
     /// The least kind of fault of a line of ROWS; the type is none where its word is none of the four.
@@ -45,12 +69,7 @@ impl Draft {
           row_count = if is_free (row_kind_in kind) then self.old.row_count else self.old.row_count + 1;
         }) }
     {
-        let owned = name.to_vec(self.alloc)?;
-        self.rows.push(kind)?;
-        if self.row_names.add(owned).is_err() {
-            self.rows.pop();
-            return Err(AllocError);
-        }
+        put_row(self.alloc, &mut self.rows, &mut self.row_names, kind, name)?;
         if !is_free_kind(kind) {
             self.row_count += 1;
         }

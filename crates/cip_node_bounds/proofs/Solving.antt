@@ -1,5 +1,6 @@
 -- What Bland's list answers from the start of the first state holds, and so do its reasons.
-use Rattle.std.proofs.Common.{◌≡◌, ap, ◌∙◌, subst}
+use Rattle.std.proofs.Common.{◌≡◌, Result, Ok, Err, ap, ◌∙◌, subst}
+use Rattle.std.specs.Prelude.{IfOk}
 use Rattle.cip_linear.specs.LinearProgram.{LinearProgram}
 use Rattle.cip_search.specs.ProgramState.{first_of_program}
 use Rattle.cip_bland.specs.EndAnswers.{Answer, answer}
@@ -24,3 +25,8 @@ from_slack program start found e h r =
     let same : answer_from most_moves program start ≡ answer most_moves program = ap (answer_from most_moves program) e ∙ slack_is_first program most_moves in
     listed program found
     (held program (answer most_moves program) found (subst (λ (a : Answer). IsAnswer a found) same h) (subst (λ (a : Answer). IsRight program a) same r))
+
+-- what holds of each answer, by what holds of it
+pub if_ok : {A E : Type 0} (r : Result A E) (P Q : A → Type 0) → ((a : A) → P a → Q a) → IfOk r P → IfOk r Q
+if_ok (Ok a) P Q f h = f a h
+if_ok (Err e) P Q f h = tt

@@ -1,6 +1,8 @@
 //! Linear programs, asked by a rule that makes few moves before Bland's.
-ghost use Rattle.std.specs.Prelude.{◌≡◌, ◌+◌, ◌*◌, ◌-◌, ◌^◌, min, length, IfOk};
+ghost use Rattle.std.specs.Prelude.{◌≡◌, ◌+◌, ◌*◌, ◌-◌, ◌^◌, min, length, IfOk, IfSome};
+ghost use Rattle.cip_search.specs.ProgramState.{first_of_program};
 ghost use Rattle.cip_simplex.specs.LpShape.{variables};
+ghost use Rattle.cip_simplex.specs.Starts.{stands_of};
 ghost use Rattle.cip_node_bounds.specs.Solving.{SaysRight};
 
 use cip_simplex::{Lp, LpAnswer, Solver, Start, solve_from, solve_greedily};
@@ -24,8 +26,46 @@ fn few_moves(lp: &Lp) -> u32
         .saturating_add(variables)
 }
 
+/// What a rule that makes few moves answers on a linear program from a start, and where the variables are then; none
+/// where it has no answer. `Err` where memory was refused.
+fn asked_greedily(
+    alloc: Global,
+    solver: &mut Solver,
+    lp: &Lp,
+    start: &Start,
+) -> Result<Option<(LpAnswer, Start)>, AllocError>
+    requires { length start.now ≡ variables lp.now }
+    ensures { IfOk result (λ found. IfSome found (λ asked. SaysRight lp.now asked.0)) }
+{
+    let (first, last) = solve_greedily(alloc, solver, lp, start, few_moves(lp))?;
+    match first {
+        Some(found) => Ok(Some((found, last))),
+        None => {
+            drop(last);
+            Ok(None)
+        }
+    }
+}
+
 /// What a rule that makes few moves answers on a linear program from its first state; what Bland's list does, where
 /// that has no answer; and where the variables are then. `Err` where memory was refused.
+fn asked_from_slack(
+    alloc: Global,
+    solver: &mut Solver,
+    lp: &Lp,
+    slack: &Start,
+) -> Result<(LpAnswer, Start), AllocError>
+    requires stands { slack.now ≡ stands_of (first_of_program lp.now) }
+    requires long { length slack.now ≡ variables lp.now }
+    ensures { IfOk result (λ asked. SaysRight lp.now asked.0) }
+{
+    match asked_greedily(alloc, solver, lp, slack)? {
+        Some(asked) => Ok(asked),
+        None => solve_from(alloc, solver, lp, slack, MOST_MOVES),
+    }
+}
+
+/// What is answered on a linear program from its first state. `Err` where memory was refused.
 fn asked_afresh(
     alloc: Global,
     solver: &mut Solver,
@@ -34,14 +74,9 @@ fn asked_afresh(
     ensures { IfOk result (λ asked. SaysRight lp.now asked.0) }
 {
     let slack = Start::slack(alloc, lp)?;
-    let (first, last) = solve_greedily(alloc, solver, lp, &slack, few_moves(lp))?;
-    match first {
-        Some(found) => Ok((found, last)),
-        None => {
-            let (listed, end) = solve_from(alloc, solver, lp, &slack, MOST_MOVES)?;
-            Ok((listed, end))
-        }
-    }
+    let asked = asked_from_slack(alloc, solver, lp, &slack);
+    drop(slack);
+    asked
 }
 
 /// What a rule that makes few moves answers on a linear program from a start; where that has no answer, what is
@@ -55,9 +90,8 @@ fn asked_at(
     requires { length start.now ≡ variables lp.now }
     ensures { IfOk result (λ asked. SaysRight lp.now asked.0) }
 {
-    let (first, last) = solve_greedily(alloc, solver, lp, start, few_moves(lp))?;
-    match first {
-        Some(found) => Ok((found, last)),
+    match asked_greedily(alloc, solver, lp, start)? {
+        Some(asked) => Ok(asked),
         None => asked_afresh(alloc, solver, lp),
     }
 }
@@ -77,5 +111,7 @@ pub(crate) fn asked(
     };
     let _columns = lp.columns();
     let fitted = before.fitted(alloc, lp.len())?;
-    asked_at(alloc, solver, lp, &fitted)
+    let asked = asked_at(alloc, solver, lp, &fitted);
+    drop(fitted);
+    asked
 }

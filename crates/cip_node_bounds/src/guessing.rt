@@ -253,13 +253,27 @@ fn guessed_anew(
     if !may_come_together(program, basis, &beside) {
         return Ok(Guessed::Beside(beside));
     }
-    let shown = show_anew(alloc, basis, problem, scratch)?;
-    match weighed_or_rounded(alloc, basis, program, problem, shown, scratch)? {
-        Guessed::Beside(other) => Ok(Guessed::Beside(Beside {
-            point: beside.point,
-            bound: greater_bound(beside.bound, other.bound),
-        })),
-        Guessed::Shown(relaxed) => Ok(Guessed::Shown(relaxed)),
+    let Ok(shown) = show_anew(alloc, basis, problem, scratch) else {
+        drop(beside);
+        return Err(AllocError);
+    };
+    match weighed_or_rounded(alloc, basis, program, problem, shown, scratch) {
+        Err(error) => {
+            drop(beside);
+            Err(error)
+        }
+        Ok(Guessed::Beside(other)) => {
+            let bound = greater_bound(beside.bound, other.bound);
+            drop(other);
+            Ok(Guessed::Beside(Beside {
+                point: beside.point,
+                bound,
+            }))
+        }
+        Ok(Guessed::Shown(relaxed)) => {
+            drop(beside);
+            Ok(Guessed::Shown(relaxed))
+        }
     }
 }
 

@@ -221,6 +221,37 @@ fn judged(
     }
 }
 
+/// What an answer comes to over the rows of a program and those of a pool that may be used in a box.
+fn judged_over(
+    program: &Program,
+    usable: &UsableRows<'_>,
+    cutoff: &Option<Row>,
+    bounds: &Bounds,
+    found: LpAnswer,
+    scratch: &mut Scratch,
+) -> Relaxed
+    requires columns { length bounds.now ≡ columns program.now }
+    requires pool { length bounds.now ≡ usable.now.pool.now.columns }
+    requires cutoff { IfSome cutoff.now (λ row. StandsBelow (length bounds.now) row.terms) }
+    requires room { length bounds.now ≤ length scratch.old.row.entries }
+    requires ids { usable.now.ids.items ≡ usable_ids bounds.now usable.now.pool.now.rows }
+    requires solved { SaysRight (relaxation program.now (usable_rows bounds.now usable.now.pool.now.rows) bounds.now)
+        found }
+    ensures relaxed { IsRelaxed program.now
+        (record { own = program.now.rows; pool = usable.now.pool.now.rows; cutoff = cutoff.now }) bounds.now
+        (length scratch.old.row.entries) result }
+    ensures room { length scratch.new.row.entries ≡ length scratch.old.row.entries }
+{
+    let _columns = program.columns();
+    let lent = Rows {
+        own: program.rows(),
+        pool: usable.pool.rows(),
+        cutoff,
+        whole: program.whole(),
+    };
+    judged(&lent, program, usable.ids.as_slice(), bounds, found, scratch)
+}
+
 /// Puts what is near the optimum beside a mark: its bound, and its point where none was found; what has no mark stays
 /// as it is.
 fn with_beside(relaxed: Relaxed, beside: Beside) -> Relaxed
@@ -244,6 +275,22 @@ fn with_beside(relaxed: Relaxed, beside: Beside) -> Relaxed
             bound: beside.bound,
         },
         other => other,
+    }
+}
+
+/// What a linear program came to, with the start at which it ended, if memory was there for that.
+fn with_start(
+    relaxed: Relaxed,
+    last: Result<Start, AllocError>,
+) -> Result<(Relaxed, Start), AllocError>
+    ensures { IfOk result (λ solved. solved.0 ≡ relaxed) }
+{
+    match last {
+        Ok(last) => Ok((relaxed, last)),
+        Err(error) => {
+            drop(relaxed);
+            Err(error)
+        }
     }
 }
 
@@ -281,24 +328,29 @@ pub fn relax_from(
     let columns = program.columns();
     let usable = UsableRows::gather(alloc, pool, bounds)?;
     let basis = &mut solver.basis;
-    let beside = match by_guess(alloc, basis, program, &usable, bounds, scratch)? {
-        Guessed::Shown(relaxed) => {
-            let variables = columns + program.rows().len() + usable.rows.len();
-            let last = start_at(alloc, &solver.basis, variables)?;
-            return Ok((relaxed, last));
+    let beside = match by_guess(alloc, basis, program, &usable, bounds, scratch) {
+        Err(error) => {
+            drop(usable);
+            return Err(error);
         }
-        Guessed::Beside(beside) => beside,
+        Ok(Guessed::Shown(relaxed)) => {
+            let variables = columns + program.rows().len() + usable.rows.len();
+            drop(usable);
+            return with_start(relaxed, start_at(alloc, &solver.basis, variables));
+        }
+        Ok(Guessed::Beside(beside)) => beside,
     };
     let others = usable.rows.as_slice();
     let list = &mut solver.solver;
-    let (found, last) = solved(alloc, list, program, pool, others, bounds, start)?;
-    let lent = Rows {
-        own: program.rows(),
-        pool: pool.rows(),
-        cutoff,
-        whole: program.whole(),
+    let (found, last) = match solved(alloc, list, program, pool, others, bounds, start) {
+        Err(error) => {
+            drop(usable);
+            drop(beside);
+            return Err(error);
+        }
+        Ok(found) => found,
     };
-    let ids = usable.ids.as_slice();
-    let relaxed = judged(&lent, program, ids, bounds, found, scratch);
+    let relaxed = judged_over(program, &usable, cutoff, bounds, found, scratch);
+    drop(usable);
     Ok((with_beside(relaxed, beside), last))
 }

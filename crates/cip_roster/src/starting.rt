@@ -1,5 +1,5 @@
 //! How a roster begins.
-ghost use Rattle.std.specs.Prelude.{◌≡◌, ◌+◌, ◌++◌, ◌^◌, ◌<◌, ◌≤◌, ◌*◌, List, [], Bool, Some, All, length, map, IfOk, OnOk, OnErr, vec_len, vec_capacity};
+ghost use Rattle.std.specs.Prelude.{◌≡◌, ◌+◌, ◌-◌, ◌++◌, ◌^◌, ◌<◌, ◌≤◌, ◌*◌, List, [], Bool, Some, All, length, map, IfOk, OnOk, OnErr, vec_len, vec_capacity};
 ghost use Rattle.cip_events.specs.Names.{shown_name};
 ghost use Rattle.cip_plugin.specs.Who.{Who};
 ghost use Rattle.cip_seats.specs.Seats.{held_count};
@@ -14,6 +14,7 @@ use crate::rankings::Rankings;
 use crate::rosters::{Roster, Seated};
 use crate::steps::{Seats, Steps};
 use crate::turns::{begin, set_up};
+use cip_events::Name;
 use cip_plugin::{AnyPlugin, Kit, Tells, View};
 use std::alloc::{AllocError, Global};
 use std::marker::PhantomData;
@@ -80,6 +81,31 @@ fn admit<P: Tells + Drop, R: Seats<P>>(
     begin_all(roster, alloc, view);
 }
 
+/// Makes room in the lists of a roster for so many plugins that are included, with their first and last lines, and so
+/// many on the shelf. `Err` comes where a growth was refused. What the lists hold stays.
+fn make_room<S: Drop, P: Drop>(
+    slots: &mut Vec<S>,
+    shelf: &mut Vec<P>,
+    names: &mut Vec<Name>,
+    journal: &mut Journal,
+    start: usize,
+    shelved: usize,
+) -> Result<(), AllocError>
+    requires { start < 2 ^ 32 }
+    ensures slots { OnOk result (start ≤ vec_capacity slots.new - vec_len slots.new) }
+    ensures shelf { OnOk result (vec_len shelf.new + shelved ≤ vec_capacity shelf.new) }
+    ensures names { OnOk result (start ≤ vec_capacity names.new - vec_len names.new) }
+    ensures lines { OnOk result (6 * start ≤ vec_capacity journal.new.lines - vec_len journal.new.lines) }
+    ensures stays { (slots.new.items ≡ slots.old.items) × (shelf.new.items ≡ shelf.old.items)
+        × (names.new.items ≡ names.old.items) × (journal.new.lines.items ≡ journal.old.lines.items)
+        × (journal.new.kept ≡ journal.old.kept) }
+{
+    slots.reserve(start)?;
+    shelf.reserve(shelved)?;
+    names.reserve(start)?;
+    journal.reserve(6 * start)
+}
+
 impl Roster {
     /// A roster without plugins, with room for those of a kit and for their first and last lines.
     fn empty(alloc: Global, start: usize, shelf: usize, kept: bool) -> Result<Roster, AllocError>
@@ -95,16 +121,28 @@ impl Roster {
         ensures room { IfOk result (λ roster. 6 * start ≤ (⟦<Roster as Seated>⟧.room roster).lines) }
         ensures unranked { IfOk result (λ roster. (⟦<Roster as Seated>⟧.room roster).rankings ≡ no_rankings) }
     {
+        let mut slots = Vec::new(alloc);
+        let mut places = Vec::new(alloc);
+        let mut names = Vec::new(alloc);
         let mut journal = Journal::new(alloc, kept);
-        journal.reserve(6 * start)?;
-        Ok(Roster {
-            slots: Vec::with_capacity(alloc, start)?,
-            shelf: Vec::with_capacity(alloc, shelf)?,
-            names: Vec::with_capacity(alloc, start)?,
-            journal,
-            rankings: Rankings::none(),
-            boxes: PhantomData,
-        })
+        match make_room(
+            &mut slots,
+            &mut places,
+            &mut names,
+            &mut journal,
+            start,
+            shelf,
+        ) {
+            Ok(()) => Ok(Roster {
+                slots,
+                shelf: places,
+                names,
+                journal,
+                rankings: Rankings::none(),
+                boxes: PhantomData,
+            }),
+            Err(_) => Err(AllocError),
+        }
     }
 
     /// Moves the plugins of a kit in: those of its start are included, in their order, and set up. All room is taken

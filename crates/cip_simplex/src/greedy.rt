@@ -16,6 +16,23 @@ use crate::starts::Start;
 use cip_dict::{Dict, FirstFault};
 use std::alloc::{AllocError, Global};
 
+/// Makes the moves of a start at the first state of a linear program; answers whether one is out of range, at which it
+/// stops. `Err` where memory was refused.
+fn stops_before(
+    alloc: Global,
+    lp: &Lp,
+    dict: &mut Dict,
+    start: &Start,
+) -> Result<bool, AllocError>
+    requires first { dict.old ≡ first_of_program lp.now }
+    requires long { length start.now ≡ variables lp.now }
+    ensures { IfOk result (λ _. IsStateOf lp.now dict.new) }
+{
+    let mut moves = Vec::new(alloc);
+    let wide = begin_at(start, dict, lp, &mut moves)?;
+    Ok(wide.is_some())
+}
+
 /// Makes the moves of a start at the first state of a linear program and then, at most so many, those that are chosen,
 /// and answers what their end does; the state is then the last one in range. `Err` where memory was refused.
 fn descend_from(
@@ -31,8 +48,7 @@ fn descend_from(
     ensures found { IfOk result (λ found. IfSome found (IsEndAnswer lp.now dict.new)) }
 {
     let _columns = lp.columns();
-    let mut moves = Vec::new(alloc);
-    if begin_at(start, dict, lp, &mut moves)?.is_some() {
+    if stops_before(alloc, lp, dict, start)? {
         return Ok(None);
     }
     let Some(step) = descend_to_end(lp, dict, limit)? else {

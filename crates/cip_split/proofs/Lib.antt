@@ -1,3 +1,4 @@
 pub mod Differences
 pub mod SplitRowSums
+pub mod SplitSteps
 pub mod SplitValidity

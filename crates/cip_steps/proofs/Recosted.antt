@@ -29,11 +29,11 @@ both_of low high value false e k = absurd (none-some value k)
 pub both_sides : (sides : Sides) (value : ℚ) → only_value sides ≡ Some value → (sides.low ≡ Some value) × (sides.high ≡ Some value)
 both_sides sides value e = both_of sides.low sides.high value (sides_equal sides.low sides.high) refl e
 
-pub recosted_by : (program changed : Program) (column : ℕ) (value cost constant : ℚ) → Some value ≡ only_value (sides_at program.bounds column) → cost ≡ value_at program.costs column → product_added program.constant cost value ≡ Ok constant → changed ≡ with_cost program column zeroℚ constant → IsExactStep program changed
-recosted_by program changed column value cost constant e c a k =
+pub recosted_by : (program changed : Program) (column : ℕ) (value constant : ℚ) → Some value ≡ only_value (sides_at program.bounds column) → product_added program.constant (value_at program.costs column) value ≡ Ok constant → changed ≡ with_cost program column zeroℚ constant → IsExactStep program changed
+recosted_by program changed column value constant e a k =
     let both = both_sides (sides_at program.bounds column) value (sym e) in
-    let v : constant ≡ program.constant +ℚ cost *ℚ value = rw a at (product_added-value program.constant cost value) in
-    subst (λ p. IsExactStep program p) (sym (k ∙ ap (λ q. with_cost program column zeroℚ q) (v ∙ ap (λ t. program.constant +ℚ t *ℚ value) c)))
+    let v : constant ≡ program.constant +ℚ value_at program.costs column *ℚ value = rw a at (product_added-value program.constant (value_at program.costs column) value) in
+    subst (λ p. IsExactStep program p) (sym (k ∙ ap (λ q. with_cost program column zeroℚ q) v))
     (recosted program column value both.0 both.1)
 
 pub fractional_by : (program : Program) (column : ℕ) (value : ℚ) → Some value ≡ only_value (sides_at program.bounds column) → slice_get program.integral column ≡ Some true → ¬ IsWhole value → IsInfeasible program

@@ -1,12 +1,14 @@
 -- Steps of the rules.
-use Rattle.std.proofs.Common.{◌≡◌, ℕ, zero, suc, ◌<◌, List, [], ◌∷◌, length, Some, slice_get, refl, sym, subst, arith}
-use Rattle.cip_problem.specs.Program.{Row, Program}
+use Rattle.std.proofs.Common.{◌≡◌, ℕ, zero, suc, ◌<◌, List, [], ◌∷◌, length, Option, None, Some, IfSome, Result, Ok, Err, slice_get, refl, sym, subst, arith}
+use Rattle.std.specs.Prelude.{IfOk}
+use Rattle.cip_problem.specs.Program.{Sides, Row, Program}
 use Rattle.cip_row_reading.specs.NarrowedPrograms.{IsExactStep, IsInfeasible, with_row}
 use Rattle.cip_row_reading.specs.RowSteps.{HoldsInAll, HoldsNowhere}
 use Rattle.cip_problem.specs.Program.{no_row}
 use Rattle.cip_row_reading.proofs.PassedOn.{exact_self, exact_after}
 use Rattle.cip_row_reading.proofs.PassedOn.{dropped, broken, shifted}
 use Rattle.cip_row_reading.specs.RowReading.{IsLeftRow}
+use Rattle.cip_steps.specs.RuleEnds.{IsCleaned}
 
 some_row : (rows : List Row) (number : ℕ) → number < length rows → (row : Row) × (slice_get rows number ≡ Some row)
 some_row [] number h = absurd (omega (arith, h))
@@ -24,8 +26,15 @@ broken_by program number i f = let r = some_row program.rows number i in broken 
 pub stays : (program : Program) → IsExactStep program program
 stays program = exact_self program
 
-pub cleaned_by : (program changed : Program) (number : ℕ) (old new : Row) → slice_get program.rows number ≡ Some old → IsLeftRow program.bounds old new → changed ≡ with_row program number new → IsExactStep program changed
-cleaned_by program changed number old new h l e = subst (λ p. IsExactStep program p) (sym e) (shifted program number old new h l.shifted)
+pub left_over : {E : Type 0} (program : Program) (number : ℕ) (old : Row) (box : List Sides) (found : Result (Option Row) E) → slice_get program.rows number ≡ Some old → box ≡ program.bounds → IfOk found (λ o. IfSome o (λ new. IsLeftRow box old new)) → IfOk found (λ o. IfSome o (IsCleaned program number))
+left_over program number old box (Ok (Some new)) h e l =
+    let left : IsLeftRow program.bounds old new = subst (λ (b : List Sides). IsLeftRow b old new) e l in
+    record { step = shifted program number old new h left.shifted; stands = left.stands }
+left_over program number old box (Ok None) h e l = tt
+left_over program number old box (Err error) h e l = tt
+
+pub cleaned_by : (program changed : Program) (number : ℕ) (new : Row) → IsCleaned program number new → changed ≡ with_row program number new → IsExactStep program changed
+cleaned_by program changed number new c e = subst (λ p. IsExactStep program p) (sym e) c.step
 
 pub follows : (first second third : Program) → IsExactStep first second → IsExactStep second third → IsExactStep first third
 follows first second third a b = exact_after first second third a b

@@ -50,14 +50,28 @@ impl Draft {
     pub fn new(alloc: Global, program: &Program) -> Result<Draft, AllocError>
         ensures { IfOk result (λ draft. draft ≡ unnamed program.now) }
     {
-        let rows = copied_rows(alloc, program.rows())?;
-        Ok(Draft {
-            rows,
-            costs: program.costs().to_vec(alloc)?,
-            constant: program.constant(),
-            whole: program.whole().to_vec(alloc)?,
-            bounds: program.bounds().copied(alloc)?,
-            choices: program.choices().copied(alloc)?,
-        })
+        let Ok(bounds) = program.bounds().copied(alloc) else {
+            return Err(AllocError);
+        };
+        let Ok(choices) = program.choices().copied(alloc) else {
+            return Err(AllocError);
+        };
+        let Ok(whole) = program.whole().to_vec(alloc) else {
+            return Err(AllocError);
+        };
+        let Ok(costs) = program.costs().to_vec(alloc) else {
+            return Err(AllocError);
+        };
+        match copied_rows(alloc, program.rows()) {
+            Ok(rows) => Ok(Draft {
+                rows,
+                costs,
+                constant: program.constant(),
+                whole,
+                bounds,
+                choices,
+            }),
+            Err(_) => Err(AllocError),
+        }
     }
 }

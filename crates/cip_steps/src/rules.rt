@@ -5,7 +5,7 @@ ghost use Rattle.cip_problem.specs.Program.{no_row};
 ghost use Rattle.cip_problem.specs.Program as problem;
 ghost use Rattle.cip_row_reading.specs.RowReading.{SaysRightly};
 ghost use Rattle.cip_problem.specs.Activity.{StandsBelow};
-ghost use Rattle.cip_steps.specs.RuleEnds.{EndsRightly, IsSingled};
+ghost use Rattle.cip_steps.specs.RuleEnds.{EndsRightly, IsSingled, IsCleaned};
 
 use crate::drafts::Draft;
 use cip_row_reading::{
@@ -140,6 +140,20 @@ impl Draft {
         Outcome::Tightened(found.column)
     }
 
+    /// A row without its columns with equal sides, which may take its place; `None` where it has none of them, or a
+    /// number isn't in range. `Err` comes where a growth was refused.
+    fn cleaned(&self, alloc: Global, number: usize) -> Result<Option<Row>, AllocError>
+        requires { number < length self.now.rows }
+        ensures { IfOk result (λ found. IfSome found (IsCleaned self.now number)) }
+    {
+        let row = self.row(number);
+        if has_fixed(row.terms(), self.bounds()) {
+            without_fixed(alloc, row, self.bounds())
+        } else {
+            Ok(None)
+        }
+    }
+
     /// Takes the columns with equal sides out of a row. `Err` comes where a growth was refused.
     #[tactic(auto, using(crate::proofs::Singled::cleaning))]
     pub fn clean_row(&mut self, alloc: Global, number: usize) -> Result<(), AllocError>
@@ -147,13 +161,14 @@ impl Draft {
         ensures step { IsExactStep self.old self.new }
         ensures rows { length self.new.rows ≡ length self.old.rows }
     {
-        if !has_fixed(self.row(number).terms(), self.bounds()) {
-            return Ok(());
+        match self.cleaned(alloc, number) {
+            Ok(Some(row)) => {
+                self.set_row(number, row);
+                Ok(())
+            }
+            Ok(None) => Ok(()),
+            Err(error) => Err(error),
         }
-        if let Some(row) = without_fixed(alloc, self.row(number), self.bounds())? {
-            self.set_row(number, row);
-        }
-        Ok(())
     }
 
     /// Tries the rules that look at one row, in their order. `Err` comes where a growth was refused.

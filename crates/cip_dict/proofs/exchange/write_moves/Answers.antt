@@ -8,6 +8,28 @@ use Rattle.cip_dict.proofs.Chains.{then_rest}
 use Rattle.cip_dict.proofs.RowLists.{written_back}
 use Rattle.cip_dict.proofs.exchange.write_moves.Goals as goal
 
+pub returns-in-Err-clause-long : goal.returns-in-Err-clause-long
+returns-in-Err-clause-long c =
+    let values = c.in-Err.ensures.long ∙ ap length c.as_mut_slice.ensures.value in
+    record {
+      entering = c.requires.room_long.entering;
+      rows = c.requires.room_long.rows;
+      changed = c.requires.room_long.changed;
+      costs = c.requires.room_long.costs;
+      values = rw (written_back c.args.room.now.values.len _ c.write_moved.new.out c.args.room.now.values.items (omega (arith, c.args.room.now.values.ok.0, values))) (values ∙ c.requires.room_long.values);
+    }
+
+pub returns-clause-long : goal.returns-clause-long
+returns-clause-long c =
+    let values = c.in-Ok.ensures.long ∙ ap length c.as_mut_slice.ensures.value in
+    record {
+      entering = c.requires.room_long.entering;
+      rows = c.requires.room_long.rows;
+      changed = c.requires.room_long.changed;
+      costs = c.requires.room_long.costs;
+      values = rw (written_back c.args.room.now.values.len _ c.write_moved.new.out c.args.room.now.values.items (omega (arith, c.args.room.now.values.ok.0, values))) (values ∙ c.requires.room_long.values);
+    }
+
 pub returns-in-Err-clause-written : goal.returns-in-Err-clause-written
 returns-in-Err-clause-written c =
     let h = rw (c.as_slice.ensures.value, c.as_slice-2.ensures.value) at c.in-Err.ensures.written in

@@ -14,6 +14,39 @@ pub write_rows-requires-clause-is_leaving : goal.write_rows-requires-clause-is_l
 write_rows-requires-clause-is_leaving c =
     leaving_entry (length c.args.pivot.now.standing.now) (basic_in c.args.pivot.now.standing.now) c.args.pivot.now.leaving c.args.pivot.now.entering c.args.pivot.now.inverse (entry_in c.args.lists.now.rows.items c.args.pivot.now.leaving) c.args.room.now.entering c.requires.is_entering c.requires.leaving
 
+pub write_rows-requires-clause-rows_long : goal.write_rows-requires-clause-rows_long
+write_rows-requires-clause-rows_long c = rw c.as_slice-rows.ensures.value c.requires.lists_long.rows
+
+pub write_rows-requires-clause-out_long : goal.write_rows-requires-clause-out_long
+write_rows-requires-clause-out_long c = rw c.as_mut_slice-others.ensures.value c.requires.room_long.rows
+
+pub write_rows-requires-clause-changed_long : goal.write_rows-requires-clause-changed_long
+write_rows-requires-clause-changed_long c = ap length c.as_mut_slice-changed.ensures.value ∙ c.requires.room_long.changed
+
+pub returns-in-Err-clause-long : goal.returns-in-Err-clause-long
+returns-in-Err-clause-long c =
+    let rows = c.in-Err.ensures.long in
+    let changed = c.in-Err.ensures.changed_long ∙ ap length c.as_mut_slice-changed.ensures.value ∙ c.requires.room_long.changed in
+    record {
+      entering = c.requires.room_long.entering;
+      rows = rw (written_back c.args.room.now.rows.len _ c.write_rows.new.out c.args.room.now.rows.items (omega (arith, c.args.room.now.rows.ok.0, rows.each_one, c.requires.room_long.rows.each_one))) rows;
+      changed = rw (written_back c.args.room.now.changed.len _ c.write_rows.new.changed c.args.room.now.changed.items (omega (arith, c.args.room.now.changed.ok.0, changed, c.requires.room_long.changed))) changed;
+      costs = c.requires.room_long.costs;
+      values = c.requires.room_long.values;
+    }
+
+pub returns-clause-long : goal.returns-clause-long
+returns-clause-long c =
+    let rows = c.in-Ok.ensures.long in
+    let changed = c.in-Ok.ensures.changed_long ∙ ap length c.as_mut_slice-changed.ensures.value ∙ c.requires.room_long.changed in
+    record {
+      entering = c.requires.room_long.entering;
+      rows = rw (written_back c.args.room.now.rows.len _ c.write_rows.new.out c.args.room.now.rows.items (omega (arith, c.args.room.now.rows.ok.0, rows.each_one, c.requires.room_long.rows.each_one))) rows;
+      changed = rw (written_back c.args.room.now.changed.len _ c.write_rows.new.changed c.args.room.now.changed.items (omega (arith, c.args.room.now.changed.ok.0, changed, c.requires.room_long.changed))) changed;
+      costs = c.write_costs.ensures.long;
+      values = c.requires.room_long.values;
+    }
+
 pub returns-in-Err-clause-written : goal.returns-in-Err-clause-written
 returns-in-Err-clause-written c =
     let h = rw c.as_slice-rows.ensures.value at c.in-Err.ensures.written in

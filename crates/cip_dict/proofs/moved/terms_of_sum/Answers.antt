@@ -1,8 +1,41 @@
-use Rattle.std.proofs.Common.{◌≡◌, ◌*◌, ◌-◌, ◌^◌, pos, ◌+ℤ◌, to_z, ap₂, arith}
+use Rattle.std.proofs.Common.{◌≡◌, ◌*◌, ◌-◌, ◌^◌, pos, ◌+ℤ◌, to_z, ap₂, arith, ap, ◌∙◌}
 use Rattle.std.specs.Int.{w64}
-use Rattle.std.proofs.lemmas.Int.{ints}
+use Rattle.std.proofs.lemmas.Int.{ints, fits_signed_from_abs}
 use Rattle.cip_dict.proofs.Added.{read_word}
 use Rattle.cip_dict.proofs.moved.terms_of_sum.Goals as goal
+
+pub overflow_cast-under : goal.overflow_cast-under
+overflow_cast-under c = omega (arith, ints, c.short_size-under.ensures.short)
+
+pub long_product-first-requires-clause-first : goal.long_product-first-requires-clause-first
+long_product-first-requires-clause-first c = omega (arith, ints, c.short_size-under.ensures.short)
+
+pub long_product-first-requires-clause-second : goal.long_product-first-requires-clause-second
+long_product-first-requires-clause-second c = rw (read_word c.args.a (omega (arith, c.requires.own))) c.requires.own
+
+pub short_product-requires-clause-first : goal.short_product-requires-clause-first
+short_product-requires-clause-first c = rw (read_word c.args.n (omega (arith, c.requires.entry))) c.requires.entry
+
+pub short_product-requires-clause-second : goal.short_product-requires-clause-second
+short_product-requires-clause-second c = rw (read_word c.args.c (omega (arith, c.requires.factor))) c.requires.factor
+
+pub overflow_cast-b : goal.overflow_cast-b
+overflow_cast-b c = omega (arith, ints, c.requires.own_below)
+
+pub long_product-second-requires-clause-first : goal.long_product-second-requires-clause-first
+long_product-second-requires-clause-first c = rw (read_word c.short_product.result (omega (arith, c.short_product.ensures.short))) c.short_product.ensures.short
+
+pub long_product-second-requires-clause-second : goal.long_product-second-requires-clause-second
+long_product-second-requires-clause-second c = omega (arith, ints, c.requires.own_below)
+
+pub overflow_add-result : goal.overflow_add-result
+overflow_add-result c =
+    let a = read_word c.long_product-first.result (omega (arith, c.long_product-first.ensures.short)) in
+    let b = read_word c.long_product-second.result (omega (arith, c.long_product-second.ensures.short)) in
+    rw (a, b) (fits_signed_from_abs w64 (c.long_product-first.result +ℤ c.long_product-second.result) (omega (arith, ints, c.long_product-first.ensures.short, c.long_product-second.ensures.short)))
+
+pub returns-clause-under : goal.returns-clause-under
+returns-clause-under c = c.long_size.ensures.value ∙ ap (λ u. c.args.b * u) c.short_size-under.ensures.value
 
 pub returns-clause-over : goal.returns-clause-over
 returns-clause-over c =

@@ -1,9 +1,9 @@
-use Rattle.std.proofs.Common.{◌≡◌, ◌<◌, ◌≤◌, ◌∙◌, to_z, of_z, length, arith, suc, sym, subst, lit<, ◌^◌}
+use Rattle.std.proofs.Common.{◌≡◌, ◌<◌, ◌≤◌, ◌∙◌, to_z, of_z, length, arith, suc, sym, subst, lit<, ◌^◌, ap}
 use Rattle.std.specs.Int.{w64, w128}
-use Rattle.std.proofs.lemmas.Int.{ints}
+use Rattle.std.proofs.lemmas.Int.{ints, fits_signed_from_abs}
 use Rattle.cip_dict.specs.Lists.{basic_in}
 use Rattle.cip_dict.specs.SparseLines.{IsNext}
-use Rattle.cip_dict.specs.WholeLines.{over, put_number, AreBelow}
+use Rattle.cip_dict.specs.WholeLines.{over, put_number, AreBelow, wholes_of}
 use Rattle.cip_dict.proofs.Places.{place_zero}
 use Rattle.cip_dict.proofs.WholeParts.{none_over, read_small}
 use Rattle.cip_dict.proofs.WholeLoops.{whole_gap, whole_more, put_none}
@@ -28,6 +28,18 @@ loop-step-init c =
       small = λ _. subst (AreBelow (2 ^ 42)) (sym c.clear.ensures.items) tt;
       near = subst (AreBelow (2 ^ 63)) (sym c.clear.ensures.items) tt;
     }
+
+pub substituted_number-z-requires-clause-row_small : goal.substituted_number-z-requires-clause-row_small
+substituted_number-z-requires-clause-row_small c = rw (read_small c.loop-step.step.n c.loop-step.invariant.row_small) c.loop-step.invariant.row_small
+
+pub substituted_number-z-requires-clause-new_small : goal.substituted_number-z-requires-clause-new_small
+substituted_number-z-requires-clause-new_small c = rw (read_small c.loop-step.step.y c.loop-step.invariant.new_small) c.loop-step.invariant.new_small
+
+pub overflow_cast-z : goal.overflow_cast-z
+overflow_cast-z c = fits_signed_from_abs w64 _ (c.is_near.ensures c.if-not-is_near.false)
+
+pub overflow_cast-z-in-loop-step : goal.overflow_cast-z-in-loop-step
+overflow_cast-z-in-loop-step c = fits_signed_from_abs w64 _ (c.is_near.ensures c.if-not-is_near.false)
 
 pub loop-step-preserved : goal.loop-step-preserved
 loop-step-preserved c =
@@ -66,3 +78,8 @@ pub returns-in_err-keep_number-clause-near : goal.returns-in_err-keep_number-cla
 returns-in_err-keep_number-clause-near c =
     let near = c.is_near.ensures c.if-not-is_near.false in
     c.in_err-keep_number.ensures.below (2 ^ 63) (rw (read_near (to_z w128 (of_z w128 c.substituted_number-z.result)) near) near) c.loop-step.invariant.near
+
+pub returns-clause-told : goal.returns-clause-told
+returns-clause-told c =
+    let end : c.loop-step.step.k ≡ length c.args.pivot.now.standing.now = omega arith in
+    (c.loop-step.invariant.positive, (λ s. (c.loop-step.invariant.under s, c.loop-step.invariant.small s)), c.loop-step.invariant.written ∙ ap (λ k. wholes_of k (put_number (basic_in c.args.pivot.now.standing.now) c.args.pivot.now.leaving c.args.pivot.now.entering c.args.factors.own c.args.factors.new c.args.row.now c.args.new.now)) end)

@@ -1,9 +1,9 @@
-use Rattle.std.proofs.Common.{◌≡◌, ◌<◌, ◌∙◌, to_z, of_z, length, arith, suc, sym, subst, lit<, ◌^◌}
+use Rattle.std.proofs.Common.{◌≡◌, ◌<◌, ◌∙◌, to_z, of_z, length, arith, suc, sym, subst, lit<, ◌^◌, ap, ◌≤◌}
 use Rattle.std.specs.Int.{w128}
 use Rattle.std.proofs.lemmas.Int.{ints}
 use Rattle.cip_dict.specs.Lists.{basic_in}
 use Rattle.cip_dict.specs.SparseLines.{IsNext}
-use Rattle.cip_dict.specs.WholeLines.{over, put_number, AreBelow}
+use Rattle.cip_dict.specs.WholeLines.{over, put_number, AreBelow, wholes_of}
 use Rattle.cip_dict.proofs.Places.{place_zero}
 use Rattle.cip_dict.proofs.WholeParts.{none_over, read_small}
 use Rattle.cip_dict.proofs.WholeLoops.{whole_gap, whole_more, put_none}
@@ -24,6 +24,12 @@ loop-step-init c =
           (λ m a b. put_none (basic_in c.args.pivot.now.standing.now) c.args.pivot.now.leaving c.args.pivot.now.entering c.args.factors.own c.args.factors.new c.args.row.now c.args.new.now m (none_over 1 c.args.row.now m (lit< tt) (next.row_none m a b)) (none_over 1 c.args.new.now m (lit< tt) (next.new_none m a b)));
       wide = subst (AreBelow (2 ^ 86)) (sym c.clear.ensures.items) tt;
     }
+
+pub substituted_number-z-requires-clause-row_small : goal.substituted_number-z-requires-clause-row_small
+substituted_number-z-requires-clause-row_small c = rw (read_small c.loop-step.step.n c.loop-step.invariant.row_small) c.loop-step.invariant.row_small
+
+pub substituted_number-z-requires-clause-new_small : goal.substituted_number-z-requires-clause-new_small
+substituted_number-z-requires-clause-new_small c = rw (read_small c.loop-step.step.y c.loop-step.invariant.new_small) c.loop-step.invariant.new_small
 
 pub loop-step-preserved : goal.loop-step-preserved
 loop-step-preserved c =
@@ -50,3 +56,16 @@ pub returns-in_err-keep_sum-clause-wide : goal.returns-in_err-keep_sum-clause-wi
 returns-in_err-keep_sum-clause-wide c =
     let kept : to_z w128 (of_z w128 c.substituted_number-z.result) ≡ c.substituted_number-z.result = omega (arith, ints, c.substituted_number-z.ensures.small) in
     c.in_err-keep_sum.ensures.below (2 ^ 86) (rw kept c.substituted_number-z.ensures.small) c.loop-step.invariant.wide
+
+pub returns-clause-kept : goal.returns-clause-kept
+returns-clause-kept c =
+    let end : c.loop-step.step.k ≡ length c.args.pivot.now.standing.now = omega arith in
+    c.loop-step.invariant.written ∙ ap (λ k. wholes_of k (put_number (basic_in c.args.pivot.now.standing.now) c.args.pivot.now.leaving c.args.pivot.now.entering c.args.factors.own c.args.factors.new c.args.row.now c.args.new.now)) end
+
+pub loop-step-smaller : goal.loop-step-smaller
+loop-step-smaller c =
+    let l : c.loop-step.step.k < length c.args.pivot.now.standing.now = omega arith in
+    let next : IsNext (over 1 c.args.row.now) (over 1 c.args.new.now) c.loop-step.step.here c.loop-step.step.there (suc c.loop-step.step.k) c.next_step-step-in-loop-step.result.k =
+    c.next_step-step-in-loop-step.ensures.next (suc c.loop-step.step.k) (omega arith) (c.loop-step.invariant.row_past l) (c.loop-step.invariant.new_past l) in
+    let o : suc c.loop-step.step.k ≤ c.next_step-step-in-loop-step.result.k = next.order in
+    omega (arith, o, l)

@@ -1,9 +1,9 @@
-use Rattle.std.proofs.Common.{◌≡◌, ◌<◌, ◌≤◌, ◌^◌, List, [], ◌∷◌, ℕ, ℤ, ◌∙◌, to_z, of_z, length, arith, suc, sym, subst, lit<}
+use Rattle.std.proofs.Common.{◌≡◌, ◌<◌, ◌≤◌, ◌^◌, List, [], ◌∷◌, ℕ, ℤ, ◌∙◌, to_z, of_z, length, arith, suc, sym, subst, lit<, ap}
 use Rattle.std.specs.Int.{w64}
 use Rattle.cip_rational.specs.Range.{magnitude}
 use Rattle.cip_dict.specs.Lists.{basic_in}
 use Rattle.cip_dict.specs.SparseLines.{IsNext}
-use Rattle.cip_dict.specs.WholeLines.{Whole, over, turned_number, AreBelow}
+use Rattle.cip_dict.specs.WholeLines.{Whole, over, turned_number, AreBelow, wholes_of}
 use Rattle.cip_dict.proofs.Places.{place_zero}
 use Rattle.cip_dict.proofs.WholeParts.{none_over, read_small}
 use Rattle.cip_dict.proofs.WholeLoops.{whole_gap, whole_more, turned_none, turned_leaving}
@@ -31,6 +31,12 @@ loop-step-init c =
           (λ m a b. turned_none (basic_in c.args.pivot.now.standing.now) c.args.pivot.now.leaving c.args.pivot.now.entering c.args.positive (to_z w64 (of_z w64 c.args.d)) c.args.row.now m (none_over 1 c.args.row.now m (lit< tt) (next.row_none m a b)) (turned_leaving c.args.pivot.now.leaving m c.args.d c.args.leaving.now (length c.args.pivot.now.standing.now) c.requires.leaves c.requires.leaving_kept (none_over 1 c.args.leaving.now m (lit< tt) (next.new_none m a b))));
       small = subst (AreBelow (2 ^ 42)) (sym c.clear.ensures.items) tt;
     }
+
+pub turned_number-z-requires-clause-own_small : goal.turned_number-z-requires-clause-own_small
+turned_number-z-requires-clause-own_small c = rw (read_small c.args.d c.requires.own_small) c.requires.own_small
+
+pub turned_number-z-requires-clause-row_small : goal.turned_number-z-requires-clause-row_small
+turned_number-z-requires-clause-row_small c = rw (read_small c.loop-step.step.n c.loop-step.invariant.row_small) c.loop-step.invariant.row_small
 
 pub loop-step-preserved : goal.loop-step-preserved
 loop-step-preserved c =
@@ -63,3 +69,9 @@ loop-step-smaller c =
     c.next_step-step-in-loop-step.ensures.next (suc c.loop-step.step.k) (omega arith) (c.loop-step.invariant.row_past l) (c.loop-step.invariant.leaving_past l) in
     let o : suc c.loop-step.step.k ≤ c.next_step-step-in-loop-step.result.k = next.order in
     omega (arith, o, l)
+
+pub returns-clause-kept : goal.returns-clause-kept
+returns-clause-kept c =
+    let end : c.loop-step.step.k ≡ length c.args.pivot.now.standing.now = omega arith in
+    let h = c.loop-step.invariant.written ∙ ap (λ k. wholes_of k (turned_number (basic_in c.args.pivot.now.standing.now) c.args.pivot.now.leaving c.args.pivot.now.entering c.args.positive (to_z w64 (of_z w64 c.args.d)) c.args.row.now)) end in
+    rw (read_small c.args.d c.requires.own_small) at h

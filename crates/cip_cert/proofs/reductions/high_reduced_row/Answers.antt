@@ -1,0 +1,35 @@
+use Rattle.std.proofs.Common.{◌≡◌, ◌<◌, false, List, length, get_or, Option, Result, arith, sym, ap, ◌∙◌}
+use Rattle.cip_rational.specs.Rational.{ℚ, zeroℚ}
+use Rattle.cip_problem.specs.Activity.{value_at}
+use Rattle.cip_cert.specs.Checks.{chain, implied_high, high_allowed}
+use Rattle.cip_cert.specs.declared.faults.CutFault.{CutFault}
+use Rattle.cip_cert.proofs.Pools.{same_default}
+use Rattle.cip_cert.proofs.reductions.high_reduced_row.Goals as goal
+
+pub returns-in-Err-clause-steps : goal.returns-in-Err-clause-steps
+returns-in-Err-clause-steps c = sym (c.in-Err.ensures.next (λ (ds : List ℚ) (bound : ℚ). chain (implied_high c.args.column (get_or c.args.rows.now.whole.now c.args.column false) (value_at ds c.args.column) bound) (high_allowed c.args.value)))
+
+pub returns-in-Err-high_side-clause-steps : goal.returns-in-Err-high_side-clause-steps
+returns-in-Err-high_side-clause-steps c =
+    let whole = get_or c.args.rows.now.whole.now c.args.column false in
+    let row = c.rests_row.new.row.entries in
+    let inside : c.args.column < length row = omega (arith, c.requires.inside, c.requires.room, c.rests_row.ensures.columns) in
+    let coefficient : value_at row c.args.column ≡ c.index-entries-column.result =
+    same_default row c.args.column zeroℚ c.index-entries-column.result inside
+    ∙ sym (c.index-entries-column.is ∙ ap (λ (ds : List ℚ). get_or ds c.args.column c.index-entries-column.result) c.entries.ensures.entries) in
+    sym (c.in-Ok.ensures.next (λ (ds : List ℚ) (bound : ℚ). chain (implied_high c.args.column whole (value_at ds c.args.column) bound) (high_allowed c.args.value))
+    ∙ ap (λ (q : ℚ). chain (implied_high c.args.column whole q c.in-Ok.bound) (high_allowed c.args.value)) coefficient
+    ∙ ap (λ (r : Result (Option ℚ) CutFault). chain r (high_allowed c.args.value)) (sym c.in-Err-high_side.ensures))
+
+pub returns-in-Ok-high_side-clause-steps : goal.returns-in-Ok-high_side-clause-steps
+returns-in-Ok-high_side-clause-steps c =
+    let whole = get_or c.args.rows.now.whole.now c.args.column false in
+    let row = c.rests_row.new.row.entries in
+    let inside : c.args.column < length row = omega (arith, c.requires.inside, c.requires.room, c.rests_row.ensures.columns) in
+    let coefficient : value_at row c.args.column ≡ c.index-entries-column.result =
+    same_default row c.args.column zeroℚ c.index-entries-column.result inside
+    ∙ sym (c.index-entries-column.is ∙ ap (λ (ds : List ℚ). get_or ds c.args.column c.index-entries-column.result) c.entries.ensures.entries) in
+    c.allow_high.ensures
+    ∙ sym (c.in-Ok.ensures.next (λ (ds : List ℚ) (bound : ℚ). chain (implied_high c.args.column whole (value_at ds c.args.column) bound) (high_allowed c.args.value))
+    ∙ ap (λ (q : ℚ). chain (implied_high c.args.column whole q c.in-Ok.bound) (high_allowed c.args.value)) coefficient
+    ∙ ap (λ (r : Result (Option ℚ) CutFault). chain r (high_allowed c.args.value)) (sym c.in-Ok-high_side.ensures))
