@@ -10,7 +10,8 @@ ghost use Rattle.cip_leaves.specs.Leaf.{IsLeaf, Leaf, IsLeafOf};
 ghost use Rattle.cip_leaves.specs.LeafProgram as program_spec;
 ghost use Rattle.cip_leaves.specs.LeafProgram.{program_of_leaf};
 ghost use Rattle.cip_leaf.specs.Building.{IsRowsFault};
-ghost use Rattle.cip_leaf.specs.LeafAnswers.{IsLeafAnswer, IsValuesAnswer, EndsInOptimum, EndsInRay, EndsOutOfRange, IsWideAnswer};
+ghost use Rattle.cip_leaf.specs.LeafAnswers.{IsLeafAnswer, IsValuesAnswer, IsWideAnswer};
+ghost use Rattle.cip_leaf.specs.LeafAnswers.{EndsInOptimum, EndsInRay, EndsOutOfRange};
 ghost use Rattle.cip_leaf.specs.LeafAnswers.{IsFirstAlong};
 ghost use Rattle.cip_leaf.specs.Parts.{IsProgramOf};
 
@@ -204,8 +205,8 @@ fn answer_at(
     }
 }
 
-/// The answer on a leaf with this program: what few moves show of it, and else how Bland's list ends. `Err` where memory
-/// was refused.
+/// The answer on a leaf with this program: what few moves show of it, and else how Bland's list ends. `Err` where
+/// memory was refused.
 fn answer_by_moves(
     alloc: Global,
     solver: &mut Solver,

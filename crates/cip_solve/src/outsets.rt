@@ -74,8 +74,8 @@ fn ask(alloc: Global, core: &Core<'_>, kit: &mut Kit, kept: bool) -> Result<Rost
     begin(alloc, kit, kept, &opening.view(core))
 }
 
-/// What a search begins with of the program that presolve made of one, before a node was taken. `Err` comes where memory
-/// was refused.
+/// What a search begins with of the program that presolve made of one, before a node was taken. `Err` comes where
+/// memory was refused.
 pub(crate) fn begun_with<'p>(
     alloc: Global,
     program: &'p Program,
@@ -114,7 +114,8 @@ pub(crate) fn set_out<'p>(
         × IsSound (⟦<Roster as Seated>⟧.state outset.asking.plugins.roster)
         (⟦<Roster as Seated>⟧.room outset.asking.plugins.roster)) }
     ensures begun { IfOk result (λ outset. HasBegun (stock_of ⟦<AnyPlugin as Tells>⟧.who kit.old)
-        (stock_of ⟦<AnyPlugin as Tells>⟧.who kit.new) kept (⟦<Roster as Seated>⟧.state outset.asking.plugins.roster)) }
+        (stock_of ⟦<AnyPlugin as Tells>⟧.who kit.new) kept
+        (⟦<Roster as Seated>⟧.state outset.asking.plugins.roster)) }
     ensures room { IfOk result (λ outset. HasRoomFor (vec_len kit.new.spent)
         (vec_capacity kit.new.spent) (⟦<Roster as Seated>⟧.state outset.asking.plugins.roster)) }
     ensures err { OnErr result (stock_of ⟦<AnyPlugin as Tells>⟧.who kit.new
