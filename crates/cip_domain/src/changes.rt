@@ -10,7 +10,7 @@ use cip_lin::{Choice, Frac, Side, Sides};
 use std::marker::Model;
 
 /// A change of one column: its sides are met with others, and its choice may be made.
-#[derive(Clone, Copy, PartialEq, Eq)]
+#[derive(Clone, Copy)]
 pub struct Change {
     /// The number of the column, from 0.
     pub col: u32,

@@ -2,7 +2,7 @@
 use cip_model::Verdict;
 
 /// What offering a point comes to.
-#[derive(Clone, Copy, PartialEq, Eq)]
+#[derive(Clone, Copy)]
 pub enum Offered {
     /// The point is feasible, and cheaper than what was held: it is held now.
     Taken,

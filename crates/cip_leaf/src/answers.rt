@@ -3,7 +3,7 @@ use cip_frac::Frac;
 use cip_model::Place;
 
 /// By what a wide leaf is shown.
-#[derive(Clone, Copy, PartialEq, Eq)]
+#[derive(Clone, Copy)]
 pub enum Shown {
     /// A fixed part, what a side leaves of it, a first value, or a sum of the test of the point or of the ray overflows
     /// there.

@@ -16,7 +16,7 @@ use cip_lin::{Row, RowFault as AppendFault, Term};
 use std::alloc::{AllocError, Global};
 
 /// Why the rows of a leaf's program were not made.
-#[derive(Clone, Copy, PartialEq, Eq)]
+#[derive(Clone, Copy)]
 pub(crate) enum RowsFault {
     /// The fixed part of the row of this number overflows, or what a side leaves of it does.
     Wide(u32),

@@ -77,7 +77,7 @@ pub enum Proposal {
 }
 
 /// A change of the plugins themselves.
-#[derive(Clone, Copy, PartialEq, Eq)]
+#[derive(Clone, Copy)]
 pub enum Wish {
     /// The plugin at this place of the shelf is included.
     Include(u32),

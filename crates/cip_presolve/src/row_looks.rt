@@ -21,7 +21,7 @@ pub enum Place {
 }
 
 /// What looking at rows and columns comes to.
-#[derive(Clone, Copy, PartialEq, Eq)]
+#[derive(Clone, Copy)]
 pub enum RoundEnd {
     /// Some points may be feasible.
     Open,

@@ -16,7 +16,7 @@ use cip_price_rounds::PriceTask;
 use std::alloc::{AllocError, Global};
 
 /// What the Lagrangian bound of a round comes to.
-#[derive(Clone, Copy, PartialEq, Eq)]
+#[derive(Clone, Copy)]
 pub(crate) enum Summed {
     /// No feasible point in the box costs less.
     Number(Frac),

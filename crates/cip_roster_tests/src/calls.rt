@@ -6,15 +6,22 @@ use cip_plugin::{Given, View};
 use cip_roster::{Roster, Seated};
 use std::alloc::{AllocError, Global};
 
+/// Whether a list, which is dropped, has nothing in it.
+fn is_empty<T: Drop>(list: Vec<T>) -> bool {
+    let is_so = list.is_empty();
+    drop(list);
+    is_so
+}
+
 /// Whether no call of all plugins of a kind gives anything.
 fn lists_are_empty(roster: &mut Roster, alloc: Global, view: &View<'_>) -> Result<bool, AllocError>
     requires { IsSound (⟦<Roster as Seated>⟧.state roster.old) (⟦<Roster as Seated>⟧.room roster.old) }
     ensures { IsSound (⟦<Roster as Seated>⟧.state roster.new) (⟦<Roster as Seated>⟧.room roster.new) }
 {
-    let cuts = roster.call_separators(alloc, view)?.is_empty();
-    let reductions = roster.call_propagators(alloc, view)?.is_empty();
-    let priced = roster.call_pricers(alloc, view, 0, &[])?.is_empty();
-    let guesses = roster.call_heuristics(alloc, view)?.is_empty();
+    let cuts = is_empty(roster.call_separators(alloc, view)?);
+    let reductions = is_empty(roster.call_propagators(alloc, view)?);
+    let priced = is_empty(roster.call_pricers(alloc, view, 0, &[])?);
+    let guesses = is_empty(roster.call_heuristics(alloc, view)?);
     Ok(cuts && reductions && priced && guesses)
 }
 
@@ -23,14 +30,26 @@ fn rules_end(roster: &mut Roster, alloc: Global, view: &View<'_>) -> Result<bool
     requires { IsSound (⟦<Roster as Seated>⟧.state roster.old) (⟦<Roster as Seated>⟧.room roster.old) }
     ensures { IsSound (⟦<Roster as Seated>⟧.state roster.new) (⟦<Roster as Seated>⟧.room roster.new) }
 {
-    Ok(roster.call_rules(alloc, view, None)?.is_none())
+    match roster.call_rules(alloc, view, None)? {
+        Some(found) => {
+            drop(found);
+            Ok(false)
+        }
+        None => Ok(true),
+    }
 }
 
 /// Whether there is no next handler.
 fn enforcers_end(roster: &mut Roster, alloc: Global, view: &View<'_>) -> Result<bool, AllocError>
     requires { IsSound (⟦<Roster as Seated>⟧.state roster.old) (⟦<Roster as Seated>⟧.room roster.old) }
 {
-    Ok(roster.call_enforcers(alloc, view, None)?.is_none() && roster.trace().is_empty())
+    match roster.call_enforcers(alloc, view, None)? {
+        Some(found) => {
+            drop(found);
+            Ok(false)
+        }
+        None => Ok(roster.trace().is_empty()),
+    }
 }
 
 /// Whether a roster without plugins gives nothing.
@@ -105,5 +124,7 @@ pub fn are_ranked(roster: &mut Roster, alloc: Global, view: &View<'_>) -> Result
     requires { IsSound (⟦<Roster as Seated>⟧.state roster.old) (⟦<Roster as Seated>⟧.room roster.old) }
 {
     let given = roster.call_heuristics(alloc, view)?;
-    Ok(counts_are(&given, &[(1, 1), (0, 64)]) && says(roster.trace(), &LINES))
+    let are_counted = counts_are(&given, &[(1, 1), (0, 64)]);
+    drop(given);
+    Ok(are_counted && says(roster.trace(), &LINES))
 }

@@ -107,5 +107,8 @@ pub fn ends_well(
     roster.close(kit);
     let trace = roster.take_trace(alloc);
     let none = roster.trace().is_empty();
-    Ok(granted && none && are_spent(kit) && are_named(&trace) && says(&trace.lines, &LINES))
+    drop(given);
+    let is_said = are_named(&trace) && says(&trace.lines, &LINES);
+    drop(trace);
+    Ok(granted && none && are_spent(kit) && is_said)
 }

@@ -216,9 +216,11 @@ fn is_quickly_solved(alloc: Global, solver: &mut Solver, program: Program<'_>, w
 /// In each of these ways.
 fn is_answered(alloc: Global, program: Program<'_>, case: &Case) -> bool {
     let mut solver = Solver::new(alloc);
-    is_solved(alloc, &mut solver, program, case)
+    let is_so = is_solved(alloc, &mut solver, program, case)
         && is_fully_solved(alloc, &mut solver, program, case.want)
-        && (!case.is_quick || is_quickly_solved(alloc, &mut solver, program, case.want))
+        && (!case.is_quick || is_quickly_solved(alloc, &mut solver, program, case.want));
+    drop(solver);
+    is_so
 }
 
 fn is_so(alloc: Global, case: &Case) -> bool {

@@ -203,7 +203,11 @@ fn is_left(alloc: Global, presolved: &Presolved, kind: Kind) -> bool {
 fn is_so(alloc: Global, answer: Result<PresolveEnd, AllocError>, kind: Kind) -> bool {
     match answer {
         Err(_) => false,
-        Ok(PresolveEnd::Reduced(presolved)) => is_left(alloc, &presolved, kind),
+        Ok(PresolveEnd::Reduced(presolved)) => {
+            let is_so = is_left(alloc, &presolved, kind);
+            drop(presolved);
+            is_so
+        }
         Ok(
             PresolveEnd::NoPoint {
                 place: Place::Row(row),

@@ -44,7 +44,11 @@ fn agrees(
     match answer {
         Err(_) => false,
         Ok(PresolveEnd::NoPoint { .. }) => ending == Ending::Infeasible,
-        Ok(PresolveEnd::Reduced(presolved)) => ends_so(alloc, program, &presolved, ending),
+        Ok(PresolveEnd::Reduced(presolved)) => {
+            let is_so = ends_so(alloc, program, &presolved, ending);
+            drop(presolved);
+            is_so
+        }
     }
 }
 

@@ -12,7 +12,7 @@ use crate::reading::Reading;
 use cip_frac::Frac;
 
 /// Why a text has no value.
-#[derive(Clone, Copy, PartialEq, Eq)]
+#[derive(Clone, Copy)]
 pub enum NumberFault {
     /// The text is no number.
     NotANumber,

@@ -36,8 +36,12 @@ fn at_ones(alloc: Global, program: &Program) -> Option<Verdict> {
 /// The point of ones is feasible at the sum of the costs, and there are so many entries.
 fn is_drawn(alloc: Global, drawn: Drawn, costs: i64, wanted: usize) -> bool {
     match program_of(alloc, drawn) {
-        Some(program) => entries(&program) == wanted
-            && at_ones(alloc, &program) == Some(Verdict::Feasible(Frac::from(costs).neg())),
+        Some(program) => {
+            let count = entries(&program);
+            let verdict = at_ones(alloc, &program);
+            drop(program);
+            count == wanted && verdict == Some(Verdict::Feasible(Frac::from(costs).neg()))
+        }
         None => false,
     }
 }

@@ -25,6 +25,7 @@ fn mps_faults_stay(alloc: Global) -> bool {
     let open = mps_line(&mut reader, "ROWS\n N COST\n X R1");
     let known = mps_line(&mut reader, "\nROWS\n");
     let later = mps_line(&mut reader, "COLUMNS\n");
+    drop(reader);
     (open, known, later) == (None, Some(3), Some(3))
 }
 
@@ -34,19 +35,27 @@ fn lp_faults_stay(alloc: Global) -> bool {
     let open = lp_line(&mut reader, "Min\n x\nST\n x !");
     let known = lp_line(&mut reader, " ");
     let later = lp_line(&mut reader, "1\nEnd\n");
+    drop(reader);
     (open, known, later) == (None, Some(4), Some(4))
 }
 
-/// Behind how many bytes of a text a reader of LP texts knows its fault, where it takes one at a time; 0 where it knows
-/// none.
-fn known_behind(alloc: Global, text: &[u8]) -> usize {
-    let mut reader = LpReader::new(alloc);
+/// Behind how many bytes of a text a reader knows a fault; 0 where it knows none.
+fn fed_up_to(reader: &mut LpReader, text: &[u8]) -> usize {
     for at in 0..text.len() {
         if reader.feed(&text[at..at + 1]).is_err() {
             return at + 1;
         }
     }
     0
+}
+
+/// Behind how many bytes of a text a reader of LP texts knows its fault, where it takes one at a time; 0 where it knows
+/// none.
+fn known_behind(alloc: Global, text: &[u8]) -> usize {
+    let mut reader = LpReader::new(alloc);
+    let behind = fed_up_to(&mut reader, text);
+    drop(reader);
+    behind
 }
 
 /// Where a token ends: before a blank, a mark or a comment that it doesn't go on with; a relation before a third byte;

@@ -15,8 +15,12 @@ fn cost_of(alloc: Global, program: &Program, text: &str) -> Option<i128> {
 /// A program maximises, and (2, 0, 1) is feasible at 13; (2, 0, 2) is not feasible.
 fn are_read(alloc: Global) -> bool {
     match program_of(alloc, JOINED) {
-        Some(program) => cost_of(alloc, &program, "a 2\nb 0\nc 1\n") == Some(-13)
-            && cost_of(alloc, &program, "a 2\nb 0\nc 2\n").is_none(),
+        Some(program) => {
+            let cost = cost_of(alloc, &program, "a 2\nb 0\nc 1\n");
+            let none = cost_of(alloc, &program, "a 2\nb 0\nc 2\n");
+            drop(program);
+            cost == Some(-13) && none.is_none()
+        }
         None => false,
     }
 }

@@ -22,7 +22,7 @@ pub(crate) enum Half {
 }
 
 /// What parts the values of a column.
-#[derive(Clone, Copy, PartialEq, Eq)]
+#[derive(Clone, Copy)]
 pub(crate) enum Parting {
     /// A whole number.
     Whole,
