@@ -18,12 +18,7 @@ use std::alloc::{AllocError, Global};
 
 /// Makes the moves of a start at the first state of a linear program; answers whether one is out of range, at which it
 /// stops. `Err` where memory was refused.
-fn stops_before(
-    alloc: Global,
-    lp: &Lp,
-    dict: &mut Dict,
-    start: &Start,
-) -> Result<bool, AllocError>
+fn stops_before(alloc: Global, lp: &Lp, dict: &mut Dict, start: &Start) -> Result<bool, AllocError>
     requires first { dict.old ≡ first_of_program lp.now }
     requires long { length start.now ≡ variables lp.now }
     ensures { IfOk result (λ _. IsStateOf lp.now dict.new) }
