@@ -53,12 +53,6 @@ fn columns_left(
     requires { CanLeave program.now draft.now gone.now }
     ensures { IfOk result (λ parts. program_from parts ≡ left_columns program.now draft.now gone.now) }
 {
-    let Ok(column_names) = names_left(alloc, gone, program.column_names()) else {
-        return Err(AllocError);
-    };
-    let Ok(row_names) = row_names_left(alloc, program, draft, gone) else {
-        return Err(AllocError);
-    };
     let Ok(costs) = costs_left(alloc, gone, draft.costs()) else {
         return Err(AllocError);
     };
@@ -69,6 +63,12 @@ fn columns_left(
         return Err(AllocError);
     };
     let Ok(choices) = choices_left(alloc, gone, draft.choices().as_slice()) else {
+        return Err(AllocError);
+    };
+    let Ok(column_names) = names_left(alloc, gone, program.column_names()) else {
+        return Err(AllocError);
+    };
+    let Ok(row_names) = row_names_left(alloc, program, draft, gone) else {
         return Err(AllocError);
     };
     Ok(Parts {
@@ -226,15 +226,6 @@ pub fn compacted(
 fn copied(alloc: Global, program: &Program) -> Result<Program, AllocError>
     ensures { IfOk result (λ copy. copy ≡ program.now) }
 {
-    let Ok(column_names) = copied_names(alloc, program.column_names()) else {
-        return Err(AllocError);
-    };
-    let Ok(row_names) = copied_names(alloc, program.row_names()) else {
-        return Err(AllocError);
-    };
-    let Ok(rows) = copied_rows(alloc, program.rows()) else {
-        return Err(AllocError);
-    };
     let Ok(costs) = program.costs().to_vec(alloc) else {
         return Err(AllocError);
     };
@@ -245,6 +236,15 @@ fn copied(alloc: Global, program: &Program) -> Result<Program, AllocError>
         return Err(AllocError);
     };
     let Ok(choices) = program.choices().copied(alloc) else {
+        return Err(AllocError);
+    };
+    let Ok(rows) = copied_rows(alloc, program.rows()) else {
+        return Err(AllocError);
+    };
+    let Ok(column_names) = copied_names(alloc, program.column_names()) else {
+        return Err(AllocError);
+    };
+    let Ok(row_names) = copied_names(alloc, program.row_names()) else {
         return Err(AllocError);
     };
     Ok(Program::new(Parts {

@@ -42,21 +42,35 @@ static CASES: [Case; 9] = [
     Case::Ends,
 ];
 
+/// Puts a heuristic that tells its calls behind plugins.
+fn add_teller(plugins: &mut Vec<AnyPlugin>, alloc: Global) -> Result<(), AllocError> {
+    plugins.reserve(1)?;
+    let teller = Box::new(alloc, Teller::new(alloc)?)?;
+    plugins.push_reserved(AnyPlugin::Heuristic(teller));
+    Ok(())
+}
+
+/// Puts the plugins of the case in which a roster ends into a kit.
+fn fill_to_end(kit: &mut Kit, alloc: Global) -> Result<(), AllocError> {
+    add_teller(&mut kit.start, alloc)?;
+    add_finders(&mut kit.start, alloc, &[QUIET])?;
+    add_finders(&mut kit.shelf, alloc, &[QUIET, QUIET])
+}
+
+/// Puts two handlers into a kit, and a heuristic onto its shelf.
+fn fill_to_tell(kit: &mut Kit, alloc: Global, delivery: &Delivery) -> Result<(), AllocError> {
+    add_wishers(&mut kit.start, alloc, &delivery.wishes)?;
+    add_finders(&mut kit.shelf, alloc, &[QUIET])
+}
+
 /// Puts the plugins of a case into a kit.
 fn fill(kit: &mut Kit, alloc: Global, case: Case) -> Result<(), AllocError> {
     match case {
         Case::Nothing => Ok(()),
         Case::Ranks => add_finders(&mut kit.start, alloc, &FINDERS),
         Case::Wishes => add_finders(&mut kit.shelf, alloc, &[QUIET]),
-        Case::Tells(delivery) => {
-            add_wishers(&mut kit.start, alloc, &delivery.wishes)?;
-            add_finders(&mut kit.shelf, alloc, &[QUIET])
-        }
-        Case::Ends => {
-            kit.start.push(AnyPlugin::Heuristic(Box::new(alloc, Teller::new(alloc)?)?))?;
-            add_finders(&mut kit.start, alloc, &[QUIET])?;
-            add_finders(&mut kit.shelf, alloc, &[QUIET, QUIET])
-        }
+        Case::Tells(delivery) => fill_to_tell(kit, alloc, &delivery),
+        Case::Ends => fill_to_end(kit, alloc),
     }
 }
 
@@ -76,14 +90,26 @@ fn comes_true(kit: &mut Kit, alloc: Global, view: &View<'_>, case: Case) -> Resu
     is_so
 }
 
-/// Whether a case comes true.
-fn holds(alloc: Global, view: &View<'_>, case: Case) -> Result<bool, AllocError> {
-    let mut kit = empty_kit(alloc);
-    fill(&mut kit, alloc, case)?;
+/// Whether a case comes true in a kit that is filled for it.
+fn comes_true_filled(
+    kit: &mut Kit,
+    alloc: Global,
+    view: &View<'_>,
+    case: Case,
+) -> Result<bool, AllocError> {
+    fill(kit, alloc, case)?;
     if kit.start.len() > 3 || kit.shelf.len() > 2 {
         return Ok(false);
     }
-    comes_true(&mut kit, alloc, view, case)
+    comes_true(kit, alloc, view, case)
+}
+
+/// Whether a case comes true.
+fn holds(alloc: Global, view: &View<'_>, case: Case) -> Result<bool, AllocError> {
+    let mut kit = empty_kit(alloc);
+    let is_so = comes_true_filled(&mut kit, alloc, view, case);
+    drop(kit);
+    is_so
 }
 
 #[test]

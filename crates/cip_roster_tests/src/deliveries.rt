@@ -72,6 +72,19 @@ pub const INCLUDE_ONE: Delivery = Delivery {
     ],
 };
 
+/// Delivers one event of a queue, which is put there.
+fn deliver_one(
+    roster: &mut Roster,
+    alloc: Global,
+    queue: &mut EventQueue,
+    view: &View<'_>,
+) -> Result<(), AllocError>
+    requires { IsSound (⟦<Roster as Seated>⟧.state roster.old) (⟦<Roster as Seated>⟧.room roster.old) }
+{
+    queue.push(Event::at(7, EventKind::LpSolved))?;
+    roster.deliver(alloc, queue, view)
+}
+
 /// Whether a delivery of one event ends with an empty queue and these lines, behind the four of the beginning.
 pub fn is_told(
     roster: &mut Roster,
@@ -82,10 +95,12 @@ pub fn is_told(
     requires { IsSound (⟦<Roster as Seated>⟧.state roster.old) (⟦<Roster as Seated>⟧.room roster.old) }
 {
     let mut queue = EventQueue::new(alloc);
-    queue.push(Event::at(7, EventKind::LpSolved))?;
-    roster.deliver(alloc, &mut queue, view)?;
+    let delivered = deliver_one(roster, alloc, &mut queue, view);
+    let is_empty = queue.is_empty();
+    drop(queue);
+    delivered?;
     match roster.trace().get(4..) {
         None => Ok(false),
-        Some(written) => Ok(queue.is_empty() && says(written, lines)),
+        Some(written) => Ok(is_empty && says(written, lines)),
     }
 }
