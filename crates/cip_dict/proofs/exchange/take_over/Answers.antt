@@ -1,4 +1,7 @@
-use Rattle.std.proofs.Common.{◌∙◌, ap, sym, length}
+use Rattle.std.proofs.Common.{◌∙◌, ap, refl, length, arith}
+use Rattle.cip_dictionary.proofs.Tables.{length-table}
+use Rattle.cip_dict.specs.Values.{taken_value}
+use Rattle.cip_dict.proofs.RowLists.{written_back}
 use Rattle.cip_dict.proofs.exchange.take_over.Goals as goal
 
 pub take_over_rows-requires-clause-leaving : goal.take_over_rows-requires-clause-leaving
@@ -37,10 +40,26 @@ take_values-requires-clause-other_long c =
     rw (c.as_slice-places.ensures.value, c.as_slice.ensures.value) c.requires.room_long.values
 
 pub index_mut-requires : goal.index_mut-requires
-index_mut-requires c = c.requires.leaving
+index_mut-requires c = omega (arith, c.requires.leaving, c.args.standing.now.ok.0)
 
 pub index_mut-requires-2 : goal.index_mut-requires-2
-index_mut-requires-2 c = ?
+index_mut-requires-2 c = omega (arith, c.requires.entering, c.args.standing.now.ok.0)
 
 pub returns : goal.returns
-returns c = ?
+returns c =
+    let rows_long = rw c.as_slice-places.ensures.value at c.take_over_rows.ensures.rows_long in
+    let other_long = rw c.as_slice-places.ensures.value at c.take_over_rows.ensures.other_long in
+    let values = rw (c.as_slice-places.ensures.value, c.as_mut_slice-values.ensures.value, c.as_slice.ensures.value) at c.take_values.ensures in
+    record {
+      stands = refl;
+      rows = rw (written_back c.args.lists.now.rows.len _ c.take_over_rows.new.rows c.args.lists.now.rows.items (omega (arith, c.args.lists.now.rows.ok.0, rows_long.each_one, c.requires.lists_long.rows.each_one))) (rw (c.as_slice-places.ensures.value, c.as_mut_slice-rows.ensures.value, c.as_mut_slice-other.ensures.value) at c.take_over_rows.ensures.rows);
+      costs = c.swap.ensures.x_after;
+      values = written_back c.args.lists.now.values.len _ c.take_values.new.values c.args.lists.now.values.items (omega (arith, c.args.lists.now.values.ok.0, c.requires.lists_long.values, ap length values, length-table (length c.args.standing.now.items) (taken_value c.args.standing.now.items c.args.asked.entering c.args.lists.now.values.items c.args.room.now.values.items))) ∙ values;
+      cost_is = refl;
+      long = rw (written_back c.args.lists.now.rows.len _ c.take_over_rows.new.rows c.args.lists.now.rows.items (omega (arith, c.args.lists.now.rows.ok.0, rows_long.each_one, c.requires.lists_long.rows.each_one))) rows_long;
+      rest_long = rw (written_back c.args.room.now.rows.len _ c.take_over_rows.new.other c.args.room.now.rows.items (omega (arith, c.args.room.now.rows.ok.0, other_long.each_one, c.requires.room_long.rows.each_one))) other_long;
+      rest_entering = rw c.as_slice-places.ensures.value at c.take_over_rows.ensures.entering_long;
+      rest_changed = c.requires.room_long.changed;
+      rest_costs = c.swap.ensures.y_after;
+      rest_values = c.requires.room_long.values;
+    }
