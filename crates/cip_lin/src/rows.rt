@@ -151,7 +151,13 @@ impl Row {
     {
         let mut row = Row::empty(alloc, low, high);
         for term in terms {
-            row.append(*term)?;
+            match row.append(*term) {
+                Ok(()) => (),
+                Err(fault) => {
+                    drop(row);
+                    return Err(fault);
+                }
+            }
         }
         Ok(row)
     }
