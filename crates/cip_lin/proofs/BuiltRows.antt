@@ -10,7 +10,7 @@ use Rattle.cip_problem.specs.Activity.{value_at}
 use Rattle.cip_problem.specs.RowTerms.{no_term, column_at, coefficient_at, AreTermsTo}
 use Rattle.cip_lin.specs.declared.rows.RowFault.{RowFault}
 use Rattle.cip_lin.specs.declared.rows.RowFault.TheVariants.{NotRising, ZeroTerm, NoMemory}
-use Rattle.cip_lin.specs.RowFaults.{CanStandAfter, IsAppendFault, IsBuildFault, FallsBackAt, RisesAt}
+use Rattle.cip_lin.specs.RowFaults.{CanStandAfter, IsAppendFault, IsBuildFault}
 use Rattle.cip_lin.specs.RowSums.{activity_from}
 
 pub none_built : (terms : List Term) → AreTermsTo 0 terms
