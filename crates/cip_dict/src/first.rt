@@ -388,7 +388,11 @@ fn lists_for(
             values,
             cost,
         }),
-        Err(fault) => Err(fault),
+        Err(fault) => {
+            drop(all);
+            drop(rows);
+            Err(fault)
+        }
     }
 }
 
