@@ -330,7 +330,7 @@ fn scratch_for(alloc: Global, spare: &mut Spare, held: usize) -> Scratch {
 }
 
 /// Room for what a move writes, beside these lists; `Err` where the memory was refused.
-pub(crate) fn room_for(
+fn room_for(
     alloc: Global,
     spare: &mut Spare,
     standing: &[Option<Stand>],
@@ -396,13 +396,31 @@ fn lists_for(
     }
 }
 
-/// The same, with lines of whole numbers, where they can be kept so.
+/// Keeps the lines of these lists as whole numbers from now on, where they can be, and answers room for what a move
+/// writes beside them; `Err` where the memory was refused.
+fn settled_room(
+    alloc: Global,
+    spare: &mut Spare,
+    standing: &[Option<Stand>],
+    lists: &mut Lists,
+) -> Result<Room, AllocError>
+    ensures rows { lists.new.rows.items ≡ lists.old.rows.items }
+    ensures costs { lists.new.costs ≡ lists.old.costs }
+    ensures values { lists.new.values.items ≡ lists.old.values.items }
+    ensures cost { lists.new.cost ≡ lists.old.cost }
+    ensures room { IfOk result (λ room. HasRoom standing.now room) }
+{
+    settle_lists(lists)?;
+    room_for(alloc, spare, standing, lists)
+}
+
+/// The same lists, with lines of whole numbers, where they can be kept so, and room for what a move writes beside them.
 pub(crate) fn first_lists(
     alloc: Global,
     spare: &mut Spare,
     standing: &[Option<Stand>],
     system: &System,
-) -> Result<Lists, FirstFault>
+) -> Result<(Lists, Room), FirstFault>
     requires few { length system.now.columns.now + length system.now.rows.now < 2 ^ 32 }
     requires stands { standing.now
         ≡ table (length system.now.columns.now + length system.now.rows.now) (stand_in system.now.columns.now) }
@@ -411,15 +429,19 @@ pub(crate) fn first_lists(
     ensures { let s = system.now in
         let p = system_in s.entries.now s.rows.now s.columns.now s.costs.now in
         MatchResult result
-        (λ lists. (first_overflow (first_operations p) ≡ None)
-        × (state (system.now.columns.now ++ system.now.rows.now) standing.now lists ≡ first p)
-        × HasLists standing.now lists)
+        (λ found. (first_overflow (first_operations p) ≡ None)
+        × (state (system.now.columns.now ++ system.now.rows.now) standing.now found.0 ≡ first p)
+        × HasLists standing.now found.0
+        × HasRoom standing.now found.1)
         (IsFirstFault p) }
 {
     match lists_for(alloc, spare, standing, system) {
-        Ok(found) => match settle_lists(found) {
-            Ok(lists) => Ok(lists),
-            Err(_) => Err(FirstFault::NoMemory),
+        Ok(mut lists) => match settled_room(alloc, spare, standing, &mut lists) {
+            Ok(room) => Ok((lists, room)),
+            Err(_) => {
+                drop(lists);
+                Err(FirstFault::NoMemory)
+            }
         },
         Err(fault) => Err(fault),
     }
