@@ -78,8 +78,13 @@ impl Dict {
             columns: column_sides,
             costs,
         };
-        let standing = first_stands(alloc, spare, column_sides, n)?;
-        let sides = all_sides(alloc, spare, column_sides, row_sides)?;
+        let Ok(standing) = first_stands(alloc, spare, column_sides, n) else {
+            return Err(FirstFault::NoMemory);
+        };
+        let Ok(sides) = all_sides(alloc, spare, column_sides, row_sides) else {
+            drop(standing);
+            return Err(FirstFault::NoMemory);
+        };
         match first_lists(alloc, spare, standing.as_slice(), &system) {
             Ok((lists, room)) => Ok(Dict {
                 sides,
