@@ -68,7 +68,10 @@ pub(crate) fn first_stands(
 {
     let mut standing = spare.stands(alloc);
     for v in 0..n {
-        standing.push(stand_of(columns, v))?;
+        let Ok(()) = standing.push(stand_of(columns, v)) else {
+            drop(standing);
+            return Err(AllocError);
+        };
     }
     Ok(standing)
 }
@@ -97,7 +100,10 @@ fn empty_rows(
     let mut rows = spare.forms(alloc);
     for v in 0..standing.len() {
         let row = empty_row(alloc, spare, standing, v);
-        rows.push(row)?;
+        let Ok(()) = rows.push(row) else {
+            drop(rows);
+            return Err(AllocError);
+        };
     }
     Ok(rows)
 }
@@ -168,7 +174,10 @@ fn column_values(
 {
     let mut values = spare.numbers(alloc);
     for k in 0..columns.len() {
-        values.push(column_at(columns, k))?;
+        let Ok(()) = values.push(column_at(columns, k)) else {
+            drop(values);
+            return Err(AllocError);
+        };
     }
     Ok(values)
 }
