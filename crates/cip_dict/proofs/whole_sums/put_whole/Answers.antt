@@ -1,4 +1,4 @@
-use Rattle.std.proofs.Common.{◌≡◌, to_z, of_z, sym, ◌∙◌, ◌*◌, ◌-◌, ◌^◌, length, arith, mul-pos}
+use Rattle.std.proofs.Common.{◌≡◌, to_z, of_z, sym, ◌∙◌, ◌-◌, ◌^◌, length, arith, mul-pos}
 use Rattle.std.specs.Int.{w64}
 use Rattle.std.proofs.lemmas.Nat.{mul-le}
 use Rattle.cip_dict.proofs.Settled.{found_map}
