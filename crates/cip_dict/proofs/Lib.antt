@@ -21,6 +21,7 @@ pub mod Places
 pub mod PutEntries
 pub mod PutBehind
 pub mod Puts
+pub mod ReadNumbers
 pub mod RowLists
 pub mod Settled
 pub mod SparseLines

@@ -1,5 +1,5 @@
 -- Fractions as whole numbers over one denominator.
-use Rattle.std.proofs.Common.{◌≡◌, ℕ, ◌+◌, ◌*◌, ◌<◌, ℤ, pos, ◌*ℤ◌, List, [], ◌∷◌, ◌++◌, length, take, get_or, Option, Some, None, IfSome, sym, ap, ap₂, ◌∙◌, arith}
+use Rattle.std.proofs.Common.{◌≡◌, ℕ, ◌+◌, ◌*◌, ◌<◌, ℤ, pos, ◌*ℤ◌, List, [], ◌∷◌, ◌++◌, length, take, get_or, Option, Some, None, Result, Ok, Err, IfSome, IfOk, sym, ap, ap₂, ◌∙◌, arith}
 use Rattle.std.proofs.lemmas.List.{take_more}
 use Rattle.cip_rational.specs.Rational.{ℚ, zeroℚ, ratio, numerator, denominator, is_ratio}
 use Rattle.cip_rational.proofs.Rational.Lowest.{denominator-pos}
@@ -11,6 +11,10 @@ use Rattle.cip_dict.proofs.WholeParts.{over_append}
 pub some_map : {X : Type 0} (r : Option X) (P Q : X → Type 0) → IfSome r P → ((v : X) → P v → Q v) → IfSome r Q
 some_map (Some v) P Q h f = f v h
 some_map None P Q h f = tt
+
+pub found_map : {X E : Type 0} (r : Result (Option X) E) (P Q : X → Type 0) → IfOk r (λ found. IfSome found P) → ((v : X) → P v → Q v) → IfOk r (λ found. IfSome found Q)
+found_map (Ok found) P Q h f = some_map found P Q h f
+found_map (Err e) P Q h f = tt
 
 pub whole_is : (entry : ℚ) (n z : ℤ) (d below f : ℕ) → n ≡ numerator entry → d ≡ denominator entry → 0 < f → below ≡ d * f → z ≡ n *ℤ pos f → ratio z below ≡ entry
 whole_is entry n z d below f en ed hf eb ez =

@@ -13,7 +13,7 @@ ghost use Rattle.cip_dictionary.specs.MoveOperations.{exchange_operations, flip_
 
 use crate::exchange::{plan, take_over};
 use crate::fault::{FirstFault, MoveFault, OutOfRange};
-use crate::first::{System, all_sides, first_lists, first_stands, room_for};
+use crate::first::{System, all_sides, first_lists, first_stands};
 use crate::flip::{plan_flip, take_flip};
 use crate::lists::{Lists, Room};
 use crate::pivots::Exchange;
@@ -72,26 +72,32 @@ impl Dict {
             (IsFirstFault p) }
     {
         let n = column_sides.len() + row_sides.len();
-        let places = first_stands(alloc, spare, column_sides, n)?;
-        let standing = places.as_slice();
         let system = System {
             entries,
             rows: row_sides,
             columns: column_sides,
             costs,
         };
-        let found = match first_lists(alloc, spare, standing, &system) {
-            Ok(found) => found,
-            Err(fault) => return Err(fault),
+        let Ok(standing) = first_stands(alloc, spare, column_sides, n) else {
+            return Err(FirstFault::NoMemory);
         };
-        let room = room_for(alloc, spare, standing, &found)?;
-        let sides = all_sides(alloc, spare, column_sides, row_sides)?;
-        Ok(Dict {
-            sides,
-            standing: places,
-            lists: found,
-            room,
-        })
+        let Ok(sides) = all_sides(alloc, spare, column_sides, row_sides) else {
+            drop(standing);
+            return Err(FirstFault::NoMemory);
+        };
+        match first_lists(alloc, spare, standing.as_slice(), &system) {
+            Ok((lists, room)) => Ok(Dict {
+                sides,
+                standing,
+                lists,
+                room,
+            }),
+            Err(fault) => {
+                drop(sides);
+                drop(standing);
+                Err(fault)
+            }
+        }
     }
 
     /// Keeps the lists, so that the next dictionary can be made of them.

@@ -91,11 +91,11 @@ fn write_others(pivot: &Pivot, lists: &Lists, room: &mut Room) -> Result<(), Mov
     write_costs(pivot, new, &lists.costs, &mut room.costs, &mut room.scratch)
 }
 
-/// Writes the row of the variable that enters, by `row`, that of the one that leaves, and counts what it has room for
-/// then. It isn't spelled yet.
+/// Writes the row of the variable that enters, by that of the one that leaves, which is one of these rows, and counts
+/// what it has room for then. It isn't spelled yet.
 fn write_entering(
     pivot: &Pivot,
-    row: &Form,
+    rows: &[Form],
     new: &mut Form,
     scratch: &mut Scratch,
 ) -> Result<(), MoveFault>
@@ -103,19 +103,21 @@ fn write_entering(
     requires leaving { pivot.now.leaving < length pivot.now.standing.now }
     requires entering { pivot.now.entering < length pivot.now.standing.now }
     requires nonzero { is_zero pivot.now.inverse ≡ false }
-    requires pivot { pivot.now.inverse ≡ inverse (value_at row.now pivot.now.entering) }
-    requires row_long { length row.now ≡ length pivot.now.standing.now }
+    requires pivot { pivot.now.inverse ≡ inverse (entry_in rows.now pivot.now.leaving pivot.now.entering) }
+    requires within { pivot.now.leaving < length rows.now }
+    requires row_long { length (row_in rows.now pivot.now.leaving) ≡ length pivot.now.standing.now }
     ensures written { let n = length pivot.now.standing.now in
-        let operations = each n (solved_operations_by pivot.now (value_at row.now)) in
+        let row = entry_in rows.now pivot.now.leaving in
+        let operations = each n (solved_operations_by pivot.now row) in
         MatchResult result
-        (λ _. (first_overflow operations ≡ None) × (new.new ≡ table n (solved_by pivot.now (value_at row.now))))
+        (λ _. (first_overflow operations ≡ None) × (new.new ≡ table n (solved_by pivot.now row)))
         (IsMoveFault operations) }
     ensures long { length new.new ≡ length pivot.now.standing.now }
     ensures spelled { HasSpelled new.new scratch.new.entering }
 {
     let before = new.room();
     scratch.entering.is_done = false;
-    match write_solved(pivot, row, new) {
+    match write_solved(pivot, &rows[pivot.leaving as usize], new) {
         Ok(()) => (),
         Err(fault) => return Err(fault),
     }
@@ -144,8 +146,8 @@ fn write_lines(pivot: &Pivot, lists: &Lists, room: &mut Room) -> Result<(), Move
         (IsMoveFault operations) }
     ensures long { HasRoom pivot.now.standing.now room.new }
 {
-    let row = &lists.rows[pivot.leaving as usize];
-    match write_entering(pivot, row, &mut room.entering, &mut room.scratch) {
+    let rows = lists.rows.as_slice();
+    match write_entering(pivot, rows, &mut room.entering, &mut room.scratch) {
         Ok(()) => (),
         Err(fault) => return Err(fault),
     }

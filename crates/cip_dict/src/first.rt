@@ -68,7 +68,10 @@ pub(crate) fn first_stands(
 {
     let mut standing = spare.stands(alloc);
     for v in 0..n {
-        standing.push(stand_of(columns, v))?;
+        let Ok(()) = standing.push(stand_of(columns, v)) else {
+            drop(standing);
+            return Err(AllocError);
+        };
     }
     Ok(standing)
 }
@@ -97,7 +100,10 @@ fn empty_rows(
     let mut rows = spare.forms(alloc);
     for v in 0..standing.len() {
         let row = empty_row(alloc, spare, standing, v);
-        rows.push(row)?;
+        let Ok(()) = rows.push(row) else {
+            drop(rows);
+            return Err(AllocError);
+        };
     }
     Ok(rows)
 }
@@ -168,7 +174,10 @@ fn column_values(
 {
     let mut values = spare.numbers(alloc);
     for k in 0..columns.len() {
-        values.push(column_at(columns, k))?;
+        let Ok(()) = values.push(column_at(columns, k)) else {
+            drop(values);
+            return Err(AllocError);
+        };
     }
     Ok(values)
 }
@@ -330,7 +339,7 @@ fn scratch_for(alloc: Global, spare: &mut Spare, held: usize) -> Scratch {
 }
 
 /// Room for what a move writes, beside these lists; `Err` where the memory was refused.
-pub(crate) fn room_for(
+fn room_for(
     alloc: Global,
     spare: &mut Spare,
     standing: &[Option<Stand>],
@@ -388,17 +397,39 @@ fn lists_for(
             values,
             cost,
         }),
-        Err(fault) => Err(fault),
+        Err(fault) => {
+            drop(all);
+            drop(rows);
+            Err(fault)
+        }
     }
 }
 
-/// The same, with lines of whole numbers, where they can be kept so.
+/// Keeps the lines of these lists as whole numbers from now on, where they can be, and answers room for what a move
+/// writes beside them; `Err` where the memory was refused.
+fn settled_room(
+    alloc: Global,
+    spare: &mut Spare,
+    standing: &[Option<Stand>],
+    lists: &mut Lists,
+) -> Result<Room, AllocError>
+    ensures rows { lists.new.rows.items ≡ lists.old.rows.items }
+    ensures costs { lists.new.costs ≡ lists.old.costs }
+    ensures values { lists.new.values.items ≡ lists.old.values.items }
+    ensures cost { lists.new.cost ≡ lists.old.cost }
+    ensures room { IfOk result (λ room. HasRoom standing.now room) }
+{
+    settle_lists(lists)?;
+    room_for(alloc, spare, standing, lists)
+}
+
+/// The same lists, with lines of whole numbers, where they can be kept so, and room for what a move writes beside them.
 pub(crate) fn first_lists(
     alloc: Global,
     spare: &mut Spare,
     standing: &[Option<Stand>],
     system: &System,
-) -> Result<Lists, FirstFault>
+) -> Result<(Lists, Room), FirstFault>
     requires few { length system.now.columns.now + length system.now.rows.now < 2 ^ 32 }
     requires stands { standing.now
         ≡ table (length system.now.columns.now + length system.now.rows.now) (stand_in system.now.columns.now) }
@@ -407,15 +438,19 @@ pub(crate) fn first_lists(
     ensures { let s = system.now in
         let p = system_in s.entries.now s.rows.now s.columns.now s.costs.now in
         MatchResult result
-        (λ lists. (first_overflow (first_operations p) ≡ None)
-        × (state (system.now.columns.now ++ system.now.rows.now) standing.now lists ≡ first p)
-        × HasLists standing.now lists)
+        (λ found. (first_overflow (first_operations p) ≡ None)
+        × (state (system.now.columns.now ++ system.now.rows.now) standing.now found.0 ≡ first p)
+        × HasLists standing.now found.0
+        × HasRoom standing.now found.1)
         (IsFirstFault p) }
 {
     match lists_for(alloc, spare, standing, system) {
-        Ok(found) => match settle_lists(found) {
-            Ok(lists) => Ok(lists),
-            Err(_) => Err(FirstFault::NoMemory),
+        Ok(mut lists) => match settled_room(alloc, spare, standing, &mut lists) {
+            Ok(room) => Ok((lists, room)),
+            Err(_) => {
+                drop(lists);
+                Err(FirstFault::NoMemory)
+            }
         },
         Err(fault) => Err(fault),
     }

@@ -133,22 +133,13 @@ fn settle_rows(rows: &mut [Form]) -> Result<(), AllocError>
     Ok(())
 }
 
-/// The same lists, whose lines are kept as whole numbers from now on, where they can be. `Err` where memory was
-/// refused.
-pub(crate) fn settle_lists(lists: Lists) -> Result<Lists, AllocError>
-    ensures rows { IfOk result (λ same. same.rows.items ≡ lists.rows.items) }
-    ensures costs { IfOk result (λ same. same.costs ≡ lists.costs) }
-    ensures values { IfOk result (λ same. same.values.items ≡ lists.values.items) }
-    ensures cost { IfOk result (λ same. same.cost ≡ lists.cost) }
+/// Keeps the lines of these lists as whole numbers from now on, where they can be. `Err` where memory was refused.
+pub(crate) fn settle_lists(lists: &mut Lists) -> Result<(), AllocError>
+    ensures rows { lists.new.rows.items ≡ lists.old.rows.items }
+    ensures costs { lists.new.costs ≡ lists.old.costs }
+    ensures values { lists.new.values.items ≡ lists.old.values.items }
+    ensures cost { lists.new.cost ≡ lists.old.cost }
 {
-    let mut rows = lists.rows;
-    settle_rows(rows.as_mut_slice())?;
-    let mut costs = lists.costs;
-    costs.settle()?;
-    Ok(Lists {
-        rows,
-        costs,
-        values: lists.values,
-        cost: lists.cost,
-    })
+    settle_rows(lists.rows.as_mut_slice())?;
+    lists.costs.settle()
 }

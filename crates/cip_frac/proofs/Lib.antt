@@ -1,3 +1,4 @@
+pub mod BoundedProducts
 pub mod Casts
 pub mod Comparison
 pub mod Divisors

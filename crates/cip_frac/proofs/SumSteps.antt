@@ -1,5 +1,5 @@
 -- The steps of a sum as the code takes them, over integers that went to their bits and back.
-use Rattle.std.proofs.Common.{◌≡◌, ℕ, ◌*◌, ◌/◌, ◌<◌, ◌≤◌, ◌^◌, ℤ, pos, negsuc, zero, suc, ◌+ℤ◌, ◌*ℤ◌, unsigned_abs, int_div, true, false, to_z, of_z, sym, ap, subst, ◌∙◌, arith}
+use Rattle.std.proofs.Common.{◌≡◌, ℕ, ◌*◌, ◌/◌, ◌<◌, ◌≤◌, ◌^◌, ℤ, pos, negsuc, zero, suc, ◌+ℤ◌, ◌*ℤ◌, unsigned_abs, int_div, true, false, Fits, to_z, of_z, sym, ap, subst, ◌∙◌, arith}
 use Rattle.std.specs.Int.{IsGcd, w128}
 use Prim.Native.Nat.{◌∣◌}
 use borrow.Author.Differences.{same_in, quot_is, product_is}
@@ -166,6 +166,11 @@ module _ {x y : ℚ} {a c : ℤ} {b d g o u : ℕ} (w : Known x y a c b d g o u)
 
           read_is : read n ≡ n
           read_is = kept n (lowest r rest_gcd n (u * last) over_exact under_exact).over_small
+
+          pub last_fits : Fits w128 (u * last)
+          last_fits =
+              let small : u * last < 2 ^ 127 = (lowest r rest_gcd n (u * last) over_exact under_exact).under_small in
+              omega (arith, small)
 
           pub last_lowest : AreLowest (read n) (u * last)
           last_lowest = rw read_is (lowest r rest_gcd n (u * last) over_exact under_exact)

@@ -78,7 +78,7 @@ fn pick_at(
     })
 }
 
-/// Puts the loose variables that may enter at the end of a list, in the order of their places.
+/// Puts the loose variables that may enter at the end of a list, and sorts that.
 fn put_picks(
     table: &Table,
     variables: &Variables,
@@ -91,6 +91,7 @@ fn put_picks(
             picks.push(pick)?;
         }
     }
+    picks.sort_unstable();
     Ok(())
 }
 
@@ -102,13 +103,11 @@ pub(crate) fn list_picks(
     picks: &mut Vec<Pick>,
 ) -> Result<(), Stop> {
     picks.clear();
-    let Some(line) = table.lines.get(leaving.line) else {
-        return Ok(());
-    };
     let rises = leaving.standing == Standing::Low;
-    put_picks(table, variables, line.entries.as_slice(), rises, picks)?;
-    picks.sort_unstable();
-    Ok(())
+    match table.lines.get(leaving.line) {
+        Some(line) => put_picks(table, variables, line.entries.as_slice(), rises, picks),
+        None => Ok(()),
+    }
 }
 
 /// How many of the picks go to their other sides before the gap is closed; the last one closes it but for rounding
@@ -145,8 +144,10 @@ fn reachable(picks: &[Pick], rate: i64) -> i64 {
         if pick.ratio > most {
             return most;
         }
-        let slack = ratio(rate, pick.size);
-        most = most.min(pick.ratio.saturating_add(slack));
+        let reach = pick.ratio.saturating_add(ratio(rate, pick.size));
+        if reach < most {
+            most = reach;
+        }
     }
     most
 }

@@ -68,9 +68,8 @@ impl Columns {
 
     /// A column comes to stand in a row.
     pub(crate) fn gain(&mut self, column: u32, row: u32) -> Result<(), AllocError> {
-        push_at(self.within.as_mut_slice(), column as usize, row)?;
         count_one(self.counts.as_mut_slice(), column as usize);
-        Ok(())
+        push_at(self.within.as_mut_slice(), column as usize, row)
     }
 
     /// A column stands in one row less.

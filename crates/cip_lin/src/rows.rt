@@ -1,5 +1,5 @@
 //! Linear rows: sums of products by rising column, between two sides.
-ghost use Rattle.std.specs.Prelude.{◌≡◌, ◌++◌, ◌∷◌, [], length, MatchResult, IfOk};
+ghost use Rattle.std.specs.Prelude.{◌≡◌, ◌++◌, ◌∷◌, [], length, MatchOption, MatchResult, IfOk};
 ghost use Rattle.cip_frac.specs.Rational.{zeroℚ};
 ghost use Rattle.cip_problem.specs.Activity.{StandsBelow, activity};
 ghost use Rattle.cip_problem.specs.RowTerms.{AreTerms, no_term};
@@ -79,6 +79,23 @@ fn sum_of_products(terms: &[Term], point: &[Frac]) -> Result<Frac, Wide>
     Ok(sum)
 }
 
+/// Why a term can't stand after these; none where it can.
+fn refusal(terms: &[Term], term: Term) -> Option<RowFault>
+    ensures { MatchOption result (CanStandAfter terms.now term) (IsAppendFault terms.now term) }
+{
+    let at = terms.len();
+    if let Some(last) = terms.last() {
+        if term.col <= last.col {
+            return Some(RowFault::NotRising { at });
+        }
+    }
+    if term.coef.is_zero() {
+        Some(RowFault::ZeroTerm { at })
+    } else {
+        None
+    }
+}
+
 impl Model for Row {
     ghost use Rattle.cip_problem.specs.Program as problem;
     ghost use Rattle.cip_problem.specs.RowTerms.{AreTerms};
@@ -134,7 +151,13 @@ impl Row {
     {
         let mut row = Row::empty(alloc, low, high);
         for term in terms {
-            row.append(*term)?;
+            match row.append(*term) {
+                Ok(()) => (),
+                Err(fault) => {
+                    drop(row);
+                    return Err(fault);
+                }
+            }
         }
         Ok(row)
     }
@@ -148,18 +171,12 @@ impl Row {
             × CanStandAfter self.old.terms term)
             (λ fault. (self.new ≡ self.old) × IsAppendFault self.old.terms term fault) }
     {
-        let at = self.terms.len();
-        if let Some(last) = self.terms.as_slice().last() {
-            if term.col <= last.col {
-                return Err(RowFault::NotRising { at });
-            }
-        }
-        if term.coef.is_zero() {
-            return Err(RowFault::ZeroTerm { at });
-        }
-        match self.terms.push(term) {
-            Ok(()) => Ok(()),
-            Err(_) => Err(RowFault::NoMemory),
+        match refusal(self.terms.as_slice(), term) {
+            Some(fault) => Err(fault),
+            None => match self.terms.push(term) {
+                Ok(()) => Ok(()),
+                Err(_) => Err(RowFault::NoMemory),
+            },
         }
     }
 

@@ -1,4 +1,4 @@
-use Rattle.std.proofs.Common.{◌≡◌, ◌∙◌, ap}
+use Rattle.std.proofs.Common.{◌≡◌, ◌∙◌, ap, arith}
 use Rattle.cip_dictionary.specs.Exchange.{pivot}
 use Rattle.cip_dictionary.specs.Operations.{first_overflow}
 use Rattle.cip_dictionary.proofs.Overflow.{overflow-append}
@@ -29,3 +29,63 @@ returns-in-Err-write_values-clause-written c =
     let h = rw q at c.in-Ok.ensures.written in
     let last = rw (q, c.side_of-side.ensures) at c.in-Err-write_values.ensures.written in
     ap first_overflow (exchange_split c.args.sides.now c.args.standing.now c.args.lists.now c.args.asked.leaving c.args.asked.entering c.args.asked.to c.requires.sides_long) ∙ overflow-append _ _ h.0 ∙ last
+
+pub inverse_of-requires-clause-within : goal.inverse_of-requires-clause-within
+inverse_of-requires-clause-within c = rw c.as_slice.ensures.value (omega (arith, c.requires.can.leaving, c.requires.sides_long, c.requires.lists_long.rows.each_one))
+
+pub inverse_of-requires-clause-nonzero : goal.inverse_of-requires-clause-nonzero
+inverse_of-requires-clause-nonzero c = rw c.as_slice.ensures.value c.requires.can.nonzero
+
+pub write_lines-requires-clause-few : goal.write_lines-requires-clause-few
+write_lines-requires-clause-few c = c.requires.few
+
+pub write_lines-requires-clause-leaving : goal.write_lines-requires-clause-leaving
+write_lines-requires-clause-leaving c = omega (arith, c.requires.can.leaving, c.requires.sides_long)
+
+pub write_lines-requires-clause-basic : goal.write_lines-requires-clause-basic
+write_lines-requires-clause-basic c = c.requires.can.basic
+
+pub write_lines-requires-clause-nonzero : goal.write_lines-requires-clause-nonzero
+write_lines-requires-clause-nonzero c = c.inverse_of.ensures.nonzero
+
+pub write_lines-requires-clause-pivot : goal.write_lines-requires-clause-pivot
+write_lines-requires-clause-pivot c = rw c.as_slice.ensures.value at c.inverse_of.ensures.value
+
+pub write_lines-requires-clause-entering : goal.write_lines-requires-clause-entering
+write_lines-requires-clause-entering c = omega (arith, c.requires.can.entering, c.requires.sides_long)
+
+pub write_lines-requires-clause-lists_long : goal.write_lines-requires-clause-lists_long
+write_lines-requires-clause-lists_long c = c.requires.lists_long
+
+pub write_lines-requires-clause-room_long : goal.write_lines-requires-clause-room_long
+write_lines-requires-clause-room_long c = c.requires.room_long
+
+pub returns-in-Err-clause-long : goal.returns-in-Err-clause-long
+returns-in-Err-clause-long c = c.write_lines.ensures.long
+
+pub side_of-side-requires : goal.side_of-side-requires
+side_of-side-requires c = c.requires.can.leaving
+
+pub write_values-requires-clause-few : goal.write_values-requires-clause-few
+write_values-requires-clause-few c = c.requires.few
+
+pub write_values-requires-clause-leaving : goal.write_values-requires-clause-leaving
+write_values-requires-clause-leaving c = omega (arith, c.requires.can.leaving, c.requires.sides_long)
+
+pub write_values-requires-clause-entering : goal.write_values-requires-clause-entering
+write_values-requires-clause-entering c = omega (arith, c.requires.can.entering, c.requires.sides_long)
+
+pub write_values-requires-clause-lists_long : goal.write_values-requires-clause-lists_long
+write_values-requires-clause-lists_long c = c.requires.lists_long
+
+pub write_values-requires-clause-room_long : goal.write_values-requires-clause-room_long
+write_values-requires-clause-room_long c = c.write_lines.ensures.long
+
+pub write_values-requires-clause-marked : goal.write_values-requires-clause-marked
+write_values-requires-clause-marked c = c.in-Ok.ensures.written.1.changed
+
+pub returns-in-Ok-write_values-clause-long : goal.returns-in-Ok-write_values-clause-long
+returns-in-Ok-write_values-clause-long c = c.write_values.ensures.long
+
+pub returns-in-Err-write_values-clause-long : goal.returns-in-Err-write_values-clause-long
+returns-in-Err-write_values-clause-long c = c.write_values.ensures.long

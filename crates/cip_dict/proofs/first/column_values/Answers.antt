@@ -6,4 +6,4 @@ pub loop-k-init : goal.loop-k-init
 loop-k-init c = c.numbers-values.ensures ∙ table_none _
 
 pub loop-k-preserved : goal.loop-k-preserved
-loop-k-preserved c = c.in_ok-push.ensures.items ∙ ap₂ (λ xs x. xs ++ x ∷ []) c.loop-k.invariant c.column_at.ensures ∙ sym (table_more c.loop-k.k _)
+loop-k-preserved c = c.in-Ok.ensures.items ∙ ap₂ (λ xs x. xs ++ x ∷ []) c.loop-k.invariant c.column_at.ensures ∙ sym (table_more c.loop-k.k _)

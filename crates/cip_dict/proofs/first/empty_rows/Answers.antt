@@ -6,4 +6,4 @@ pub loop-v-init : goal.loop-v-init
 loop-v-init c = c.forms-rows.ensures ∙ table_none _
 
 pub loop-v-preserved : goal.loop-v-preserved
-loop-v-preserved c = c.in_ok-push.ensures.items ∙ ap₂ (λ xs x. xs ++ x ∷ []) c.loop-v.invariant c.empty_row-row.ensures ∙ sym (table_more c.loop-v.v _)
+loop-v-preserved c = c.in-Ok.ensures.items ∙ ap₂ (λ xs x. xs ++ x ∷ []) c.loop-v.invariant c.empty_row-row.ensures ∙ sym (table_more c.loop-v.v _)

@@ -27,3 +27,25 @@ returns-clause-written c =
       values = ap (λ xs. table (length c.args.standing.now) (taken_value c.args.standing.now c.args.j c.args.lists.now.values.items xs)) (written_back c.args.room.now.values.len _ c.write_flipped.new.out c.args.room.now.values.items (omega (arith, c.args.room.now.values.ok.0, c.in-Ok.ensures.long, ap length c.as_mut_slice.ensures.value))) ∙ h.1;
       cost_is = p;
     })
+
+pub returns-in-Err-clause-long : goal.returns-in-Err-clause-long
+returns-in-Err-clause-long c =
+    let values = c.in-Err.ensures.long ∙ ap length c.as_mut_slice.ensures.value in
+    record {
+      entering = c.requires.room_long.entering;
+      rows = c.requires.room_long.rows;
+      changed = c.requires.room_long.changed;
+      costs = c.requires.room_long.costs;
+      values = rw (written_back c.args.room.now.values.len _ c.write_flipped.new.out c.args.room.now.values.items (omega (arith, c.args.room.now.values.ok.0, values))) (values ∙ c.requires.room_long.values);
+    }
+
+pub returns-clause-long : goal.returns-clause-long
+returns-clause-long c =
+    let values = c.in-Ok.ensures.long ∙ ap length c.as_mut_slice.ensures.value in
+    record {
+      entering = c.requires.room_long.entering;
+      rows = c.requires.room_long.rows;
+      changed = c.requires.room_long.changed;
+      costs = c.requires.room_long.costs;
+      values = rw (written_back c.args.room.now.values.len _ c.write_flipped.new.out c.args.room.now.values.items (omega (arith, c.args.room.now.values.ok.0, values))) (values ∙ c.requires.room_long.values);
+    }

@@ -35,3 +35,12 @@ returns-in-Ok-None-clause-long c = dense_long _ _
 
 pub returns-in-Err-clause-long : goal.returns-in-Err-clause-long
 returns-in-Err-clause-long c = dense_long _ _
+
+pub put_whole-requires-clause-few : goal.put_whole-requires-clause-few
+put_whole-requires-clause-few c = c.requires.few
+
+pub put_whole-requires-clause-row_whole : goal.put_whole-requires-clause-row_whole
+put_whole-requires-clause-row_whole c = rw c.as_slice.ensures.value (c.row.invariant.whole c.if-not-row.false)
+
+pub put_whole-requires-clause-new_whole : goal.put_whole-requires-clause-new_whole
+put_whole-requires-clause-new_whole c = rw c.as_slice-2.ensures.value (c.new.invariant.whole c.if-not-new.false)

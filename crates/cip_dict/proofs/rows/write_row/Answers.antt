@@ -8,3 +8,39 @@ returns-then-not-changes-clause-written c = (
   unchanged_fits c.args.pivot.now.standing.now c.args.pivot.now.leaving c.args.pivot.now.entering c.args.pivot.now.inverse (value_at c.args.new.now) c.args.v c.args.row.now (sym c.if-not-changes.ensures),
   unchanged_stays c.args.pivot.now.standing.now c.args.pivot.now.leaving c.args.pivot.now.entering c.args.pivot.now.inverse (value_at c.args.new.now) c.args.v c.args.row.now c.args.out.now (sym c.if-not-changes.ensures),
 )
+
+pub is_changed-changes-requires-clause-within : goal.is_changed-changes-requires-clause-within
+is_changed-changes-requires-clause-within c = c.requires.within
+
+pub is_changed-changes-requires-clause-entering : goal.is_changed-changes-requires-clause-entering
+is_changed-changes-requires-clause-entering c = c.requires.entering
+
+pub is_changed-changes-requires-clause-long : goal.is_changed-changes-requires-clause-long
+is_changed-changes-requires-clause-long c = c.requires.row_long
+
+pub write_substituted-requires-clause-few : goal.write_substituted-requires-clause-few
+write_substituted-requires-clause-few c = c.requires.few
+
+pub write_substituted-requires-clause-entering : goal.write_substituted-requires-clause-entering
+write_substituted-requires-clause-entering c = c.requires.entering
+
+pub write_substituted-requires-clause-leaving : goal.write_substituted-requires-clause-leaving
+write_substituted-requires-clause-leaving c = c.requires.leaving
+
+pub write_substituted-requires-clause-new_long : goal.write_substituted-requires-clause-new_long
+write_substituted-requires-clause-new_long c = c.requires.new_long
+
+pub write_substituted-requires-clause-new_spelled : goal.write_substituted-requires-clause-new_spelled
+write_substituted-requires-clause-new_spelled c = c.requires.new_spelled
+
+pub write_substituted-requires-clause-is_leaving : goal.write_substituted-requires-clause-is_leaving
+write_substituted-requires-clause-is_leaving c = c.requires.is_leaving
+
+pub returns-in-Err-clause-spelled : goal.returns-in-Err-clause-spelled
+returns-in-Err-clause-spelled c = c.in-Err.ensures.spelled
+
+pub returns-in-Ok-count_room-clause-spelled : goal.returns-in-Ok-count_room-clause-spelled
+returns-in-Ok-count_room-clause-spelled c = c.in-Ok.ensures.spelled
+
+pub returns-in-Err-count_room-clause-spelled : goal.returns-in-Err-count_room-clause-spelled
+returns-in-Err-count_room-clause-spelled c = c.in-Ok.ensures.spelled

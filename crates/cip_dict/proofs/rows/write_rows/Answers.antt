@@ -36,3 +36,18 @@ returns-clause-marked c = record {
   each_one = c.loop-v.invariant.changed_long ∙ c.requires.changed_long;
   changes = λ v l. c.loop-v.invariant.marked v (omega (arith, l));
 }
+
+pub write_row-requires-clause-few : goal.write_row-requires-clause-few
+write_row-requires-clause-few c = c.requires.few
+
+pub write_row-requires-clause-entering : goal.write_row-requires-clause-entering
+write_row-requires-clause-entering c = c.requires.entering
+
+pub write_row-requires-clause-leaving : goal.write_row-requires-clause-leaving
+write_row-requires-clause-leaving c = c.requires.leaving
+
+pub write_row-requires-clause-new_long : goal.write_row-requires-clause-new_long
+write_row-requires-clause-new_long c = c.requires.new_long
+
+pub write_row-requires-clause-is_leaving : goal.write_row-requires-clause-is_leaving
+write_row-requires-clause-is_leaving c = c.requires.is_leaving

@@ -1,24 +1,57 @@
-use Rattle.std.proofs.Common.{arith}
+use Rattle.std.proofs.Common.{◌*ℤ◌, pos, refl, arith, lit<}
 use Rattle.std.proofs.lemmas.Int.{ints}
+use Rattle.cip_dict.specs.Pivots.{absent_by}
+use Rattle.cip_dict.proofs.ReadNumbers.{natural_below, word_below, product_below, product_small, sum_small, product_read, multiple_read, sum_read, chosen_first, chosen_second, chosen_third}
 use Rattle.cip_dict.proofs.whole_sums.substituted_number.Goals as goal
 
 pub product_of-requires-clause-first : goal.product_of-requires-clause-first
-product_of-requires-clause-first c = omega (arith, ints, c.requires.own_small)
+product_of-requires-clause-first c = word_below c.args.factors.new c.requires.own_small
 
 pub product_of-requires-clause-second : goal.product_of-requires-clause-second
-product_of-requires-clause-second c = omega (arith, ints, c.requires.new_small)
+product_of-requires-clause-second c = word_below c.args.y c.requires.new_small
 
 pub overflow_cast-factors : goal.overflow_cast-factors
 overflow_cast-factors c = omega (arith, ints, c.requires.factor_small)
 
 pub product_of-requires-else-is_absent_on-clause-first : goal.product_of-requires-else-is_absent_on-clause-first
-product_of-requires-else-is_absent_on-clause-first c = omega (arith, ints, c.requires.row_small)
+product_of-requires-else-is_absent_on-clause-first c = word_below c.args.n c.requires.row_small
 
 pub product_of-requires-else-is_absent_on-clause-second : goal.product_of-requires-else-is_absent_on-clause-second
-product_of-requires-else-is_absent_on-clause-second c = omega (arith, ints, c.requires.factor_small)
+product_of-requires-else-is_absent_on-clause-second c = natural_below c.args.factors.own c.requires.factor_small
 
 pub product_of-requires-else-is_absent_on-2-clause-first : goal.product_of-requires-else-is_absent_on-2-clause-first
-product_of-requires-else-is_absent_on-2-clause-first c = omega (arith, ints, c.requires.own_small)
+product_of-requires-else-is_absent_on-2-clause-first c = word_below c.args.factors.new c.requires.own_small
 
 pub product_of-requires-else-is_absent_on-2-clause-second : goal.product_of-requires-else-is_absent_on-2-clause-second
-product_of-requires-else-is_absent_on-2-clause-second c = omega (arith, ints, c.requires.new_small)
+product_of-requires-else-is_absent_on-2-clause-second c = word_below c.args.y c.requires.new_small
+
+pub sum_of-requires-clause-first : goal.sum_of-requires-clause-first
+sum_of-requires-clause-first c = product_below c.product_of-else-is_absent_on.result c.product_of-else-is_absent_on.ensures.small
+
+pub sum_of-requires-clause-second : goal.sum_of-requires-clause-second
+sum_of-requires-clause-second c = product_below c.product_of-else-is_absent_on-2.result c.product_of-else-is_absent_on-2.ensures.small
+
+pub returns-then-k-pivot-clause-value : goal.returns-then-k-pivot-clause-value
+returns-then-k-pivot-clause-value c =
+    chosen_first c.args.k c.args.pivot.now.leaving (absent_by c.args.pivot.now c.args.k) _ _ _ _ c.if-k-pivot.true
+    (product_read c.args.factors.new c.args.y c.product_of.result c.requires.own_small c.requires.new_small c.product_of.ensures.value c.product_of.ensures.small)
+
+pub returns-then-k-pivot-clause-small : goal.returns-then-k-pivot-clause-small
+returns-then-k-pivot-clause-small c = product_small c.product_of.result c.product_of.ensures.small
+
+pub returns-then-is_absent_on-clause-value : goal.returns-then-is_absent_on-clause-value
+returns-then-is_absent_on-clause-value c =
+    chosen_second c.args.k c.args.pivot.now.leaving (absent_by c.args.pivot.now c.args.k) _ _ _ _ c.is_absent_on.result c.if-k-pivot.false c.is_absent_on.ensures c.if-is_absent_on.true refl
+
+pub returns-then-is_absent_on-clause-small : goal.returns-then-is_absent_on-clause-small
+returns-then-is_absent_on-clause-small c = lit< tt
+
+pub returns-else-is_absent_on-clause-value : goal.returns-else-is_absent_on-clause-value
+returns-else-is_absent_on-clause-value c =
+    chosen_third c.args.k c.args.pivot.now.leaving (absent_by c.args.pivot.now c.args.k) _ _ _ _ c.is_absent_on.result c.if-k-pivot.false c.is_absent_on.ensures c.if-is_absent_on.false
+    (sum_read c.product_of-else-is_absent_on.result c.product_of-else-is_absent_on-2.result (c.args.n *ℤ pos c.args.factors.own) (c.args.factors.new *ℤ c.args.y) c.sum_of.result c.sum_of.ensures.value c.sum_of.ensures.small
+    (multiple_read c.args.n c.args.factors.own c.product_of-else-is_absent_on.result c.requires.row_small c.requires.factor_small c.product_of-else-is_absent_on.ensures.value c.product_of-else-is_absent_on.ensures.small)
+    (product_read c.args.factors.new c.args.y c.product_of-else-is_absent_on-2.result c.requires.own_small c.requires.new_small c.product_of-else-is_absent_on-2.ensures.value c.product_of-else-is_absent_on-2.ensures.small))
+
+pub returns-else-is_absent_on-clause-small : goal.returns-else-is_absent_on-clause-small
+returns-else-is_absent_on-clause-small c = sum_small c.sum_of.result c.sum_of.ensures.small

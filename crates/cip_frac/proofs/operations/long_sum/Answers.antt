@@ -1,6 +1,6 @@
 use Rattle.std.proofs.Common.{◌∙◌}
 use Rattle.cip_frac.proofs.Divisors.{positive_from_IsGcd}
-use Rattle.cip_frac.proofs.SumSteps.{known, first_none, second_none, total_none, common_none, all_fit, short_lowest, short_ratio, rest_is_some, rest_small, last_lowest, last_ratio}
+use Rattle.cip_frac.proofs.SumSteps.{known, first_none, second_none, total_none, common_none, all_fit, short_lowest, short_ratio, rest_is_some, rest_small, last_fits, last_lowest, last_ratio}
 use Rattle.cip_frac.proofs.operations.long_sum.Goals as goal
 
 pub part_of-over-requires : goal.part_of-over-requires
@@ -55,6 +55,11 @@ pub part_of-last-requires : goal.part_of-last-requires
 part_of-last-requires c =
     let k = known c.terms-a.ensures.over c.terms-a.ensures.under c.terms-a.ensures.lowest c.terms-c.ensures.over c.terms-c.ensures.under c.terms-c.ensures.lowest c.gcd-g.ensures c.part_of-over.ensures c.part_of-under.ensures in
     rest_is_some k c.in-Some.ensures c.in-Some-raised.ensures c.in-Some-bounded_sum.ensures c.in-Some-bounded_common.ensures c.unsigned_abs.ensures.value c.gcd-rest.ensures
+
+pub overflow_mul-under : goal.overflow_mul-under
+overflow_mul-under c =
+    let k = known c.terms-a.ensures.over c.terms-a.ensures.under c.terms-a.ensures.lowest c.terms-c.ensures.over c.terms-c.ensures.under c.terms-c.ensures.lowest c.gcd-g.ensures c.part_of-over.ensures c.part_of-under.ensures in
+    last_fits k c.in-Some.ensures c.in-Some-raised.ensures c.in-Some-bounded_sum.ensures c.in-Some-bounded_common.ensures c.unsigned_abs.ensures.value c.gcd-rest.ensures c.signed_part_of-numerator.ensures c.part_of-last.ensures
 
 pub of_lowest-requires-2 : goal.of_lowest-requires-2
 of_lowest-requires-2 c =

@@ -8,12 +8,12 @@ use Rattle.cip_dict.proofs.dict.Dict.first.Goals as goal
 
 pub invariant_of-result : goal.invariant_of-result
 invariant_of-result c =
-    let n : length c.in_ok-places.places.items ≡ length c.args.column_sides.now + length c.args.row_sides.now = standing_long c.args.column_sides.now (length c.args.row_sides.now) c.in_ok-places.places.items c.in_ok-places.ensures in
-    let same : state c.in_ok-sides.sides.items c.in_ok-places.places.items c.in-Ok.found ≡ first (system_in c.args.entries.now c.args.row_sides.now c.args.column_sides.now c.args.costs.now) = ap₂ (λ s t. state s t c.in-Ok.found) c.in_ok-sides.ensures (sym c.as_slice-standing.ensures.value) ∙ c.in-Ok.ensures.1 in
+    let n : length c.in-Ok.standing.items ≡ length c.args.column_sides.now + length c.args.row_sides.now = standing_long c.args.column_sides.now (length c.args.row_sides.now) c.in-Ok.standing.items c.in-Ok.ensures in
+    let same : state c.in-Ok-all_sides.sides.items c.in-Ok.standing.items c.in-Ok-first_lists.lists ≡ first (system_in c.args.entries.now c.args.row_sides.now c.args.column_sides.now c.args.costs.now) = ap₂ (λ s t. state s t c.in-Ok-first_lists.lists) c.in-Ok-all_sides.ensures (sym c.as_slice.ensures.value) ∙ c.in-Ok-first_lists.ensures.1 in
     record {
       few = omega (arith, n, c.requires.few);
-      sides_long = ap length c.in_ok-sides.ensures ∙ length-append c.args.column_sides.now c.args.row_sides.now ∙ sym n;
-      lists_long = rw c.as_slice-standing.ensures.value at c.in-Ok.ensures.2;
-      room_long = rw c.as_slice-standing.ensures.value at c.in_ok-room.ensures;
+      sides_long = ap length c.in-Ok-all_sides.ensures ∙ length-append c.args.column_sides.now c.args.row_sides.now ∙ sym n;
+      lists_long = rw c.as_slice.ensures.value at c.in-Ok-first_lists.ensures.2;
+      room_long = rw c.as_slice.ensures.value at c.in-Ok-first_lists.ensures.3;
       consistent = rw same (first_states_tell (system_in c.args.entries.now c.args.row_sides.now c.args.column_sides.now c.args.costs.now)).consistent;
     }

@@ -1,0 +1,25 @@
+use Rattle.std.proofs.Common.{◌≡◌, ◌∙◌, ◌++◌, ap, length}
+use Rattle.cip_dict.specs.State.{state}
+use Rattle.cip_dict.proofs.first.first_lists.Goals as goal
+
+pub returns-in-Ok-settled_room : goal.returns-in-Ok-settled_room
+returns-in-Ok-settled_room c =
+    let e = c.settled_room.ensures in
+    let same : state (c.args.system.now.columns.now ++ c.args.system.now.rows.now) c.args.standing.now c.settled_room.new.lists ≡ state (c.args.system.now.columns.now ++ c.args.system.now.rows.now) c.args.standing.now c.in-Ok.lists =
+    λ k. record {
+      sides = c.args.system.now.columns.now ++ c.args.system.now.rows.now;
+      standing = c.args.standing.now;
+      rows = e.rows k;
+      costs = e.costs k;
+      values = e.values k;
+      cost = e.cost k;
+    } in (
+      c.in-Ok.ensures.0,
+      same ∙ c.in-Ok.ensures.1,
+      record {
+        rows = rw e.rows c.in-Ok.ensures.2.rows;
+        costs = ap length e.costs ∙ c.in-Ok.ensures.2.costs;
+        values = ap length e.values ∙ c.in-Ok.ensures.2.values;
+      },
+      c.in-Ok-settled_room.ensures.room,
+    )

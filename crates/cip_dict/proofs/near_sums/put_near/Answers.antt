@@ -1,0 +1,28 @@
+use Rattle.cip_dict.proofs.near_sums.put_near.Goals as goal
+
+pub sum_near-requires-clause-few : goal.sum_near-requires-clause-few
+sum_near-requires-clause-few c = c.requires.few
+
+pub sum_near-requires-clause-factor_small : goal.sum_near-requires-clause-factor_small
+sum_near-requires-clause-factor_small c = c.requires.factor_small
+
+pub sum_near-requires-clause-own_small : goal.sum_near-requires-clause-own_small
+sum_near-requires-clause-own_small c = c.requires.own_small
+
+pub sum_near-requires-clause-row_kept : goal.sum_near-requires-clause-row_kept
+sum_near-requires-clause-row_kept c = c.requires.row_kept
+
+pub sum_near-requires-clause-row_small : goal.sum_near-requires-clause-row_small
+sum_near-requires-clause-row_small c = c.requires.row_small
+
+pub sum_near-requires-clause-new_kept : goal.sum_near-requires-clause-new_kept
+sum_near-requires-clause-new_kept c = c.requires.new_kept
+
+pub sum_near-requires-clause-new_small : goal.sum_near-requires-clause-new_small
+sum_near-requires-clause-new_small c = c.requires.new_small
+
+pub sum_near-requires-clause-positive : goal.sum_near-requires-clause-positive
+sum_near-requires-clause-positive c = c.requires.positive
+
+pub reduce_near-requires-clause-positive : goal.reduce_near-requires-clause-positive
+reduce_near-requires-clause-positive c = c.requires.positive
