@@ -3,6 +3,7 @@ pub mod Entered
 pub mod FollowedTrees
 pub mod HalvedSides
 pub mod Multiplied
+pub mod OneByOne
 pub mod Ready
 pub mod RowsAlone
 pub mod Shown
