@@ -7,5 +7,6 @@ pub mod OneByOne
 pub mod Ready
 pub mod RowsAlone
 pub mod Shown
+pub mod SplitOutcomes
 pub mod Stepped
 pub mod SplitColumns
