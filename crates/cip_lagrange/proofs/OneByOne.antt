@@ -1,13 +1,15 @@
 -- Multipliers, terms and columns of no block one after another.
-use Rattle.std.proofs.Common.{◌≡◌, ℕ, zero, suc, ◌+◌, ◌<◌, ◌≤◌, List, [], ◌∷◌, length, get_or, set, drop, Result, Ok, Err, refl, sym, ap, ap₂, ◌∙◌, arith}
+use Rattle.std.proofs.Common.{◌≡◌, ℕ, zero, suc, ◌+◌, ◌<◌, ◌≤◌, List, [], ◌∷◌, length, get_or, set, drop, Option, Result, Ok, Err, refl, sym, ap, ap₂, ◌∙◌, arith}
 use Rattle.std.proofs.Math.ListN.{drop_of_length-le}
 use Rattle.std.proofs.lemmas.List.{drop_more}
-use Rattle.cip_rational.specs.Rational.{ℚ, zeroℚ}
+use Rattle.cip_rational.specs.Rational.{ℚ, zeroℚ, ◌<ℚ◌, lt_test}
+use Rattle.cip_rational.proofs.Rational.Order.{≤ℚ_of_lt, test_of_lt, lt_of_test, lt_test_of_le}
+use Rattle.std.proofs.lemmas.Bool.{false_from_ne_true}
 use Rattle.cip_problem.specs.Program.{Term, Sides, Row, no_row}
 use Rattle.cip_problem.specs.Activity.{value_at}
 use Rattle.cip_problem.specs.Box.{sides_at}
 use Rattle.cip_lagrange.specs.declared.answers.LagrangeFault.{LagrangeFault}
-use Rattle.cip_lagrange.specs.LagrangeOutcomes.{chain, Reduced, product_less, terms_less, multiplier_used, multipliers_used, column_added, free_added}
+use Rattle.cip_lagrange.specs.LagrangeOutcomes.{chain, Reduced, product_less, terms_less, side_used, multiplier_used, multipliers_used, column_added, free_added}
 
 -- what stands at a place of a list doesn't depend on what would stand past its end
 pub same_default : {X : Type 0} (xs : List X) (i : ℕ) (d e : X) → i < length xs → get_or xs i d ≡ get_or xs i e
@@ -87,7 +89,8 @@ module _ (y : ℚ) (at : ℕ) (ts : List Term) (rests : List ℚ) (total : Resul
 module _ (rests : List ℚ) (box : List Sides) (numbers : List ℕ) (at : ℕ) (sum : ℚ) (total : Result ℚ LagrangeFault)
     (so_far : free_added rests box (drop at numbers) sum ≡ total) where
   module _ (rest : ℚ) (sides : Sides) (inside : at < length numbers) (there : get_or numbers at 0 < length rests)
-      (rest_is : rest ≡ get_or rests (get_or numbers at 0) rest) (sides_are : sides ≡ sides_at box (get_or numbers at 0))
+      (rest_is : rest ≡ get_or rests (get_or numbers at 0) rest) (sides_are : sides
+          ≡ sides_at box (get_or numbers at 0))
       where
     column_opened : free_added rests box (drop at numbers) sum
         ≡ chain (column_added (get_or numbers at 0) rest sides sum) (free_added rests box (drop (at + 1) numbers))
@@ -110,3 +113,22 @@ module _ (rests : List ℚ) (box : List Sides) (numbers : List ℕ) (at : ℕ) (
   pub columns_taken : length numbers ≤ at → ◌≡◌ {A = Result ℚ LagrangeFault} (Ok sum) total
   columns_taken l =
       sym (ap (λ (ns : List ℕ). free_added rests box ns sum) (drop_of_length-le numbers l)) ∙ so_far
+
+-- ---- one multiplier
+
+pub uses_low : (number : ℕ) (y : ℚ) (row : Row) (before : Reduced) (terms : List Term) (side : Option ℚ)
+    → zeroℚ <ℚ y → terms ≡ row.terms → side ≡ row.low
+    → multiplier_used number y row before ≡ side_used number y terms side before
+uses_low number y row before terms side above t s = rw (t, s, test_of_lt above) refl
+
+pub uses_high : (number : ℕ) (y : ℚ) (row : Row) (before : Reduced) (terms : List Term) (side : Option ℚ)
+    → y <ℚ zeroℚ → terms ≡ row.terms → side ≡ row.high
+    → multiplier_used number y row before ≡ side_used number y terms side before
+uses_high number y row before terms side below t s =
+    rw (t, s, lt_test_of_le (≤ℚ_of_lt below), test_of_lt below) refl
+
+pub uses_neither : (number : ℕ) (y : ℚ) (row : Row) (before : Reduced) → ¬ (zeroℚ <ℚ y) → ¬ (y <ℚ zeroℚ)
+    → multiplier_used number y row before ≡ Ok before
+uses_neither number y row before n m =
+    rw (false_from_ne_true (lt_test zeroℚ y) (λ e. n (lt_of_test e)),
+      false_from_ne_true (lt_test y zeroℚ) (λ e. m (lt_of_test e))) refl

@@ -1,10 +1,14 @@
 -- The outcome of a split, by those of its halves.
-use Rattle.std.proofs.Common.{◌≡◌, ℕ, ◌+◌, ◌*◌, ℤ, Option, None, Some, Result, Ok, Err, Box, Global, sym, ap, ap₂, ◌∙◌}
+use Rattle.std.proofs.Common.{◌≡◌, ℕ, ◌+◌, ◌*◌, ◌^◌, ◌<◌, ◌≤◌, ℤ, Bool, true, false, List, length, Option, None, Some, Result, Ok, Err, Box, Global, sym, ap, ap₂, ◌∙◌}
+use Rattle.std.specs.Prelude.{unsigned_abs}
+use Rattle.std.proofs.lemmas.Bool.{ltb-true, leb-true, and_parts, false≢true}
+use Rattle.cip_problem.specs.Program.{Sides, Choice, Plain, Open, Off, On}
+use Rattle.cip_problem.specs.Choices.{choice_at, is_open}
 use Rattle.cip_problem.specs.Log.{Node, low_node, high_node}
 use Rattle.cip_cert.specs.declared.pricing.BoundTree.{BoundTree, Split}
 use Rattle.cip_lagrange.specs.declared.answers.TreeBound.{TreeBound}
 use Rattle.cip_lagrange.specs.declared.answers.TreeFault.{TreeFault}
-use Rattle.cip_lagrange.specs.TreeOutcomes.{Asked, after, unless, split_fault, lesser_bound, tree_outcome}
+use Rattle.cip_lagrange.specs.TreeOutcomes.{Asked, after, unless, can_split_at, can_split, split_fault, lesser_bound, tree_outcome}
 
 module _ (asked : Asked) (number : ℕ) (tree : BoundTree) (column : ℕ) (at same : ℤ)
     (low high : Box BoundTree Global) (region : Node) (split : tree ≡ Split column at low high)
@@ -50,7 +54,8 @@ module _ (asked : Asked) (number : ℕ) (tree : BoundTree) (column : ℕ) (at sa
         (λ above. Ok (lesser_bound below above)))) e
         ∙ sym halves
 
-    module _ (below : TreeBound) (shown : Ok below ≡ tree_outcome asked (2 * number) first (low_node region column same))
+    module _ (below : TreeBound) (shown : Ok below ≡ tree_outcome asked (2 * number) first
+        (low_node region column same))
         (second : BoundTree) (second_is : second ≡ high.value) (room : ℕ) (room_is : room ≡ asked.room) (still : Node)
         (region_is : still ≡ region) where
       remaining : tree_outcome asked number tree region
@@ -81,3 +86,24 @@ module _ (asked : Asked) (number : ℕ) (tree : BoundTree) (column : ℕ) (at sa
       both_shown above e bound b =
           ap (λ (t : TreeBound). (let r : Result TreeBound TreeFault = Ok t in r)) b
           ∙ ap (λ (r : Result TreeBound TreeFault). after r (λ above. Ok (lesser_bound below above))) e ∙ sym remaining
+
+-- ---- which splits can be made
+
+near_if : (choice : Choice) (whole : Bool) (sides : Sides) (at : ℤ) → can_split_at choice whole sides at ≡ true
+    → is_open choice ≡ false → unsigned_abs at ≤ 2 ^ 101
+near_if Plain whole sides at e f =
+    leb-true (unsigned_abs at) (2 ^ 101) (and_parts _ _ (and_parts _ _ e).1).0
+near_if (Open own) whole sides at e f = absurd (false≢true (sym f))
+near_if Off whole sides at e f = absurd (false≢true e)
+near_if On whole sides at e f = absurd (false≢true e)
+
+-- a column that can be split is one of the box, and the number isn't too far from 0 unless its choice is open
+pub split_inside : (integral : List Bool) (node : Node) (column : ℕ) (at : ℤ)
+    → can_split integral node column at ≡ true → column < length node.box
+split_inside integral node column at e = ltb-true column (length node.box) (and_parts _ _ e).0
+
+pub split_near : (integral : List Bool) (node : Node) (column : ℕ) (at : ℤ)
+    → can_split integral node column at ≡ true → is_open (choice_at node.choices column) ≡ false
+    → unsigned_abs at ≤ 2 ^ 101
+split_near integral node column at e f =
+    near_if (choice_at node.choices column) _ _ at (and_parts _ _ e).1 f

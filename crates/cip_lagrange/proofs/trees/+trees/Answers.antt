@@ -1,12 +1,12 @@
-use Rattle.std.proofs.Common.{◌≡◌, None, List, length, to_z, of_z, rules, ap, ap₂, ◌∙◌, sym}
+use Rattle.std.proofs.Common.{◌≡◌, None, List, length, to_z, of_z, rules, ap, ap₂, ◌∙◌, sym, refl, subst, arith}
 use Rattle.std.specs.Prelude.{slice_set}
 use Rattle.std.specs.Int.{w128}
 use Rattle.cip_problem.specs.Program.{Sides, Choice}
 use Rattle.cip_problem.specs.Log.{Node}
-use Rattle.cip_cert.specs.Lent.{lent_of}
+use Rattle.cip_cert.specs.Lent.{lent_of, Fits}
 use Rattle.cip_cert.specs.declared.pricing.BoundTree.{BoundTree}
 use Rattle.cip_lagrange.specs.TreeOutcomes.{node_in, tree_outcome}
-use Rattle.cip_lagrange.proofs.SplitOutcomes.{split_fails, low_fails, high_fails, both_shown}
+use Rattle.cip_lagrange.proofs.SplitOutcomes.{split_fails, low_fails, high_fails, both_shown, split_inside, split_near}
 use Rattle.cip_lagrange.proofs.trees.+trees.Goals as goal
 
 pub bound_at-bound_leaf-requires-clause-fits : goal.bound_at-bound_leaf-requires-clause-fits
@@ -147,3 +147,49 @@ bound_in_half-returns-clause-choices t c =
 
 pub bound_in_half-returns-clause-columns : goal.bound_in_half-returns-clause-columns
 bound_in_half-returns-clause-columns t c = c.bound_at-bound.ensures.columns
+
+pub bound_at-returns-in-Err-clause-bounds : goal.bound_at-returns-in-Err-clause-bounds
+bound_at-returns-in-Err-clause-bounds t c = refl
+
+pub bound_at-returns-in-Err-clause-choices : goal.bound_at-returns-in-Err-clause-choices
+bound_at-returns-in-Err-clause-choices t c = refl
+
+pub bound_at-returns-in-Err-clause-columns : goal.bound_at-returns-in-Err-clause-columns
+bound_at-returns-in-Err-clause-columns t c = refl
+
+pub bound_at-overflow_mul-below : goal.bound_at-overflow_mul-below
+bound_at-overflow_mul-below t c = omega (arith, c.requires.deep)
+
+pub bound_at-overflow_mul-above : goal.bound_at-overflow_mul-above
+bound_at-overflow_mul-above t c = omega (arith, c.requires.deep)
+
+pub bound_at-overflow_add-above : goal.bound_at-overflow_add-above
+bound_at-overflow_add-above t c = omega (arith, c.requires.deep)
+
+pub bound_in_half-sides-sides-requires : goal.bound_in_half-sides-sides-requires
+bound_in_half-sides-sides-requires t c = split_inside c.args.rows.now.whole.now
+    (node_in c.args.region.now) c.args.half.col c.args.half.at c.requires.can
+
+pub bound_in_half-enter-requires-clause-inside : goal.bound_in_half-enter-requires-clause-inside
+bound_in_half-enter-requires-clause-inside t c = split_inside c.args.rows.now.whole.now
+    (node_in c.args.region.now) c.args.half.col c.args.half.at c.requires.can
+
+pub bound_in_half-enter-requires-clause-near : goal.bound_in_half-enter-requires-clause-near
+bound_in_half-enter-requires-clause-near t c = split_near c.args.rows.now.whole.now
+    (node_in c.args.region.now) c.args.half.col c.args.half.at c.requires.can
+
+pub bound_in_half-bound_at-bound-requires : goal.bound_in_half-bound_at-bound-requires
+bound_in_half-bound_at-bound-requires t c =
+    (
+      search rules,
+      (
+        subst (λ n. Fits n (lent_of c.args.rows.now)) (sym c.enter.ensures.columns) c.requires.fits,
+        (
+          omega (arith, c.enter.ensures.columns, c.requires.room),
+          (
+            c.requires.costs ∙ sym c.enter.ensures.columns,
+            (c.requires.flags ∙ sym c.enter.ensures.columns, c.requires.deep),
+          ),
+        ),
+      ),
+    )
