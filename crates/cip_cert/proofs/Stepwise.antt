@@ -1,15 +1,22 @@
 -- Entries, terms and columns one after another.
-use Rattle.std.proofs.Common.{◌≡◌, ℕ, suc, ◌+◌, ◌<◌, ◌≤◌, List, [], ◌∷◌, length, get_or, set, drop, Result, Ok, Err, refl, sym, ap, ap₂, ◌∙◌, add-one}
+use Rattle.std.proofs.Common.{◌≡◌, ℕ, suc, ◌+◌, ◌<◌, ◌≤◌, List, [], ◌∷◌, length, get_or, set, drop, Result, Ok, Err, refl, sym, ap, ap₂, ◌∙◌, add-one, Bool, true, false, cond, Option, None, Some, subst}
 use Rattle.std.specs.Prelude.{IsErr}
+use Rattle.std.specs.Bool.{MatchBool}
+use Rattle.std.proofs.lemmas.Bool.{false_from_ne_true}
 use Rattle.std.proofs.Math.ListN.{drop_of_length-le}
 use Rattle.std.proofs.lemmas.List.{drop_more}
-use Rattle.cip_rational.specs.Rational.{ℚ, zeroℚ}
+use Rattle.cip_rational.specs.Rational.{ℚ, ◌-ℚ◌, zeroℚ, ◌<ℚ◌, lt_test}
+use Rattle.cip_rational.specs.Range.{difference_overflows}
+use Rattle.cip_rational.proofs.Rational.Order.{test_of_lt, lt_of_test}
+use Rattle.cip_frac.specs.declared.operations.Wide.{Wide as Overflow}
 use Rattle.cip_frac.specs.Outcomes.{product_added}
 use Rattle.cip_problem.specs.Program.{Term, Sides}
 use Rattle.cip_problem.specs.Activity.{value_at}
-use Rattle.cip_cert.specs.Checks.{chain, placed, add_terms, rest_of, rest_added, bound_from}
+use Rattle.cip_cert.specs.Checks.{chain, placed, add_terms, rest_of, rest_added, side_added, bound_from}
 use Rattle.cip_cert.specs.declared.faults.CutFault.{CutFault}
-use Rattle.cip_cert.specs.declared.faults.FaultPlace.TheVariants.{Entry}
+use Rattle.cip_cert.specs.declared.faults.CutFault.TheVariants.{Wide}
+use Rattle.cip_cert.specs.declared.faults.FaultPlace.{FaultPlace}
+use Rattle.cip_cert.specs.declared.faults.FaultPlace.TheVariants.{Entry, Column}
 use Rattle.cip_cert.proofs.Pools.{same_default}
 
 -- ---- entries, the first of which has a number
@@ -110,3 +117,58 @@ module _ (at : ℕ) (sum : ℚ) (costs ds : List ℚ) (box : List Sides) (total 
   pub columns_added : length costs ≤ at → Ok sum ≡ total
   columns_added l = sym (ap (λ (cs : List ℚ). bound_from at sum cs (drop at ds) (drop at box))
       (drop_of_length-le costs l)) ∙ so_far
+
+-- ---- the rest of a column
+
+pub rest_wide : (column : ℕ) (sum cost d : ℚ) (sides : Sides) → difference_overflows cost d ≡ true
+    → IsErr (chain (rest_of column cost d) (λ rest. rest_added column sum rest sides))
+rest_wide column sum cost d sides e =
+    subst (λ t. IsErr (chain (cond t (Err (Wide (Column column))) (Ok (cost -ℚ d)))
+    (λ rest. rest_added column sum rest sides))) (sym e) refl
+
+pub rest_made : (column : ℕ) (sum cost d rest : ℚ) (sides : Sides) → difference_overflows cost d ≡ false
+    → rest ≡ cost -ℚ d
+    → chain (rest_of column cost d) (λ rest. rest_added column sum rest sides) ≡ rest_added column sum rest sides
+rest_made column sum cost d rest sides e f =
+    ap (λ t. chain (cond t (Err (Wide (Column column))) (Ok (cost -ℚ d)))
+    (λ rest. rest_added column sum rest sides)) e
+    ∙ ap (λ q. rest_added column sum q sides) (sym f)
+
+pub rest_low : (column : ℕ) (sum rest : ℚ) (sides : Sides) → zeroℚ <ℚ rest
+    → rest_added column sum rest sides ≡ side_added column sum rest sides.low
+rest_low column sum rest sides h =
+    ap (λ t. cond t (side_added column sum rest sides.low)
+    (cond (lt_test rest zeroℚ) (side_added column sum rest sides.high) (Ok sum))) (test_of_lt h)
+
+pub rest_high : (column : ℕ) (sum rest : ℚ) (sides : Sides) → ¬ (zeroℚ <ℚ rest) → rest <ℚ zeroℚ
+    → rest_added column sum rest sides ≡ side_added column sum rest sides.high
+rest_high column sum rest sides n h =
+    ap₂ (λ t u. cond t (side_added column sum rest sides.low)
+    (cond u (side_added column sum rest sides.high) (Ok sum)))
+    (false_from_ne_true _ (λ e. n (lt_of_test e))) (test_of_lt h)
+
+pub rest_zero : (column : ℕ) (sum rest : ℚ) (sides : Sides) → ¬ (zeroℚ <ℚ rest) → ¬ (rest <ℚ zeroℚ)
+    → rest_added column sum rest sides ≡ Ok sum
+rest_zero column sum rest sides n m =
+    ap₂ (λ t u. cond t (side_added column sum rest sides.low)
+    (cond u (side_added column sum rest sides.high) (Ok sum)))
+    (false_from_ne_true _ (λ e. n (lt_of_test e))) (false_from_ne_true _ (λ e. m (lt_of_test e)))
+
+pub no_side : (result : Result ℚ CutFault) (column : ℕ) (sum rest : ℚ) (side : Option ℚ)
+    → result ≡ side_added column sum rest side → side ≡ None → IsErr result
+no_side result column sum rest side e n = subst IsErr (sym (e ∙ ap (side_added column sum rest) n)) refl
+
+side_stepped : (t : Bool) (p : Result ℚ Overflow) (place : FaultPlace) (v s : ℚ)
+    → MatchBool t (p ≡ Ok v) (IsErr p × (v ≡ s))
+    → MatchBool t (placed place p ≡ Ok v) (IsErr (placed place p) × (v ≡ s))
+side_stepped true p place v s h = ap (placed place) h
+side_stepped false (Ok q) place v s h = absurd (let e : false ≡ true = h.0 in cc)
+side_stepped false (Err wide) place v s h = (refl, h.1)
+
+pub side_taken : (result : Result ℚ CutFault) (t : Bool) (column : ℕ) (sum rest : ℚ) (side : Option ℚ) (value new : ℚ)
+    → result ≡ side_added column sum rest side → side ≡ Some value
+    → MatchBool t (product_added sum rest value ≡ Ok new) (IsErr (product_added sum rest value) × (new ≡ sum))
+    → MatchBool t (result ≡ Ok new) (IsErr result × (new ≡ sum))
+side_taken result t column sum rest side value new e n h =
+    subst (λ (a : Result ℚ CutFault). MatchBool t (a ≡ Ok new) (IsErr a × (new ≡ sum)))
+    (sym (e ∙ ap (side_added column sum rest) n)) (side_stepped t (product_added sum rest value) (Column column) new sum h)
