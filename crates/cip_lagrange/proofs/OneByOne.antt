@@ -1,5 +1,5 @@
 -- Multipliers, terms and columns of no block one after another.
-use Rattle.std.proofs.Common.{◌≡◌, ℕ, zero, suc, ◌+◌, ◌<◌, ◌≤◌, List, [], ◌∷◌, length, get_or, set, drop, Option, Result, Ok, Err, refl, sym, ap, ap₂, ◌∙◌, arith}
+use Rattle.std.proofs.Common.{◌≡◌, ℕ, zero, suc, ◌+◌, ◌<◌, ◌≤◌, List, [], ◌∷◌, length, get_or, set, drop, Option, Result, Ok, Err, refl, sym, ap, ap₂, ◌∙◌, arith, cond}
 use Rattle.std.proofs.Math.ListN.{drop_of_length-le}
 use Rattle.std.proofs.lemmas.List.{drop_more}
 use Rattle.cip_rational.specs.Rational.{ℚ, zeroℚ, ◌<ℚ◌, lt_test}
@@ -9,7 +9,7 @@ use Rattle.cip_problem.specs.Program.{Term, Sides, Row, no_row}
 use Rattle.cip_problem.specs.Activity.{value_at}
 use Rattle.cip_problem.specs.Box.{sides_at}
 use Rattle.cip_lagrange.specs.declared.answers.LagrangeFault.{LagrangeFault}
-use Rattle.cip_lagrange.specs.LagrangeOutcomes.{chain, Reduced, product_less, terms_less, side_used, multiplier_used, multipliers_used, column_added, free_added}
+use Rattle.cip_lagrange.specs.LagrangeOutcomes.{chain, Reduced, product_less, terms_less, side_used, multiplier_used, multipliers_used, rest_added, column_added, free_added}
 
 -- what stands at a place of a list doesn't depend on what would stand past its end
 pub same_default : {X : Type 0} (xs : List X) (i : ℕ) (d e : X) → i < length xs → get_or xs i d ≡ get_or xs i e
@@ -132,3 +132,25 @@ pub uses_neither : (number : ℕ) (y : ℚ) (row : Row) (before : Reduced) → �
 uses_neither number y row before n m =
     rw (false_from_ne_true (lt_test zeroℚ y) (λ e. n (lt_of_test e)),
       false_from_ne_true (lt_test y zeroℚ) (λ e. m (lt_of_test e))) refl
+
+-- ---- the rest of a column
+
+pub rest_low : (column : ℕ) (rest sum : ℚ) (sides : Sides) → zeroℚ <ℚ rest
+    → column_added column rest sides sum ≡ rest_added column rest sides.low sum
+rest_low column rest sum sides h =
+    ap (λ t. cond t (rest_added column rest sides.low sum)
+    (cond (lt_test rest zeroℚ) (rest_added column rest sides.high sum) (Ok sum))) (test_of_lt h)
+
+pub rest_high : (column : ℕ) (rest sum : ℚ) (sides : Sides) → ¬ (zeroℚ <ℚ rest) → rest <ℚ zeroℚ
+    → column_added column rest sides sum ≡ rest_added column rest sides.high sum
+rest_high column rest sum sides n h =
+    ap₂ (λ t u. cond t (rest_added column rest sides.low sum)
+    (cond u (rest_added column rest sides.high sum) (Ok sum)))
+    (false_from_ne_true _ (λ e. n (lt_of_test e))) (test_of_lt h)
+
+pub rest_zero : (column : ℕ) (rest sum : ℚ) (sides : Sides) → ¬ (zeroℚ <ℚ rest) → ¬ (rest <ℚ zeroℚ)
+    → column_added column rest sides sum ≡ Ok sum
+rest_zero column rest sum sides n m =
+    ap₂ (λ t u. cond t (rest_added column rest sides.low sum)
+    (cond u (rest_added column rest sides.high sum) (Ok sum)))
+    (false_from_ne_true _ (λ e. n (lt_of_test e))) (false_from_ne_true _ (λ e. m (lt_of_test e)))
