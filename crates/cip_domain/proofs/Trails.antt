@@ -1,5 +1,7 @@
 -- A trail of steps: one more at its end, and one less.
-use Rattle.std.proofs.Common.{◌≡◌, ℕ, ◌+◌, ◌<◌, ◌≤◌, true, false, List, [], ◌∷◌, ◌++◌, length, take, refl, sym, ap, ◌∙◌, arith, get_or, set, inl, inr, Option, None, Some}
+use Rattle.std.proofs.Common.{◌≡◌, ℕ, ◌+◌, ◌<◌, ◌≤◌, true, false, List, [], ◌∷◌, ◌++◌, length, take, refl, sym, ap, ◌∙◌, arith, get_or, set, inl, inr, Option, None, Some, subst}
+use Rattle.std.specs.Prelude.{All}
+use Rattle.std.proofs.lemmas.List.Elements.{All-push}
 use Rattle.std.proofs.lemmas.Bool.{cases_lt}
 use Rattle.std.proofs.lemmas.Option.{none-some, same_Some}
 use Rattle.std.proofs.lemmas.List.{set-set, set-get_or, length_push, take_at, take-take, take-append-le, get_or_push, get_or-take, get_or-set_same, get_or_past, get_or_append_left}
@@ -140,3 +142,10 @@ stands_back box new all trail s e n h k d l =
     let same : (get_or all k d).col ≡ (get_or trail k d).col =
     ap (λ (x : Saved). x.col) (ap (λ t. get_or t k d) e ∙ get_or_append_left trail (s ∷ []) d k l) in
     omega (arith, n, same, h k d within)
+
+-- and those of one more step are too
+pub stands_more : (box new : List Sides) (trail : List Saved) (s : Saved) → length new ≡ length box
+    → s.col < length box → StandsIn box trail → StandsIn new (trail ++ s ∷ [])
+stands_more box new trail s n h k =
+    subst (λ m. All (λ (saved : Saved). saved.col < m) (trail ++ s ∷ [])) (sym n)
+    (All-push (λ (saved : Saved). saved.col < length box) trail s k h)

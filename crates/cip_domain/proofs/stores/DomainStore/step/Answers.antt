@@ -1,9 +1,10 @@
 use Rattle.std.proofs.Common.{◌≡◌, ◌++◌, ◌∷◌, [], ◌∙◌, ap, sym, arith, length, set}
+use Rattle.std.proofs.lemmas.List.{length-set}
 use Rattle.cip_domain.specs.Changes.{with_column}
 use Rattle.cip_domain.specs.Domain.{Domain, region_of}
 use Rattle.cip_domain.specs.declared.stores.Saved.{Saved}
 use Rattle.cip_domain.specs.Trail.{undone, regions_before}
-use Rattle.cip_domain.proofs.Trails.{regions_before_step, domain_same}
+use Rattle.cip_domain.proofs.Trails.{regions_before_step, domain_same, stands_more}
 use Rattle.cip_domain.proofs.stores.DomainStore.step.Goals as goal
 
 pub returns : goal.returns
@@ -31,3 +32,11 @@ push_reserved-requires c = omega (arith, ap (λ (d : Domain). d.spare) c.self.vi
 
 pub set-requires : goal.set-requires
 set-requires c = omega (arith, ap (λ (d : Domain). length d.box) c.self.view_is, c.requires.column)
+
+pub invariant_of-self : goal.invariant_of-self
+invariant_of-self c =
+    rw (c.push_reserved.ensures.items)
+    (stands_more c.self.inside.region.box c.set.new.self.box c.self.inside.trail.items
+        (let saved : Saved = record { col = c.args.col; was = c.args.was; value = c.args.value } in saved)
+    (ap (λ r. length r.box) c.set.ensures ∙ length-set _ _ _)
+    (omega (arith, ap (λ (d : Domain). length d.box) c.self.view_is, c.requires.column)) c.self.invariant)
