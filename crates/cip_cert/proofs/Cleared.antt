@@ -1,5 +1,5 @@
 -- Columns that tell which coefficients aren't 0.
-use Rattle.std.proofs.Common.{◌≡◌, ◌≢◌, ℕ, zero, suc, ◌+◌, ◌<◌, List, [], ◌∷◌, ◌++◌, length, replicate, get_or, set, drop, Contains, refl, sym, ap, ◌∙◌, subst, arith, get_or-set_same, get_or-set_other, drop-cons, add-one, inl, inr, ◌⊎◌}
+use Rattle.std.proofs.Common.{◌≡◌, ◌≢◌, ℕ, zero, suc, ◌+◌, ◌<◌, List, [], ◌∷◌, ◌++◌, length, replicate, get_or, set, take, drop, Contains, refl, sym, ap, ◌∙◌, subst, arith, get_or-set_same, get_or-set_other, drop-cons, add-one, inl, inr, ◌⊎◌}
 use Rattle.std.specs.Prelude.{All}
 use Rattle.std.specs.List.Sorted.{IsPermutation}
 use Rattle.std.proofs.lemmas.List.Elements.{Contains-append_left, Contains-push, All-push, All-nil}
@@ -45,6 +45,22 @@ covers_more entries columns i column l e h c k n = elim (cases_eq k column) [
 
 pub covers_end : (entries : List ℚ) (columns : List ℕ) → columns ≡ [] → Covers entries columns → entries ≡ replicate (length entries) zeroℚ
 covers_end entries columns e c = all_zeros entries (λ k. zero_by _ (λ n. none_in_nothing k (subst (λ ys. Contains ys k) e (c k n))))
+
+-- a row of zeros is told by no column
+none_there : (n k : ℕ) → get_or (replicate n zeroℚ) k zeroℚ ≡ zeroℚ
+none_there zero k = refl
+none_there (suc n) zero = refl
+none_there (suc n) (suc k) = none_there n k
+
+pub zeros_told : (n : ℕ) → Tells (replicate n zeroℚ) []
+zeros_told n = record { covers = λ k d. absurd (d (none_there n k)); within = All-nil (λ (k : ℕ). k < length (replicate n zeroℚ)) }
+
+-- what stands in front of a list is its first part
+pub front_of : (xs ys : List ℚ) (n : ℕ) → n ≡ length xs → take n (xs ++ ys) ≡ xs
+front_of [] ys zero e = refl
+front_of [] ys (suc n) e = absurd (omega (arith, e))
+front_of (x ∷ xs) ys zero e = absurd (omega (arith, e))
+front_of (x ∷ xs) ys (suc n) e = ap (λ zs. x ∷ zs) (front_of xs ys n (omega (arith, e)))
 
 -- ---- in another order
 

@@ -1,9 +1,11 @@
+pub mod Aggregated
 pub mod Cleared
 pub mod EntryParts
 pub mod Meaning
 pub mod Pools
 pub mod Released
 pub mod Steps
+pub mod Stepwise
 pub mod Sums
 pub mod Values
 pub mod Rounded

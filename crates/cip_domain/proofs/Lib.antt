@@ -1,4 +1,5 @@
 pub mod Boxes
+pub mod Choosing
 pub mod Marks
 pub mod OneSide
 pub mod Steps

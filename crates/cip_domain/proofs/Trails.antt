@@ -1,8 +1,10 @@
 -- A trail of steps: one more at its end, and one less.
-use Rattle.std.proofs.Common.{◌≡◌, ℕ, ◌+◌, ◌<◌, ◌≤◌, true, false, List, [], ◌∷◌, ◌++◌, length, take, refl, sym, ap, ◌∙◌, arith, get_or, set, inl, inr, Option, None, Some}
+use Rattle.std.proofs.Common.{◌≡◌, ℕ, ◌+◌, ◌<◌, ◌≤◌, true, false, List, [], ◌∷◌, ◌++◌, length, take, refl, sym, ap, ◌∙◌, arith, get_or, set, inl, inr, Option, None, Some, subst}
+use Rattle.std.specs.Prelude.{All}
+use Rattle.std.proofs.lemmas.List.Elements.{All-push}
 use Rattle.std.proofs.lemmas.Bool.{cases_lt}
 use Rattle.std.proofs.lemmas.Option.{none-some, same_Some}
-use Rattle.std.proofs.lemmas.List.{set-set, set-get_or, length_push, take_at, take-take, take-append-le, get_or_push, get_or-take, get_or-set_same, get_or_past}
+use Rattle.std.proofs.lemmas.List.{set-set, set-get_or, length_push, take_at, take-take, take-append-le, get_or_push, get_or-take, get_or-set_same, get_or_past, get_or_append_left}
 use Rattle.cip_rational.specs.Rational.{ℚ}
 use Rattle.cip_problem.specs.Program.{Sides, Choice, Plain, Open, Off, On as MadeOn}
 use Rattle.cip_problem.specs.Box.{no_sides, sides_at}
@@ -14,7 +16,7 @@ use Rattle.cip_domain.specs.declared.stores.Was.TheVariants.{On, OwnLow, OwnHigh
 use Rattle.cip_domain.specs.declared.stores.Saved.{Saved}
 use Rattle.cip_domain.specs.Changes.{Region, with_column, with_side}
 use Rattle.cip_domain.specs.Domain.{Domain, is_unsettled}
-use Rattle.cip_domain.specs.Trail.{kind_of, value_of, own_high, sides_back, choice_back, undone, undone_all, regions_before}
+use Rattle.cip_domain.specs.Trail.{kind_of, value_of, own_high, sides_back, choice_back, undone, undone_all, regions_before, StandsIn}
 use Rattle.cip_domain.proofs.Boxes.{region_same}
 
 -- there is a region for each step
@@ -131,3 +133,19 @@ on_is Plain e f = absurd (let g : false ≡ true = f in cc)
 on_is (Open own) e f = absurd (none-some own (sym e))
 on_is Off e f = absurd (let g : false ≡ true = f in cc)
 on_is MadeOn e f = refl
+
+-- the columns of the steps that are left are those of the box still
+pub stands_back : (box new : List Sides) (all trail : List Saved) (s : Saved) → all ≡ trail ++ s ∷ []
+    → length new ≡ length box → StandsIn box all → StandsIn new trail
+stands_back box new all trail s e n h k d l =
+    let within : k < length all = omega (arith, l, ap length e, length_push trail s) in
+    let same : (get_or all k d).col ≡ (get_or trail k d).col =
+    ap (λ (x : Saved). x.col) (ap (λ t. get_or t k d) e ∙ get_or_append_left trail (s ∷ []) d k l) in
+    omega (arith, n, same, h k d within)
+
+-- and those of one more step are too
+pub stands_more : (box new : List Sides) (trail : List Saved) (s : Saved) → length new ≡ length box
+    → s.col < length box → StandsIn box trail → StandsIn new (trail ++ s ∷ [])
+stands_more box new trail s n h k =
+    subst (λ m. All (λ (saved : Saved). saved.col < m) (trail ++ s ∷ [])) (sym n)
+    (All-push (λ (saved : Saved). saved.col < length box) trail s k h)

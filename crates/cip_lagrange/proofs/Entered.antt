@@ -87,3 +87,15 @@ into_whole is_high box choices column at sides others choice own new_box new_cho
     ap₂ node_with (b ∙ ap (slice_set box column) (w ∙ ap (whole_half is_high at) s))
     (d ∙ ap (slice_set choices column) c)
     ∙ entered_whole is_high box choices column at (ap own_if_open (sym c) ∙ sym o ∙ n)
+
+pub into_open : (is_high : Bool) (box : List Sides) (choices : List Choice) (column : ℕ) (at : ℤ)
+    (sides others own : Sides) (choice made : Choice) (owned : Option Sides) (new_box : List Sides)
+    (new_choices : List Choice)
+    → sides ≡ sides_at box column → choice ≡ choice_at choices column → owned ≡ own_if_open choice
+    → owned ≡ Some own → others ≡ open_half is_high own sides → made ≡ made_choice is_high
+    → new_box ≡ slice_set box column others → new_choices ≡ slice_set choices column made
+    → node_with new_box new_choices ≡ half_of is_high (node_with box choices) column at
+into_open is_high box choices column at sides others own choice made owned new_box new_choices s c o n w m b d =
+    ap₂ node_with (b ∙ ap (slice_set box column) (w ∙ ap (open_half is_high own) s))
+    (d ∙ ap (slice_set choices column) m)
+    ∙ entered_open is_high box choices column at own (ap own_if_open (sym c) ∙ sym o ∙ n)

@@ -3,8 +3,10 @@ pub mod Entered
 pub mod FollowedTrees
 pub mod HalvedSides
 pub mod Multiplied
+pub mod OneByOne
 pub mod Ready
 pub mod RowsAlone
 pub mod Shown
+pub mod SplitOutcomes
 pub mod Stepped
 pub mod SplitColumns

@@ -1,6 +1,7 @@
 //! Names and their numbers.
-ghost use Rattle.std.specs.Prelude.{◌≡◌, ℕ, ◌+◌, ◌<◌, ◌++◌, ◌∷◌, ◌↔◌, [], List, Some, None, IsTrue, length, vec_len, vec_capacity, slice_get, if◌then◌else◌, IfSome, IfOk, OnOk, OnErr};
+ghost use Rattle.std.specs.Prelude.{◌≡◌, ℕ, ◌+◌, ◌<◌, ◌++◌, ◌∷◌, ◌↔◌, [], List, Some, None, IsTrue, length, vec_len, vec_capacity, slice_get, if◌then◌else◌, IfSome, IfOk, OnOk, OnErr, MatchResult};
 ghost use Rattle.cip_problem.specs.Names.{number_of};
+ghost use Rattle.cip_model.specs.Keys.{AreRising};
 
 use crate::name_hints::{Hints, piece};
 use crate::name_order::Order;
@@ -49,6 +50,31 @@ fn end_of(start: usize, more: usize) -> Result<u32, AllocError>
     match start.checked_add(more) {
         Some(end) if end <= u32::MAX as usize => Ok(end as u32),
         _ => Err(AllocError),
+    }
+}
+
+/// Writes a name behind the others, with room for the place behind it, which is answered. `Err` comes where a growth was
+/// refused, or the names would have more bytes than `u32::MAX`, and leaves names and ends as they were.
+fn written(
+    alloc: Global,
+    bytes: &mut Vec<u8>,
+    ends: &mut Vec<u32>,
+    hints: &mut Hints,
+    name: &[u8],
+) -> Result<u32, AllocError>
+    requires { AreRising 0 ends.old.items (length bytes.old.items) }
+    ensures ends { ends.new.items ≡ ends.old.items }
+    ensures written { MatchResult result
+        (λ end. (bytes.new.items ≡ bytes.old.items ++ name.now) × (end ≡ vec_len bytes.old + length name.now)
+        × (vec_len ends.new < vec_capacity ends.new))
+        (λ _. bytes.new.items ≡ bytes.old.items) }
+{
+    let end = end_of(bytes.len(), name.len())?;
+    hints.put(alloc, bytes.as_slice(), ends.as_slice(), name)?;
+    ends.reserve(1)?;
+    match bytes.extend_from_slice(name) {
+        Ok(()) => Ok(end),
+        Err(_) => Err(AllocError),
     }
 }
 
@@ -120,15 +146,10 @@ impl Names {
     {
         let start = self.bytes.len();
         let number = self.ends.len();
-        let end = end_of(start, name.len())?;
-        self.hints.put(
-            self.alloc,
-            self.bytes.as_slice(),
-            self.ends.as_slice(),
-            name.as_slice(),
-        )?;
-        self.ends.reserve(1)?;
-        self.bytes.extend_from_slice(name.as_slice())?;
+        let (bytes, ends) = (&mut self.bytes, &mut self.ends);
+        let Ok(end) = written(self.alloc, bytes, ends, &mut self.hints, name.as_slice()) else {
+            return Err(AllocError);
+        };
         if let Err(error) = self.order.put(name, number) {
             self.bytes.truncate(start);
             return Err(error);

@@ -1,3 +1,4 @@
+pub mod Drafted
 pub mod Recosted
 pub mod RowTermsKept
 pub mod Ruled

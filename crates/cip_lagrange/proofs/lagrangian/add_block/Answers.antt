@@ -1,4 +1,5 @@
-use Rattle.std.proofs.Common.{◌≡◌, ◌<◌, ℕ, List, length, Some, slice_get, refl, sym, ap, ◌∙◌, arith}
+use Rattle.std.proofs.Common.{◌≡◌, ◌<◌, ℕ, List, length, Some, slice_get, refl, sym, ap, ◌∙◌, subst, arith}
+use Rattle.std.specs.Prelude.{All}
 use Rattle.std.proofs.lemmas.Option.{same_Some, slice_get_read}
 use Rattle.cip_rational.specs.Rational.{ℚ}
 use Rattle.cip_parts.specs.BlockMeaning.{part_at}
@@ -94,3 +95,82 @@ returns-in-Err-clause-steps c = λ part e.
     (c.fill.ensures.choices ∙ before.choices)
     ∙ ap (λ (p : Subproblem). block_outcome room numbers p c.args.scratch.now.rests.items c.args.bounds.now
     c.args.tree.now) same)
+
+pub columns-numbers-requires : goal.columns-numbers-requires
+columns-numbers-requires c = omega (arith, c.requires.inside, c.requires.ready.blocks)
+
+pub fill-requires-clause-costs : goal.fill-requires-clause-costs
+fill-requires-clause-costs c =
+    let parts = c.args.blocks.now.subproblems.items in
+    let works = c.args.scratch.now.blocks.items in
+    let part_is : slice_get parts c.args.at ≡ Some c.index-part.result.now =
+    slice_get_read parts (length parts) c.args.at c.index-part.result.now refl c.requires.inside c.index-part.ensures in
+    let ready = c.requires.ready.each c.args.at c.index-part.result.now part_is in
+    let inside : c.args.at < length works = omega (arith, c.requires.inside, c.requires.fits.long) in
+    let work_is : slice_get works c.args.at ≡ Some c.index_mut-work.result.now =
+    slice_get_read works (length works) c.args.at c.index_mut-work.result.now refl inside c.index_mut-work.ensures.value
+    in
+    let before = c.requires.fits.each c.args.at c.index-part.result.now c.index_mut-work.result.now part_is work_is in
+    before.costs ∙ ready.long ∙ sym (ap length c.columns-numbers.ensures)
+
+pub fill-requires-clause-box_ : goal.fill-requires-clause-box_
+fill-requires-clause-box_ c =
+    let parts = c.args.blocks.now.subproblems.items in
+    let works = c.args.scratch.now.blocks.items in
+    let part_is : slice_get parts c.args.at ≡ Some c.index-part.result.now =
+    slice_get_read parts (length parts) c.args.at c.index-part.result.now refl c.requires.inside c.index-part.ensures in
+    let ready = c.requires.ready.each c.args.at c.index-part.result.now part_is in
+    let inside : c.args.at < length works = omega (arith, c.requires.inside, c.requires.fits.long) in
+    let work_is : slice_get works c.args.at ≡ Some c.index_mut-work.result.now =
+    slice_get_read works (length works) c.args.at c.index_mut-work.result.now refl inside c.index_mut-work.ensures.value
+    in
+    let before = c.requires.fits.each c.args.at c.index-part.result.now c.index_mut-work.result.now part_is work_is in
+    before.bounds ∙ ready.long ∙ sym (ap length c.columns-numbers.ensures)
+
+pub fill-requires-clause-few : goal.fill-requires-clause-few
+fill-requires-clause-few c =
+    let parts = c.args.blocks.now.subproblems.items in
+    let works = c.args.scratch.now.blocks.items in
+    let part_is : slice_get parts c.args.at ≡ Some c.index-part.result.now =
+    slice_get_read parts (length parts) c.args.at c.index-part.result.now refl c.requires.inside c.index-part.ensures in
+    let ready = c.requires.ready.each c.args.at c.index-part.result.now part_is in
+    omega (arith, ready.few, ap length c.columns-numbers.ensures)
+
+pub fill-requires-clause-each : goal.fill-requires-clause-each
+fill-requires-clause-each c = sym (ap length c.as_slice.ensures.value ∙ c.requires.rests)
+
+pub fill-requires-clause-numbers : goal.fill-requires-clause-numbers
+fill-requires-clause-numbers c =
+    let parts = c.args.blocks.now.subproblems.items in
+    let works = c.args.scratch.now.blocks.items in
+    let part_is : slice_get parts c.args.at ≡ Some c.index-part.result.now =
+    slice_get_read parts (length parts) c.args.at c.index-part.result.now refl c.requires.inside c.index-part.ensures in
+    let ready = c.requires.ready.each c.args.at c.index-part.result.now part_is in
+    let count : length c.args.bounds.now ≡ length c.as_slice.result.now =
+    sym (ap length c.as_slice.ensures.value ∙ c.requires.rests) in
+    subst (λ n. All (λ number. number < n) c.columns-numbers.result.now) count
+    (subst (All (λ number. number < length c.args.bounds.now)) (sym c.columns-numbers.ensures) ready.within)
+
+pub bound_block-requires-clause-can : goal.bound_block-requires-clause-can
+bound_block-requires-clause-can c =
+    let parts = c.args.blocks.now.subproblems.items in
+    let works = c.args.scratch.now.blocks.items in
+    let part_is : slice_get parts c.args.at ≡ Some c.index-part.result.now =
+    slice_get_read parts (length parts) c.args.at c.index-part.result.now refl c.requires.inside c.index-part.ensures in
+    let ready = c.requires.ready.each c.args.at c.index-part.result.now part_is in
+    ready.can
+
+pub overflow_cast-result : goal.overflow_cast-result
+overflow_cast-result c = omega (arith, c.requires.inside, c.requires.ready.few)
+
+pub returns-in-Ok-clause-rests : goal.returns-in-Ok-clause-rests
+returns-in-Ok-clause-rests c = refl
+
+pub returns-in-Err-clause-rests : goal.returns-in-Err-clause-rests
+returns-in-Err-clause-rests c = refl
+
+pub returns-in-Ok-clause-row : goal.returns-in-Ok-clause-row
+returns-in-Ok-clause-row c = c.in-Ok.ensures.columns
+
+pub returns-in-Err-clause-row : goal.returns-in-Err-clause-row
+returns-in-Err-clause-row c = c.in-Err.ensures.columns

@@ -1,8 +1,10 @@
-use Rattle.std.proofs.Common.{◌≡◌, false, true, ◌∙◌, sym, ap}
+use Rattle.std.proofs.Common.{◌≡◌, false, true, ◌∙◌, sym, ap, ap₂, refl, if◌then◌else◌}
 use Rattle.cip_problem.specs.Box.{sides_at}
-use Rattle.cip_domain.specs.Changes.{is_as_strong}
+use Rattle.cip_domain.specs.Changes.{is_as_strong, would_cross}
 use Rattle.cip_domain.specs.Domain.{Domain, region_of}
 use Rattle.cip_domain.proofs.OneSide.{strong_stays, weak_changes}
+use Rattle.cip_domain.specs.declared.stores.Tightened.{Tightened}
+use Rattle.cip_domain.specs.declared.stores.Tightened.TheVariants.{Yes, Same, Empty}
 use Rattle.cip_domain.proofs.stores.DomainStore.tighten.Goals as goal
 
 pub returns-then-is_strong-clause-narrows : goal.returns-then-is_strong-clause-narrows
@@ -16,3 +18,41 @@ returns-clause-narrows c = λ _.
     let at = c.sides-sides.ensures ∙ ap (λ (d : Domain). sides_at d.box c.args.col) c.self.view_is in
     let weak : is_as_strong (sides_at c.args.self.now.box c.args.col) c.args.side c.args.value ≡ false = ap (λ s. is_as_strong s c.args.side c.args.value) (sym at) ∙ sym c.is_strong.ensures ∙ c.if-is_strong.false in
     ap region_of c.set_side.ensures ∙ weak_changes (region_of c.args.self.now) c.args.col c.args.side c.args.value weak
+
+pub returns-then-is_strong-clause-outcome : goal.returns-then-is_strong-clause-outcome
+returns-then-is_strong-clause-outcome c =
+    let at = c.sides-sides.ensures ∙ ap (λ (d : Domain). sides_at d.box c.args.col) c.self.view_is in
+    sym (ap (λ t. (let r : Tightened = if t then Same else (if would_cross
+        (sides_at c.args.self.now.box c.args.col) c.args.side c.args.value then Empty else Yes) in r)) (ap
+        (λ s. is_as_strong s c.args.side c.args.value) (sym at) ∙ sym c.is_strong.ensures ∙ c.if-is_strong.true))
+
+pub returns-then-is_strong-clause-after : goal.returns-then-is_strong-clause-after
+returns-then-is_strong-clause-after c = refl
+
+pub returns-then-crosses-clause-outcome : goal.returns-then-crosses-clause-outcome
+returns-then-crosses-clause-outcome c =
+    let at = c.sides-sides.ensures ∙ ap (λ (d : Domain). sides_at d.box c.args.col) c.self.view_is in
+    sym (ap₂ (λ t u. (let r : Tightened = if t then Same else (if u then Empty else Yes) in r)) (ap
+        (λ s. is_as_strong s c.args.side c.args.value) (sym at) ∙ sym c.is_strong.ensures
+        ∙ c.if-is_strong.false) (ap (λ s. would_cross s c.args.side c.args.value) (sym at) ∙ sym c.crosses.ensures
+        ∙ c.if-crosses.true))
+
+pub returns-then-crosses-clause-after : goal.returns-then-crosses-clause-after
+returns-then-crosses-clause-after c = refl
+
+pub returns-then-crosses-clause-narrows : goal.returns-then-crosses-clause-narrows
+returns-then-crosses-clause-narrows c = λ n. absurd (n refl)
+
+pub set_side-requires-clause-column : goal.set_side-requires-clause-column
+set_side-requires-clause-column c = c.requires.column
+
+pub set_side-requires-clause-room : goal.set_side-requires-clause-room
+set_side-requires-clause-room c = c.requires.room
+
+pub returns-clause-outcome : goal.returns-clause-outcome
+returns-clause-outcome c =
+    let at = c.sides-sides.ensures ∙ ap (λ (d : Domain). sides_at d.box c.args.col) c.self.view_is in
+    sym (ap₂ (λ t u. (let r : Tightened = if t then Same else (if u then Empty else Yes) in r)) (ap
+        (λ s. is_as_strong s c.args.side c.args.value) (sym at) ∙ sym c.is_strong.ensures
+        ∙ c.if-is_strong.false) (ap (λ s. would_cross s c.args.side c.args.value) (sym at) ∙ sym c.crosses.ensures
+        ∙ c.if-crosses.false))

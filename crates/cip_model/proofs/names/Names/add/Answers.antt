@@ -7,35 +7,47 @@ use Rattle.cip_model.proofs.names.Names.add.Goals.{After-push}
 use Rattle.cip_model.proofs.names.Names.add.Goals as goal
 
 -- the pieces are the names and the new one, and the ends rise
-written : (c : After-push) → (pieces_from 0 c.extend_from_slice.new.self.items c.push.new.ends.items ≡ names_of c.self.inside ++ c.args.name.items ∷ [])
-    × AreRising 0 c.push.new.ends.items (length c.extend_from_slice.new.self.items)
-written c =
+added : (c : After-push)
+    → (pieces_from 0 c.written.new.bytes.items c.push.new.ends.items ≡ names_of c.self.inside ++ c.args.name.items ∷ [])
+    × AreRising 0 c.push.new.ends.items (length c.written.new.bytes.items)
+added c =
     let old : List ℕ = c.self.inside.bytes.items in
     let ends : List ℕ = c.self.inside.ends.items in
     let new : List ℕ = c.args.name.items in
-    let bytes : List ℕ = c.extend_from_slice.new.self.items in
+    let bytes : List ℕ = c.written.new.bytes.items in
     let more : List ℕ = c.push.new.ends.items in
-    let end : ℕ = c.in_ok-end.end in
-    let behind : bytes ≡ old ++ new = c.in_ok-extend_from_slice.ensures.items ∙ ap (λ name. old ++ name) c.as_slice-4.ensures.value in
-    let ended : more ≡ ends ++ end ∷ [] = c.push.ensures ∙ ap (λ items. items ++ end ∷ []) c.in_ok-reserve.ensures.items in
-    let place : end ≡ length old + length new = omega (arith, c.in_ok-end.ensures, c.len-start.ensures, c.len.ensures, c.self.inside.bytes.ok.0, c.args.name.ok.0) in (
+    let end : ℕ = c.in-Ok.end in
+    let behind : bytes ≡ old ++ new = c.in-Ok.ensures.written.0 ∙ ap (λ name. old ++ name) c.as_slice.ensures.value in
+    let ended : more ≡ ends ++ end ∷ [] = c.push.ensures ∙ ap (λ items. items ++ end ∷ []) c.in-Ok.ensures.ends in
+    let place : end ≡ length old + length new =
+    omega (arith, c.in-Ok.ensures.written.1, ap length c.as_slice.ensures.value, c.self.inside.bytes.ok.0) in (
       pieces_after old ends new bytes more end c.self.invariant.rising behind ended place,
       rising_after old ends new bytes more end c.self.invariant.rising behind ended place,
     )
+
+pub written-requires : goal.written-requires
+written-requires c = c.self.invariant.rising
+
+pub push-requires : goal.push-requires
+push-requires c = c.in-Ok.ensures.written.2
 
 pub invariant_of-self-2 : goal.invariant_of-self-2
 invariant_of-self-2 c =
     let new : List ℕ = c.args.name.items in
     let names : List (List ℕ) = names_of c.self.inside in
-    let pieces : List (List ℕ) = pieces_from 0 c.extend_from_slice.new.self.items c.push.new.ends.items in
-    let told = written (goal.at.invariant_of-self-2 c).After-push in
-    let count : c.len-number.result ≡ length names = omega (arith, c.len-number.ensures, c.self.inside.ends.ok.0, length-pieces 0 c.self.inside.bytes.items c.self.inside.ends.items) in
+    let pieces : List (List ℕ) = pieces_from 0 c.written.new.bytes.items c.push.new.ends.items in
+    let told = added (goal.at.invariant_of-self-2 c).After-push in
+    let count : c.len-number.result ≡ length names =
+    omega (arith, c.len-number.ensures, c.self.inside.ends.ok.0,
+      length-pieces 0 c.self.inside.bytes.items c.self.inside.ends.items) in
     let absent : number_of names new ≡ None = rw (← c.self.view_is) at c.requires in
     record {
       rising = told.1;
-      found = λ name. found_push names pieces new name c.len-number.result _ _ count absent (c.in_default.ensures.ok name) (c.self.invariant.found name) told.0;
+      found = λ name.
+          found_push names pieces new name c.len-number.result _ _ count absent (c.in_default-put.ensures.ok name)
+          (c.self.invariant.found name) told.0;
       apart = apart_after names pieces new absent c.self.invariant.apart told.0;
     }
 
 pub returns-clause-ok : goal.returns-clause-ok
-returns-clause-ok c = rw (← c.self.view_is) (written (goal.at.returns-clause-ok c).After-push).0
+returns-clause-ok c = rw (← c.self.view_is) (added (goal.at.returns-clause-ok c).After-push).0

@@ -1,5 +1,5 @@
 use Rattle.cip_tree.specs.Nodes.{node_in}
-use Rattle.std.proofs.Common.{◌≡◌, ◌∷◌, ◌++◌, [], ◌-◌, None, map, get_or, sym, ap, ◌∙◌, subst}
+use Rattle.std.proofs.Common.{◌≡◌, ◌∷◌, ◌++◌, [], ◌-◌, None, map, get_or, sym, ap, ◌∙◌, subst, refl}
 use Rattle.std.proofs.lemmas.List.{map-append}
 use Rattle.cip_problem.specs.Log.{Entry, Parked}
 use Rattle.cip_tree.specs.declared.queue.OpenNode.{OpenNode}
@@ -9,9 +9,10 @@ use Rattle.cip_tree.specs.Inside.{bases, nodes_at, IsInOrder}
 use Rattle.cip_tree.proofs.Orders.{parked_is_not, taken_some, aside_order, aside_some, aside_open, aside_parked, aside_gone, aside_others, nodes_equal}
 use Rattle.cip_tree.specs.Tracked.{IsTracked}
 use Rattle.cip_tree.proofs.Tracking.{tracked_aside}
-use Rattle.cip_tree.proofs.Rooms.{room_parked, room_aside}
+use Rattle.cip_tree.proofs.Rooms.{room_logged, room_parked, room_aside}
 use Rattle.cip_tree.proofs.WalkedOn.{walked_stage}
 use Rattle.cip_tree.proofs.Filled.{after_base, unfilled}
+use Rattle.cip_tree.proofs.Paths.{in_work}
 use Rattle.cip_tree.proofs.trees.Tree.park.Goals as goal
 
 pub push_reserved-requires : goal.push_reserved-requires
@@ -56,3 +57,28 @@ returns-clause-rest c =
     ∙ ap (λ r. nodes_at c.self.inside.root c.self.inside.kept.slots c.self.inside.parked.items ++ (node_in r c.node.inside.id c.node.inside.bound) ∷ []) (after_base c.self.inside.root c.node.inside.notes.items (get_or (bases c.self.inside.kept.slots) c.node.inside.place None) base.raw base.found) in
     rw (← c.self.view_is, ← c.node.view_is)
     (nodes_equal _ _ _ _ _ _ _ _ _ _ _ (aside_open c.self.inside.root c.self.inside.kept.slots c.restage.new.kept.slots c.node.inside.place _ _ c.self.inside.queue.nodes c.self.inside.queue.nodes c.self.inside.parked.items c.self.inside.ids c.self.inside.in_work c.node.inside.id c.node.inside.bound base.raw c.self.invariant.0 base.found number c.restage.ensures.slots) parked log)
+
+pub restage-requires : goal.restage-requires
+restage-requires c =
+    let base = unfilled c.self.inside.root.choices (get_or (bases c.self.inside.kept.slots) c.node.inside.place None)
+        c.requires.base (ap (λ (t : Nodes). base_at t c.node.inside.place) c.self.view_is
+        ∙ ap (λ (x : TakenNode). base_at c.args.self.now x.place) c.node.view_is ∙ c.requires.found) in
+    rw ((in_work c.self.inside.kept.slots c.node.inside.place base.raw base.found).found) refl
+
+pub overflow_sub-self : goal.overflow_sub-self
+overflow_sub-self c =
+    let base = unfilled c.self.inside.root.choices (get_or (bases c.self.inside.kept.slots) c.node.inside.place None)
+        c.requires.base (ap (λ (t : Nodes). base_at t c.node.inside.place) c.self.view_is
+        ∙ ap (λ (x : TakenNode). base_at c.args.self.now x.place) c.node.view_is ∙ c.requires.found) in
+    taken_some c.self.inside.root c.self.inside.kept.slots c.self.inside.kept.slots c.node.inside.place
+        c.self.inside.queue.nodes c.self.inside.parked.items c.self.inside.ids c.self.inside.in_work base.raw
+        c.self.invariant.0 base.found
+
+pub push_reserved-requires-2 : goal.push_reserved-requires-2
+push_reserved-requires-2 c =
+    let base = unfilled c.self.inside.root.choices (get_or (bases c.self.inside.kept.slots) c.node.inside.place None)
+        c.requires.base (ap (λ (t : Nodes). base_at t c.node.inside.place) c.self.view_is
+        ∙ ap (λ (x : TakenNode). base_at c.args.self.now x.place) c.node.view_is ∙ c.requires.found) in
+    room_logged _ _ _ _ _ _ c.self.invariant.1 (taken_some c.self.inside.root c.self.inside.kept.slots
+        c.self.inside.kept.slots c.node.inside.place c.self.inside.queue.nodes c.self.inside.parked.items
+        c.self.inside.ids c.self.inside.in_work base.raw c.self.invariant.0 base.found)

@@ -1,15 +1,16 @@
 use Rattle.cip_tree.specs.Nodes.{node_in}
-use Rattle.std.proofs.Common.{◌∷◌, None, get_or, sym, ap, ◌∙◌, subst, refl}
+use Rattle.std.proofs.Common.{◌∷◌, None, get_or, sym, ap, ◌∙◌, subst, refl, arith}
 use Rattle.std.specs.List.Sorted.{IsPermutation}
 use Rattle.std.proofs.lemmas.List.Sorted.{length_permutation}
 use Rattle.cip_tree.specs.Nodes.{filled_base, Nodes, TakenNode, base_at}
 use Rattle.cip_tree.specs.Inside.{bases, nodes_at}
-use Rattle.cip_tree.proofs.Orders.{open_is_not, back_order, back_some, back_parked, back_nodes, back_gone, back_others, nodes_equal}
+use Rattle.cip_tree.proofs.Orders.{taken_some, open_is_not, back_order, back_some, back_parked, back_nodes, back_gone, back_others, nodes_equal}
 use Rattle.cip_tree.specs.Entries.{entries_of}
 use Rattle.cip_tree.proofs.Tracking.{tracked_back}
 use Rattle.cip_tree.proofs.Rooms.{room_back}
 use Rattle.cip_tree.proofs.WalkedOn.{walked_stage}
 use Rattle.cip_tree.proofs.Filled.{after_base, unfilled}
+use Rattle.cip_tree.proofs.Paths.{in_work}
 use Rattle.cip_tree.proofs.trees.Tree.put_back.Goals as goal
 
 pub invariant_of-self : goal.invariant_of-self
@@ -46,3 +47,29 @@ returns-clause-rest c =
     let number = base.number ∙ c.requires.same ∙ sym (ap (λ (x : TakenNode). x.number) c.node.view_is) in
     let parked = back_parked c.self.inside.root c.self.inside.kept.slots c.restage.new.kept.slots c.node.inside.place _ _ c.self.inside.queue.nodes c.push.new.self.nodes c.self.inside.parked.items c.self.inside.ids c.self.inside.in_work c.node.inside.id c.node.inside.bound base.raw c.self.invariant.0 base.found number c.restage.ensures.slots c.push.ensures.nodes in
     rw (← c.self.view_is) (nodes_equal _ _ _ _ _ _ _ _ _ _ _ refl parked refl)
+
+pub restage-requires : goal.restage-requires
+restage-requires c =
+    let base = unfilled c.self.inside.root.choices (get_or (bases c.self.inside.kept.slots) c.node.inside.place None)
+        c.requires.base (ap (λ (t : Nodes). base_at t c.node.inside.place) c.self.view_is
+        ∙ ap (λ (x : TakenNode). base_at c.args.self.now x.place) c.node.view_is ∙ c.requires.found) in
+    rw ((in_work c.self.inside.kept.slots c.node.inside.place base.raw base.found).found) refl
+
+pub overflow_sub-self : goal.overflow_sub-self
+overflow_sub-self c =
+    let base = unfilled c.self.inside.root.choices (get_or (bases c.self.inside.kept.slots) c.node.inside.place None)
+        c.requires.base (ap (λ (t : Nodes). base_at t c.node.inside.place) c.self.view_is
+        ∙ ap (λ (x : TakenNode). base_at c.args.self.now x.place) c.node.view_is ∙ c.requires.found) in
+    taken_some c.self.inside.root c.self.inside.kept.slots c.self.inside.kept.slots c.node.inside.place
+        c.self.inside.queue.nodes c.self.inside.parked.items c.self.inside.ids c.self.inside.in_work base.raw
+        c.self.invariant.0 base.found
+
+pub push-requires : goal.push-requires
+push-requires c =
+    let base = unfilled c.self.inside.root.choices (get_or (bases c.self.inside.kept.slots) c.node.inside.place None)
+        c.requires.base (ap (λ (t : Nodes). base_at t c.node.inside.place) c.self.view_is
+        ∙ ap (λ (x : TakenNode). base_at c.args.self.now x.place) c.node.view_is ∙ c.requires.found) in
+    let some = taken_some c.self.inside.root c.self.inside.kept.slots c.self.inside.kept.slots c.node.inside.place
+        c.self.inside.queue.nodes c.self.inside.parked.items c.self.inside.ids c.self.inside.in_work base.raw
+        c.self.invariant.0 base.found in
+    omega (arith, some, c.self.invariant.1.queue)

@@ -1,4 +1,4 @@
-use Rattle.std.proofs.Common.{◌≡◌, ◌+◌, ◌-◌, ◌∷◌, ◌++◌, [], Some, None, map, get_or, rules, to_z, of_z, to_z-of_z, sym, ap, ◌∙◌, subst, refl}
+use Rattle.std.proofs.Common.{◌≡◌, ◌+◌, ◌-◌, ◌∷◌, ◌++◌, [], Some, None, map, get_or, length, arith, rules, to_z, of_z, to_z-of_z, sym, ap, ◌∙◌, subst, refl}
 use Rattle.std.specs.List.Sorted.{IsPermutation}
 use Rattle.std.specs.Int.{w128}
 use Rattle.std.proofs.lemmas.List.{map-append}
@@ -22,6 +22,8 @@ use Rattle.cip_tree.proofs.Tracking.{tracked_split}
 use Rattle.cip_tree.proofs.Rooms.{room_second, room_split}
 use Rattle.cip_tree.proofs.WalkedOn.{walked_split}
 use Rattle.cip_tree.proofs.Filled.{after_base, unfilled}
+use Rattle.cip_problem.specs.Wholes.{AllHaveWholes}
+use Rattle.cip_domain.specs.Changes.{Region}
 use Rattle.cip_tree.proofs.trees.Tree.split.Goals as goal
 
 pub part-low_place-requires-clause-slot : goal.part-low_place-requires-clause-slot
@@ -138,3 +140,40 @@ returns c =
       taken = rw (← c.self.view_is, ← c.node.view_is) (record { gone = ap (filled_base c.self.inside.root.choices) gone; others = λ k d. ap (filled_base c.self.inside.root.choices) (others k d) });
       rest = rw (← c.self.view_is) (nodes_equal _ _ _ _ _ _ _ _ _ _ _ refl parked log);
     }
+
+pub parting-requires-clause-column : goal.parting-requires-clause-column
+parting-requires-clause-column c = c.requires.column
+
+pub parting-requires-clause-wholes : goal.parting-requires-clause-wholes
+parting-requires-clause-wholes c = subst (λ (r : Region). AllHaveWholes c.args.self.now.integral r.box)
+    (sym c.requires.work) c.requires.wholes
+
+pub invariant_of-self : goal.invariant_of-self
+invariant_of-self c = (
+  rw (c.make_room.ensures.kept, c.make_room.ensures.queue, c.make_room.ensures.parked) (c.self.invariant.0),
+  record {
+    queue = omega (arith, c.make_room.ensures.grows.0, c.self.invariant.1.queue);
+    parked = omega (arith, ap length c.make_room.ensures.queue, c.make_room.ensures.grows.1, c.self.invariant.1.parked);
+    log = omega (arith, ap length c.make_room.ensures.queue, c.make_room.ensures.grows.2, c.self.invariant.1.log);
+  },
+  rw (c.make_room.ensures.kept, c.make_room.ensures.log) (c.self.invariant.2),
+  rw (c.make_room.ensures.kept) (c.self.invariant.3),
+)
+
+pub part-low_place-requires-clause-room : goal.part-low_place-requires-clause-room
+part-low_place-requires-clause-room c = c.in_ok-make_room.ensures.room.0
+
+pub push-requires : goal.push-requires
+push-requires c = omega (arith, c.in_ok-make_room.ensures.room.1)
+
+pub overflow_add-high : goal.overflow_add-high
+overflow_add-high c = omega (arith, ap (λ (t : Nodes). t.ids) c.self.view_is, c.requires.few)
+
+pub overflow_add-self : goal.overflow_add-self
+overflow_add-self c = omega (arith, ap (λ (t : Nodes). t.ids) c.self.view_is, c.requires.few)
+
+pub split_entry-requires : goal.split_entry-requires
+split_entry-requires c = omega (arith, ap (λ (t : Nodes). t.ids) c.self.view_is, c.requires.few)
+
+pub push_reserved-requires : goal.push_reserved-requires
+push_reserved-requires c = omega (arith, c.in_ok-make_room.ensures.room.3)
