@@ -77,7 +77,10 @@ impl Called for Box<dyn Separator> {
         view: &View<'_>,
     ) -> Result<Given, AllocError> {
         match question {
-            Question::Separate => self.separate(alloc, view).map(Given::Cuts),
+            Question::Separate => match self.separate(alloc, view) {
+                Ok(cuts) => Ok(Given::Cuts(cuts)),
+                Err(error) => Err(error),
+            },
             _ => unreachable!(),
         }
     }
@@ -110,7 +113,10 @@ impl Called for Box<dyn Propagator> {
         view: &View<'_>,
     ) -> Result<Given, AllocError> {
         match question {
-            Question::Propagate => self.propagate(alloc, view).map(Given::Reductions),
+            Question::Propagate => match self.propagate(alloc, view) {
+                Ok(reductions) => Ok(Given::Reductions(reductions)),
+                Err(error) => Err(error),
+            },
             _ => unreachable!(),
         }
     }
@@ -143,9 +149,10 @@ impl Called for Box<dyn Pricer> {
         view: &View<'_>,
     ) -> Result<Given, AllocError> {
         match question {
-            Question::Price { block, costs } => self
-                .price(alloc, view, block, costs)
-                .map(Given::Priced),
+            Question::Price { block, costs } => match self.price(alloc, view, block, costs) {
+                Ok(priced) => Ok(Given::Priced(priced)),
+                Err(error) => Err(error),
+            },
             _ => unreachable!(),
         }
     }
@@ -178,7 +185,10 @@ impl Called for Box<dyn Heuristic> {
         view: &View<'_>,
     ) -> Result<Given, AllocError> {
         match question {
-            Question::Search => self.search(alloc, view).map(Given::Guesses),
+            Question::Search => match self.search(alloc, view) {
+                Ok(guesses) => Ok(Given::Guesses(guesses)),
+                Err(error) => Err(error),
+            },
             _ => unreachable!(),
         }
     }
@@ -211,7 +221,10 @@ impl Called for Box<dyn BranchRule> {
         view: &View<'_>,
     ) -> Result<Given, AllocError> {
         match question {
-            Question::Branch => self.branch(alloc, view).map(Given::Split),
+            Question::Branch => match self.branch(alloc, view) {
+                Ok(split) => Ok(Given::Split(split)),
+                Err(error) => Err(error),
+            },
             _ => unreachable!(),
         }
     }
@@ -244,9 +257,18 @@ impl Called for Box<dyn ConsHandler> {
         view: &View<'_>,
     ) -> Result<Given, AllocError> {
         match question {
-            Question::Enforce => self.enforce(alloc, view).map(Given::Enforced),
-            Question::Separate => self.separate(alloc, view).map(Given::Cuts),
-            Question::Propagate => self.propagate(alloc, view).map(Given::Reductions),
+            Question::Enforce => match self.enforce(alloc, view) {
+                Ok(said) => Ok(Given::Enforced(said)),
+                Err(error) => Err(error),
+            },
+            Question::Separate => match self.separate(alloc, view) {
+                Ok(cuts) => Ok(Given::Cuts(cuts)),
+                Err(error) => Err(error),
+            },
+            Question::Propagate => match self.propagate(alloc, view) {
+                Ok(reductions) => Ok(Given::Reductions(reductions)),
+                Err(error) => Err(error),
+            },
             _ => unreachable!(),
         }
     }
@@ -279,7 +301,10 @@ impl Called for Box<dyn EventHandler> {
         view: &View<'_>,
     ) -> Result<Given, AllocError> {
         match question {
-            Question::OnEvent(event) => self.on_event(alloc, &event, view).map(Given::Wishes),
+            Question::OnEvent(event) => match self.on_event(alloc, &event, view) {
+                Ok(wishes) => Ok(Given::Wishes(wishes)),
+                Err(error) => Err(error),
+            },
             _ => unreachable!(),
         }
     }
