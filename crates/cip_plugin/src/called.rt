@@ -2,7 +2,7 @@
 ghost use Rattle.std.specs.Prelude.{◌≡◌, true, List, Option, [], ◌∷◌, is_ok};
 ghost use Rattle.cip_plugin.specs.Answers.{answer};
 ghost use Rattle.cip_plugin.specs.Asking.{answer_of, ask_of, asks};
-ghost use Rattle.cip_plugin.specs.Callbacks.{call_of};
+ghost use Rattle.cip_plugin.specs.Callbacks.{call_for, call_of, has_given, suits};
 ghost use Rattle.cip_plugin.specs.Calls.{Asked, Call};
 ghost use Rattle.cip_plugin.specs.Telling.{Heard};
 ghost use Rattle.cip_plugin.specs.declared.kinds.Kind.{Kind};
@@ -28,6 +28,15 @@ pub(crate) enum Callback<'a> {
     Exit,
 }
 
+/// What a boxed plugin is called for.
+#[derive(Clone, Copy)]
+pub(crate) enum Request<'a> {
+    /// One of the callbacks of all kinds.
+    Callback(Callback<'a>),
+    /// Something that its kind is asked for, with what it is lent.
+    Question(Question<'a>, Global, &'a View<'a>),
+}
+
 /// What a boxed plugin is called by, whatever its kind is.
 pub(crate) trait Called {
     ghost calls: { Self → Option (List Call) };
@@ -48,6 +57,28 @@ pub(crate) trait Called {
         requires { asks kind (ask_of question) ≡ true }
         ensures { Heard (calls self.old) (Asked (ask_of question.entry) (answer result answer_of) ∷ [])
             (calls self.new) };
+}
+
+/// Calls a plugin for a request: what it gives, where it was asked for something. `Err`: it wanted memory that was
+/// refused.
+pub(crate) fn call<P: Called>(
+    plugin: &mut P,
+    request: Request<'_>,
+) -> Result<Option<Given>, AllocError>
+    requires { suits P.kind request ≡ true }
+    ensures heard { Heard (P.calls plugin.old) (call_for request.entry result ∷ []) (P.calls plugin.new) }
+    ensures given { has_given request.entry result ≡ true }
+{
+    match request {
+        Request::Callback(callback) => match plugin.call_back(callback) {
+            Ok(()) => Ok(None),
+            Err(error) => Err(error),
+        },
+        Request::Question(question, alloc, view) => match plugin.ask(alloc, question, view) {
+            Ok(given) => Ok(Some(given)),
+            Err(error) => Err(error),
+        },
+    }
 }
 
 impl Called for Box<dyn Separator> {
