@@ -300,3 +300,7 @@ pub taken_fault : (program : Program) (kept : Decomposed) (box : List Sides) (po
 taken_fault program kept box points at held TooWide l e f =
     (held, filter_has (is_held_in kept.column_owners.items box) points at held l e f.0, f.1)
 taken_fault program kept box points at held NoMemory l e f = tt
+
+-- at the end of the points all are seen
+pub all_seen : (seen at count all : ℕ) → seen ≡ at → count ≤ at → seen ≤ all → count ≡ all → seen ≡ all
+all_seen seen at count all is past most same = omega (arith, is, past, most, same)

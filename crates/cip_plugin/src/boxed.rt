@@ -1,7 +1,7 @@
 //! A plugin of any kind in a box.
 ghost use Rattle.std.specs.Prelude.{◌≡◌, true, [], ◌∷◌, is_ok};
 ghost use Rattle.cip_plugin.specs.Who.{Who};
-ghost use Rattle.cip_plugin.specs.Callbacks.{call_of};
+ghost use Rattle.cip_plugin.specs.Callbacks.{call_for, call_of, has_given, suits};
 ghost use Rattle.cip_plugin.specs.Calls.{Init, InitSolve, Asked, ExitSolve, Exit};
 ghost use Rattle.cip_plugin.specs.Answers.{answer};
 ghost use Rattle.cip_plugin.specs.Asking.{asks, ask_of, answer_of};
@@ -9,7 +9,7 @@ ghost use Rattle.cip_plugin.specs.Telling.{Heard};
 ghost use Rattle.cip_plugin.specs.declared.kinds.Kind.TheVariants as kinds;
 
 use crate::asking::{Given, Question};
-use crate::called::{Callback, Called};
+use crate::called::{Callback, Request, call};
 use crate::kinds::Kind;
 use crate::plugins::{
     BranchRule, ConsHandler, EventHandler, Heuristic, Pricer, Propagator, Separator,
@@ -141,20 +141,38 @@ impl AnyPlugin {
         }
     }
 
+    /// It is called for a request: what it gives, where it was asked for something. `Err`: it wanted memory that was
+    /// refused.
+    fn call(&mut self, request: Request<'_>) -> Result<Option<Given>, AllocError>
+        requires { suits (⟦<AnyPlugin as Tells>⟧.who self.old).kind request ≡ true }
+        ensures heard { Heard (⟦<AnyPlugin as Tells>⟧.who self.old).told
+            (call_for request.entry result ∷ []) (⟦<AnyPlugin as Tells>⟧.who self.new).told }
+        ensures given { has_given request.entry result ≡ true }
+        ensures kind { (⟦<AnyPlugin as Tells>⟧.who self.new).kind ≡ (⟦<AnyPlugin as Tells>⟧.who self.old).kind }
+    {
+        match self {
+            AnyPlugin::Separator(plugin) => call(plugin, request),
+            AnyPlugin::Propagator(plugin) => call(plugin, request),
+            AnyPlugin::Pricer(plugin) => call(plugin, request),
+            AnyPlugin::Heuristic(plugin) => call(plugin, request),
+            AnyPlugin::BranchRule(plugin) => call(plugin, request),
+            AnyPlugin::ConsHandler(plugin) => call(plugin, request),
+            AnyPlugin::EventHandler(plugin) => call(plugin, request),
+        }
+    }
+
     /// It is called back. `Err`: it wanted memory that was refused.
     fn call_back(&mut self, callback: Callback<'_>) -> Result<(), AllocError>
         ensures heard { Heard (⟦<AnyPlugin as Tells>⟧.who self.old).told
             (call_of callback.entry (is_ok result) ∷ []) (⟦<AnyPlugin as Tells>⟧.who self.new).told }
         ensures kind { (⟦<AnyPlugin as Tells>⟧.who self.new).kind ≡ (⟦<AnyPlugin as Tells>⟧.who self.old).kind }
     {
-        match self {
-            AnyPlugin::Separator(plugin) => plugin.call_back(callback),
-            AnyPlugin::Propagator(plugin) => plugin.call_back(callback),
-            AnyPlugin::Pricer(plugin) => plugin.call_back(callback),
-            AnyPlugin::Heuristic(plugin) => plugin.call_back(callback),
-            AnyPlugin::BranchRule(plugin) => plugin.call_back(callback),
-            AnyPlugin::ConsHandler(plugin) => plugin.call_back(callback),
-            AnyPlugin::EventHandler(plugin) => plugin.call_back(callback),
+        match self.call(Request::Callback(callback)) {
+            Ok(nothing) => {
+                drop(nothing);
+                Ok(())
+            }
+            Err(error) => Err(error),
         }
     }
 
@@ -206,14 +224,10 @@ impl AnyPlugin {
             (Asked (ask_of question.entry) (answer result answer_of) ∷ []) (⟦<AnyPlugin as Tells>⟧.who self.new).told }
         ensures kind { (⟦<AnyPlugin as Tells>⟧.who self.new).kind ≡ (⟦<AnyPlugin as Tells>⟧.who self.old).kind }
     {
-        match self {
-            AnyPlugin::Separator(plugin) => plugin.ask(alloc, question, view),
-            AnyPlugin::Propagator(plugin) => plugin.ask(alloc, question, view),
-            AnyPlugin::Pricer(plugin) => plugin.ask(alloc, question, view),
-            AnyPlugin::Heuristic(plugin) => plugin.ask(alloc, question, view),
-            AnyPlugin::BranchRule(plugin) => plugin.ask(alloc, question, view),
-            AnyPlugin::ConsHandler(plugin) => plugin.ask(alloc, question, view),
-            AnyPlugin::EventHandler(plugin) => plugin.ask(alloc, question, view),
+        match self.call(Request::Question(question, alloc, view)) {
+            Ok(Some(given)) => Ok(given),
+            Ok(None) => unreachable!(),
+            Err(error) => Err(error),
         }
     }
 }

@@ -2,7 +2,7 @@
 ghost use Rattle.std.specs.Prelude.{◌≡◌, true, List, Option, [], ◌∷◌, is_ok};
 ghost use Rattle.cip_plugin.specs.Answers.{answer};
 ghost use Rattle.cip_plugin.specs.Asking.{answer_of, ask_of, asks};
-ghost use Rattle.cip_plugin.specs.Callbacks.{call_of};
+ghost use Rattle.cip_plugin.specs.Callbacks.{call_for, call_of, has_given, suits};
 ghost use Rattle.cip_plugin.specs.Calls.{Asked, Call};
 ghost use Rattle.cip_plugin.specs.Telling.{Heard};
 ghost use Rattle.cip_plugin.specs.declared.kinds.Kind.{Kind};
@@ -28,6 +28,15 @@ pub(crate) enum Callback<'a> {
     Exit,
 }
 
+/// What a boxed plugin is called for.
+#[derive(Clone, Copy)]
+pub(crate) enum Request<'a> {
+    /// One of the callbacks of all kinds.
+    Callback(Callback<'a>),
+    /// Something that its kind is asked for, with what it is lent.
+    Question(Question<'a>, Global, &'a View<'a>),
+}
+
 /// What a boxed plugin is called by, whatever its kind is.
 pub(crate) trait Called {
     ghost calls: { Self → Option (List Call) };
@@ -48,6 +57,28 @@ pub(crate) trait Called {
         requires { asks kind (ask_of question) ≡ true }
         ensures { Heard (calls self.old) (Asked (ask_of question.entry) (answer result answer_of) ∷ [])
             (calls self.new) };
+}
+
+/// Calls a plugin for a request: what it gives, where it was asked for something. `Err`: it wanted memory that was
+/// refused.
+pub(crate) fn call<P: Called>(
+    plugin: &mut P,
+    request: Request<'_>,
+) -> Result<Option<Given>, AllocError>
+    requires { suits P.kind request ≡ true }
+    ensures heard { Heard (P.calls plugin.old) (call_for request.entry result ∷ []) (P.calls plugin.new) }
+    ensures given { has_given request.entry result ≡ true }
+{
+    match request {
+        Request::Callback(callback) => match plugin.call_back(callback) {
+            Ok(()) => Ok(None),
+            Err(error) => Err(error),
+        },
+        Request::Question(question, alloc, view) => match plugin.ask(alloc, question, view) {
+            Ok(given) => Ok(Some(given)),
+            Err(error) => Err(error),
+        },
+    }
 }
 
 impl Called for Box<dyn Separator> {
@@ -77,7 +108,10 @@ impl Called for Box<dyn Separator> {
         view: &View<'_>,
     ) -> Result<Given, AllocError> {
         match question {
-            Question::Separate => self.separate(alloc, view).map(Given::Cuts),
+            Question::Separate => match self.separate(alloc, view) {
+                Ok(cuts) => Ok(Given::Cuts(cuts)),
+                Err(error) => Err(error),
+            },
             _ => unreachable!(),
         }
     }
@@ -110,7 +144,10 @@ impl Called for Box<dyn Propagator> {
         view: &View<'_>,
     ) -> Result<Given, AllocError> {
         match question {
-            Question::Propagate => self.propagate(alloc, view).map(Given::Reductions),
+            Question::Propagate => match self.propagate(alloc, view) {
+                Ok(reductions) => Ok(Given::Reductions(reductions)),
+                Err(error) => Err(error),
+            },
             _ => unreachable!(),
         }
     }
@@ -143,9 +180,10 @@ impl Called for Box<dyn Pricer> {
         view: &View<'_>,
     ) -> Result<Given, AllocError> {
         match question {
-            Question::Price { block, costs } => self
-                .price(alloc, view, block, costs)
-                .map(Given::Priced),
+            Question::Price { block, costs } => match self.price(alloc, view, block, costs) {
+                Ok(priced) => Ok(Given::Priced(priced)),
+                Err(error) => Err(error),
+            },
             _ => unreachable!(),
         }
     }
@@ -178,7 +216,10 @@ impl Called for Box<dyn Heuristic> {
         view: &View<'_>,
     ) -> Result<Given, AllocError> {
         match question {
-            Question::Search => self.search(alloc, view).map(Given::Guesses),
+            Question::Search => match self.search(alloc, view) {
+                Ok(guesses) => Ok(Given::Guesses(guesses)),
+                Err(error) => Err(error),
+            },
             _ => unreachable!(),
         }
     }
@@ -211,7 +252,10 @@ impl Called for Box<dyn BranchRule> {
         view: &View<'_>,
     ) -> Result<Given, AllocError> {
         match question {
-            Question::Branch => self.branch(alloc, view).map(Given::Split),
+            Question::Branch => match self.branch(alloc, view) {
+                Ok(split) => Ok(Given::Split(split)),
+                Err(error) => Err(error),
+            },
             _ => unreachable!(),
         }
     }
@@ -244,9 +288,18 @@ impl Called for Box<dyn ConsHandler> {
         view: &View<'_>,
     ) -> Result<Given, AllocError> {
         match question {
-            Question::Enforce => self.enforce(alloc, view).map(Given::Enforced),
-            Question::Separate => self.separate(alloc, view).map(Given::Cuts),
-            Question::Propagate => self.propagate(alloc, view).map(Given::Reductions),
+            Question::Enforce => match self.enforce(alloc, view) {
+                Ok(said) => Ok(Given::Enforced(said)),
+                Err(error) => Err(error),
+            },
+            Question::Separate => match self.separate(alloc, view) {
+                Ok(cuts) => Ok(Given::Cuts(cuts)),
+                Err(error) => Err(error),
+            },
+            Question::Propagate => match self.propagate(alloc, view) {
+                Ok(reductions) => Ok(Given::Reductions(reductions)),
+                Err(error) => Err(error),
+            },
             _ => unreachable!(),
         }
     }
@@ -279,7 +332,10 @@ impl Called for Box<dyn EventHandler> {
         view: &View<'_>,
     ) -> Result<Given, AllocError> {
         match question {
-            Question::OnEvent(event) => self.on_event(alloc, &event, view).map(Given::Wishes),
+            Question::OnEvent(event) => match self.on_event(alloc, &event, view) {
+                Ok(wishes) => Ok(Given::Wishes(wishes)),
+                Err(error) => Err(error),
+            },
             _ => unreachable!(),
         }
     }

@@ -1,5 +1,5 @@
 -- Who stands in a ranking may be asked.
-use Rattle.std.proofs.Common.{◌≡◌, ℕ, zero, suc, ◌+◌, List, [], ◌∷◌, ◌++◌, Option, None, Some, Bool, true, false, cond, sym, ◌∙◌, ap, subst, refl, arith, All, add-zero, zero-add, add-one, append_assoc, append-nil, drop, length, ◌≤◌}
+use Rattle.std.proofs.Common.{◌≡◌, ℕ, zero, suc, ◌+◌, List, [], ◌∷◌, ◌++◌, Option, None, Some, Bool, true, false, cond, sym, ◌∙◌, ap, subst, refl, arith, All, add-zero, zero-add, add-one, append_assoc, append-nil, drop, length, take, take_all, ◌≤◌}
 use Rattle.std.proofs.lemmas.Option.{cond_some, same_Some}
 use Rattle.std.proofs.lemmas.List.{drop_all}
 use Rattle.std.specs.Prelude.{slice_get, IsSome}
@@ -166,6 +166,14 @@ ranked_all test n seats keys fits so_far =
     sym (append-nil keys)
     ∙ ap (λ (xs : List Seat). keys ++ keys_from test n xs) (sym (drop_all n seats fits))
     ∙ so_far.all
+
+-- a list whose items were put in another order holds them in it
+pub sorted_all : {A : Type 0} (xs ys : List A) (n : ℕ) → n ≡ length xs → length ys ≡ length xs
+    → take n (ys ++ drop (length ys) xs) ≡ ys
+sorted_all xs ys n long same =
+    ap (λ rest. take n (ys ++ rest)) (drop_all (length ys) xs (omega (arith, same)))
+    ∙ ap (take n) (append-nil ys)
+    ∙ take_all n ys (omega (arith, long, same))
 
 -- nothing stands past the end
 drop_past : {A : Type 0} (xs : List A) (i : ℕ) → slice_get xs i ≡ None → (drop i xs ≡ []) × (drop (suc i) xs ≡ [])

@@ -1,5 +1,6 @@
 use Rattle.std.proofs.Common.{◌≡◌, ◌∷◌, ◌∙◌, ◌≤◌, [], ◌++◌, Some, None, ap, arith, length, map, refl, rules, sym, vec_len}
-use Rattle.std.specs.Vec.Iter.{drain_items}
+use Rattle.std.proofs.lemmas.List.{drop_all}
+use Rattle.std.specs.Vec.Iter.{drain_items, drain_kept, drain_lender}
 use Rattle.cip_roster.specs.Moved.{numbered}
 use Rattle.cip_roster.proofs.Moving.{moved_all, moved_one, whole_range}
 use Rattle.cip_roster.proofs.moves.return_seated.Goals as goal
@@ -74,3 +75,15 @@ returns-clause-length g c =
 
 pub returns-clause-capacity : goal.returns-clause-capacity
 returns-clause-capacity g c = c.loop-seat.invariant.capacity
+
+pub returns-clause-none : goal.returns-clause-none
+returns-clause-none g c =
+    let drained = c.drain-seat-items.ensures in
+    let yielded = rw c.into_iter-seat-iterator.ensures.into_iter_gives at c.loop-seat.yielded_by in
+    let stays = drained.stays _ _ yielded in
+    let last = c.in-None.ensures.steps.1 in
+    let fits : length c.args.seated.now.items ≤ vec_len c.args.seated.now = search rules in
+    let left = c.drop-seat-iterator.ensures.items ∙ ap (λ it. drain_kept it) last ∙ stays.1 ∙ drained.kept
+    ∙ drop_all _ c.args.seated.now.items fits in
+    let lent = ap (λ it. drain_lender it) last ∙ stays.0 ∙ drained.same_reference in
+    ap (λ v. v.items) (c.seated-1.given.1 (sym lent)) ∙ left

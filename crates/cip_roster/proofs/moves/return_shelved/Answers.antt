@@ -1,5 +1,6 @@
 use Rattle.std.proofs.Common.{◌≡◌, ◌∷◌, ◌∙◌, ◌≤◌, [], ◌++◌, Some, None, ap, arith, length, map, refl, rules, sym, vec_len}
-use Rattle.std.specs.Vec.Iter.{drain_items}
+use Rattle.std.proofs.lemmas.List.{drop_all}
+use Rattle.std.specs.Vec.Iter.{drain_items, drain_kept, drain_lender}
 use Rattle.std.proofs.Common.{count_by}
 use Rattle.std.specs.Prelude.{is_some}
 use Rattle.cip_roster.specs.Moved.{unnumbered}
@@ -59,3 +60,15 @@ returns-clause-moved g c =
     ∙ whole_range c.args.shelf.now.items (vec_len c.args.shelf.now) fits in
     moved_all _ _ _ _ _ (ap (unnumbered g.P.Leaves.left) c.in-None.ensures.steps.0)
     (ap (unnumbered g.P.Leaves.left) from) c.loop-held.invariant.moved
+
+pub returns-clause-none : goal.returns-clause-none
+returns-clause-none g c =
+    let drained = c.drain-held-items.ensures in
+    let yielded = rw c.into_iter-held-iterator.ensures.into_iter_gives at c.loop-held.yielded_by in
+    let stays = drained.stays _ _ yielded in
+    let last = c.in-None.ensures.steps.1 in
+    let fits : length c.args.shelf.now.items ≤ vec_len c.args.shelf.now = search rules in
+    let left = c.drop-held-iterator.ensures.items ∙ ap (λ it. drain_kept it) last ∙ stays.1 ∙ drained.kept
+    ∙ drop_all _ c.args.shelf.now.items fits in
+    let lent = ap (λ it. drain_lender it) last ∙ stays.0 ∙ drained.same_reference in
+    ap (λ v. v.items) (c.shelf-1.given.1 (sym lent)) ∙ left

@@ -1,5 +1,6 @@
-use Rattle.std.proofs.Common.{◌≡◌, ◌∷◌, ◌∙◌, ◌≤◌, List, arith, ap, length, map, refl, rules, subst, vec_len}
-use Rattle.std.specs.Vec.Iter.{drain_items}
+use Rattle.std.proofs.Common.{◌≡◌, ◌∷◌, ◌∙◌, ◌≤◌, List, arith, ap, length, map, refl, rules, subst, sym, vec_len}
+use Rattle.std.proofs.lemmas.List.{drop_all}
+use Rattle.std.specs.Vec.Iter.{drain_items, drain_kept, drain_lender}
 use Rattle.cip_events.specs.Names.{shown_name}
 use Rattle.cip_plugin.specs.Who.{Who}
 use Rattle.cip_roster.specs.Begun.{AreSeated}
@@ -66,3 +67,15 @@ returns-clause-kept g c = c.loop-plugin.invariant.so_far.kept
 
 pub returns-clause-room : goal.returns-clause-room
 returns-clause-room g c = c.loop-plugin.invariant.room
+
+pub returns-clause-none : goal.returns-clause-none
+returns-clause-none g c =
+    let drained = c.drain-plugin-items.ensures in
+    let yielded = rw c.into_iter-plugin-iterator.ensures.into_iter_gives at c.loop-plugin.yielded_by in
+    let stays = drained.stays _ _ yielded in
+    let last = c.in-None.ensures.steps.1 in
+    let fits : length c.args.plugins.now.items ≤ vec_len c.args.plugins.now = search rules in
+    let left = c.drop-plugin-iterator.ensures.items ∙ ap (λ it. drain_kept it) last ∙ stays.1 ∙ drained.kept
+    ∙ drop_all _ c.args.plugins.now.items fits in
+    let lent = ap (λ it. drain_lender it) last ∙ stays.0 ∙ drained.same_reference in
+    ap (λ v. v.items) (c.plugins-1.given.1 (sym lent)) ∙ left

@@ -1,0 +1,17 @@
+use Rattle.std.proofs.Common.{rules}
+use Rattle.cip_plugin.proofs.Asked.{separator_is_asked}
+use Rattle.cip_plugin.proofs.Objects.{heard_same}
+use Rattle.cip_plugin.proofs.called.BoxDynSeparatorCalled.ask.Goals as goal
+
+pub returns-in-Ok : goal.returns-in-Ok
+returns-in-Ok g c =
+    rw c.in-Separate.is (heard_same (λ i x. (goal.Separator-dyn g (i, x)).Plugin.told x) _
+    (c.args.self.now.vtable, c.args.self.now.value) (search rules) c.in-Ok.ensures)
+
+pub returns-in-Err : goal.returns-in-Err
+returns-in-Err g c =
+    rw c.in-Separate.is (heard_same (λ i x. (goal.Separator-dyn g (i, x)).Plugin.told x) _
+    (c.args.self.now.vtable, c.args.self.now.value) (search rules) c.in-Err.ensures)
+
+pub unreachable-requires : goal.unreachable-requires
+unreachable-requires g c = separator_is_asked c.args.question c.requires c.in_default.not-Separate
