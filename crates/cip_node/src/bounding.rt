@@ -1,5 +1,5 @@
 //! The linear program of a node in work.
-ghost use Rattle.std.specs.Prelude.{◌≡◌, ◌≢◌, None, Some, Err, length, IfOk, IfSome};
+ghost use Rattle.std.specs.Prelude.{◌≡◌, ◌≢◌, None, Some, Err, length, IfOk, IfSome, OnErr};
 ghost use Rattle.cip_problem.specs.WellFormed.{columns};
 ghost use Rattle.cip_cuts.specs.Improving.{IsBoundIn};
 ghost use Rattle.cip_tree.specs.Nodes.{region_of, box_of};
@@ -94,7 +94,8 @@ fn told_by(relaxed: Relaxed) -> Option<Told>
 /// What the offer of what a point comes back as comes to; a point that doesn't come back in range is passed over. `Err`
 /// comes where memory was refused.
 fn passed_over(offered: Result<Offered, PostsolveFault>) -> Result<(), AllocError>
-    ensures { IfOk result (λ _. offered ≢ Err NoMemory) }
+    ensures ok { IfOk result (λ _. offered ≢ Err NoMemory) }
+    ensures err { OnErr result (offered ≡ Err NoMemory) }
 {
     match offered {
         Ok(_) => Ok(()),

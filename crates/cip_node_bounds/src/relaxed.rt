@@ -249,7 +249,14 @@ fn judged_over(
         cutoff,
         whole: program.whole(),
     };
-    judged(&lent, program, usable.ids.as_slice(), bounds, found, scratch)
+    judged(
+        &lent,
+        program,
+        usable.ids.as_slice(),
+        bounds,
+        found,
+        scratch,
+    )
 }
 
 /// Puts what is near the optimum beside a mark: its bound, and its point where none was found; what has no mark stays

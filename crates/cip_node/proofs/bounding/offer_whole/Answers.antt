@@ -22,7 +22,7 @@ returns-clause-later c = c.offer_back.ensures.later
 
 pub returns-clause-tried : goal.returns-clause-tried
 returns-clause-tried c =
-    on_ok c.passed_over.result (c.offer_back.result ≢ Err NoMemory) (IsTriedBack c.offer_back.new.self c.args.point.now) c.offer_back.ensures.tried c.passed_over.ensures
+    on_ok c.passed_over.result (c.offer_back.result ≢ Err NoMemory) (IsTriedBack c.offer_back.new.self c.args.point.now) c.offer_back.ensures.tried c.passed_over.ensures.ok
 
 pub returns-clause-region : goal.returns-clause-region
 returns-clause-region c =
