@@ -161,10 +161,16 @@ impl Draft {
     pub fn into_program(self) -> Result<Program, AllocError>
         ensures { IfOk result (λ program. program ≡ program_from (kept self)) }
     {
-        let copied = self.copied()?;
+        let Ok(copied) = self.copied() else {
+            drop(self);
+            return Err(AllocError);
+        };
         let constant = objective_constant(self.sense, &self.rows);
         let sense = sense_of(self.sense);
-        let (column_names, rows) = self.into_rows()?;
+        let Ok((column_names, rows)) = self.into_rows() else {
+            drop(copied);
+            return Err(AllocError);
+        };
         let Copied {
             row_names,
             costs,
