@@ -49,11 +49,21 @@ fn put_column(
     ensures err { OnErr result ((names.new ≡ names.old) × (costs.new.items ≡ costs.old.items)
         × (sides.new.items ≡ sides.old.items) × (whole.new.items ≡ whole.old.items)) }
 {
-    costs.reserve(1)?;
-    sides.reserve(1)?;
-    whole.reserve(1)?;
-    let owned = name.to_vec(alloc)?;
-    names.add(owned)?;
+    let Ok(()) = costs.reserve(1) else {
+        return Err(AllocError);
+    };
+    let Ok(()) = sides.reserve(1) else {
+        return Err(AllocError);
+    };
+    let Ok(()) = whole.reserve(1) else {
+        return Err(AllocError);
+    };
+    let Ok(owned) = name.to_vec(alloc) else {
+        return Err(AllocError);
+    };
+    let Ok(()) = names.add(owned) else {
+        return Err(AllocError);
+    };
     costs.push_reserved(Frac::zero());
     sides.push_reserved(default_sides());
     whole.push_reserved(false);

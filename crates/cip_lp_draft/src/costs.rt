@@ -94,9 +94,13 @@ impl LpDraft {
         if is_long(name) {
             return Ok(Some(10));
         }
-        let number = self.make_column(name, column)?;
+        let Ok(number) = self.make_column(name, column) else {
+            return Err(AllocError);
+        };
         let cost = self.minimized(amount.value);
-        self.form.put(FormTerm::of(number, amount))?;
+        let Ok(()) = self.form.put(FormTerm::of(number, amount)) else {
+            return Err(AllocError);
+        };
         set_cost(&mut self.costs, number, cost);
         Ok(None)
     }
@@ -116,8 +120,12 @@ impl LpDraft {
         if is_long(name) {
             return Ok(Some(10));
         }
-        let number = self.make_column(name, column)?;
-        self.form.put(FormTerm::of(number, amount))?;
+        let Ok(number) = self.make_column(name, column) else {
+            return Err(AllocError);
+        };
+        let Ok(()) = self.form.put(FormTerm::of(number, amount)) else {
+            return Err(AllocError);
+        };
         self.entries = entries_with(self.entries, amount);
         Ok(None)
     }

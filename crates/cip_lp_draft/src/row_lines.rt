@@ -93,12 +93,19 @@ impl LpDraft {
     pub fn end_row(&mut self, low: Option<Frac>, high: Option<Frac>) -> Result<(), AllocError>
         ensures { OnOk result (self.new ≡ facts.facts_with self.old (Ends low high)) }
     {
-        self.rows.reserve(1)?;
+        let Ok(()) = self.rows.reserve(1) else {
+            return Err(AllocError);
+        };
         let Some(name) = self.row_name.take() else {
             return Ok(());
         };
-        let row = self.form.take_row(self.alloc, low, high)?;
-        self.row_names.add(name)?;
+        let Ok(row) = self.form.take_row(self.alloc, low, high) else {
+            return Err(AllocError);
+        };
+        let Ok(()) = self.row_names.add(name) else {
+            drop(row);
+            return Err(AllocError);
+        };
         self.rows.push_reserved(row);
         Ok(())
     }

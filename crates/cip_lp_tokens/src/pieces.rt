@@ -113,7 +113,6 @@ fn without_comment(bytes: &[u8]) -> &[u8]
 }
 
 /// What stands from the first byte on that is no blank; nothing where it begins a comment.
-#[tactic(auto, using(cip_lp_rules::proofs::LpPieceLaws::blank_cut))]
 fn without_blanks(bytes: &[u8]) -> &[u8]
     ensures same { line_pieces result.now ≡ line_pieces bytes.now }
     ensures starts { begins_nothing result.now ≡ false }

@@ -1,5 +1,5 @@
 //! A text of free MPS, in whatever pieces it comes.
-ghost use Rattle.std.specs.Prelude.{◌≡◌, ◌+◌, ◌<◌, ◌≤◌, ◌∷◌, ◌++◌, [], ℕ, List, Option, length, true, false, IfSome, OnOk, IfOk, fold};
+ghost use Rattle.std.specs.Prelude.{◌≡◌, ◌+◌, ◌<◌, ◌≤◌, ◌∷◌, ◌++◌, [], ℕ, List, Option, length, true, false, IfSome, OnOk, IfOk, MatchResult, fold};
 ghost use Rattle.std.specs.List.{list_any};
 ghost use Rattle.cip_problem.specs.Limits.{longest_text};
 ghost use Rattle.cip_syntax.specs.Lines.{is_line_feed};
@@ -9,7 +9,7 @@ ghost use Rattle.cip_line_texts.specs.LineStream.{Stream, byte_read, stream_of};
 ghost use Rattle.cip_line_stream.specs.PieceFaults.{has_kind_to};
 ghost use Rattle.cip_line_stream.specs.PieceCuts.{no_bytes, cut_of, with_bytes, with_feed, known_fault};
 ghost use Rattle.cip_line_stream.specs.PieceStands.{progress_after, IsRead, IsLastRead, outcome_with};
-ghost use Rattle.cip_mps_rules.specs.MpsOutcome.{mps_reading};
+ghost use Rattle.cip_mps_rules.specs.MpsOutcome.{mps_reading, HasProgram};
 ghost use Rattle.cip_mps_steps.specs.MpsState.{State};
 ghost use Rattle.cip_mps_steps.specs.MpsSteps.{mps_steps};
 
@@ -36,6 +36,7 @@ pub struct MpsText {
 }
 
 impl MpsText {
+    ghost use Rattle.cip_mps.specs.MpsReaders.{HasCome, IsFaultOf};
     ghost use Rattle.cip_mps.specs.MpsTexts.{kept_of, stage_of, StandsFor};
 
     /// Before the first byte.
@@ -164,6 +165,24 @@ impl MpsText {
         let end_kind = self.end_kind();
         Ok(self.pieces.fault_at_end(last_kind, end_kind, TOO_MANY))
     }
+
+    /// Takes the end of the text, whose program the lines have said then; or answers its fault.
+    fn end(&mut self) -> Result<(), ReadFault<MpsKind>>
+        ensures { (bytes : List ℕ) → HasCome self.old bytes
+            → MatchResult result (λ _. HasProgram bytes (mps_steps.result (stage_of self.new))) (IsFaultOf bytes) }
+    {
+        let known = self.close()?;
+        told::<MpsKind>(known)?;
+        Ok(())
+    }
+
+    /// The program that the lines have said.
+    fn into_program(self) -> Result<Program, AllocError>
+        ensures { IfOk result (λ program. program ≡ mps_steps.result (stage_of self)) }
+    {
+        let MpsText { lines, .. } = self;
+        lines.into_program()
+    }
 }
 
 impl PieceText for MpsText {
@@ -209,8 +228,12 @@ impl PieceText for MpsText {
 
     fn finish(self) -> Result<Program, ReadFault<MpsKind>> {
         let mut text = self;
-        told::<MpsKind>(text.close()?)?;
-        let MpsText { lines, .. } = text;
-        Ok(lines.into_program()?)
+        match text.end() {
+            Ok(()) => Ok(text.into_program()?),
+            Err(fault) => {
+                drop(text);
+                Err(fault)
+            }
+        }
     }
 }

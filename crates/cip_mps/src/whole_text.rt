@@ -16,6 +16,11 @@ pub fn read_mps(alloc: Global, text: &[u8]) -> Result<Program, ReadFault<MpsKind
     ensures { MatchResult result (λ program. HasProgram text.now program) (IsFaultOf text.now) }
 {
     let mut reader = MpsReader::new(alloc);
-    reader.feed(text)?;
-    reader.finish()
+    match reader.feed(text) {
+        Ok(()) => reader.finish(),
+        Err(fault) => {
+            drop(reader);
+            Err(fault)
+        }
+    }
 }

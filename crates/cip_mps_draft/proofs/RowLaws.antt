@@ -1,8 +1,9 @@
 -- Rows keep their numbers by rising column.
-use Rattle.std.proofs.Common.{◌≡◌, ℕ, zero, suc, ◌<◌, ◌≤◌, Bool, true, false, cond, ◌&&◌, List, [], ◌∷◌, ◌++◌, length, Some, subst, refl, sym, ap, ◌∙◌, arith}
-use Rattle.std.specs.Prelude.{nat_lt, slice_index_or, slice_set, not, Result, Ok, Err, OnOk, OnErr}
+use Rattle.std.proofs.Common.{◌≡◌, ℕ, zero, suc, ◌+◌, add-one, ◌<◌, ◌≤◌, Bool, true, false, cond, ◌&&◌, List, [], ◌∷◌, ◌++◌, length, Some, subst, refl, sym, ap, ◌∙◌, arith}
+use Rattle.std.specs.Prelude.{nat_lt, nat_le, slice_index_or, slice_set, not, Result, Ok, Err, OnOk, OnErr}
 use Rattle.std.specs.List.{filter, list_all}
-use Rattle.std.proofs.lemmas.Bool.{and_from, and_parts, lt-ltb, ltb-true}
+use Rattle.std.proofs.lemmas.Bool.{and_from, and_parts, lt-ltb, ltb-true, leb-false}
+use Rattle.std.proofs.lemmas.List.{length_push}
 use Rattle.cip_rational.specs.Rational.{ℚ}
 use Rattle.cip_mps_steps.specs.MpsState.{RowRead, no_row, is_kept}
 use Rattle.cip_mps_rules.specs.MpsProgram.{is_free}
@@ -91,3 +92,27 @@ put_or_not (Err x) old new more P o e b m = subst P (sym e) b
 -- a number more
 pub held_still : (n column : ℕ) (value : ℚ) → column < n → (r : RowRead) → held_below n r.held ≡ true → held_below n (with_held column value r).held ≡ true
 held_still n column value l r h = all_push (λ h. nat_lt h.column n) r.held (record { column = column; value = value }) h (lt-ltb column n l)
+
+-- ---- a row more
+
+-- it is one that isn't of type N, and there is room for it
+pub few_more : (free : Bool) (n most : ℕ) → (not free && nat_le most n) ≡ false → false ≡ free → n + 1 ≤ most
+few_more false n most h e = let l : n < most = leb-false most n h in omega (arith, l)
+few_more true n most h e = cc
+
+-- as many rows as names
+pub both_longer : {X Y : Type 0} (xs xs2 : List X) (ys ys2 : List Y) (x : X) (y : Y) → length xs ≡ length ys → xs2 ≡ xs ++ x ∷ [] → ys2 ≡ ys ++ y ∷ [] → length xs2 ≡ length ys2
+both_longer xs xs2 ys ys2 x y e p q = ap length p ∙ length_push xs x ∙ ap (λ (n : ℕ). n + 1) e ∙ sym (ap length q ∙ length_push ys y)
+
+-- so many of them aren't of type N
+pub counted_more : (rows rows2 : List RowRead) (row : RowRead) (n : ℕ) → n ≡ length (filter is_kept rows) → rows2 ≡ rows ++ row ∷ [] → is_kept row ≡ true → n + 1 ≡ length (filter is_kept rows2)
+counted_more rows rows2 row n c p k =
+    add-one n ∙ ap suc c ∙ sym (ap (λ rs. length (filter is_kept rs)) p ∙ count_push rows row ∙ ap (λ b. count_with b (length (filter is_kept rows))) k)
+
+pub counted_same : (rows rows2 : List RowRead) (row : RowRead) (n : ℕ) → n ≡ length (filter is_kept rows) → rows2 ≡ rows ++ row ∷ [] → is_kept row ≡ false → n ≡ length (filter is_kept rows2)
+counted_same rows rows2 row n c p k =
+    c ∙ sym (ap (λ rs. length (filter is_kept rs)) p ∙ count_push rows row ∙ ap (λ b. count_with b (length (filter is_kept rows))) k)
+
+-- a row without numbers
+pub below_more_rows : (n : ℕ) (rows rows2 : List RowRead) (row : RowRead) → list_all (λ row. held_below n row.held) rows ≡ true → rows2 ≡ rows ++ row ∷ [] → row.held ≡ [] → list_all (λ row. held_below n row.held) rows2 ≡ true
+below_more_rows n rows rows2 row h p e = ap (list_all (below n)) p ∙ all_push (below n) rows row h (ap (held_below n) e)

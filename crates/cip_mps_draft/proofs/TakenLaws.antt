@@ -1,6 +1,6 @@
 -- The state behind each kind of line, by the fields that it changes.
 use Rattle.std.proofs.Common.{◌≡◌, ℕ, suc, ◌+◌, Bool, true, false, not, ◌&&◌, ◌||◌, cond, List, [], ◌∷◌, ◌++◌, length, Option, None, Some, refl, ap, add-zero}
-use Rattle.std.specs.Prelude.{nat_lt, nat_le}
+use Rattle.std.specs.Prelude.{nat_lt, nat_le, is_some}
 use Rattle.std.specs.List.{filter, list_any}
 use Rattle.std.proofs.lemmas.List.{append-nil}
 use Rattle.cip_problem.specs.Limits.{most_columns, most_entries, longest_name}
@@ -14,7 +14,7 @@ use Rattle.cip_mps_steps.specs.MpsSteps.{or_else, holds, put, taken, tests}
 use Rattle.cip_mps_steps.specs.MpsLineTests.{column_tests, numbers_of, has_huge, has_unknown}
 use Rattle.cip_mps_draft.specs.DraftLines.{entries_in, column_rules, sense_said_on}
 use Rattle.cip_mps_draft.specs.DraftStates.{at_place}
-use Rattle.cip_mps_draft.specs.DraftSteps.{PlacesJoin}
+use Rattle.cip_mps_draft.specs.DraftSteps.{PlacesJoin, IsStep}
 
 or_none : (o : Option Bool) → or_else o None ≡ o
 or_none None = refl
@@ -135,3 +135,15 @@ taken_at place state BadBound = refl
 
 pub places : PlacesJoin
 places = record { same_tests = tests_at; same_state = taken_at }
+
+-- ---- steps
+
+-- a line with a fault changes nothing
+pub faulty_step : (old : State) (now : Saying) (fault : Option ℕ) → fault ≡ least (tests old now) → is_some fault ≡ true → IsStep old old now fault
+faulty_step old now (Some kind) f e = record { is_fault = f; is_kept = refl }
+faulty_step old now None f e = absurd (cc)
+
+-- one without is taken
+pub quiet_step : (old new : State) (now : Saying) (fault : Option ℕ) → fault ≡ least (tests old now) → is_some fault ≡ false → new ≡ at_place no_place (taken old now) → IsStep old new now fault
+quiet_step old new now None f e t = record { is_fault = f; is_kept = t }
+quiet_step old new now (Some kind) f e t = absurd (cc)

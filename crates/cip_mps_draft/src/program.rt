@@ -8,6 +8,7 @@ ghost use Rattle.cip_mps_rules.specs.MpsBounds.{settled, is_semi, column_sides, 
 ghost use Rattle.cip_mps_steps.specs.MpsState.{no_row, is_kept, right_side_of, objective_row, kept_names, minimized_by, costs_from, finished_row, program_from};
 ghost use Rattle.cip_mps_steps.specs.MpsSoundState.{rises};
 ghost use Rattle.cip_model.specs.Programs.{is_maximize};
+ghost use Rattle.cip_mps_draft.specs.CopiedParts.{IsCopied};
 ghost use Rattle.cip_mps_draft.specs.DraftStates.{kept};
 
 use crate::column_program::{bounds_of, choices_of, costs_of, minimized, wholes_of};
@@ -109,17 +110,7 @@ struct Copied {
 impl Draft {
     /// Its names of rows, costs, whole columns, bounds and choices. `Err` comes where a growth was refused.
     fn copied(&self) -> Result<Copied, AllocError>
-        ensures row_names { IfOk result (λ copied. copied.row_names
-            ≡ kept_names self.now.row_names self.now.rows) }
-        ensures costs { IfOk result (λ copied. copied.costs.items
-            ≡ costs_from self.now.sense (objective_row self.now.rows).held 0 (length self.now.column_names)) }
-        ensures whole { IfOk result (λ copied. copied.whole.items
-            ≡ map (λ column. (settled column).whole) self.now.columns.items) }
-        ensures bounds { IfOk result (λ copied. copied.bounds
-            ≡ map (λ column. column_sides (settled column)) self.now.columns.items) }
-        ensures choices { IfOk result (λ copied. copied.choices
-            ≡ (if list_any (λ column. is_semi (settled column)) self.now.columns.items
-            then map (λ column. choice_of (settled column)) self.now.columns.items else [])) }
+        ensures { IfOk result (IsCopied self.now) }
     {
         let alloc = self.alloc;
         let columns = self.columns.as_slice();
@@ -170,10 +161,16 @@ impl Draft {
     pub fn into_program(self) -> Result<Program, AllocError>
         ensures { IfOk result (λ program. program ≡ program_from (kept self)) }
     {
-        let copied = self.copied()?;
+        let Ok(copied) = self.copied() else {
+            drop(self);
+            return Err(AllocError);
+        };
         let constant = objective_constant(self.sense, &self.rows);
         let sense = sense_of(self.sense);
-        let (column_names, rows) = self.into_rows()?;
+        let Ok((column_names, rows)) = self.into_rows() else {
+            drop(copied);
+            return Err(AllocError);
+        };
         let Copied {
             row_names,
             costs,

@@ -1,8 +1,24 @@
 -- Lines of RHS, RANGES and BOUNDS by their sets and what stands behind them.
-use Rattle.std.proofs.Common.{◌≡◌, ℕ, List, [], ◌∷◌, Option, None, Some, refl}
+use Rattle.std.proofs.Common.{◌≡◌, ℕ, ◌<◌, ◌≤◌, List, [], ◌∷◌, length, Option, None, Some, refl, arith}
 use Rattle.cip_mps_rules.specs.MpsWords.{BoundKind}
-use Rattle.cip_mps_rules.specs.MpsSayings.{Value, Saying, Miscounted, RightSideLine, RangeLine, BoundLine, no_value, of_set, right_side_said, range_said, plain_bound}
+use Rattle.cip_mps_rules.specs.MpsSayings.{Value, Saying, Miscounted, RightSideLine, RangeLine, BoundLine, no_value, of_set, right_side_said, range_said, valued_bound, plain_bound}
 use Rattle.cip_mps_lines.specs.SetWords.{set_values, set_column}
+
+-- ---- lines of BOUNDS with a wrong number of words
+
+pub valued_few : (first : Option (List ℕ)) (kind : BoundKind) (words : List (List ℕ)) → length words < 2 → Miscounted ≡ valued_bound first kind words
+valued_few first kind [] h = refl
+valued_few first kind (a ∷ []) h = refl
+valued_few first kind (a ∷ b ∷ words) h = absurd (omega (arith, h))
+
+pub valued_many : (first : Option (List ℕ)) (kind : BoundKind) (words : List (List ℕ)) → 4 ≤ length words → Miscounted ≡ valued_bound first kind words
+valued_many first kind [] h = refl
+valued_many first kind (a ∷ []) h = refl
+valued_many first kind (a ∷ b ∷ []) h = absurd (omega (arith, h))
+valued_many first kind (a ∷ b ∷ c ∷ []) h = absurd (omega (arith, h))
+valued_many first kind (a ∷ b ∷ c ∷ d ∷ words) h = refl
+
+-- ---- by what stands behind the words
 
 -- what a line with this set and these values says, if they are there
 abbrev pub values_told : (List ℕ → List Value → Saying) → Option (List ℕ) → Option (List ℕ × List Value) → Saying

@@ -2,6 +2,13 @@
 use Rattle.std.specs.Prelude.{ℕ, List, [], ◌∷◌, Option, None, Some}
 use Rattle.cip_mps_rules.specs.MpsSayings.{Value, one_value, two_values}
 
+-- this set and the values of `row value [row value]`
+abbrev pub values_in_set : (set_name : List ℕ) → List (List ℕ) → Option (List ℕ × List Value)
+values_in_set set_name (row ∷ text ∷ []) = Some (set_name, one_value row text)
+values_in_set set_name (row ∷ text ∷ other_row ∷ other_text ∷ []) =
+    Some (set_name, two_values row text other_row other_text)
+values_in_set set_name words = None
+
 -- the set and the values of `[set] row value [row value]`; the set without a name, where none is named
 abbrev pub set_values : List (List ℕ) → Option (List ℕ × List Value)
 set_values (row ∷ text ∷ []) = Some ([], one_value row text)

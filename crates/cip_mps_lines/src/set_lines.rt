@@ -1,10 +1,10 @@
 //! What the lines of RHS, RANGES and BOUNDS say.
-ghost use Rattle.std.specs.Prelude.{◌≡◌, option_map};
+ghost use Rattle.std.specs.Prelude.{◌≡◌, Some, option_map};
 ghost use Rattle.cip_mps_rules.specs.MpsSayings as text;
 ghost use Rattle.cip_mps_lines.specs.FirstWords.{texts};
 ghost use Rattle.cip_mps_lines.specs.MpsKinds.{bound_kind_in};
 ghost use Rattle.cip_mps_lines.specs.MpsLines.{saying_of, values_of};
-ghost use Rattle.cip_mps_lines.specs.SetWords.{set_values, set_column};
+ghost use Rattle.cip_mps_lines.specs.SetWords.{values_in_set, set_values, set_column};
 
 use crate::bound_numbers::BoundNumber;
 use crate::line::{Line, Pairs};
@@ -12,21 +12,31 @@ use crate::place::LinePlace;
 use crate::values::{one_value, two_values};
 use crate::words::{BoundKind, bound_kind_of};
 
+/// This set and the values of `row value [row value]`, if the words have this form.
+fn values_in_set<'a>(set_name: &'a [u8], words: &[&'a [u8]]) -> Option<(&'a [u8], Pairs<'a>)>
+    ensures { option_map (λ said. (said.0.now, values_of said.1)) result
+        ≡ values_in_set set_name.now (texts words.now) }
+{
+    match words {
+        [row, number] => Some((set_name, one_value(row, number))),
+        [row, number, other_row, other_number] => {
+            Some((set_name, two_values(row, number, other_row, other_number)))
+        }
+        _ => None,
+    }
+}
+
 /// The set and the values of `[set] row value [row value]`, if the words have this form; the set is empty where none is
 /// named.
 fn set_values<'a>(words: &[&'a [u8]]) -> Option<(&'a [u8], Pairs<'a>)>
     ensures { option_map (λ said. (said.0.now, values_of said.1)) result ≡ set_values (texts words.now) }
 {
-    match words {
-        [row, number] => Some((b"", one_value(row, number))),
-        [set_name, row, number] => Some((set_name, one_value(row, number))),
-        [row, number, other_row, other_number] => {
-            Some((b"", two_values(row, number, other_row, other_number)))
-        }
-        [set_name, row, number, other_row, other_number] => {
-            Some((set_name, two_values(row, number, other_row, other_number)))
-        }
-        _ => None,
+    if words.len() % 2 == 0 {
+        return values_in_set(b"", words);
+    }
+    match words.split_first() {
+        Some((set_name, others)) => values_in_set(set_name, others),
+        None => None,
     }
 }
 
@@ -138,16 +148,27 @@ fn plain_bound<'a>(place: &LinePlace, kind: BoundKind, words: &[&'a [u8]]) -> Li
     }
 }
 
+/// A bound of this type, behind which these words stand.
+fn typed_bound<'a>(place: &LinePlace, kind: BoundKind, words: &[&'a [u8]]) -> Line<'a>
+    ensures { saying_of result
+        ≡ text.typed_bound place.now.set_name (Some (bound_kind_in kind)) (texts words.now) }
+{
+    if kind.has_value() {
+        valued_bound(place, kind, words)
+    } else {
+        plain_bound(place, kind, words)
+    }
+}
+
 /// A line of BOUNDS: a type, and what stands behind it.
 pub(crate) fn bound_said<'a>(place: &LinePlace, words: &[&'a [u8]]) -> Line<'a>
     ensures { saying_of result ≡ text.bound_said place.now.set_name (texts words.now) }
 {
-    let [kind, others @ ..] = words else {
+    let Some((kind, others)) = words.split_first() else {
         return Line::Miscounted;
     };
     match bound_kind_of(kind) {
         None => Line::BadBound,
-        Some(kind) if kind.has_value() => valued_bound(place, kind, others),
-        Some(kind) => plain_bound(place, kind, others),
+        Some(kind) => typed_bound(place, kind, others),
     }
 }

@@ -163,3 +163,18 @@ one_group here behind group groups before all few full h =
     ∙ ap (λ rows. before ++ rows) (sym (map_append finished_row (filter is_kept first) (filter is_kept (rows_of behind groups)))
     ∙ ap (map finished_row) (sym (filter_append is_kept first (rows_of behind groups))) ∙ ap (λ rows. map finished_row (filter is_kept rows)) (sym (first_rows here behind group groups few full)))
     ∙ h
+
+-- ---- one row of a group
+
+pub kept_taken : (finished more : List Row) (heads behind : List RowRead) (head : RowRead) (rows others : List Row) (row : Row) (all : List Row) → heads ≡ head ∷ behind → rows ≡ row ∷ others → is_kept head ≡ true → more ≡ finished ++ row ∷ []
+    → finished ++ kept_rows heads rows ≡ all → more ++ kept_rows behind others ≡ all
+kept_taken finished more heads behind head rows others row all h r k m e =
+    ap (λ (xs : List Row). xs ++ kept_rows behind others) m ∙ append_assoc finished (row ∷ []) (kept_rows behind others)
+    ∙ ap (λ (b : Bool). finished ++ cond b (row ∷ kept_rows behind others) (kept_rows behind others)) (sym k)
+    ∙ (λ i. finished ++ kept_rows (sym h i) (sym r i)) ∙ e
+
+pub kept_dropped : (finished : List Row) (heads behind : List RowRead) (head : RowRead) (rows others : List Row) (row : Row) (all : List Row) → heads ≡ head ∷ behind → rows ≡ row ∷ others → is_kept head ≡ false
+    → finished ++ kept_rows heads rows ≡ all → finished ++ kept_rows behind others ≡ all
+kept_dropped finished heads behind head rows others row all h r k e =
+    ap (λ (b : Bool). finished ++ cond b (row ∷ kept_rows behind others) (kept_rows behind others)) (sym k)
+    ∙ (λ i. finished ++ kept_rows (sym h i) (sym r i)) ∙ e

@@ -112,6 +112,11 @@ sound_pushed held_to heads groups others head s h l = record {
   below = λ row. ap (λ n. held_below n (numbers_at others row)) (zero_pushed held_to row) ∙ ap (held_below (slice_index_or held_to row 0)) (h row) ∙ s.below row;
 }
 
+-- lists that are the same
+pub sound_kept : (held_to held_to2 : List ℕ) (heads heads2 : List RowRead) (groups : List (List Entry)) → held_to2 ≡ held_to → heads2 ≡ heads → IsSoundTable held_to heads groups → IsSoundTable held_to2 heads2 groups
+sound_kept held_to held_to2 heads heads2 groups p q s =
+    subst (λ (hs : List RowRead). IsSoundTable held_to2 hs groups) (sym q) (subst (λ (ns : List ℕ). IsSoundTable ns heads groups) (sym p) s)
+
 -- ---- a number more
 
 below_pushed : (column : ℕ) (value : ℚ) (held : List Held) → held_below column held ≡ true → held_below (column + 1) (held ++ record { column = column; value = value } ∷ []) ≡ true

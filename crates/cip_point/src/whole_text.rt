@@ -23,6 +23,11 @@ pub fn read_point(
         (IsFaultOf program.now text.now) }
 {
     let mut reader = PointReader::new((alloc, program));
-    reader.feed(text)?;
-    reader.finish()
+    match reader.feed(text) {
+        Ok(()) => reader.finish(),
+        Err(fault) => {
+            drop(reader);
+            Err(fault)
+        }
+    }
 }

@@ -1,16 +1,15 @@
-use Rattle.std.proofs.Common.{[], rules, refl}
+use Rattle.std.proofs.Common.{[], refl}
 use Rattle.cip_line_stream.proofs.Begun.{begun}
-use Rattle.cip_mps.specs.MpsReaders.{HasCome, IsFaultOf}
+use Rattle.cip_mps.specs.MpsReaders.{HasCome}
 use Rattle.cip_mps.proofs.MpsAnswers.{whole_fault}
 use Rattle.cip_mps.proofs.whole_text.read_mps.Goals as goal
 
-pub returns-in_err-feed : goal.returns-in_err-feed
-returns-in_err-feed c =
+pub returns-in-Err : goal.returns-in-Err
+returns-in-Err c =
     let read = begun HasCome (λ text. tt) c.new-reader.result tt (λ text. refl) c.new-reader.ensures in
-    let told : IsFaultOf c.args.text.now c.in_err-feed.field-0.0 = whole_fault c.args.text.now _ _ c.in_err-feed.field-0.0 (c.in_err-feed.ensures.reads tt [] read) in
-    search rules
+    whole_fault c.args.text.now _ _ c.in-Err.fault (c.in-Err.ensures.reads tt [] read)
 
-pub returns : goal.returns
-returns c =
+pub returns-in-Ok : goal.returns-in-Ok
+returns-in-Ok c =
     let read = begun HasCome (λ text. tt) c.new-reader.result tt (λ text. refl) c.new-reader.ensures in
-    c.finish.ensures.reads tt c.args.text.now (c.in_ok-feed.ensures.reads tt [] read).0
+    c.finish.ensures.reads tt c.args.text.now (c.in-Ok.ensures.reads tt [] read).0

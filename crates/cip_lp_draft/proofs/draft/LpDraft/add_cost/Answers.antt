@@ -9,10 +9,10 @@ invariant_of-self-2 c =
     let amount = c.args.amount.now in
     let name = c.args.name.now in
     let quiet = cost_quiet old amount name c.find_column-column.result c.find_column-column.ensures.number (sym c.is_again.ensures ∙ c.if-is_again.false) (sym c.is_column_too_many.ensures ∙ c.if-is_column_too_many.false) (sym c.is_long.ensures ∙ c.if-is_long.false) in
-    cost_put old amount name (facts_in c.self.inside) c.of.result c.in_ok-number.number c.minimized-cost.result c.put.new.self c.set_cost.new.costs.items c.stand_sound.ensures quiet
-    (c.self.view_is ∙ c.in_ok-number.ensures.ok) c.in_ok-number.ensures.number c.of.ensures c.in_ok-put.ensures.ok c.set_cost.ensures
+    cost_put old amount name (facts_in c.self.inside) c.of.result c.in-Ok.number c.minimized-cost.result c.put.new.self c.set_cost.new.costs.items c.stand_sound.ensures quiet
+    (c.self.view_is ∙ c.in-Ok.ensures.ok) c.in-Ok.ensures.number c.of.ensures c.in-Ok-put.ensures.ok c.set_cost.ensures
 
 pub set_cost-requires : goal.set_cost-requires
 set_cost-requires c =
-    let within : c.in_ok-number.number < length c.self.inside.costs.items = cost_within c.args.self.now (facts_in c.self.inside) c.args.name.now c.in_ok-number.number c.self.invariant (c.self.view_is ∙ c.in_ok-number.ensures.ok) c.in_ok-number.ensures.number in
+    let within : c.in-Ok.number < length c.self.inside.costs.items = cost_within c.args.self.now (facts_in c.self.inside) c.args.name.now c.in-Ok.number c.self.invariant (c.self.view_is ∙ c.in-Ok.ensures.ok) c.in-Ok.ensures.number in
     omega (arith, within, c.self.inside.costs.ok.0)

@@ -9,5 +9,5 @@ invariant_of-self-2 c =
     let amount = c.args.amount.now in
     let name = c.args.name.now in
     let quiet = term_quiet old amount name c.find_column-column.result c.find_column-column.ensures.number (sym c.is_again.ensures ∙ c.if-is_again.false) (sym c.is_column_too_many.ensures ∙ c.if-is_column_too_many.false) (sym c.is_entry_too_many.ensures ∙ c.if-is_entry_too_many.false) (sym c.is_long.ensures ∙ c.if-is_long.false) in
-    term_put old amount name (facts_in c.self.inside) c.of.result c.in_ok-number.number c.put.new.self c.entries_with-self-inside.result c.stand_sound.ensures quiet
-    (c.self.view_is ∙ c.in_ok-number.ensures.ok) c.in_ok-number.ensures.number c.of.ensures c.in_ok-put.ensures.ok c.entries_with-self-inside.ensures
+    term_put old amount name (facts_in c.self.inside) c.of.result c.in-Ok.number c.put.new.self c.entries_with-self-inside.result c.stand_sound.ensures quiet
+    (c.self.view_is ∙ c.in-Ok.ensures.ok) c.in-Ok.ensures.number c.of.ensures c.in-Ok-put.ensures.ok c.entries_with-self-inside.ensures

@@ -10,9 +10,9 @@ items_of name = option_map (λ (n : Vec ℕ Global). n.items) name
 
 pub invariant_of-self-2 : goal.invariant_of-self-2
 invariant_of-self-2 c =
-    row_put (facts_in c.self.inside) c.in-Some.name.items c.args.low c.args.high c.in_ok-row.row c.add.new.self c.push_reserved.new.self.items (items_of c.take.new.self) c.take_row.new.self c.self.invariant
+    row_put (facts_in c.self.inside) c.in-Some.name.items c.args.low c.args.high c.in-Ok-take_row.row c.add.new.self c.push_reserved.new.self.items (items_of c.take.new.self) c.take_row.new.self c.self.invariant
     (ap items_of (sym c.in-Some.ensures.value))
-    c.in_ok-row.ensures.row
-    c.in_ok-add.ensures.ok
-    (c.push_reserved.ensures.items ∙ ap (λ (rows : List Row). rows ++ c.in_ok-row.row ∷ []) c.in_ok-reserve.ensures.items)
-    (ap items_of c.in-Some.ensures.after) c.in_ok-row.ensures.left
+    c.in-Ok-take_row.ensures.row
+    c.in-Ok-add.ensures.ok
+    (c.push_reserved.ensures.items ∙ ap (λ (rows : List Row). rows ++ c.in-Ok-take_row.row ∷ []) c.in-Ok.ensures.items)
+    (ap items_of c.in-Some.ensures.after) c.in-Ok-take_row.ensures.left

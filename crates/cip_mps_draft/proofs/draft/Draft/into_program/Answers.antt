@@ -14,11 +14,11 @@ new-requires c =
     let columns_named : length self.columns.items ≡ length self.column_names = omega (arith, self.columns.ok.0) in
     let few : length self.columns.items ≤ most_columns = omega (arith, self.columns.ok.0) in
     let same =
-    same_program (kept c.args.self) c.in_ok-column_names.column_names c.in_ok-copied.copied.row_names c.in_ok-column_names.rows.items c.in_ok-copied.copied.costs.items c.objective_constant-constant.result
-    (is_maximize c.sense_of-sense.result) c.in_ok-copied.copied.whole.items c.in_ok-copied.copied.bounds c.in_ok-copied.copied.choices
-    c.in_ok-column_names.ensures.names c.in_ok-copied.ensures.row_names c.in_ok-column_names.ensures.rows c.in_ok-copied.ensures.costs
+    same_program (kept c.args.self) c.in-Ok-into_rows.column_names c.in-Ok.copied.row_names c.in-Ok-into_rows.rows.items c.in-Ok.copied.costs.items c.objective_constant-constant.result
+    (is_maximize c.sense_of-sense.result) c.in-Ok.copied.whole.items c.in-Ok.copied.bounds c.in-Ok.copied.choices
+    c.in-Ok-into_rows.ensures.names c.in-Ok.ensures.row_names c.in-Ok-into_rows.ensures.rows c.in-Ok.ensures.costs
     c.objective_constant-constant.ensures
-    c.sense_of-sense.ensures c.in_ok-copied.ensures.whole c.in_ok-copied.ensures.bounds c.in_ok-copied.ensures.choices in
+    c.sense_of-sense.ensures c.in-Ok.ensures.whole c.in-Ok.ensures.bounds c.in-Ok.ensures.choices in
     let P : Program → Type 0 = IsWellFormed in
     subst P (sym same) (formed (kept self) rows_named columns_named self.rows_counted self.few_rows few self.rows_below)
 
@@ -26,9 +26,9 @@ pub returns : goal.returns
 returns c =
     let self = c.args.self in
     let same =
-    same_program (kept c.args.self) c.in_ok-column_names.column_names c.in_ok-copied.copied.row_names c.in_ok-column_names.rows.items c.in_ok-copied.copied.costs.items c.objective_constant-constant.result
-    (is_maximize c.sense_of-sense.result) c.in_ok-copied.copied.whole.items c.in_ok-copied.copied.bounds c.in_ok-copied.copied.choices
-    c.in_ok-column_names.ensures.names c.in_ok-copied.ensures.row_names c.in_ok-column_names.ensures.rows c.in_ok-copied.ensures.costs
+    same_program (kept c.args.self) c.in-Ok-into_rows.column_names c.in-Ok.copied.row_names c.in-Ok-into_rows.rows.items c.in-Ok.copied.costs.items c.objective_constant-constant.result
+    (is_maximize c.sense_of-sense.result) c.in-Ok.copied.whole.items c.in-Ok.copied.bounds c.in-Ok.copied.choices
+    c.in-Ok-into_rows.ensures.names c.in-Ok.ensures.row_names c.in-Ok-into_rows.ensures.rows c.in-Ok.ensures.costs
     c.objective_constant-constant.ensures
-    c.sense_of-sense.ensures c.in_ok-copied.ensures.whole c.in_ok-copied.ensures.bounds c.in_ok-copied.ensures.choices in
+    c.sense_of-sense.ensures c.in-Ok.ensures.whole c.in-Ok.ensures.bounds c.in-Ok.ensures.choices in
     c.new.ensures ∙ same
