@@ -11,3 +11,21 @@ returns-in-Err-clause-solved g c =
 
 pub returns-in-Err-clause-kit : goal.returns-in-Err-clause-kit
 returns-in-Err-clause-kit g c = nobody_called _ c.args.options.now.trace _ _ _ (ap tree.entries_of c.clear.ensures.items) c.unsearched.ensures.trace
+
+pub returns-in-Ok-Some-clause-solved : goal.returns-in-Ok-Some-clause-solved
+returns-in-Ok-Some-clause-solved g c = c.solve_reduced-answer.ensures.solved
+
+pub returns-in-Ok-Some-clause-nodes : goal.returns-in-Ok-Some-clause-nodes
+returns-in-Ok-Some-clause-nodes g c = c.solve_reduced-answer.ensures.nodes
+
+pub returns-in-Ok-Some-clause-first : goal.returns-in-Ok-Some-clause-first
+returns-in-Ok-Some-clause-first g c = c.solve_reduced-answer.ensures.first
+
+pub returns-in-Ok-Some-clause-kit : goal.returns-in-Ok-Some-clause-kit
+returns-in-Ok-Some-clause-kit g c = c.solve_reduced-answer.ensures.kit
+
+pub solve_reduced-answer-requires-clause-some : goal.solve_reduced-answer-requires-clause-some
+solve_reduced-answer-requires-clause-some g c = c.requires.some
+
+pub solve_reduced-answer-requires-clause-few : goal.solve_reduced-answer-requires-clause-few
+solve_reduced-answer-requires-clause-few g c = c.requires.few
