@@ -1,10 +1,13 @@
-use Rattle.std.proofs.Common.{◌≡◌, ◌∙◌, ◌∷◌, true, false, ap, refl, sym, subst}
+use Rattle.std.proofs.Common.{◌≡◌, ◌∙◌, ◌∷◌, true, false, length, ap, refl, sym, subst, arith}
+use Rattle.std.specs.Prelude.{◌≤◌}
+use Rattle.std.proofs.lemmas.List.Elements.{All-push}
 use Rattle.cip_domain.specs.Domain.{region_of}
 use Rattle.cip_domain.specs.Narrowing.{ArePlainPast}
 use Rattle.cip_tree.specs.Origins.{filled}
 use Rattle.cip_tree.specs.Notes.{noted}
+use Rattle.cip_tree.specs.declared.walks.Stop.{Stop}
 use Rattle.cip_tree.specs.Walks.{Way, StandsAt, AreNarrowed}
-use Rattle.cip_tree.proofs.Walking.{descent_failed, descent_empty, descent_taken, mark_here}
+use Rattle.cip_tree.proofs.Walking.{rising_longer, descent_failed, descent_empty, descent_taken, mark_here}
 use Rattle.cip_tree.proofs.walks.Walk.step_down.Goals as goal
 
 pub returns-in_default : goal.returns-in_default
@@ -45,3 +48,28 @@ returns c = λ ids parent st p.
     subst (λ t. ArePlainPast (region_of old.domain) → AreNarrowed (region_of old.domain) (region_of new.domain) (t ∷ noted c.in-Some.below.notes.now) true) change_is
     (subst (λ b. ArePlainPast (region_of old.domain) → AreNarrowed (region_of old.domain) (region_of new.domain) (c.change-change.result ∷ noted c.in-Some.below.notes.now) b) c.if-not-branch.false c.in_ok-narrow_more.ensures.narrowed) in
     descent_taken c.args.root.now c.args.kept.now.slots c.args.place _ _ _ c.requires.kept c.in-Some.ensures ids parent p old new c.self.invariant.1 stand c.mark-mark.result c.in_ok-push.ensures.items c.narrow_more.ensures.marks narrowed (mark_here c.narrow_more.new.domain c.mark-mark.result c.mark-mark.ensures)
+
+pub invariant_of-self : goal.invariant_of-self
+invariant_of-self c = (c.self.invariant.0, λ k d l. omega (arith, c.self.invariant.1 k d l,
+    c.narrow_more.ensures.marks.grows))
+
+pub invariant_of-self-then-not-branch : goal.invariant_of-self-then-not-branch
+invariant_of-self-then-not-branch c = (c.self.invariant.0, λ k d l. omega
+    (arith, c.self.invariant.1 k d l, c.narrow_more.ensures.marks.grows))
+
+pub invariant_of-self-in_err-push : goal.invariant_of-self-in_err-push
+invariant_of-self-in_err-push c = rw (c.in_err-push.ensures.items) (c.self.invariant.0, λ k d l. omega
+    (arith, c.self.invariant.1 k d l, c.narrow_more.ensures.marks.grows))
+
+pub invariant_of-self-2 : goal.invariant_of-self-2
+invariant_of-self-2 c =
+    let last : Stop = record { number = c.in-Some.below.number; mark = c.mark-mark.result } in
+    let stops = c.self.inside.stops.items in
+    rw (c.in_ok-push.ensures.items)
+    (
+      rising_longer stops last c.self.invariant.0
+          (λ k d l. omega (arith, c.self.invariant.1 k d l, c.narrow_more.ensures.marks.grows, c.mark-mark.ensures)),
+      All-push (λ (stop : Stop). stop.mark ≤ length c.narrow_more.new.domain.before) stops last
+          (λ k d l. omega (arith, c.self.invariant.1 k d l, c.narrow_more.ensures.marks.grows)) (omega
+              (arith, c.mark-mark.ensures)),
+    )
