@@ -298,3 +298,11 @@ pub begun_lives : (start shelf : List Who) (state : State) → IsBegun start she
 begun_lives start shelf state begun =
     run_lives (all_begin 0 begun.answered) begun.fresh state begun.run begun.kept
     (fresh_lives start begun.fresh begun.seats begun.lines)
+
+-- what is at most something, under another name
+pub same_most : (few other most : ℕ) → few ≡ other → few ≤ most → other ≤ most
+same_most few other most same fits = omega (arith, same, fits)
+
+-- six times as much
+pub same_room : (few other most : ℕ) → few ≡ other → 6 * few ≤ most → 6 * other ≤ most
+same_room few other most same fits = omega (arith, same, fits)

@@ -170,8 +170,12 @@ impl Roster {
     {
         let start = kit.start.len();
         let shelf = kit.shelf.len();
-        kit.spent.reserve(start + shelf)?;
-        let mut roster = Roster::empty(alloc, start, shelf, kept)?;
+        let Ok(()) = kit.spent.reserve(start + shelf) else {
+            return Err(AllocError);
+        };
+        let Ok(mut roster) = Roster::empty(alloc, start, shelf, kept) else {
+            return Err(AllocError);
+        };
         shelve(&mut kit.shelf, &mut roster.shelf);
         admit(&mut roster, alloc, &mut kit.start, view);
         Ok(roster)

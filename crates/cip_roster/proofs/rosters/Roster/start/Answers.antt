@@ -1,18 +1,47 @@
-use Rattle.std.proofs.Common.{arith}
-use Rattle.cip_roster.proofs.Beginning.{begun_kept, shelf_kept, shelf_places}
+use Rattle.std.proofs.Common.{◌∙◌, arith}
+use Rattle.cip_roster.proofs.Beginning.{begun_kept, same_most, same_room, shelf_kept, shelf_places}
 use Rattle.cip_roster.proofs.rosters.Roster.start.Goals as goal
 
 pub returns-clause-begun : goal.returns-clause-begun
 returns-clause-begun g c =
-    begun_kept _ _ _ _ _ c.in_ok-roster.ensures.kept
-    (c.admit.ensures.begun _ (shelf_places _ c.args.kit.now.shelf.items c.in_ok-roster.roster.shelf.items
-    c.shelve.new.shelf.items c.in_ok-roster.ensures.bare c.shelve.ensures.moved))
+    begun_kept _ _ _ _ _ c.in-Ok-empty.ensures.kept
+    (c.admit.ensures.begun _ (shelf_places _ c.args.kit.now.shelf.items c.in-Ok-empty.roster.shelf.items
+    c.shelve.new.shelf.items c.in-Ok-empty.ensures.bare c.shelve.ensures.moved))
 
 pub returns-clause-plugins : goal.returns-clause-plugins
 returns-clause-plugins g c =
     omega (
       arith,
       c.admit.ensures.seats,
-      shelf_kept _ c.args.kit.now.shelf.items c.in_ok-roster.roster.shelf.items c.shelve.new.shelf.items _
-          c.admit.ensures.places c.in_ok-roster.ensures.bare c.shelve.ensures.moved,
+      shelf_kept _ c.args.kit.now.shelf.items c.in-Ok-empty.roster.shelf.items c.shelve.new.shelf.items _
+          c.admit.ensures.places c.in-Ok-empty.ensures.bare c.shelve.ensures.moved,
     )
+
+pub admit-requires-clause-spare : goal.admit-requires-clause-spare
+admit-requires-clause-spare g c =
+    same_most _ _ _ (c.len-start.ensures ∙ c.args.kit.now.start.ok.0) c.in-Ok-empty.ensures.spare
+
+pub admit-requires-clause-room : goal.admit-requires-clause-room
+admit-requires-clause-room g c =
+    same_room _ _ _ (c.len-start.ensures ∙ c.args.kit.now.start.ok.0) c.in-Ok-empty.ensures.room
+
+pub admit-requires-clause-first : goal.admit-requires-clause-first
+admit-requires-clause-first g c = c.in-Ok-empty.ensures.seats
+
+pub admit-requires-clause-unnamed : goal.admit-requires-clause-unnamed
+admit-requires-clause-unnamed g c = c.in-Ok-empty.ensures.unnamed
+
+pub admit-requires-clause-unwritten : goal.admit-requires-clause-unwritten
+admit-requires-clause-unwritten g c = c.in-Ok-empty.ensures.lines
+
+pub admit-requires-clause-unranked : goal.admit-requires-clause-unranked
+admit-requires-clause-unranked g c = c.in-Ok-empty.ensures.unranked
+
+pub returns-clause-sound : goal.returns-clause-sound
+returns-clause-sound g c = c.admit.ensures.sound
+
+pub returns-clause-moved : goal.returns-clause-moved
+returns-clause-moved g c = (c.admit.ensures.none, c.shelve.ensures.none)
+
+pub returns-clause-spent : goal.returns-clause-spent
+returns-clause-spent g c = c.reserve.ensures.items

@@ -1,0 +1,41 @@
+use Rattle.std.proofs.Common.{◌∙◌, ap, map}
+use Rattle.cip_roster.specs.Shelves.{shown}
+use Rattle.cip_roster.proofs.rosters.Roster.empty.Goals as goal
+
+pub returns-in-Ok-clause-seats : goal.returns-in-Ok-clause-seats
+returns-in-Ok-clause-seats g c = ap (map _) (c.make_room.ensures.stays.0 ∙ c.new-slots.ensures.items)
+
+pub returns-in-Ok-clause-places : goal.returns-in-Ok-clause-places
+returns-in-Ok-clause-places g c = ap (map (shown _)) (c.make_room.ensures.stays.1 ∙ c.new-places.ensures.items)
+
+pub returns-in-Ok-clause-unnamed : goal.returns-in-Ok-clause-unnamed
+returns-in-Ok-clause-unnamed g c = c.make_room.ensures.stays.2 ∙ c.new-names.ensures.items
+
+pub returns-in-Ok-clause-lines : goal.returns-in-Ok-clause-lines
+returns-in-Ok-clause-lines g c = c.make_room.ensures.stays.3 ∙ c.new-journal.ensures.lines
+
+pub returns-in-Ok-clause-kept : goal.returns-in-Ok-clause-kept
+returns-in-Ok-clause-kept g c = c.make_room.ensures.stays.4 ∙ c.new-journal.ensures.kept
+
+pub returns-in-Ok-clause-shelf : goal.returns-in-Ok-clause-shelf
+returns-in-Ok-clause-shelf g c = c.in-Ok.ensures.shelf
+
+pub returns-in-Ok-clause-bare : goal.returns-in-Ok-clause-bare
+returns-in-Ok-clause-bare g c = c.make_room.ensures.stays.1 ∙ c.new-places.ensures.items
+
+pub returns-in-Ok-clause-room : goal.returns-in-Ok-clause-room
+returns-in-Ok-clause-room g c = c.in-Ok.ensures.lines
+
+pub returns-in-Err : goal.returns-in-Err
+returns-in-Err g c = record {
+  seats = tt;
+  places = tt;
+  unnamed = tt;
+  lines = tt;
+  kept = tt;
+  spare = tt;
+  shelf = tt;
+  bare = tt;
+  room = tt;
+  unranked = tt;
+}
