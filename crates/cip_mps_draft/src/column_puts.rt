@@ -41,9 +41,15 @@ impl Draft {
             return Ok(number as u32);
         }
         let number = self.columns.len() as u32;
-        let owned = name.to_vec(self.alloc)?;
-        self.columns.reserve(1)?;
-        self.column_names.add(owned)?;
+        let Ok(owned) = name.to_vec(self.alloc) else {
+            return Err(AllocError);
+        };
+        let Ok(()) = self.columns.reserve(1) else {
+            return Err(AllocError);
+        };
+        let Ok(()) = self.column_names.add(owned) else {
+            return Err(AllocError);
+        };
         let _ = self.columns.push(ColumnDraft::new(whole));
         Ok(number)
     }

@@ -98,9 +98,15 @@ impl RowTable {
         ensures err { OnErr result (self.new ≡ self.old) }
     {
         let number = self.heads.len();
-        self.heads.reserve(1)?;
-        self.held_to.reserve(1)?;
-        make_group(self.alloc, &mut self.groups, number)?;
+        let Ok(()) = self.heads.reserve(1) else {
+            return Err(AllocError);
+        };
+        let Ok(()) = self.held_to.reserve(1) else {
+            return Err(AllocError);
+        };
+        let Ok(()) = make_group(self.alloc, &mut self.groups, number) else {
+            return Err(AllocError);
+        };
         push_head(&mut self.heads, RowHead::new(kind));
         push_end(&mut self.held_to, 0);
         Ok(())
