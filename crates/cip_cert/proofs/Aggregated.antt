@@ -40,10 +40,10 @@ module _ (lent : Lent) (box : List Sides) (columns : ℕ) (combo : Multiples) (l
         ap (λ (t : Bool). cond t (Err TooLong) (add_all lent box combo (nothing columns))) (sym is ∙ few)
         ∙ ap (λ (row : Inequality). add_all lent box combo row)
         (sym (ap₂ (λ (ds : List ℚ) (d : ℚ). (let row : Inequality = record { coefficients = ds; least = d } in row))
-            none nought))
+        none nought))
         ∙ ap (λ (ms : List RowMultiple). chain (chain (add_rows lent box 0 ms
-            (record { coefficients = zeros; least = zero })) (add_lows box (length combo.rows) combo.lows))
-            (add_highs box (length combo.rows + length combo.lows) combo.highs)) (sym same)
+        (record { coefficients = zeros; least = zero })) (add_lows box (length combo.rows) combo.lows))
+        (add_highs box (length combo.rows + length combo.lows) combo.highs)) (sym same)
 
     pub rows_fail : (fault : CutFault) → add_rows lent box 0 rows (record { coefficients = zeros; least = zero })
         ≡ Err fault → aggregate_of lent box columns combo ≡ Err fault
@@ -57,9 +57,9 @@ module _ (lent : Lent) (box : List Sides) (columns : ℕ) (combo : Multiples) (l
           (length combo.rows + length combo.lows) combo.highs)
       rows_added =
           begun ∙ ap (λ (r : Result Inequality CutFault). chain (chain r (add_lows box (length combo.rows) combo.lows))
-              (add_highs box (length combo.rows + length combo.lows) combo.highs)) added
+          (add_highs box (length combo.rows + length combo.lows) combo.highs)) added
           ∙ ap₂ (λ (n : ℕ) (ms : List ColumnMultiple). chain (add_lows box n ms row) (add_highs box
-              (length combo.rows + length combo.lows) combo.highs)) (sym first) (sym same_lows)
+          (length combo.rows + length combo.lows) combo.highs)) (sym first) (sym same_lows)
 
       pub lows_fail : (fault : CutFault) → add_lows box above lows row ≡ Err fault
           → aggregate_of lent box columns combo ≡ Err fault
@@ -76,7 +76,7 @@ module _ (lent : Lent) (box : List Sides) (columns : ℕ) (combo : Multiples) (l
       highs_added more e below n highs same_highs coefficients r h =
           let all : aggregate_of lent box columns combo ≡ add_highs box below highs more =
           rows_added ∙ ap (λ (r : Result Inequality CutFault). chain r (add_highs box
-              (length combo.rows + length combo.lows) combo.highs)) e
+          (length combo.rows + length combo.lows) combo.highs)) e
           ∙ ap₂ (λ (n : ℕ) (ms : List ColumnMultiple). add_highs box n ms more) (sym n) (sym same_highs) in
           subst (λ (a : Result Inequality CutFault). MatchResult r (λ least. a
-              ≡ Ok (record { coefficients = coefficients; least = least })) (λ fault. a ≡ Err fault)) (sym all) h
+          ≡ Ok (record { coefficients = coefficients; least = least })) (λ fault. a ≡ Err fault)) (sym all) h

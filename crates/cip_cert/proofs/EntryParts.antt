@@ -16,9 +16,9 @@ use Rattle.cip_cert.specs.declared.faults.CutFault.TheVariants.{UnknownColumn, W
 pub added_as : (entry : ℕ) (part other : Result Part CutFault) (row : Inequality) (coefficients : List ℚ)
     (r : Result ℚ CutFault) → part ≡ other
     → MatchResult r (λ least. chain other (add_part entry row) ≡ Ok
-        (record { coefficients = coefficients; least = least })) (λ fault. chain other (add_part entry row) ≡ Err fault)
+    (record { coefficients = coefficients; least = least })) (λ fault. chain other (add_part entry row) ≡ Err fault)
     → MatchResult r (λ least. chain part (add_part entry row) ≡ Ok
-        (record { coefficients = coefficients; least = least })) (λ fault. chain part (add_part entry row) ≡ Err fault)
+    (record { coefficients = coefficients; least = least })) (λ fault. chain part (add_part entry row) ≡ Err fault)
 added_as entry part other row coefficients r same h = rw same h
 
 -- a factor above 0 uses the low side of a row

@@ -62,9 +62,9 @@ module _ (entry : ℕ) (factor : ℚ) (at : ℕ) (ts : List Term) (ds : List ℚ
     term_opened =
         ap (λ xs. add_terms entry factor xs ds) (drop_more ts at t inside ∙ ap (λ x. x ∷ drop (at + 1) ts) (sym is))
         ∙ ap₂ (λ (k : ℕ) (q : ℚ). chain (placed (Entry entry) (product_added (value_at ds k) factor q))
-            (λ d. add_terms entry factor (drop (at + 1) ts) (set ds k d))) (sym column_is) (sym coefficient_is)
+        (λ d. add_terms entry factor (drop (at + 1) ts) (set ds k d))) (sym column_is) (sym coefficient_is)
         ∙ ap (λ q. chain (placed (Entry entry) (product_added q factor coefficient)) (λ d. add_terms entry factor (drop
-            (at + 1) ts) (set ds column d))) (same_default ds column zeroℚ before below ∙ sym before_is)
+        (at + 1) ts) (set ds column d))) (same_default ds column zeroℚ before below ∙ sym before_is)
 
     pub term_added : (value : ℚ) (others : List ℚ) → Ok value ≡ placed (Entry entry)
         (product_added before factor coefficient) → others ≡ set ds column value
@@ -98,12 +98,12 @@ module _ (at : ℕ) (sum : ℚ) (costs ds : List ℚ) (box : List Sides) (total 
         (drop (at + 1) costs) (drop (at + 1) ds) (drop (at + 1) box))
     column_opened =
         ap₂ (λ (cs es : List ℚ). bound_from at sum cs es (drop at box)) (drop_more costs at cost has_cost
-            ∙ ap (λ x. x ∷ drop (at + 1) costs) (sym cost_is)) (drop_more ds at d has_entry
-            ∙ ap (λ x. x ∷ drop (at + 1) ds) (sym entry_is))
+        ∙ ap (λ x. x ∷ drop (at + 1) costs) (sym cost_is)) (drop_more ds at d has_entry
+        ∙ ap (λ x. x ∷ drop (at + 1) ds) (sym entry_is))
         ∙ ap (λ (ss : List Sides). bound_from at sum (cost ∷ drop (at + 1) costs) (d ∷ drop (at + 1) ds) ss)
-            (drop_more box at sides has_sides ∙ ap (λ x. x ∷ drop (at + 1) box) (sym sides_are))
+        (drop_more box at sides has_sides ∙ ap (λ x. x ∷ drop (at + 1) box) (sym sides_are))
         ∙ ap (λ n. chain (chain (rest_of at cost d) (λ rest. rest_added at sum rest sides)) (λ more. bound_from n more
-            (drop (at + 1) costs) (drop (at + 1) ds) (drop (at + 1) box))) (sym (add-one at))
+        (drop (at + 1) costs) (drop (at + 1) ds) (drop (at + 1) box))) (sym (add-one at))
 
     pub column_added : (more : ℚ) → chain (rest_of at cost d) (λ rest. rest_added at sum rest sides) ≡ Ok more
         → bound_from (at + 1) more (drop (at + 1) costs) (drop (at + 1) ds) (drop (at + 1) box) ≡ total

@@ -90,25 +90,25 @@ module _ (rests : List ℚ) (box : List Sides) (numbers : List ℕ) (at : ℕ) (
     (so_far : free_added rests box (drop at numbers) sum ≡ total) where
   module _ (rest : ℚ) (sides : Sides) (inside : at < length numbers) (there : get_or numbers at 0 < length rests)
       (rest_is : rest ≡ get_or rests (get_or numbers at 0) rest) (sides_are : sides
-          ≡ sides_at box (get_or numbers at 0))
-      where
-    column_opened : free_added rests box (drop at numbers) sum
-        ≡ chain (column_added (get_or numbers at 0) rest sides sum) (free_added rests box (drop (at + 1) numbers))
-    column_opened =
-        ap (λ (ns : List ℕ). free_added rests box ns sum) (drop_more numbers at 0 inside)
-        ∙ ap₂ (λ (q : ℚ) (s : Sides). chain (column_added (get_or numbers at 0) q s sum)
-        (free_added rests box (drop (at + 1) numbers)))
-        (same_default rests (get_or numbers at 0) zeroℚ rest there ∙ sym rest_is) (sym sides_are)
+      ≡ sides_at box (get_or numbers at 0))
+    where
+      column_opened : free_added rests box (drop at numbers) sum
+          ≡ chain (column_added (get_or numbers at 0) rest sides sum) (free_added rests box (drop (at + 1) numbers))
+      column_opened =
+          ap (λ (ns : List ℕ). free_added rests box ns sum) (drop_more numbers at 0 inside)
+          ∙ ap₂ (λ (q : ℚ) (s : Sides). chain (column_added (get_or numbers at 0) q s sum)
+          (free_added rests box (drop (at + 1) numbers)))
+          (same_default rests (get_or numbers at 0) zeroℚ rest there ∙ sym rest_is) (sym sides_are)
 
-    pub column_taken : (more : ℚ) → Ok more ≡ column_added (get_or numbers at 0) rest sides sum
-        → free_added rests box (drop (at + 1) numbers) more ≡ total
-    column_taken more a =
-        ap (λ r. chain r (free_added rests box (drop (at + 1) numbers))) a ∙ sym column_opened ∙ so_far
+      pub column_taken : (more : ℚ) → Ok more ≡ column_added (get_or numbers at 0) rest sides sum
+          → free_added rests box (drop (at + 1) numbers) more ≡ total
+      column_taken more a =
+          ap (λ r. chain r (free_added rests box (drop (at + 1) numbers))) a ∙ sym column_opened ∙ so_far
 
-    pub column_fails : (fault : LagrangeFault) → Err fault ≡ column_added (get_or numbers at 0) rest sides sum
-        → ◌≡◌ {A = Result ℚ LagrangeFault} (Err fault) total
-    column_fails fault a =
-        ap (λ r. chain r (free_added rests box (drop (at + 1) numbers))) a ∙ sym column_opened ∙ so_far
+      pub column_fails : (fault : LagrangeFault) → Err fault ≡ column_added (get_or numbers at 0) rest sides sum
+          → ◌≡◌ {A = Result ℚ LagrangeFault} (Err fault) total
+      column_fails fault a =
+          ap (λ r. chain r (free_added rests box (drop (at + 1) numbers))) a ∙ sym column_opened ∙ so_far
 
   pub columns_taken : length numbers ≤ at → ◌≡◌ {A = Result ℚ LagrangeFault} (Ok sum) total
   columns_taken l =
@@ -130,8 +130,10 @@ uses_high number y row before terms side below t s =
 pub uses_neither : (number : ℕ) (y : ℚ) (row : Row) (before : Reduced) → ¬ (zeroℚ <ℚ y) → ¬ (y <ℚ zeroℚ)
     → multiplier_used number y row before ≡ Ok before
 uses_neither number y row before n m =
-    rw (false_from_ne_true (lt_test zeroℚ y) (λ e. n (lt_of_test e)),
-      false_from_ne_true (lt_test y zeroℚ) (λ e. m (lt_of_test e))) refl
+    rw (
+      false_from_ne_true (lt_test zeroℚ y) (λ e. n (lt_of_test e)),
+      false_from_ne_true (lt_test y zeroℚ) (λ e. m (lt_of_test e)),
+    ) refl
 
 -- ---- the rest of a column
 

@@ -20,8 +20,11 @@ returns-in-Err-clause-columns c = c.in-Err.ensures.columns
 pub returns-then-not-round-clause-steps : goal.returns-then-not-round-clause-steps
 returns-then-not-round-clause-steps c =
     ap (λ r. chain r (round_if c.args.round c.args.rows.now.whole.now)) c.in-Ok.ensures.steps
-    ∙ ap (λ t. round_if t c.args.rows.now.whole.now (record { coefficients = c.aggregate.new.row.entries; least =
-        c.in-Ok.least })) c.if-not-round.true
+    ∙ ap (λ t. round_if t c.args.rows.now.whole.now (record {
+      coefficients = c.aggregate.new.row.entries;
+      least =
+          c.in-Ok.least;
+    })) c.if-not-round.true
 
 pub returns-then-not-round-clause-columns : goal.returns-then-not-round-clause-columns
 returns-then-not-round-clause-columns c = c.in-Ok.ensures.columns
@@ -30,10 +33,13 @@ pub returns-in-Some-clause-steps : goal.returns-in-Some-clause-steps
 returns-in-Some-clause-steps c =
     let stop : first_stop 0 c.args.rows.now.whole.now c.aggregate.new.row.entries ≡ Some c.in-Some.column =
     ap (first_stop 0 c.args.rows.now.whole.now) (sym (c.entries.ensures.entries ∙ c.sort.ensures.entries))
-        ∙ sym c.in-Some.ensures in
+    ∙ sym c.in-Some.ensures in
     ap (λ r. chain r (round_if c.args.round c.args.rows.now.whole.now)) c.in-Ok.ensures.steps
-    ∙ ap (λ t. round_if t c.args.rows.now.whole.now (record { coefficients = c.aggregate.new.row.entries; least =
-        c.in-Ok.least })) c.if-not-round.false
+    ∙ ap (λ t. round_if t c.args.rows.now.whole.now (record {
+      coefficients = c.aggregate.new.row.entries;
+      least =
+          c.in-Ok.least;
+    })) c.if-not-round.false
     ∙ ap (λ o. round_unless o (record { coefficients = c.aggregate.new.row.entries; least = c.in-Ok.least })) stop
 
 pub returns-in-Some-clause-columns : goal.returns-in-Some-clause-columns
@@ -43,13 +49,16 @@ pub returns-in-None-clause-steps : goal.returns-in-None-clause-steps
 returns-in-None-clause-steps c =
     let stop : first_stop 0 c.args.rows.now.whole.now c.aggregate.new.row.entries ≡ None =
     ap (first_stop 0 c.args.rows.now.whole.now) (sym (c.entries.ensures.entries ∙ c.sort.ensures.entries))
-        ∙ sym c.in-None.ensures in
+    ∙ sym c.in-None.ensures in
     ap (λ r. chain r (round_if c.args.round c.args.rows.now.whole.now)) c.in-Ok.ensures.steps
-    ∙ ap (λ t. round_if t c.args.rows.now.whole.now (record { coefficients = c.aggregate.new.row.entries; least =
-        c.in-Ok.least })) c.if-not-round.false
+    ∙ ap (λ t. round_if t c.args.rows.now.whole.now (record {
+      coefficients = c.aggregate.new.row.entries;
+      least =
+          c.in-Ok.least;
+    })) c.if-not-round.false
     ∙ ap (λ o. round_unless o (record { coefficients = c.aggregate.new.row.entries; least = c.in-Ok.least })) stop
     ∙ ap₂ (λ ds d. (let r : Result Inequality CutFault = Ok (record { coefficients = ds; least = d }) in r))
-        (sym c.sort.ensures.entries) (sym c.rounded_up.ensures)
+    (sym c.sort.ensures.entries) (sym c.rounded_up.ensures)
 
 pub returns-in-None-clause-columns : goal.returns-in-None-clause-columns
 returns-in-None-clause-columns c = ap length c.sort.ensures.entries ∙ c.in-Ok.ensures.columns

@@ -25,17 +25,22 @@ bound-requires-clause-costs c = c.requires.costs ∙ sym (ap length c.as_slice.e
 
 pub bound-requires-clause-room : goal.bound-requires-clause-room
 bound-requires-clause-room c =
-    omega (arith, ap length c.as_slice.ensures, ap length c.entries.ensures.entries, c.in-Ok.ensures.columns,
-        c.requires.room)
+    omega (
+      arith,
+      ap length c.as_slice.ensures,
+      ap length c.entries.ensures.entries,
+      c.in-Ok.ensures.columns,
+      c.requires.room,
+    )
 
 pub returns-clause-steps : goal.returns-clause-steps
 returns-clause-steps c =
     c.bound.ensures
     ∙ ap₂ (λ (ds : List ℚ) (box : List Sides). bound_from 0 c.in-Ok.least c.args.costs.now ds box)
-        c.entries.ensures.entries c.as_slice.ensures
+    c.entries.ensures.entries c.as_slice.ensures
     ∙ sym (ap (λ (r : Result Inequality CutFault). chain r (λ
-        (row : Inequality). bound_from 0 row.least c.args.costs.now row.coefficients c.args.bounds.now))
-        c.in-Ok.ensures.steps)
+    (row : Inequality). bound_from 0 row.least c.args.costs.now row.coefficients c.args.bounds.now))
+    c.in-Ok.ensures.steps)
 
 pub returns-clause-columns : goal.returns-clause-columns
 returns-clause-columns c = c.in-Ok.ensures.columns

@@ -13,7 +13,7 @@ returns-then-multiple-len-clause-columns c = refl
 pub returns-then-not-is_negative-clause-steps : goal.returns-then-not-is_negative-clause-steps
 returns-then-not-is_negative-clause-steps c =
     high_sign c.args.bounds.now c.args.entry c.args.multiple _ (omega (arith, c.if-multiple-len.false, c.len.ensures))
-        (λ h. absurd (false≢true (c.if-not-is_negative.ensures.1 h)))
+    (λ h. absurd (false≢true (c.if-not-is_negative.ensures.1 h)))
 
 pub returns-then-not-is_negative-clause-columns : goal.returns-then-not-is_negative-clause-columns
 returns-then-not-is_negative-clause-columns c = refl

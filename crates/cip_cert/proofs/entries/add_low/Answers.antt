@@ -13,7 +13,7 @@ returns-then-multiple-len-clause-columns c = refl
 pub returns-then-not-is_positive-clause-steps : goal.returns-then-not-is_positive-clause-steps
 returns-then-not-is_positive-clause-steps c =
     low_sign c.args.bounds.now c.args.entry c.args.multiple _ (omega (arith, c.if-multiple-len.false, c.len.ensures))
-        (λ h. absurd (false≢true (c.if-not-is_positive.ensures.1 h)))
+    (λ h. absurd (false≢true (c.if-not-is_positive.ensures.1 h)))
 
 pub returns-then-not-is_positive-clause-columns : goal.returns-then-not-is_positive-clause-columns
 returns-then-not-is_positive-clause-columns c = refl

@@ -19,8 +19,8 @@ add_row-requires-clause-room c = omega (arith, c.loop-at.invariant.columns, c.re
 pub returns-in-Err-clause-steps : goal.returns-in-Err-clause-steps
 returns-in-Err-clause-steps c =
     entry_failed (add_row (lent_of c.args.rows.now) c.args.bounds.now) (add_rows
-        (lent_of c.args.rows.now) c.args.bounds.now) (λ n m ms i. refl)
-        (λ n i. refl) c.loop-at.at c.loop-at.at c.args.multiples.now _ _ c.loop-at.invariant.steps
+    (lent_of c.args.rows.now) c.args.bounds.now) (λ n m ms i. refl)
+    (λ n i. refl) c.loop-at.at c.loop-at.at c.args.multiples.now _ _ c.loop-at.invariant.steps
     c.index-multiples-at.result c.in-Err.fault c.loop-at-test.true c.index-multiples-at.is c.in-Err.ensures.steps
 
 pub returns-in-Err-clause-columns : goal.returns-in-Err-clause-columns
@@ -30,18 +30,18 @@ pub loop-at-preserved : goal.loop-at-preserved
 loop-at-preserved c = record {
   steps =
       entry_added (add_row (lent_of c.args.rows.now) c.args.bounds.now) (add_rows
-          (lent_of c.args.rows.now) c.args.bounds.now) (λ n m ms i. refl)
-          (λ n i. refl) c.loop-at.at c.loop-at.at c.args.multiples.now _ _ c.loop-at.invariant.steps
+      (lent_of c.args.rows.now) c.args.bounds.now) (λ n m ms i. refl)
+      (λ n i. refl) c.loop-at.at c.loop-at.at c.args.multiples.now _ _ c.loop-at.invariant.steps
       c.index-multiples-at.result _ (c.loop-at.at + 1) (sym (add-one c.loop-at.at)) c.loop-at-test.true
-          c.index-multiples-at.is c.in-Ok.ensures.steps;
+      c.index-multiples-at.is c.in-Ok.ensures.steps;
   columns = c.in-Ok.ensures.columns ∙ c.loop-at.invariant.columns;
 }
 
 pub returns-clause-steps : goal.returns-clause-steps
 returns-clause-steps c =
     entries_added (add_row (lent_of c.args.rows.now) c.args.bounds.now) (add_rows
-        (lent_of c.args.rows.now) c.args.bounds.now) (λ n m ms i. refl)
-        (λ n i. refl) c.loop-at.at c.loop-at.at c.args.multiples.now _ _ c.loop-at.invariant.steps c.loop-at-test.false
+    (lent_of c.args.rows.now) c.args.bounds.now) (λ n m ms i. refl)
+    (λ n i. refl) c.loop-at.at c.loop-at.at c.args.multiples.now _ _ c.loop-at.invariant.steps c.loop-at-test.false
 
 pub returns-clause-columns : goal.returns-clause-columns
 returns-clause-columns c = c.loop-at.invariant.columns

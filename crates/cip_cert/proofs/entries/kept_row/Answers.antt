@@ -20,16 +20,18 @@ pub returns-then-not-inside : goal.returns-then-not-inside
 returns-then-not-inside c =
     let found : pool_row c.args.pool.now c.args.id ≡ Some c.index-pool-place.result =
     sym c.in-Some.ensures.1 ∙ slice_get_read c.args.pool.now (length c.args.pool.now) c.in-Some.place
-        c.index-pool-place.result refl c.in-Some.ensures.0 c.index-pool-place.is in
+    c.index-pool-place.result refl c.in-Some.ensures.0 c.index-pool-place.is in
     ap (in_scope c.args.entry c.args.bounds.now) found ∙ ap (λ t. (let r : Result Row CutFault = cond t
-        (Ok c.index-pool-place.result.row) (Err (NotInScope c.args.entry)) in r)) (sym c.if-not-inside.ensures)
+    (Ok c.index-pool-place.result.row) (Err (NotInScope c.args.entry)) in r)) (sym c.if-not-inside.ensures)
 
 pub returns : goal.returns
 returns c =
     let found : pool_row c.args.pool.now c.args.id ≡ Some c.index-pool-place.result =
     sym c.in-Some.ensures.1 ∙ slice_get_read c.args.pool.now (length c.args.pool.now) c.in-Some.place
-        c.index-pool-place.result refl c.in-Some.ensures.0 c.index-pool-place.is in
-    (ap (in_scope c.args.entry c.args.bounds.now) found ∙ ap (λ t. (let r : Result Row CutFault = cond t
-        (Ok c.index-pool-place.result.row) (Err (NotInScope c.args.entry)) in r)) (sym c.if-not-inside.ensures), rw
-        (c.index-pool-place.is) ((c.requires.fits c.in-Some.place c.index-pool-place.result
-        c.in-Some.ensures.0).stands))
+    c.index-pool-place.result refl c.in-Some.ensures.0 c.index-pool-place.is in (
+      ap (in_scope c.args.entry c.args.bounds.now) found ∙ ap (λ t. (let r : Result Row CutFault = cond t
+          (Ok c.index-pool-place.result.row) (Err (NotInScope c.args.entry)) in r)) (sym c.if-not-inside.ensures),
+      rw
+          (c.index-pool-place.is) ((c.requires.fits c.in-Some.place c.index-pool-place.result
+          c.in-Some.ensures.0).stands),
+    )

@@ -14,12 +14,18 @@ pub overflow_sub-middle : goal.overflow_sub-middle
 overflow_sub-middle c = c.loop-low.invariant.order
 
 pub bounds-pool-middle : goal.bounds-pool-middle
-bounds-pool-middle c = omega (arith, middle_within c.loop-low.low c.loop-low.high c.loop-low-test.true,
-    c.loop-low.invariant.within)
+bounds-pool-middle c = omega (
+  arith,
+  middle_within c.loop-low.low c.loop-low.high c.loop-low-test.true,
+  c.loop-low.invariant.within,
+)
 
 pub bounds-pool-middle-in-loop-low : goal.bounds-pool-middle-in-loop-low
-bounds-pool-middle-in-loop-low c = omega (arith, middle_within c.loop-low.low c.loop-low.high c.loop-low-test.true,
-    c.loop-low.invariant.within)
+bounds-pool-middle-in-loop-low c = omega (
+  arith,
+  middle_within c.loop-low.low c.loop-low.high c.loop-low-test.true,
+  c.loop-low.invariant.within,
+)
 
 pub loop-low-smaller-then-pool-middle : goal.loop-low-smaller-then-pool-middle
 loop-low-smaller-then-pool-middle c = omega (arith, middle_within c.loop-low.low c.loop-low.high c.loop-low-test.true)
@@ -30,7 +36,7 @@ loop-low-smaller c = omega (arith, middle_within c.loop-low.low c.loop-low.high 
 pub loop-low-preserved-then-pool-middle : goal.loop-low-preserved-then-pool-middle
 loop-low-preserved-then-pool-middle c =
     let m : c.loop-low.low + (c.loop-low.high - c.loop-low.low) / 2 < c.loop-low.high = middle_within c.loop-low.low
-        c.loop-low.high c.loop-low-test.true in
+    c.loop-low.high c.loop-low-test.true in
     record {
       order = omega (arith, m);
       within = c.loop-low.invariant.within;
@@ -42,7 +48,7 @@ loop-low-preserved-then-pool-middle c =
 pub loop-low-preserved : goal.loop-low-preserved
 loop-low-preserved c =
     let m : c.loop-low.low + (c.loop-low.high - c.loop-low.low) / 2 < c.loop-low.high = middle_within c.loop-low.low
-        c.loop-low.high c.loop-low-test.true in
+    c.loop-low.high c.loop-low-test.true in
     record {
       order = omega arith;
       within = omega (arith, m, c.loop-low.invariant.within);

@@ -15,17 +15,17 @@ pub returns-in-Err-clause-steps : goal.returns-in-Err-clause-steps
 returns-in-Err-clause-steps c =
     let column : c.term.inside.col ≡ c.term-item.result.column = ap (λ (t : Term). t.column) c.term.view_is in
     let coefficient : c.term.inside.coef ≡ c.term-item.result.coefficient = ap (λ
-        (t : Term). t.coefficient) c.term.view_is in
+    (t : Term). t.coefficient) c.term.view_is in
     let found : c.term-item.result.column < length c.args.row.now.entries = rw (c.term-item.is)
-        (c.requires c.loop-term.term-index c.term-item.result c.loop-term-test.true) in
+    (c.requires c.loop-term.term-index c.term-item.result c.loop-term-test.true) in
     let below : c.term.inside.col < length c.loop-term.row.entries = omega
-        (arith, found, column, c.loop-term.invariant.columns) in
+    (arith, found, column, c.loop-term.invariant.columns) in
     term_failed c.args.entry c.args.factor c.loop-term.term-index c.args.terms.now c.loop-term.row.entries _
-        c.loop-term.invariant.steps
+    c.loop-term.invariant.steps
     c.term-item.result c.term.inside.col c.term.inside.coef c.index-entries-term.result c.loop-term-test.true
-        c.term-item.is column coefficient below
+    c.term-item.is column coefficient below
     (c.index-entries-term.is ∙ ap (λ (ds : List ℚ). get_or ds c.term.inside.col c.index-entries-term.result)
-        c.entries.ensures.entries)
+    c.entries.ensures.entries)
     c.in-Err.fault c.in-Err.ensures
 
 pub returns-in-Err-clause-columns : goal.returns-in-Err-clause-columns
@@ -35,19 +35,19 @@ pub loop-term-preserved : goal.loop-term-preserved
 loop-term-preserved c =
     let column : c.term.inside.col ≡ c.term-item.result.column = ap (λ (t : Term). t.column) c.term.view_is in
     let coefficient : c.term.inside.coef ≡ c.term-item.result.coefficient = ap (λ
-        (t : Term). t.coefficient) c.term.view_is in
+    (t : Term). t.coefficient) c.term.view_is in
     let found : c.term-item.result.column < length c.args.row.now.entries = rw (c.term-item.is)
-        (c.requires c.loop-term.term-index c.term-item.result c.loop-term-test.true) in
+    (c.requires c.loop-term.term-index c.term-item.result c.loop-term-test.true) in
     let below : c.term.inside.col < length c.loop-term.row.entries = omega
-        (arith, found, column, c.loop-term.invariant.columns) in
+    (arith, found, column, c.loop-term.invariant.columns) in
     record {
       steps =
           term_added c.args.entry c.args.factor c.loop-term.term-index c.args.terms.now c.loop-term.row.entries _
-              c.loop-term.invariant.steps
+          c.loop-term.invariant.steps
           c.term-item.result c.term.inside.col c.term.inside.coef c.index-entries-term.result c.loop-term-test.true
-              c.term-item.is column coefficient below
+          c.term-item.is column coefficient below
           (c.index-entries-term.is ∙ ap (λ (ds : List ℚ). get_or ds c.term.inside.col c.index-entries-term.result)
-              c.entries.ensures.entries)
+          c.entries.ensures.entries)
           c.in-Ok.value c.set.new.self.entries c.in-Ok.ensures c.set.ensures;
       columns = ap length c.set.ensures ∙ length-set c.loop-term.row.entries c.term.inside.col c.in-Ok.value
           ∙ c.loop-term.invariant.columns;

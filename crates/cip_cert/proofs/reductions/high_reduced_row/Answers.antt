@@ -15,14 +15,18 @@ pub returns-in-Err-high_side-clause-steps : goal.returns-in-Err-high_side-clause
 returns-in-Err-high_side-clause-steps c =
     let whole = get_or c.args.rows.now.whole.now c.args.column false in
     let row = c.rests_row.new.row.entries in
-    let inside : c.args.column < length row = omega (arith, c.requires.inside, c.requires.room,
-        c.rests_row.ensures.columns) in
+    let inside : c.args.column < length row = omega (
+      arith,
+      c.requires.inside,
+      c.requires.room,
+      c.rests_row.ensures.columns,
+    ) in
     let coefficient : value_at row c.args.column ≡ c.index-entries-column.result =
     same_default row c.args.column zeroℚ c.index-entries-column.result inside
     ∙ sym (c.index-entries-column.is ∙ ap (λ (ds : List ℚ). get_or ds c.args.column c.index-entries-column.result)
-        c.entries.ensures.entries) in
+    c.entries.ensures.entries) in
     sym (c.in-Ok.ensures.next (λ (ds : List ℚ) (bound : ℚ). chain (implied_high c.args.column whole
-        (value_at ds c.args.column) bound) (high_allowed c.args.value))
+    (value_at ds c.args.column) bound) (high_allowed c.args.value))
     ∙ ap (λ (q : ℚ). chain (implied_high c.args.column whole q c.in-Ok.bound) (high_allowed c.args.value)) coefficient
     ∙ ap (λ (r : Result (Option ℚ) CutFault). chain r (high_allowed c.args.value)) (sym c.in-Err-high_side.ensures))
 
@@ -30,15 +34,19 @@ pub returns-in-Ok-high_side-clause-steps : goal.returns-in-Ok-high_side-clause-s
 returns-in-Ok-high_side-clause-steps c =
     let whole = get_or c.args.rows.now.whole.now c.args.column false in
     let row = c.rests_row.new.row.entries in
-    let inside : c.args.column < length row = omega (arith, c.requires.inside, c.requires.room,
-        c.rests_row.ensures.columns) in
+    let inside : c.args.column < length row = omega (
+      arith,
+      c.requires.inside,
+      c.requires.room,
+      c.rests_row.ensures.columns,
+    ) in
     let coefficient : value_at row c.args.column ≡ c.index-entries-column.result =
     same_default row c.args.column zeroℚ c.index-entries-column.result inside
     ∙ sym (c.index-entries-column.is ∙ ap (λ (ds : List ℚ). get_or ds c.args.column c.index-entries-column.result)
-        c.entries.ensures.entries) in
+    c.entries.ensures.entries) in
     c.allow_high.ensures
     ∙ sym (c.in-Ok.ensures.next (λ (ds : List ℚ) (bound : ℚ). chain (implied_high c.args.column whole
-        (value_at ds c.args.column) bound) (high_allowed c.args.value))
+    (value_at ds c.args.column) bound) (high_allowed c.args.value))
     ∙ ap (λ (q : ℚ). chain (implied_high c.args.column whole q c.in-Ok.bound) (high_allowed c.args.value)) coefficient
     ∙ ap (λ (r : Result (Option ℚ) CutFault). chain r (high_allowed c.args.value)) (sym c.in-Ok-high_side.ensures))
 
@@ -52,8 +60,13 @@ pub returns-in-Err-clause-columns : goal.returns-in-Err-clause-columns
 returns-in-Err-clause-columns c = c.in-Err.ensures.columns
 
 pub bounds-entries-column : goal.bounds-entries-column
-bounds-entries-column c = omega (arith, ap length c.entries.ensures.entries, c.requires.inside, c.requires.room,
-    c.rests_row.ensures.columns)
+bounds-entries-column c = omega (
+  arith,
+  ap length c.entries.ensures.entries,
+  c.requires.inside,
+  c.requires.room,
+  c.rests_row.ensures.columns,
+)
 
 pub bounds-rows-column : goal.bounds-rows-column
 bounds-rows-column c = omega (arith, c.requires.flags, c.requires.inside)

@@ -16,8 +16,13 @@ pub bounds-entries-at : goal.bounds-entries-at
 bounds-entries-at c = c.loop-at-test.true
 
 pub push_reserved-requires : goal.push_reserved-requires
-push_reserved-requires c = omega (arith, c.loop-at.invariant.short, c.loop-at.invariant.capacity, c.loop-at-test.true,
-    c.requires.room)
+push_reserved-requires c = omega (
+  arith,
+  c.loop-at.invariant.short,
+  c.loop-at.invariant.capacity,
+  c.loop-at-test.true,
+  c.requires.room,
+)
 
 pub loop-at-preserved : goal.loop-at-preserved
 loop-at-preserved c = elim c.if-not-is_zero.branch [
@@ -36,7 +41,7 @@ loop-at-preserved c = elim c.if-not-is_zero.branch [
         tells =
             below_zero c.loop-at.at c.args.entries.now c.loop-at.touched.items
             (same_default c.args.entries.now c.loop-at.at zeroℚ c.index-entries-at.result c.loop-at-test.true
-                ∙ sym c.index-entries-at.is ∙ w.if-not-is_zero.ensures.0 refl)
+            ∙ sym c.index-entries-at.is ∙ w.if-not-is_zero.ensures.0 refl)
             c.loop-at.invariant.tells;
         short = omega (arith, c.loop-at.invariant.short);
         capacity = c.loop-at.invariant.capacity;

@@ -12,26 +12,32 @@ pub bounds-touched-column-index : goal.bounds-touched-column-index
 bounds-touched-column-index c = c.loop-column-test.true
 
 pub bounds-entries-column : goal.bounds-entries-column
-bounds-entries-column c = omega (arith, c.requires.within c.loop-column.column-index 0 c.loop-column-test.true,
-    c.loop-column.invariant.same)
+bounds-entries-column c = omega (
+  arith,
+  c.requires.within c.loop-column.column-index 0 c.loop-column-test.true,
+  c.loop-column.invariant.same,
+)
 
 pub loop-column-preserved : goal.loop-column-preserved
 loop-column-preserved c =
     let i = c.loop-column.column-index in
     let touched = c.args.touched.now in
     let entries = c.loop-column.entries in
-    let within : get_or touched i 0 < length entries = omega (arith, c.requires.within i 0 c.loop-column-test.true,
-        c.loop-column.invariant.same) in
+    let within : get_or touched i 0 < length entries = omega (
+      arith,
+      c.requires.within i 0 c.loop-column-test.true,
+      c.loop-column.invariant.same,
+    ) in
     record {
       covers =
           subst (λ z. Covers (set entries (get_or touched i 0) z) (drop (i + 1) touched)) (sym c.zero.ensures)
           (covers_more entries touched i (get_or touched i 0) c.loop-column-test.true refl within
-              c.loop-column.invariant.covers);
+          c.loop-column.invariant.covers);
       same = length-set entries (get_or touched i 0) c.zero.result ∙ c.loop-column.invariant.same;
     }
 
 pub returns : goal.returns
 returns c =
     covers_end c.loop-column.entries _ (drop_of_length-le c.args.touched.now c.loop-column-test.false)
-        c.loop-column.invariant.covers
+    c.loop-column.invariant.covers
     ∙ ap (λ n. replicate n zeroℚ) c.loop-column.invariant.same

@@ -15,13 +15,13 @@ returns-in-None c =
     let low : c.sides.inside.low ≡ c.args.sides.low = ap (λ (s : Sides). s.low) c.sides.view_is in
     let high : c.sides.inside.high ≡ c.args.sides.high = ap (λ (s : Sides). s.high) c.sides.view_is in
     let added : rest_added c.args.column c.args.sum c.args.rest c.args.sides
-        ≡ side_added c.args.column c.args.sum c.args.rest c.if-is_positive.side = elim c.if-is_positive.branch [
+    ≡ side_added c.args.column c.args.sum c.args.rest c.if-is_positive.side = elim c.if-is_positive.branch [
       | then-is_positive w ↦
           rest_low c.args.column c.args.sum c.args.rest c.args.sides (w.if-is_positive.ensures.0 refl)
           ∙ ap (λ s. side_added c.args.column c.args.sum c.args.rest s) (sym (w.side-is ∙ low))
       | else-is_positive+then-is_negative w ↦
           rest_high c.args.column c.args.sum c.args.rest c.args.sides (λ h. absurd (false≢true
-              (w.if-is_positive.ensures.1 h))) (w.if-is_negative.ensures.0 refl)
+          (w.if-is_positive.ensures.1 h))) (w.if-is_negative.ensures.0 refl)
           ∙ ap (λ s. side_added c.args.column c.args.sum c.args.rest s) (sym (w.side-is ∙ high))
     ] in
     sym (added ∙ ap (side_added c.args.column c.args.sum c.args.rest) c.in-None.is)
@@ -31,13 +31,13 @@ returns-in-Some c =
     let low : c.sides.inside.low ≡ c.args.sides.low = ap (λ (s : Sides). s.low) c.sides.view_is in
     let high : c.sides.inside.high ≡ c.args.sides.high = ap (λ (s : Sides). s.high) c.sides.view_is in
     let added : rest_added c.args.column c.args.sum c.args.rest c.args.sides
-        ≡ side_added c.args.column c.args.sum c.args.rest c.if-is_positive.side = elim c.if-is_positive.branch [
+    ≡ side_added c.args.column c.args.sum c.args.rest c.if-is_positive.side = elim c.if-is_positive.branch [
       | then-is_positive w ↦
           rest_low c.args.column c.args.sum c.args.rest c.args.sides (w.if-is_positive.ensures.0 refl)
           ∙ ap (λ s. side_added c.args.column c.args.sum c.args.rest s) (sym (w.side-is ∙ low))
       | else-is_positive+then-is_negative w ↦
           rest_high c.args.column c.args.sum c.args.rest c.args.sides (λ h. absurd (false≢true
-              (w.if-is_positive.ensures.1 h))) (w.if-is_negative.ensures.0 refl)
+          (w.if-is_positive.ensures.1 h))) (w.if-is_negative.ensures.0 refl)
           ∙ ap (λ s. side_added c.args.column c.args.sum c.args.rest s) (sym (w.side-is ∙ high))
     ] in
     c.sum_of.ensures ∙ sym (added ∙ ap (side_added c.args.column c.args.sum c.args.rest) c.in-Some.is)

@@ -29,30 +29,30 @@ loop-at-preserved c =
     column_added c.loop-at.at c.loop-at.sum c.args.costs.now c.args.entries.now c.args.sides.now _ c.loop-at.invariant
     c.index-costs-at.result c.index-entries-at.result c.index-sides-at.result
     (omega (arith, c.loop-at-test.true, c.requires.costs)) (omega
-        (arith, c.loop-at-test.true, c.requires.room)) c.loop-at-test.true
+    (arith, c.loop-at-test.true, c.requires.room)) c.loop-at-test.true
     c.index-costs-at.is c.index-entries-at.is c.index-sides-at.is c.step.new.sum c.if-not-step.ensures
 
 pub returns-then-not-step : goal.returns-then-not-step
 returns-then-not-step c =
     let sum = c.if-not-step.ensures.1 in
     let cost : c.index-costs-at-then-not-step.result ≡ c.index-costs-at.result = same_item c.args.costs.now c.loop-at.at
-        _ _ (omega (arith, c.loop-at-test.true, c.requires.costs)) c.index-costs-at-then-not-step.is c.index-costs-at.is
-        in
+    _ _ (omega (arith, c.loop-at-test.true, c.requires.costs)) c.index-costs-at-then-not-step.is c.index-costs-at.is
+    in
     let entry : c.index-entries-at-then-not-step.result ≡ c.index-entries-at.result = same_item c.args.entries.now
-        c.loop-at.at _ _ (omega (arith, c.loop-at-test.true, c.requires.room)) c.index-entries-at-then-not-step.is
-        c.index-entries-at.is in
+    c.loop-at.at _ _ (omega (arith, c.loop-at-test.true, c.requires.room)) c.index-entries-at-then-not-step.is
+    c.index-entries-at.is in
     let sides : c.index-sides-at-then-not-step.result ≡ c.index-sides-at.result = same_item c.args.sides.now
-        c.loop-at.at _ _ c.loop-at-test.true c.index-sides-at-then-not-step.is c.index-sides-at.is in
+    c.loop-at.at _ _ c.loop-at-test.true c.index-sides-at-then-not-step.is c.index-sides-at.is in
     c.add_column.ensures
     ∙ ap₂ (λ q d. chain (rest_of c.loop-at.at q d) (λ rest. rest_added c.loop-at.at c.step.new.sum rest
-        c.index-sides-at-then-not-step.result)) cost entry
+    c.index-sides-at-then-not-step.result)) cost entry
     ∙ ap₂ (λ s v. chain (rest_of c.loop-at.at c.index-costs-at.result c.index-entries-at.result)
-        (λ rest. rest_added c.loop-at.at s rest v)) sum sides
+    (λ rest. rest_added c.loop-at.at s rest v)) sum sides
     ∙ column_failed c.loop-at.at c.loop-at.sum c.args.costs.now c.args.entries.now c.args.sides.now _
-        c.loop-at.invariant
+    c.loop-at.invariant
     c.index-costs-at.result c.index-entries-at.result c.index-sides-at.result
     (omega (arith, c.loop-at-test.true, c.requires.costs)) (omega
-        (arith, c.loop-at-test.true, c.requires.room)) c.loop-at-test.true
+    (arith, c.loop-at-test.true, c.requires.room)) c.loop-at-test.true
     c.index-costs-at.is c.index-entries-at.is c.index-sides-at.is c.if-not-step.ensures.0
 
 pub returns : goal.returns

@@ -15,13 +15,13 @@ returns-in_default c =
     let low : c.sides.inside.low ≡ c.args.sides.low = ap (λ (s : Sides). s.low) c.sides.view_is in
     let high : c.sides.inside.high ≡ c.args.sides.high = ap (λ (s : Sides). s.high) c.sides.view_is in
     let added : column_added c.args.col c.args.rest c.args.sides c.args.sum
-        ≡ rest_added c.args.col c.args.rest c.if-is_positive.side c.args.sum = elim c.if-is_positive.branch [
+    ≡ rest_added c.args.col c.args.rest c.if-is_positive.side c.args.sum = elim c.if-is_positive.branch [
       | then-is_positive w ↦
           rest_low c.args.col c.args.rest c.args.sum c.args.sides (w.if-is_positive.ensures.0 refl)
           ∙ ap (λ s. rest_added c.args.col c.args.rest s c.args.sum) (sym (w.side-is ∙ low))
       | else-is_positive+then-is_negative w ↦
           rest_high c.args.col c.args.rest c.args.sum c.args.sides (λ h. absurd (false≢true
-              (w.if-is_positive.ensures.1 h))) (w.if-is_negative.ensures.0 refl)
+          (w.if-is_positive.ensures.1 h))) (w.if-is_negative.ensures.0 refl)
           ∙ ap (λ s. rest_added c.args.col c.args.rest s c.args.sum) (sym (w.side-is ∙ high))
     ] in
     sym (added ∙ ap (λ s. rest_added c.args.col c.args.rest s c.args.sum) c.in_default.is)
@@ -31,13 +31,13 @@ returns-in-Ok c =
     let low : c.sides.inside.low ≡ c.args.sides.low = ap (λ (s : Sides). s.low) c.sides.view_is in
     let high : c.sides.inside.high ≡ c.args.sides.high = ap (λ (s : Sides). s.high) c.sides.view_is in
     let added : column_added c.args.col c.args.rest c.args.sides c.args.sum
-        ≡ rest_added c.args.col c.args.rest c.if-is_positive.side c.args.sum = elim c.if-is_positive.branch [
+    ≡ rest_added c.args.col c.args.rest c.if-is_positive.side c.args.sum = elim c.if-is_positive.branch [
       | then-is_positive w ↦
           rest_low c.args.col c.args.rest c.args.sum c.args.sides (w.if-is_positive.ensures.0 refl)
           ∙ ap (λ s. rest_added c.args.col c.args.rest s c.args.sum) (sym (w.side-is ∙ low))
       | else-is_positive+then-is_negative w ↦
           rest_high c.args.col c.args.rest c.args.sum c.args.sides (λ h. absurd (false≢true
-              (w.if-is_positive.ensures.1 h))) (w.if-is_negative.ensures.0 refl)
+          (w.if-is_positive.ensures.1 h))) (w.if-is_negative.ensures.0 refl)
           ∙ ap (λ s. rest_added c.args.col c.args.rest s c.args.sum) (sym (w.side-is ∙ high))
     ] in
     ap in_range c.in-Ok.ensures ∙ sym (added ∙ ap (λ s. rest_added c.args.col c.args.rest s c.args.sum) c.in-Some.is)
@@ -47,13 +47,13 @@ returns-in-Err c =
     let low : c.sides.inside.low ≡ c.args.sides.low = ap (λ (s : Sides). s.low) c.sides.view_is in
     let high : c.sides.inside.high ≡ c.args.sides.high = ap (λ (s : Sides). s.high) c.sides.view_is in
     let added : column_added c.args.col c.args.rest c.args.sides c.args.sum
-        ≡ rest_added c.args.col c.args.rest c.if-is_positive.side c.args.sum = elim c.if-is_positive.branch [
+    ≡ rest_added c.args.col c.args.rest c.if-is_positive.side c.args.sum = elim c.if-is_positive.branch [
       | then-is_positive w ↦
           rest_low c.args.col c.args.rest c.args.sum c.args.sides (w.if-is_positive.ensures.0 refl)
           ∙ ap (λ s. rest_added c.args.col c.args.rest s c.args.sum) (sym (w.side-is ∙ low))
       | else-is_positive+then-is_negative w ↦
           rest_high c.args.col c.args.rest c.args.sum c.args.sides (λ h. absurd (false≢true
-              (w.if-is_positive.ensures.1 h))) (w.if-is_negative.ensures.0 refl)
+          (w.if-is_positive.ensures.1 h))) (w.if-is_negative.ensures.0 refl)
           ∙ ap (λ s. rest_added c.args.col c.args.rest s c.args.sum) (sym (w.side-is ∙ high))
     ] in
     ap in_range c.in-Err.ensures ∙ sym (added ∙ ap (λ s. rest_added c.args.col c.args.rest s c.args.sum) c.in-Some.is)

@@ -30,19 +30,29 @@ bound_at-check_split-requires t c = c.requires.flags
 pub bound_at-returns-in-Err-clause-steps : goal.bound_at-returns-in-Err-clause-steps
 bound_at-returns-in-Err-clause-steps t c =
     let at_is : to_z w128 (of_z w128 c.in-Split.at) ≡ c.in-Split.at = search rules in
-    split_fails (record { lent = lent_of c.args.rows.now; integral = c.args.rows.now.whole.now; room = length
-        c.args.row.now.entries; costs = c.args.costs.now }) c.args.node c.args.tree.now c.in-Split.col c.in-Split.at
-        (to_z w128 (of_z w128 c.in-Split.at)) c.in-Split.low c.in-Split.high
-        (node_in c.args.region.now) c.in-Split.is at_is c.in-Err.fault c.in-Err.ensures
+    split_fails (record {
+      lent = lent_of c.args.rows.now;
+      integral = c.args.rows.now.whole.now;
+      room = length
+          c.args.row.now.entries;
+      costs = c.args.costs.now;
+    }) c.args.node c.args.tree.now c.in-Split.col c.in-Split.at
+    (to_z w128 (of_z w128 c.in-Split.at)) c.in-Split.low c.in-Split.high
+    (node_in c.args.region.now) c.in-Split.is at_is c.in-Err.fault c.in-Err.ensures
 
 pub bound_at-returns-in-Err-bound_in_half-clause-steps : goal.bound_at-returns-in-Err-bound_in_half-clause-steps
 bound_at-returns-in-Err-bound_in_half-clause-steps t c =
     let at_is : to_z w128 (of_z w128 c.in-Split.at) ≡ c.in-Split.at = search rules in
-    low_fails (record { lent = lent_of c.args.rows.now; integral = c.args.rows.now.whole.now; room = length
-        c.args.row.now.entries; costs = c.args.costs.now }) c.args.node c.args.tree.now c.in-Split.col c.in-Split.at
-        (to_z w128 (of_z w128 c.in-Split.at)) c.in-Split.low c.in-Split.high
-        (node_in c.args.region.now) c.in-Split.is at_is c.in_default.ensures c.deref.result.now c.deref.ensures
-        c.in-Err-bound_in_half.fault c.in-Err-bound_in_half.ensures.steps
+    low_fails (record {
+      lent = lent_of c.args.rows.now;
+      integral = c.args.rows.now.whole.now;
+      room = length
+          c.args.row.now.entries;
+      costs = c.args.costs.now;
+    }) c.args.node c.args.tree.now c.in-Split.col c.in-Split.at
+    (to_z w128 (of_z w128 c.in-Split.at)) c.in-Split.low c.in-Split.high
+    (node_in c.args.region.now) c.in-Split.is at_is c.in_default.ensures c.deref.result.now c.deref.ensures
+    c.in-Err-bound_in_half.fault c.in-Err-bound_in_half.ensures.steps
 
 pub bound_at-returns-in-Err-bound_in_half-clause-bounds : goal.bound_at-returns-in-Err-bound_in_half-clause-bounds
 bound_at-returns-in-Err-bound_in_half-clause-bounds t c = c.in-Err-bound_in_half.ensures.bounds
@@ -56,16 +66,26 @@ bound_at-returns-in-Err-bound_in_half-clause-columns t c = c.in-Err-bound_in_hal
 pub bound_at-returns-in-Bound-clause-steps : goal.bound_at-returns-in-Bound-clause-steps
 bound_at-returns-in-Bound-clause-steps t c =
     c.bound_leaf.ensures.steps ∙ ap (λ (t : BoundTree). tree_outcome
-        (record { lent = lent_of c.args.rows.now; integral = c.args.rows.now.whole.now; room = length
-        c.args.row.now.entries; costs = c.args.costs.now }) c.args.node t (node_in c.args.region.now))
-        (sym c.in-Bound.is)
+    (record {
+      lent = lent_of c.args.rows.now;
+      integral = c.args.rows.now.whole.now;
+      room = length
+          c.args.row.now.entries;
+      costs = c.args.costs.now;
+    }) c.args.node t (node_in c.args.region.now))
+    (sym c.in-Bound.is)
 
 pub bound_at-returns-in-Empty-clause-steps : goal.bound_at-returns-in-Empty-clause-steps
 bound_at-returns-in-Empty-clause-steps t c =
     c.empty_leaf.ensures.steps ∙ ap (λ (t : BoundTree). tree_outcome
-        (record { lent = lent_of c.args.rows.now; integral = c.args.rows.now.whole.now; room = length
-        c.args.row.now.entries; costs = c.args.costs.now }) c.args.node t (node_in c.args.region.now))
-        (sym c.in-Empty.is)
+    (record {
+      lent = lent_of c.args.rows.now;
+      integral = c.args.rows.now.whole.now;
+      room = length
+          c.args.row.now.entries;
+      costs = c.args.costs.now;
+    }) c.args.node t (node_in c.args.region.now))
+    (sym c.in-Empty.is)
 
 pub bound_at-returns-in-Bound-clause-columns : goal.bound_at-returns-in-Bound-clause-columns
 bound_at-returns-in-Bound-clause-columns t c = c.bound_leaf.ensures.columns
@@ -77,30 +97,50 @@ pub bound_at-returns-in-Ok-bound_in_half-clause-steps : goal.bound_at-returns-in
 bound_at-returns-in-Ok-bound_in_half-clause-steps t c =
     let at_is : to_z w128 (of_z w128 c.in-Split.at) ≡ c.in-Split.at = search rules in
     let same : node_in c.bound_in_half.new.region ≡ node_in c.args.region.now =
-    ap₂ (λ (box : List Sides) (choices : List Choice). (let n : Node = record { number = 0; box = box; choices =
-        choices; bound = None } in n)) c.in-Ok.ensures.bounds c.in-Ok.ensures.choices in
-    both_shown (record { lent = lent_of c.args.rows.now; integral = c.args.rows.now.whole.now; room = length
-        c.args.row.now.entries; costs = c.args.costs.now }) c.args.node c.args.tree.now c.in-Split.col c.in-Split.at
-        (to_z w128 (of_z w128 c.in-Split.at)) c.in-Split.low c.in-Split.high
-        (node_in c.args.region.now) c.in-Split.is at_is c.in_default.ensures c.deref.result.now c.deref.ensures
-        c.in-Ok.bound c.in-Ok.ensures.steps c.deref-in-Split.result.now c.deref-in-Split.ensures
-        (length c.bound_in_half.new.row.entries) c.in-Ok.ensures.columns
-        (node_in c.bound_in_half.new.region) same c.in-Ok-bound_in_half.bound c.in-Ok-bound_in_half.ensures.steps
-        c.lesser.result c.lesser.ensures
+    ap₂ (λ (box : List Sides) (choices : List Choice). (let n : Node = record {
+      number = 0;
+      box = box;
+      choices =
+          choices;
+      bound = None;
+    } in n)) c.in-Ok.ensures.bounds c.in-Ok.ensures.choices in
+    both_shown (record {
+      lent = lent_of c.args.rows.now;
+      integral = c.args.rows.now.whole.now;
+      room = length
+          c.args.row.now.entries;
+      costs = c.args.costs.now;
+    }) c.args.node c.args.tree.now c.in-Split.col c.in-Split.at
+    (to_z w128 (of_z w128 c.in-Split.at)) c.in-Split.low c.in-Split.high
+    (node_in c.args.region.now) c.in-Split.is at_is c.in_default.ensures c.deref.result.now c.deref.ensures
+    c.in-Ok.bound c.in-Ok.ensures.steps c.deref-in-Split.result.now c.deref-in-Split.ensures
+    (length c.bound_in_half.new.row.entries) c.in-Ok.ensures.columns
+    (node_in c.bound_in_half.new.region) same c.in-Ok-bound_in_half.bound c.in-Ok-bound_in_half.ensures.steps
+    c.lesser.result c.lesser.ensures
 
 pub bound_at-returns-in-Err-bound_in_half-2-clause-steps : goal.bound_at-returns-in-Err-bound_in_half-2-clause-steps
 bound_at-returns-in-Err-bound_in_half-2-clause-steps t c =
     let at_is : to_z w128 (of_z w128 c.in-Split.at) ≡ c.in-Split.at = search rules in
     let same : node_in c.bound_in_half.new.region ≡ node_in c.args.region.now =
-    ap₂ (λ (box : List Sides) (choices : List Choice). (let n : Node = record { number = 0; box = box; choices =
-        choices; bound = None } in n)) c.in-Ok.ensures.bounds c.in-Ok.ensures.choices in
-    high_fails (record { lent = lent_of c.args.rows.now; integral = c.args.rows.now.whole.now; room = length
-        c.args.row.now.entries; costs = c.args.costs.now }) c.args.node c.args.tree.now c.in-Split.col c.in-Split.at
-        (to_z w128 (of_z w128 c.in-Split.at)) c.in-Split.low c.in-Split.high
-        (node_in c.args.region.now) c.in-Split.is at_is c.in_default.ensures c.deref.result.now c.deref.ensures
-        c.in-Ok.bound c.in-Ok.ensures.steps c.deref-in-Split.result.now c.deref-in-Split.ensures
-        (length c.bound_in_half.new.row.entries) c.in-Ok.ensures.columns
-        (node_in c.bound_in_half.new.region) same c.in-Err-bound_in_half-2.fault c.in-Err-bound_in_half-2.ensures.steps
+    ap₂ (λ (box : List Sides) (choices : List Choice). (let n : Node = record {
+      number = 0;
+      box = box;
+      choices =
+          choices;
+      bound = None;
+    } in n)) c.in-Ok.ensures.bounds c.in-Ok.ensures.choices in
+    high_fails (record {
+      lent = lent_of c.args.rows.now;
+      integral = c.args.rows.now.whole.now;
+      room = length
+          c.args.row.now.entries;
+      costs = c.args.costs.now;
+    }) c.args.node c.args.tree.now c.in-Split.col c.in-Split.at
+    (to_z w128 (of_z w128 c.in-Split.at)) c.in-Split.low c.in-Split.high
+    (node_in c.args.region.now) c.in-Split.is at_is c.in_default.ensures c.deref.result.now c.deref.ensures
+    c.in-Ok.bound c.in-Ok.ensures.steps c.deref-in-Split.result.now c.deref-in-Split.ensures
+    (length c.bound_in_half.new.row.entries) c.in-Ok.ensures.columns
+    (node_in c.bound_in_half.new.region) same c.in-Err-bound_in_half-2.fault c.in-Err-bound_in_half-2.ensures.steps
 
 pub bound_at-returns-in-Ok-bound_in_half-clause-bounds : goal.bound_at-returns-in-Ok-bound_in_half-clause-bounds
 bound_at-returns-in-Ok-bound_in_half-clause-bounds t c = c.in-Ok-bound_in_half.ensures.bounds ∙ c.in-Ok.ensures.bounds
@@ -127,22 +167,27 @@ bound_at-returns-in-Err-bound_in_half-2-clause-columns t c = c.in-Err-bound_in_h
 
 pub bound_in_half-returns-clause-steps : goal.bound_in_half-returns-clause-steps
 bound_in_half-returns-clause-steps t c =
-    c.bound_at-bound.ensures.steps ∙ ap (tree_outcome (record { lent = lent_of c.args.rows.now; integral =
-        c.args.rows.now.whole.now; room = length c.args.row.now.entries; costs = c.args.costs.now }) c.args.half.node
-        c.args.tree.now) c.enter.ensures.half
+    c.bound_at-bound.ensures.steps ∙ ap (tree_outcome (record {
+      lent = lent_of c.args.rows.now;
+      integral =
+          c.args.rows.now.whole.now;
+      room = length c.args.row.now.entries;
+      costs = c.args.costs.now;
+    }) c.args.half.node
+    c.args.tree.now) c.enter.ensures.half
 
 pub bound_in_half-returns-clause-bounds : goal.bound_in_half-returns-clause-bounds
 bound_in_half-returns-clause-bounds t c =
     c.set.ensures.bounds
     ∙ ap₂ (λ (box : List Sides) (s : Sides). slice_set box c.args.half.col s) c.bound_at-bound.ensures.bounds
-        c.sides-sides.ensures
+    c.sides-sides.ensures
     ∙ c.enter.ensures.bounds
 
 pub bound_in_half-returns-clause-choices : goal.bound_in_half-returns-clause-choices
 bound_in_half-returns-clause-choices t c =
     c.set.ensures.choices
     ∙ ap₂ (λ (choices : List Choice) (h : Choice). slice_set choices c.args.half.col h) c.bound_at-bound.ensures.choices
-        c.at-choice.ensures
+    c.at-choice.ensures
     ∙ c.enter.ensures.choices
 
 pub bound_in_half-returns-clause-columns : goal.bound_in_half-returns-clause-columns
@@ -179,17 +224,16 @@ bound_in_half-enter-requires-clause-near t c = split_near c.args.rows.now.whole.
     (node_in c.args.region.now) c.args.half.col c.args.half.at c.requires.can
 
 pub bound_in_half-bound_at-bound-requires : goal.bound_in_half-bound_at-bound-requires
-bound_in_half-bound_at-bound-requires t c =
+bound_in_half-bound_at-bound-requires t c = (
+  search rules,
+  (
+    subst (λ n. Fits n (lent_of c.args.rows.now)) (sym c.enter.ensures.columns) c.requires.fits,
     (
-      search rules,
+      omega (arith, c.enter.ensures.columns, c.requires.room),
       (
-        subst (λ n. Fits n (lent_of c.args.rows.now)) (sym c.enter.ensures.columns) c.requires.fits,
-        (
-          omega (arith, c.enter.ensures.columns, c.requires.room),
-          (
-            c.requires.costs ∙ sym c.enter.ensures.columns,
-            (c.requires.flags ∙ sym c.enter.ensures.columns, c.requires.deep),
-          ),
-        ),
+        c.requires.costs ∙ sym c.enter.ensures.columns,
+        (c.requires.flags ∙ sym c.enter.ensures.columns, c.requires.deep),
       ),
-    )
+    ),
+  ),
+)

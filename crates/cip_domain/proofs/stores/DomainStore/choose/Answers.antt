@@ -13,9 +13,9 @@ use Rattle.cip_domain.proofs.stores.DomainStore.choose.Goals as goal
 pub returns-in_default-clause-outcome : goal.returns-in_default-clause-outcome
 returns-in_default-clause-outcome c =
     let choice : c.choice.result ≡ choice_at c.args.self.now.choices c.args.col = c.choice.ensures
-        ∙ ap (λ (d : Domain). choice_at d.choices c.args.col) c.self.view_is in
+    ∙ ap (λ (d : Domain). choice_at d.choices c.args.col) c.self.view_is in
     closed_same (choice_at c.args.self.now.choices c.args.col) (sides_at c.args.self.now.box c.args.col) c.args.on
-        (ap own_if_open (sym choice) ∙ sym c.own.ensures ∙ c.in_default.is)
+    (ap own_if_open (sym choice) ∙ sym c.own.ensures ∙ c.in_default.is)
 
 pub returns-in_default-clause-same : goal.returns-in_default-clause-same
 returns-in_default-clause-same c = λ _. refl
@@ -36,9 +36,9 @@ pub returns-clause-outcome : goal.returns-clause-outcome
 returns-clause-outcome c =
     let d = c.args.self.now in
     let choice : c.choice.result ≡ choice_at d.choices c.args.col = c.choice.ensures
-        ∙ ap (λ (d : Domain). choice_at d.choices c.args.col) c.self.view_is in
+    ∙ ap (λ (d : Domain). choice_at d.choices c.args.col) c.self.view_is in
     let e : choice_at d.choices c.args.col ≡ Open c.in-Some.own = sym choice
-        ∙ open_is c.choice.result c.in-Some.own (sym c.own.ensures ∙ c.in-Some.is) in
+    ∙ open_is c.choice.result c.in-Some.own (sym c.own.ensures ∙ c.in-Some.is) in
     c.make.ensures.outcome
     ∙ ap (λ (t : Change). making (sides_at d.box t.column) (choice_at d.choices t.column) t) c.choice_change.ensures
     ∙ ap (λ h. making (sides_at d.box c.args.col) h (made_change c.args.col c.in-Some.own c.args.on)) e
@@ -52,11 +52,11 @@ pub returns-clause-after : goal.returns-clause-after
 returns-clause-after c =
     let d = c.args.self.now in
     let choice : c.choice.result ≡ choice_at d.choices c.args.col = c.choice.ensures
-        ∙ ap (λ (d : Domain). choice_at d.choices c.args.col) c.self.view_is in
+    ∙ ap (λ (d : Domain). choice_at d.choices c.args.col) c.self.view_is in
     let e : choice_at d.choices c.args.col ≡ Open c.in-Some.own = sym choice
-        ∙ open_is c.choice.result c.in-Some.own (sym c.own.ensures ∙ c.in-Some.is) in
+    ∙ open_is c.choice.result c.in-Some.own (sym c.own.ensures ∙ c.in-Some.is) in
     chosen_after c.make.result d c.make.new.self c.args.col c.in-Some.own c.args.on c.choice_change.result e
-        c.choice_change.ensures c.make.ensures.same c.make.ensures.narrows
+    c.choice_change.ensures c.make.ensures.same c.make.ensures.narrows
 
 pub returns-clause-marks : goal.returns-clause-marks
 returns-clause-marks c = c.make.ensures.marks

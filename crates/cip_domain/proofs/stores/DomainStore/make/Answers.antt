@@ -15,30 +15,38 @@ returns-then-is_settled-clause-narrows c = λ _.
     let at = c.sides-own.ensures ∙ ap (λ d. sides_at d.box c.change.inside.col) c.self.view_is in
     let choice = c.choice-choice.ensures ∙ ap (λ d. choice_at d.choices c.change.inside.col) c.self.view_is in
     let inside : sides_inside (sides_at c.args.self.now.box c.change.inside.col) c.change.inside.sides
-        ≡ true = ap (λ s. sides_inside s c.change.inside.sides) (sym at) ∙ sym c.is_inside.ensures
-        ∙ c.if-is_inside.true in
+    ≡ true = ap (λ s. sides_inside s c.change.inside.sides) (sym at) ∙ sym c.is_inside.ensures
+    ∙ c.if-is_inside.true in
     let settled : is_settled (choice_at c.args.self.now.choices c.change.inside.col) c.change.inside.made
-        ≡ true = ap (λ h. is_settled h c.change.inside.made) (sym choice) ∙ sym c.is_settled.ensures
-        ∙ c.if-is_settled.true in
+    ≡ true = ap (λ h. is_settled h c.change.inside.made) (sym choice) ∙ sym c.is_settled.ensures
+    ∙ c.if-is_settled.true in
     rw (← c.change.view_is) (settled_stays (region_of c.args.self.now)
-        (record { column = c.change.inside.col; sides = c.change.inside.sides; made = c.change.inside.made }) inside
-        settled)
+    (record { column = c.change.inside.col; sides = c.change.inside.sides; made = c.change.inside.made }) inside
+    settled)
 
 pub returns-clause-narrows : goal.returns-clause-narrows
 returns-clause-narrows c = λ _.
-    let change : Change = record { column = c.change.inside.col; sides = c.change.inside.sides; made =
-        c.change.inside.made } in
-    let within : change.column < length c.args.self.now.box = omega (arith, c.requires.column, ap (λ
-        (t : Change). t.column) c.change.view_is) in
+    let change : Change = record {
+      column = c.change.inside.col;
+      sides = c.change.inside.sides;
+      made =
+          c.change.inside.made;
+    } in
+    let within : change.column < length c.args.self.now.box = omega (
+      arith,
+      c.requires.column,
+      ap (λ
+          (t : Change). t.column) c.change.view_is,
+    ) in
     let low : c.sides.inside.low ≡ change.sides.low = ap (λ (t : Sides). t.low) c.sides.view_is in
     let high : c.sides.inside.high ≡ change.sides.high = ap (λ (t : Sides). t.high) c.sides.view_is in
     c.settle.ensures.region ∙ ap (λ r. tightened r (one_choice change.column change.made)) (c.meet-2.ensures.region
-        ∙ ap (λ v. tightened (region_of c.meet.new.self) (one_side change.column High v)) high)
+    ∙ ap (λ v. tightened (region_of c.meet.new.self) (one_side change.column High v)) high)
     ∙ ap (λ r. tightened (tightened r (one_side change.column High change.sides.high))
-        (one_choice change.column change.made)) (c.meet.ensures.region ∙ ap (λ v. tightened (region_of c.args.self.now)
-        (one_side change.column Low v)) low)
+    (one_choice change.column change.made)) (c.meet.ensures.region ∙ ap (λ v. tightened (region_of c.args.self.now)
+    (one_side change.column Low v)) low)
     ∙ three_steps (region_of c.args.self.now) change within ∙ ap (tightened
-        (region_of c.args.self.now)) c.change.view_is
+    (region_of c.args.self.now)) c.change.view_is
 
 pub returns-then-is_settled-clause-same : goal.returns-then-is_settled-clause-same
 returns-then-is_settled-clause-same c = λ _. refl

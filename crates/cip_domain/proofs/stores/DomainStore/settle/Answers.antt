@@ -17,18 +17,18 @@ pub set_choice-requires-clause-unsettled : goal.set_choice-requires-clause-unset
 set_choice-requires-clause-unsettled c =
     let d = c.args.self.now in
     let choice : c.choice-choice.result ≡ choice_at d.choices c.args.col = c.choice-choice.ensures
-        ∙ ap (λ (d : Domain). choice_at d.choices c.args.col) c.self.view_is in
+    ∙ ap (λ (d : Domain). choice_at d.choices c.args.col) c.self.view_is in
     unsettled (choice_at d.choices c.args.col) c.args.made (ap (λ h. is_settled h c.args.made) (sym choice)
-        ∙ sym c.is_settled.ensures ∙ c.if-not-is_settled.true)
+    ∙ sym c.is_settled.ensures ∙ c.if-not-is_settled.true)
 
 pub returns-then-not-is_settled-clause-region : goal.returns-then-not-is_settled-clause-region
 returns-then-not-is_settled-clause-region c =
     let d = c.args.self.now in
     let choice : c.choice-choice.result ≡ choice_at d.choices c.args.col = c.choice-choice.ensures
-        ∙ ap (λ (d : Domain). choice_at d.choices c.args.col) c.self.view_is in
+    ∙ ap (λ (d : Domain). choice_at d.choices c.args.col) c.self.view_is in
     c.set_choice.ensures.region
     ∙ ap (with_column (region_of d) c.args.col (sides_at d.box c.args.col)) (c.choice_past.ensures
-        ∙ ap (λ h. choice_after h c.args.made) choice)
+    ∙ ap (λ h. choice_after h c.args.made) choice)
     ∙ one_chosen (region_of d) c.args.col c.args.made
 
 pub returns-then-not-is_settled-clause-marks : goal.returns-then-not-is_settled-clause-marks
@@ -41,9 +41,9 @@ pub returns-else-not-is_settled-clause-region : goal.returns-else-not-is_settled
 returns-else-not-is_settled-clause-region c =
     let d = c.args.self.now in
     let choice : c.choice-choice.result ≡ choice_at d.choices c.args.col = c.choice-choice.ensures
-        ∙ ap (λ (d : Domain). choice_at d.choices c.args.col) c.self.view_is in
+    ∙ ap (λ (d : Domain). choice_at d.choices c.args.col) c.self.view_is in
     none_chosen (region_of d) c.args.col c.args.made (ap (λ h. is_settled h c.args.made) (sym choice)
-        ∙ sym c.is_settled.ensures ∙ c.if-not-is_settled.false)
+    ∙ sym c.is_settled.ensures ∙ c.if-not-is_settled.false)
 
 pub returns-else-not-is_settled-clause-marks : goal.returns-else-not-is_settled-clause-marks
 returns-else-not-is_settled-clause-marks c = keeps_itself c.args.self.now

@@ -23,8 +23,8 @@ pub returns-then-is_strong-clause-outcome : goal.returns-then-is_strong-clause-o
 returns-then-is_strong-clause-outcome c =
     let at = c.sides-sides.ensures ∙ ap (λ (d : Domain). sides_at d.box c.args.col) c.self.view_is in
     sym (ap (λ t. (let r : Tightened = if t then Same else (if would_cross
-        (sides_at c.args.self.now.box c.args.col) c.args.side c.args.value then Empty else Yes) in r)) (ap
-        (λ s. is_as_strong s c.args.side c.args.value) (sym at) ∙ sym c.is_strong.ensures ∙ c.if-is_strong.true))
+    (sides_at c.args.self.now.box c.args.col) c.args.side c.args.value then Empty else Yes) in r)) (ap
+    (λ s. is_as_strong s c.args.side c.args.value) (sym at) ∙ sym c.is_strong.ensures ∙ c.if-is_strong.true))
 
 pub returns-then-is_strong-clause-after : goal.returns-then-is_strong-clause-after
 returns-then-is_strong-clause-after c = refl
@@ -33,9 +33,9 @@ pub returns-then-crosses-clause-outcome : goal.returns-then-crosses-clause-outco
 returns-then-crosses-clause-outcome c =
     let at = c.sides-sides.ensures ∙ ap (λ (d : Domain). sides_at d.box c.args.col) c.self.view_is in
     sym (ap₂ (λ t u. (let r : Tightened = if t then Same else (if u then Empty else Yes) in r)) (ap
-        (λ s. is_as_strong s c.args.side c.args.value) (sym at) ∙ sym c.is_strong.ensures
-        ∙ c.if-is_strong.false) (ap (λ s. would_cross s c.args.side c.args.value) (sym at) ∙ sym c.crosses.ensures
-        ∙ c.if-crosses.true))
+    (λ s. is_as_strong s c.args.side c.args.value) (sym at) ∙ sym c.is_strong.ensures
+    ∙ c.if-is_strong.false) (ap (λ s. would_cross s c.args.side c.args.value) (sym at) ∙ sym c.crosses.ensures
+    ∙ c.if-crosses.true))
 
 pub returns-then-crosses-clause-after : goal.returns-then-crosses-clause-after
 returns-then-crosses-clause-after c = refl
@@ -53,6 +53,6 @@ pub returns-clause-outcome : goal.returns-clause-outcome
 returns-clause-outcome c =
     let at = c.sides-sides.ensures ∙ ap (λ (d : Domain). sides_at d.box c.args.col) c.self.view_is in
     sym (ap₂ (λ t u. (let r : Tightened = if t then Same else (if u then Empty else Yes) in r)) (ap
-        (λ s. is_as_strong s c.args.side c.args.value) (sym at) ∙ sym c.is_strong.ensures
-        ∙ c.if-is_strong.false) (ap (λ s. would_cross s c.args.side c.args.value) (sym at) ∙ sym c.crosses.ensures
-        ∙ c.if-crosses.false))
+    (λ s. is_as_strong s c.args.side c.args.value) (sym at) ∙ sym c.is_strong.ensures
+    ∙ c.if-is_strong.false) (ap (λ s. would_cross s c.args.side c.args.value) (sym at) ∙ sym c.crosses.ensures
+    ∙ c.if-crosses.false))

@@ -20,20 +20,38 @@ returns-in-Some-clause-regions c =
 pub invariant_of-self : goal.invariant_of-self
 invariant_of-self c =
     stands_back c.self.inside.region.box c.set.new.self.box c.self.inside.trail.items c.pop.new.self.items
-        c.in-Some.saved
+    c.in-Some.saved
     c.in-Some.ensures.items (ap (λ r. length r.box) c.set.ensures ∙ length-set _ _ _) c.self.invariant
 
 pub invariant_of-self-in_default : goal.invariant_of-self-in_default
-invariant_of-self-in_default c = absurd (omega (arith, c.requires, ap (λ
-    (d : Domain). length d.before) c.self.view_is, length-regions_before c.self.inside.region c.self.inside.trail.items,
-    c.self.inside.trail.ok.0, c.in_default.ensures.cases.0))
+invariant_of-self-in_default c = absurd (omega (
+  arith,
+  c.requires,
+  ap (λ
+      (d : Domain). length d.before) c.self.view_is,
+  length-regions_before c.self.inside.region c.self.inside.trail.items,
+  c.self.inside.trail.ok.0,
+  c.in_default.ensures.cases.0,
+))
 
 pub returns-in_default-clause-regions : goal.returns-in_default-clause-regions
-returns-in_default-clause-regions c = absurd (omega (arith, c.requires, ap (λ
-    (d : Domain). length d.before) c.self.view_is, length-regions_before c.self.inside.region c.self.inside.trail.items,
-    c.self.inside.trail.ok.0, c.in_default.ensures.cases.0))
+returns-in_default-clause-regions c = absurd (omega (
+  arith,
+  c.requires,
+  ap (λ
+      (d : Domain). length d.before) c.self.view_is,
+  length-regions_before c.self.inside.region c.self.inside.trail.items,
+  c.self.inside.trail.ok.0,
+  c.in_default.ensures.cases.0,
+))
 
 pub returns-in_default-clause-room : goal.returns-in_default-clause-room
-returns-in_default-clause-room c = absurd (omega (arith, c.requires, ap (λ
-    (d : Domain). length d.before) c.self.view_is, length-regions_before c.self.inside.region c.self.inside.trail.items,
-    c.self.inside.trail.ok.0, c.in_default.ensures.cases.0))
+returns-in_default-clause-room c = absurd (omega (
+  arith,
+  c.requires,
+  ap (λ
+      (d : Domain). length d.before) c.self.view_is,
+  length-regions_before c.self.inside.region c.self.inside.trail.items,
+  c.self.inside.trail.ok.0,
+  c.in_default.ensures.cases.0,
+))

@@ -38,8 +38,12 @@ invariant_of-self-2 c =
     let pieces : List (List ℕ) = pieces_from 0 c.written.new.bytes.items c.push.new.ends.items in
     let told = added (goal.at.invariant_of-self-2 c).After-push in
     let count : c.len-number.result ≡ length names =
-    omega (arith, c.len-number.ensures, c.self.inside.ends.ok.0,
-      length-pieces 0 c.self.inside.bytes.items c.self.inside.ends.items) in
+    omega (
+      arith,
+      c.len-number.ensures,
+      c.self.inside.ends.ok.0,
+      length-pieces 0 c.self.inside.bytes.items c.self.inside.ends.items,
+    ) in
     let absent : number_of names new ≡ None = rw (← c.self.view_is) at c.requires in
     record {
       rising = told.1;

@@ -12,44 +12,52 @@ use Rattle.cip_model.proofs.programs.Program.check_ray.Goals as goal
 pub returns-then-not-keeps_bounds-clause-shown : goal.returns-then-not-keeps_bounds-clause-shown
 returns-then-not-keeps_bounds-clause-shown c =
     let e : all_stay c.as_slice.result.now c.args.ray.now ≡ false = sym c.keeps_bounds.ensures
-        ∙ c.if-not-keeps_bounds.true in
-    (λ h. absurd (cc), λ h. absurd (bounds_broken c.args.self.now c.args.point.now c.args.ray.now c.as_slice.result.now
-        (c.as_slice.ensures ∙ c.bounds.ensures.bounds) e h))
+    ∙ c.if-not-keeps_bounds.true in (
+      λ h. absurd (cc),
+      λ h. absurd (bounds_broken c.args.self.now c.args.point.now c.args.ray.now c.as_slice.result.now
+          (c.as_slice.ensures ∙ c.bounds.ensures.bounds) e h),
+    )
 
 pub returns-then-not-keeps_wholes-clause-shown : goal.returns-then-not-keeps_wholes-clause-shown
 returns-then-not-keeps_wholes-clause-shown c =
     let e : all_still c.whole.result.now c.args.ray.now ≡ false = sym c.keeps_wholes.ensures
-        ∙ c.if-not-keeps_wholes.true in
-    (λ h. absurd (cc), λ h. absurd (wholes_broken c.args.self.now c.args.point.now c.args.ray.now c.whole.result.now
-        c.whole.ensures.whole e h))
+    ∙ c.if-not-keeps_wholes.true in (
+      λ h. absurd (cc),
+      λ h. absurd (wholes_broken c.args.self.now c.args.point.now c.args.ray.now c.whole.result.now
+          c.whole.ensures.whole e h),
+    )
 
 pub returns-then-not-keeps_rows-clause-shown : goal.returns-then-not-keeps_rows-clause-shown
 returns-then-not-keeps_rows-clause-shown c =
-    let e : rows_stay c.rows.result.now c.args.ray.now ≡ false = sym c.keeps_rows.ensures ∙ c.if-not-keeps_rows.true in
-    (λ h. absurd (cc), λ h. absurd (rows_broken c.args.self.now c.args.point.now c.args.ray.now c.rows.result.now
-        c.rows.ensures.rows e h))
+    let e : rows_stay c.rows.result.now c.args.ray.now ≡ false = sym c.keeps_rows.ensures ∙ c.if-not-keeps_rows.true in (
+      λ h. absurd (cc),
+      λ h. absurd (rows_broken c.args.self.now c.args.point.now c.args.ray.now c.rows.result.now
+          c.rows.ensures.rows e h),
+    )
 
 pub returns-clause-shown : goal.returns-clause-shown
 returns-clause-shown c =
     let program = c.args.self.now in
     let ray = c.args.ray.now in
     let v : verdict_of program c.args.point.now ≡ Feasible c.in-Feasible.field-0 = sym c.check.ensures.verdict
-        ∙ c.in-Feasible.is in
+    ∙ c.in-Feasible.is in
     let m : VerdictHolds program c.args.point.now (Feasible c.in-Feasible.field-0) = subst
-        (VerdictHolds program c.args.point.now) c.in-Feasible.is c.check.ensures.meaning in
+    (VerdictHolds program c.args.point.now) c.in-Feasible.is c.check.ensures.meaning in
     let b : all_stay program.bounds ray ≡ true = ap (λ (box : List Sides). all_stay box ray) (sym (c.as_slice.ensures
-        ∙ c.bounds.ensures.bounds)) ∙ sym c.keeps_bounds.ensures ∙ c.if-not-keeps_bounds.false in
+    ∙ c.bounds.ensures.bounds)) ∙ sym c.keeps_bounds.ensures ∙ c.if-not-keeps_bounds.false in
     let w : all_still program.integral ray ≡ true = ap (λ (flags : List Bool). all_still flags ray)
-        (sym c.whole.ensures.whole) ∙ sym c.keeps_wholes.ensures ∙ c.if-not-keeps_wholes.false in
+    (sym c.whole.ensures.whole) ∙ sym c.keeps_wholes.ensures ∙ c.if-not-keeps_wholes.false in
     let r : rows_stay program.rows ray ≡ true = ap (λ (rows : List Row). rows_stay rows ray)
-        (sym c.rows.ensures.rows) ∙ sym c.keeps_rows.ensures ∙ c.if-not-keeps_rows.false in
-    (λ h. let f : cost_falls (dot_from zeroℚ program.costs ray) ≡ true = search rules in shown_by program
-        c.args.point.now ray c.in-Feasible.field-0 c.costs.ensures.formed c.requires.ray v m b w r f, λ h. let f =
-        cost_kept program c.args.point.now ray c.costs.result.now c.costs.ensures.costs h in search rules)
+    (sym c.rows.ensures.rows) ∙ sym c.keeps_rows.ensures ∙ c.if-not-keeps_rows.false in (
+      λ h. let f : cost_falls (dot_from zeroℚ program.costs ray) ≡ true = search rules in shown_by program
+          c.args.point.now ray c.in-Feasible.field-0 c.costs.ensures.formed c.requires.ray v m b w r f,
+      λ h. let f =
+          cost_kept program c.args.point.now ray c.costs.result.now c.costs.ensures.costs h in search rules,
+    )
 
 pub returns-clause-falls : goal.returns-clause-falls
 returns-clause-falls c =
     let m : VerdictHolds c.args.self.now c.args.point.now (Feasible c.in-Feasible.field-0) = subst
-        (VerdictHolds c.args.self.now c.args.point.now) c.in-Feasible.is c.check.ensures.meaning in
+    (VerdictHolds c.args.self.now c.args.point.now) c.in-Feasible.is c.check.ensures.meaning in
     λ h. feasible_along c.args.self.now c.args.point.now c.args.ray.now c.costs.ensures.formed m.0
-        ((returns-clause-shown c).0 h)
+    ((returns-clause-shown c).0 h)

@@ -38,7 +38,7 @@ clear_row-requires c = omega (arith, ap (λ (p : Program). length p.rows) c.set_
 pub returns-clause-step : goal.returns-clause-step
 returns-clause-step c =
     taken_by c.args.self.now c.clear_row.new.self c.args.number c.in-Some.found.column c.in-Some.found.sides
-        c.in-Some.ensures
+    c.in-Some.ensures
     (c.clear_row.ensures ∙ ap (λ (p : Program). with_row p c.args.number no_row) c.set_sides.ensures)
 
 pub returns-clause-rows : goal.returns-clause-rows

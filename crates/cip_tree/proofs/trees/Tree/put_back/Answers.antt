@@ -51,25 +51,25 @@ returns-clause-rest c =
 pub restage-requires : goal.restage-requires
 restage-requires c =
     let base = unfilled c.self.inside.root.choices (get_or (bases c.self.inside.kept.slots) c.node.inside.place None)
-        c.requires.base (ap (λ (t : Nodes). base_at t c.node.inside.place) c.self.view_is
-        ∙ ap (λ (x : TakenNode). base_at c.args.self.now x.place) c.node.view_is ∙ c.requires.found) in
+    c.requires.base (ap (λ (t : Nodes). base_at t c.node.inside.place) c.self.view_is
+    ∙ ap (λ (x : TakenNode). base_at c.args.self.now x.place) c.node.view_is ∙ c.requires.found) in
     rw ((in_work c.self.inside.kept.slots c.node.inside.place base.raw base.found).found) refl
 
 pub overflow_sub-self : goal.overflow_sub-self
 overflow_sub-self c =
     let base = unfilled c.self.inside.root.choices (get_or (bases c.self.inside.kept.slots) c.node.inside.place None)
-        c.requires.base (ap (λ (t : Nodes). base_at t c.node.inside.place) c.self.view_is
-        ∙ ap (λ (x : TakenNode). base_at c.args.self.now x.place) c.node.view_is ∙ c.requires.found) in
+    c.requires.base (ap (λ (t : Nodes). base_at t c.node.inside.place) c.self.view_is
+    ∙ ap (λ (x : TakenNode). base_at c.args.self.now x.place) c.node.view_is ∙ c.requires.found) in
     taken_some c.self.inside.root c.self.inside.kept.slots c.self.inside.kept.slots c.node.inside.place
-        c.self.inside.queue.nodes c.self.inside.parked.items c.self.inside.ids c.self.inside.in_work base.raw
-        c.self.invariant.0 base.found
+    c.self.inside.queue.nodes c.self.inside.parked.items c.self.inside.ids c.self.inside.in_work base.raw
+    c.self.invariant.0 base.found
 
 pub push-requires : goal.push-requires
 push-requires c =
     let base = unfilled c.self.inside.root.choices (get_or (bases c.self.inside.kept.slots) c.node.inside.place None)
-        c.requires.base (ap (λ (t : Nodes). base_at t c.node.inside.place) c.self.view_is
-        ∙ ap (λ (x : TakenNode). base_at c.args.self.now x.place) c.node.view_is ∙ c.requires.found) in
+    c.requires.base (ap (λ (t : Nodes). base_at t c.node.inside.place) c.self.view_is
+    ∙ ap (λ (x : TakenNode). base_at c.args.self.now x.place) c.node.view_is ∙ c.requires.found) in
     let some = taken_some c.self.inside.root c.self.inside.kept.slots c.self.inside.kept.slots c.node.inside.place
-        c.self.inside.queue.nodes c.self.inside.parked.items c.self.inside.ids c.self.inside.in_work base.raw
-        c.self.invariant.0 base.found in
+    c.self.inside.queue.nodes c.self.inside.parked.items c.self.inside.ids c.self.inside.in_work base.raw
+    c.self.invariant.0 base.found in
     omega (arith, some, c.self.invariant.1.queue)

@@ -50,26 +50,37 @@ returns c = λ ids parent st p.
     descent_taken c.args.root.now c.args.kept.now.slots c.args.place _ _ _ c.requires.kept c.in-Some.ensures ids parent p old new c.self.invariant.1 stand c.mark-mark.result c.in_ok-push.ensures.items c.narrow_more.ensures.marks narrowed (mark_here c.narrow_more.new.domain c.mark-mark.result c.mark-mark.ensures)
 
 pub invariant_of-self : goal.invariant_of-self
-invariant_of-self c = (c.self.invariant.0, λ k d l. omega (arith, c.self.invariant.1 k d l,
-    c.narrow_more.ensures.marks.grows))
+invariant_of-self c = (
+  c.self.invariant.0,
+  λ k d l. omega (
+    arith,
+    c.self.invariant.1 k d l,
+    c.narrow_more.ensures.marks.grows,
+  ),
+)
 
 pub invariant_of-self-then-not-branch : goal.invariant_of-self-then-not-branch
-invariant_of-self-then-not-branch c = (c.self.invariant.0, λ k d l. omega
-    (arith, c.self.invariant.1 k d l, c.narrow_more.ensures.marks.grows))
+invariant_of-self-then-not-branch c = (
+  c.self.invariant.0,
+  λ k d l. omega
+      (arith, c.self.invariant.1 k d l, c.narrow_more.ensures.marks.grows),
+)
 
 pub invariant_of-self-in_err-push : goal.invariant_of-self-in_err-push
-invariant_of-self-in_err-push c = rw (c.in_err-push.ensures.items) (c.self.invariant.0, λ k d l. omega
-    (arith, c.self.invariant.1 k d l, c.narrow_more.ensures.marks.grows))
+invariant_of-self-in_err-push c = rw (c.in_err-push.ensures.items) (
+  c.self.invariant.0,
+  λ k d l. omega
+      (arith, c.self.invariant.1 k d l, c.narrow_more.ensures.marks.grows),
+)
 
 pub invariant_of-self-2 : goal.invariant_of-self-2
 invariant_of-self-2 c =
     let last : Stop = record { number = c.in-Some.below.number; mark = c.mark-mark.result } in
     let stops = c.self.inside.stops.items in
-    rw (c.in_ok-push.ensures.items)
-    (
+    rw (c.in_ok-push.ensures.items) (
       rising_longer stops last c.self.invariant.0
           (λ k d l. omega (arith, c.self.invariant.1 k d l, c.narrow_more.ensures.marks.grows, c.mark-mark.ensures)),
       All-push (λ (stop : Stop). stop.mark ≤ length c.narrow_more.new.domain.before) stops last
           (λ k d l. omega (arith, c.self.invariant.1 k d l, c.narrow_more.ensures.marks.grows)) (omega
-              (arith, c.mark-mark.ensures)),
+          (arith, c.mark-mark.ensures)),
     )
