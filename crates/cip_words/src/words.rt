@@ -1,6 +1,6 @@
 //! The words of a command line.
 ghost use Rattle.std.specs.Prelude.{◌≡◌, ◌++◌, ◌∷◌, [], true, false, Some, None, map, IfOk, OnOk, OnErr, MatchResult, option_map, option_and_then, length};
-ghost use Rattle.clap.specs.Words.{Shape, app_of, kind_of, rows_of, found_of, new_rule, rule_of, subcommand_rows_of, with_subcommand};
+ghost use Rattle.clap.specs.Words.{app_of, kind_of, rows_of, found_of, new_rule, rule_of, subcommand_rows_of};
 ghost use Rattle.clap.specs.declared.builder.action.ArgAction.TheVariants.{SetTrue};
 ghost use Rattle.clap.specs.declared.error.kind.ErrorKind.TheVariants.{OutOfMemory};
 ghost use Rattle.cip_words.specs.Jobs.{AsksForSome, IsAddedAs, solve_command, check_command, self_command, cip_command, begins_above_zero, begins_plainly, nodes_of, number_up_to, at_least_zero, gap_of, off_of, is_presolved, is_true, job_behind, check_behind, self_behind, job_at, job_of};
@@ -142,36 +142,21 @@ fn flag<'a>(alloc: Global, id: &'a str) -> Arg<'a>
 fn solving<'a>(alloc: Global) -> Result<Command<'a>, AllocError>
     ensures { IfOk result (IsAddedAs solve_command.top) }
 {
-    let bare = Command::new(alloc, "solve");
-    let Ok(first) = bare.arg(wanted(alloc, "model")) else {
-        return Err(AllocError);
-    };
-    let Ok(second) = first.arg(option(alloc, "blocks")) else {
-        return Err(AllocError);
-    };
-    let Ok(third) = second.arg(option(alloc, "nodes")) else {
-        return Err(AllocError);
-    };
-    let Ok(fourth) = third.arg(option(alloc, "gap")) else {
-        return Err(AllocError);
-    };
-    let Ok(fifth) = fourth.arg(option(alloc, "off")) else {
-        return Err(AllocError);
-    };
-    let Ok(sixth) = fifth.arg(flag(alloc, "plain")) else {
-        return Err(AllocError);
-    };
-    sixth.arg(flag(alloc, "trace"))
+    Command::new(alloc, "solve")
+        .arg(wanted(alloc, "model"))?
+        .arg(option(alloc, "blocks"))?
+        .arg(option(alloc, "nodes"))?
+        .arg(option(alloc, "gap"))?
+        .arg(option(alloc, "off"))?
+        .arg(flag(alloc, "plain"))?
+        .arg(flag(alloc, "trace"))
 }
 
 /// The subcommand `check MODEL POINT`.
 fn checking<'a>(alloc: Global) -> Result<Command<'a>, AllocError>
     ensures { IfOk result (IsAddedAs check_command.top) }
 {
-    let bare = Command::new(alloc, "check");
-    let Ok(check) = bare.arg(wanted(alloc, "model")) else {
-        return Err(AllocError);
-    };
+    let check = Command::new(alloc, "check").arg(wanted(alloc, "model"))?;
     check.arg(wanted(alloc, "point"))
 }
 
@@ -179,28 +164,10 @@ fn checking<'a>(alloc: Global) -> Result<Command<'a>, AllocError>
 fn drawing<'a>(alloc: Global) -> Result<Command<'a>, AllocError>
     ensures { IfOk result (IsAddedAs self_command.top) }
 {
-    let bare = Command::new(alloc, "self");
-    let Ok(first) = bare.arg(wanted(alloc, "seed")) else {
-        return Err(AllocError);
-    };
-    let Ok(second) = first.arg(wanted(alloc, "cols")) else {
-        return Err(AllocError);
-    };
-    second.arg(wanted(alloc, "rows"))
-}
-
-/// A command with one subcommand more, if that could be made.
-fn add_subcommand<'a>(
-    command: Command<'a>,
-    added: Result<Command<'a>, AllocError>,
-) -> Result<Command<'a>, AllocError>
-    ensures { (shape : Shape) → IfOk added.entry (IsAddedAs shape)
-        → IfOk result (λ more. app_of more ≡ with_subcommand (app_of command.entry) shape) }
-{
-    match added {
-        Ok(subcommand) => command.subcommand(subcommand),
-        Err(fault) => Err(fault),
-    }
+    Command::new(alloc, "self")
+        .arg(wanted(alloc, "seed"))?
+        .arg(wanted(alloc, "cols"))?
+        .arg(wanted(alloc, "rows"))
 }
 
 /// The command: `solve MODEL [--blocks FILE] [--nodes N] [--gap G] [--off LIST] [--plain] [--trace]`,
@@ -208,14 +175,12 @@ fn add_subcommand<'a>(
 fn command<'a>(alloc: Global) -> Result<Command<'a>, AllocError>
     ensures { IfOk result (λ command. app_of command ≡ cip_command) }
 {
-    let bare = Command::new(alloc, "cip").no_binary_name(true);
-    let Ok(solver) = add_subcommand(bare, solving(alloc)) else {
-        return Err(AllocError);
-    };
-    let Ok(checker) = add_subcommand(solver, checking(alloc)) else {
-        return Err(AllocError);
-    };
-    add_subcommand(checker, drawing(alloc))
+    let solve = solving(alloc)?;
+    let solver = Command::new(alloc, "cip")
+        .no_binary_name(true)
+        .subcommand(solve)?;
+    let checker = solver.subcommand(checking(alloc)?)?;
+    checker.subcommand(drawing(alloc)?)
 }
 
 /// Whether a text begins with a digit from 1 to 9.

@@ -6,8 +6,8 @@ use Rattle.cip_words.proofs.words.checking.Goals as goal
 
 pub returns : goal.returns
 returns c =
-    let first = c.in-Ok.ensures.shape c.wanted.ensures.local ∙ ap₂ with_rule c.new-bare.ensures.app c.wanted.ensures.rule in
+    let first = c.in_ok-check.ensures.shape c.wanted.ensures.local ∙ ap₂ with_rule c.new.ensures.app c.wanted.ensures.rule in
     let either : Bool → Bool → Bool = λ a b. a || b in
-    let local = ap₂ either (c.in-Ok.ensures.globals ∙ ap₂ either c.new-bare.ensures.local c.wanted.ensures.local) c.wanted-2.ensures.local in
+    let local = ap₂ either (c.in_ok-check.ensures.globals ∙ ap₂ either c.new.ensures.local c.wanted.ensures.local) c.wanted-2.ensures.local in
     IfOk-weaker c.arg-2.result _ _ (λ command h old new added. added.shape (h.globals ∙ local)
     ∙ ap (λ (app : App). with_subcommand (app_of old) app.top) (h.shape c.wanted-2.ensures.local ∙ ap₂ with_rule first c.wanted-2.ensures.rule)) c.arg-2.ensures
