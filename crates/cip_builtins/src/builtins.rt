@@ -1,26 +1,18 @@
 //! The call of `run` with the built-in plugins.
-ghost use Rattle.std.specs.Prelude.{IsTrue};
-ghost use Rattle.cip_kits.specs.Kits.{IsFew, stock_of};
 
 use cip_branching::{FirstRule, MostFractionalRule, PseudoCostRule};
 use cip_guides::{DiveHeuristic, ExchangeHeuristic, RoundHeuristic};
 use cip_handlers::{Class, ClassHandler};
 use cip_io::{Sink, Store};
+use cip_kits::is_few;
 use cip_main::{Log, Words, run};
-use cip_plugin::{AnyPlugin, Kit, Tells};
+use cip_plugin::{AnyPlugin, Kit};
 use cip_propagators::{ActivityPropagator, ReducedCostPropagator};
 use cip_tighten::{CoverSeparator, MixedSeparator, RoundingSeparator};
 use std::alloc::{AllocError, Global};
 
 /// How many built-in plugins there are.
 const PLUGINS: usize = 15;
-
-/// Whether a kit has few enough plugins for a call.
-fn is_few(kit: &Kit) -> bool
-    ensures { IsTrue result → IsFew (stock_of ⟦<AnyPlugin as Tells>⟧.who kit.now) }
-{
-    kit.start.len() < 1_000 && kit.shelf.len() < 1_000
-}
 
 /// Does what the words ask for with a kit of few plugins, and answers the exit status.
 fn run_with<S: Store, K: Sink>(

@@ -1,13 +1,12 @@
 //! The program in memory, and the call of `run` with the plugins.
-ghost use Rattle.std.specs.Prelude.{IsTrue};
-ghost use Rattle.cip_kits.specs.Kits.{IsFew, stock_of};
 
 use crate::dearest::Dearest;
 use crate::floors::Floors;
 use crate::halves::Halves;
 use cip_io::{MemoryStore, Sink};
+use cip_kits::is_few;
 use cip_main::{Words, no_plugins, run};
-use cip_plugin::{AnyPlugin, Kit, Tells};
+use cip_plugin::{AnyPlugin, Kit};
 use std::alloc::{AllocError, Global};
 
 /// The text of the program.
@@ -24,13 +23,6 @@ End
 
 /// The command line.
 const WORDS: [&str; 3] = ["solve", "example.lp", "--trace"];
-
-/// Whether a kit has few enough plugins for a call.
-fn is_few(kit: &Kit) -> bool
-    ensures { IsTrue result → IsFew (stock_of ⟦<AnyPlugin as Tells>⟧.who kit.now) }
-{
-    kit.start.len() < 1_000 && kit.shelf.len() < 1_000
-}
 
 /// Solves the program with the plugins of a kit, and answers the status. `Err` comes where memory was refused.
 fn solve_with<K: Sink>(alloc: Global, out: &mut K, kit: &mut Kit) -> Result<u8, AllocError> {

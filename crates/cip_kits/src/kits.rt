@@ -1,5 +1,5 @@
 //! The plugins of a kit go into a roster, and come back.
-ghost use Rattle.std.specs.Prelude.{◌≡◌, IfOk, OnErr, vec_len, vec_capacity};
+ghost use Rattle.std.specs.Prelude.{◌≡◌, ◌↔◌, IfOk, IsTrue, OnErr, vec_len, vec_capacity};
 ghost use Rattle.cip_roster.specs.Turns.{IsSound};
 ghost use Rattle.cip_kits.specs.Kits.{stock_of, IsFew, is_bare as is_bare_stock, HasBegun, HasRoomFor, HasEnded};
 
@@ -13,6 +13,15 @@ pub fn is_bare(kit: &Kit) -> bool
     ensures { result ≡ is_bare_stock (stock_of ⟦<AnyPlugin as Tells>⟧.who kit.now) }
 {
     kit.start.is_empty() && kit.shelf.is_empty()
+}
+
+/// Whether start and shelf of a kit together have fewer than 2^32 plugins, so that a search can number them.
+pub fn is_few(kit: &Kit) -> bool
+    ensures { IsTrue result ↔ IsFew (stock_of ⟦<AnyPlugin as Tells>⟧.who kit.now) }
+{
+    let most = u32::MAX as usize;
+    let start = kit.start.len();
+    start <= most && kit.shelf.len() <= most - start
 }
 
 /// Moves the plugins of a kit into a roster, and calls those of its start for the first two times, in their order;

@@ -5,4 +5,4 @@ mod aside;
 mod kits;
 
 pub use aside::set_aside;
-pub use kits::{begin, end, is_bare};
+pub use kits::{begin, end, is_bare, is_few};

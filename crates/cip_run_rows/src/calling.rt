@@ -1,6 +1,4 @@
 //! A call of `run`, with whoever serves.
-ghost use Rattle.std.specs.Prelude.{IsTrue};
-ghost use Rattle.cip_kits.specs.Kits.{IsFew, stock_of};
 
 use crate::fakes::Fake;
 use crate::fields::key_and_value;
@@ -9,7 +7,8 @@ use crate::row::Row;
 use crate::setup::Setup;
 use cip_builtins::{Log, no_plugins, run, run_with_builtins};
 use cip_io::MemorySink;
-use cip_plugin::{AnyPlugin, Kind, Kit, Tells};
+use cip_kits::is_few;
+use cip_plugin::{AnyPlugin, Kind, Kit};
 use std::alloc::{AllocError, Global};
 
 /// What a call of `run` did.
@@ -22,13 +21,6 @@ pub struct Outcome {
     pub left: (usize, usize),
     /// The numbers of those that are spent.
     pub spent: Vec<Option<u32>>,
-}
-
-/// Whether a kit has few enough plugins for a call.
-fn is_few(kit: &Kit) -> bool
-    ensures { IsTrue result → IsFew (stock_of ⟦<AnyPlugin as Tells>⟧.who kit.now) }
-{
-    kit.start.len() < 1_000 && kit.shelf.len() < 1_000
 }
 
 /// Lists the numbers of the plugins of a kit that are spent.
