@@ -98,14 +98,24 @@ fn nothing(alloc: Global) -> Option<Task> {
     }
 }
 
+/// Adds two whole columns from 0 to a number with the costs -2 and -1, and a row; whether they are there.
+fn add_two(task: &mut Task, row: Row, high: i64) -> bool {
+    task.own.push(row).is_ok()
+        && put_column(task, true, high, -2)
+        && put_column(task, true, high, -1)
+}
+
 /// Two whole columns from 0 to a number with the costs -2 and -1, where 2 x + 2 y is at most 3.
 pub fn two_columns(alloc: Global, high: i64) -> Option<Task> {
     let row = half_of_three(alloc)?;
-    let mut task = nothing(alloc)?;
-    let filled = put_column(&mut task, true, high, -2) && put_column(&mut task, true, high, -1);
-    if filled && task.own.push(row).is_ok() {
+    let Some(mut task) = nothing(alloc) else {
+        drop(row);
+        return None;
+    };
+    if add_two(&mut task, row, high) {
         Some(task)
     } else {
+        drop(task);
         None
     }
 }
