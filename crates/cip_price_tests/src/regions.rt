@@ -67,6 +67,7 @@ fn half_of_three(alloc: Global) -> Option<Row> {
     if filled && row.append(Term { col: 1, coef }).is_ok() {
         Some(row)
     } else {
+        drop(row);
         None
     }
 }
@@ -131,6 +132,7 @@ pub fn semi_column(alloc: Global) -> Option<Task> {
     if filled && task.region.choices.push(Choice::open(own)).is_ok() {
         Some(task)
     } else {
+        drop(task);
         None
     }
 }
@@ -170,6 +172,11 @@ pub fn empty(alloc: Global, count: i128) -> Option<BoundTree> {
     Some(BoundTree::Empty(combo(alloc, count)?))
 }
 
+/// A tree in a box of its own.
+fn boxed(alloc: Global, tree: Option<BoundTree>) -> Option<Box<BoundTree>> {
+    Box::new(alloc, tree?).ok()
+}
+
 /// A split with these halves.
 pub fn split(
     alloc: Global,
@@ -178,7 +185,13 @@ pub fn split(
     low: Option<BoundTree>,
     high: Option<BoundTree>,
 ) -> Option<BoundTree> {
-    let low = Box::new(alloc, low?).ok()?;
-    let high = Box::new(alloc, high?).ok()?;
+    let Some(low) = boxed(alloc, low) else {
+        drop(high);
+        return None;
+    };
+    let Some(high) = boxed(alloc, high) else {
+        drop(low);
+        return None;
+    };
     Some(BoundTree::Split { col, at, low, high })
 }
