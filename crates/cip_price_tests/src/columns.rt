@@ -21,7 +21,9 @@ fn point(alloc: Global, values: &[i64]) -> Option<BlockPoint> {
 /// What adding a point of a block answers.
 fn added(alloc: Global, pool: &mut ColumnPool, block: u32, values: &[i64]) -> Option<Added> {
     let point = point(alloc, values)?;
-    match pool.add(block, &point) {
+    let added = pool.add(block, &point);
+    drop(point);
+    match added {
         Ok(added) => Some(added),
         Err(_) => None,
     }
@@ -30,18 +32,20 @@ fn added(alloc: Global, pool: &mut ColumnPool, block: u32, values: &[i64]) -> Op
 /// Two columns from 0 to 1.
 fn unit_box(alloc: Global) -> Option<Bounds> {
     let mut bounds = Bounds::new(alloc, 0).ok()?;
-    for _at in 0..2 {
-        let sides = Sides {
-            low: Some(Frac::zero()),
-            high: Some(Frac::one()),
-        };
-        bounds.push(sides).ok()?;
+    let sides = Sides {
+        low: Some(Frac::zero()),
+        high: Some(Frac::one()),
+    };
+    if bounds.push(sides).is_ok() && bounds.push(sides).is_ok() {
+        Some(bounds)
+    } else {
+        drop(bounds);
+        None
     }
-    Some(bounds)
 }
 
-/// Whether points of two blocks get ids, equal ones those that they have, and a box shows those that are in it.
-fn is_right(alloc: Global, pool: &mut ColumnPool) -> bool {
+/// Whether points of two blocks get ids, and equal ones those that they have.
+fn get_ids(alloc: Global, pool: &mut ColumnPool) -> bool {
     if added(alloc, pool, 0, &[1, 0]) != Some(Added::New(0)) {
         return false;
     }
@@ -54,17 +58,29 @@ fn is_right(alloc: Global, pool: &mut ColumnPool) -> bool {
     if added(alloc, pool, 0, &[2, 0]) != Some(Added::New(2)) {
         return false;
     }
-    if added(alloc, pool, 0, &[1, 0, 0]) != Some(Added::New(3)) {
+    added(alloc, pool, 0, &[1, 0, 0]) == Some(Added::New(3))
+}
+
+/// Whether a box shows the first point of the first block alone.
+fn shows_first(pool: &ColumnPool, bounds: &Bounds) -> bool {
+    let mut inside = pool.inside(0, bounds);
+    match inside.next() {
+        Some(held) => held.id() == 0 && inside.next().is_none(),
+        None => false,
+    }
+}
+
+/// Whether points of two blocks get ids, equal ones those that they have, and a box shows those that are in it.
+fn is_right(alloc: Global, pool: &mut ColumnPool) -> bool {
+    if !get_ids(alloc, pool) {
         return false;
     }
     let Some(bounds) = unit_box(alloc) else {
         return false;
     };
-    let mut inside = pool.inside(0, &bounds);
-    match inside.next() {
-        Some(held) => held.id() == 0 && inside.next().is_none(),
-        None => false,
-    }
+    let is_so = shows_first(pool, &bounds);
+    drop(bounds);
+    is_so
 }
 
 #[test]
@@ -72,6 +88,7 @@ fn points_are_pooled(rt: HostRuntime) {
     match ColumnPool::new(rt.alloc()) {
         Ok(mut pool) => {
             let right = is_right(rt.alloc(), &mut pool);
+            drop(pool);
             assert!(rt; right);
         }
         Err(_) => assert!(rt; false, "there is no memory"),

@@ -122,31 +122,53 @@ fn point(alloc: Global, halves: &[i128]) -> Option<BlockPoint> {
     Some(BlockPoint { values })
 }
 
+/// Adds these points to a list; whether all are there.
+fn put_points(alloc: Global, points: &mut Vec<BlockPoint>, brought: &[&[i128]]) -> bool {
+    for halves in brought {
+        let Some(one) = point(alloc, halves) else {
+            return false;
+        };
+        if points.push(one).is_err() {
+            return false;
+        }
+    }
+    true
+}
+
 /// An answer of these points, without a tree.
 fn answer(alloc: Global, brought: &[&[i128]]) -> Option<Priced> {
     let mut points = Vec::new(alloc);
-    for halves in brought {
-        let one = point(alloc, halves)?;
-        if points.push(one).is_err() {
-            return None;
-        }
+    if put_points(alloc, &mut points, brought) {
+        Some(Priced { points, tree: None })
+    } else {
+        drop(points);
+        None
     }
-    Some(Priced { points, tree: None })
+}
+
+/// Adds an answer of these points to a list; whether it is there.
+fn put_answer(alloc: Global, answers: &mut Vec<Priced>, brought: &[&[i128]]) -> bool {
+    match answer(alloc, brought) {
+        Some(one) => answers.push(one).is_ok(),
+        None => false,
+    }
 }
 
 /// Who answers once for each block.
 fn answering(alloc: Global) -> Option<Noting> {
-    let second = answer(alloc, SECOND.as_slice())?;
-    let first = answer(alloc, FIRST.as_slice())?;
     let mut answers = Vec::new(alloc);
-    if answers.push(second).is_err() || answers.push(first).is_err() {
-        return None;
+    let filled = put_answer(alloc, &mut answers, SECOND.as_slice())
+        && put_answer(alloc, &mut answers, FIRST.as_slice());
+    if filled {
+        Some(Noting {
+            answers,
+            asks: 0,
+            notes: Vec::new(alloc),
+        })
+    } else {
+        drop(answers);
+        None
     }
-    Some(Noting {
-        answers,
-        asks: 0,
-        notes: Vec::new(alloc),
-    })
 }
 
 /// Whether it is told of each point that is dropped, and of each once: the second round has no answers.
@@ -171,6 +193,7 @@ fn crossed(alloc: Global, program: &Program) -> Option<Bounds>
         return None;
     };
     if bounds.is_empty() {
+        drop(bounds);
         return None;
     }
     bounds.set_sides(
@@ -194,10 +217,27 @@ fn is_unasked(alloc: Global, program: &Program, blocks: &Decomposed, noting: &mu
     match crossed(alloc, program) {
         Some(bounds) => {
             let told = priced_in(alloc, program, blocks, &bounds, noting, limits);
+            drop(bounds);
             told == Some(Told::NoPoint) && noting.asks == 0
         }
         None => false,
     }
+}
+
+/// Whether it is so with blocks that were taken apart, where sides cross or as it is.
+fn is_so_with(alloc: Global, program: &Program, blocks: &Decomposed, crosses: bool) -> bool
+    requires { IsDecompositionOf program.now blocks.now }
+{
+    let Some(mut noting) = answering(alloc) else {
+        return false;
+    };
+    let is_so = if crosses {
+        is_unasked(alloc, program, blocks, &mut noting)
+    } else {
+        are_told(alloc, program, blocks, &mut noting)
+    };
+    drop(noting);
+    is_so
 }
 
 /// Whether it is so with `PLAIN`, where sides cross or as it is.
@@ -205,23 +245,26 @@ fn is_so(alloc: Global, program: &Program, crosses: bool) -> bool {
     let Ok(read) = read_blocks(alloc, BLOCKS.as_bytes(), program) else {
         return false;
     };
-    let Ok(blocks) = Decomposed::new(alloc, program, &read) else {
-        return false;
-    };
-    let Some(mut noting) = answering(alloc) else {
-        return false;
-    };
-    if crosses {
-        is_unasked(alloc, program, &blocks, &mut noting)
-    } else {
-        are_told(alloc, program, &blocks, &mut noting)
+    let made = Decomposed::new(alloc, program, &read);
+    drop(read);
+    match made {
+        Ok(blocks) => {
+            let is_so = is_so_with(alloc, program, &blocks, crosses);
+            drop(blocks);
+            is_so
+        }
+        Err(_) => false,
     }
 }
 
 /// The same with the program as it is read.
 fn is_so_read(alloc: Global, crosses: bool) -> bool {
     match read_lp(alloc, PLAIN.as_bytes()) {
-        Ok(program) => is_so(alloc, &program, crosses),
+        Ok(program) => {
+            let is_so = is_so(alloc, &program, crosses);
+            drop(program);
+            is_so
+        }
         Err(_) => false,
     }
 }

@@ -95,10 +95,11 @@ fn put(
     }
     let (block, x, y) = POINTS[at];
     match point(alloc, &[2 * x as i128, 2 * y as i128]) {
-        Some(point) => matches!(
-            offered(pool, program, blocks, block, &point),
-            Some(Taken::Offered(_))
-        ),
+        Some(point) => {
+            let taken = offered(pool, program, blocks, block, &point);
+            drop(point);
+            matches!(taken, Some(Taken::Offered(_)))
+        }
         None => false,
     }
 }

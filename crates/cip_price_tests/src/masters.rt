@@ -115,6 +115,20 @@ fn box_of(alloc: Global, program: &Program, crossed: bool) -> Result<Bounds, All
     Ok(bounds)
 }
 
+/// What is answered where the pool is filled.
+fn answered_by(alloc: Global, task: &MasterTask<'_>, limit: u32) -> Option<(Told, Told)>
+    requires { IsTask (task_of task.now) }
+{
+    match Master::new(alloc, task) {
+        Ok(mut master) => {
+            let told = answered_twice(alloc, task, &mut master, limit);
+            drop(master);
+            told
+        }
+        Err(_) => None,
+    }
+}
+
 /// What is answered on a program, whose blocks were taken apart.
 fn answered_on(
     alloc: Global,
@@ -129,9 +143,12 @@ fn answered_on(
         return None;
     };
     let Ok(bounds) = box_of(alloc, program, crossed) else {
+        drop(pool);
         return None;
     };
     if !fill(alloc, &mut pool, program, blocks, count) || bounds.len() != program.columns() {
+        drop(bounds);
+        drop(pool);
         return None;
     }
     let task = MasterTask {
@@ -140,14 +157,10 @@ fn answered_on(
         bounds: &bounds,
         pool: &pool,
     };
-    match Master::new(alloc, &task) {
-        Ok(mut master) => {
-            let told = answered_twice(alloc, &task, &mut master, limit);
-            drop(master);
-            told
-        }
-        Err(_) => None,
-    }
+    let told = answered_by(alloc, &task, limit);
+    drop(bounds);
+    drop(pool);
+    told
 }
 
 /// The same, with the blocks as they are read.
@@ -155,8 +168,14 @@ fn answered(alloc: Global, program: &Program, ask: Ask) -> Option<(Told, Told)> 
     let Ok(read) = read_blocks(alloc, BLOCKS.as_bytes(), program) else {
         return None;
     };
-    match Decomposed::new(alloc, program, &read) {
-        Ok(blocks) => answered_on(alloc, program, &blocks, ask),
+    let made = Decomposed::new(alloc, program, &read);
+    drop(read);
+    match made {
+        Ok(blocks) => {
+            let told = answered_on(alloc, program, &blocks, ask);
+            drop(blocks);
+            told
+        }
         Err(_) => None,
     }
 }

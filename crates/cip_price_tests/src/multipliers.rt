@@ -85,26 +85,44 @@ fn want(at: usize) -> Result<TreeBound, LagrangeFault> {
     }
 }
 
-/// The trees of the first block and of the second.
-fn two_trees(alloc: Global, trees: Trees) -> Option<(BoundTree, BoundTree)> {
-    let split = Shape::Emptied;
-    let (first, second) = match trees {
-        Trees::Split => (tree_of(alloc, split), tree_of(alloc, split)),
-        Trees::Boxes => (bound(alloc, 0), bound(alloc, 0)),
-        Trees::FirstUnproved => (empty(alloc, 0), tree_of(alloc, split)),
-        Trees::SecondUnproved => (tree_of(alloc, split), empty(alloc, 0)),
-        Trees::Emptied => (empty(alloc, -2), bound(alloc, 0)),
-        Trees::EmptiedUnproved => (empty(alloc, -2), empty(alloc, 0)),
-    };
-    Some((first?, second?))
+/// The tree of the first block.
+fn first_tree(alloc: Global, trees: Trees) -> Option<BoundTree> {
+    match trees {
+        Trees::Split | Trees::SecondUnproved => tree_of(alloc, Shape::Emptied),
+        Trees::Boxes => bound(alloc, 0),
+        Trees::FirstUnproved => empty(alloc, 0),
+        Trees::Emptied | Trees::EmptiedUnproved => empty(alloc, -2),
+    }
+}
+
+/// The tree of the second block.
+fn second_tree(alloc: Global, trees: Trees) -> Option<BoundTree> {
+    match trees {
+        Trees::Split | Trees::FirstUnproved => tree_of(alloc, Shape::Emptied),
+        Trees::Boxes | Trees::Emptied => bound(alloc, 0),
+        Trees::SecondUnproved | Trees::EmptiedUnproved => empty(alloc, 0),
+    }
+}
+
+/// Adds a tree to a list; whether it is there.
+fn put_tree(list: &mut Vec<BoundTree>, tree: Option<BoundTree>) -> bool {
+    match tree {
+        Some(tree) => list.push(tree).is_ok(),
+        None => false,
+    }
 }
 
 /// The same in one list.
 fn listed(alloc: Global, trees: Trees) -> Option<Vec<BoundTree>> {
-    let (first, second) = two_trees(alloc, trees)?;
     let mut list = Vec::new(alloc);
-    let filled = list.push(first).is_ok() && list.push(second).is_ok();
-    if filled { Some(list) } else { None }
+    let filled = put_tree(&mut list, first_tree(alloc, trees))
+        && put_tree(&mut list, second_tree(alloc, trees));
+    if filled {
+        Some(list)
+    } else {
+        drop(list);
+        None
+    }
 }
 
 /// The box of a program; with x1 and x2 at 1, where the first tree rests on that.
@@ -143,6 +161,48 @@ fn bounded(
     Some(lagrange(program, blocks, bounds, &multipliers, trees, scratch))
 }
 
+/// What is answered for trees in a box, in a scratch of its own.
+fn answer_for(
+    alloc: Global,
+    program: &Program,
+    blocks: &Decomposed,
+    bounds: &Bounds,
+    multiplier: i64,
+    trees: &[BoundTree],
+) -> Option<Result<TreeBound, LagrangeFault>>
+    requires { IsDecompositionOf program.now blocks.now }
+{
+    match LagrangeScratch::new(alloc, program, blocks) {
+        Ok(mut scratch) => {
+            let told = bounded(program, blocks, bounds, multiplier, trees, &mut scratch);
+            drop(scratch);
+            told
+        }
+        Err(_) => None,
+    }
+}
+
+/// What is answered on a program, whose blocks were taken apart.
+fn answer_with(
+    alloc: Global,
+    program: &Program,
+    blocks: &Decomposed,
+    multiplier: i64,
+    trees: Trees,
+) -> Option<Result<TreeBound, LagrangeFault>>
+    requires { IsDecompositionOf program.now blocks.now }
+{
+    let list = listed(alloc, trees)?;
+    let Ok(bounds) = box_of(alloc, program, trees) else {
+        drop(list);
+        return None;
+    };
+    let told = answer_for(alloc, program, blocks, &bounds, multiplier, list.as_slice());
+    drop(bounds);
+    drop(list);
+    told
+}
+
 /// What is answered on a program.
 fn answer_on(
     alloc: Global,
@@ -150,27 +210,19 @@ fn answer_on(
     multiplier: i64,
     trees: Trees,
 ) -> Option<Result<TreeBound, LagrangeFault>> {
-    let list = listed(alloc, trees)?;
-    let Ok(bounds) = box_of(alloc, program, trees) else {
-        return None;
-    };
     let Ok(read) = read_blocks(alloc, BLOCKS.as_bytes(), program) else {
         return None;
     };
-    let Ok(blocks) = Decomposed::new(alloc, program, &read) else {
-        return None;
-    };
-    let Ok(mut scratch) = LagrangeScratch::new(alloc, program, &blocks) else {
-        return None;
-    };
-    bounded(
-        program,
-        &blocks,
-        &bounds,
-        multiplier,
-        list.as_slice(),
-        &mut scratch,
-    )
+    let made = Decomposed::new(alloc, program, &read);
+    drop(read);
+    match made {
+        Ok(blocks) => {
+            let told = answer_with(alloc, program, &blocks, multiplier, trees);
+            drop(blocks);
+            told
+        }
+        Err(_) => None,
+    }
 }
 
 /// What is answered, where the program is read.

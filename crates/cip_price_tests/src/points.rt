@@ -42,7 +42,11 @@ fn becomes(
     ensures { ArePoolPoints program.now blocks.now pool.new }
 {
     match point(alloc, halves) {
-        Some(point) => offered(pool, program, blocks, 1, &point) == Some(want),
+        Some(point) => {
+            let came = offered(pool, program, blocks, 1, &point);
+            drop(point);
+            came == Some(want)
+        }
         None => false,
     }
 }
@@ -82,20 +86,36 @@ fn first_wrong(
 }
 
 /// The same behind the five points that are held before.
+fn wrong_with(alloc: Global, program: &Program, blocks: &Decomposed) -> Option<usize>
+    requires { IsDecompositionOf program.now blocks.now }
+{
+    let Ok(mut pool) = ColumnPool::new(alloc) else {
+        return Some(12);
+    };
+    let wrong = if fill(alloc, &mut pool, program, blocks, 5) {
+        first_wrong(alloc, &mut pool, program, blocks)
+    } else {
+        Some(13)
+    };
+    drop(pool);
+    wrong
+}
+
+/// The same with the blocks as they are read.
 fn wrong(alloc: Global, program: &Program) -> Option<usize> {
     let Ok(read) = read_blocks(alloc, BLOCKS.as_bytes(), program) else {
         return Some(10);
     };
-    let Ok(blocks) = Decomposed::new(alloc, program, &read) else {
-        return Some(11);
-    };
-    let Ok(mut pool) = ColumnPool::new(alloc) else {
-        return Some(12);
-    };
-    if !fill(alloc, &mut pool, program, &blocks, 5) {
-        return Some(13);
+    let made = Decomposed::new(alloc, program, &read);
+    drop(read);
+    match made {
+        Ok(blocks) => {
+            let wrong = wrong_with(alloc, program, &blocks);
+            drop(blocks);
+            wrong
+        }
+        Err(_) => Some(11),
     }
-    first_wrong(alloc, &mut pool, program, &blocks)
 }
 
 #[test]
@@ -103,6 +123,7 @@ fn points_are_judged(rt: HostRuntime) {
     match read_lp(rt.alloc(), PLAIN.as_bytes()) {
         Ok(program) => {
             let wrong = wrong(rt.alloc(), &program);
+            drop(program);
             assert!(rt; wrong == None, "{wrong:?}");
         }
         Err(_) => assert!(rt; false, "the program isn't read"),

@@ -94,17 +94,28 @@ fn branched(
         return Ok(None);
     };
     let mut walk = Walk::new(alloc, costs.len())?;
-    let tree = grow(alloc, part, costs, 0, &mut walk)?;
+    let tree = match grow(alloc, part, costs, 0, &mut walk) {
+        Ok(tree) => tree,
+        Err(error) => {
+            drop(walk);
+            return Err(error);
+        }
+    };
     let Walk {
         values: _values,
         least: _least,
         best,
     } = walk;
-    let points = points_of(alloc, best)?;
-    Ok(Some(Priced {
-        points,
-        tree: Some(tree),
-    }))
+    match points_of(alloc, best) {
+        Ok(points) => Ok(Some(Priced {
+            points,
+            tree: Some(tree),
+        })),
+        Err(error) => {
+            drop(tree);
+            Err(error)
+        }
+    }
 }
 
 impl AskPricer for Branching<'_> {

@@ -114,10 +114,12 @@ pub fn priced_in<A: AskPricer>(
         blocks,
         bounds,
     };
-    match price(alloc, &task, &mut pool, asker, limits) {
+    let told = match price(alloc, &task, &mut pool, asker, limits) {
         Ok(answer) => Some(outcome_of(answer)),
         Err(_) => None,
-    }
+    };
+    drop(pool);
+    told
 }
 
 /// The same in its own box.
@@ -137,18 +139,38 @@ pub fn priced<A: AskPricer>(
 fn answer(alloc: Global, value: Frac) -> Result<Priced, AllocError> {
     let values = vec![in alloc; value; 2]?;
     let mut points = Vec::new(alloc);
-    points.push(BlockPoint { values })?;
-    Ok(Priced { points, tree: None })
+    match points.push(BlockPoint { values }) {
+        Ok(()) => Ok(Priced { points, tree: None }),
+        Err(error) => {
+            drop(points);
+            Err(error.into())
+        }
+    }
+}
+
+/// Adds such an answer to a list.
+fn put_answer(alloc: Global, answers: &mut Vec<Priced>, value: Frac) -> Result<(), AllocError> {
+    let one = answer(alloc, value)?;
+    answers.push(one)?;
+    Ok(())
+}
+
+/// Adds two such answers to a list.
+fn put_two(alloc: Global, answers: &mut Vec<Priced>, value: Frac) -> Result<(), AllocError> {
+    put_answer(alloc, answers, value)?;
+    put_answer(alloc, answers, value)
 }
 
 /// A list of two such answers.
 fn listed(alloc: Global, value: Frac) -> Result<Listed, AllocError> {
-    let first = answer(alloc, value)?;
-    let second = answer(alloc, value)?;
     let mut answers = Vec::new(alloc);
-    answers.push(first)?;
-    answers.push(second)?;
-    Ok(Listed { answers })
+    match put_two(alloc, &mut answers, value) {
+        Ok(()) => Ok(Listed { answers }),
+        Err(error) => {
+            drop(answers);
+            Err(error)
+        }
+    }
 }
 
 /// What such a list comes to.
@@ -162,7 +184,11 @@ fn asked_listed(
     requires { IsDecompositionOf program.now blocks.now }
 {
     match listed(alloc, value) {
-        Ok(mut listed) => priced(alloc, program, blocks, &mut listed, limits),
+        Ok(mut listed) => {
+            let told = priced(alloc, program, blocks, &mut listed, limits);
+            drop(listed);
+            told
+        }
         Err(_) => None,
     }
 }
@@ -191,8 +217,14 @@ fn answered(alloc: Global, program: &Program, ask: Ask) -> Option<Told> {
     let Ok(read) = read_blocks(alloc, blocks.as_bytes(), program) else {
         return None;
     };
-    match Decomposed::new(alloc, program, &read) {
-        Ok(blocks) => asked(alloc, program, &blocks, who, PriceLimits { rounds, moves }),
+    let made = Decomposed::new(alloc, program, &read);
+    drop(read);
+    match made {
+        Ok(blocks) => {
+            let told = asked(alloc, program, &blocks, who, PriceLimits { rounds, moves });
+            drop(blocks);
+            told
+        }
         Err(_) => None,
     }
 }

@@ -67,6 +67,7 @@ fn half_of_three(alloc: Global) -> Option<Row> {
     if filled && row.append(Term { col: 1, coef }).is_ok() {
         Some(row)
     } else {
+        drop(row);
         None
     }
 }
@@ -98,14 +99,24 @@ fn nothing(alloc: Global) -> Option<Task> {
     }
 }
 
+/// Adds two whole columns from 0 to a number with the costs -2 and -1, and a row; whether they are there.
+fn add_two(task: &mut Task, row: Row, high: i64) -> bool {
+    task.own.push(row).is_ok()
+        && put_column(task, true, high, -2)
+        && put_column(task, true, high, -1)
+}
+
 /// Two whole columns from 0 to a number with the costs -2 and -1, where 2 x + 2 y is at most 3.
 pub fn two_columns(alloc: Global, high: i64) -> Option<Task> {
     let row = half_of_three(alloc)?;
-    let mut task = nothing(alloc)?;
-    let filled = put_column(&mut task, true, high, -2) && put_column(&mut task, true, high, -1);
-    if filled && task.own.push(row).is_ok() {
+    let Some(mut task) = nothing(alloc) else {
+        drop(row);
+        return None;
+    };
+    if add_two(&mut task, row, high) {
         Some(task)
     } else {
+        drop(task);
         None
     }
 }
@@ -121,6 +132,7 @@ pub fn semi_column(alloc: Global) -> Option<Task> {
     if filled && task.region.choices.push(Choice::open(own)).is_ok() {
         Some(task)
     } else {
+        drop(task);
         None
     }
 }
@@ -160,6 +172,11 @@ pub fn empty(alloc: Global, count: i128) -> Option<BoundTree> {
     Some(BoundTree::Empty(combo(alloc, count)?))
 }
 
+/// A tree in a box of its own.
+fn boxed(alloc: Global, tree: Option<BoundTree>) -> Option<Box<BoundTree>> {
+    Box::new(alloc, tree?).ok()
+}
+
 /// A split with these halves.
 pub fn split(
     alloc: Global,
@@ -168,7 +185,13 @@ pub fn split(
     low: Option<BoundTree>,
     high: Option<BoundTree>,
 ) -> Option<BoundTree> {
-    let low = Box::new(alloc, low?).ok()?;
-    let high = Box::new(alloc, high?).ok()?;
+    let Some(low) = boxed(alloc, low) else {
+        drop(high);
+        return None;
+    };
+    let Some(high) = boxed(alloc, high) else {
+        drop(low);
+        return None;
+    };
     Some(BoundTree::Split { col, at, low, high })
 }

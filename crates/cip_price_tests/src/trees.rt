@@ -93,10 +93,19 @@ fn answers(
     scratch: &mut Scratch,
     want: &Result<TreeBound, TreeFault>,
 ) -> bool {
-    let (Some(mut task), Some(tree)) = (task, tree) else {
+    let Some(mut task) = task else {
+        drop(tree);
         return false;
     };
-    answers_once(&mut task, &tree, scratch, want) && answers_once(&mut task, &tree, scratch, want)
+    let Some(tree) = tree else {
+        drop(task);
+        return false;
+    };
+    let is_so = answers_once(&mut task, &tree, scratch, want)
+        && answers_once(&mut task, &tree, scratch, want);
+    drop(tree);
+    drop(task);
+    is_so
 }
 
 /// The first shape whose check answers something else.
@@ -153,10 +162,11 @@ fn trees_bound(rt: HostRuntime) {
     match Scratch::new(rt.alloc(), 2) {
         Ok(mut scratch) => {
             let wrong = first_wrong(rt.alloc(), &mut scratch);
-            assert!(rt; wrong == None, "{wrong:?}");
             let deep = depths_are_kept(rt.alloc(), &mut scratch);
-            assert!(rt; deep);
             let made = choices_are_made(rt.alloc(), &mut scratch);
+            drop(scratch);
+            assert!(rt; wrong == None, "{wrong:?}");
+            assert!(rt; deep);
             assert!(rt; made);
         }
         Err(_) => assert!(rt; false, "there is no memory"),

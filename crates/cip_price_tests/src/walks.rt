@@ -153,14 +153,25 @@ fn split(
     low: BoundTree,
     high: BoundTree,
 ) -> Result<BoundTree, AllocError> {
-    let low = Box::new(alloc, low)?;
-    let high = Box::new(alloc, high)?;
-    Ok(BoundTree::Split {
-        col,
-        at: 0,
-        low,
-        high,
-    })
+    let low = match Box::new(alloc, low) {
+        Ok(low) => low,
+        Err(error) => {
+            drop(high);
+            return Err(error.into());
+        }
+    };
+    match Box::new(alloc, high) {
+        Ok(high) => Ok(BoundTree::Split {
+            col,
+            at: 0,
+            low,
+            high,
+        }),
+        Err(error) => {
+            drop(low);
+            Err(error.into())
+        }
+    }
 }
 
 /// The tree of the points with the values at hand of the columns before a first one.
@@ -180,6 +191,11 @@ pub fn grow(
     walk.set(first, Frac::zero());
     let low = grow(alloc, part, costs, first + 1, walk)?;
     walk.set(first, Frac::one());
-    let high = grow(alloc, part, costs, first + 1, walk)?;
-    split(alloc, first, low, high)
+    match grow(alloc, part, costs, first + 1, walk) {
+        Ok(high) => split(alloc, first, low, high),
+        Err(error) => {
+            drop(low);
+            Err(error)
+        }
+    }
 }

@@ -225,8 +225,10 @@ fn holds(alloc: Global, case: Case) -> bool {
     let Some(program) = program_of(alloc, case.text) else {
         return false;
     };
-    is_so(alloc, presolve(alloc, &program), case.any)
-        && is_so(alloc, presolve_all(alloc, &program), case.all)
+    let are_so = is_so(alloc, presolve(alloc, &program), case.any)
+        && is_so(alloc, presolve_all(alloc, &program), case.all);
+    drop(program);
+    are_so
 }
 
 /// The first case that is wrong; their number where there is none.

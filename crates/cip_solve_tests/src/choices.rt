@@ -1,6 +1,6 @@
 //! Random programs with semi-continuous columns: the search of each ends as plain enumeration of its choices does.
 use crate::drawn::{HIGHS, RIGHT_SIDES, Sheet, Words, word};
-use crate::endings::{Ending, searched};
+use crate::endings::{Ending, end_of_search};
 use crate::programs::program_of;
 use cip_frac::Frac;
 use std::alloc::Global;
@@ -39,6 +39,24 @@ const RECORDS: Words = [
 struct Column {
     name: &'static str,
     bit: u64,
+}
+
+impl Column {
+    /// Its record and its high side, where these are drawn for a plain one.
+    fn record(
+        self,
+        semi: u64,
+        on: Option<u64>,
+        drawn: &'static str,
+        high: &'static str,
+    ) -> (&'static str, &'static str) {
+        match on {
+            _ if semi & self.bit == 0 => (drawn, high),
+            None => ("SC", high),
+            Some(on) if on & self.bit == 0 => ("FX", "0"),
+            Some(_) => ("UP", high),
+        }
+    }
 }
 
 const COLUMNS: [Column; 5] = [
@@ -140,12 +158,7 @@ impl Draws {
         let low = self.word(&LOWS);
         let drawn = self.word(&RECORDS);
         let high = self.word(&HIGHS);
-        let (record, high) = match on {
-            _ if semi & column.bit == 0 => (drawn, high),
-            None => ("SC", high),
-            Some(on) if on & column.bit == 0 => ("FX", "0"),
-            Some(_) => ("UP", high),
-        };
+        let (record, high) = column.record(semi, on, drawn, high);
         sheet.put(&[" LO B ", column.name, " ", low, "\n"]);
         sheet.put(&[" ", record, " B ", column.name, " ", high, "\n"]);
     }
@@ -176,7 +189,8 @@ impl Draws {
 fn searched_text(alloc: Global, text: &str) -> Ending {
     match program_of(alloc, text) {
         Some(program) => {
-            let (ending, _) = searched(alloc, &program);
+            let ending = end_of_search(alloc, &program);
+            drop(program);
             ending
         }
         None => Ending::Other,
@@ -187,10 +201,12 @@ fn searched_text(alloc: Global, text: &str) -> Ending {
 fn searched_with(alloc: Global, number: u64, on: Option<u64>) -> Ending {
     let mut sheet = Sheet::empty(alloc);
     Draws::of(number).put_program(&mut sheet, on);
-    match sheet.text() {
+    let ending = match sheet.text() {
         Some(text) => searched_text(alloc, text),
         None => Ending::Other,
-    }
+    };
+    drop(sheet);
+    ending
 }
 
 /// A search comes to this cost, or to a lower one.

@@ -60,3 +60,10 @@ pub(crate) fn searched(alloc: Global, program: &Program) -> (Ending, Option<Held
     drop(same);
     told_by(answer)
 }
+
+/// What a search of a program by itself ends with.
+pub(crate) fn end_of_search(alloc: Global, program: &Program) -> Ending {
+    let (ending, held) = searched(alloc, program);
+    drop(held);
+    ending
+}

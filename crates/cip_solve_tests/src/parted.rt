@@ -148,18 +148,16 @@ fn comes_to(
     requires room { HaveRoom scratches.old (columns (reduced_of core.old)) }
 {
     if core.tree().ids() != 1 || !has_wholes(core, &node) {
+        drop(node);
         return false;
     }
     let given = node.bound();
-    let came = judge(
-        alloc,
-        core,
-        node,
-        given,
-        &proposal_of(case, is_rule),
-        scratches,
-    );
-    is_expected(&came, fault_as(case.expected)) && has_entry(core, &came)
+    let proposal = proposal_of(case, is_rule);
+    let came = judge(alloc, core, node, given, &proposal, scratches);
+    drop(proposal);
+    let is_so = is_expected(&came, fault_as(case.expected)) && has_entry(core, &came);
+    drop(came);
+    is_so
 }
 
 /// Makes the region of a node the region in work, and splits it.
@@ -168,12 +166,18 @@ fn is_split(alloc: Global, core: &mut Core<'_>, node: Node, case: &Case, is_rule
     requires given { IsGivenBound core.old node.number node.bound }
 {
     let Ok(mut scratches) = Scratches::new(alloc, core.reduced()) else {
+        drop(node);
         return false;
     };
-    match core.enter(&node) {
+    let is_so = match core.enter(&node) {
         Ok(true) => comes_to(alloc, core, node, &mut scratches, case, is_rule),
-        _ => false,
-    }
+        _ => {
+            drop(node);
+            false
+        }
+    };
+    drop(scratches);
+    is_so
 }
 
 /// Takes up the root, and splits it.

@@ -1,7 +1,7 @@
 //! Random programs: the search of the reduced program ends as that of the whole one does, and its point comes back as a
 //! feasible one of equal cost.
 use crate::drawn::Sheet;
-use crate::endings::{Ending, searched};
+use crate::endings::{Ending, end_of_search, searched};
 use crate::programs::program_of;
 use cip_model::{Program, Verdict};
 use cip_presolve::{PresolveEnd, Presolved, postsolve, presolve, presolve_all};
@@ -25,13 +25,13 @@ fn comes_back(alloc: Global, program: &Program, presolved: &Presolved, held: &He
 /// The search of a reduced program ends so, and what it holds comes back.
 fn ends_so(alloc: Global, program: &Program, presolved: &Presolved, ending: Ending) -> bool {
     let (reduced, best) = searched(alloc, &presolved.reduced);
-    if reduced != ending {
-        return false;
-    }
-    match &best {
+    let is_so = match &best {
+        _ if reduced != ending => false,
         None => true,
         Some(held) => comes_back(alloc, program, presolved, held),
-    }
+    };
+    drop(best);
+    is_so
 }
 
 /// What presolve answers agrees with what the search of the whole program ends with.
@@ -52,19 +52,28 @@ fn agrees(
     }
 }
 
+/// The program of a number.
+fn drawn(alloc: Global, number: u64) -> Option<Program> {
+    let sheet = Sheet::new(alloc, number);
+    let program = match sheet.text() {
+        Some(text) => program_of(alloc, text),
+        None => None,
+    };
+    drop(sheet);
+    program
+}
+
 /// Both presolves of the program of a number agree with its search.
 fn both_agree(alloc: Global, number: u64) -> bool {
-    let sheet = Sheet::new(alloc, number);
-    let Some(text) = sheet.text() else {
+    let Some(program) = drawn(alloc, number) else {
         return false;
     };
-    let Some(program) = program_of(alloc, text) else {
-        return false;
-    };
-    let (ending, _) = searched(alloc, &program);
-    ending != Ending::Other
+    let ending = end_of_search(alloc, &program);
+    let is_so = ending != Ending::Other
         && agrees(alloc, &program, presolve(alloc, &program), ending)
-        && agrees(alloc, &program, presolve_all(alloc, &program), ending)
+        && agrees(alloc, &program, presolve_all(alloc, &program), ending);
+    drop(program);
+    is_so
 }
 
 /// The first program of which one doesn't; their number where there is none.
