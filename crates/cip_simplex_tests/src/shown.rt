@@ -177,21 +177,34 @@ fn are_expected(
     }
     let problem = Problem::of_rows(rows, &parts.bounds, costs);
     let first = show(alloc, basis, &problem, scratch)?;
+    let is_first = is_expected(&first, expected);
+    drop(first);
     let second = show(alloc, basis, &problem, scratch)?;
+    let is_second = is_expected(&second, expected);
+    drop(second);
     let safe = safe_bound(alloc, basis, &problem, scratch)?;
-    Ok(is_expected(&first, expected) && is_expected(&second, expected) && is_safe(&safe, expected))
+    let is_bounded = is_safe(&safe, expected);
+    drop(safe);
+    Ok(is_first && is_second && is_bounded)
 }
 
 /// What a new basis shows of a program.
 fn show_new(alloc: Global, parts: &Posed, expected: Expected) -> Result<bool, AllocError> {
     let mut scratch = Scratch::new(alloc, 8)?;
     let mut basis = Basis::new(alloc);
-    are_expected(alloc, &mut basis, parts, &mut scratch, expected)
+    let is_so = are_expected(alloc, &mut basis, parts, &mut scratch, expected);
+    drop(basis);
+    drop(scratch);
+    is_so
 }
 
 fn is_shown(alloc: Global, case: &Case) -> bool {
     match pose(alloc, &case.program) {
-        Some(parts) => show_new(alloc, &parts, case.expected) == Ok(true),
+        Some(parts) => {
+            let is_so = show_new(alloc, &parts, case.expected) == Ok(true);
+            drop(parts);
+            is_so
+        }
         None => false,
     }
 }
