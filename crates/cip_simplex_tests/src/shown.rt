@@ -1,4 +1,7 @@
 //! What is shown of linear programs, one after another from one basis.
+ghost use Rattle.std.specs.Prelude.{◌≡◌, ◌≤◌, length};
+ghost use Rattle.cip_basis.specs.Shown.{IsReady};
+
 use crate::programs::{Between, FROM_ZERO, Posed, Written, pose};
 use cip_basis::{Basis, Problem, Safe, Shown, safe_bound, show};
 use cip_cert::Scratch;
@@ -160,6 +163,24 @@ fn is_safe(found: &Option<Safe>, expected: Expected) -> bool {
     }
 }
 
+/// Whether a basis shows of a program what is expected.
+fn shows(
+    alloc: Global,
+    basis: &mut Basis,
+    problem: &Problem<'_>,
+    scratch: &mut Scratch,
+    expected: Expected,
+) -> Result<bool, AllocError>
+    requires ready { IsReady problem.now }
+    requires room { length problem.now.bounds.now ≤ length scratch.old.row.entries }
+    ensures room { length scratch.new.row.entries ≡ length scratch.old.row.entries }
+{
+    let found = show(alloc, basis, problem, scratch)?;
+    let is_so = is_expected(&found, expected);
+    drop(found);
+    Ok(is_so)
+}
+
 /// What a basis shows of a program twice, the second time from where the first ended, and by rounded multipliers.
 fn are_expected(
     alloc: Global,
@@ -176,12 +197,8 @@ fn are_expected(
         return Ok(false);
     }
     let problem = Problem::of_rows(rows, &parts.bounds, costs);
-    let first = show(alloc, basis, &problem, scratch)?;
-    let is_first = is_expected(&first, expected);
-    drop(first);
-    let second = show(alloc, basis, &problem, scratch)?;
-    let is_second = is_expected(&second, expected);
-    drop(second);
+    let is_first = shows(alloc, basis, &problem, scratch, expected)?;
+    let is_second = shows(alloc, basis, &problem, scratch, expected)?;
     let safe = safe_bound(alloc, basis, &problem, scratch)?;
     let is_bounded = is_safe(&safe, expected);
     drop(safe);
@@ -211,7 +228,8 @@ fn is_shown(alloc: Global, case: &Case) -> bool {
 
 #[test]
 fn bases_show(rt: HostRuntime) {
-    for at in 0..CASES.len() {
-        assert!(rt; is_shown(rt.alloc(), &CASES[at]), "case {at}");
+    let cases: &[Case] = &CASES;
+    for at in 0..cases.len() {
+        assert!(rt; is_shown(rt.alloc(), &cases[at]), "case {at}");
     }
 }

@@ -4,7 +4,7 @@ use crate::steps::{Step, first_wrong};
 use cip_dict::Spare;
 use cip_frac::Frac;
 use cip_lin::Sides;
-use std::alloc::{AllocError, Global};
+use std::alloc::Global;
 
 /// A low and a high side.
 type Between = (i64, Option<i64>);
@@ -205,25 +205,50 @@ fn sides((low, high): Between) -> Sides {
     }
 }
 
+/// Puts rows into a program.
+fn put_rows(program: &mut Program, rows: &[Between]) -> bool {
+    for row in rows {
+        if program.rows.push(sides(*row)).is_err() {
+            return false;
+        }
+    }
+    true
+}
+
+/// Puts columns of cost 1 into a program.
+fn put_columns(program: &mut Program, columns: &[Between]) -> bool {
+    for column in columns {
+        if program.columns.push(sides(*column)).is_err()
+            || program.costs.push(Frac::one()).is_err()
+        {
+            return false;
+        }
+    }
+    true
+}
+
+/// Puts entries into a program.
+fn put_entries(program: &mut Program, entries: &[(u32, u32, i64)]) -> bool {
+    for (row, column, number) in entries {
+        let entry = (*row, *column, Frac::from(*number));
+        if program.entries.push(entry).is_err() {
+            return false;
+        }
+    }
+    true
+}
+
 /// Puts a case into a program that is empty.
-fn put(program: &mut Program, case: &Case) -> Result<(), AllocError> {
-    for row in case.rows {
-        program.rows.push(sides(*row))?;
-    }
-    for column in case.columns {
-        program.columns.push(sides(*column))?;
-        program.costs.push(Frac::one())?;
-    }
-    for (row, column, number) in case.entries {
-        program.entries.push((*row, *column, Frac::from(*number)))?;
-    }
-    Ok(())
+fn is_put(program: &mut Program, case: &Case) -> bool {
+    put_rows(program, case.rows)
+        && put_columns(program, case.columns)
+        && put_entries(program, case.entries)
 }
 
 /// All steps of a case are so. Its lists are those that are spare, and then are spare again.
 fn is_so(alloc: Global, spare: &mut Spare, case: &Case) -> bool {
     let mut program = Program::new(alloc);
-    if put(&mut program, case).is_err() {
+    if !is_put(&mut program, case) {
         drop(program);
         return false;
     }
@@ -252,7 +277,8 @@ fn first_unlike(alloc: Global, spare: &mut Spare, cases: &[Case]) -> usize {
 #[test]
 fn states_are_as_worked_out(rt: HostRuntime) {
     let mut spare = Spare::new(rt.alloc());
-    let unlike = first_unlike(rt.alloc(), &mut spare, &CASES);
+    let cases: &[Case] = &CASES;
+    let unlike = first_unlike(rt.alloc(), &mut spare, cases);
     drop(spare);
-    assert_eq!(rt; unlike, CASES.len());
+    assert_eq!(rt; unlike, cases.len());
 }

@@ -99,18 +99,25 @@ fn is_split_by_choice(tree: &mut Tree) -> bool
     is_so
 }
 
-/// The next node is the root, at most 2.
-fn gives_back_the_root(tree: &mut Tree) -> bool
+/// The next node has this number and these sides of the first column.
+fn is_next(tree: &mut Tree, number: u64, sides: Sides) -> bool
     requires columns { length tree.old.root.box ≡ 2 }
 {
     match tree.next() {
-        Some(again) => {
-            let is_so = is_node(tree, &again, 0, between(0, 2));
-            drop(again);
+        Some(node) => {
+            let is_so = is_node(tree, &node, number, sides);
+            drop(node);
             is_so
         }
         None => false,
     }
+}
+
+/// The next node is the root, at most 2.
+fn gives_back_the_root(tree: &mut Tree) -> bool
+    requires columns { length tree.old.root.box ≡ 2 }
+{
+    is_next(tree, 0, between(0, 2))
 }
 
 /// The root is noted to be at most 2 and then at most 3, and put back: it stays at most 2.
@@ -181,21 +188,7 @@ fn keeps_its_side(tree: &mut Tree) -> bool
     }
     let is_split = split(tree, &root, 1, 0, 1) == Some(Ok((1, 2)));
     drop(root);
-    is_split && has_its_low_half(tree)
-}
-
-/// The next node is the low half, which is 1.
-fn has_its_low_half(tree: &mut Tree) -> bool
-    requires columns { length tree.old.root.box ≡ 2 }
-{
-    match tree.next() {
-        Some(low) => {
-            let is_so = is_node(tree, &low, 1, between(1, 1));
-            drop(low);
-            is_so
-        }
-        None => false,
-    }
+    is_split && is_next(tree, 1, between(1, 1))
 }
 
 /// What the three come to.
@@ -217,14 +210,7 @@ fn has_its_side_again(tree: &mut Tree) -> bool
     let is_back = is_node(tree, &low, 1, between(0, 1)) && is_node(tree, &high, 2, between(2, 2));
     drop(low);
     tree.put_back(high);
-    match tree.next() {
-        Some(again) => {
-            let is_so = is_tighter && is_back && is_node(tree, &again, 2, between(2, 2));
-            drop(again);
-            is_so
-        }
-        None => false,
-    }
+    is_tighter && is_back && is_next(tree, 2, between(2, 2))
 }
 
 /// Splits the root, of this bound, at 1 into nodes 1 and 2.
