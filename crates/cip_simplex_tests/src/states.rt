@@ -4,7 +4,7 @@ use crate::steps::{Step, first_wrong};
 use cip_dict::Spare;
 use cip_frac::Frac;
 use cip_lin::Sides;
-use std::alloc::Global;
+use std::alloc::{AllocError, Global};
 
 /// A low and a high side.
 type Between = (i64, Option<i64>);
@@ -205,50 +205,25 @@ fn sides((low, high): Between) -> Sides {
     }
 }
 
-/// Puts rows into a program.
-fn put_rows(program: &mut Program, rows: &[Between]) -> bool {
-    for row in rows {
-        if program.rows.push(sides(*row)).is_err() {
-            return false;
-        }
-    }
-    true
-}
-
-/// Puts columns of cost 1 into a program.
-fn put_columns(program: &mut Program, columns: &[Between]) -> bool {
-    for column in columns {
-        if program.columns.push(sides(*column)).is_err()
-            || program.costs.push(Frac::one()).is_err()
-        {
-            return false;
-        }
-    }
-    true
-}
-
-/// Puts entries into a program.
-fn put_entries(program: &mut Program, entries: &[(u32, u32, i64)]) -> bool {
-    for (row, column, number) in entries {
-        let entry = (*row, *column, Frac::from(*number));
-        if program.entries.push(entry).is_err() {
-            return false;
-        }
-    }
-    true
-}
-
 /// Puts a case into a program that is empty.
-fn is_put(program: &mut Program, case: &Case) -> bool {
-    put_rows(program, case.rows)
-        && put_columns(program, case.columns)
-        && put_entries(program, case.entries)
+fn put(program: &mut Program, case: &Case) -> Result<(), AllocError> {
+    for row in case.rows {
+        program.rows.push(sides(*row))?;
+    }
+    for column in case.columns {
+        program.columns.push(sides(*column))?;
+        program.costs.push(Frac::one())?;
+    }
+    for (row, column, number) in case.entries {
+        program.entries.push((*row, *column, Frac::from(*number)))?;
+    }
+    Ok(())
 }
 
 /// All steps of a case are so. Its lists are those that are spare, and then are spare again.
 fn is_so(alloc: Global, spare: &mut Spare, case: &Case) -> bool {
     let mut program = Program::new(alloc);
-    if !is_put(&mut program, case) {
+    if put(&mut program, case).is_err() {
         drop(program);
         return false;
     }
