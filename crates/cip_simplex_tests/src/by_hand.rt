@@ -140,7 +140,11 @@ fn is_solved(alloc: Global, solver: &mut Solver, program: Program<'_>, case: &Ca
     }
     let lp = Lp::new(program.rows, program.bounds, program.costs);
     match solve(alloc, solver, &lp, case.moves) {
-        Ok(found) => is_as(alloc, program, &found, case.want),
+        Ok(found) => {
+            let is_so = is_as(alloc, program, &found, case.want);
+            drop(found);
+            is_so
+        }
         Err(_) => false,
     }
 }
@@ -152,7 +156,11 @@ fn is_fully_solved(alloc: Global, solver: &mut Solver, program: Program<'_>, wan
     }
     let lp = Lp::new(program.rows, program.bounds, program.costs);
     match solve_fully(alloc, solver, &lp) {
-        Ok(found) => is_as(alloc, program, &found, want),
+        Ok(found) => {
+            let is_so = is_as(alloc, program, &found, want);
+            drop(found);
+            is_so
+        }
         Err(_) => false,
     }
 }
@@ -200,7 +208,12 @@ fn is_found_greedily(
     want: Want,
 ) -> bool {
     match found_greedily(alloc, solver, program, start, 100) {
-        Some((found, _last)) => is_found(alloc, program, &found, want),
+        Some((found, last)) => {
+            drop(last);
+            let is_so = is_found(alloc, program, &found, want);
+            drop(found);
+            is_so
+        }
         None => false,
     }
 }
@@ -208,7 +221,11 @@ fn is_found_greedily(
 /// With few moves, from the first state.
 fn is_quickly_solved(alloc: Global, solver: &mut Solver, program: Program<'_>, want: Want) -> bool {
     match first_start(alloc, program) {
-        Some(first) => is_found_greedily(alloc, solver, program, &first, want),
+        Some(first) => {
+            let is_so = is_found_greedily(alloc, solver, program, &first, want);
+            drop(first);
+            is_so
+        }
         None => false,
     }
 }
@@ -225,7 +242,11 @@ fn is_answered(alloc: Global, program: Program<'_>, case: &Case) -> bool {
 
 fn is_so(alloc: Global, case: &Case) -> bool {
     match pose(alloc, &case.program) {
-        Some(posed) => is_answered(alloc, posed.program(), case),
+        Some(posed) => {
+            let is_so = is_answered(alloc, posed.program(), case);
+            drop(posed);
+            is_so
+        }
         None => false,
     }
 }
@@ -252,14 +273,22 @@ fn start_behind(
     }
     let lp = Lp::new(program.rows, program.bounds, program.costs);
     let mut solver = Solver::new(alloc);
-    let Ok((found, last)) = solve_from(alloc, &mut solver, &lp, start, moves) else {
+    let behind = solve_from(alloc, &mut solver, &lp, start, moves);
+    drop(solver);
+    let Ok((found, last)) = behind else {
         return None;
     };
     let is_wanted = match want {
         Some(want) => is_as(alloc, program, &found, want),
         None => matches!(&found, LpAnswer::Limit),
     };
-    if is_wanted { Some(last) } else { None }
+    drop(found);
+    if is_wanted {
+        Some(last)
+    } else {
+        drop(last);
+        None
+    }
 }
 
 /// From the first state no move is made; then the optimum is found, and from there it is found without a move.
@@ -267,13 +296,21 @@ fn is_found_from_starts(alloc: Global, program: Program<'_>, want: Want) -> bool
     let Some(first) = first_start(alloc, program) else {
         return false;
     };
-    let Some(slack) = start_behind(alloc, program, &first, 0, None) else {
+    let same = start_behind(alloc, program, &first, 0, None);
+    drop(first);
+    let Some(slack) = same else {
         return false;
     };
-    let Some(last) = start_behind(alloc, program, &slack, 100, Some(want)) else {
+    let best = start_behind(alloc, program, &slack, 100, Some(want));
+    drop(slack);
+    let Some(last) = best else {
         return false;
     };
-    start_behind(alloc, program, &last, 0, Some(want)).is_some()
+    let end = start_behind(alloc, program, &last, 0, Some(want));
+    drop(last);
+    let is_so = end.is_some();
+    drop(end);
+    is_so
 }
 
 /// No move leads to no answer by the list.
@@ -283,21 +320,37 @@ fn is_list_limited(alloc: Global, program: Program<'_>) -> bool {
     }
     let lp = Lp::new(program.rows, program.bounds, program.costs);
     let mut solver = Solver::new(alloc);
-    matches!(solve(alloc, &mut solver, &lp, 0), Ok(LpAnswer::Limit))
+    let found = solve(alloc, &mut solver, &lp, 0);
+    drop(solver);
+    let is_so = matches!(&found, Ok(LpAnswer::Limit));
+    drop(found);
+    is_so
 }
 
 /// A start fits six variables, and can be made to fit eight.
 fn is_fitted(alloc: Global, start: &Start) -> bool {
     match start.fitted(alloc, 8) {
-        Ok(fitted) => fitted.len() == 8 && start.len() == 6,
+        Ok(fitted) => {
+            let is_so = fitted.len() == 8 && start.len() == 6;
+            drop(fitted);
+            is_so
+        }
         Err(_) => false,
     }
 }
 
 /// No move leads to no answer by the rule of few moves, and the start behind it fits.
 fn is_greedily_limited(alloc: Global, program: Program<'_>, first: &Start) -> bool {
-    match found_greedily(alloc, &mut Solver::new(alloc), program, first, 0) {
-        Some((found, start)) => found.is_none() && is_fitted(alloc, &start),
+    let mut solver = Solver::new(alloc);
+    let limited = found_greedily(alloc, &mut solver, program, first, 0);
+    drop(solver);
+    match limited {
+        Some((found, start)) => {
+            let is_so = found.is_none() && is_fitted(alloc, &start);
+            drop(found);
+            drop(start);
+            is_so
+        }
         None => false,
     }
 }
@@ -305,16 +358,24 @@ fn is_greedily_limited(alloc: Global, program: Program<'_>, first: &Start) -> bo
 /// No move leads to no answer, by either rule.
 fn is_limited(alloc: Global, program: Program<'_>) -> bool {
     match first_start(alloc, program) {
-        Some(first) => is_list_limited(alloc, program)
-            && is_greedily_limited(alloc, program, &first),
+        Some(first) => {
+            let is_so = is_list_limited(alloc, program)
+                && is_greedily_limited(alloc, program, &first);
+            drop(first);
+            is_so
+        }
         None => false,
     }
 }
 
 fn has_starts(alloc: Global) -> bool {
     match pose(alloc, &THREE_COLUMNS.program) {
-        Some(posed) => is_found_from_starts(alloc, posed.program(), THREE_COLUMNS.want)
-            && is_limited(alloc, posed.program()),
+        Some(posed) => {
+            let is_so = is_found_from_starts(alloc, posed.program(), THREE_COLUMNS.want)
+                && is_limited(alloc, posed.program());
+            drop(posed);
+            is_so
+        }
         None => false,
     }
 }
@@ -339,8 +400,11 @@ fn are_many_solved(alloc: Global) -> bool {
         Ok(mut posed) => {
             let mut solver = Solver::new(alloc);
             let nothing = Want::Optimal(&[], 1, (0, 1));
-            are_many_put(alloc, &mut posed)
-                && is_quickly_solved(alloc, &mut solver, posed.program(), nothing)
+            let is_so = are_many_put(alloc, &mut posed)
+                && is_quickly_solved(alloc, &mut solver, posed.program(), nothing);
+            drop(solver);
+            drop(posed);
+            is_so
         }
         Err(_) => false,
     }

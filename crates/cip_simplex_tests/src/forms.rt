@@ -206,7 +206,10 @@ fn goes_beside(
                 whole,
                 plain: &mut plain,
             };
-            pair.move_on(random, counts)
+            let is_so = pair.move_on(random, counts);
+            drop(pair);
+            drop(plain);
+            is_so
         }
         None => false,
     }
@@ -224,8 +227,12 @@ fn moves_alike(
         return false;
     }
     match program.first(alloc, spare) {
-        Some(mut whole) => add_great_column(program).is_ok()
-            && goes_beside(&mut whole, alloc, spare, program, random, counts),
+        Some(mut whole) => {
+            let is_so = add_great_column(program).is_ok()
+                && goes_beside(&mut whole, alloc, spare, program, random, counts);
+            drop(whole);
+            is_so
+        }
         None => false,
     }
 }
@@ -235,7 +242,9 @@ fn first_wrong(alloc: Global, spare: &mut Spare, counts: &mut Counts) -> u32 {
     let mut random = Random::new(20261127);
     for number in 0..1000 {
         let mut program = Program::new(alloc);
-        if !moves_alike(alloc, spare, &mut program, &mut random, counts) {
+        let is_so = moves_alike(alloc, spare, &mut program, &mut random, counts);
+        drop(program);
+        if !is_so {
             return number;
         }
     }
@@ -251,7 +260,9 @@ fn a_thousand_programs_move_alike_on_both_forms(rt: HostRuntime) {
         rows: 0,
         whole_rows: 0,
     };
-    assert_eq!(rt; first_wrong(rt.alloc(), &mut spare, &mut counts), 1000);
+    let wrong = first_wrong(rt.alloc(), &mut spare, &mut counts);
+    drop(spare);
+    assert_eq!(rt; wrong, 1000);
     let is_tried = counts.made > 3000 && counts.refused > 10;
     assert!(rt; is_tried && counts.whole_rows > counts.rows / 2);
 }

@@ -82,7 +82,11 @@ fn put_terms(row: &mut Row, coefficients: &[i64], under: i64) -> bool {
 fn put_rows(alloc: Global, posed: &mut Posed, lines: &[Line]) -> bool {
     for (coefficients, under, (low, high)) in lines {
         let mut row = Row::empty(alloc, side(*low, *under), side(*high, *under));
-        if !put_terms(&mut row, coefficients, *under) || posed.rows.push(row).is_err() {
+        if !put_terms(&mut row, coefficients, *under) {
+            drop(row);
+            return false;
+        }
+        if posed.rows.push(row).is_err() {
             return false;
         }
     }
@@ -114,6 +118,7 @@ pub(crate) fn pose(alloc: Global, written: &Written) -> Option<Posed> {
             if is_put(alloc, &mut posed, written) {
                 Some(posed)
             } else {
+                drop(posed);
                 None
             }
         }

@@ -45,7 +45,11 @@ impl Random {
         for _ in 0..self.below(9) {
             let sides = self.sides(3);
             let mut row = Row::empty(alloc, sides.low, sides.high);
-            if self.fill_row(&mut row, columns).is_err() || posed.rows.push(row).is_err() {
+            if self.fill_row(&mut row, columns).is_err() {
+                drop(row);
+                return false;
+            }
+            if posed.rows.push(row).is_err() {
                 return false;
             }
         }
@@ -128,10 +132,15 @@ fn is_few_alike(
     requires { length start.now ≡ variables lp.now }
 {
     match solve_greedily(alloc, solver, lp, start, 10000) {
-        Ok((other, _last)) => match other {
-            Some(other) => is_like(alloc, program, &other, found),
-            None => false,
-        },
+        Ok((other, last)) => {
+            drop(last);
+            let is_so = match &other {
+                Some(other) => is_like(alloc, program, other, found),
+                None => false,
+            };
+            drop(other);
+            is_so
+        }
         Err(_) => false,
     }
 }
@@ -148,7 +157,12 @@ fn is_begun_alike(
     requires { length start.now ≡ variables lp.now }
 {
     match solve_from(alloc, solver, lp, start, 10000) {
-        Ok((other, _last)) => is_like(alloc, program, &other, found),
+        Ok((other, last)) => {
+            drop(last);
+            let is_so = is_like(alloc, program, &other, found);
+            drop(other);
+            is_so
+        }
         Err(_) => false,
     }
 }
@@ -164,9 +178,13 @@ fn are_alike(
     requires { length start.now ≡ variables lp.now }
 {
     match solve(alloc, solver, lp, 10000) {
-        Ok(found) => is_right(alloc, program, &found)
-            && is_few_alike(alloc, solver, lp, program, start, &found)
-            && is_begun_alike(alloc, solver, lp, program, start, &found),
+        Ok(found) => {
+            let is_so = is_right(alloc, program, &found)
+                && is_few_alike(alloc, solver, lp, program, start, &found)
+                && is_begun_alike(alloc, solver, lp, program, start, &found);
+            drop(found);
+            is_so
+        }
         Err(_) => false,
     }
 }
@@ -184,15 +202,23 @@ fn is_solved(
     let lp = Lp::new(program.rows, program.bounds, program.costs);
     let len = program.bounds.len() + program.rows.len();
     match random.start(alloc, len) {
-        Some(start) if start.len() == len => are_alike(alloc, solver, &lp, program, &start),
-        _ => false,
+        Some(start) => {
+            let is_so = start.len() == len && are_alike(alloc, solver, &lp, program, &start);
+            drop(start);
+            is_so
+        }
+        None => false,
     }
 }
 
 fn is_answered(alloc: Global, solver: &mut Solver, random: &mut Random) -> bool {
     match Posed::new(alloc) {
-        Ok(mut posed) => random.fill(alloc, &mut posed)
-            && is_solved(alloc, solver, random, posed.program()),
+        Ok(mut posed) => {
+            let is_so = random.fill(alloc, &mut posed)
+                && is_solved(alloc, solver, random, posed.program());
+            drop(posed);
+            is_so
+        }
         Err(_) => false,
     }
 }

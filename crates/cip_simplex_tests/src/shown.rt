@@ -1,4 +1,7 @@
 //! What is shown of linear programs, one after another from one basis.
+ghost use Rattle.std.specs.Prelude.{◌≡◌, ◌≤◌, length};
+ghost use Rattle.cip_basis.specs.Shown.{IsReady};
+
 use crate::programs::{Between, FROM_ZERO, Posed, Written, pose};
 use cip_basis::{Basis, Problem, Safe, Shown, safe_bound, show};
 use cip_cert::Scratch;
@@ -160,6 +163,24 @@ fn is_safe(found: &Option<Safe>, expected: Expected) -> bool {
     }
 }
 
+/// Whether a basis shows of a program what is expected.
+fn shows(
+    alloc: Global,
+    basis: &mut Basis,
+    problem: &Problem<'_>,
+    scratch: &mut Scratch,
+    expected: Expected,
+) -> Result<bool, AllocError>
+    requires ready { IsReady problem.now }
+    requires room { length problem.now.bounds.now ≤ length scratch.old.row.entries }
+    ensures room { length scratch.new.row.entries ≡ length scratch.old.row.entries }
+{
+    let found = show(alloc, basis, problem, scratch)?;
+    let is_so = is_expected(&found, expected);
+    drop(found);
+    Ok(is_so)
+}
+
 /// What a basis shows of a program twice, the second time from where the first ended, and by rounded multipliers.
 fn are_expected(
     alloc: Global,
@@ -176,29 +197,39 @@ fn are_expected(
         return Ok(false);
     }
     let problem = Problem::of_rows(rows, &parts.bounds, costs);
-    let first = show(alloc, basis, &problem, scratch)?;
-    let second = show(alloc, basis, &problem, scratch)?;
+    let is_first = shows(alloc, basis, &problem, scratch, expected)?;
+    let is_second = shows(alloc, basis, &problem, scratch, expected)?;
     let safe = safe_bound(alloc, basis, &problem, scratch)?;
-    Ok(is_expected(&first, expected) && is_expected(&second, expected) && is_safe(&safe, expected))
+    let is_bounded = is_safe(&safe, expected);
+    drop(safe);
+    Ok(is_first && is_second && is_bounded)
 }
 
 /// What a new basis shows of a program.
 fn show_new(alloc: Global, parts: &Posed, expected: Expected) -> Result<bool, AllocError> {
     let mut scratch = Scratch::new(alloc, 8)?;
     let mut basis = Basis::new(alloc);
-    are_expected(alloc, &mut basis, parts, &mut scratch, expected)
+    let is_so = are_expected(alloc, &mut basis, parts, &mut scratch, expected);
+    drop(basis);
+    drop(scratch);
+    is_so
 }
 
 fn is_shown(alloc: Global, case: &Case) -> bool {
     match pose(alloc, &case.program) {
-        Some(parts) => show_new(alloc, &parts, case.expected) == Ok(true),
+        Some(parts) => {
+            let is_so = show_new(alloc, &parts, case.expected) == Ok(true);
+            drop(parts);
+            is_so
+        }
         None => false,
     }
 }
 
 #[test]
 fn bases_show(rt: HostRuntime) {
-    for at in 0..CASES.len() {
-        assert!(rt; is_shown(rt.alloc(), &CASES[at]), "case {at}");
+    let cases: &[Case] = &CASES;
+    for at in 0..cases.len() {
+        assert!(rt; is_shown(rt.alloc(), &cases[at]), "case {at}");
     }
 }

@@ -160,6 +160,7 @@ fn bound(alloc: Global, program: Program<'_>, combo: &Combo) -> Option<Frac> {
         || program.costs.len() != columns
         || !all_stand(program.rows, columns)
     {
+        drop(scratch);
         return None;
     }
     let rows = Rows {
@@ -168,7 +169,9 @@ fn bound(alloc: Global, program: Program<'_>, combo: &Combo) -> Option<Frac> {
         cutoff: &None,
         whole: &[],
     };
-    lower_bound(&rows, program.bounds, program.costs, combo, &mut scratch).ok()
+    let least = lower_bound(&rows, program.bounds, program.costs, combo, &mut scratch).ok();
+    drop(scratch);
+    least
 }
 
 // a combination shows that no point is there
@@ -178,6 +181,7 @@ fn is_empty(alloc: Global, program: Program<'_>, combo: &Combo) -> bool {
         return false;
     };
     if scratch.row.entries().len() < columns || !all_stand(program.rows, columns) {
+        drop(scratch);
         return false;
     }
     let rows = Rows {
@@ -186,7 +190,9 @@ fn is_empty(alloc: Global, program: Program<'_>, combo: &Combo) -> bool {
         cutoff: &None,
         whole: &[],
     };
-    empties(&rows, program.bounds, combo, &mut scratch).is_ok()
+    let is_so = empties(&rows, program.bounds, combo, &mut scratch).is_ok();
+    drop(scratch);
+    is_so
 }
 
 fn is_point(program: Program<'_>, point: &[Frac]) -> bool {

@@ -224,9 +224,12 @@ fn put(program: &mut Program, case: &Case) -> Result<(), AllocError> {
 fn is_so(alloc: Global, spare: &mut Spare, case: &Case) -> bool {
     let mut program = Program::new(alloc);
     if put(&mut program, case).is_err() {
+        drop(program);
         return false;
     }
-    match program.first(alloc, spare) {
+    let first = program.first(alloc, spare);
+    drop(program);
+    match first {
         Some(mut dict) => {
             let wrong = first_wrong(&mut dict, case.steps);
             dict.give_back(spare);
@@ -236,18 +239,21 @@ fn is_so(alloc: Global, spare: &mut Spare, case: &Case) -> bool {
     }
 }
 
-/// The first case that isn't so; their number where there is none.
-fn first_unlike(alloc: Global, spare: &mut Spare) -> usize {
-    for at in 0..CASES.len() {
-        if !is_so(alloc, spare, &CASES[at]) {
+/// The first of cases that isn't so; their number where there is none.
+fn first_unlike(alloc: Global, spare: &mut Spare, cases: &[Case]) -> usize {
+    for at in 0..cases.len() {
+        if !is_so(alloc, spare, &cases[at]) {
             return at;
         }
     }
-    CASES.len()
+    cases.len()
 }
 
 #[test]
 fn states_are_as_worked_out(rt: HostRuntime) {
     let mut spare = Spare::new(rt.alloc());
-    assert_eq!(rt; first_unlike(rt.alloc(), &mut spare), CASES.len());
+    let cases: &[Case] = &CASES;
+    let unlike = first_unlike(rt.alloc(), &mut spare, cases);
+    drop(spare);
+    assert_eq!(rt; unlike, cases.len());
 }

@@ -62,7 +62,9 @@ fn is_tightened(alloc: Global) -> bool {
         Ok(bounds) => {
             let mut store = DomainStore::new(alloc, Region::new(bounds, Choices::new(alloc)));
             let start = store.mark();
-            are_put_back(&mut store, start)
+            let is_so = are_put_back(&mut store, start);
+            drop(store);
+            is_so
         }
         Err(_) => false,
     }
@@ -148,7 +150,9 @@ fn are_chosen(alloc: Global) -> bool {
     match with_a_choice(alloc) {
         Ok(mut store) => {
             let start = store.mark();
-            come_to(&mut store, start)
+            let is_so = come_to(&mut store, start);
+            drop(store);
+            is_so
         }
         Err(_) => false,
     }

@@ -21,10 +21,20 @@ fn halves_end_and_begin(tree: &mut Tree) -> bool
     let (Some(low), Some(high)) = (tree.next(), tree.next()) else {
         return false;
     };
-    is_node(tree, &low, 1, between(0, 1))
-        && tree.bounds().as_slice() == [between(0, 1), between(0, 3)].as_slice()
-        && is_node(tree, &high, 2, between(2, 3))
-        && tree.next().is_none()
+    let is_low = is_node(tree, &low, 1, between(0, 1))
+        && tree.bounds().as_slice() == [between(0, 1), between(0, 3)].as_slice();
+    drop(low);
+    let is_high = is_node(tree, &high, 2, between(2, 3));
+    drop(high);
+    is_low && is_high && has_no_next(tree)
+}
+
+/// No node is open.
+fn has_no_next(tree: &mut Tree) -> bool {
+    let next = tree.next();
+    let is_so = next.is_none();
+    drop(next);
+    is_so
 }
 
 /// What the split of the root comes to.
@@ -36,9 +46,12 @@ fn root_split(tree: &mut Tree, col: u32, at: i128, want: Option<SplitFault>) -> 
         return false;
     };
     if col >= 2 {
+        drop(root);
         return false;
     }
-    match (split(tree, &root, 1, col, at), want) {
+    let halved = split(tree, &root, 1, col, at);
+    drop(root);
+    match (halved, want) {
         (Some(Ok(halves)), None) => halves == (1, 2),
         (Some(Err(fault)), Some(wanted)) => fault == wanted,
         _ => false,
@@ -70,25 +83,41 @@ fn is_split_by_choice(tree: &mut Tree) -> bool
     let Some(root) = tree.next() else {
         return false;
     };
-    if split(tree, &root, 1, 1, 7) != Some(Ok((1, 2))) {
+    let is_split = split(tree, &root, 1, 1, 7) == Some(Ok((1, 2)));
+    drop(root);
+    if !is_split {
         return false;
     }
     let (Some(low), Some(high)) = (tree.next(), tree.next()) else {
         return false;
     };
-    has_made(tree, &low, 1, between(0, 0), false)
+    let is_so = has_made(tree, &low, 1, between(0, 0), false)
         && has_made(tree, &high, 2, between(2, 3), true)
-        && split(tree, &high, 1, 1, 7) == Some(Err(SplitFault::NotWhole))
+        && split(tree, &high, 1, 1, 7) == Some(Err(SplitFault::NotWhole));
+    drop(low);
+    drop(high);
+    is_so
+}
+
+/// The next node has this number and these sides of the first column.
+fn is_next(tree: &mut Tree, number: u64, sides: Sides) -> bool
+    requires columns { length tree.old.root.box ≡ 2 }
+{
+    match tree.next() {
+        Some(node) => {
+            let is_so = is_node(tree, &node, number, sides);
+            drop(node);
+            is_so
+        }
+        None => false,
+    }
 }
 
 /// The next node is the root, at most 2.
 fn gives_back_the_root(tree: &mut Tree) -> bool
     requires columns { length tree.old.root.box ≡ 2 }
 {
-    match tree.next() {
-        Some(again) => is_node(tree, &again, 0, between(0, 2)),
-        None => false,
-    }
+    is_next(tree, 0, between(0, 2))
 }
 
 /// The root is noted to be at most 2 and then at most 3, and put back: it stays at most 2.
@@ -132,10 +161,13 @@ fn is_split_twice(tree: &mut Tree) -> bool
     if !is_halved(tree, None) {
         return false;
     }
-    let (Some(_), Some(high)) = (tree.next(), tree.next()) else {
+    let (Some(low), Some(high)) = (tree.next(), tree.next()) else {
         return false;
     };
-    split(tree, &high, 2, 0, 2) == Some(Ok((3, 4))) && are_entered(tree)
+    drop(low);
+    let is_split = split(tree, &high, 2, 0, 2) == Some(Ok((3, 4)));
+    drop(high);
+    is_split && are_entered(tree)
 }
 
 /// The root is at most 3 already, can't be at least 4, and is at least 1 then, also in the low half of its split at 1.
@@ -151,15 +183,12 @@ fn keeps_its_side(tree: &mut Tree) -> bool
     let stays = is_node(tree, &root, 0, between(0, 3));
     let yes = tighten(tree, &mut root, Side::Low, 1);
     if (same, empty, yes) != TIGHTENED || !stays {
+        drop(root);
         return false;
     }
-    if split(tree, &root, 1, 0, 1) != Some(Ok((1, 2))) {
-        return false;
-    }
-    match tree.next() {
-        Some(low) => is_node(tree, &low, 1, between(1, 1)),
-        None => false,
-    }
+    let is_split = split(tree, &root, 1, 0, 1) == Some(Ok((1, 2)));
+    drop(root);
+    is_split && is_next(tree, 1, between(1, 1))
 }
 
 /// What the three come to.
@@ -179,11 +208,9 @@ fn has_its_side_again(tree: &mut Tree) -> bool
     let is_tighter = tighten(tree, &mut high, Side::High, 2) == Some(Tightened::Yes)
         && tree.bounds().as_slice() == [between(2, 2), between(0, 3)].as_slice();
     let is_back = is_node(tree, &low, 1, between(0, 1)) && is_node(tree, &high, 2, between(2, 2));
+    drop(low);
     tree.put_back(high);
-    match tree.next() {
-        Some(again) => is_tighter && is_back && is_node(tree, &again, 2, between(2, 2)),
-        None => false,
-    }
+    is_tighter && is_back && is_next(tree, 2, between(2, 2))
 }
 
 /// Splits the root, of this bound, at 1 into nodes 1 and 2.
@@ -199,7 +226,9 @@ fn is_halved(tree: &mut Tree, bound: Option<Frac>) -> bool
     if let Some(bound) = bound {
         root.raise(bound);
     }
-    split(tree, &root, 1, 0, 1) == Some(Ok((1, 2)))
+    let is_so = split(tree, &root, 1, 0, 1) == Some(Ok((1, 2)));
+    drop(root);
+    is_so
 }
 
 /// The least bound of the open nodes is this number.
@@ -222,7 +251,11 @@ fn takes_the_least_first(tree: &mut Tree) -> bool {
     tree.park(high);
     let stays = has_bound(tree, 4);
     match tree.next() {
-        Some(last) => is_low && is_high && stays && last.id() == 1 && tree.bound().is_none(),
+        Some(last) => {
+            let is_last = last.id() == 1 && tree.bound().is_none();
+            drop(last);
+            is_low && is_high && stays && is_last
+        }
         None => false,
     }
 }
@@ -246,7 +279,7 @@ fn are_ended(tree: &mut Tree) -> bool {
         return false;
     };
     tree.close(high);
-    tree.next().is_none()
+    has_no_next(tree)
 }
 
 /// The log has the ends of the root, which was split, and of its halves, and is taken.
@@ -340,7 +373,11 @@ fn holds(tree: &mut Tree, tried: Tried) -> bool
 
 fn is_so(alloc: Global, tried: Tried) -> bool {
     match two_columns(alloc, Choices::new(alloc)) {
-        Ok(mut tree) => holds(&mut tree, tried),
+        Ok(mut tree) => {
+            let is_so = holds(&mut tree, tried);
+            drop(tree);
+            is_so
+        }
         Err(_) => false,
     }
 }
@@ -395,7 +432,11 @@ fn is_logged_by_choice(tree: &Tree) -> bool {
 
 fn is_choice_split(alloc: Global) -> bool {
     match with_a_choice(alloc) {
-        Ok(mut tree) => is_split_by_choice(&mut tree) && is_logged_by_choice(&tree),
+        Ok(mut tree) => {
+            let is_so = is_split_by_choice(&mut tree) && is_logged_by_choice(&tree);
+            drop(tree);
+            is_so
+        }
         Err(_) => false,
     }
 }
