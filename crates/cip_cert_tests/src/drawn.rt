@@ -39,6 +39,7 @@ fn row(alloc: Global, draws: &mut Draws, numbers: Numbers, columns: u32) -> Opti
     let high = side(draws, numbers);
     let mut row = Row::empty(alloc, low, high);
     if fill_row(draws, numbers, columns, &mut row).is_err() {
+        drop(row);
         return None;
     }
     Some(row)
@@ -134,8 +135,12 @@ fn add_scoped(
     asked: &mut Asked,
 ) -> bool {
     match Bounds::new(alloc, 0) {
-        Ok(mut scope) => fill_scope(draws, &asked.bounds, &mut scope).is_ok()
-            && is_added(draws, numbers, row, &scope, asked),
+        Ok(mut scope) => {
+            let is_so = fill_scope(draws, &asked.bounds, &mut scope).is_ok()
+                && is_added(draws, numbers, row, &scope, asked);
+            drop(scope);
+            is_so
+        }
         Err(_) => false,
     }
 }
@@ -146,7 +151,9 @@ fn add_row(alloc: Global, draws: &mut Draws, numbers: Numbers, asked: &mut Asked
     match Scratch::new(alloc, columns) {
         Ok(mut row) => {
             fill_coefficients(draws, numbers, columns as u32, &mut row);
-            add_scoped(alloc, draws, numbers, &row, asked)
+            let is_so = add_scoped(alloc, draws, numbers, &row, asked);
+            drop(row);
+            is_so
         }
         Err(_) => false,
     }

@@ -411,7 +411,9 @@ fn is_cut_so(
     let part = mixed.part();
     let left_factor = sum(Frac::one(), part.neg());
     let mut cut = no_cut(alloc, mixed.least.floor(), left_factor, part);
-    is_filled_so(asked, mixed, &mut cut, room, counts)
+    let is_so = is_filled_so(asked, mixed, &mut cut, room, counts);
+    drop(cut);
+    is_so
 }
 
 /// Puts the row in, and tries its cut.
@@ -429,7 +431,11 @@ fn is_row_so(
 fn agrees(alloc: Global, draws: &mut Draws, room: &mut SplitRoom, counts: &mut Counts) -> bool {
     let mixed = drawn_row(draws);
     match Asked::new(alloc, COLUMNS) {
-        Ok(mut asked) => is_row_so(alloc, &mixed, &mut asked, room, counts),
+        Ok(mut asked) => {
+            let is_so = is_row_so(alloc, &mixed, &mut asked, room, counts);
+            drop(asked);
+            is_so
+        }
         Err(_) => false,
     }
 }
@@ -458,11 +464,19 @@ fn are_all_so(alloc: Global, room: &mut SplitRoom) -> bool {
         && counts.says_less >= 1000
 }
 
+/// The same, in a room for their columns.
+fn are_all_so_in_room(alloc: Global) -> bool {
+    match SplitRoom::new(alloc, COLUMNS) {
+        Some(mut room) => {
+            let is_so = are_all_so(alloc, &mut room);
+            drop(room);
+            is_so
+        }
+        None => false,
+    }
+}
+
 #[test]
 fn mixed_rounding_is_a_split_cut(rt: HostRuntime) {
-    let is_so = match SplitRoom::new(rt.alloc(), COLUMNS) {
-        Some(mut room) => are_all_so(rt.alloc(), &mut room),
-        None => false,
-    };
-    assert!(rt; is_so);
+    assert!(rt; are_all_so_in_room(rt.alloc()));
 }

@@ -16,11 +16,27 @@ struct Pooled {
     wide: Bounds,
 }
 
+/// Two boxes of no columns.
+fn two_boxes(alloc: Global) -> Option<(Bounds, Bounds)> {
+    let Ok(narrow) = Bounds::new(alloc, 0) else {
+        return None;
+    };
+    let Ok(wide) = Bounds::new(alloc, 0) else {
+        drop(narrow);
+        return None;
+    };
+    Some((narrow, wide))
+}
+
 /// An empty pool, and no coefficient yet.
 fn empty_pool(alloc: Global) -> Option<Pooled> {
-    let row = Scratch::new(alloc, 5).ok()?;
-    let narrow = Bounds::new(alloc, 0).ok()?;
-    let wide = Bounds::new(alloc, 0).ok()?;
+    let Ok(row) = Scratch::new(alloc, 5) else {
+        return None;
+    };
+    let Some((narrow, wide)) = two_boxes(alloc) else {
+        drop(row);
+        return None;
+    };
     Some(Pooled {
         pool: RowPool::new(alloc, 5),
         row,
@@ -156,21 +172,31 @@ impl Pooled {
         Some(rests_on_cutoff(self.pool.rows(), combo))
     }
 
+    /// A combination of nothing rests once it cites the row that does.
+    fn tells_resting(&mut self, combo: &mut Combo) -> bool {
+        self.has_three()
+            && self.rests(combo, RowId::Own(1)) == Some(false)
+            && self.rests(combo, RowId::Pool(2)) == Some(false)
+            && self.rests(combo, RowId::Pool(1)) == Some(true)
+            && self.rests(combo, RowId::Own(0)) == Some(true)
+    }
+
     /// A combination rests once it cites the row that does.
     fn tells_resting_rows(&mut self, alloc: Global) -> bool {
         let mut combo = no_combo(alloc);
-        self.has_three()
-            && self.rests(&mut combo, RowId::Own(1)) == Some(false)
-            && self.rests(&mut combo, RowId::Pool(2)) == Some(false)
-            && self.rests(&mut combo, RowId::Pool(1)) == Some(true)
-            && self.rests(&mut combo, RowId::Own(0)) == Some(true)
+        let is_so = self.tells_resting(&mut combo);
+        drop(combo);
+        is_so
     }
 }
 
 impl Pooled {
     /// A combination rests that cites the cutoff row.
     fn tells_cutoff(&mut self, alloc: Global) -> bool {
-        self.rests(&mut no_combo(alloc), RowId::Cutoff) == Some(true)
+        let mut combo = no_combo(alloc);
+        let is_so = self.rests(&mut combo, RowId::Cutoff) == Some(true);
+        drop(combo);
+        is_so
     }
 
     /// What a test asks of an empty pool.
@@ -198,7 +224,11 @@ enum What {
 /// Asks an empty pool.
 fn is_so(alloc: Global, what: What) -> bool {
     match empty_pool(alloc) {
-        Some(mut pooled) => pooled.is_so(alloc, what),
+        Some(mut pooled) => {
+            let is_so = pooled.is_so(alloc, what);
+            drop(pooled);
+            is_so
+        }
         None => false,
     }
 }

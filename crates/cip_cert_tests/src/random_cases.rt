@@ -119,22 +119,32 @@ fn is_side(asked: &Asked, sum: &Sum, room: &mut Room) -> bool {
     asked.reduced(&mut room.scratch) == Some(side)
 }
 
+/// Compares all answers with those from the sum.
+fn are_as_summed(asked: &Asked, sum: &Sum, room: &mut Room) -> bool {
+    is_row(asked, sum, room)
+        && is_bound(asked, sum, room)
+        && is_emptiness(asked, sum, room)
+        && is_side(asked, sum, room)
+}
+
 /// Compares all answers.
 fn is_answered(alloc: Global, asked: &Asked, room: &mut Room) -> bool {
     let mut sum = Sum::new(alloc);
-    is_summed(alloc, asked, &mut sum)
-        && is_row(asked, &sum, room)
-        && is_bound(asked, &sum, room)
-        && is_emptiness(asked, &sum, room)
-        && is_side(asked, &sum, room)
+    let is_so = is_summed(alloc, asked, &mut sum) && are_as_summed(asked, &sum, room);
+    drop(sum);
+    is_so
 }
 
 /// Draws a case, and compares its answers.
 fn agrees(alloc: Global, draws: &mut Draws, room: &mut Room) -> bool {
     let (columns, numbers) = shape(draws);
     match Asked::new(alloc, columns as usize) {
-        Ok(mut asked) => is_drawn(alloc, draws, numbers, columns, &mut asked)
-            && is_answered(alloc, &asked, room),
+        Ok(mut asked) => {
+            let is_so = is_drawn(alloc, draws, numbers, columns, &mut asked)
+                && is_answered(alloc, &asked, room);
+            drop(asked);
+            is_so
+        }
         Err(_) => false,
     }
 }
@@ -163,6 +173,7 @@ fn random_combinations_agree(rt: HostRuntime) {
         counts: [0; KINDS],
     };
     let (agreeing, fewest) = told(rt.alloc(), &mut room);
+    drop(room);
     assert!(rt;
         agreeing == 1000 && fewest >= FEWEST,
         "{agreeing} cases, {fewest} answers"

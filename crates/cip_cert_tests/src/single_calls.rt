@@ -151,6 +151,7 @@ fn row_of(alloc: Global, low: Option<i64>, high: Option<i64>, values: &[i64]) ->
     if is_filled(&mut row, values) {
         Some(row)
     } else {
+        drop(row);
         None
     }
 }
@@ -287,7 +288,11 @@ fn is_answered(asked: &Asked, case: &Case, scratch: &mut Scratch) -> bool {
 
 fn is_as(alloc: Global, case: &Case, scratch: &mut Scratch) -> bool {
     match Asked::new(alloc, 5) {
-        Ok(mut asked) => is_put(alloc, case, &mut asked) && is_answered(&asked, case, scratch),
+        Ok(mut asked) => {
+            let is_so = is_put(alloc, case, &mut asked) && is_answered(&asked, case, scratch);
+            drop(asked);
+            is_so
+        }
         Err(_) => false,
     }
 }
@@ -301,22 +306,27 @@ pub fn is_half_a_row(alloc: Global, scratch: &mut Scratch) -> bool {
 
 /// The first case that is answered otherwise; their number where there is none.
 fn first_wrong(alloc: Global, scratch: &mut Scratch) -> usize {
-    for at in 0..CASES.len() {
-        if !is_as(alloc, &CASES[at], scratch) {
+    let cases = &CASES;
+    for at in 0..cases.len() {
+        if !is_as(alloc, &cases[at], scratch) {
             return at;
         }
     }
-    CASES.len()
+    cases.len()
 }
 
 #[test]
 fn checks_answer_as_worked_out(rt: HostRuntime) {
     let mut scratch = Scratch::new(rt.alloc(), 5).expect(&rt, "memory");
-    assert_eq!(rt; first_wrong(rt.alloc(), &mut scratch), 9);
+    let wrong = first_wrong(rt.alloc(), &mut scratch);
+    drop(scratch);
+    assert_eq!(rt; wrong, 9);
 }
 
 #[test]
 fn half_a_row_is_rounded(rt: HostRuntime) {
     let mut scratch = Scratch::new(rt.alloc(), 5).expect(&rt, "memory");
-    assert!(rt; is_half_a_row(rt.alloc(), &mut scratch));
+    let is_so = is_half_a_row(rt.alloc(), &mut scratch);
+    drop(scratch);
+    assert!(rt; is_so);
 }

@@ -4,7 +4,7 @@ use crate::draws::fraction;
 use cip_cert::{CutFault, FaultPlace, FormTerm, Scratch, SplitCut, SplitFormFault, SplitSide};
 use cip_frac::Frac;
 use cip_lin::{ColumnMultiple, Combo, Row, RowId, RowMultiple, Sides, Term};
-use std::alloc::{AllocError, Global};
+use std::alloc::Global;
 
 /// A split cut over x, whole from 0 to 3, and y, at least 0, of which x + y is at least 1/2: its form and the number
 /// that splits it; the factor of the row, if it is used, and of the form on the left; those of the low side of y and of
@@ -139,25 +139,34 @@ pub fn no_cut(alloc: Global, k: i128, left_factor: Frac, right_factor: Frac) -> 
     }
 }
 
+/// Whether there is memory for these terms of a form.
+fn is_form_put(terms: &[(u32, i128)], form: &mut Vec<FormTerm>) -> bool {
+    for at in 0..terms.len() {
+        let (col, coef) = terms[at];
+        if form.push(FormTerm { col, coef }).is_err() {
+            return false;
+        }
+    }
+    true
+}
+
+/// Whether there is memory for the row with its factor, if it is used.
+fn is_row_put(left: Option<i64>, rows: &mut Vec<RowMultiple>) -> bool {
+    let Some(number) = left else {
+        return true;
+    };
+    let row = RowId::Own(0);
+    let factor = Frac::from(number);
+    rows.push(RowMultiple { row, factor }).is_ok()
+}
+
 /// Puts the form, the row and the low side of y into a cut of nothing.
-fn fill_cut(case: &Case, cut: &mut SplitCut) -> Result<(), AllocError> {
-    for (col, coef) in case.form {
-        cut.form.push(FormTerm {
-            col: *col,
-            coef: *coef,
-        })?;
-    }
-    if let Some(factor) = case.left {
-        cut.left.rows.push(RowMultiple {
-            row: RowId::Own(0),
-            factor: Frac::from(factor),
-        })?;
-    }
-    cut.right.lows.push(ColumnMultiple {
-        col: 1,
-        factor: Frac::from(case.right),
-    })?;
-    Ok(())
+fn is_cut_filled(case: &Case, cut: &mut SplitCut) -> bool {
+    let col = 1;
+    let factor = Frac::from(case.right);
+    is_form_put(case.form, &mut cut.form)
+        && is_row_put(case.left, &mut cut.left.rows)
+        && cut.right.lows.push(ColumnMultiple { col, factor }).is_ok()
 }
 
 /// Appends x + y to a row.
@@ -166,19 +175,15 @@ fn is_row_filled(row: &mut Row) -> bool {
     row.append(Term { col: 0, coef }).is_ok() && row.append(Term { col: 1, coef }).is_ok()
 }
 
-/// Puts the columns and the row in, where nothing is yet.
-fn fill_asked(asked: &mut Asked) -> Result<(), AllocError> {
-    asked.bounds.push(Sides {
-        low: Some(Frac::zero()),
-        high: Some(Frac::from(3)),
-    })?;
-    asked.bounds.push(Sides {
-        low: Some(Frac::zero()),
-        high: None,
-    })?;
-    asked.whole.push(true)?;
-    asked.whole.push(false)?;
-    Ok(())
+/// Puts the sides of a column in, and whether it is whole.
+fn is_column_put(asked: &mut Asked, high: Option<Frac>, whole: bool) -> bool {
+    let low = Some(Frac::zero());
+    asked.bounds.push(Sides { low, high }).is_ok() && asked.whole.push(whole).is_ok()
+}
+
+/// Puts the columns in, where nothing is yet.
+fn are_columns_put(asked: &mut Asked) -> bool {
+    is_column_put(asked, Some(Frac::from(3)), true) && is_column_put(asked, None, false)
 }
 
 /// Fills the last of these rows.
@@ -190,7 +195,7 @@ fn is_last_filled(rows: &mut [Row]) -> bool {
 }
 
 fn is_asked_filled(alloc: Global, asked: &mut Asked) -> bool {
-    fill_asked(asked).is_ok()
+    are_columns_put(asked)
         && asked
             .own
             .push(Row::empty(alloc, Some(fraction(1, 2)), None))
@@ -209,7 +214,7 @@ fn is_wanted(answer: Result<Frac, SplitFormFault>, want: Result<i64, SplitFormFa
 
 /// Asks a case, and compares the answer.
 fn is_as(asked: &Asked, case: &Case, cut: &mut SplitCut, room: &mut SplitRoom) -> bool {
-    if fill_cut(case, cut).is_err() {
+    if !is_cut_filled(case, cut) {
         return false;
     }
     match asked.split(cut, room) {
@@ -222,7 +227,9 @@ fn is_case(alloc: Global, asked: &Asked, case: &Case, room: &mut SplitRoom) -> b
     let left_factor = Frac::from(case.left_factor);
     let right_factor = Frac::from(case.right_factor);
     let mut cut = no_cut(alloc, case.k, left_factor, right_factor);
-    is_as(asked, case, &mut cut, room)
+    let is_so = is_as(asked, case, &mut cut, room);
+    drop(cut);
+    is_so
 }
 
 /// The first of some cases that is answered otherwise; their number where there is none.
@@ -248,15 +255,21 @@ impl SplitRoom {
         if columns > 64 {
             return None;
         }
-        let first = Scratch::new(alloc, columns).ok()?;
-        let second = Scratch::new(alloc, columns).ok()?;
+        let Ok(first) = Scratch::new(alloc, columns) else {
+            return None;
+        };
+        let Ok(second) = Scratch::new(alloc, columns) else {
+            drop(first);
+            return None;
+        };
         Some(SplitRoom { first, second })
     }
 }
 
 /// All cases are answered so.
 fn are_cases(alloc: Global, asked: &Asked, room: &mut SplitRoom) -> bool {
-    first_wrong(alloc, CASES.as_slice(), asked, room) == CASES.len()
+    let cases = &CASES;
+    first_wrong(alloc, cases.as_slice(), asked, room) == cases.len()
 }
 
 /// Two coefficients stand in the first scratch.
@@ -275,16 +288,28 @@ fn are_answered(alloc: Global, asked: &mut Asked, room: &mut SplitRoom) -> bool 
 /// The same, in a room for two columns.
 fn are_answered_in_room(alloc: Global, asked: &mut Asked) -> bool {
     match SplitRoom::new(alloc, 2) {
-        Some(mut room) => are_answered(alloc, asked, &mut room),
+        Some(mut room) => {
+            let is_so = are_answered(alloc, asked, &mut room);
+            drop(room);
+            is_so
+        }
         None => false,
+    }
+}
+
+/// The same, of what is asked with two columns.
+fn are_answered_as_asked(alloc: Global) -> bool {
+    match Asked::new(alloc, 2) {
+        Ok(mut asked) => {
+            let is_so = are_answered_in_room(alloc, &mut asked);
+            drop(asked);
+            is_so
+        }
+        Err(_) => false,
     }
 }
 
 #[test]
 fn split_cuts_answer_as_worked_out(rt: HostRuntime) {
-    let is_so = match Asked::new(rt.alloc(), 2) {
-        Ok(mut asked) => are_answered_in_room(rt.alloc(), &mut asked),
-        Err(_) => false,
-    };
-    assert!(rt; is_so);
+    assert!(rt; are_answered_as_asked(rt.alloc()));
 }

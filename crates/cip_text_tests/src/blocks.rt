@@ -41,7 +41,11 @@ fn says(blocks: &Blocks, want: Told) -> bool {
 
 fn is_told(alloc: Global, program: &Program, text: &str, want: Told) -> bool {
     match read_blocks(alloc, text.as_bytes(), program) {
-        Ok(blocks) => says(&blocks, want),
+        Ok(blocks) => {
+            let is_so = says(&blocks, want);
+            drop(blocks);
+            is_so
+        }
         Err(_) => false,
     }
 }
@@ -58,7 +62,11 @@ fn first_wrong(alloc: Global, program: &Program) -> usize {
 
 fn are_read(alloc: Global) -> bool {
     match program_of(alloc, APART) {
-        Some(program) => first_wrong(alloc, &program) == CASES.len(),
+        Some(program) => {
+            let wrong = first_wrong(alloc, &program);
+            drop(program);
+            wrong == CASES.len()
+        }
         None => false,
     }
 }

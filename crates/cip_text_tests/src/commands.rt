@@ -67,33 +67,57 @@ fn has_flags(words: &Words, plain: bool, trace: bool) -> bool {
     }
 }
 
+/// Whether there is memory for the words of a list.
+fn are_added(words: &mut Words, list: &[&str]) -> bool {
+    for word in list {
+        if words.add(word).is_err() {
+            return false;
+        }
+    }
+    true
+}
+
 /// The words of a list; `None` where memory is refused.
 fn words_of(alloc: Global, list: &[&str]) -> Option<Words> {
-    let mut words = Words::new(alloc).ok()?;
-    for word in list {
-        words.add(word).ok()?;
+    let Ok(mut words) = Words::new(alloc) else {
+        return None;
+    };
+    if are_added(&mut words, list) {
+        Some(words)
+    } else {
+        drop(words);
+        None
     }
-    Some(words)
 }
 
 fn are_read(alloc: Global, list: &[&str], nodes: u64) -> bool {
     match words_of(alloc, list) {
-        Some(words) => asks(&words, nodes),
+        Some(words) => {
+            let is_so = asks(&words, nodes);
+            drop(words);
+            is_so
+        }
         None => false,
     }
 }
 
 fn flags_are_read(alloc: Global, list: &[&str], plain: bool, trace: bool) -> bool {
     match words_of(alloc, list) {
-        Some(words) => has_flags(&words, plain, trace),
+        Some(words) => {
+            let is_so = has_flags(&words, plain, trace);
+            drop(words);
+            is_so
+        }
         None => false,
     }
 }
 
 #[test]
 fn words_are_read(rt: HostRuntime) {
-    for at in 0..CASES.len() {
-        assert!(rt; are_read(rt.alloc(), CASES[at].0, CASES[at].1), "case {at}");
+    let cases = &CASES;
+    for at in 0..cases.len() {
+        let (words, nodes) = cases[at];
+        assert!(rt; are_read(rt.alloc(), words, nodes), "case {at}");
     }
 }
 

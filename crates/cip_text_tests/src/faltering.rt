@@ -171,7 +171,9 @@ fn is_read(greatest_piece: usize, failing: usize, fault: io::ErrorKind, answers:
         failing,
         fault,
     });
-    store.choose("M").is_ok() && gives(&mut store, answers, TEXT)
+    let is_so = store.choose("M").is_ok() && gives(&mut store, answers, TEXT);
+    drop(store);
+    is_so
 }
 
 #[test]
@@ -195,19 +197,26 @@ static CHOSEN: [(&str, &[usize], &[u8]); 5] = [
 ];
 
 /// Each name chooses its own file, from its start, whatever was open before; a name that is none's fails.
+fn is_each_chosen<S: Store>(store: &mut S) -> bool {
+    for at in 0..CHOSEN.len() {
+        let (name, sizes, text) = CHOSEN[at];
+        if store.choose(name).is_err() || !gives(store, sizes, text) {
+            return false;
+        }
+    }
+    store.choose(" M ").is_err() && store.choose("").is_err()
+}
+
+/// The same, of files that answer four bytes at once.
 fn are_chosen() -> bool {
     let mut store = HostStore::new(FalteringFiles {
         greatest_piece: 4,
         failing: 0,
         fault: io::ErrorKind::TimedOut,
     });
-    for at in 0..CHOSEN.len() {
-        let (name, sizes, text) = CHOSEN[at];
-        if store.choose(name).is_err() || !gives(&mut store, sizes, text) {
-            return false;
-        }
-    }
-    store.choose(" M ").is_err() && store.choose("").is_err()
+    let is_so = is_each_chosen(&mut store);
+    drop(store);
+    is_so
 }
 
 #[test]
@@ -258,7 +267,25 @@ static WRITES: [(usize, Option<io::ErrorKind>, usize); 6] = [
     (2, Some(io::ErrorKind::Interrupted), 10),
 ];
 
+/// Whether a writer takes all of a text.
+fn is_pushed(writer: &mut FalteringWriter, text: &[u8]) -> bool {
+    let mut sink = HostSink::over(writer);
+    let is_so = push_all(&mut sink, text).is_ok();
+    drop(sink);
+    is_so
+}
+
 /// Pushes the text, and then the rest of it.
+fn is_pushed_so(writer: &mut FalteringWriter, before: usize) -> bool {
+    let has_failed = !is_pushed(writer, TEXT);
+    if has_failed != (before < 10) || writer.at != before {
+        return false;
+    }
+    let rest = TEXT.get(before..).unwrap_or(&[]);
+    is_pushed(writer, rest) && writer.at == 10 && writer.is_right
+}
+
+/// The same, of a writer that has taken nothing.
 fn is_taken(failing: usize, fault: Option<io::ErrorKind>, before: usize) -> bool {
     let mut writer = FalteringWriter {
         at: 0,
@@ -267,13 +294,9 @@ fn is_taken(failing: usize, fault: Option<io::ErrorKind>, before: usize) -> bool
         failing,
         fault,
     };
-    let has_failed = push_all(&mut HostSink::over(&mut writer), TEXT).is_err();
-    if has_failed != (before < 10) || writer.at != before {
-        return false;
-    }
-    let rest = TEXT.get(before..).unwrap_or(&[]);
-    let is_ok = push_all(&mut HostSink::over(&mut writer), rest).is_ok();
-    is_ok && writer.at == 10 && writer.is_right
+    let is_so = is_pushed_so(&mut writer, before);
+    drop(writer);
+    is_so
 }
 
 #[test]

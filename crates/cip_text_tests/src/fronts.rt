@@ -10,10 +10,23 @@ const JOINED_LP: &str =
     \x20R2: 4 a + 1 b + 2 c <= 11\n R3: 3 a + 4 b + 2 c <= 8\nBounds\n 0 <= a <= 10\n 0 <= b <= 10\n\
     \x20c <= 10\nGenerals\n a b\n c\nEnd\n";
 
+/// Whether the text of this name is one of a program.
+fn is_program(alloc: Global, store: &mut SoundStore, name: &str) -> bool {
+    match read_program(alloc, store, name) {
+        Ok(program) => {
+            drop(program);
+            true
+        }
+        Err(_) => false,
+    }
+}
+
 /// Whether a text is one of a program, as its name says.
 fn is_read(alloc: Global, name: &str, text: &[u8]) -> bool {
     let mut store = SoundStore::new(alloc, 4_096);
-    store.add(name, text).is_ok() && read_program(alloc, &mut store, name).is_ok()
+    let is_so = store.add(name, text).is_ok() && is_program(alloc, &mut store, name);
+    drop(store);
+    is_so
 }
 
 /// The length of the shortest front of a text that is one of a program.
