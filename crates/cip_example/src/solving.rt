@@ -24,19 +24,28 @@ End
 /// The command line.
 const WORDS: [&str; 3] = ["solve", "example.lp", "--trace"];
 
-/// Solves the program with the plugins of a kit, and answers the status. `Err` comes where memory was refused.
-fn solve_with<K: Sink>(alloc: Global, out: &mut K, kit: &mut Kit) -> Result<u8, AllocError> {
-    let mut words = Words::new(alloc)?;
+/// Adds the words of the command line, and the text of the program.
+fn add_all(words: &mut Words, store: &mut MemoryStore) -> Result<(), AllocError> {
     for word in WORDS {
         words.add(word)?;
     }
+    store.add("example.lp", TEXT.as_bytes())
+}
+
+/// Solves the program with the plugins of a kit, and answers the status. `Err` comes where memory was refused.
+fn solve_with<K: Sink>(alloc: Global, out: &mut K, kit: &mut Kit) -> Result<u8, AllocError> {
+    let mut words = Words::new(alloc)?;
     let mut store = MemoryStore::new(alloc, 4_096);
-    store.add("example.lp", TEXT.as_bytes())?;
     let mut logs = Vec::new(alloc);
-    if !is_few(kit) {
-        return Err(AllocError);
-    }
-    Ok(run(alloc, &words, &mut store, out, kit, &mut logs))
+    let status = if add_all(&mut words, &mut store).is_ok() && is_few(kit) {
+        Ok(run(alloc, &words, &mut store, out, kit, &mut logs))
+    } else {
+        Err(AllocError)
+    };
+    drop(logs);
+    drop(store);
+    drop(words);
+    status
 }
 
 /// Solves the program with the three plugins, writes the answer with what was asked of them, and answers the status.
@@ -49,5 +58,7 @@ pub fn solve<K: Sink>(alloc: Global, out: &mut K) -> Result<u8, AllocError> {
         .push(AnyPlugin::Heuristic(Box::new(alloc, Floors)?))?;
     kit.start
         .push(AnyPlugin::BranchRule(Box::new(alloc, Dearest)?))?;
-    solve_with(alloc, out, &mut kit)
+    let status = solve_with(alloc, out, &mut kit);
+    drop(kit);
+    status
 }

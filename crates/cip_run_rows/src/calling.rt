@@ -63,17 +63,37 @@ fn call(
     outcome: &mut Outcome,
 ) -> Result<(), AllocError> {
     let words = row.words(alloc, own)?;
-    let mut store = row.store(alloc, setup)?;
+    let Ok(mut store) = row.store(alloc, setup) else {
+        drop(words);
+        return Err(AllocError);
+    };
     let out = &mut outcome.out;
     let logs = &mut outcome.logs;
-    outcome.status = if setup.builtins {
-        run_with_builtins(alloc, &words, &mut store, out, logs)?
+    let status = if setup.builtins {
+        run_with_builtins(alloc, &words, &mut store, out, logs)
     } else if is_few(kit) {
-        run(alloc, &words, &mut store, out, kit, logs)
+        Ok(run(alloc, &words, &mut store, out, kit, logs))
     } else {
-        255
+        Ok(255)
     };
+    drop(store);
+    drop(words);
+    outcome.status = status?;
     Ok(())
+}
+
+/// The same, and says what is left of the kit.
+fn call_and_list(
+    alloc: Global,
+    row: &Row<'_>,
+    own: &str,
+    setup: &Setup<'_>,
+    kit: &mut Kit,
+    outcome: &mut Outcome,
+) -> Result<(), AllocError> {
+    call(alloc, row, own, setup, kit, outcome)?;
+    outcome.left = (kit.start.len(), kit.shelf.len());
+    list_spent(kit, &mut outcome.spent)
 }
 
 /// The same, with a new outcome, which says what is left of the kit.
@@ -91,10 +111,16 @@ fn answered(
         left: (0, 0),
         spent: Vec::new(alloc),
     };
-    call(alloc, row, own, setup, kit, &mut outcome)?;
-    outcome.left = (kit.start.len(), kit.shelf.len());
-    list_spent(kit, &mut outcome.spent)?;
+    if call_and_list(alloc, row, own, setup, kit, &mut outcome).is_err() {
+        drop(outcome);
+        return Err(AllocError);
+    }
     Ok(outcome)
+}
+
+/// The fake that a plug says.
+fn boxed_fake(alloc: Global, plug: &Plug<'_>) -> Result<Box<Fake>, AllocError> {
+    Ok(Box::new(alloc, Fake::new(alloc, plug)?)?)
 }
 
 /// Calls `run` as a row and the lines of one of its runs say, with a kit of the plugins of these lines, and such a
@@ -110,17 +136,28 @@ pub fn outcome_of(
         let Some((is_start, plug)) = plug_of(line) else {
             continue;
         };
-        let fake = Fake::new(alloc, &plug)?;
-        let plugin = match plug.kind {
-            Kind::Separator => AnyPlugin::Separator(Box::new(alloc, fake)?),
-            Kind::Propagator => AnyPlugin::Propagator(Box::new(alloc, fake)?),
-            Kind::Heuristic => AnyPlugin::Heuristic(Box::new(alloc, fake)?),
-            Kind::BranchRule => AnyPlugin::BranchRule(Box::new(alloc, fake)?),
-            Kind::ConsHandler => AnyPlugin::ConsHandler(Box::new(alloc, fake)?),
-            Kind::EventHandler => AnyPlugin::EventHandler(Box::new(alloc, fake)?),
-            Kind::Pricer => continue,
+        let Ok(fake) = boxed_fake(alloc, &plug) else {
+            drop(kit);
+            return Err(AllocError);
         };
-        put(&mut kit, is_start, plugin)?;
+        let plugin = match plug.kind {
+            Kind::Separator => AnyPlugin::Separator(fake),
+            Kind::Propagator => AnyPlugin::Propagator(fake),
+            Kind::Heuristic => AnyPlugin::Heuristic(fake),
+            Kind::BranchRule => AnyPlugin::BranchRule(fake),
+            Kind::ConsHandler => AnyPlugin::ConsHandler(fake),
+            Kind::EventHandler => AnyPlugin::EventHandler(fake),
+            Kind::Pricer => {
+                drop(fake);
+                continue;
+            }
+        };
+        if put(&mut kit, is_start, plugin).is_err() {
+            drop(kit);
+            return Err(AllocError);
+        }
     }
-    answered(alloc, row, own, setup, &mut kit)
+    let outcome = answered(alloc, row, own, setup, &mut kit);
+    drop(kit);
+    outcome
 }

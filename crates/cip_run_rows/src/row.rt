@@ -52,9 +52,11 @@ impl<'a> Row<'a> {
     /// The words of a run.
     pub fn words(&self, alloc: Global, own: &str) -> Result<Words, AllocError> {
         let mut words = Words::new(alloc)?;
-        add_words(self.shared, &mut words)?;
-        add_words(own, &mut words)?;
-        Ok(words)
+        if add_words(self.shared, &mut words).is_ok() && add_words(own, &mut words).is_ok() {
+            return Ok(words);
+        }
+        drop(words);
+        Err(AllocError)
     }
 
     /// The store of a run, with the texts.
