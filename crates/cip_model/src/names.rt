@@ -53,8 +53,8 @@ fn end_of(start: usize, more: usize) -> Result<u32, AllocError>
     }
 }
 
-/// Writes a name behind the others, with room for the place behind it, which is answered. `Err` comes where a growth was
-/// refused, or the names would have more bytes than `u32::MAX`, and leaves names and ends as they were.
+/// Writes a name behind the others, with room for the place behind it, which is answered. `Err` comes where a growth
+/// was refused, or the names would have more bytes than `u32::MAX`, and leaves names and ends as they were.
 fn written(
     alloc: Global,
     bytes: &mut Vec<u8>,
