@@ -6,8 +6,8 @@ use Rattle.cip_rational.specs.Rational.{ℚ}
 use Rattle.cip_problem.specs.Program.{Program}
 use Rattle.cip_problem.specs.Log.{Entry}
 use Rattle.cip_answers.specs.Figures.{Status, NoMemory, Figures, exit_status}
-use Rattle.cip_trace_texts.specs.TraceTexts.{Traced}
-use Rattle.cip_trace_texts.specs.SelfTexts.{Drawn, self_text}
+use Rattle.cip_answers.specs.TraceTexts.{Traced}
+use Rattle.cip_answers.specs.SelfTexts.{Drawn, self_text}
 use Rattle.cip_search.specs.Headline.{AreTrue}
 use Rattle.cip_solve.specs.Logs.{entries_of}
 use Rattle.cip_solve.specs.declared.logs.Log.{Log}

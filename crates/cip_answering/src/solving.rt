@@ -2,8 +2,8 @@
 ghost use Rattle.std.specs.Prelude.{◌≡◌, ◌<◌, OnOk, OnErr};
 ghost use Rattle.cip_input.specs.LimitedModels.{IsLimited};
 ghost use Rattle.cip_answers.specs.Figures.{exit_status, names_of};
-ghost use Rattle.cip_trace_texts.specs.TraceTexts.{traced_text};
-ghost use Rattle.cip_trace_texts.specs.SelfTexts.{self_text};
+ghost use Rattle.cip_answers.specs.TraceTexts.{traced_text};
+ghost use Rattle.cip_answers.specs.SelfTexts.{self_text};
 ghost use Rattle.cip_words.specs.Jobs.{usual_limits};
 ghost use Rattle.cip_words.specs.WordsRead.{limits_of};
 ghost use Rattle.cip_report.specs.Answers.{figures_of, AnswerFits};

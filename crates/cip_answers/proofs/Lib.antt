@@ -1,3 +1,6 @@
-pub mod AnswerTexts
 mod Tried
+pub mod AnswerTexts
+pub mod FrontTexts
 pub mod PassedOn
+pub mod SelfLines
+pub mod TraceTexts

@@ -1,7 +1,10 @@
 pub mod Checks
 pub mod Figures
 pub mod Headline
+pub mod SelfTexts
 pub mod Statements
+pub mod TraceStatements
+pub mod TraceTexts
 pub use Rattle.cip_leaves.specs.Falling
 pub use Rattle.cip_leaves.specs.Leaf
 pub use Rattle.cip_leaves.specs.LeafProgramExamples

@@ -3,6 +3,8 @@
 // Each function here does nothing. Its contract is one of the laws of the definitions, so that the check proves it.
 #![tactic(auto)]
 
+pub mod traces;
+
 ghost use Rattle.cip_answers.specs.Statements.{AnswerTellsFigures, FixedTextsStandApart, Examples};
 
 pub use cip_leaves::{Move, Stand};

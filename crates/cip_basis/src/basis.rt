@@ -6,8 +6,7 @@ use crate::placement::Placement;
 use crate::rounded::rounded_combo;
 use crate::values::{put_basic, put_loose, put_right_sides};
 use cip_frac::Frac;
-use cip_guess::{Given, Guess, Outcome, Standing};
-use cip_lifting::{Direction, Length, System};
+use cip_guess::{Direction, Given, Guess, Length, Outcome, Standing, System};
 use cip_lin::Combo;
 use std::alloc::{AllocError, Global};
 

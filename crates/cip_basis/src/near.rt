@@ -8,7 +8,7 @@ use crate::basis::Basis;
 use crate::problem::Problem;
 use crate::tests::{cost_at, is_point};
 use cip_frac::Frac;
-use cip_lifting::Length;
+use cip_guess::Length;
 use std::alloc::{AllocError, Global};
 
 /// What a point costs; none where a product or a sum is out of range.

@@ -9,8 +9,7 @@ use crate::near::tested;
 use crate::problem::Problem;
 use cip_cert::Scratch;
 use cip_frac::Frac;
-use cip_guess::Outcome;
-use cip_lifting::Length;
+use cip_guess::{Length, Outcome};
 use cip_lin::Combo;
 use std::alloc::{AllocError, Global};
 

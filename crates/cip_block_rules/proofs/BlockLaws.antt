@@ -17,8 +17,8 @@ use Rattle.cip_line_texts.specs.LineTexts.{items_in, HasResult}
 use Rattle.cip_line_texts.specs.LineStatements.{AreQuiet, known_of, IsDescribed}
 use Rattle.cip_line_texts.proofs.LineOutcomes.{described, holds_after}
 use Rattle.cip_block_rules.specs.BlockWords.{Keyword, Presolved, BlockCount, Block, Master, WordPlace, KeywordDue, ZeroDue, CountDue, BlockDue, NamesOf, WordSaying, Opens, OutOfPlace, Zero, Count, Number, RowName, word_said, meaning_said, number_word, from_zero, keywords}
-use Rattle.cip_parts.specs.BlockParts.{most_blocks, Blocks, numbers_from, has_number, is_block, stands_on, is_column_of, blocks_with, is_linking, is_bounded, is_open, block_part, blocks_of}
-use Rattle.cip_parts.specs.BlockMeaning.{no_part, part_at, row_at, HasEntry, IsOfBlock, AreBlocks}
+use Rattle.cip_problem.specs.BlockParts.{most_blocks, Blocks, numbers_from, has_number, is_block, stands_on, is_column_of, blocks_with, is_linking, is_bounded, is_open, block_part, blocks_of}
+use Rattle.cip_problem.specs.BlockMeaning.{no_part, part_at, row_at, HasEntry, IsOfBlock, AreBlocks}
 use Rattle.cip_block_rules.specs.NamedRows.{NamedRow, is_named, block_named, row_blocks}
 use Rattle.cip_block_rules.specs.BlockRules.{BlockFacts, no_blocks, block_rules, block_fault, block_facts_with, blocks_with_saying, block_end_rules, block_count, is_no_block, block_reading}
 use Rattle.cip_block_rules.specs.BlockStatements.{AreNamedOnce, named_by, AreOfNames}

@@ -5,7 +5,7 @@ use Rattle.std.specs.List.{filter, list_any}
 use Rattle.std.proofs.lemmas.Bool.{eq-eqb, eqb-true, false_from_ne_true, lt-ltb}
 use Rattle.cip_problem.specs.Program.{Row, no_row}
 use Rattle.cip_mps_rules.proofs.Quiet.{left_false, right_false, or_false}
-use Rattle.cip_parts.specs.BlockParts.{numbers_from, has_number, rows_where, is_block, stands_on, has_entry}
+use Rattle.cip_problem.specs.BlockParts.{numbers_from, has_number, rows_where, is_block, stands_on, has_entry}
 
 -- ---- one of so many
 

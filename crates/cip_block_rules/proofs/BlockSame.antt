@@ -15,8 +15,8 @@ use Rattle.cip_mps_steps.specs.MpsSteps.{changed}
 use Rattle.cip_mps_steps.proofs.LookUps.{AreApart, changed_map, is_in-cons}
 use Rattle.cip_line_texts.proofs.LineSame.{StandsFor}
 use Rattle.cip_block_rules.specs.BlockWords.{Keyword, WordPlace, KeywordDue, ZeroDue, CountDue, BlockDue, NamesOf, WordSaying, Opens, OutOfPlace, Zero, Count, Number, RowName, keywords, meaning_said, word_said, from_zero}
-use Rattle.cip_parts.specs.BlockParts.{numbers_from, has_number, is_linking, is_open, blocks_of}
-use Rattle.cip_parts.specs.NamesOnce.{StandOnce}
+use Rattle.cip_problem.specs.BlockParts.{numbers_from, has_number, is_linking, is_open, blocks_of}
+use Rattle.cip_problem.specs.NamesOnce.{StandOnce}
 use Rattle.cip_block_rules.specs.NamedRows.{NamedRow, is_named, block_named, row_blocks}
 use Rattle.cip_block_rules.specs.BlockRules.{BlockFacts, block_rules, block_fault, block_facts_with, is_no_block, is_bad_word, begun_in, begun_with, count_with, named_with, block_count, block_end_rules, lacks_zero, lacks_count, lacks_number, lacks_block, block_reading}
 use Rattle.cip_block_rules.proofs.BlockNumbers.{within, within_below, below_within, part_of}

@@ -9,7 +9,7 @@ use Rattle.cip_problem.specs.Activity.{StandsBelow}
 use Rattle.cip_problem.specs.Program.{Term, Row, Program}
 use Rattle.cip_problem.specs.WellFormed.{columns}
 use Rattle.cip_mps_rules.proofs.Quiet.{left_false, right_false, or_false}
-use Rattle.cip_parts.specs.BlockParts.{numbers_from, has_number, is_block, stands_on, has_entry, is_column_of, blocks_with, is_linking}
+use Rattle.cip_problem.specs.BlockParts.{numbers_from, has_number, is_block, stands_on, has_entry, is_column_of, blocks_with, is_linking}
 use Rattle.cip_block_rules.proofs.BlockNumbers.{within, within_below, below_within, passes_below, passes_item, chosen, none_of, not_empty, one_number, or_second, both_left, both_right, both, EntryAt, entry_found}
 use Rattle.cip_block_rules.specs.BlockOwners.{Owners, no_owners, owner_at, owned_at, entry_owned, row_owned, owners_from, owners_of, OwnersTell}
 

@@ -12,7 +12,7 @@ use Rattle.cip_mps_rules.specs.MpsWords.{number_in, meaning_in}
 use Rattle.cip_mps_rules.specs.MpsRules.{least}
 use Rattle.cip_mps_rules.proofs.Quiet.{kept}
 use Rattle.cip_block_rules.specs.BlockWords.{Keyword, Presolved, BlockCount, Block, Master, WordPlace, KeywordDue, ZeroDue, CountDue, BlockDue, NamesOf, WordSaying, Opens, OutOfPlace, Zero, Count, Number, RowName, keywords, meaning_said, word_said, number_word, from_zero}
-use Rattle.cip_parts.specs.BlockParts.{most_blocks}
+use Rattle.cip_problem.specs.BlockParts.{most_blocks}
 use Rattle.cip_block_rules.proofs.BlockNumbers.{both_right}
 use Rattle.cip_block_rules.specs.BlockSteps.{RowPlace, Unnamed, place_of, block_at, BlockState, no_state, is_taken, block_tests, begin_block, put_row, state_with}
 use Rattle.cip_block_rules.specs.BlockStepStatements.{IsSoundBlockState}

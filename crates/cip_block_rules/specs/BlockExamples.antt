@@ -5,7 +5,7 @@ use Rattle.cip_rational.specs.Rational.{zeroℚ}
 use Rattle.cip_problem.specs.Program.{Row, Program}
 use Rattle.cip_mps_rules.specs.MpsExamples.{three_columns_program, term, row_to, up_to}
 use Rattle.cip_line_texts.specs.LineTexts.{Means, Faulty, outcome_of}
-use Rattle.cip_parts.specs.BlockParts.{BlockPart, Blocks}
+use Rattle.cip_problem.specs.BlockParts.{BlockPart, Blocks}
 use Rattle.cip_block_rules.specs.BlockRules.{block_reading}
 
 -- ---- programs

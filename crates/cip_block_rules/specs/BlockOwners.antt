@@ -6,7 +6,7 @@ use Rattle.std.specs.List.{list_any}
 use Rattle.cip_problem.specs.Activity.{StandsBelow}
 use Rattle.cip_problem.specs.Program.{Row, Program}
 use Rattle.cip_problem.specs.WellFormed.{columns}
-use Rattle.cip_parts.specs.BlockParts.{numbers_from, is_block, is_column_of, blocks_with, is_linking}
+use Rattle.cip_problem.specs.BlockParts.{numbers_from, is_block, is_column_of, blocks_with, is_linking}
 
 -- the owner of each column, and whether a column has entries in two blocks
 pub record Owners : Type 0 where

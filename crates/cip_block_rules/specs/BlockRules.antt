@@ -8,7 +8,7 @@ use Rattle.cip_mps_rules.specs.MpsWords.{is_in}
 use Rattle.cip_mps_rules.specs.MpsRules.{Rule, rule, least}
 use Rattle.cip_line_texts.specs.LineTexts.{Reading}
 use Rattle.cip_block_rules.specs.BlockWords.{BlockCount, Block, WordPlace, KeywordDue, ZeroDue, CountDue, BlockDue, WordSaying, Opens, OutOfPlace, Count, Number, RowName, line_words, word_said, next_place, from_zero}
-use Rattle.cip_parts.specs.BlockParts.{most_blocks, Blocks, numbers_from, has_number, is_linking, is_open, blocks_of}
+use Rattle.cip_problem.specs.BlockParts.{most_blocks, Blocks, numbers_from, has_number, is_linking, is_open, blocks_of}
 use Rattle.cip_block_rules.specs.NamedRows.{NamedRow, is_named, row_blocks}
 
 -- ---- what is known

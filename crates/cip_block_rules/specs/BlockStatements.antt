@@ -7,8 +7,8 @@ use Rattle.cip_problem.specs.WellFormed.{columns}
 use Rattle.cip_mps_rules.specs.MpsWords.{is_in}
 use Rattle.cip_line_texts.specs.LineTexts.{HasResult}
 use Rattle.cip_line_texts.specs.LineStatements.{OneOutcome, FaultsAreFirst, ResultsAreDescribed, known_of}
-use Rattle.cip_parts.specs.BlockParts.{Blocks, has_number}
-use Rattle.cip_parts.specs.BlockMeaning.{part_at, AreBlocks}
+use Rattle.cip_problem.specs.BlockParts.{Blocks, has_number}
+use Rattle.cip_problem.specs.BlockMeaning.{part_at, AreBlocks}
 use Rattle.cip_block_rules.specs.NamedRows.{NamedRow, is_named, block_named}
 use Rattle.cip_block_rules.specs.BlockWords.{word_said}
 use Rattle.cip_block_rules.specs.BlockRules.{BlockFacts, block_rules, block_fault, block_end_rules, block_end_fault, block_reading}

@@ -1,8 +1,8 @@
 -- The laws of the steps, each as one statement: functions of `src/lib.rt` have them as contracts.
 use Rattle.std.specs.Prelude.{◌≡◌, ⊤, ℕ, ◌<◌, ◌≤◌, false, List, [], ◌∷◌, length, Option, None, Some, All, IfSome, unwrap_or, is_none, is_some, if◌then◌else◌}
 use Rattle.cip_problem.specs.Program.{Program}
-use Rattle.cip_parts.specs.NamesOnce.{StandOnce}
-use Rattle.cip_parts.specs.BlockParts.{most_blocks}
+use Rattle.cip_problem.specs.NamesOnce.{StandOnce}
+use Rattle.cip_problem.specs.BlockParts.{most_blocks}
 use Rattle.cip_mps_rules.specs.MpsRules.{least}
 use Rattle.cip_line_texts.specs.LineStream.{TextsAreRead, FaultsOfEndedLines, FaultsStay}
 use Rattle.cip_block_rules.specs.BlockWords.{Presolved, BlockCount, Block, Master, WordPlace, CountDue, NamesOf, word_said, Opens, OutOfPlace, Zero, Count, Number, RowName, from_zero}

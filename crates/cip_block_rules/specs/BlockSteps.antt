@@ -9,7 +9,7 @@ use Rattle.cip_mps_rules.specs.MpsWords.{number_in}
 use Rattle.cip_mps_rules.specs.MpsRules.{Rule, rule, least}
 use Rattle.cip_line_texts.specs.LineTexts.{Reading}
 use Rattle.cip_block_rules.specs.BlockWords.{WordPlace, KeywordDue, WordSaying, Count, Number, RowName, line_words, word_said, next_place, from_zero}
-use Rattle.cip_parts.specs.BlockParts.{Blocks, numbers_from, is_linking, is_open, blocks_of}
+use Rattle.cip_problem.specs.BlockParts.{Blocks, numbers_from, is_linking, is_open, blocks_of}
 use Rattle.cip_block_rules.specs.BlockRules.{is_bad_word, is_bad_count, is_unknown_row, count_with, lacks_zero, lacks_count, lacks_number}
 
 -- ---- what is kept

@@ -2,13 +2,13 @@
 use Rattle.std.proofs.Common.{List, ℕ, Result, Ok, Err, MatchResult, IfOk}
 use Rattle.cip_problem.specs.Program.{Program}
 use Rattle.cip_line_texts.specs.LineTexts.{HasResult}
-use Rattle.cip_line_stream.specs.EndedFaults.{IsKnownFault}
-use Rattle.cip_line_stream.specs.TextFaults.{IsToldBy}
-use Rattle.cip_line_stream.specs.PieceReaders.{IsFed}
-use Rattle.cip_line_stream.specs.declared.text_faults.ReadFault.{ReadFault}
-use Rattle.cip_line_stream.specs.declared.text_faults.ReadFault.TheVariants.{Faulty, NoMemory}
-use Rattle.cip_parts.specs.BlockParts.{Blocks}
-use Rattle.cip_parts.specs.BlockMeaning.{AreBlocks}
+use Rattle.cip_text.specs.EndedFaults.{IsKnownFault}
+use Rattle.cip_text.specs.TextFaults.{IsToldBy}
+use Rattle.cip_text.specs.PieceReaders.{IsFed}
+use Rattle.cip_text.specs.declared.text_faults.ReadFault.{ReadFault}
+use Rattle.cip_text.specs.declared.text_faults.ReadFault.TheVariants.{Faulty, NoMemory}
+use Rattle.cip_problem.specs.BlockParts.{Blocks}
+use Rattle.cip_problem.specs.BlockMeaning.{AreBlocks}
 use Rattle.cip_block_rules.specs.BlockStatements.{BlocksAreApart}
 use Rattle.cip_block_rules.specs.BlockRules.{block_reading}
 use Rattle.cip_blocks.specs.declared.kinds.BlockKind.{BlockKind}

@@ -8,7 +8,7 @@ use Rattle.cip_problem.specs.Box.{sides_at}
 use Rattle.cip_problem.specs.WellFormed.{IsWellFormed, columns}
 use Rattle.cip_mps_rules.specs.MpsRules.{Rule, rule, least}
 use Rattle.cip_mps_rules.proofs.Quiet.{kept}
-use Rattle.cip_parts.specs.BlockParts.{numbers_from, is_block, rows_where, stands_on, has_entry, is_column_of, blocks_with, is_linking, is_bounded, is_open, block_part, blocks_of, grouped, parts_of, blocks_by}
+use Rattle.cip_problem.specs.BlockParts.{numbers_from, is_block, rows_where, stands_on, has_entry, is_column_of, blocks_with, is_linking, is_bounded, is_open, block_part, blocks_of, grouped, parts_of, blocks_by}
 use Rattle.cip_block_rules.specs.BlockRules.{lacks_zero, lacks_count, lacks_number}
 use Rattle.cip_block_rules.specs.BlockWords as text
 use Rattle.cip_block_rules.specs.BlockSteps as steps

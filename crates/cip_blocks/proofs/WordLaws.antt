@@ -10,7 +10,7 @@ use Rattle.cip_mps_rules.specs.MpsWords.{number_in}
 use Rattle.cip_mps_rules.specs.MpsRules.{least}
 use Rattle.cip_line_texts.specs.LineStream.{Going, Failed, progress_at, item_read}
 use Rattle.cip_line_texts.proofs.LineBytes.{failed_items}
-use Rattle.cip_line_stream.specs.PieceStands.{progress_after}
+use Rattle.cip_text.specs.PieceStands.{progress_after}
 use Rattle.cip_block_rules.specs.BlockWords.{RowName, word_said}
 use Rattle.cip_block_rules.specs.BlockSteps as steps
 use Rattle.cip_block_rules.specs.BlockSteps.{BlockState, block_tests, state_with, block_steps}

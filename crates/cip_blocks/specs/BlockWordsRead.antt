@@ -3,7 +3,7 @@ use Rattle.std.specs.Prelude.{◌≡◌, ℕ, List, map, Option, None}
 use Rattle.cip_problem.specs.Program.{Program}
 use Rattle.cip_mps_rules.specs.MpsRules.{least}
 use Rattle.cip_line_texts.specs.LineTexts.{Reading}
-use Rattle.cip_parts.specs.BlockParts.{Blocks}
+use Rattle.cip_problem.specs.BlockParts.{Blocks}
 use Rattle.cip_block_rules.specs.BlockWords.{WordSaying}
 use Rattle.cip_block_rules.specs.BlockSteps.{BlockState, block_tests, state_with, block_steps}
 use Rattle.cip_blocks.specs.declared.block_words.BlockWords.{BlockWords}

@@ -11,8 +11,8 @@ pub mod OwnersKept
 pub mod SmallNumbers
 pub mod WordPlaces
 pub use Rattle.cip_block_rules.specs.BlockRules
-pub use Rattle.cip_line_stream.specs.declared.text_faults.ReadFault
-pub use Rattle.cip_line_stream.specs.declared.text_faults.TextFault
-pub use Rattle.cip_line_stream.specs.TextFaults
-pub use Rattle.cip_line_stream.specs.declared.piece_reader.PieceReader
-pub use Rattle.cip_line_stream.specs.PieceReaders
+pub use Rattle.cip_text.specs.declared.text_faults.ReadFault
+pub use Rattle.cip_text.specs.declared.text_faults.TextFault
+pub use Rattle.cip_text.specs.TextFaults
+pub use Rattle.cip_text.specs.declared.piece_reader.PieceReader
+pub use Rattle.cip_text.specs.PieceReaders

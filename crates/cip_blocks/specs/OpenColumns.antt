@@ -1,7 +1,7 @@
 -- Columns of blocks without both bounds, by the blocks of columns.
 use Rattle.std.specs.Prelude.{ℕ, Bool, false, not, ◌&&◌, ◌||◌, List, [], ◌∷◌, Option, is_some}
 use Rattle.cip_problem.specs.Program.{Sides}
-use Rattle.cip_parts.specs.BlockParts.{is_bounded}
+use Rattle.cip_problem.specs.BlockParts.{is_bounded}
 
 -- a column of a block lacks a bound
 abbrev pub has_open_owned : List Sides → List (Option ℕ) → Bool

@@ -1,6 +1,6 @@
 -- Numbers of at most 4,096.
 use Rattle.std.specs.Prelude.{ℕ, nat_le, if◌then◌else◌, Option, None, Some}
-use Rattle.cip_parts.specs.BlockParts.{most_blocks}
+use Rattle.cip_problem.specs.BlockParts.{most_blocks}
 
 -- a number, where it is at most that of blocks
 abbrev pub small : Option ℕ → Option ℕ

@@ -1,7 +1,7 @@
 //! The kinds of faults of a text of blocks.
 ghost use Rattle.std.specs.Prelude.{◌≡◌, ◌<◌, ◌≤◌, length};
 
-use cip_line_stream::FaultKind;
+use cip_text::FaultKind;
 use std::{error, fmt};
 
 /// A kind of fault. Of several rules that a word breaks, or that are broken behind the last line, the least kind

@@ -13,7 +13,7 @@ mod word_places;
 mod words;
 
 pub use block_text::BlockText;
-pub use cip_line_stream::{PieceReader, PieceText, ReadFault, TextFault};
+pub use cip_text::{PieceReader, PieceText, ReadFault, TextFault};
 pub use kinds::BlockKind;
 pub use laws::known_block_faults_stay;
 pub use reader::BlockReader;

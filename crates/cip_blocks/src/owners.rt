@@ -2,7 +2,7 @@
 ghost use Rattle.std.specs.Prelude.{◌≡◌, ◌&&◌, ◌<◌, length, vec_len, replicate, fold, not, is_some, IfOk, None};
 ghost use Rattle.cip_problem.specs.Activity.{StandsBelow};
 ghost use Rattle.cip_problem.specs.WellFormed.{IsWellFormed, columns};
-ghost use Rattle.cip_parts.specs.BlockParts.{is_bounded};
+ghost use Rattle.cip_problem.specs.BlockParts.{is_bounded};
 ghost use Rattle.cip_block_rules.specs.BlockOwners as plain;
 ghost use Rattle.cip_blocks.specs.OpenColumns.{has_open_owned};
 

@@ -1,14 +1,16 @@
 //! The call of `run` with the built-in plugins.
 
-use cip_branching::{FirstRule, MostFractionalRule, PseudoCostRule};
-use cip_guides::{DiveHeuristic, ExchangeHeuristic, RoundHeuristic};
+use cip_guides::{
+    DiveHeuristic, ExchangeHeuristic, FirstRule, MostFractionalRule, PseudoCostRule, RoundHeuristic,
+};
 use cip_handlers::{Class, ClassHandler};
 use cip_io::{Sink, Store};
 use cip_kits::is_few;
 use cip_main::{Log, Words, run};
 use cip_plugin::{AnyPlugin, Kit};
-use cip_propagators::{ActivityPropagator, ReducedCostPropagator};
-use cip_tighten::{CoverSeparator, MixedSeparator, RoundingSeparator};
+use cip_tighten::{
+    ActivityPropagator, CoverSeparator, MixedSeparator, ReducedCostPropagator, RoundingSeparator,
+};
 use std::alloc::{AllocError, Global};
 
 /// How many built-in plugins there are.

@@ -1,7 +1,10 @@
 pub mod Asking
 pub mod Calling
 pub mod Noting
-pub mod Pools
-pub mod Serving
-pub mod Waiting
 pub mod PassedOn
+pub mod Pools
+pub mod Said
+pub mod Serving
+pub mod SoFar
+pub mod TurnsPassedOn
+pub mod Waiting

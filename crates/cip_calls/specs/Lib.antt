@@ -1,8 +1,9 @@
 pub mod Asked
-pub mod Served
-pub mod Noted
-pub mod Waiting
+pub mod Enforcing
 pub mod Joined
+pub mod Noted
+pub mod Served
+pub mod Waiting
 pub use Rattle.cip_judge.specs.Beginning
 pub use Rattle.cip_judge.specs.CoreStates
 pub use Rattle.cip_judge.specs.Figures
@@ -23,3 +24,4 @@ pub use Rattle.cip_judge.specs.Steps
 pub use Rattle.cip_judge.specs.StepsBack
 pub use Rattle.cip_roster.specs.Turns
 pub use Rattle.cip_roster.specs.Wished
+pub use Rattle.cip_search.specs.Relaxation

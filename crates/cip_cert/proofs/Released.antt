@@ -10,8 +10,8 @@ use Rattle.cip_problem.specs.Program.{Sides, Row, Program}
 use Rattle.cip_problem.specs.Box.{IsInBox}
 use Rattle.cip_problem.specs.Points.{IsSatisfied}
 use Rattle.cip_linear.specs.Aggregate.{Inequality}
-use Rattle.cip_cuts.specs.Improving.{IsImproving, IsValidRow, IsValid, IsNoDearer}
-use Rattle.cip_cuts.proofs.Improving.{fewer}
+use Rattle.cip_linear.specs.Improving.{IsImproving, IsValidRow, IsValid, IsNoDearer}
+use Rattle.cip_linear.proofs.Improving.{fewer}
 use Rattle.cip_lin.specs.declared.combos.RowId.{RowId}
 use Rattle.cip_lin.specs.declared.combos.RowId.TheVariants.{Own, Pool, Cutoff}
 use Rattle.cip_lin.specs.declared.combos.RowMultiple.{RowMultiple}

@@ -7,7 +7,7 @@ use Rattle.cip_problem.specs.Program.{Term, Sides, Row}
 use Rattle.cip_problem.specs.Activity.{value_at}
 use Rattle.cip_problem.specs.Box.{sides_at, box_inside}
 use Rattle.cip_linear.specs.Aggregate.{Part, Inequality}
-use Rattle.cip_cuts.specs.Cuts.{rounded}
+use Rattle.cip_linear.specs.Cuts.{rounded}
 use Rattle.cip_frac.specs.Order.{same_rational}
 use Rattle.cip_frac.specs.declared.operations.Wide.{Wide as Overflow}
 use Rattle.cip_frac.specs.Outcomes.{product_added}

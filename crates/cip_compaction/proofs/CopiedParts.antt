@@ -6,7 +6,7 @@ use Rattle.std.specs.Str.{bytes_eq}
 use Rattle.std.specs.Cmp.Lexicographic.{bytes_decides}
 use Rattle.std.proofs.lemmas.Option.{none-some, same_Some}
 use Rattle.cip_problem.specs.Names.{number_of}
-use Rattle.cip_parts.specs.NamesOnce.{StandOnce}
+use Rattle.cip_problem.specs.NamesOnce.{StandOnce}
 use Rattle.std.proofs.Math.ListN.{get_or}
 use Rattle.cip_compaction.specs.EntriesLeft.{entries_left}
 

@@ -12,14 +12,14 @@ use Rattle.cip_problem.specs.Activity.{value_at}
 use Rattle.cip_problem.specs.Box.{Between, IsInBox, sides_at}
 use Rattle.cip_problem.specs.RowTerms.{column_at, coefficient_at, AreTerms}
 use Rattle.cip_problem.proofs.Points.AtPlaces.{in_box_at}
-use Rattle.cip_leaving.specs.Reduced.{IsRelaxed}
-use Rattle.cip_leaving.specs.Forms.{Form, form_value, constant_form, placed, spread, gathered, kept_from, number_in, renumbered_term}
-use Rattle.cip_leaving.specs.Pairs.{IsWholeIn, IsAssignment}
-use Rattle.cip_leaving.specs.Compacting.{Stays, IsGone, HoldsBack}
-use Rattle.cip_leaving.proofs.PassedOn.{placed_value, spread_value, spread_gone, same_form, gathered_at}
-use Rattle.cip_leaving.proofs.PassedOn.{sides_number}
-use Rattle.cip_leaving.specs.ColumnsOut.{IsPlainAndFree, GoesAtValue, GoesByForm, MayGo, MayAllGo, IsIn, TermsIn, SourcesStay}
-use Rattle.cip_leaving.specs.SpentRows.{IsSpent}
+use Rattle.cip_postsolve.specs.Reduced.{IsRelaxed}
+use Rattle.cip_postsolve.specs.Forms.{Form, form_value, constant_form, placed, spread, gathered, kept_from, number_in, renumbered_term}
+use Rattle.cip_postsolve.specs.Pairs.{IsWholeIn, IsAssignment}
+use Rattle.cip_postsolve.specs.Compacting.{Stays, IsGone, HoldsBack}
+use Rattle.cip_postsolve.proofs.LeavingPassedOn.{placed_value, spread_value, spread_gone, same_form, gathered_at}
+use Rattle.cip_postsolve.proofs.LeavingPassedOn.{sides_number}
+use Rattle.cip_postsolve.specs.ColumnsOut.{IsPlainAndFree, GoesAtValue, GoesByForm, MayGo, MayAllGo, IsIn, TermsIn, SourcesStay}
+use Rattle.cip_postsolve.specs.SpentRows.{IsSpent}
 use Rattle.cip_compaction.specs.EntriesLeft.{gone_of, entries_left, old_numbers, new_numbers}
 use Rattle.cip_compaction.specs.LeftProgram.{moved_term}
 

@@ -17,11 +17,11 @@ use Rattle.cip_problem.specs.Program.{Program}
 use Rattle.cip_problem.specs.Activity.{value_at}
 use Rattle.cip_frac.specs.declared.operations.Wide.{Wide}
 use Rattle.cip_frac.specs.Outcomes.{and_then, sum_outcome, product_added}
-use Rattle.cip_leaving.specs.Forms.{Form, placed, gathered}
-use Rattle.cip_leaving.specs.Pairs.{IsAssignment}
-use Rattle.cip_leaving.specs.WholeParts.{with_wholes}
-use Rattle.cip_leaving.specs.Compacting.{Stays}
-use Rattle.cip_leaving.specs.ColumnsOut.{GoesAtValue, GoesByForm, MayGo, MayAllGo, SourcesStay}
+use Rattle.cip_postsolve.specs.Forms.{Form, placed, gathered}
+use Rattle.cip_postsolve.specs.Pairs.{IsAssignment}
+use Rattle.cip_postsolve.specs.WholeParts.{with_wholes}
+use Rattle.cip_postsolve.specs.Compacting.{Stays}
+use Rattle.cip_postsolve.specs.ColumnsOut.{GoesAtValue, GoesByForm, MayGo, MayAllGo, SourcesStay}
 use Rattle.cip_postsolve.specs.StepsBack.{form_outcome, WholesFit}
 use Rattle.cip_compaction.specs.EntriesLeft.{gone_of}
 use Rattle.cip_compaction.specs.LeftProgram.{left_program}

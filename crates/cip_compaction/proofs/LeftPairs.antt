@@ -12,18 +12,18 @@ use Rattle.cip_problem.specs.Box.{sides_at}
 use Rattle.cip_problem.specs.Choices.{choice_at}
 use Rattle.cip_problem.specs.Points.{IsSatisfied, IsFeasible}
 use Rattle.cip_problem.proofs.Points.AtPlaces.{IsInBox-long}
-use Rattle.cip_leaving.specs.NarrowedPrograms.{AllSatisfied, IsTightened, IsStep, IsExactStep, IsInfeasible}
-use Rattle.cip_leaving.specs.Forms.{Form, spread, gathered, kept_at, kept_from, renumbered}
-use Rattle.cip_leaving.specs.Pairs.{IsHeldFast, IsPair, IsExactPair}
-use Rattle.cip_leaving.specs.Compacting.{IsCompacted, AreLeft, HoldsBack, rows_left}
-use Rattle.cip_leaving.proofs.PassedOn.{all_long}
-use Rattle.cip_leaving.proofs.PassedOn.{exact_step, infeasible_before, step_pair, pair_after, exact_step_pair, exact_pair_after}
-use Rattle.cip_leaving.proofs.PassedOn.{left_back, left_onward, spread_gathered, gathered_at}
-use Rattle.cip_leaving.proofs.PassedOn.{compacted_exact}
-use Rattle.cip_leaving.proofs.PassedOn.{from_rec, to_rec}
-use Rattle.cip_leaving.specs.DraftParts.{IsDraft, unnamed}
-use Rattle.cip_leaving.specs.ColumnsOut.{GoesAtValue, GoesByForm, MayGo, MayAllGo, TermsIn, SourcesStay}
-use Rattle.cip_leaving.specs.SpentRows.{RowGoes, RowsGo}
+use Rattle.cip_postsolve.specs.NarrowedPrograms.{AllSatisfied, IsTightened, IsStep, IsExactStep, IsInfeasible}
+use Rattle.cip_postsolve.specs.Forms.{Form, spread, gathered, kept_at, kept_from, renumbered}
+use Rattle.cip_postsolve.specs.Pairs.{IsHeldFast, IsPair, IsExactPair}
+use Rattle.cip_postsolve.specs.Compacting.{IsCompacted, AreLeft, HoldsBack, rows_left}
+use Rattle.cip_postsolve.proofs.LeavingPassedOn.{all_long}
+use Rattle.cip_postsolve.proofs.LeavingPassedOn.{exact_step, infeasible_before, step_pair, pair_after, exact_step_pair, exact_pair_after}
+use Rattle.cip_postsolve.proofs.LeavingPassedOn.{left_back, left_onward, spread_gathered, gathered_at}
+use Rattle.cip_postsolve.proofs.LeavingPassedOn.{compacted_exact}
+use Rattle.cip_postsolve.proofs.LeavingPassedOn.{from_rec, to_rec}
+use Rattle.cip_postsolve.specs.DraftParts.{IsDraft, unnamed}
+use Rattle.cip_postsolve.specs.ColumnsOut.{GoesAtValue, GoesByForm, MayGo, MayAllGo, TermsIn, SourcesStay}
+use Rattle.cip_postsolve.specs.SpentRows.{RowGoes, RowsGo}
 use Rattle.cip_compaction.specs.EntriesLeft.{gone_of, entries_left, old_numbers, new_numbers}
 use Rattle.cip_compaction.specs.LeftProgram.{has_no_terms, is_open_side, says_nothing, stands_on_gone, is_dropped, dropped_rows, staying_rows, moved_term, moved_row, AllMove, left_program, CanLeave}
 use Rattle.cip_compaction.proofs.Gone.{length-gone, left_gathered, old_numbers_kept, in_by_flag, flag_of_in, gone_column, gone_value, spent_holds, new_number, length-numbers, moved_terms, terms_rise}

@@ -1,3 +1,3 @@
 -- Lemmas of crates below, for those above.
-pub use Rattle.cip_leaving.proofs.PassedOn.{stays_enclosed}
-pub use Rattle.cip_leaving.proofs.PassedOn.{pair_way_back}
+pub use Rattle.cip_postsolve.proofs.LeavingPassedOn.{stays_enclosed}
+pub use Rattle.cip_postsolve.proofs.LeavingPassedOn.{pair_way_back}

@@ -10,10 +10,10 @@ use Rattle.cip_problem.specs.Box.{sides_at, sides_inside}
 use Rattle.cip_problem.specs.Choices.{choice_at}
 use Rattle.cip_problem.specs.Points.{cost_of}
 use Rattle.cip_problem.proofs.Points.AtPlaces.{IsInBox-long}
-use Rattle.cip_leaving.specs.Reduced.{IsRelaxed}
-use Rattle.cip_leaving.specs.Forms.{Form, placed, filled, spread, gathered, kept_at, kept_from}
-use Rattle.cip_leaving.specs.Pairs.{IsLong, IsKept, HasForm, IsAssignment, semi_values, IsHeldFast, HasNear, IsExactPair}
-use Rattle.cip_leaving.proofs.PassedOn.{exact_self, exact_step_pair}
+use Rattle.cip_postsolve.specs.Reduced.{IsRelaxed}
+use Rattle.cip_postsolve.specs.Forms.{Form, placed, filled, spread, gathered, kept_at, kept_from}
+use Rattle.cip_postsolve.specs.Pairs.{IsLong, IsKept, HasForm, IsAssignment, semi_values, IsHeldFast, HasNear, IsExactPair}
+use Rattle.cip_postsolve.proofs.LeavingPassedOn.{exact_self, exact_step_pair}
 use Rattle.cip_postsolve.specs.StepsBack.{WholesFit}
 use Rattle.cip_compaction.specs.PresolvedPrograms.{counted}
 

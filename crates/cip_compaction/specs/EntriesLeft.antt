@@ -1,6 +1,6 @@
 -- What is left of lists with an entry for each column without those of the columns that are gone.
 use Rattle.std.specs.Prelude.{ℕ, ◌+◌, Bool, true, false, List, [], ◌∷◌, Option, map, is_some}
-use Rattle.cip_leaving.specs.Forms.{Form}
+use Rattle.cip_postsolve.specs.Forms.{Form}
 
 -- whether each column is gone: whether it has a form
 abbrev pub gone_of : List (Option Form) → List Bool

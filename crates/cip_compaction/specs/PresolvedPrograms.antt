@@ -3,8 +3,8 @@ use Rattle.std.specs.Prelude.{◌≡◌, ℕ, zero, suc, ◌+◌, List, [], ◌�
 use Rattle.cip_rational.specs.Rational.{ℚ}
 use Rattle.cip_problem.specs.Program.{Program}
 use Rattle.cip_problem.specs.WellFormed.{columns}
-use Rattle.cip_leaving.specs.Forms.{kept_from}
-use Rattle.cip_leaving.specs.Pairs.{IsLong, IsAssignment, IsPair, IsExactPair}
+use Rattle.cip_postsolve.specs.Forms.{kept_from}
+use Rattle.cip_postsolve.specs.Pairs.{IsLong, IsAssignment, IsPair, IsExactPair}
 use Rattle.cip_postsolve.specs.StepsBack.{point_back, old_number, whole_of_left, whole_point, LeafFitsBack}
 use Rattle.cip_compaction.specs.declared.presolved.Presolved.{Presolved}
 

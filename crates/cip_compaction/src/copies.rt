@@ -3,7 +3,7 @@ ghost use Rattle.std.specs.Prelude.{◌≡◌, ◌++◌, ◌∷◌, [], None, If
 ghost use Rattle.cip_problem.specs.Names.{number_of};
 ghost use Rattle.cip_compaction.specs.EntriesLeft.{entries_left};
 
-use cip_leaving::Names;
+use cip_postsolve::Names;
 use std::alloc::{AllocError, Global};
 
 /// Puts a copy of a name that is not there yet at the end; `Err` where the memory for it was refused.

@@ -5,8 +5,8 @@ ghost use Rattle.cip_problem.specs.Activity.{StandsBelow};
 ghost use Rattle.cip_compaction.specs.LeftProgram.{says_nothing, stands_on_gone, is_dropped, dropped_rows, staying_rows, is_open_side, moved_term, moved_row, CanMove, AllMove};
 
 use cip_frac::Frac;
-use cip_leaving::row_of_terms;
 use cip_lin::{Row, Term};
+use cip_postsolve::row_of_terms;
 use std::alloc::{AllocError, Global};
 
 /// Whether a side is open.

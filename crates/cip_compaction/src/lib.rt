@@ -7,10 +7,10 @@ mod left_lists;
 mod left_rows;
 mod presolved;
 
-pub use cip_leaving::{
-    ColumnForm, Draft, Outcome, form_at, forms_out, is_substitute, move_cost, open_places,
-    row_extent, take_sides, try_implied, try_replace,
+pub use cip_postsolve::{
+    ColumnForm, Draft, Outcome, PostsolveFault, Steps, form_at, forms_out, is_substitute,
+    leaf_fits, move_cost, open_places, postsolve, row_extent, take_sides, try_implied, try_replace,
+    whole_part,
 };
-pub use cip_postsolve::{PostsolveFault, Steps, leaf_fits, postsolve, whole_part};
 pub use left_rows::says_nothing;
 pub use presolved::{Presolved, compacted};

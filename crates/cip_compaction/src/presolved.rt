@@ -2,11 +2,11 @@
 ghost use Rattle.std.specs.Prelude.{◌≡◌, ◌≤◌, None, IfOk, OnOk, length, map, replicate};
 ghost use Rattle.cip_problem.specs.Limits.{most_columns};
 ghost use Rattle.cip_problem.specs.WellFormed.{IsWellFormed};
-ghost use Rattle.cip_leaving.specs.Programs.{program_from};
-ghost use Rattle.cip_leaving.specs.NarrowedPrograms.{IsStep, IsExactStep};
-ghost use Rattle.cip_leaving.specs.DraftParts.{IsDraft, unnamed};
-ghost use Rattle.cip_leaving.specs.ColumnsOut.{MayAllGo, SourcesStay};
-ghost use Rattle.cip_leaving.specs.SpentRows.{RowsGo};
+ghost use Rattle.cip_postsolve.specs.Programs.{program_from};
+ghost use Rattle.cip_postsolve.specs.NarrowedPrograms.{IsStep, IsExactStep};
+ghost use Rattle.cip_postsolve.specs.DraftParts.{IsDraft, unnamed};
+ghost use Rattle.cip_postsolve.specs.ColumnsOut.{MayAllGo, SourcesStay};
+ghost use Rattle.cip_postsolve.specs.SpentRows.{RowsGo};
 ghost use Rattle.cip_compaction.specs.EntriesLeft.{entries_left, gone_of, new_numbers, old_numbers};
 ghost use Rattle.cip_compaction.specs.LeftProgram.{dropped_rows, left_program, left_columns, staying_rows, moved_row, AllMove, CanLeave};
 ghost use Rattle.cip_compaction.specs.PresolvedPrograms.{IsPresolved, IsExactlyPresolved, IsUnchanged, counted};
@@ -16,9 +16,8 @@ use crate::left_lists::{
     bounds_left, choices_left, costs_left, gone_of, numbers_kept, numbers_left, whole_left,
 };
 use crate::left_rows::{dropped_rows, leave_out, move_all};
-use cip_leaving::{Draft, Names, Parts, Program, copied_rows, forms_out};
 use cip_lin::Row;
-use cip_postsolve::{ColumnForm, Steps};
+use cip_postsolve::{ColumnForm, Draft, Names, Parts, Program, Steps, copied_rows, forms_out};
 use std::alloc::{AllocError, Global};
 
 /// A reduced program, how its points come back, and for each of its columns the old number.

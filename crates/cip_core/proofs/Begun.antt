@@ -8,8 +8,8 @@ use Rattle.cip_problem.specs.BoxBound.{box_bound}
 use Rattle.cip_problem.specs.WellFormed.{IsWellFormed}
 use Rattle.cip_problem.specs.Log.{Entry, Node}
 use Rattle.cip_problem.proofs.BoxBound.BelowCosts.{root_bound_holds}
-use Rattle.cip_cuts.specs.Cuts.{HasWholeCosts}
-use Rattle.cip_cuts.specs.Improving.{IsBoundIn}
+use Rattle.cip_linear.specs.Cuts.{HasWholeCosts}
+use Rattle.cip_linear.specs.Improving.{IsBoundIn}
 use Rattle.cip_leaves.specs.WideLeaf.{IsWideLeaf}
 use Rattle.cip_lin.specs.declared.outcomes.Least.{Least}
 use Rattle.cip_lin.specs.declared.outcomes.Least.TheVariants.{Value, NoBound, Wide}

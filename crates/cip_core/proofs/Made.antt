@@ -5,7 +5,7 @@ use Rattle.std.proofs.lemmas.List.{length-replicate}
 use Rattle.cip_rational.specs.Rational.{ℚ, zeroℚ}
 use Rattle.cip_problem.specs.Program.{Row, Program}
 use Rattle.cip_problem.specs.WellFormed.{columns}
-use Rattle.cip_cuts.specs.Cuts.{HasWholeCosts, terms_from}
+use Rattle.cip_linear.specs.Cuts.{HasWholeCosts, terms_from}
 use Rattle.cip_incumbent.specs.HeldPoint.{Holding, nothing_held}
 use Rattle.cip_rows.specs.RowPools.{Pool}
 use Rattle.cip_search.specs.SearchState.{HasGivenBoxes}

@@ -11,7 +11,7 @@ use Rattle.cip_problem.specs.Choices.{greater, lesser, met}
 use Rattle.cip_problem.specs.Log.{Node}
 use Rattle.cip_problem.proofs.Choices.Meeting.{between_met, set_in_box}
 use Rattle.cip_problem.proofs.Points.AtPlaces.{in_box_at}
-use Rattle.cip_cuts.specs.Improving.{HoldsInBox}
+use Rattle.cip_linear.specs.Improving.{HoldsInBox}
 use Rattle.cip_lin.specs.declared.sides.Side.{Side}
 use Rattle.cip_domain.specs.Changes.{Region, Change, side_change, tightened}
 use Rattle.cip_domain.specs.Domain.{tightening}

@@ -4,7 +4,7 @@ use Rattle.cip_rational.specs.Rational.{ℚ, integer, ceil}
 use Rattle.cip_problem.specs.Program.{Program}
 use Rattle.cip_problem.specs.WellFormed.{columns}
 use Rattle.cip_problem.specs.Box.{sides_at}
-use Rattle.cip_cuts.specs.Cuts.{HasWholeCosts}
+use Rattle.cip_linear.specs.Cuts.{HasWholeCosts}
 use Rattle.cip_incumbent.specs.HeldPoint.{nothing_held}
 use Rattle.cip_model.specs.Least.{least_cost_from}
 use Rattle.cip_node_rules.specs.OpenColumns.{is_whole_at}

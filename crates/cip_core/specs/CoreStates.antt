@@ -6,7 +6,7 @@ use Rattle.cip_problem.specs.Program.{Row, Program}
 use Rattle.cip_problem.specs.Codes.{program_code}
 use Rattle.cip_problem.specs.WellFormed.{columns}
 use Rattle.cip_problem.specs.Log.{Node, node_of}
-use Rattle.cip_cuts.specs.Cuts.{HasWholeCosts}
+use Rattle.cip_linear.specs.Cuts.{HasWholeCosts}
 use Rattle.cip_leaves.specs.Searched.{nodes_given}
 use Rattle.cip_search.specs.SearchState.{WayBack, HasGivenBoxes}
 use Rattle.cip_compaction.specs.Pairs.{IsAssignment, IsPair}

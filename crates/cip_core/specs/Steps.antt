@@ -5,8 +5,8 @@ use Rattle.std.specs.List.Sorted.{IsPermutation}
 use Rattle.cip_rational.specs.Rational.{ℚ, integer, ceil}
 use Rattle.cip_problem.specs.Program.{Program}
 use Rattle.cip_problem.specs.Log.{End, Split, Closed, Parked, Node, matters}
-use Rattle.cip_cuts.specs.Cuts.{HasWholeCosts}
-use Rattle.cip_cuts.specs.Improving.{IsNoDearer}
+use Rattle.cip_linear.specs.Cuts.{HasWholeCosts}
+use Rattle.cip_linear.specs.Improving.{IsNoDearer}
 use Rattle.cip_leaves.specs.Searched.{NoMore}
 use Rattle.cip_model.specs.Verdicts.{verdict_of}
 use Rattle.cip_model.specs.declared.verdicts.Verdict.TheVariants.{Feasible}

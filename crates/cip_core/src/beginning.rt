@@ -1,8 +1,8 @@
 //! What a search begins with.
 ghost use Rattle.std.specs.Prelude.{◌≡◌, [], None, IfOk, IfSome, MatchBool, length};
 ghost use Rattle.cip_problem.specs.WellFormed.{columns};
-ghost use Rattle.cip_cuts.specs.Cuts.{HasWholeCosts};
-ghost use Rattle.cip_cuts.specs.Improving.{IsBoundIn};
+ghost use Rattle.cip_linear.specs.Cuts.{HasWholeCosts};
+ghost use Rattle.cip_linear.specs.Improving.{IsBoundIn};
 ghost use Rattle.cip_tree.specs.Moves.{IsNew};
 ghost use Rattle.cip_search.specs.SearchState.{HasGivenBoxes};
 ghost use Rattle.cip_compaction.specs.StepsBack.{way_back};

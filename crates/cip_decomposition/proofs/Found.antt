@@ -7,7 +7,7 @@ use Rattle.std.proofs.lemmas.Option.{slice_get_cases, slice_get-get_or, slice_ge
 use Rattle.cip_problem.specs.Program.{Sides, Choice, Plain, Row}
 use Rattle.cip_problem.specs.Box.{sides_at, no_sides}
 use Rattle.cip_problem.specs.Choices.{choice_at}
-use Rattle.cip_parts.specs.BlockParts.{is_block, rows_where}
+use Rattle.cip_problem.specs.BlockParts.{is_block, rows_where}
 use Rattle.cip_pricing.specs.Decomposition.{Owner, same_owner, picked}
 use Rattle.cip_pricing.proofs.Picked.{picked-nil}
 use Rattle.cip_decomposition.specs.Numbers.{found}

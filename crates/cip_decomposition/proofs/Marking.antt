@@ -4,7 +4,7 @@ use Rattle.std.specs.Prelude.{slice_set}
 use Rattle.std.proofs.lemmas.Bool.{eqb-true, eqb-false}
 use Rattle.std.proofs.lemmas.Option.{none-some, same_Some, slice_get_within}
 use Rattle.std.proofs.lemmas.List.{length-set, length-replicate}
-use Rattle.cip_parts.specs.BlockParts.{has_number}
+use Rattle.cip_problem.specs.BlockParts.{has_number}
 use Rattle.cip_pricing.specs.Decomposition.{Owner}
 use Rattle.cip_decomposition.specs.Owners.{marked, owned_below}
 use Rattle.cip_decomposition.proofs.AtPlaces.{get-set_same, get-set_other}

@@ -3,7 +3,7 @@ use Rattle.std.proofs.Common.{◌≡◌, ℕ, suc, ◌+◌, ◌<◌, ◌≤◌, 
 use Rattle.std.specs.Prelude.{slice_index_or}
 use Rattle.std.specs.List.{AllByRecursion, cons_option}
 use Rattle.std.proofs.lemmas.Option.{slice_get-get_or}
-use Rattle.cip_parts.specs.BlockParts.{rows_where}
+use Rattle.cip_problem.specs.BlockParts.{rows_where}
 use Rattle.cip_pricing.specs.Decomposition.{Owner}
 use Rattle.cip_decomposition.specs.Numbers.{found}
 

@@ -8,8 +8,8 @@ use Rattle.std.proofs.lemmas.List.{length-replicate, get_or_past}
 use Rattle.cip_problem.specs.Program.{Term, Row, Program, no_row}
 use Rattle.cip_problem.specs.Activity.{StandsBelow}
 use Rattle.cip_problem.specs.WellFormed.{columns, IsWellFormed}
-use Rattle.cip_parts.specs.BlockParts.{Blocks, has_number, stands_on}
-use Rattle.cip_parts.specs.BlockMeaning.{part_at, row_at, HasEntry, AreBlocks}
+use Rattle.cip_problem.specs.BlockParts.{Blocks, has_number, stands_on}
+use Rattle.cip_problem.specs.BlockMeaning.{part_at, row_at, HasEntry, AreBlocks}
 use Rattle.cip_pricing.specs.Decomposition.{Owner, IsOwner, IsOwnRow, IsDecomposed}
 use Rattle.cip_decomposition.specs.Owners.{owned_below}
 use Rattle.cip_decomposition.proofs.AtPlaces.{all_at, all_at_place, zip_at}

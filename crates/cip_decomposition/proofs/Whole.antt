@@ -6,8 +6,8 @@ use Rattle.std.proofs.lemmas.Option.{slice_get_within}
 use Rattle.std.proofs.lemmas.List.{length_push, length-replicate}
 use Rattle.cip_problem.specs.Program.{Program}
 use Rattle.cip_problem.specs.WellFormed.{columns, IsWellFormed}
-use Rattle.cip_parts.specs.BlockParts.{BlockPart, Blocks, has_number, blocks_by, parts_of, rows_where, is_block, numbers_from}
-use Rattle.cip_parts.specs.BlockMeaning.{no_part, part_at, AreBlocks}
+use Rattle.cip_problem.specs.BlockParts.{BlockPart, Blocks, has_number, blocks_by, parts_of, rows_where, is_block, numbers_from}
+use Rattle.cip_problem.specs.BlockMeaning.{no_part, part_at, AreBlocks}
 use Rattle.cip_pricing.specs.Decomposition.{Owner, Decomposition, picked, IsDecomposed}
 use Rattle.cip_pricing.proofs.Picked.{own_rows}
 use Rattle.cip_decomposition.specs.declared.parts.Subproblem.{Subproblem}

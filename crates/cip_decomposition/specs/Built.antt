@@ -1,8 +1,8 @@
 -- What a block asks of its points, as it is put together from the lists of the program.
 use Rattle.std.specs.Prelude.{◌≡◌, ℕ, List, length, map, Some, slice_get}
 use Rattle.cip_problem.specs.Program.{Program}
-use Rattle.cip_parts.specs.BlockParts.{BlockPart, Blocks}
-use Rattle.cip_parts.specs.BlockMeaning.{part_at}
+use Rattle.cip_problem.specs.BlockParts.{BlockPart, Blocks}
+use Rattle.cip_problem.specs.BlockMeaning.{part_at}
 use Rattle.cip_decomposition.specs.declared.parts.Subproblem.{Subproblem}
 use Rattle.cip_decomposition.specs.Numbers.{found}
 use Rattle.cip_decomposition.specs.Places.{placed_row}

@@ -2,8 +2,8 @@
 use Rattle.std.specs.Prelude.{◌≡◌, ◌↔◌, ℕ, ◌<◌, ◌≤◌, true, length, Some, slice_get}
 use Rattle.cip_problem.specs.Program.{Program}
 use Rattle.cip_problem.specs.WellFormed.{columns}
-use Rattle.cip_parts.specs.BlockParts.{Blocks, most_blocks, has_number, blocks_by}
-use Rattle.cip_parts.specs.BlockMeaning.{part_at}
+use Rattle.cip_problem.specs.BlockParts.{Blocks, most_blocks, has_number, blocks_by}
+use Rattle.cip_problem.specs.BlockMeaning.{part_at}
 use Rattle.cip_pricing.specs.Decomposition.{Decomposition, IsDecomposed, picked, conditions_of}
 use Rattle.cip_decomposition.specs.Places.{ArePlaces}
 use Rattle.cip_decomposition.specs.declared.parts.Subproblem.{Subproblem}

@@ -1,7 +1,7 @@
 //! A program and its blocks, taken apart.
 ghost use Rattle.std.specs.Prelude.{◌≡◌, ◌<◌, length, IfOk};
 ghost use Rattle.cip_problem.specs.WellFormed.{columns};
-ghost use Rattle.cip_parts.specs.BlockMeaning.{part_at, AreBlocks};
+ghost use Rattle.cip_problem.specs.BlockMeaning.{part_at, AreBlocks};
 ghost use Rattle.cip_decomposition.specs.Built.{IsBuilt, AreBuilt};
 ghost use Rattle.cip_decomposition.specs.Decompositions.{IsDecompositionOf, HasOwnersOf};
 

@@ -1,7 +1,7 @@
 //! Whose each column and each row is.
 ghost use Rattle.std.specs.Prelude.{◌≡◌, ◌<◌, ◌≤◌, length, replicate, All, IfSome, IfOk, None};
-ghost use Rattle.cip_parts.specs.BlockParts.{most_blocks};
-ghost use Rattle.cip_parts.specs.BlockMeaning.{part_at};
+ghost use Rattle.cip_problem.specs.BlockParts.{most_blocks};
+ghost use Rattle.cip_problem.specs.BlockMeaning.{part_at};
 ghost use Rattle.cip_decomposition.specs.Owners.{marked, owned_below};
 
 use cip_model::Blocks;

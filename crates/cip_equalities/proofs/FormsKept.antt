@@ -18,10 +18,10 @@ use Rattle.cip_lin.specs.declared.outcomes.Least.{Least}
 use Rattle.cip_lin.specs.declared.outcomes.Least.TheVariants.{Value}
 use Rattle.cip_lin.specs.RowSums.{least_added, least_then, least_from}
 use Rattle.cip_lin.specs.MetSides.{is_past}
-use Rattle.cip_implied_sides.specs.Forms.{Form}
-use Rattle.cip_implied_sides.specs.Equalities.{EndsAssign}
-use Rattle.cip_implied_sides.proofs.PassedOn.{ends_assign}
-use Rattle.cip_implied_sides.proofs.PassedOn.{least_sum_below}
+use Rattle.cip_equalities.specs.Forms.{Form}
+use Rattle.cip_equalities.specs.Equalities.{EndsAssign}
+use Rattle.cip_equalities.proofs.SidesPassedOn.{ends_assign}
+use Rattle.cip_equalities.proofs.SidesPassedOn.{least_sum_below}
 use Rattle.cip_equalities.specs.FormEnds.{FormKeeps, IsLeastOf, IsGreatestOf, IsWholeInRange, FormAssigns}
 
 -- a least value of a sum with one product

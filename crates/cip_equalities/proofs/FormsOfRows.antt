@@ -5,11 +5,11 @@ use Rattle.std.proofs.Math.ListN.{get_or}
 use Rattle.cip_rational.specs.Rational.{ℚ, zeroℚ}
 use Rattle.cip_problem.specs.Program.{Term, Sides, Row, Program}
 use Rattle.cip_problem.specs.RowTerms.{AreTerms}
-use Rattle.cip_implied_sides.specs.Forms.{Form}
-use Rattle.cip_implied_sides.specs.Equalities.{equality_form}
-use Rattle.cip_implied_sides.proofs.PassedOn.{first_follows, first_holds, second_follows, second_holds}
-use Rattle.cip_implied_sides.specs.RowReading.{only_value}
-use Rattle.cip_implied_sides.proofs.PassedOn.{both_sides}
+use Rattle.cip_equalities.specs.Forms.{Form}
+use Rattle.cip_equalities.specs.Equalities.{equality_form}
+use Rattle.cip_equalities.proofs.SidesPassedOn.{first_follows, first_holds, second_follows, second_holds}
+use Rattle.cip_equalities.specs.RowReading.{only_value}
+use Rattle.cip_equalities.proofs.SidesPassedOn.{both_sides}
 use Rattle.cip_equalities.specs.ColumnForms.{HasTwoTerms, GivesForm, RowGives}
 
 nonzero_both : (terms : List Term) (first second : Term) → terms ≡ first ∷ second ∷ [] → AreTerms terms → (¬ (first.coefficient ≡ zeroℚ)) × (¬ (second.coefficient ≡ zeroℚ))

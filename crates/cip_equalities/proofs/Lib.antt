@@ -1,7 +1,10 @@
 pub mod FormsKept
 pub mod FormsOfRows
+pub mod ImpliedSides
+pub mod PassedOn
+pub mod RestSums
 pub mod RowsReplaced
+pub mod SidesPassedOn
 pub mod SourceSides
 pub mod Substituting
 pub mod TermsPut
-pub mod PassedOn

@@ -4,8 +4,8 @@ use Rattle.cip_rational.specs.Rational.{ℚ, ◌+ℚ◌, ◌*ℚ◌, zeroℚ, ne
 use Rattle.cip_rational.proofs.Linear.{linear_same}
 use Rattle.cip_problem.specs.Program.{Term, Row}
 use Rattle.cip_problem.specs.Activity.{activity, value_at, StandsBelow}
-use Rattle.cip_implied_sides.specs.Forms.{Form}
-use Rattle.cip_implied_sides.specs.RowSteps.{side_less}
+use Rattle.cip_equalities.specs.Forms.{Form}
+use Rattle.cip_equalities.specs.RowSteps.{side_less}
 use Rattle.cip_equalities.specs.ColumnForms.{IsReplaced, IsReplacedIn}
 use Rattle.cip_equalities.specs.PutTerms.{product_of, HasAll}
 

@@ -10,17 +10,17 @@ use Rattle.cip_problem.specs.Choices.{met}
 use Rattle.cip_problem.specs.Points.{IsFeasible}
 use Rattle.cip_problem.proofs.Points.AtPlaces.{in_box_at, whole_at}
 use Rattle.cip_problem.proofs.Choices.Meeting.{between_met}
-use Rattle.cip_implied_sides.specs.NarrowedPrograms.{IsExactStep, with_sides}
-use Rattle.cip_implied_sides.specs.Forms.{Form, form_value}
-use Rattle.cip_implied_sides.specs.RowSteps.{side_less}
-use Rattle.cip_implied_sides.proofs.PassedOn.{exact_self}
-use Rattle.cip_implied_sides.proofs.PassedOn.{sides_replaced}
-use Rattle.cip_implied_sides.proofs.PassedOn.{above_less, below_less, divided}
-use Rattle.cip_implied_sides.specs.SingleRows.{single_sides}
-use Rattle.cip_implied_sides.proofs.PassedOn.{past_below}
-use Rattle.cip_implied_sides.proofs.PassedOn.{met_inside, inward_onward}
-use Rattle.cip_implied_sides.specs.Taken.{IsImplied}
-use Rattle.cip_implied_sides.proofs.ImpliedSides.{columns_same}
+use Rattle.cip_equalities.specs.NarrowedPrograms.{IsExactStep, with_sides}
+use Rattle.cip_equalities.specs.Forms.{Form, form_value}
+use Rattle.cip_equalities.specs.RowSteps.{side_less}
+use Rattle.cip_equalities.proofs.SidesPassedOn.{exact_self}
+use Rattle.cip_equalities.proofs.SidesPassedOn.{sides_replaced}
+use Rattle.cip_equalities.proofs.SidesPassedOn.{above_less, below_less, divided}
+use Rattle.cip_equalities.specs.SingleRows.{single_sides}
+use Rattle.cip_equalities.proofs.SidesPassedOn.{past_below}
+use Rattle.cip_equalities.proofs.SidesPassedOn.{met_inside, inward_onward}
+use Rattle.cip_equalities.specs.Taken.{IsImplied}
+use Rattle.cip_equalities.proofs.ImpliedSides.{columns_same}
 use Rattle.cip_equalities.specs.ColumnForms.{RowGives, IsSubstitute}
 use Rattle.cip_equalities.proofs.Substituting.{value_given, relaxed_of}
 

@@ -13,15 +13,15 @@ use Rattle.cip_problem.specs.Points.{IsSatisfied, IsFeasible, cost_of}
 use Rattle.cip_problem.proofs.Points.AtPlaces.{satisfied_at}
 use Rattle.cip_frac.specs.Outcomes.{product_added}
 use Rattle.cip_frac.proofs.Outcomes.{product_added-value}
-use Rattle.cip_implied_sides.specs.Reduced.{IsRelaxed}
-use Rattle.cip_implied_sides.specs.NarrowedPrograms.{IsExactStep, with_row, with_cost}
-use Rattle.cip_implied_sides.specs.Forms.{Form, form_value}
-use Rattle.cip_implied_sides.specs.RowSteps.{side_less}
-use Rattle.cip_implied_sides.proofs.PassedOn.{all_self}
-use Rattle.cip_implied_sides.proofs.PassedOn.{exact_self}
-use Rattle.cip_implied_sides.proofs.PassedOn.{row_replaced}
-use Rattle.cip_implied_sides.proofs.PassedOn.{less_above, less_below, above_less, below_less, get_set, get_other}
-use Rattle.cip_implied_sides.proofs.PassedOn.{count_same}
+use Rattle.cip_equalities.specs.Reduced.{IsRelaxed}
+use Rattle.cip_equalities.specs.NarrowedPrograms.{IsExactStep, with_row, with_cost}
+use Rattle.cip_equalities.specs.Forms.{Form, form_value}
+use Rattle.cip_equalities.specs.RowSteps.{side_less}
+use Rattle.cip_equalities.proofs.SidesPassedOn.{all_self}
+use Rattle.cip_equalities.proofs.SidesPassedOn.{exact_self}
+use Rattle.cip_equalities.proofs.SidesPassedOn.{row_replaced}
+use Rattle.cip_equalities.proofs.SidesPassedOn.{less_above, less_below, above_less, below_less, get_set, get_other}
+use Rattle.cip_equalities.proofs.SidesPassedOn.{count_same}
 use Rattle.cip_equalities.specs.ColumnForms.{GivesForm, RowGives, IsSubstitute, IsReplaced, IsReplacedIn}
 
 pub stays : (program : Program) → IsExactStep program program

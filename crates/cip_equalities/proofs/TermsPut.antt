@@ -10,7 +10,7 @@ use Rattle.cip_rational.proofs.Rational.Ring.{zero-*ℚ, +ℚ-zero, zero-+ℚ, a
 use Rattle.cip_rational.proofs.Linear.{linear_same}
 use Rattle.cip_problem.specs.Program.{Term, Row}
 use Rattle.cip_problem.specs.Activity.{activity, value_at, StandsBelow}
-use Rattle.cip_implied_sides.proofs.PassedOn.{to_rec, from_rec}
+use Rattle.cip_equalities.proofs.SidesPassedOn.{to_rec, from_rec}
 use Rattle.cip_equalities.specs.PutTerms.{product_of, HasMore, HasMet, HasBoth, HasAll}
 
 -- ---- one term

@@ -7,9 +7,9 @@ use Rattle.cip_problem.specs.Program.{Term, Row, Program}
 use Rattle.cip_problem.specs.Activity.{activity, value_at, StandsBelow}
 use Rattle.cip_problem.specs.Choices.{choice_at, is_open}
 use Rattle.cip_problem.specs.Points.{IsSatisfied}
-use Rattle.cip_implied_sides.specs.Forms.{Form, form_value}
-use Rattle.cip_implied_sides.specs.RowSteps.{side_less}
-use Rattle.cip_implied_sides.specs.Equalities.{IsEquality}
+use Rattle.cip_equalities.specs.Forms.{Form, form_value}
+use Rattle.cip_equalities.specs.RowSteps.{side_less}
+use Rattle.cip_equalities.specs.Equalities.{IsEquality}
 
 -- constant, factor and source
 abbrev pub form_code : Coded Form

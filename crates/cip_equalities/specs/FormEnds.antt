@@ -4,7 +4,7 @@ use Rattle.cip_rational.specs.Rational.{ℚ, ◌+ℚ◌, ◌*ℚ◌, ◌≤ℚ�
 use Rattle.cip_rational.specs.Range.{fits_range}
 use Rattle.cip_problem.specs.Program.{Sides}
 use Rattle.cip_problem.specs.Box.{Between}
-use Rattle.cip_implied_sides.specs.Forms.{Form}
+use Rattle.cip_equalities.specs.Forms.{Form}
 
 -- a form keeps sides wherever its source keeps its own
 abbrev pub FormKeeps : Form → Sides → Sides → Type 0

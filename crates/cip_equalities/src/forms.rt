@@ -2,11 +2,11 @@
 ghost use Rattle.std.specs.Prelude.{◌≡◌, ◌∷◌, [], ◌<◌, ◌≢◌, length, IfSome};
 ghost use Rattle.std.specs.Bool.{OnTrue};
 ghost use Rattle.cip_rational.specs.Rational.{zeroℚ, ◌*ℚ◌, inverse};
-ghost use Rattle.cip_implied_sides.specs.Equalities.{equality_form};
+ghost use Rattle.cip_equalities.specs.Equalities.{equality_form};
 ghost use Rattle.cip_equalities.specs.ColumnForms.{HasTwoTerms, GivesForm, RowGives, IsSubstitute};
 
+use crate::{Draft, only_value};
 use cip_frac::Frac;
-use cip_implied_sides::{Draft, only_value};
 use cip_lin::{Row, Sides, Term};
 use std::marker::Model;
 
@@ -22,7 +22,7 @@ pub struct ColumnForm {
 }
 
 impl Model for ColumnForm {
-    ghost use Rattle.cip_implied_sides.specs.Forms.{Form};
+    ghost use Rattle.cip_equalities.specs.Forms.{Form};
     ghost use Rattle.cip_equalities.specs.ColumnForms.{form_code};
 
     ghost Value = { Form };

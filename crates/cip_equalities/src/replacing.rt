@@ -6,9 +6,9 @@ ghost use Rattle.cip_equalities.specs.PutTerms.{HasAll};
 ghost use Rattle.cip_equalities.specs.ColumnForms.{IsReplacedIn};
 
 use crate::forms::ColumnForm;
+use crate::less;
 use crate::terms::put_all;
 use cip_frac::Frac;
-use cip_implied_sides::less;
 use cip_lin::{Row, Term};
 use std::alloc::{AllocError, Global};
 

@@ -1,15 +1,15 @@
 //! The steps of presolve by an equality of two terms, each exact: the equality stays a row of the program.
 ghost use Rattle.std.specs.Prelude.{◌≡◌, ◌<◌, length, IfSome, IfOk};
 ghost use Rattle.cip_problem.specs.Box.{sides_at};
-ghost use Rattle.cip_implied_sides.specs.NarrowedPrograms.{IsExactStep};
-ghost use Rattle.cip_implied_sides.specs.RuleEnds.{EndsRightly};
-ghost use Rattle.cip_implied_sides.specs.Taken.{IsImplied};
+ghost use Rattle.cip_equalities.specs.NarrowedPrograms.{IsExactStep};
+ghost use Rattle.cip_equalities.specs.RuleEnds.{EndsRightly};
+ghost use Rattle.cip_equalities.specs.Taken.{IsImplied};
 ghost use Rattle.cip_equalities.specs.ColumnForms.{RowGives, IsSubstitute};
 
 use crate::forms::ColumnForm;
 use crate::replacing::replaced;
+use crate::{Draft, Outcome, is_far, less, single_sides};
 use cip_frac::Frac;
-use cip_implied_sides::{Draft, Outcome, is_far, less, single_sides};
 use cip_lin::{Row, Sides, Term};
 use std::alloc::{AllocError, Global};
 

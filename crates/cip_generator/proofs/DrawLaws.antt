@@ -7,7 +7,7 @@ use Rattle.std.proofs.lemmas.List.{map-append, map-id}
 use Rattle.std.proofs.lemmas.List.Elements.{filter-append, All-map, All-filter, All-from_get_or}
 use Rattle.std.proofs.lemmas.List.FromFn.{map-range_with_len_more, sum_by-map-range_with_len_more, length-range_with_len, get_or-range_with_len}
 use Rattle.std.proofs.lemmas.Slice.Eq.{bytes_eq-Decides}
-use Rattle.cip_numerals.proofs.NumberText.{natural_text_injective}
+use Rattle.cip_number_text.proofs.NumberText.{natural_text_injective}
 use Rattle.cip_problem.specs.Program.{Term}
 use Rattle.cip_problem.specs.Activity.{StandsBelow}
 use Rattle.cip_problem.specs.Names.{number_of}

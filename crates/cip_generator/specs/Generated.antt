@@ -2,7 +2,7 @@
 use Rattle.std.specs.Prelude.{ℕ, zero, suc, ◌+◌, ◌*◌, ◌/◌, ◌%◌, ◌^◌, Bool, true, List, [], ◌∷◌, None, Some, map, filter, sum, sum_by, length, replicate, nat_lt, pos}
 use Rattle.std.specs.List.{range_with_len}
 use Rattle.cip_rational.specs.Rational.{ℚ, zeroℚ, negate, integer}
-use Rattle.cip_numerals.specs.NumberText.{natural_text}
+use Rattle.cip_number_text.specs.NumberText.{natural_text}
 use Rattle.cip_problem.specs.Program.{Term, Sides, Row, Program}
 
 -- the most columns, and the most rows, of such a program

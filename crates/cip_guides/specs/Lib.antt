@@ -1,1 +1,2 @@
 pub mod FullGuesses
+pub mod PointSplits

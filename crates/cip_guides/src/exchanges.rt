@@ -3,8 +3,8 @@ use crate::coefficients::{activity, coefficient, is_kept, reach};
 use crate::wholes::is_whole_at;
 use cip_frac::Frac;
 use cip_lin::Row;
-use cip_narrowing::ColumnRows;
 use cip_plugin::View;
+use cip_row_sums::ColumnRows;
 use std::alloc::{AllocError, Global};
 
 /// A point, and what each row comes to at it.

@@ -9,7 +9,7 @@ use Rattle.cip_rational.specs.Rational.{ℚ, integer, absolute, ratio, whole, ne
 use Rattle.cip_rational.proofs.Rational.Order.{lt_of_le_test}
 use Rattle.cip_problem.specs.Program.{Plain, Open, Program}
 use Rattle.cip_problem.specs.Choices.{choice_at, greater, open_sides}
-use Rattle.cip_syntax.specs.Lines.{Record, Section, Entry}
+use Rattle.cip_line_texts.specs.Lines.{Record, Section, Entry}
 use Rattle.cip_number_text.specs.Numeral.{Numeral, Exact, NotANumber, Huge, TooFine, value_of, numeral_of, is_minus}
 use Rattle.cip_mps_rules.specs.MpsWords.{Part, NoPart, Title, Sense, Rows, Columns, RightSides, Ranges, Bounds, End, BoundKind, Low, High, Fixed, WholeLow, WholeHigh, Unbounded, NoLow, NoHigh, Binary, SemiContinuous, section_of, bound_kind_of, has_value, marker_of, is_infinity, is_negative, near_or_huge, bound_number}
 use Rattle.cip_mps_rules.specs.MpsSayings.{Saying, Skipped, Misplaced, ColumnLine, RightSideLine, RangeLine, BoundLine, LinePlace, opening, section_said, sense_said, row_said, one_value, two_values, is_marker, marker_said, column_said, of_set, right_side_said, range_said, no_value, valued_bound, plain_bound, typed_bound, bound_said, fields_said, said}

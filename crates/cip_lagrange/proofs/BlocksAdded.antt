@@ -8,8 +8,8 @@ use Rattle.cip_frac.specs.Outcomes.{sum_outcome}
 use Rattle.cip_rational.specs.Range.{sum_overflows}
 use Rattle.cip_problem.specs.Program.{Sides}
 use Rattle.cip_problem.specs.Activity.{value_at}
-use Rattle.cip_parts.specs.BlockParts.{Blocks}
-use Rattle.cip_parts.specs.BlockMeaning.{part_at}
+use Rattle.cip_problem.specs.BlockParts.{Blocks}
+use Rattle.cip_problem.specs.BlockMeaning.{part_at}
 use Rattle.cip_pricing.specs.Mixtures.{total}
 use Rattle.cip_pricing.specs.LeastCosts.{sum_below}
 use Rattle.cip_cert.specs.declared.pricing.BoundTree.{BoundTree}

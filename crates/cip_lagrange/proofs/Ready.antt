@@ -11,8 +11,8 @@ use Rattle.cip_problem.specs.Program.{Sides, Row, Choice, Program}
 use Rattle.cip_problem.specs.Box.{sides_at, no_sides}
 use Rattle.cip_problem.specs.Activity.{StandsBelow}
 use Rattle.cip_problem.specs.WellFormed.{columns, IsWellFormed}
-use Rattle.cip_parts.specs.BlockParts.{BlockPart, Blocks, rows_where, is_block}
-use Rattle.cip_parts.specs.BlockMeaning.{part_at}
+use Rattle.cip_problem.specs.BlockParts.{BlockPart, Blocks, rows_where, is_block}
+use Rattle.cip_problem.specs.BlockMeaning.{part_at}
 use Rattle.cip_pricing.specs.Decomposition.{picked, renumbered}
 use Rattle.cip_pricing.proofs.Picked.{own_rows, length_picked}
 use Rattle.cip_decomposition.specs.Numbers.{found}

@@ -15,8 +15,8 @@ use Rattle.cip_problem.specs.Box.{sides_at, no_sides}
 use Rattle.cip_problem.specs.BoxBound.{least_costs}
 use Rattle.cip_problem.specs.Points.{cost_of}
 use Rattle.cip_problem.specs.WellFormed.{columns, IsWellFormed}
-use Rattle.cip_parts.specs.BlockParts.{BlockPart, Blocks, rows_where, is_block}
-use Rattle.cip_parts.specs.BlockMeaning.{part_at}
+use Rattle.cip_problem.specs.BlockParts.{BlockPart, Blocks, rows_where, is_block}
+use Rattle.cip_problem.specs.BlockMeaning.{part_at}
 use Rattle.cip_pricing.specs.Decomposition.{picked, master_rows, conditions_of, IsBlockPoint}
 use Rattle.cip_pricing.specs.Mixtures.{total}
 use Rattle.cip_pricing.specs.LeastCosts.{side_total, AreRests, sum_below, price_total, ArePrices}

@@ -4,8 +4,8 @@ use Rattle.std.proofs.lemmas.List.{drop_more}
 use Rattle.std.proofs.lemmas.Option.{get_or_from_slice_get}
 use Rattle.cip_rational.specs.Rational.{ℚ}
 use Rattle.cip_problem.specs.Program.{Sides}
-use Rattle.cip_parts.specs.BlockParts.{Blocks}
-use Rattle.cip_parts.specs.BlockMeaning.{part_at}
+use Rattle.cip_problem.specs.BlockParts.{Blocks}
+use Rattle.cip_problem.specs.BlockMeaning.{part_at}
 use Rattle.cip_cert.specs.declared.pricing.BoundTree.{BoundTree}
 use Rattle.cip_decomposition.specs.declared.parts.Subproblem.{Subproblem}
 use Rattle.cip_lagrange.specs.declared.answers.TreeBound.{TreeBound}

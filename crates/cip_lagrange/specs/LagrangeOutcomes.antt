@@ -10,8 +10,8 @@ use Rattle.cip_problem.specs.Program.{Term, Sides, Row, Program, no_row}
 use Rattle.cip_problem.specs.Activity.{value_at}
 use Rattle.cip_problem.specs.Box.{sides_at}
 use Rattle.cip_problem.specs.Log.{Node}
-use Rattle.cip_parts.specs.BlockParts.{Blocks}
-use Rattle.cip_parts.specs.BlockMeaning.{part_at}
+use Rattle.cip_problem.specs.BlockParts.{Blocks}
+use Rattle.cip_problem.specs.BlockMeaning.{part_at}
 use Rattle.cip_cert.specs.declared.pricing.BoundTree.{BoundTree}
 use Rattle.cip_decomposition.specs.Numbers.{found}
 use Rattle.cip_decomposition.specs.declared.parts.Subproblem.{Subproblem}

@@ -1,7 +1,7 @@
 //! The Lagrangian bound.
 ghost use Rattle.std.specs.Prelude.{◌≡◌, ◌<◌, length, slice_get, All, IfOk, Some, Ok, Err, MatchResult};
 ghost use Rattle.cip_problem.specs.WellFormed.{columns};
-ghost use Rattle.cip_parts.specs.BlockMeaning.{part_at};
+ghost use Rattle.cip_problem.specs.BlockMeaning.{part_at};
 ghost use Rattle.cip_decomposition.specs.declared.parts.Subproblem.{Subproblem};
 ghost use Rattle.cip_decomposition.specs.Decompositions.{IsDecompositionOf};
 ghost use Rattle.cip_lagrange.specs.TreeOutcomes.{node_in, tree_outcome};

@@ -6,7 +6,7 @@ use Rattle.cip_problem.specs.Program.{Sides, Program}
 use Rattle.cip_problem.specs.Box.{IsInBox}
 use Rattle.cip_problem.specs.Points.{IsFeasible, cost_of, IsLowerBound}
 use Rattle.cip_problem.specs.Log.{Entry, matters}
-use Rattle.cip_cuts.specs.Improving.{IsImproving, IsBoundIn}
+use Rattle.cip_linear.specs.Improving.{IsImproving, IsBoundIn}
 use Rattle.cip_leaves.specs.Searched.{OpenMatters, ParkedMatters, NoMore, IsOneOf, IsLeast, IsInOpen, IsInParked, IsCovered, AreTrueEntries}
 use Rattle.cip_leaves.specs.Wide.{IsWide}
 use Rattle.cip_leaves.specs.Statements.{HasWideLeafAt}

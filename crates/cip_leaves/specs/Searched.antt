@@ -8,7 +8,7 @@ use Rattle.cip_problem.specs.Box.{IsInBox}
 use Rattle.cip_problem.specs.Points.{cost_of}
 use Rattle.cip_problem.specs.Choices.{decided}
 use Rattle.cip_problem.specs.Log.{Parked, Entry, Node, node_of, given_after, matters}
-use Rattle.cip_cuts.specs.Improving.{HoldsInBox, IsImproving, IsBoundIn}
+use Rattle.cip_linear.specs.Improving.{HoldsInBox, IsImproving, IsBoundIn}
 use Rattle.cip_leaves.specs.Leaf.{Leaf, IsLeafOf, IsPointOfLeaf}
 use Rattle.cip_leaves.specs.Wide.{Place, IsWideAt}
 

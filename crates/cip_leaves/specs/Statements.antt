@@ -7,7 +7,7 @@ use Rattle.cip_problem.specs.Points.{AreWhole, IsFeasible, cost_of, IsLowerBound
 use Rattle.cip_problem.specs.Choices.{decided}
 use Rattle.cip_problem.specs.Log.{Entry, Node}
 use Rattle.cip_problem.specs.Statements.{IsNodeOf}
-use Rattle.cip_cuts.specs.Improving.{IsImproving}
+use Rattle.cip_linear.specs.Improving.{IsImproving}
 use Rattle.cip_leaves.specs.Leaf.{at_wholes, IsLeafIn, IsPointOf, IsOnlyLeaf, Leaf, IsLeafOf, IsPointOfLeaf, IsOnlyLeafOf}
 use Rattle.cip_leaves.specs.Searched.{OpenMatters, ParkedMatters, IsCovered, IsLeast, HasPointOfLeaf, AreTrueEntries}
 use Rattle.cip_leaves.specs.Wide.{IsWide}

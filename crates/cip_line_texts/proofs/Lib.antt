@@ -1,5 +1,6 @@
-pub mod LineOutcomes
+pub mod Cuts
 pub mod LineBytes
-pub mod LineFaults
-pub mod LineSame
 pub mod LineEnded
+pub mod LineFaults
+pub mod LineOutcomes
+pub mod LineSame

@@ -5,8 +5,8 @@ use Rattle.std.specs.List.{AllByRecursion}
 use Rattle.std.proofs.lemmas.List.{append-nil, append_assoc, length-take-le}
 use Rattle.std.proofs.lemmas.Bool.{cond-true, cond-false, eqb-true, le-leb, lt-leb, leb-true, leb-false}
 use Rattle.cip_problem.specs.Limits.{longest_text}
-use Rattle.cip_syntax.specs.Lines.{is_line_feed, HasNoLineFeed, lines}
-use Rattle.cip_syntax.proofs.Cuts.{lines_ended, lines_last}
+use Rattle.cip_line_texts.specs.Lines.{is_line_feed, HasNoLineFeed, lines}
+use Rattle.cip_line_texts.proofs.Cuts.{lines_ended, lines_last}
 use Rattle.cip_line_texts.specs.LineTexts.{Reading, numbered, items_from, outcome_at, outcome_after, outcome_of_lines, outcome_of_start, too_long, outcome_of}
 use Rattle.cip_line_texts.specs.LineStream.{Progress, Going, Failed, progress_at, item_read, line_read, Stream, no_stream, byte_read, stream_with, outcome_from, last_line, last_progress, closed, read_outcome}
 

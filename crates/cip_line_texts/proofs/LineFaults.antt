@@ -4,7 +4,7 @@ use Rattle.std.specs.Prelude.{fold, nat_le, nat_lt}
 use Rattle.std.proofs.lemmas.List.Sums.{fold-append}
 use Rattle.std.proofs.lemmas.Bool.{cond-true, cond-false, lt-ltb, ltb-true, eqb-true, or_cases}
 use Rattle.cip_problem.specs.Limits.{longest_text}
-use Rattle.cip_syntax.specs.Lines.{is_line_feed, is_filled}
+use Rattle.cip_line_texts.specs.Lines.{is_line_feed, is_filled}
 use Rattle.cip_line_texts.specs.LineTexts.{Reading, Outcome, Means, Faulty, outcome_at, too_long, outcome_of}
 use Rattle.cip_line_texts.specs.LineStream.{Progress, Going, Failed, progress_at, line_read, Stream, no_stream, byte_read, stream_with, stream_of, outcome_from, last_line, last_progress, closed, read_outcome, LineFault, fault_in, progress_fault, ended_fault, FaultsOfEndedLines, FaultsStay}
 use Rattle.cip_line_texts.proofs.LineBytes.{text_is_read, read_items, failed_items, ended_line, longer_line}

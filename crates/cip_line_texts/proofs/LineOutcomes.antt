@@ -4,7 +4,7 @@ use Rattle.std.specs.Prelude.{take, nat_le}
 use Rattle.std.proofs.lemmas.Bool.{cond-true, le-leb, leb-true}
 use Rattle.std.proofs.lemmas.List.{append-nil}
 use Rattle.cip_problem.specs.Limits.{longest_text}
-use Rattle.cip_syntax.specs.Lines.{lines}
+use Rattle.cip_line_texts.specs.Lines.{lines}
 use Rattle.cip_line_texts.specs.LineTexts.{Reading, Outcome, Means, Faulty, Numbered, items_in, outcome_at, outcome_after, outcome_of_lines, outcome_of_start, too_long, outcome_of, HasResult, HasFault}
 use Rattle.cip_line_texts.specs.LineStatements.{OneOutcome, known_after, AreQuiet, IsFirstFault, IsEndFault, FaultsAreFirst, known_of, IsDescribed, ResultsAreDescribed}
 

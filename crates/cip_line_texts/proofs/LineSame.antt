@@ -2,7 +2,7 @@
 use Rattle.std.proofs.Common.{◌≡◌, ℕ, ◌+◌, Bool, true, false, cond, List, [], ◌∷◌, length, Option, None, Some, refl, ap, ◌∙◌}
 use Rattle.std.specs.Prelude.{take, nat_le}
 use Rattle.cip_problem.specs.Limits.{longest_text}
-use Rattle.cip_syntax.specs.Lines.{lines}
+use Rattle.cip_line_texts.specs.Lines.{lines}
 use Rattle.cip_line_texts.specs.LineTexts.{Reading, Means, Numbered, items_from, outcome_at, outcome_after, outcome_of_lines, too_long, outcome_of}
 use Rattle.cip_line_texts.specs.LineStream.{TextsAreRead}
 use Rattle.cip_line_texts.proofs.LineBytes.{text_is_read}

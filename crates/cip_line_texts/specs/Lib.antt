@@ -1,12 +1,13 @@
-pub mod LineTexts
 pub mod LineEnds
+pub mod LineExamples
 pub mod LineStatements
 pub mod LineStream
-pub mod LineExamples
+pub mod LineTexts
+pub mod Lines
+pub mod TextStatements
 pub use Rattle.cip_problem.specs.Activity
 pub use Rattle.cip_problem.specs.Box
 pub use Rattle.cip_problem.specs.Choices
 pub use Rattle.cip_problem.specs.Limits
-pub use Rattle.cip_syntax.specs.Lines
 pub use Rattle.cip_problem.specs.Program
 pub use Rattle.cip_problem.specs.WellFormed

@@ -1,7 +1,7 @@
 -- The laws of texts that are read line by line. The crates of the texts have them as contracts.
 use Rattle.std.specs.Prelude.{◌≡◌, ◌⊎◌, ◌↔◌, ⊤, ℕ, ◌+◌, ◌≤◌, Bool, true, false, List, [], ◌∷◌, ◌++◌, length, None, Some}
 use Rattle.cip_problem.specs.Limits.{longest_text}
-use Rattle.cip_syntax.specs.Lines.{lines}
+use Rattle.cip_line_texts.specs.Lines.{lines}
 use Rattle.cip_line_texts.specs.LineTexts.{Reading, Numbered, items_in, HasResult, HasFault}
 use Rattle.cip_line_texts.specs.LineEnds.{ending}
 

@@ -3,7 +3,7 @@
 --     closed reading stream      what the text comes to where it ends here
 use Rattle.std.specs.Prelude.{◌≡◌, ◌↔◌, ℕ, ◌+◌, ◌≤◌, nat_le, ◌||◌, if◌then◌else◌, List, [], ◌∷◌, ◌++◌, Option, None, Some, fold}
 use Rattle.cip_problem.specs.Limits.{longest_text}
-use Rattle.cip_syntax.specs.Lines.{is_line_feed, is_filled}
+use Rattle.cip_line_texts.specs.Lines.{is_line_feed, is_filled}
 use Rattle.cip_line_texts.specs.LineTexts.{Reading, Outcome, Means, Faulty, outcome_at, too_long, outcome_of, HasFault}
 
 -- ---- lines

@@ -3,7 +3,7 @@
 --     HasResult reading text value, HasFault reading text line kind
 use Rattle.std.specs.Prelude.{◌≡◌, ℕ, ◌+◌, ◌==◌, nat_lt, nat_le, ◌&&◌, ◌||◌, if◌then◌else◌, List, [], ◌∷◌, ◌++◌, length, map, take, Option, None, Some}
 use Rattle.cip_problem.specs.Limits.{longest_text}
-use Rattle.cip_syntax.specs.Lines.{Record, Section, Entry, lines, record_of}
+use Rattle.cip_line_texts.specs.Lines.{Record, Section, Entry, lines, record_of}
 
 -- a way to read texts: what a line holds; what is known before the first item; the kind of the fault of an item, if it
 -- has one, by what is known; what is known behind an item without fault; the kind of the fault behind the last line, if

@@ -4,6 +4,9 @@
 // The function here does nothing. Its contract is a record of examples, so that the check computes them.
 #![tactic(auto)]
 
+pub mod text_examples;
+pub mod texts;
+
 ghost use Rattle.cip_line_texts.specs.LineExamples.{LongTextsAreFaulty};
 
 /// A text that is too long is faulty at the line of its first byte too many, unless there is a fault before, or a

@@ -1,8 +1,15 @@
 pub mod Aggregate
+pub mod Cover
+pub mod CutExamples
+pub mod CutStatements
+pub mod Cuts
 pub mod Examples
 pub mod Falling
+pub mod Improving
 pub mod LinearProgram
 pub mod Multipliers
+pub mod Reduced
+pub mod Splits
 pub mod Statements
 pub use Rattle.cip_problem.specs.Activity
 pub use Rattle.cip_problem.specs.Box

@@ -3,6 +3,8 @@
 // Each function here does nothing. Its contract is one of the laws of the definitions, so that the check proves it.
 #![tactic(auto)]
 
+pub mod cuts;
+
 ghost use Rattle.cip_linear.specs.Examples.{Examples};
 ghost use Rattle.cip_linear.specs.Statements.{PartsHold, AggregatesHold, BoundsHold, InnerBounds, MultipliersCertify, RaysFall};
 

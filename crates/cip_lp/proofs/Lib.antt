@@ -2,3 +2,4 @@ pub mod ByteSteps
 pub mod LastBytes
 pub mod LineLaws
 pub mod LpAnswers
+pub mod TakenLaws

@@ -3,18 +3,18 @@ use Rattle.std.proofs.Common.{◌≡◌, ℕ, Bool, true, false, cond, List, [],
 use Rattle.std.specs.Prelude.{is_some, MatchOption}
 use Rattle.cip_line_texts.specs.LineEnds.{Stage, Open, Ended}
 use Rattle.cip_line_texts.specs.LineStream.{Going, progress_at, item_read}
-use Rattle.cip_line_stream.specs.PieceStands.{progress_after}
+use Rattle.cip_text.specs.PieceStands.{progress_after}
 use Rattle.cip_lp_tokens.specs.declared.line_tokens.Token as code
 use Rattle.cip_lp_tokens.specs.LpLines.{token_shown}
 use Rattle.cip_lp_rules.specs.LpTokens.{Token}
 use Rattle.cip_lp_rules.specs.LpOutcome.{LpContext, context_with, is_end, lp_reading}
 use Rattle.cip_lp.specs.declared.line_reader.LineReader.{LineReader}
-use Rattle.cip_lp_stream.specs.LpBytes.{tokens_read}
-use Rattle.cip_lp_stream.proofs.TakenTexts.{tokens_failed}
+use Rattle.cip_lp_rules.specs.LpBytes.{tokens_read}
+use Rattle.cip_lp_rules.proofs.TakenTexts.{tokens_failed}
 use Rattle.cip_lp.specs.LinesRead.{stage_of, AreOver, IsTaken}
-use Rattle.cip_lp_statements.specs.declared.statements.Statements.{Statements}
-use Rattle.cip_lp_statements.specs.LpStages.{context_of}
-use Rattle.cip_lp_statements.specs.LpTaken.{IsTokenTaken}
+use Rattle.cip_lp.specs.declared.statements.Statements.{Statements}
+use Rattle.cip_lp.specs.LpStages.{context_of}
+use Rattle.cip_lp.specs.LpTaken.{IsTokenTaken}
 
 -- behind the end of the text
 pub tokens_over : (known : LpContext) (number : ℕ) (tokens : List Token) → tokens_read number (Going (Ended known)) tokens ≡ Going (Ended known)

@@ -7,18 +7,18 @@ use Rattle.cip_problem.specs.Program.{Program}
 use Rattle.cip_line_texts.specs.LineEnds.{Stage}
 use Rattle.cip_line_texts.specs.LineTexts.{Outcome, Means, outcome_at, outcome_of, HasFault}
 use Rattle.cip_line_texts.specs.LineStream.{Progress, Going, Failed, outcome_from}
-use Rattle.cip_line_stream.specs.declared.faults.KnownFault.{KnownFault}
-use Rattle.cip_line_stream.specs.declared.text_faults.TextFault.{TextFault}
-use Rattle.cip_line_stream.specs.declared.text_faults.ReadFault.{ReadFault}
-use Rattle.cip_line_stream.specs.declared.text_faults.ReadFault.TheVariants.{Faulty, NoMemory}
-use Rattle.cip_line_stream.specs.TextFaults.{by_number, IsSaid}
-use Rattle.cip_line_stream.specs.PieceReaders.{IsFed}
-use Rattle.cip_line_stream.specs.PieceFaults.{first_fault, has_kind_to}
-use Rattle.cip_line_stream.specs.PieceStands.{progress_of, progress_after, outcome_with}
-use Rattle.cip_line_stream.proofs.Streams.{few_kinds}
+use Rattle.cip_text.specs.declared.faults.KnownFault.{KnownFault}
+use Rattle.cip_text.specs.declared.text_faults.TextFault.{TextFault}
+use Rattle.cip_text.specs.declared.text_faults.ReadFault.{ReadFault}
+use Rattle.cip_text.specs.declared.text_faults.ReadFault.TheVariants.{Faulty, NoMemory}
+use Rattle.cip_text.specs.TextFaults.{by_number, IsSaid}
+use Rattle.cip_text.specs.PieceReaders.{IsFed}
+use Rattle.cip_text.specs.PieceFaults.{first_fault, has_kind_to}
+use Rattle.cip_text.specs.PieceStands.{progress_of, progress_after, outcome_with}
+use Rattle.cip_text.proofs.Streams.{few_kinds}
 use Rattle.cip_lp_rules.specs.LpOutcome.{LpContext, lp_reading, told_kind, HasLpFault}
-use Rattle.cip_lp_stream.specs.LpBytes.{LpBytes, part_read, behind, beyond, text_taken, IsTold}
-use Rattle.cip_lp_stream.specs.LpTakenTexts.{last_line, TakenFaultsStay, TakenTextsComeOut}
+use Rattle.cip_lp_rules.specs.LpBytes.{LpBytes, part_read, behind, beyond, text_taken, IsTold}
+use Rattle.cip_lp_rules.specs.LpTakenTexts.{last_line, TakenFaultsStay, TakenTextsComeOut}
 use Rattle.cip_lp.specs.declared.kinds.LpKind.{LpKind}
 use Rattle.cip_lp.specs.declared.lp_text.LpText.{LpText}
 use Rattle.cip_lp.specs.LpKindTexts.{kind_number}

@@ -5,9 +5,9 @@ use Rattle.cip_line_texts.specs.LineEnds.{Stage, Open, Ended}
 use Rattle.cip_line_texts.specs.LineStream.{Going}
 use Rattle.cip_lp_rules.specs.LpTokens.{Token}
 use Rattle.cip_lp_rules.specs.LpOutcome.{LpContext, token_fault, context_with, is_end}
-use Rattle.cip_lp_stream.specs.LpBytes.{tokens_read}
-use Rattle.cip_lp_statements.specs.LpEvents.{IsLpKind}
-use Rattle.cip_lp_statements.specs.LpStages.{context_of}
+use Rattle.cip_lp_rules.specs.LpBytes.{tokens_read}
+use Rattle.cip_lp.specs.LpEvents.{IsLpKind}
+use Rattle.cip_lp.specs.LpStages.{context_of}
 use Rattle.cip_lp.specs.declared.line_reader.LineReader.{LineReader}
 
 -- the stage of the text behind them

@@ -1,13 +1,13 @@
 //! The faults of LP texts, as they are told.
 ghost use Rattle.std.specs.Prelude.{◌≡◌, Some, true, option_map};
-ghost use Rattle.cip_line_stream.specs.PieceFaults.{has_kind_to};
-ghost use Rattle.cip_line_stream.specs.TextFaults.{IsSaid};
+ghost use Rattle.cip_text.specs.PieceFaults.{has_kind_to};
+ghost use Rattle.cip_text.specs.TextFaults.{IsSaid};
 ghost use Rattle.cip_lp_rules.specs.LpOutcome.{told_kind};
 ghost use Rattle.cip_lp.specs.LpKindTexts.{kind_number};
 ghost use Rattle.cip_lp.specs.LpReaders.{as_told};
 
 use crate::kinds::LpKind;
-use cip_line_stream::{KnownFault, TextFault, told};
+use cip_text::{KnownFault, TextFault, told};
 
 /// The kind that is told of a fault by its number: that of a text that is too long is 9, too.
 fn told_kind(number: u32) -> u32

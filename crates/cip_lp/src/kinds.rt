@@ -1,7 +1,7 @@
 //! The kinds of faults of an LP text.
 ghost use Rattle.std.specs.Prelude.{◌≡◌, ◌<◌, ◌≤◌, length};
 
-use cip_line_stream::FaultKind;
+use cip_text::FaultKind;
 use std::{error, fmt};
 
 /// A kind of fault. Of several rules that a token breaks the least kind counts. It is known by its number, from 1 to

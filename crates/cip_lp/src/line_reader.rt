@@ -1,16 +1,16 @@
 //! Reading the tokens of a text, one after another.
 ghost use Rattle.std.specs.Prelude.{◌≡◌, ◌∷◌, ℕ, false, IfOk, MatchOption};
 ghost use Rattle.cip_line_texts.specs.LineStream.{Going};
-ghost use Rattle.cip_line_stream.specs.PieceStands.{progress_after};
+ghost use Rattle.cip_text.specs.PieceStands.{progress_after};
 ghost use Rattle.cip_lp_rules.specs.LpOutcome as text;
 ghost use Rattle.cip_lp_rules.specs.LpOutcome.{LpContext, lp_reading};
-ghost use Rattle.cip_lp_stream.specs.LpBytes.{tokens_read};
+ghost use Rattle.cip_lp_rules.specs.LpBytes.{tokens_read};
 ghost use Rattle.cip_lp_tokens.specs.LpLines.{token_shown, tokens_left};
-ghost use Rattle.cip_lp_statements.specs.LpEvents.{IsLpKind};
-ghost use Rattle.cip_lp_statements.specs.LpStages.{context_of};
+ghost use Rattle.cip_lp.specs.LpEvents.{IsLpKind};
+ghost use Rattle.cip_lp.specs.LpStages.{context_of};
 ghost use Rattle.cip_lp.specs.LinesRead.{stage_of, AreOver, IsTaken};
 
-use cip_lp_statements::{Program, Statements};
+use crate::{Program, Statements};
 use cip_lp_tokens::{LineTokens, LpPart, Token};
 use std::alloc::{AllocError, Global};
 

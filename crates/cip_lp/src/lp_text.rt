@@ -1,25 +1,25 @@
 //! An LP text, byte by byte.
 ghost use Rattle.std.specs.Prelude.{◌≡◌, ◌+◌, ◌<◌, ◌≤◌, [], ◌∷◌, ℕ, List, None, true, false, OnOk, IfOk, fold};
 ghost use Rattle.cip_problem.specs.Limits.{longest_text};
-ghost use Rattle.cip_syntax.specs.Lines as text;
+ghost use Rattle.cip_line_texts.specs.Lines as text;
 ghost use Rattle.cip_line_texts.specs.LineEnds.{Stage};
 ghost use Rattle.cip_line_texts.specs.LineStream.{Progress};
 ghost use Rattle.cip_line_texts.specs.LineTexts.{outcome_of};
-ghost use Rattle.cip_line_stream.specs.PieceFaults.{has_kind_to, first_fault};
-ghost use Rattle.cip_line_stream.specs.PieceStands.{progress_of, outcome_with};
+ghost use Rattle.cip_text.specs.PieceFaults.{has_kind_to, first_fault};
+ghost use Rattle.cip_text.specs.PieceStands.{progress_of, outcome_with};
 ghost use Rattle.cip_lp_rules.specs.LpOutcome.{LpContext, lp_reading};
-ghost use Rattle.cip_lp_stream.specs.LpBytes as taken;
-ghost use Rattle.cip_lp_stream.specs.LpBytes.{part_read, with_last, byte_taken, text_taken};
-ghost use Rattle.cip_lp_stream.specs.LpParts.{ends_with};
-ghost use Rattle.cip_lp_stream.specs.LpTakenTexts.{last_line};
+ghost use Rattle.cip_lp_rules.specs.LpBytes as taken;
+ghost use Rattle.cip_lp_rules.specs.LpBytes.{part_read, with_last, byte_taken, text_taken};
+ghost use Rattle.cip_lp_rules.specs.LpParts.{ends_with};
+ghost use Rattle.cip_lp_rules.specs.LpTakenTexts.{last_line};
 
+use crate::Program;
 use crate::faults::answer;
 use crate::kinds::LpKind;
 use crate::line_reader::LineReader;
-use cip_line_stream::{KnownFault, PieceText, ReadFault, TextFault};
-use cip_lp_statements::Program;
-use cip_lp_stream::{taken_faults_stay, taken_texts_come_out};
+use cip_lp_rules::lp_taken::{taken_faults_stay, taken_texts_come_out};
 use cip_lp_tokens::{LineTokens, ends_before, hangs};
+use cip_text::{KnownFault, PieceText, ReadFault, TextFault};
 use std::alloc::{AllocError, Global};
 use std::mem;
 

@@ -3,10 +3,10 @@ ghost use Rattle.std.specs.Prelude.{MatchResult};
 ghost use Rattle.cip_lp_rules.specs.LpOutcome.{HasLpProgram};
 ghost use Rattle.cip_lp.specs.LpReaders.{IsFaultOf};
 
+use crate::Program;
 use crate::kinds::LpKind;
 use crate::reader::LpReader;
-use cip_line_stream::ReadFault;
-use cip_lp_statements::Program;
+use cip_text::ReadFault;
 use std::alloc::Global;
 
 /// The program of an LP text, or its first fault: that of the first line that breaks a rule, with the least

@@ -2,3 +2,4 @@ pub mod FormLaws
 pub mod FormOrder
 pub mod FormPlaces
 pub mod KeptLaws
+pub mod ValueLaws

@@ -6,11 +6,11 @@ ghost use Rattle.cip_lp_rules.specs.LpFacts as facts;
 ghost use Rattle.cip_lp_rules.specs.LpPlaces.{NamesObjective, AddsCost, AddsConstant, Adds};
 ghost use Rattle.cip_lp_draft.specs.LpEvents.{IsTaken};
 
+use crate::Amount;
 use crate::columns::is_long;
 use crate::draft::LpDraft;
 use crate::form::FormTerm;
 use cip_frac::Frac;
-use cip_lp_values::Amount;
 use cip_model::MOST_ENTRIES;
 use std::alloc::AllocError;
 

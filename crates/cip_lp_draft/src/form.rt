@@ -5,9 +5,9 @@ ghost use Rattle.cip_lp_rules.specs.LpFacts as facts;
 ghost use Rattle.cip_lp_rules.specs.LpSound.{form_rises};
 ghost use Rattle.cip_lp_draft.specs.LpForms.{form_of};
 
+use crate::{Amount, is_zero};
 use cip_frac::Frac;
 use cip_lin::{Row, RowFault, Term};
-use cip_lp_values::{Amount, is_zero};
 use std::alloc::{AllocError, Global};
 use std::marker::Model;
 

@@ -1,6 +1,6 @@
 //! Rows and sections.
 ghost use Rattle.std.specs.Prelude.{◌≡◌, ◌∷◌, None, Some, IfOk, OnOk};
-ghost use Rattle.cip_numerals.specs.NumberText.{natural_text};
+ghost use Rattle.cip_number_text.specs.NumberText.{natural_text};
 ghost use Rattle.cip_lp_rules.specs.LpWords as text;
 ghost use Rattle.cip_lp_rules.specs.LpFacts as facts;
 ghost use Rattle.cip_lp_rules.specs.LpPlaces.{Opens, Begins, Ends};

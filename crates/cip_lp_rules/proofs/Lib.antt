@@ -1,6 +1,10 @@
 pub mod LpEvents
-pub mod LpForms
 pub mod LpFits
+pub mod LpForms
 pub mod LpPieceLaws
 pub mod LpStream
 pub mod LpTexts
+pub mod PartedPieces
+pub mod PartedTokens
+pub mod PieceEnds
+pub mod TakenTexts

@@ -1,7 +1,7 @@
 -- A line is cut piece by piece, however often it may be cut.
 use Rattle.std.proofs.Common.{◌≡◌, ℕ, zero, suc, ◌≤◌, Bool, true, false, ◌||◌, cond, List, [], ◌∷◌, length, drop, refl, ap, arith}
 use Rattle.std.proofs.lemmas.List.{length-drop}
-use Rattle.cip_syntax.specs.Lines.{is_blank}
+use Rattle.cip_line_texts.specs.Lines.{is_blank}
 use Rattle.cip_lp_rules.specs.LpWords.{Piece, first_piece, first_rest}
 use Rattle.cip_lp_rules.specs.LpTokens.{is_comment, pieces_from, line_pieces}
 

@@ -1,9 +1,12 @@
+pub mod LpBytes
 pub mod LpExamples
 pub mod LpFacts
 pub mod LpGrammar
 pub mod LpOutcome
+pub mod LpParts
 pub mod LpPlaces
 pub mod LpSound
 pub mod LpStatements
+pub mod LpTakenTexts
 pub mod LpTokens
 pub mod LpWords

@@ -4,7 +4,7 @@ use Rattle.std.specs.List.{AllByRecursion, list_any}
 use Rattle.cip_rational.specs.Rational.{ℚ, zeroℚ}
 use Rattle.cip_problem.specs.Program.{Program}
 use Rattle.cip_problem.specs.WellFormed.{IsWellFormed}
-use Rattle.cip_syntax.specs.Lines.{is_blank}
+use Rattle.cip_line_texts.specs.Lines.{is_blank}
 use Rattle.cip_line_texts.specs.LineStatements.{OneOutcome, FaultsBeforeEnds, ResultsAtEnds}
 use Rattle.cip_line_texts.specs.LineStream.{TextsAreRead, FaultsOfEndedLines, FaultsStay}
 use Rattle.cip_mps_rules.specs.MpsStatements.{coefficient_in}

@@ -4,7 +4,7 @@
 --     tokens_from front bytes      those of a part of it
 use Rattle.std.specs.Prelude.{ℕ, zero, suc, ◌==◌, Bool, true, false, not, ◌&&◌, if◌then◌else◌, List, [], ◌∷◌, length, drop, map, Option, None, Some}
 use Rattle.std.specs.Str.{bytes_eq, str_to_ascii_lowercase}
-use Rattle.cip_syntax.specs.Lines.{is_blank}
+use Rattle.cip_line_texts.specs.Lines.{is_blank}
 use Rattle.cip_lp_rules.specs.LpWords.{LpPart, WordMeaning, OpensPart, OpensWith, Outside, FreeWord, Infinity, word_meaning, Relation, Piece, WordPiece, NumberPiece, SignPiece, ColonPiece, RelationPiece, NoPiece, first_piece, first_rest}
 
 -- ---- pieces

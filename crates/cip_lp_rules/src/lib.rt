@@ -4,4 +4,5 @@
 
 pub mod lp_examples;
 pub mod lp_pieces;
+pub mod lp_taken;
 pub mod lp_texts;

@@ -2,7 +2,7 @@
 use Rattle.std.proofs.Common.{◌≡◌, ℕ, zero, suc, ◌-◌, ◌<◌, ◌≤◌, true, false, List, [], ◌∷◌, length, take, drop, get_or, refl, sym, ap, ◌∙◌, arith}
 use Rattle.cip_lp_rules.specs.LpWords.{Piece, first_piece, first_rest}
 use Rattle.cip_lp_rules.specs.LpTokens.{line_pieces}
-use Rattle.cip_syntax.specs.Lines.{is_blank}
+use Rattle.cip_line_texts.specs.Lines.{is_blank}
 use Rattle.cip_lp_rules.proofs.LpPieceLaws.{piece_cut, blank_cut}
 use Rattle.cip_lp_tokens.specs.LpPieces.{begins_nothing}
 

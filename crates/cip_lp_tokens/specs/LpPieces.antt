@@ -1,6 +1,6 @@
 -- The pieces of a line, as the code hands them out.
 use Rattle.std.specs.Prelude.{ℕ, Bool, false, ◌||◌, List, [], ◌∷◌}
-use Rattle.cip_syntax.specs.Lines.{is_blank}
+use Rattle.cip_line_texts.specs.Lines.{is_blank}
 use Rattle.cip_lp_rules.specs.LpWords as text
 use Rattle.cip_lp_rules.specs.LpTokens.{is_comment}
 use Rattle.cip_lp_tokens.specs.declared.pieces.Piece.{Piece}

@@ -2,7 +2,7 @@
 ghost use Rattle.std.specs.Prelude.{◌≡◌, option_map};
 ghost use Rattle.cip_number_text.specs.Numeral as number;
 ghost use Rattle.cip_lp_rules.specs.LpTokens.{line_pieces};
-ghost use Rattle.cip_lp_stream.specs.LpParts as parts;
+ghost use Rattle.cip_lp_rules.specs.LpParts as parts;
 ghost use Rattle.cip_lp_tokens.specs.LpKinds.{meaning_shown};
 
 use crate::lengths::is_name_byte;

@@ -1,11 +1,11 @@
 //! A line is cut into pieces.
 ghost use Rattle.std.specs.Prelude.{◌≡◌, ◌+◌, ◌-◌, ◌∷◌, [], length, take, drop, false, MatchOption, if◌then◌else◌};
 ghost use Rattle.std.specs.List.{prefix_len};
-ghost use Rattle.cip_syntax.specs.Lines as lines;
+ghost use Rattle.cip_line_texts.specs.Lines as lines;
 ghost use Rattle.cip_lp_rules.specs.LpWords as text;
 ghost use Rattle.cip_lp_rules.specs.LpTokens as tokens;
 ghost use Rattle.cip_lp_rules.specs.LpTokens.{line_pieces, has_colon};
-ghost use Rattle.cip_lp_stream.specs.LpParts.{is_over};
+ghost use Rattle.cip_lp_rules.specs.LpParts.{is_over};
 ghost use Rattle.cip_lp_tokens.specs.LpKinds.{relation_shown};
 ghost use Rattle.cip_lp_tokens.specs.LpPieces.{piece_shown, begins_blank, begins_nothing};
 

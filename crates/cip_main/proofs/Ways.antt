@@ -6,14 +6,14 @@ use Rattle.cip_io.specs.Store.{StoreTells}
 use Rattle.cip_line_texts.specs.LineTexts.{HasResult}
 use Rattle.cip_block_rules.specs.BlockRules.{block_reading}
 use Rattle.cip_point_rules.specs.PointRules.{point_reading}
-use Rattle.cip_parts.specs.BlockParts.{Blocks as Parts}
+use Rattle.cip_problem.specs.BlockParts.{Blocks as Parts}
 use Rattle.cip_answering.specs.TextsRead.{ReadsText}
 use Rattle.cip_tasks.specs.declared.plain.Plain.{Plain}
 use Rattle.cip_plugin.specs.Who.{Who}
 use Rattle.cip_words.specs.Jobs.{Limits, Job, usual_limits, job_for}
 use Rattle.cip_generator.specs.Generated.{entries_of}
-use Rattle.cip_trace_texts.specs.SelfTexts.{Drawn as Told}
-use Rattle.cip_trace_texts.specs.TraceTexts.{traced_text}
+use Rattle.cip_answers.specs.SelfTexts.{Drawn as Told}
+use Rattle.cip_answers.specs.TraceTexts.{traced_text}
 use Rattle.cip_answers.specs.Figures.{names_of}
 use Rattle.cip_answering.specs.Answering.{self_told}
 use Rattle.cip_answering.specs.Saying.{Says}

@@ -20,13 +20,13 @@ use Rattle.cip_simplex.specs.declared.answers.LpAnswer.{LpAnswer}
 use Rattle.cip_simplex.specs.declared.answers.LpAnswer.TheVariants.{Optimal, Infeasible, Unbounded, Wide, Limit}
 use Rattle.cip_simplex.proofs.Held.{HoldsOr, held}
 use Rattle.cip_simplex.proofs.SlackStart.{slack_is_first}
-use Rattle.cip_master_prices.specs.LagrangeFault.{LagrangeFault}
+use Rattle.cip_master.specs.LagrangeFault.{LagrangeFault}
 use Rattle.cip_columns.specs.PoolPoints.{PoolPoint, held_of}
-use Rattle.cip_master_program.specs.KeptMasters.{program_in}
-use Rattle.cip_master_program.specs.declared.masters.MasterProgram.{MasterProgram}
-use Rattle.cip_master_prices.specs.MasterTasks.{Task, IsTask, points_in, held_by}
-use Rattle.cip_master_prices.specs.ShownSums.{Worked, worked_out, IsShown, ShowsFrom}
-use Rattle.cip_master_prices.specs.declared.tasks.Shown.{Shown}
+use Rattle.cip_master.specs.KeptMasters.{program_in}
+use Rattle.cip_master.specs.declared.masters.MasterProgram.{MasterProgram}
+use Rattle.cip_master.specs.MasterTasks.{Task, IsTask, points_in, held_by}
+use Rattle.cip_master.specs.ShownSums.{Worked, worked_out, IsShown, ShowsFrom}
+use Rattle.cip_master.specs.declared.tasks.Shown.{Shown}
 use Rattle.cip_master.specs.CombinedFactors.{multipliers_in, prices_in}
 use Rattle.cip_master.specs.MasterSolving.{Says, IsWhole}
 use Rattle.cip_master.specs.MasterAnswers.{ShowsOther, IsPriced, IsFarkas, IsUnshown, Total_overflows, Optimum_unshown, Emptiness_unshown}

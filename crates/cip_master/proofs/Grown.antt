@@ -2,9 +2,9 @@
 use Rattle.std.proofs.Common.{◌≡◌, [], ◌++◌, List, take, sym, subst, arith}
 use Rattle.std.proofs.lemmas.List.{length-append, take-append-le}
 use Rattle.cip_columns.specs.PoolPoints.{PoolPoint}
-use Rattle.cip_master_program.specs.KeptMasters.{held_in, IsMasterOf}
-use Rattle.cip_master_program.specs.declared.masters.MasterProgram.{MasterProgram}
-use Rattle.cip_master_prices.specs.MasterTasks.{Task}
+use Rattle.cip_master.specs.KeptMasters.{held_in, IsMasterOf}
+use Rattle.cip_master.specs.declared.masters.MasterProgram.{MasterProgram}
+use Rattle.cip_master.specs.MasterTasks.{Task}
 use Rattle.cip_master.specs.MasterSolving.{IsKept}
 
 pub stay_kept : (task : Task) (more : List PoolPoint) (master : MasterProgram) → IsKept task master

@@ -4,13 +4,13 @@ use Rattle.std.specs.Prelude.{slice_index_or}
 use Rattle.std.proofs.lemmas.List.Elements.{recursion_from_All}
 use Rattle.cip_pricing.specs.Decomposition.{picked, IsBlockPoint}
 use Rattle.cip_pricing.specs.Mixtures.{Held}
-use Rattle.cip_master_rules.specs.MasterStatements.{AreHeld}
+use Rattle.cip_pricing.specs.MasterStatements.{AreHeld}
 use Rattle.cip_columns.specs.PoolPoints.{PoolPoint, held_of}
 use Rattle.cip_columns.proofs.InBoxes.{inside_means}
 use Rattle.cip_decomposition.specs.Decompositions.{owners_in}
-use Rattle.cip_master_program.specs.KeptMasters.{is_held_in}
-use Rattle.cip_master_prices.specs.MasterTasks.{Task, IsTask, held_by}
-use Rattle.cip_master_prices.proofs.Lowered.{filtered}
+use Rattle.cip_master.specs.KeptMasters.{is_held_in}
+use Rattle.cip_master.specs.MasterTasks.{Task, IsTask, held_by}
+use Rattle.cip_master.proofs.Lowered.{filtered}
 
 abbrev IsHeldIn : Task → Held → Type 0
 IsHeldIn task h =

@@ -1,5 +1,16 @@
 pub mod Answered
+pub mod Coefficients
+pub mod FirstRows
+pub mod FreeTerms
 pub mod Grown
 pub mod HeldInBox
+pub mod Lowered
 pub mod Mixed
+pub mod NumberSums
+pub mod Numbers
+pub mod Parts
+pub mod Says
+pub mod ShownLeast
 pub mod Solvable
+pub mod Taken
+pub mod Weighed

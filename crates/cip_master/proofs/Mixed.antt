@@ -6,13 +6,13 @@ use Rattle.cip_rational.specs.Sums.{dot}
 use Rattle.cip_linear.specs.LinearProgram.{IsPoint}
 use Rattle.cip_pricing.specs.Mixtures.{IsMixture, MeetsMaster}
 use Rattle.cip_pricing.specs.MasterForms.{mixed}
-use Rattle.cip_master_rules.specs.MasterStatements.{ComesToMixture}
-use Rattle.cip_master_rules.proofs.Points.{comes_to}
+use Rattle.cip_pricing.specs.MasterStatements.{ComesToMixture}
+use Rattle.cip_pricing.proofs.Points.{comes_to}
 use Rattle.cip_columns.specs.PoolPoints.{PoolPoint, held_of}
 use Rattle.cip_decomposition.specs.Decompositions.{owners_in}
-use Rattle.cip_master_program.specs.KeptMasters.{program_in}
-use Rattle.cip_master_program.specs.declared.masters.MasterProgram.{MasterProgram}
-use Rattle.cip_master_prices.specs.MasterTasks.{Task, IsTask, points_in, held_by}
+use Rattle.cip_master.specs.KeptMasters.{program_in}
+use Rattle.cip_master.specs.declared.masters.MasterProgram.{MasterProgram}
+use Rattle.cip_master.specs.MasterTasks.{Task, IsTask, points_in, held_by}
 use Rattle.cip_master.specs.MasterSolving.{IsMasterLp, IsWhole}
 use Rattle.cip_master.specs.MasterAnswers.{point_of, IsMixedOf}
 use Rattle.cip_master.specs.declared.answers.PointWeight.{PointWeight}

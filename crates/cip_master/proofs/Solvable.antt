@@ -6,7 +6,7 @@ use Rattle.std.proofs.lemmas.List.Elements.{All-append}
 use Rattle.cip_problem.specs.Program.{Sides, Row}
 use Rattle.cip_problem.specs.Activity.{StandsBelow}
 use Rattle.cip_problem.specs.WellFormed.{IsWellFormed}
-use Rattle.cip_parts.specs.BlockParts.{Blocks, rows_where}
+use Rattle.cip_problem.specs.BlockParts.{Blocks, rows_where}
 use Rattle.cip_pricing.specs.Decomposition.{Owner, picked}
 use Rattle.cip_pricing.specs.Mixtures.{Held}
 use Rattle.cip_pricing.specs.MasterForms.{weight_sides}
@@ -15,11 +15,11 @@ use Rattle.cip_columns.specs.PoolPoints.{PoolPoint, held_of}
 use Rattle.cip_columns.specs.ColumnPools.{most_points}
 use Rattle.cip_decomposition.proofs.Numbered.{few_numbers}
 use Rattle.cip_simplex.specs.LpShape.{IsSolvable}
-use Rattle.cip_master_program.specs.KeptMasters.{held_in, program_in, IsMasterOf}
-use Rattle.cip_master_program.specs.declared.masters.MasterProgram.{MasterProgram}
-use Rattle.cip_master_program.proofs.Taken.{masters_long, most_columns_kept}
-use Rattle.cip_master_program.proofs.Weighed.{form_long}
-use Rattle.cip_master_prices.specs.MasterTasks.{Task, IsTask}
+use Rattle.cip_master.specs.KeptMasters.{held_in, program_in, IsMasterOf}
+use Rattle.cip_master.specs.declared.masters.MasterProgram.{MasterProgram}
+use Rattle.cip_master.proofs.Taken.{masters_long, most_columns_kept}
+use Rattle.cip_master.proofs.Weighed.{form_long}
+use Rattle.cip_master.specs.MasterTasks.{Task, IsTask}
 use Rattle.cip_master.specs.MasterSolving.{IsKept, IsWhole}
 
 -- where all points were looked at, what is kept is the whole master program

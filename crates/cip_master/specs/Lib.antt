@@ -1,4 +1,12 @@
+pub mod BlockSums
+pub mod BlockVerdicts
 pub mod CombinedFactors
+pub mod FirstRows
+pub mod KeptMasters
 pub mod MasterAnswers
 pub mod MasterSolving
-pub use Rattle.cip_master_prices.specs.MasterTasks
+pub mod MasterTasks
+pub mod ShownSums
+pub mod TakenPoints
+pub mod WeightTerms
+pub use Rattle.cip_lagrange.specs.declared.answers.LagrangeFault

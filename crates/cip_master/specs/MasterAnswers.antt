@@ -14,12 +14,12 @@ use Rattle.cip_pricing.specs.Mixtures.{IsMixture, MeetsMaster}
 use Rattle.cip_pricing.specs.MasterForms.{mixed}
 use Rattle.cip_columns.specs.PoolPoints.{PoolPoint}
 use Rattle.cip_decomposition.specs.Decompositions.{owners_in}
-use Rattle.cip_master_program.specs.KeptMasters.{IsPoolFault}
-use Rattle.cip_master_program.specs.declared.masters.MasterFault.TheVariants.{Wide}
-use Rattle.cip_master_program.specs.declared.masters.MasterProgram.{MasterProgram}
-use Rattle.cip_master_prices.specs.MasterTasks.{Task, points_in, held_by}
-use Rattle.cip_master_prices.specs.ShownSums.{Worked, worked_out, IsShown}
-use Rattle.cip_master_prices.specs.declared.tasks.Shown.{Shown}
+use Rattle.cip_master.specs.KeptMasters.{IsPoolFault}
+use Rattle.cip_master.specs.declared.masters.MasterFault.TheVariants.{Wide}
+use Rattle.cip_master.specs.declared.masters.MasterProgram.{MasterProgram}
+use Rattle.cip_master.specs.MasterTasks.{Task, points_in, held_by}
+use Rattle.cip_master.specs.ShownSums.{Worked, worked_out, IsShown}
+use Rattle.cip_master.specs.declared.tasks.Shown.{Shown}
 use Rattle.cip_master.specs.CombinedFactors.{multipliers_in, prices_in}
 use Rattle.cip_master.specs.MasterSolving.{IsMasterLp, IsKept}
 use Rattle.cip_master.specs.declared.answers.PointWeight.{PointWeight}

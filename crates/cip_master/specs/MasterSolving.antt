@@ -9,10 +9,10 @@ use Rattle.cip_simplex.specs.declared.answers.LpAnswer.{LpAnswer}
 use Rattle.cip_simplex.specs.declared.answers.LpAnswer.TheVariants.{Optimal, Infeasible, Unbounded, Wide, Limit}
 use Rattle.cip_columns.specs.PoolPoints.{PoolPoint}
 use Rattle.cip_decomposition.specs.Decompositions.{owners_in}
-use Rattle.cip_master_rules.specs.MasterPrograms.{IsMasterProgram}
-use Rattle.cip_master_prices.specs.MasterTasks.{Task, points_in, held_by}
-use Rattle.cip_master_program.specs.KeptMasters.{IsMasterOf, HasSeen}
-use Rattle.cip_master_program.specs.declared.masters.MasterProgram.{MasterProgram}
+use Rattle.cip_pricing.specs.MasterPrograms.{IsMasterProgram}
+use Rattle.cip_master.specs.MasterTasks.{Task, points_in, held_by}
+use Rattle.cip_master.specs.KeptMasters.{IsMasterOf, HasSeen}
+use Rattle.cip_master.specs.declared.masters.MasterProgram.{MasterProgram}
 
 -- the linear program of the master of the points that are held in the box
 abbrev pub IsMasterLp : Task → LinearProgram → Type 0

@@ -1,6 +1,6 @@
 //! What the master program answers.
+use crate::Shown;
 use cip_frac::Frac;
-use cip_master_prices::Shown;
 
 /// The weight of a point that is held.
 #[derive(Clone, Copy, PartialEq, Eq)]

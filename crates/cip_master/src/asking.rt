@@ -1,12 +1,12 @@
 //! The linear program of the master, solved.
 ghost use Rattle.std.specs.Prelude.{◌≡◌, map, length, IfOk};
 ghost use Rattle.cip_simplex.specs.LpShape.{variables, IsSolvable};
-ghost use Rattle.cip_master_program.specs.KeptMasters.{program_in};
+ghost use Rattle.cip_master.specs.KeptMasters.{program_in};
 ghost use Rattle.cip_master.specs.MasterSolving.{Says};
 
+use crate::MasterProgram;
 use crate::starts::start_behind;
 use cip_lin::Row;
-use cip_master_program::MasterProgram;
 use cip_simplex::{Lp, LpAnswer, Solver, Start, solve_from, solve_greedily};
 use std::alloc::{AllocError, Global};
 

@@ -1,16 +1,15 @@
 //! The master program that is kept, and what it answers.
 ghost use Rattle.std.specs.Prelude.{◌≡◌, length, IfOk, OnOk};
 ghost use Rattle.cip_simplex.specs.LpShape.{IsSolvable};
-ghost use Rattle.cip_master_program.specs.KeptMasters.{program_in};
-ghost use Rattle.cip_master_prices.specs.MasterTasks.{IsTask, task_of};
+ghost use Rattle.cip_master.specs.KeptMasters.{program_in};
+ghost use Rattle.cip_master.specs.MasterTasks.{IsTask, task_of};
 ghost use Rattle.cip_master.specs.MasterSolving.{Says, IsKept};
 ghost use Rattle.cip_master.specs.MasterAnswers.{IsMasterAnswer, StaysKept};
 
 use crate::answers::{MasterAnswer, MasterCause};
 use crate::asking::solved;
 use crate::reading::{emptied, priced};
-use cip_master_prices::MasterTask;
-use cip_master_program::{MasterFault, MasterProgram};
+use crate::{MasterFault, MasterProgram, MasterTask};
 use cip_simplex::{LpAnswer, Solver, Start};
 use std::alloc::{AllocError, Global};
 

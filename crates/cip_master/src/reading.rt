@@ -3,8 +3,8 @@ ghost use Rattle.std.specs.Prelude.{◌≡◌, ◌↔◌, ℕ, IsTrue, length, I
 ghost use Rattle.cip_rational.specs.Rational.{zeroℚ};
 ghost use Rattle.cip_problem.specs.WellFormed.{columns};
 ghost use Rattle.cip_simplex.specs.Reached.{IsOptimumBy, IsEmptyBy};
-ghost use Rattle.cip_master_program.specs.KeptMasters.{program_in};
-ghost use Rattle.cip_master_prices.specs.MasterTasks.{IsTask, task_of};
+ghost use Rattle.cip_master.specs.KeptMasters.{program_in};
+ghost use Rattle.cip_master.specs.MasterTasks.{IsTask, task_of};
 ghost use Rattle.cip_master.specs.CombinedFactors.{multipliers_in, prices_in};
 ghost use Rattle.cip_master.specs.MasterSolving.{IsWhole};
 ghost use Rattle.cip_master.specs.MasterAnswers.{IsMasterAnswer};
@@ -12,11 +12,10 @@ ghost use Rattle.cip_master.specs.MasterAnswers.{IsMasterAnswer};
 use crate::answers::{MasterAnswer, MasterCause};
 use crate::factors::factors_from;
 use crate::weights::weights_of;
+use crate::{MasterProgram, MasterTask, Shown, show};
 use cip_decomposition::Decomposed;
 use cip_frac::Frac;
 use cip_lin::Combo;
-use cip_master_prices::{MasterTask, Shown, show};
-use cip_master_program::MasterProgram;
 use std::alloc::{AllocError, Global};
 
 /// Whether two numbers are equal.

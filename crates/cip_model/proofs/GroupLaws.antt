@@ -4,8 +4,8 @@ use Rattle.std.specs.Prelude.{slice_set, slice_index_or, replicate, is_none, All
 use Rattle.std.proofs.lemmas.Bool.{eqb-true, eq-eqb, false_from_ne_true}
 use Rattle.std.proofs.lemmas.List.{append-nil, length-take-le, take_more}
 use Rattle.std.proofs.lemmas.List.Elements.{All-get_or}
-use Rattle.cip_parts.specs.BlockParts.{numbers_from, is_block, rows_where, grouped, parts_of}
-use Rattle.cip_parts.specs.BlockMeaning.{no_part}
+use Rattle.cip_problem.specs.BlockParts.{numbers_from, is_block, rows_where, grouped, parts_of}
+use Rattle.cip_problem.specs.BlockMeaning.{no_part}
 use Rattle.cip_model.specs.NumberLists.{lists_of}
 
 -- ---- lists of numbers

@@ -9,7 +9,7 @@ use Rattle.std.specs.Ordering.{nat_cmp, match_ordering}
 use Rattle.std.specs.List.{position_from, list_any}
 use Rattle.std.proofs.lemmas.Slice.Eq.{bytes_eq-Decides}
 use Rattle.cip_problem.specs.Names.{number_of}
-use Rattle.cip_parts.specs.NamesOnce.{StandOnce}
+use Rattle.cip_problem.specs.NamesOnce.{StandOnce}
 
 -- ---- the first place
 

@@ -1,7 +1,7 @@
 -- What `Blocks` is to its callers.
 use Rattle.std.specs.Prelude.{◌≡◌, length}
-use Rattle.cip_parts.specs.BlockParts as shapes
-use Rattle.cip_parts.specs.BlockParts.{parts_of}
+use Rattle.cip_problem.specs.BlockParts as shapes
+use Rattle.cip_problem.specs.BlockParts.{parts_of}
 use Rattle.cip_model.specs.NumberLists.{lists_of}
 use Rattle.cip_model.specs.declared.blocks.Blocks.TheInside.{Inside}
 

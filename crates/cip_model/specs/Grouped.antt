@@ -1,6 +1,6 @@
 -- Numbers by groups.
 use Rattle.std.specs.Prelude.{◌≡◌, ℕ, List, Option, is_none}
-use Rattle.cip_parts.specs.BlockParts.{rows_where, grouped}
+use Rattle.cip_problem.specs.BlockParts.{rows_where, grouped}
 use Rattle.cip_model.specs.NumberLists.{lists_of}
 use Rattle.cip_model.specs.declared.groups.Groups.{Groups}
 

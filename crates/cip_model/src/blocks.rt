@@ -1,8 +1,8 @@
 //! The blocks of a program.
 ghost use Rattle.std.specs.Prelude.{◌≡◌, ◌<◌, ◌≤◌, length, All, IfSome, IfOk};
 ghost use Rattle.cip_problem.specs.Limits.{most_columns};
-ghost use Rattle.cip_parts.specs.BlockParts.{blocks_by};
-ghost use Rattle.cip_parts.specs.BlockMeaning.{part_at};
+ghost use Rattle.cip_problem.specs.BlockParts.{blocks_by};
+ghost use Rattle.cip_problem.specs.BlockMeaning.{part_at};
 
 use crate::groups::Groups;
 use std::alloc::{AllocError, Global};
@@ -20,8 +20,8 @@ pub struct Blocks {
 }
 
 impl Model for Blocks {
-    ghost use Rattle.cip_parts.specs.BlockParts as shapes;
-    ghost use Rattle.cip_parts.specs.BlockCodes.{blocks_code};
+    ghost use Rattle.cip_problem.specs.BlockParts as shapes;
+    ghost use Rattle.cip_problem.specs.BlockCodes.{blocks_code};
 
     ghost Value = { shapes.Blocks };
 

@@ -79,7 +79,7 @@ fn written(
 }
 
 impl Names {
-    ghost use Rattle.cip_parts.specs.NamesOnce.{StandOnce};
+    ghost use Rattle.cip_problem.specs.NamesOnce.{StandOnce};
 
     /// No name yet.
     pub fn new(alloc: Global) -> Names

@@ -1,2 +1,15 @@
+pub mod ColumnLaws
+pub mod CostLaws
+pub mod FollowLaws
+pub mod GroupedLaws
 pub mod LineLaws
+pub mod ListLaws
 pub mod MpsAnswers
+pub mod Numbers
+pub mod Places
+pub mod ProgramLaws
+pub mod RowLaws
+pub mod RowTermLaws
+pub mod TableLaws
+pub mod TakenLaws
+pub mod ValueLaws

@@ -3,11 +3,11 @@ use Rattle.std.proofs.Common.{◌≡◌, ℕ, ◌<◌, ◌≤◌, Bool, true, fa
 use Rattle.std.specs.Prelude.{nat_lt, nat_le, fold, IfSome}
 use Rattle.std.specs.List.{list_all}
 use Rattle.std.proofs.lemmas.Bool.{ltb-true, leb-true}
-use Rattle.cip_syntax.specs.Lines.{Record, record_of}
+use Rattle.cip_line_texts.specs.Lines.{Record, record_of}
 use Rattle.cip_line_texts.specs.LineTexts.{records_in}
 use Rattle.cip_line_texts.specs.LineEnds.{Stage, Open, Ended}
 use Rattle.cip_line_texts.specs.LineStream.{Going, progress_at, item_read, line_read}
-use Rattle.cip_line_stream.specs.PieceStands.{progress_after}
+use Rattle.cip_text.specs.PieceStands.{progress_after}
 use Rattle.cip_mps_rules.specs.MpsSayings.{Saying}
 use Rattle.cip_mps_rules.specs.MpsRules.{Rule, least}
 use Rattle.cip_mps_steps.specs.MpsState.{State}

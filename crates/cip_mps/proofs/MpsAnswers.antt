@@ -1,10 +1,10 @@
 -- What is told of a text of free MPS.
 use Rattle.std.proofs.Common.{List, ℕ, Err}
-use Rattle.cip_line_stream.specs.EndedFaults.{IsKnownFault}
-use Rattle.cip_line_stream.specs.TextFaults.{IsToldBy}
-use Rattle.cip_line_stream.specs.PieceReaders.{IsFed}
-use Rattle.cip_line_stream.specs.declared.text_faults.ReadFault.{ReadFault}
-use Rattle.cip_line_stream.specs.declared.text_faults.ReadFault.TheVariants.{Faulty, NoMemory}
+use Rattle.cip_text.specs.EndedFaults.{IsKnownFault}
+use Rattle.cip_text.specs.TextFaults.{IsToldBy}
+use Rattle.cip_text.specs.PieceReaders.{IsFed}
+use Rattle.cip_text.specs.declared.text_faults.ReadFault.{ReadFault}
+use Rattle.cip_text.specs.declared.text_faults.ReadFault.TheVariants.{Faulty, NoMemory}
 use Rattle.cip_mps_rules.specs.MpsOutcome.{mps_reading}
 use Rattle.cip_mps.specs.declared.kinds.MpsKind.{MpsKind}
 use Rattle.cip_mps.specs.MpsKindTexts.{kind_number}

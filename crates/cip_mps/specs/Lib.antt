@@ -1,4 +1,16 @@
+pub mod ColumnDrafts
+pub mod CopiedParts
+pub mod Costs
+pub mod DraftLines
+pub mod DraftStates
+pub mod DraftSteps
+pub mod Entries
+pub mod FoundRows
+pub mod GroupEntries
+pub mod GroupedRows
 pub mod LinesRead
 pub mod MpsKindTexts
 pub mod MpsReaders
 pub mod MpsTexts
+pub mod Tables
+pub use Rattle.cip_mps_lines.specs.MpsLines

@@ -6,7 +6,7 @@ use Rattle.cip_mps_rules.specs.MpsSayings.{Saying}
 use Rattle.cip_mps_rules.specs.MpsRules.{least, is_end}
 use Rattle.cip_mps_steps.specs.MpsState.{State}
 use Rattle.cip_mps_steps.specs.MpsSteps.{tests, taken}
-use Rattle.cip_mps_draft.specs.DraftStates.{kept, at_place}
+use Rattle.cip_mps.specs.DraftStates.{kept, at_place}
 use Rattle.cip_mps.specs.declared.line_reader.LineReader.{LineReader}
 
 -- the state behind the lines

@@ -2,8 +2,8 @@
 --     StandsFor text stream      the code keeps what the plain stream does
 use Rattle.cip_line_texts.specs.LineEnds.{Stage}
 use Rattle.cip_line_texts.specs.LineStream.{Stream}
-use Rattle.cip_line_stream.specs.PieceCuts.{Cut, cut_of}
-use Rattle.cip_line_stream.specs.PieceStands.{StandsAt}
+use Rattle.cip_text.specs.PieceCuts.{Cut, cut_of}
+use Rattle.cip_text.specs.PieceStands.{StandsAt}
 use Rattle.cip_mps_steps.specs.MpsState.{State}
 use Rattle.cip_mps.specs.declared.mps_text.MpsText.{MpsText}
 use Rattle.cip_mps.specs.LinesRead as lines

@@ -1,7 +1,7 @@
 //! Laws of texts that come in pieces, and of drafts.
 // Each function here does nothing. Its contract is a law, so that the check proves it.
-ghost use Rattle.cip_mps_draft.specs.DraftSteps.{PlacesJoin};
-ghost use Rattle.cip_line_stream.specs.EndedFaults.{KnownFaultsStay};
+ghost use Rattle.cip_mps.specs.DraftSteps.{PlacesJoin};
+ghost use Rattle.cip_text.specs.EndedFaults.{KnownFaultsStay};
 ghost use Rattle.cip_mps_rules.specs.MpsOutcome.{mps_reading};
 
 use cip_mps_steps::{faults_of_ended_lines, faults_stay};

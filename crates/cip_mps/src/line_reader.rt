@@ -1,16 +1,16 @@
 //! Reading the lines of a text, one after another.
 ghost use Rattle.std.specs.Prelude.{◌≡◌, ◌<◌, ◌≤◌, ℕ, false, IfOk, IfSome};
 ghost use Rattle.std.specs.List.{list_any};
-ghost use Rattle.cip_syntax.specs.Lines.{is_line_feed};
+ghost use Rattle.cip_line_texts.specs.Lines.{is_line_feed};
 ghost use Rattle.cip_line_texts.specs.LineStream.{Going, line_read};
-ghost use Rattle.cip_line_stream.specs.PieceStands.{progress_after};
-ghost use Rattle.cip_mps_draft.specs.MpsLines.{saying_of};
+ghost use Rattle.cip_text.specs.PieceStands.{progress_after};
+ghost use Rattle.cip_mps.specs.MpsLines.{saying_of};
 ghost use Rattle.cip_mps_rules.specs.MpsRules as rules;
 ghost use Rattle.cip_mps_steps.specs.MpsSteps.{mps_steps};
 ghost use Rattle.cip_mps.specs.LinesRead.{state_of_lines, stage_of, IsTaken};
 
 use crate::laws::places_join;
-use cip_mps_draft::{Draft, Line, LinePlace, Part, Program, record_of, said};
+use crate::{Draft, Line, LinePlace, Part, Program, record_of, said};
 use std::alloc::{AllocError, Global};
 
 /// What was read of the lines that have ended. Behind ENDATA no line is looked at.

@@ -2,22 +2,22 @@
 ghost use Rattle.std.specs.Prelude.{◌≡◌, ◌+◌, ◌<◌, ◌≤◌, ◌∷◌, ◌++◌, [], ℕ, List, Option, length, true, false, IfSome, OnOk, IfOk, MatchResult, fold};
 ghost use Rattle.std.specs.List.{list_any};
 ghost use Rattle.cip_problem.specs.Limits.{longest_text};
-ghost use Rattle.cip_syntax.specs.Lines.{is_line_feed};
+ghost use Rattle.cip_line_texts.specs.Lines.{is_line_feed};
 ghost use Rattle.cip_line_texts.specs.LineTexts.{outcome_of};
 ghost use Rattle.cip_line_texts.specs.LineEnds.{Stage};
 ghost use Rattle.cip_line_texts.specs.LineStream.{Stream, byte_read, stream_of};
-ghost use Rattle.cip_line_stream.specs.PieceFaults.{has_kind_to};
-ghost use Rattle.cip_line_stream.specs.PieceCuts.{no_bytes, cut_of, with_bytes, with_feed, known_fault};
-ghost use Rattle.cip_line_stream.specs.PieceStands.{progress_after, IsRead, IsLastRead, outcome_with};
+ghost use Rattle.cip_text.specs.PieceFaults.{has_kind_to};
+ghost use Rattle.cip_text.specs.PieceCuts.{no_bytes, cut_of, with_bytes, with_feed, known_fault};
+ghost use Rattle.cip_text.specs.PieceStands.{progress_after, IsRead, IsLastRead, outcome_with};
 ghost use Rattle.cip_mps_rules.specs.MpsOutcome.{mps_reading, HasProgram};
 ghost use Rattle.cip_mps_steps.specs.MpsState.{State};
 ghost use Rattle.cip_mps_steps.specs.MpsSteps.{mps_steps};
 
+use crate::Program;
 use crate::kinds::MpsKind;
 use crate::line_reader::LineReader;
-use cip_line_stream::{KnownFault, PieceText, Pieces, ReadFault, TextFault, cut_line, told};
-use cip_mps_draft::Program;
 use cip_mps_steps::{faults_of_ended_lines, texts_are_read};
+use cip_text::{KnownFault, PieceText, Pieces, ReadFault, TextFault, cut_line, told};
 use std::alloc::{AllocError, Global};
 
 /// The number of the kind of a text that is too long.
@@ -187,8 +187,8 @@ impl MpsText {
 
 impl PieceText for MpsText {
     ghost use Rattle.std.specs.Prelude.{◌≡◌, [], IsSomeAnd, MatchResult};
-    ghost use Rattle.cip_line_stream.specs.EndedFaults.{IsKnownFault};
-    ghost use Rattle.cip_line_stream.specs.TextFaults.{IsToldBy};
+    ghost use Rattle.cip_text.specs.EndedFaults.{IsKnownFault};
+    ghost use Rattle.cip_text.specs.TextFaults.{IsToldBy};
     ghost use Rattle.cip_mps_rules.specs.MpsOutcome.{mps_reading, HasProgram};
     ghost use Rattle.cip_mps.specs.MpsKindTexts.{kind_number};
     ghost use Rattle.cip_mps.specs.MpsReaders.{HasCome, IsFaultOf};

@@ -3,10 +3,10 @@ ghost use Rattle.std.specs.Prelude.{MatchResult};
 ghost use Rattle.cip_mps_rules.specs.MpsOutcome.{HasProgram};
 ghost use Rattle.cip_mps.specs.MpsReaders.{IsFaultOf};
 
+use crate::Program;
 use crate::kinds::MpsKind;
 use crate::reader::MpsReader;
-use cip_line_stream::ReadFault;
-use cip_mps_draft::Program;
+use cip_text::ReadFault;
 use std::alloc::Global;
 
 /// The program of a text of free MPS, or its first fault: that of the first line that breaks a rule, with the least

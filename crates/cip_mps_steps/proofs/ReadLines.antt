@@ -2,7 +2,7 @@
 use Rattle.std.proofs.Common.{◌≡◌, Bool, true, false, not, ◌&&◌, map, None, refl, ap, ◌∙◌}
 use Rattle.std.specs.List.{list_any}
 use Rattle.std.proofs.lemmas.List.{append-nil}
-use Rattle.cip_syntax.specs.Lines.{Record}
+use Rattle.cip_line_texts.specs.Lines.{Record}
 use Rattle.cip_line_texts.proofs.LineSame.{StandsFor}
 use Rattle.cip_line_texts.proofs.LineEnded.{EndsAlike, GoodStage, ends_stand}
 use Rattle.cip_mps_rules.specs.MpsSayings.{Saying, Opens}

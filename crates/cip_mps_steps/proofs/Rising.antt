@@ -9,7 +9,7 @@ use Rattle.std.proofs.lemmas.Bool.{ltb-false}
 use Rattle.cip_rational.specs.Rational.{zeroℚ}
 use Rattle.cip_problem.specs.Program.{Term, Program}
 use Rattle.cip_problem.specs.RowTerms.{AreTerms, no_term, column_at}
-use Rattle.cip_syntax.specs.Lines.{Record}
+use Rattle.cip_line_texts.specs.Lines.{Record}
 use Rattle.cip_number_text.specs.Numeral.{Numeral}
 use Rattle.cip_mps_rules.specs.MpsWords.{is_in, number_in, is_zero}
 use Rattle.cip_mps_rules.specs.MpsSayings.{Value, Saying, ColumnLine}

@@ -18,7 +18,7 @@ use Rattle.cip_rational.proofs.Rational.Rounding.{integer-zero}
 use Rattle.cip_number_text.specs.Numeral.{Numeral, numeral_of, Exact, NotANumber, Huge, TooFine, signed, value_of}
 use Rattle.cip_number_text.specs.NumeralStatements.{IsInRange}
 use Rattle.cip_number_text.proofs.InRange.{IsSound, sound_numeral}
-use Rattle.cip_syntax.specs.Lines.{Record, Section, Entry}
+use Rattle.cip_line_texts.specs.Lines.{Record, Section, Entry}
 use Rattle.cip_mps_rules.specs.MpsWords.{Part, NoPart, Title, Sense, Rows, Columns, RightSides, Ranges, Bounds, End, BoundKind, section_of, marker_of, bound_kind_of, has_value, bound_number, is_zero, is_negative, is_positive, is_no_number, is_huge, is_too_fine, near_or_huge}
 use Rattle.cip_mps_rules.specs.MpsSayings.{Value, Saying, Skipped, Misplaced, ColumnLine, RightSideLine, RangeLine, BoundLine, no_value, LinePlace, opening, section_said, sense_said, row_said, one_value, two_values, is_marker, marker_said, column_said, of_set, right_side_said, range_said, valued_bound, plain_bound, typed_bound, bound_said, fields_said, said}
 use Rattle.cip_mps_rules.specs.MpsProgram.{number, unsigned}

@@ -7,7 +7,7 @@ use Rattle.std.specs.List.{list_any}
 use Rattle.cip_rational.specs.Rational.{ℚ, zeroℚ, absolute}
 use Rattle.cip_rational.specs.Range.{sum_overflows, difference_overflows}
 use Rattle.cip_problem.specs.Program.{Program}
-use Rattle.cip_syntax.specs.Lines.{Record}
+use Rattle.cip_line_texts.specs.Lines.{Record}
 use Rattle.cip_line_texts.specs.LineTexts.{Reading, records_of}
 use Rattle.cip_line_texts.specs.LineEnds.{Stage, ending}
 use Rattle.cip_mps_rules.specs.MpsWords.{End, RowKind, number_in, is_in, is_no_number, is_too_fine}

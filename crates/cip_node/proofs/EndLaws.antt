@@ -4,8 +4,8 @@ use Rattle.std.specs.Prelude.{MatchResult}
 use Rattle.cip_rational.specs.Rational.{ℚ}
 use Rattle.cip_problem.specs.Program.{Sides}
 use Rattle.cip_problem.specs.Log.{End, Split, Closed, Parked, Node, matters}
-use Rattle.cip_cuts.specs.Improving.{HasNoImproving, IsImproving}
-use Rattle.cip_cuts.proofs.Improving.{fewer}
+use Rattle.cip_linear.specs.Improving.{HasNoImproving, IsImproving}
+use Rattle.cip_linear.proofs.Improving.{fewer}
 use Rattle.cip_domain.specs.Changes.{Region}
 use Rattle.cip_leaves.specs.Leaf.{Leaf, IsPointOfLeaf}
 use Rattle.cip_leaf.specs.LeafAnswers.{shown_as}

@@ -6,7 +6,7 @@ use Rattle.cip_problem.specs.Program.{Program}
 use Rattle.cip_problem.specs.Box.{IsInBox}
 use Rattle.cip_problem.specs.Points.{IsFeasible, cost_of}
 use Rattle.cip_problem.specs.Log.{Node}
-use Rattle.cip_cuts.specs.Improving.{HasNoImproving}
+use Rattle.cip_linear.specs.Improving.{HasNoImproving}
 use Rattle.cip_problem.specs.Choices.{decided}
 use Rattle.cip_problem.specs.Statements.{IsNodeOf}
 use Rattle.cip_problem.specs.WellFormed.{columns, IsWellFormed}

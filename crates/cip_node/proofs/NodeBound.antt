@@ -7,8 +7,8 @@ use Rattle.cip_problem.specs.Program.{Sides, Row, Program}
 use Rattle.cip_problem.specs.WellFormed.{IsWellFormed}
 use Rattle.cip_problem.proofs.Points.AtPlaces.{IsInBox-long}
 use Rattle.cip_linear.specs.LinearProgram.{IsPoint, HasNoPoint}
-use Rattle.cip_cuts.specs.Improving.{IsValidRow, IsBoundIn}
-use Rattle.cip_cuts.proofs.Improving.{fewer}
+use Rattle.cip_linear.specs.Improving.{IsValidRow, IsBoundIn}
+use Rattle.cip_linear.proofs.Improving.{fewer}
 use Rattle.cip_leaves.specs.Searched.{NoMore}
 use Rattle.cip_search.proofs.Relaxed.{greater}
 use Rattle.cip_cert.specs.declared.rows.PoolRow.{PoolRow}

@@ -3,4 +3,4 @@ pub mod OpenChoices
 pub mod OpenColumns
 pub mod RootBounds
 pub mod SplitRules
-pub use Rattle.cip_cuts.specs.Cuts
+pub use Rattle.cip_linear.specs.Cuts

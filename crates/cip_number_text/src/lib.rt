@@ -3,6 +3,8 @@
 // Each function here does nothing. Its contract is one of the laws of the definitions, so that the check proves it.
 #![tactic(auto)]
 
+pub mod numerals;
+
 ghost use Rattle.cip_number_text.specs.NumeralExamples.{NumbersAreRight, FractionsAreRight, NumbersHaveFaults};
 ghost use Rattle.cip_number_text.specs.NumeralStatements.{NumbersFit, ValuesAreExact};
 

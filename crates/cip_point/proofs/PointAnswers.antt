@@ -1,11 +1,11 @@
 -- What is told of a text of a point.
 use Rattle.std.proofs.Common.{List, ℕ, Err}
 use Rattle.cip_problem.specs.Program.{Program}
-use Rattle.cip_line_stream.specs.EndedFaults.{IsKnownFault}
-use Rattle.cip_line_stream.specs.TextFaults.{IsToldBy}
-use Rattle.cip_line_stream.specs.PieceReaders.{IsFed}
-use Rattle.cip_line_stream.specs.declared.text_faults.ReadFault.{ReadFault}
-use Rattle.cip_line_stream.specs.declared.text_faults.ReadFault.TheVariants.{Faulty, NoMemory}
+use Rattle.cip_text.specs.EndedFaults.{IsKnownFault}
+use Rattle.cip_text.specs.TextFaults.{IsToldBy}
+use Rattle.cip_text.specs.PieceReaders.{IsFed}
+use Rattle.cip_text.specs.declared.text_faults.ReadFault.{ReadFault}
+use Rattle.cip_text.specs.declared.text_faults.ReadFault.TheVariants.{Faulty, NoMemory}
 use Rattle.cip_point_rules.specs.PointRules.{point_reading}
 use Rattle.cip_point.specs.declared.kinds.PointKind.{PointKind}
 use Rattle.cip_point.specs.PointKindTexts.{kind_number}

@@ -1,7 +1,7 @@
 -- Faults that are known before a text of a point ends.
 use Rattle.cip_problem.specs.Program.{Program}
-use Rattle.cip_line_stream.specs.EndedFaults.{KnownFaultsStay}
-use Rattle.cip_parts.specs.NamesOnce.{StandOnce}
+use Rattle.cip_text.specs.EndedFaults.{KnownFaultsStay}
+use Rattle.cip_problem.specs.NamesOnce.{StandOnce}
 use Rattle.cip_point_rules.specs.PointRules.{point_reading}
 
 -- a known fault is that of the text with whatever follows, and stays known

@@ -5,8 +5,8 @@ use Rattle.cip_rational.specs.Rational.{ℚ}
 use Rattle.cip_problem.specs.Program.{Program}
 use Rattle.cip_line_texts.specs.LineTexts.{Reading}
 use Rattle.cip_line_texts.specs.LineStream.{Stream}
-use Rattle.cip_line_stream.specs.PieceCuts.{Cut, cut_of}
-use Rattle.cip_line_stream.specs.PieceStands.{StandsAt}
+use Rattle.cip_text.specs.PieceCuts.{Cut, cut_of}
+use Rattle.cip_text.specs.PieceStands.{StandsAt}
 use Rattle.cip_point_rules.specs.PointRules.{PointLine}
 use Rattle.cip_point.specs.declared.point_text.PointText.{PointText}
 use Rattle.cip_point.specs.PointLinesRead as lines

@@ -8,7 +8,7 @@ mod point_text;
 mod reader;
 mod whole_text;
 
-pub use cip_line_stream::{ReadFault, TextFault};
+pub use cip_text::{ReadFault, TextFault};
 pub use kinds::PointKind;
 pub use laws::known_point_faults_stay;
 pub use point_text::PointText;

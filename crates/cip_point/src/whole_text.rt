@@ -7,8 +7,8 @@ ghost use Rattle.cip_point.specs.PointReaders.{IsFaultOf};
 use crate::kinds::PointKind;
 use crate::reader::PointReader;
 use cip_frac::Frac;
-use cip_line_stream::ReadFault;
 use cip_model::Program;
+use cip_text::ReadFault;
 use std::alloc::Global;
 
 /// The point that a text gives for a program, a value for each of its columns; else the first fault of the text: that

@@ -15,7 +15,7 @@ use Rattle.cip_mps_rules.proofs.MpsNames.{bytes_same, bytes_self, bytes_flip}
 use Rattle.cip_mps_steps.specs.MpsSteps.{changed}
 use Rattle.cip_mps_steps.proofs.LookUps.{AreApart, changed_map, is_in-cons}
 use Rattle.cip_line_texts.proofs.LineSame.{StandsFor}
-use Rattle.cip_parts.specs.NamesOnce.{StandOnce}
+use Rattle.cip_problem.specs.NamesOnce.{StandOnce}
 use Rattle.cip_point_rules.specs.PointRules.{PointLine, BadLine, ValueLine, Given, given_in, is_given, number_given, point_rules, point_fault, point_reading}
 use Rattle.cip_point_rules.specs.PointSteps.{no_values, value_held, point_tests, put_value, values_with, point_steps}
 

@@ -5,7 +5,7 @@ use Rattle.std.specs.List.{list_any}
 use Rattle.std.specs.Str.{bytes_eq}
 use Rattle.cip_rational.specs.Rational.{ℚ}
 use Rattle.cip_problem.specs.Program.{Program}
-use Rattle.cip_syntax.specs.Lines.{Record, record_of}
+use Rattle.cip_line_texts.specs.Lines.{Record, record_of}
 use Rattle.cip_number_text.specs.Numeral.{Numeral, value_of}
 use Rattle.cip_number_text.specs.FractionText.{fraction_of}
 use Rattle.cip_mps_rules.specs.MpsWords.{is_in}

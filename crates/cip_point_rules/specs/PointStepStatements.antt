@@ -3,7 +3,7 @@ use Rattle.std.specs.Prelude.{◌≡◌, ⊤, ℕ, false, List, [], ◌∷◌, l
 use Rattle.cip_rational.specs.Rational.{ℚ}
 use Rattle.cip_problem.specs.Program.{Program}
 use Rattle.cip_number_text.specs.Numeral.{Numeral}
-use Rattle.cip_parts.specs.NamesOnce.{StandOnce}
+use Rattle.cip_problem.specs.NamesOnce.{StandOnce}
 use Rattle.cip_mps_rules.specs.MpsRules.{least}
 use Rattle.cip_line_texts.specs.LineStream.{TextsAreRead, FaultsOfEndedLines, FaultsStay}
 use Rattle.cip_point_rules.specs.PointRules.{PointLine, BadLine, ValueLine, point_reading}

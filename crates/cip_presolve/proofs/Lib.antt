@@ -1,3 +1,10 @@
 pub mod Chained
+pub mod Free
 pub mod LeadsBack
+pub mod Merged
+pub mod Moved
+pub mod PassedOn
+pub mod Planned
+pub mod Plans
+pub mod RowsSpent
 pub mod Substituted

@@ -8,8 +8,8 @@ use crate::keys::sorted_keys;
 use crate::queues::Work;
 use crate::row_looks::{Place, RoundEnd, look_at, merge_pair};
 use crate::substituting::substitute_all;
+use crate::try_moves;
 use cip_compaction::{Draft, Outcome, forms_out};
-use cip_global_steps::try_moves;
 use std::alloc::{AllocError, Global};
 
 /// The most looks at rows between two rounds over all rows or columns: each step lets no more rows wait than there are.

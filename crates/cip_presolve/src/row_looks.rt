@@ -6,8 +6,8 @@ ghost use Rattle.cip_presolve.specs.RoundEnds.{RoundEndsRightly};
 
 use crate::keys::{are_alike, row_of};
 use crate::queues::Work;
+use crate::try_merge;
 use cip_compaction::{Draft, Outcome, open_places, row_extent, says_nothing, try_implied};
-use cip_global_steps::try_merge;
 use cip_lin::Sides;
 use std::alloc::{AllocError, Global};
 

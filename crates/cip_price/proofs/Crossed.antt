@@ -10,8 +10,8 @@ use Rattle.cip_problem.specs.Program.{Sides, Row, no_row}
 use Rattle.cip_problem.specs.Activity.{activity}
 use Rattle.cip_problem.specs.Box.{Between, IsInBox}
 use Rattle.cip_problem.specs.Points.{IsSatisfied}
-use Rattle.cip_master_program.proofs.Numbers.{masters_inside}
-use Rattle.cip_master_prices.specs.MasterTasks.{Task, IsTask}
+use Rattle.cip_master.proofs.Numbers.{masters_inside}
+use Rattle.cip_master.specs.MasterTasks.{Task, IsTask}
 use Rattle.cip_lin.specs.MetSides.{is_past}
 use Rattle.cip_price.specs.CrossedSides.{crosses_column, crosses_row, has_crossed}
 use Rattle.cip_price.specs.PriceAnswers.{EmptiesBox}

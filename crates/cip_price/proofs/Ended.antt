@@ -11,17 +11,17 @@ use Rattle.cip_lagrange.specs.declared.answers.TreeBound.{TreeBound}
 use Rattle.cip_lagrange.specs.declared.answers.TreeBound.TheVariants.{Finite, NoPoint as NoneThere}
 use Rattle.cip_lagrange.specs.declared.answers.LagrangeFault.{LagrangeFault}
 use Rattle.cip_lagrange.specs.declared.answers.LagrangeFault.TheVariants.{Wide as LagrangeWide, NoSide, NoRest, Tree}
-use Rattle.cip_master_prices.specs.MasterTasks.{Task}
-use Rattle.cip_master_prices.specs.declared.tasks.Shown.{Shown}
+use Rattle.cip_master.specs.MasterTasks.{Task}
+use Rattle.cip_master.specs.declared.tasks.Shown.{Shown}
 use Rattle.cip_master.specs.MasterAnswers.{IsMasterAnswer}
 use Rattle.cip_master.specs.declared.answers.MasterCause.TheVariants.{Wide}
 use Rattle.cip_master.specs.declared.answers.MasterAnswer.{MasterAnswer}
 use Rattle.cip_master.specs.declared.answers.MasterAnswer.TheVariants.{Prices, Farkas, Unsolved}
-use Rattle.cip_price_rounds.specs.Asks.{Asked, Told}
-use Rattle.cip_price_rounds.specs.PriceRounds.{trees_in, AreTrees, IsGrown, IsTold, AreAll, IsRound}
-use Rattle.cip_price_rounds.specs.declared.offering.Growth.{Growth}
-use Rattle.cip_price_rounds.specs.declared.offering.Growth.TheVariants.{Same, Grown, Full}
-use Rattle.cip_price_rounds.specs.declared.rounds.Round.{Round}
+use Rattle.cip_price.specs.Asks.{Asked, Told}
+use Rattle.cip_price.specs.PriceRounds.{trees_in, AreTrees, IsGrown, IsTold, AreAll, IsRound}
+use Rattle.cip_price.specs.declared.offering.Growth.{Growth}
+use Rattle.cip_price.specs.declared.offering.Growth.TheVariants.{Same, Grown, Full}
+use Rattle.cip_price.specs.declared.block_rounds.Round.{Round}
 use Rattle.cip_price.specs.PriceAnswers.{holding}
 use Rattle.cip_price.specs.PricedRounds.{sum_of_round, number_if, number_by, number_of_round, IsWideBy, IsWideSum, shown_in, IsAskedBehind, IsWholeRound, HasGap, Ran, One_more, with_cause, Ends, Is_full, Has_none, Closes, Closes_none, Sum_is_wide, Has_gap}
 use Rattle.cip_price.specs.RoundEnds.{raised, decision_at, decision_by, decision_unless, decision, closed_by, is_open_at, is_open, IsSumOf}

@@ -2,13 +2,13 @@
 use Rattle.std.proofs.Common.{◌≡◌, ℕ, suc, ◌<◌, ◌≤◌, length, List, [], ◌++◌, Option, None, Some, sym, subst, arith}
 use Rattle.cip_rational.specs.Rational.{ℚ}
 use Rattle.cip_columns.specs.PoolPoints.{PoolPoint}
-use Rattle.cip_master_prices.specs.MasterTasks.{Task}
-use Rattle.cip_price_rounds.specs.Asks.{Asked, Told, Tells}
-use Rattle.cip_price_rounds.specs.PriceRounds.{told_in, AreAll, IsRound}
-use Rattle.cip_price_rounds.specs.declared.offering.Growth.{Growth}
-use Rattle.cip_price_rounds.specs.declared.offering.Growth.TheVariants.{Same, Grown, Full}
-use Rattle.cip_price_rounds.specs.declared.rounds.Round.{Round}
-use Rattle.cip_price_rounds.proofs.Telling.{tells_none, tells_from, front_none, front_all, front_behind, may_none, told_both}
+use Rattle.cip_master.specs.MasterTasks.{Task}
+use Rattle.cip_price.specs.Asks.{Asked, Told, Tells}
+use Rattle.cip_price.specs.PriceRounds.{told_in, AreAll, IsRound}
+use Rattle.cip_price.specs.declared.offering.Growth.{Growth}
+use Rattle.cip_price.specs.declared.offering.Growth.TheVariants.{Same, Grown, Full}
+use Rattle.cip_price.specs.declared.block_rounds.Round.{Round}
+use Rattle.cip_price.proofs.Telling.{tells_none, tells_from, front_none, front_all, front_behind, may_none, told_both}
 use Rattle.cip_price.specs.PricedRounds.{Ran, None_asked, with_cause, Ends, Out_of_rounds, Is_unsolved, IsRunBy, IsCutShort}
 use Rattle.cip_price.specs.Worked.{IsStep, At_cause, At_round, MayStep}
 use Rattle.cip_price.specs.declared.answers.PriceAnswer.{PriceAnswer}

@@ -1,5 +1,10 @@
+pub mod Answered
+pub mod Checked
 pub mod Closing
 pub mod Crossed
 pub mod Ended
-pub mod Standing
 pub mod Led
+pub mod Offered
+pub mod Rounded
+pub mod Standing
+pub mod Telling

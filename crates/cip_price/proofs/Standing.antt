@@ -15,20 +15,20 @@ use Rattle.cip_columns.specs.PoolPoints.{PoolPoint}
 use Rattle.cip_decomposition.specs.Decompositions.{owners_in}
 use Rattle.cip_lagrange.specs.declared.answers.TreeBound.{TreeBound}
 use Rattle.cip_lagrange.specs.Scratches.{FitsScratch}
-use Rattle.cip_master_prices.specs.MasterTasks.{Task, IsTask, held_by}
-use Rattle.cip_master_prices.specs.declared.tasks.Shown.{Shown}
+use Rattle.cip_master.specs.MasterTasks.{Task, IsTask, held_by}
+use Rattle.cip_master.specs.declared.tasks.Shown.{Shown}
 use Rattle.cip_master.specs.MasterSolving.{IsKept}
 use Rattle.cip_master.proofs.Grown.{stay_kept}
 use Rattle.cip_master.specs.MasterAnswers.{point_of, IsPriced, IsFarkas}
 use Rattle.cip_master.specs.declared.answers.Weights.{Weights}
 use Rattle.cip_master.specs.declared.answers.MasterCause.TheVariants.{Wide}
-use Rattle.cip_price_rounds.specs.Asks.{Asked, Told}
-use Rattle.cip_price_rounds.specs.BlockAsks.{tree_in, shown_in as asked_shown}
-use Rattle.cip_price_rounds.specs.OfferedPoints.{Grows}
-use Rattle.cip_price_rounds.specs.PriceRounds.{cons_tree, trees_in, AreTrees, AreAll, IsTold, IsRound}
-use Rattle.cip_price_rounds.specs.declared.offering.Growth.{Growth}
-use Rattle.cip_price_rounds.specs.declared.offering.Growth.TheVariants.{Same, Grown, Full}
-use Rattle.cip_price_rounds.specs.declared.rounds.Round.{Round}
+use Rattle.cip_price.specs.Asks.{Asked, Told}
+use Rattle.cip_price.specs.BlockAsks.{tree_in, shown_in as asked_shown}
+use Rattle.cip_price.specs.OfferedPoints.{Grows}
+use Rattle.cip_price.specs.PriceRounds.{cons_tree, trees_in, AreTrees, AreAll, IsTold, IsRound}
+use Rattle.cip_price.specs.declared.offering.Growth.{Growth}
+use Rattle.cip_price.specs.declared.offering.Growth.TheVariants.{Same, Grown, Full}
+use Rattle.cip_price.specs.declared.block_rounds.Round.{Round}
 use Rattle.cip_price.specs.PriceAnswers.{holding, IsLeast, BoundsBox, EmptiesBox, PriceHolds}
 use Rattle.cip_price.specs.PricedRounds.{with_cause}
 use Rattle.cip_price.specs.RoundEnds.{raised, decision_at, decision_by, decision_unless, decision, is_open_at}

@@ -2,7 +2,7 @@
 use Rattle.std.specs.Prelude.{ℕ, Bool, false, ◌||◌, List, [], ◌∷◌, slice_index_or}
 use Rattle.cip_problem.specs.Program.{Sides, Row, no_row}
 use Rattle.cip_lin.specs.MetSides.{is_past}
-use Rattle.cip_master_prices.specs.MasterTasks.{Task}
+use Rattle.cip_master.specs.MasterTasks.{Task}
 
 -- those of one of these columns do
 abbrev pub crosses_column : List Sides → Bool

@@ -1,5 +1,10 @@
+pub mod Asks
+pub mod BlockAsks
 pub mod CrossedSides
+pub mod OfferedPoints
 pub mod PriceAnswers
+pub mod PriceRounds
+pub mod PriceTasks
 pub mod PricedRounds
 pub mod RoundEnds
 pub mod Summing

@@ -6,10 +6,10 @@ use Rattle.cip_problem.specs.Points.{IsFeasible, cost_of}
 use Rattle.cip_pricing.specs.LeastCosts.{IsLeastMixture}
 use Rattle.cip_columns.specs.PoolPoints.{PoolPoint}
 use Rattle.cip_decomposition.specs.Decompositions.{owners_in}
-use Rattle.cip_master_prices.specs.MasterTasks.{Task, held_by}
+use Rattle.cip_master.specs.MasterTasks.{Task, held_by}
 use Rattle.cip_master.specs.MasterAnswers.{point_of, IsMixedOf}
 use Rattle.cip_master.specs.declared.answers.Weights.{Weights}
-use Rattle.cip_price_rounds.specs.OfferedPoints.{Grows}
+use Rattle.cip_price.specs.OfferedPoints.{Grows}
 use Rattle.cip_price.specs.declared.answers.PriceAnswer.{PriceAnswer}
 use Rattle.cip_price.specs.declared.answers.PriceAnswer.TheVariants.{Closed, Bounded, NoPoint, NoBound}
 

@@ -10,18 +10,18 @@ use Rattle.cip_lagrange.specs.declared.answers.TreeBound.TheVariants.{Finite, No
 use Rattle.cip_lagrange.specs.declared.answers.LagrangeFault.{LagrangeFault}
 use Rattle.cip_lagrange.specs.declared.answers.LagrangeFault.TheVariants.{Wide as SumWide}
 use Rattle.cip_lagrange.specs.LagrangeOutcomes.{lagrange_outcome}
-use Rattle.cip_master_prices.specs.MasterTasks.{Task}
-use Rattle.cip_master_prices.specs.declared.tasks.Shown.{Shown}
+use Rattle.cip_master.specs.MasterTasks.{Task}
+use Rattle.cip_master.specs.declared.tasks.Shown.{Shown}
 use Rattle.cip_master.specs.MasterAnswers.{IsMasterAnswer}
 use Rattle.cip_master.specs.declared.answers.Weights.{Weights}
 use Rattle.cip_master.specs.declared.answers.MasterCause.{MasterCause}
 use Rattle.cip_master.specs.declared.answers.MasterCause.TheVariants.{Wide}
 use Rattle.cip_master.specs.declared.answers.MasterAnswer.{MasterAnswer}
 use Rattle.cip_master.specs.declared.answers.MasterAnswer.TheVariants.{Prices, Farkas, Unsolved}
-use Rattle.cip_price_rounds.specs.Asks.{Asked, Told, Tells, MayTellTo}
-use Rattle.cip_price_rounds.specs.PriceRounds.{AreAsks, told_in, first_open, shows_none, trees_in, IsGrown}
-use Rattle.cip_price_rounds.specs.declared.offering.Growth.{Growth}
-use Rattle.cip_price_rounds.specs.declared.offering.Growth.TheVariants.{Same, Grown, Full}
+use Rattle.cip_price.specs.Asks.{Asked, Told, Tells, MayTellTo}
+use Rattle.cip_price.specs.PriceRounds.{AreAsks, told_in, first_open, shows_none, trees_in, IsGrown}
+use Rattle.cip_price.specs.declared.offering.Growth.{Growth}
+use Rattle.cip_price.specs.declared.offering.Growth.TheVariants.{Same, Grown, Full}
 use Rattle.cip_price.specs.CrossedSides.{has_crossed}
 use Rattle.cip_price.specs.PriceAnswers.{holding}
 use Rattle.cip_price.specs.declared.answers.PriceCause.{PriceCause}

@@ -3,16 +3,16 @@ use Rattle.std.specs.Prelude.{◌≡◌, ℕ, Bool, true, false, not, ◌&&◌, 
 use Rattle.cip_rational.specs.Rational.{ℚ}
 use Rattle.cip_problem.specs.Choices.{greater}
 use Rattle.cip_columns.specs.PoolPoints.{PoolPoint}
-use Rattle.cip_master_prices.specs.MasterTasks.{Task}
-use Rattle.cip_master_prices.specs.declared.tasks.Shown.{Shown}
+use Rattle.cip_master.specs.MasterTasks.{Task}
+use Rattle.cip_master.specs.declared.tasks.Shown.{Shown}
 use Rattle.cip_master.specs.declared.answers.MasterCause.TheVariants.{Wide}
 use Rattle.cip_master.specs.declared.answers.MasterAnswer.{MasterAnswer}
 use Rattle.cip_master.specs.declared.answers.MasterAnswer.TheVariants.{Prices, Farkas, Unsolved}
-use Rattle.cip_price_rounds.specs.Asks.{Told}
-use Rattle.cip_price_rounds.specs.PriceRounds.{IsRound}
-use Rattle.cip_price_rounds.specs.declared.offering.Growth.{Growth}
-use Rattle.cip_price_rounds.specs.declared.offering.Growth.TheVariants.{Same, Grown, Full}
-use Rattle.cip_price_rounds.specs.declared.rounds.Round.{Round}
+use Rattle.cip_price.specs.Asks.{Told}
+use Rattle.cip_price.specs.PriceRounds.{IsRound}
+use Rattle.cip_price.specs.declared.offering.Growth.{Growth}
+use Rattle.cip_price.specs.declared.offering.Growth.TheVariants.{Same, Grown, Full}
+use Rattle.cip_price.specs.declared.block_rounds.Round.{Round}
 use Rattle.cip_price.specs.PricedRounds.{with_cause}
 use Rattle.cip_price.specs.Summing.{IsSummed}
 use Rattle.cip_price.specs.declared.bounding.Summed.{Summed}

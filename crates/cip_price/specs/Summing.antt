@@ -6,7 +6,7 @@ use Rattle.cip_lagrange.specs.declared.answers.TreeBound.{TreeBound}
 use Rattle.cip_lagrange.specs.declared.answers.TreeBound.TheVariants.{Finite, NoPoint as NoneThere}
 use Rattle.cip_lagrange.specs.declared.answers.LagrangeFault.{LagrangeFault}
 use Rattle.cip_lagrange.specs.declared.answers.LagrangeFault.TheVariants.{Wide as SumWide, NoSide, NoRest, Tree}
-use Rattle.cip_master_prices.specs.MasterTasks.{Task}
+use Rattle.cip_master.specs.MasterTasks.{Task}
 use Rattle.cip_price.specs.PriceAnswers.{BoundsBox}
 use Rattle.cip_price.specs.PricedRounds.{sum_of_round}
 use Rattle.cip_price.specs.declared.bounding.Summed.{Summed}

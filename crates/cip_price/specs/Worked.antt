@@ -4,15 +4,15 @@ use Rattle.cip_rational.specs.Rational.{ℚ}
 use Rattle.cip_problem.specs.WellFormed.{columns}
 use Rattle.cip_columns.specs.PoolPoints.{PoolPoint}
 use Rattle.cip_lagrange.specs.Scratches.{FitsScratch}
-use Rattle.cip_master_prices.specs.MasterTasks.{Task}
-use Rattle.cip_master_prices.specs.declared.tasks.Shown.{Shown}
+use Rattle.cip_master.specs.MasterTasks.{Task}
+use Rattle.cip_master.specs.declared.tasks.Shown.{Shown}
 use Rattle.cip_master.specs.MasterSolving.{IsKept}
 use Rattle.cip_master.specs.MasterAnswers.{IsMasterAnswer}
 use Rattle.cip_master.specs.declared.answers.MasterCause.{MasterCause}
 use Rattle.cip_master.specs.declared.answers.MasterAnswer.{MasterAnswer}
 use Rattle.cip_master.specs.declared.answers.MasterAnswer.TheVariants.{Unsolved}
-use Rattle.cip_price_rounds.specs.Asks.{Asked, Told, MayTellTo}
-use Rattle.cip_price_rounds.specs.PriceRounds.{AreAsks, told_in}
+use Rattle.cip_price.specs.Asks.{Asked, Told, MayTellTo}
+use Rattle.cip_price.specs.PriceRounds.{AreAsks, told_in}
 use Rattle.cip_price.specs.PriceAnswers.{holding, BoundsBox, PriceHolds}
 use Rattle.cip_price.specs.PricedRounds.{with_cause, shown_in}
 use Rattle.cip_price.specs.RoundEnds.{IsRoundBehind}

@@ -3,16 +3,16 @@ ghost use Rattle.std.specs.Prelude.{◌≡◌, [], length, Some, IfOk, OnOk};
 ghost use Rattle.cip_rational.specs.Rational.{maximum};
 ghost use Rattle.cip_problem.specs.Choices.{greater};
 ghost use Rattle.cip_lagrange.specs.Scratches.{FitsScratch};
-ghost use Rattle.cip_master_prices.specs.MasterTasks.{IsTask};
-ghost use Rattle.cip_price_rounds.specs.PriceTasks.{task_at};
+ghost use Rattle.cip_master.specs.MasterTasks.{IsTask};
+ghost use Rattle.cip_price.specs.PriceTasks.{task_at};
 ghost use Rattle.cip_price.specs.PricedRounds.{with_cause};
 ghost use Rattle.cip_price.specs.Summing.{summed_bound, summed_fault, IsSummed, SumHolds};
 
+use crate::PriceTask;
 use crate::answers::{PriceAnswer, PriceCause};
 use cip_cert::{BoundTree, SparseRow};
 use cip_frac::Frac;
 use cip_lagrange::{LagrangeFault, LagrangeScratch, TreeBound, lagrange};
-use cip_price_rounds::PriceTask;
 use std::alloc::{AllocError, Global};
 
 /// What the Lagrangian bound of a round comes to.

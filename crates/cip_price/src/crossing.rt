@@ -1,12 +1,12 @@
 //! Sides that cross.
 ghost use Rattle.std.specs.Prelude.{◌≡◌, ◌<◌, [], length, All};
-ghost use Rattle.cip_master_prices.specs.MasterTasks.{IsTask};
-ghost use Rattle.cip_price_rounds.specs.PriceTasks.{task_at};
+ghost use Rattle.cip_master.specs.MasterTasks.{IsTask};
+ghost use Rattle.cip_price.specs.PriceTasks.{task_at};
 ghost use Rattle.cip_lin.specs.MetSides.{is_past};
 ghost use Rattle.cip_price.specs.CrossedSides.{crosses_column, crosses_row, has_crossed};
 
+use crate::PriceTask;
 use cip_lin::{Row, Sides};
-use cip_price_rounds::PriceTask;
 
 /// Whether the sides of a column cross.
 fn crosses_column(sides: &[Sides]) -> bool

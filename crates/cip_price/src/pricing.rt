@@ -1,8 +1,8 @@
 //! Pricing.
 ghost use Rattle.std.specs.Prelude.{◌≡◌, [], None, IfOk, MatchResult};
-ghost use Rattle.cip_master_prices.specs.MasterTasks.{IsTask};
-ghost use Rattle.cip_price_rounds.specs.PriceTasks.{task_at};
-ghost use Rattle.cip_price_rounds.specs.OfferedPoints.{Grows};
+ghost use Rattle.cip_master.specs.MasterTasks.{IsTask};
+ghost use Rattle.cip_price.specs.PriceTasks.{task_at};
+ghost use Rattle.cip_price.specs.OfferedPoints.{Grows};
 ghost use Rattle.cip_price.specs.PriceAnswers.{PriceHolds};
 ghost use Rattle.cip_price.specs.PricedRounds.{IsRunBy, IsPricedBy, IsCutShort};
 ghost use Rattle.cip_master.specs.MasterAnswers.{IsPriced, IsFarkas};
@@ -14,11 +14,10 @@ use crate::bounding::{Summed, with_cause};
 use crate::crossing::has_crossed;
 use crate::rounds::{decided, raised, sum_at_prices};
 use crate::work::PriceWork;
+use crate::{AskPricer, PriceTask, ask_blocks};
 use cip_columns::ColumnPool;
 use cip_frac::Frac;
-use cip_master::{MasterAnswer, Weights};
-use cip_master_prices::Shown;
-use cip_price_rounds::{AskPricer, PriceTask, ask_blocks};
+use cip_master::{MasterAnswer, Shown, Weights};
 use std::alloc::{AllocError, Global};
 
 /// Prices with a mixture at this cost.

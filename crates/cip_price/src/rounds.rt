@@ -1,17 +1,17 @@
 //! One round behind an answer of the master program.
 ghost use Rattle.std.specs.Prelude.{◌≡◌, true, [], length, IfOk, IfSome, OnOk, MatchOption};
 ghost use Rattle.cip_lagrange.specs.Scratches.{FitsScratch};
-ghost use Rattle.cip_master_prices.specs.MasterTasks.{IsTask};
-ghost use Rattle.cip_price_rounds.specs.PriceTasks.{task_at};
+ghost use Rattle.cip_master.specs.MasterTasks.{IsTask};
+ghost use Rattle.cip_price.specs.PriceTasks.{task_at};
 ghost use Rattle.cip_price.specs.RoundEnds.{raised, gap_decision, decision_at, decision_unless, decision, is_open};
 ghost use Rattle.cip_price.specs.Summing.{IsSummed, SumHolds};
 
 use crate::answers::{PriceAnswer, PriceCause};
 use crate::bounding::{Summed, greater, sum_of_round, with_cause};
+use crate::{Growth, PriceTask, Round};
 use cip_frac::Frac;
 use cip_lagrange::LagrangeScratch;
 use cip_master::MasterCause;
-use cip_price_rounds::{Growth, PriceTask, Round};
 use std::alloc::{AllocError, Global};
 
 /// The greatest bound, with that of a round.

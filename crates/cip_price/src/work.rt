@@ -1,18 +1,17 @@
 //! What pricing works in.
 ghost use Rattle.std.specs.Prelude.{◌≡◌, IfOk, None};
-ghost use Rattle.cip_master_prices.specs.MasterTasks.{IsTask};
+ghost use Rattle.cip_master.specs.MasterTasks.{IsTask};
 ghost use Rattle.cip_master.specs.MasterSolving.{IsKept};
 ghost use Rattle.cip_master.specs.MasterAnswers.{IsMasterAnswer, StaysKept};
-ghost use Rattle.cip_price_rounds.specs.PriceTasks.{task_at};
+ghost use Rattle.cip_price.specs.PriceTasks.{task_at};
 ghost use Rattle.cip_price.specs.Worked.{IsReady};
 
+use crate::PriceTask;
 use cip_cert::Scratch;
 use cip_columns::ColumnPool;
 use cip_frac::Frac;
 use cip_lagrange::LagrangeScratch;
-use cip_master::{Master, MasterAnswer};
-use cip_master_prices::MasterTask;
-use cip_price_rounds::PriceTask;
+use cip_master::{Master, MasterAnswer, MasterTask};
 use std::alloc::{AllocError, Global};
 
 /// What is kept from round to round.

@@ -1,9 +1,14 @@
 pub mod Closing
+pub mod MasterTried
 pub mod Masters
 pub mod Mixing
+pub mod Multiplied
 pub mod Parts
 pub mod Picked
+pub mod Points
 pub mod Rests
 pub mod Shown
+pub mod Spread
+pub mod Sums
 pub mod Trees
 pub mod Tried

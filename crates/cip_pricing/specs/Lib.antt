@@ -1,7 +1,10 @@
 pub mod Decomposition
 pub mod Examples
 pub mod LeastCosts
+pub mod MasterExamples
 pub mod MasterForms
+pub mod MasterPrograms
+pub mod MasterStatements
 pub mod Mixtures
 pub mod Statements
 pub mod TreeBounds

@@ -3,6 +3,8 @@
 // Each function here does nothing. Its contract is one of the laws of the definitions, so that the check proves it.
 #![tactic(auto)]
 
+pub mod master_laws;
+
 ghost use Rattle.cip_pricing.specs.Examples.{Examples};
 ghost use Rattle.cip_pricing.specs.Statements.{PointsFallIntoParts, FeasiblePointsMix, RestsAreFormed, LeastCostsAreShown, LagrangianBoundHolds, PricingCloses, TreesBound, MasterPointsMix};
 

@@ -1,9 +1,9 @@
+mod SemiTried
 pub mod Box
 pub mod BoxBound
 pub mod Choices
 pub mod Log
+pub mod PassedOn
 pub mod Points
-mod SemiTried
 pub mod Tried
 pub mod Wholes
-pub mod PassedOn

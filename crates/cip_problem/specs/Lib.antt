@@ -1,4 +1,7 @@
 pub mod Activity
+pub mod BlockCodes
+pub mod BlockMeaning
+pub mod BlockParts
 pub mod Box
 pub mod BoxBound
 pub mod Choices
@@ -7,6 +10,7 @@ pub mod Examples
 pub mod Limits
 pub mod Log
 pub mod Names
+pub mod NamesOnce
 pub mod NearSides
 pub mod Points
 pub mod Program

@@ -5,17 +5,17 @@ use Rattle.cip_rational.specs.Rational.{ℚ}
 use Rattle.cip_problem.specs.Log.{Split, Closed, Node, matters}
 use Rattle.cip_problem.specs.Program.{Sides, Program}
 use Rattle.cip_problem.specs.WellFormed.{columns}
-use Rattle.cip_cuts.specs.Improving.{HasNoImproving}
+use Rattle.cip_linear.specs.Improving.{HasNoImproving}
 use Rattle.cip_domain.specs.Changes.{Region}
-use Rattle.cip_turns.specs.Mark.{Mark}
+use Rattle.cip_calls.specs.Mark.{Mark}
 use Rattle.cip_rows.specs.RowPools.{Pool}
 use Rattle.cip_tree.specs.Nodes.{TakenNode, Nodes, box_of, shown}
-use Rattle.cip_turns.specs.CoreStates.{CoreState, reduced_of, held_of, IsTakenUp, IsGivenBound}
-use Rattle.cip_turns.specs.Later.{IsLater, IsLaterAt}
-use Rattle.cip_turns.specs.Steps.{HasLeft, IsBack, aged}
-use Rattle.cip_turns.proofs.PassedOn.{with_tree}
-use Rattle.cip_turns.proofs.PassedOn.{later_further, narrower_itself, narrower_further}
-use Rattle.cip_turns.specs.Searched.{nodes_given}
+use Rattle.cip_calls.specs.CoreStates.{CoreState, reduced_of, held_of, IsTakenUp, IsGivenBound}
+use Rattle.cip_calls.specs.Later.{IsLater, IsLaterAt}
+use Rattle.cip_calls.specs.Steps.{HasLeft, IsBack, aged}
+use Rattle.cip_calls.proofs.TurnsPassedOn.{with_tree}
+use Rattle.cip_calls.proofs.TurnsPassedOn.{later_further, narrower_itself, narrower_further}
+use Rattle.cip_calls.specs.Searched.{nodes_given}
 use Rattle.cip_problem.specs.Log.{node_of}
 use Rattle.cip_node.specs.Bounding.{IsMarkOf, IsAsGood, point_of}
 use Rattle.cip_node.specs.NodeEnds.{HasEnded}
@@ -28,9 +28,9 @@ use Rattle.cip_seats.proofs.Running.{Runs-append}
 use Rattle.cip_roster.specs.KeptRankings.{Room}
 use Rattle.cip_roster.specs.Turns.{IsSound}
 use Rattle.cip_roster.specs.Wished.{Ran}
-use Rattle.cip_turns.specs.ProposalsJudged.{HaveRoom}
-use Rattle.cip_turns.specs.Scratches.{Scratches}
-use Rattle.cip_turns.specs.Noted.{HasMoreRows}
+use Rattle.cip_calls.specs.ProposalsJudged.{HaveRoom}
+use Rattle.cip_calls.specs.Scratches.{Scratches}
+use Rattle.cip_calls.specs.Noted.{HasMoreRows}
 use Rattle.cip_processing.specs.NodesDone.{HasParted, HasEndedBy, IsDone, HasAged}
 use Rattle.cip_processing.specs.NodesReached.{HasMoved, IsFoundAt}
 use Rattle.cip_processing.specs.declared.ends.Done.{Done}

@@ -7,13 +7,13 @@ use Rattle.cip_roster.specs.KeptRankings.{Room}
 use Rattle.cip_roster.specs.Turns.{IsSound}
 use Rattle.cip_roster.specs.Wished.{Ran}
 use Rattle.cip_tree.specs.Nodes.{TakenNode}
-use Rattle.cip_turns.specs.CoreStates.{CoreState, reduced_of}
-use Rattle.cip_turns.specs.Later.{IsLaterAt}
-use Rattle.cip_turns.proofs.PassedOn.{later_at_itself}
-use Rattle.cip_turns.specs.ProposalsJudged.{HaveRoom}
-use Rattle.cip_turns.specs.Scratches.{Scratches}
-use Rattle.cip_turns.specs.Noted.{IsReady, HasCome}
-use Rattle.cip_turns.proofs.PassedOn.{more_none, more_same}
+use Rattle.cip_calls.specs.CoreStates.{CoreState, reduced_of}
+use Rattle.cip_calls.specs.Later.{IsLaterAt}
+use Rattle.cip_calls.proofs.TurnsPassedOn.{later_at_itself}
+use Rattle.cip_calls.specs.ProposalsJudged.{HaveRoom}
+use Rattle.cip_calls.specs.Scratches.{Scratches}
+use Rattle.cip_calls.specs.Noted.{IsReady, HasCome}
+use Rattle.cip_calls.proofs.TurnsPassedOn.{more_none, more_same}
 
 pub ran_none : (a : State) → Ran a a
 ran_none a = record { steps = []; run = refl }

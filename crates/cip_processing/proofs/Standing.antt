@@ -5,32 +5,32 @@ use Rattle.cip_rational.specs.Rational.{ℚ}
 use Rattle.cip_problem.specs.Program.{Sides, Program}
 use Rattle.cip_problem.specs.WellFormed.{columns, IsWellFormed}
 use Rattle.cip_linear.specs.LinearProgram.{IsPoint}
-use Rattle.cip_turns.specs.Relaxation.{IsRelaxedBound}
+use Rattle.cip_calls.specs.Relaxation.{IsRelaxedBound}
 use Rattle.cip_domain.specs.Changes.{Region}
 use Rattle.cip_rows.specs.RowPools.{Pool}
 use Rattle.cip_tree.specs.Nodes.{TakenNode, box_of}
-use Rattle.cip_turns.specs.NodeRows.{usable_rows}
-use Rattle.cip_turns.specs.Relaxing.{node_program, IsMark}
-use Rattle.cip_turns.specs.Mark.{Mark}
-use Rattle.cip_turns.specs.CoreStates.{CoreState, reduced_of, held_of, rows_lent, IsAtWork}
-use Rattle.cip_turns.specs.StepsBack.{StepsTaken, point_back, FitsBack}
-use Rattle.cip_turns.specs.Later.{IsLater, IsLaterAt}
-use Rattle.cip_turns.specs.Steps.{IsTried, IsTriedBack}
-use Rattle.cip_turns.proofs.PassedOn.{work_long}
-use Rattle.cip_turns.proofs.PassedOn.{no_dearer_trans}
+use Rattle.cip_calls.specs.NodeRows.{usable_rows}
+use Rattle.cip_calls.specs.Relaxing.{node_program, IsMark}
+use Rattle.cip_calls.specs.Mark.{Mark}
+use Rattle.cip_calls.specs.CoreStates.{CoreState, reduced_of, held_of, rows_lent, IsAtWork}
+use Rattle.cip_calls.specs.StepsBack.{StepsTaken, point_back, FitsBack}
+use Rattle.cip_calls.specs.Later.{IsLater, IsLaterAt}
+use Rattle.cip_calls.specs.Steps.{IsTried, IsTriedBack}
+use Rattle.cip_calls.proofs.TurnsPassedOn.{work_long}
+use Rattle.cip_calls.proofs.TurnsPassedOn.{no_dearer_trans}
 use Rattle.cip_node.specs.Bounding.{IsAsGood, HasTried, point_of, IsFound, IsBounded}
 use Rattle.cip_node_rules.specs.declared.looks.Looked.{Looked}
 use Rattle.cip_node_rules.specs.declared.looks.Looked.TheVariants as look
 use Rattle.cip_node.specs.Looking.{IsLook, IsOpenNode}
 use Rattle.cip_node.specs.declared.bounding.Found.{Found}
 use Rattle.cip_node.proofs.Looked.{look_empty, open_after}
-use Rattle.cip_turns.specs.Noted.{IsSameNode}
-use Rattle.cip_turns.specs.Round.TheVariants as rounds
-use Rattle.cip_turns.specs.Came.{Came}
-use Rattle.cip_turns.specs.Came.TheVariants as came
-use Rattle.cip_turns.specs.Enforcing.{IsVerdict}
-use Rattle.cip_turns.specs.declared.enforcing.Verdict.{Verdict}
-use Rattle.cip_turns.specs.declared.enforcing.Verdict.TheVariants as said
+use Rattle.cip_calls.specs.Noted.{IsSameNode}
+use Rattle.cip_calls.specs.declared.asks.Round.TheVariants as rounds
+use Rattle.cip_calls.specs.declared.judging.Came.{Came}
+use Rattle.cip_calls.specs.declared.judging.Came.TheVariants as came
+use Rattle.cip_calls.specs.Enforcing.{IsVerdict}
+use Rattle.cip_calls.specs.declared.enforcing.Verdict.{Verdict}
+use Rattle.cip_calls.specs.declared.enforcing.Verdict.TheVariants as said
 use Rattle.cip_processing.specs.NodesReached.{IsFoundAt, IsFoundBy, IsOpenBounded, left_by, IsReachedIf, reached_by, IsSeen}
 
 module _ (old new : CoreState) (later : IsLater old new) (pool : new.pool ≡ old.pool) (box : List Sides) where

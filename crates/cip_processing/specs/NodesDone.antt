@@ -7,11 +7,11 @@ use Rattle.cip_events.specs.Events.{event_at}
 use Rattle.cip_events.specs.declared.events.EventKind.TheVariants.{NodeFocused}
 use Rattle.cip_plugin.specs.Calls.{Ask, Branch, OnEvent}
 use Rattle.cip_seats.specs.Seats.{State}
-use Rattle.cip_turns.specs.Mark.{Mark}
+use Rattle.cip_calls.specs.Mark.{Mark}
 use Rattle.cip_tree.specs.Nodes.{TakenNode, box_of, shown}
-use Rattle.cip_turns.specs.CoreStates.{CoreState, reduced_of, IsKeptIn}
-use Rattle.cip_turns.specs.Later.{IsLater, IsNarrower}
-use Rattle.cip_turns.specs.Steps.{LeavesEntry, aged}
+use Rattle.cip_calls.specs.CoreStates.{CoreState, reduced_of, IsKeptIn}
+use Rattle.cip_calls.specs.Later.{IsLater, IsNarrower}
+use Rattle.cip_calls.specs.Steps.{LeavesEntry, aged}
 use Rattle.cip_node.specs.Bounding.{IsMarkOf, IsAsGood, HasTried}
 use Rattle.cip_node.specs.NodeEnds.{IsLeafEnd, HasEnded}
 use Rattle.cip_node.specs.declared.ends.NodeEnd.{NodeEnd}
@@ -19,11 +19,11 @@ use Rattle.cip_node.specs.declared.ends.NodeEnd.TheVariants as by
 use Rattle.cip_roster.specs.KeptRankings.{Room}
 use Rattle.cip_roster.specs.Turns.{IsSound}
 use Rattle.cip_roster.specs.Wished.{Ran}
-use Rattle.cip_turns.specs.ProposalsJudged.{HaveRoom}
-use Rattle.cip_turns.specs.Judged.{Judged}
-use Rattle.cip_turns.specs.Scratches.{Scratches}
-use Rattle.cip_turns.specs.Noted.{HasMoreRows}
-use Rattle.cip_turns.specs.Served.{Used}
+use Rattle.cip_calls.specs.ProposalsJudged.{HaveRoom}
+use Rattle.cip_calls.specs.Judged.{Judged}
+use Rattle.cip_calls.specs.Scratches.{Scratches}
+use Rattle.cip_calls.specs.Noted.{HasMoreRows}
+use Rattle.cip_calls.specs.Served.{Used}
 use Rattle.cip_processing.specs.NodesReached.{asks_in_pass}
 use Rattle.cip_processing.specs.declared.ends.Done.{Done}
 use Rattle.cip_processing.specs.declared.reached.Reached.{Reached}

@@ -3,8 +3,8 @@ use Rattle.std.specs.Prelude.{◌≡◌, ℕ, false, List, [], ◌∷◌, Option
 use Rattle.cip_tree.specs.Nodes.{TakenNode, region_of, box_of, shown}
 use Rattle.cip_plugin.specs.Calls.{Ask, Propagate, Separate, Search}
 use Rattle.cip_seats.specs.Seats.{State}
-use Rattle.cip_turns.specs.CoreStates.{CoreState, IsTakenUp}
-use Rattle.cip_turns.specs.Later.{IsLater, IsNarrower}
+use Rattle.cip_calls.specs.CoreStates.{CoreState, IsTakenUp}
+use Rattle.cip_calls.specs.Later.{IsLater, IsNarrower}
 use Rattle.cip_node.specs.Bounding.{IsFound}
 use Rattle.cip_node.specs.Looking.{IsLeafNode, IsOpenNode}
 use Rattle.cip_node.specs.declared.bounding.Found.{Found}
@@ -12,14 +12,14 @@ use Rattle.cip_node.specs.declared.bounding.Bounded.{Bounded}
 use Rattle.cip_node.specs.declared.bounding.Bounded.TheVariants as solved
 use Rattle.cip_node_rules.specs.declared.looks.Looked.{Looked}
 use Rattle.cip_node_rules.specs.declared.looks.Looked.TheVariants as look
-use Rattle.cip_turns.specs.ProposalsJudged.{IsShownEmpty}
-use Rattle.cip_turns.specs.SplitsJudged.{IsPlace}
-use Rattle.cip_turns.specs.Judged.{Judged}
-use Rattle.cip_turns.specs.Served.{Used}
-use Rattle.cip_turns.specs.Came.{Came}
-use Rattle.cip_turns.specs.Came.TheVariants as came
-use Rattle.cip_turns.specs.declared.enforcing.Verdict.{Verdict}
-use Rattle.cip_turns.specs.declared.enforcing.Verdict.TheVariants as said
+use Rattle.cip_calls.specs.ProposalsJudged.{IsShownEmpty}
+use Rattle.cip_calls.specs.SplitsJudged.{IsPlace}
+use Rattle.cip_calls.specs.Judged.{Judged}
+use Rattle.cip_calls.specs.Served.{Used}
+use Rattle.cip_calls.specs.declared.judging.Came.{Came}
+use Rattle.cip_calls.specs.declared.judging.Came.TheVariants as came
+use Rattle.cip_calls.specs.declared.enforcing.Verdict.{Verdict}
+use Rattle.cip_calls.specs.declared.enforcing.Verdict.TheVariants as said
 use Rattle.cip_processing.specs.declared.reached.Reached.{Reached}
 use Rattle.cip_processing.specs.declared.reached.Reached.TheVariants as stage
 

@@ -3,12 +3,12 @@ ghost use Rattle.std.specs.Prelude.{◌≡◌, ◌<◌, ◌^◌, false, IfOk, Ma
 ghost use Rattle.cip_roster.specs.Turns.{IsSound};
 ghost use Rattle.cip_roster.specs.Wished.{Ran};
 ghost use Rattle.cip_problem.specs.Log.{matters as log_matters};
-ghost use Rattle.cip_turns.specs.CoreStates.{held_of, IsTakenUp, IsGivenBound};
-ghost use Rattle.cip_turns.specs.Steps.{IsBack};
+ghost use Rattle.cip_calls.specs.CoreStates.{held_of, IsTakenUp, IsGivenBound};
+ghost use Rattle.cip_calls.specs.Steps.{IsBack};
 ghost use Rattle.cip_node.specs.Looking.{IsLeafNode, IsOpenNode};
 ghost use Rattle.cip_node.specs.NodeEnds.{IsLeafEnd};
 ghost use Rattle.cip_node.specs.declared.ends.NodeEnd.TheVariants.{Pruned};
-ghost use Rattle.cip_turns.specs.Served.{Used};
+ghost use Rattle.cip_calls.specs.Served.{Used};
 ghost use Rattle.cip_processing.specs.NodesDone.{IsDone, IsEndUsed, asks_for_split};
 ghost use Rattle.cip_processing.specs.NodesReached.{IsFoundAt, IsReached};
 
@@ -16,11 +16,11 @@ use crate::ends::Done;
 use crate::parting::end_parted;
 use crate::reached::Reached;
 use crate::telling::last_of;
+use cip_calls::{Asks, Plugins, ask_rules};
 use cip_frac::Frac;
 use cip_node::{Found, NodeEnd, NodeWork, end_leaf};
 use cip_node_rules::matters;
 use cip_tree::Node;
-use cip_turns::{Asks, Plugins, ask_rules};
 use std::alloc::{AllocError, Global};
 
 /// Ends a leaf, whose region is the region in work. `Err` comes where memory was refused; the node is open again then,

@@ -1,6 +1,6 @@
 //! How the work on a node with plugins ends.
+use cip_calls::Mark;
 use cip_node::NodeEnd;
-use cip_turns::Mark;
 
 /// How a node ended, and what was met in the work on it.
 #[derive(Drop)]

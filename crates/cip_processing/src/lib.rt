@@ -12,12 +12,12 @@ mod separating;
 mod telling;
 mod turns;
 
-pub use cip_node::{Asked, Mark, NodeEnd, NodeRecord, NodeWork, cost_of, root_bound};
-pub use cip_roster::{Roster, Seated};
-pub use cip_turns::{
+pub use cip_calls::{
     Asks, Core, JudgeFault, Judged, Last, NoPlugins, Plugins, Presolved, Round, Scratches, Turn,
     view_of,
 };
+pub use cip_node::{Asked, Mark, NodeEnd, NodeRecord, NodeWork, cost_of, root_bound};
+pub use cip_roster::{Roster, Seated};
 pub use ends::Done;
 pub use processing::process;
 pub use telling::tell_end;

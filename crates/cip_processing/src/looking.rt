@@ -2,17 +2,17 @@
 ghost use Rattle.std.specs.Prelude.{◌≢◌, ◌∷◌, [], IfOk};
 ghost use Rattle.cip_plugin.specs.Calls.{Propagate};
 ghost use Rattle.cip_roster.specs.Turns.{IsSound};
-ghost use Rattle.cip_turns.specs.CoreStates.{IsAtWork};
+ghost use Rattle.cip_calls.specs.CoreStates.{IsAtWork};
 ghost use Rattle.cip_node_rules.specs.declared.looks.Looked.TheVariants.{Empty};
-ghost use Rattle.cip_turns.specs.Noted.{IsReady, HasCome};
-ghost use Rattle.cip_turns.specs.Served.{Used};
+ghost use Rattle.cip_calls.specs.Noted.{IsReady, HasCome};
+ghost use Rattle.cip_calls.specs.Served.{Used};
 ghost use Rattle.cip_processing.specs.NodesReached.{IsSeen};
 
 use crate::telling::{last_kept, tell_now};
+use cip_calls::{Asks, Came, Core, Plugins};
 use cip_node::Starts;
 use cip_node_rules::{Looked, look_at};
 use cip_tree::Node;
-use cip_turns::{Asks, Came, Core, Plugins};
 use std::alloc::{AllocError, Global};
 
 /// What the box in work and its choices, which are those of a node, come to.

@@ -3,10 +3,10 @@ ghost use Rattle.std.specs.Prelude.{◌≡◌, ◌<◌, ◌^◌, true, IfOk, Mat
 ghost use Rattle.cip_problem.specs.Log.{Split as SplitEnd};
 ghost use Rattle.cip_problem.specs.Wholes.{AllHaveWholes};
 ghost use Rattle.cip_tree.specs.Nodes.{box_of};
-ghost use Rattle.cip_turns.specs.CoreStates.{reduced_of, IsAtWork, IsTakenUp, IsGivenBound};
-ghost use Rattle.cip_turns.specs.Steps.{HasLeft, IsBack};
+ghost use Rattle.cip_calls.specs.CoreStates.{reduced_of, IsAtWork, IsTakenUp, IsGivenBound};
+ghost use Rattle.cip_calls.specs.Steps.{HasLeft, IsBack};
 ghost use Rattle.cip_node.specs.Looking.{IsOpenNode};
-ghost use Rattle.cip_turns.specs.SplitsJudged.{IsPlace};
+ghost use Rattle.cip_calls.specs.SplitsJudged.{IsPlace};
 ghost use Rattle.cip_processing.specs.NodesDone.{IsDone};
 ghost use Rattle.cip_processing.specs.NodesReached.{IsFoundAt};
 

@@ -3,19 +3,19 @@ ghost use Rattle.std.specs.Prelude.{◌∷◌, [], IfOk};
 ghost use Rattle.cip_plugin.specs.Calls.{Separate, Search};
 ghost use Rattle.cip_roster.specs.Turns.{IsSound};
 ghost use Rattle.cip_node.specs.Looking.{IsOpenNode};
-ghost use Rattle.cip_turns.specs.Noted.{IsReady, HasCome};
-ghost use Rattle.cip_turns.specs.Served.{Used};
+ghost use Rattle.cip_calls.specs.Noted.{IsReady, HasCome};
+ghost use Rattle.cip_calls.specs.Served.{Used};
 ghost use Rattle.cip_processing.specs.NodesReached.{IsFoundAt, IsReached, IsUsedIn, asks_in_pass};
 
 use crate::looking::narrow;
 use crate::reached::Reached;
 use crate::separating::separate;
 use crate::telling::{last_of, tell_now};
+use cip_calls::{Asks, Core, Plugins, Round};
 use cip_events::EventKind;
 use cip_node::{Bounded, Found, NodeWork};
 use cip_node_rules::Looked;
 use cip_tree::Node;
-use cip_turns::{Asks, Core, Plugins, Round};
 use std::alloc::{AllocError, Global};
 
 /// Asks for points, while a node is in work, behind its linear program, and tells what happened. `Err` comes where

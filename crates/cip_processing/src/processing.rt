@@ -5,10 +5,10 @@ ghost use Rattle.cip_events.specs.Events.{event_at};
 ghost use Rattle.cip_events.specs.declared.events.EventKind.TheVariants.{NodeFocused};
 ghost use Rattle.cip_plugin.specs.Calls.{OnEvent};
 ghost use Rattle.cip_roster.specs.Turns.{IsSound};
-ghost use Rattle.cip_turns.specs.CoreStates.{reduced_of, IsTakenUp};
-ghost use Rattle.cip_turns.specs.Steps.{IsBack};
+ghost use Rattle.cip_calls.specs.CoreStates.{reduced_of, IsTakenUp};
+ghost use Rattle.cip_calls.specs.Steps.{IsBack};
 ghost use Rattle.cip_node.specs.Looking.{CanWorkOn};
-ghost use Rattle.cip_turns.specs.ProposalsJudged.{HaveRoom};
+ghost use Rattle.cip_calls.specs.ProposalsJudged.{HaveRoom};
 ghost use Rattle.cip_processing.specs.NodesDone.{IsDone, IsDoneUsing, HasAged};
 ghost use Rattle.cip_processing.specs.NodesReached.{HasMoved, IsReached, IsUsedIn, asks_in_pass};
 
@@ -16,9 +16,9 @@ use crate::ending::finish;
 use crate::ends::Done;
 use crate::reached::Reached;
 use crate::turns::focus_and_turn;
+use cip_calls::{Asks, Plugins};
 use cip_node::NodeWork;
 use cip_tree::Node;
-use cip_turns::{Asks, Plugins};
 use std::alloc::{AllocError, Global};
 
 /// Begins the work on a node that was taken up: the pool ages, the region of the node becomes the region in work, that

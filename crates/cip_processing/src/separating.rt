@@ -4,16 +4,16 @@ ghost use Rattle.cip_plugin.specs.Calls.{Separate};
 ghost use Rattle.cip_roster.specs.Turns.{IsSound};
 ghost use Rattle.cip_tree.specs.Nodes.{region_of};
 ghost use Rattle.cip_node.specs.Bounding.{IsBounded};
-ghost use Rattle.cip_turns.specs.Noted.{IsReady, HasCome};
-ghost use Rattle.cip_turns.specs.Served.{Used};
-ghost use Rattle.cip_turns.specs.Came.TheVariants.{Emptied};
+ghost use Rattle.cip_calls.specs.Noted.{IsReady, HasCome};
+ghost use Rattle.cip_calls.specs.Served.{Used};
+ghost use Rattle.cip_calls.specs.declared.judging.Came.TheVariants.{Emptied};
 ghost use Rattle.cip_processing.specs.NodesReached.{IsFoundAt, IsFoundBy, IsOpenBounded, left_by};
 
 use crate::telling::{last_of, offered_kind, queue_known, tell_now};
+use cip_calls::{Asks, Came, Plugins, Round};
 use cip_events::EventKind;
 use cip_node::{Bounded, Found, NodeWork};
 use cip_tree::Node;
-use cip_turns::{Asks, Came, Plugins, Round};
 use std::alloc::{AllocError, Global};
 use std::mem;
 

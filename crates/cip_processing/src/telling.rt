@@ -3,18 +3,18 @@ ghost use Rattle.std.specs.Prelude.{◌≡◌, [], length, IfSome, OnOk};
 ghost use Rattle.cip_problem.specs.WellFormed.{columns};
 ghost use Rattle.cip_roster.specs.Turns.{IsSound};
 ghost use Rattle.cip_roster.specs.Wished.{Ran};
-ghost use Rattle.cip_turns.specs.CoreStates.{reduced_of, IsAtWork};
+ghost use Rattle.cip_calls.specs.CoreStates.{reduced_of, IsAtWork};
 ghost use Rattle.cip_node.specs.Bounding.{IsBounded};
-ghost use Rattle.cip_turns.specs.Noted.{IsReady, HasCome};
-ghost use Rattle.cip_turns.specs.Served.{Used};
+ghost use Rattle.cip_calls.specs.Noted.{IsReady, HasCome};
+ghost use Rattle.cip_calls.specs.Served.{Used};
 
 use crate::ends::Done;
+use cip_calls::{Asks, Core, Last, Plugins, PostsolveFault, postsolve};
 use cip_events::EventKind;
 use cip_frac::Frac;
 use cip_model::Verdict;
 use cip_node::{Bounded, Found, NodeEnd, Starts};
 use cip_tree::Node;
-use cip_turns::{Asks, Core, Last, Plugins, PostsolveFault, postsolve};
 use std::alloc::{AllocError, Global};
 
 /// The point that was found, if one was.

@@ -5,18 +5,18 @@ ghost use Rattle.cip_events.specs.declared.events.EventKind.TheVariants.{NodeFoc
 ghost use Rattle.cip_plugin.specs.Calls.{OnEvent};
 ghost use Rattle.cip_roster.specs.Turns.{IsSound};
 ghost use Rattle.cip_node.specs.Looking.{IsOpenNode};
-ghost use Rattle.cip_turns.specs.Noted.{IsReady, HasCome};
-ghost use Rattle.cip_turns.specs.Served.{Used};
-ghost use Rattle.cip_turns.specs.Enforcing.{IsVerdict};
+ghost use Rattle.cip_calls.specs.Noted.{IsReady, HasCome};
+ghost use Rattle.cip_calls.specs.Served.{Used};
+ghost use Rattle.cip_calls.specs.Enforcing.{IsVerdict};
 ghost use Rattle.cip_processing.specs.NodesReached.{IsFoundAt, IsReached, IsReachedIf, reached_by};
 ghost use Rattle.cip_processing.specs.NodesReached.{IsUsedIn, IsUsedIf, asks_in_pass};
 
 use crate::passes::pass;
 use crate::reached::Reached;
 use crate::telling::{last_of, tell_now};
+use cip_calls::{Asks, Core, Plugins, Verdict, enforce};
 use cip_node::{Found, NodeWork, Starts};
 use cip_tree::Node;
-use cip_turns::{Asks, Core, Plugins, Verdict, enforce};
 use std::alloc::{AllocError, Global};
 
 // How often a node goes back to its sides at most.

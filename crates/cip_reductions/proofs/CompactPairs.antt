@@ -16,7 +16,7 @@ use Rattle.cip_problem.specs.Choices.{choice_at, KeepsChoices, is_open}
 use Rattle.cip_problem.specs.Wholes.{wholes_between, times, assignments, AtMost, HasWhole}
 use Rattle.cip_problem.proofs.Points.AtPlaces.{IsInBox-long}
 use Rattle.cip_problem.proofs.Wholes.Counts.{IsPositive, wholes_count, above_ceil, below_floor}
-use Rattle.cip_cuts.specs.Reduced.{IsRelaxed}
+use Rattle.cip_linear.specs.Reduced.{IsRelaxed}
 use Rattle.cip_reductions.specs.Forms.{Form, form_value, placed, filled, spread, gathered, kept_at, number_in}
 use Rattle.cip_reductions.specs.Pairs.{IsLong, HasSource, IsKept, HasForm, IsWholeIn, IsAssignment, own_sides, other_values, semi_values, IsPair, IsExactPair}
 use Rattle.cip_reductions.specs.Compacting.{Stays, IsCompacted}

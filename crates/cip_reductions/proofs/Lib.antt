@@ -1,11 +1,22 @@
+mod SeenTried
+pub mod Agreeing
 pub mod Apart
 pub mod CompactPairs
 pub mod Equalities
+pub mod Following
 pub mod Inside
+pub mod LogsSeen
+pub mod Mirrors
 pub mod Moving
+pub mod NearPoints
 pub mod Pairing
 pub mod Replacing
 pub mod Returning
 pub mod RowSteps
+pub mod SeenColumns
+pub mod SeenEnds
+pub mod SeenNodes
+pub mod SeenSearch
 pub mod Spreading
 pub mod Tried
+pub mod WholeColumns

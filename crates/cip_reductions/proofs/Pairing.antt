@@ -11,7 +11,7 @@ use Rattle.cip_problem.specs.Choices.{choice_at, is_open}
 use Rattle.cip_problem.specs.Points.{IsFeasible, cost_of}
 use Rattle.cip_problem.specs.Wholes.{assignments, AtMost}
 use Rattle.cip_problem.proofs.Box.SideTests.{sides_inside_holds}
-use Rattle.cip_cuts.specs.Reduced.{IsRelaxed}
+use Rattle.cip_linear.specs.Reduced.{IsRelaxed}
 use Rattle.cip_reductions.specs.NarrowedPrograms.{IsTightened, IsStep, IsExactStep, IsInfeasible}
 use Rattle.cip_reductions.specs.Forms.{Form}
 use Rattle.cip_reductions.specs.Pairs.{HasSource, IsKept, HasForm, IsWholeIn, own_sides, semi_values, IsHeldFast, HasNear, IsPair, IsBack, IsExactPair}

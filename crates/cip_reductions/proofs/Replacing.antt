@@ -8,7 +8,7 @@ use Rattle.cip_problem.specs.Activity.{value_at}
 use Rattle.cip_problem.specs.Box.{Between, sides_at, sides_inside}
 use Rattle.cip_problem.specs.Points.{IsSatisfied, IsFeasible, cost_of}
 use Rattle.cip_problem.proofs.Choices.Meeting.{set_in_box}
-use Rattle.cip_cuts.specs.Reduced.{IsRelaxed}
+use Rattle.cip_linear.specs.Reduced.{IsRelaxed}
 use Rattle.cip_reductions.specs.NarrowedPrograms.{AllSatisfied, IsTightened, IsStep, IsExactStep, with_row, with_sides, with_cost}
 use Rattle.cip_reductions.specs.Pairs.{HasNear}
 use Rattle.cip_reductions.proofs.Inside.{all_self, set_inside}

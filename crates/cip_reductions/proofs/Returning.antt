@@ -16,7 +16,7 @@ use Rattle.cip_problem.specs.Choices.{choice_at, Allows, KeepsChoices, zero_side
 use Rattle.cip_problem.proofs.Points.AtPlaces.{IsInBox-long, whole_at}
 use Rattle.cip_problem.proofs.Choices.Meeting.{zero_of_between}
 use Rattle.cip_problem.proofs.Choices.Decided.{own_open}
-use Rattle.cip_cuts.specs.Reduced.{IsRelaxed, IsReduction}
+use Rattle.cip_linear.specs.Reduced.{IsRelaxed, IsReduction}
 use Rattle.cip_search.specs.Leaf.{at_wholes}
 use Rattle.cip_search.specs.SearchState.{IsWayBack}
 use Rattle.cip_reductions.specs.Forms.{Form, form_value}

@@ -17,7 +17,7 @@ use Rattle.cip_problem.proofs.Points.AtPlaces.{in_box_at, satisfied_at, whole_at
 use Rattle.cip_problem.proofs.Choices.Meeting.{between_both, between_met}
 use Rattle.cip_linear.specs.Aggregate.{quotient_of}
 use Rattle.cip_linear.proofs.Bounds.{divide_negative}
-use Rattle.cip_cuts.specs.Cuts.{IsCrossed}
+use Rattle.cip_linear.specs.Cuts.{IsCrossed}
 use Rattle.cip_reductions.specs.NarrowedPrograms.{IsExactStep, IsInfeasible, with_row, with_sides, with_cost}
 use Rattle.cip_reductions.specs.RowSteps.{HoldsInAll, HoldsNowhere, divided_sides, side_less, IsShifted, merged_row}
 use Rattle.cip_reductions.proofs.Pairing.{exact_after}

@@ -8,7 +8,7 @@ use Rattle.cip_rational.proofs.Rational.Ring.{zero-+ℚ, zero-*ℚ}
 use Rattle.cip_problem.specs.Program.{Term, Sides, Row, Program}
 use Rattle.cip_problem.specs.Activity.{value_at, activity}
 use Rattle.cip_problem.specs.Box.{Between, IsInBox, sides_at}
-use Rattle.cip_cuts.specs.Reduced.{IsRelaxed}
+use Rattle.cip_linear.specs.Reduced.{IsRelaxed}
 use Rattle.cip_reductions.specs.NarrowedPrograms.{AllSatisfied}
 use Rattle.cip_reductions.specs.Forms.{Form, form_value, placed, filled, spread, gathered, kept_at, kept_from, number_in, renumbered_term}
 use Rattle.cip_reductions.specs.Compacting.{Stays, StandsOnLeft, AreLeft, rows_left}

@@ -9,7 +9,7 @@ use Rattle.cip_problem.specs.Box.{Between, IsInBox, sides_at}
 use Rattle.cip_problem.specs.Choices.{choice_at, is_open}
 use Rattle.cip_problem.specs.Wholes.{HasWhole}
 use Rattle.cip_problem.specs.Points.{IsSatisfied}
-use Rattle.cip_cuts.specs.Reduced.{IsRelaxed}
+use Rattle.cip_linear.specs.Reduced.{IsRelaxed}
 use Rattle.cip_reductions.specs.NarrowedPrograms.{AllSatisfied}
 use Rattle.cip_reductions.specs.Forms.{Form, form_value, placed, spread, gathered, renumbered}
 use Rattle.cip_reductions.specs.Pairs.{HasSource, IsWholeIn, IsAssignment}

@@ -6,9 +6,12 @@ pub mod Moving
 pub mod NarrowedPrograms
 pub mod Pairs
 pub mod RowSteps
+pub mod SeenExamples
+pub mod SeenLogs
+pub mod SeenStatements
 pub mod Statements
 pub mod WholeParts
 pub use Rattle.cip_linear.specs.Aggregate
-pub use Rattle.cip_cuts.specs.Cuts
+pub use Rattle.cip_linear.specs.Cuts
 pub use Rattle.cip_search.specs.Leaf
 pub use Rattle.cip_search.specs.SearchState

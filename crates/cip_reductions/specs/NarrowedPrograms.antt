@@ -5,7 +5,7 @@ use Rattle.cip_rational.specs.Rational.{ℚ}
 use Rattle.cip_problem.specs.Program.{Sides, Row, Program}
 use Rattle.cip_problem.specs.Box.{sides_inside}
 use Rattle.cip_problem.specs.Points.{IsSatisfied, IsFeasible, cost_of}
-use Rattle.cip_cuts.specs.Reduced.{IsRelaxed}
+use Rattle.cip_linear.specs.Reduced.{IsRelaxed}
 use Rattle.cip_reductions.specs.Pairs.{HasNear}
 
 -- all rows are satisfied

@@ -9,7 +9,7 @@ use Rattle.cip_problem.specs.Box.{Between, sides_at, sides_inside}
 use Rattle.cip_problem.specs.Choices.{choice_at, is_open}
 use Rattle.cip_problem.specs.Points.{IsFeasible, cost_of}
 use Rattle.cip_problem.specs.Wholes.{assignments, AtMost}
-use Rattle.cip_cuts.specs.Reduced.{IsRelaxed}
+use Rattle.cip_linear.specs.Reduced.{IsRelaxed}
 use Rattle.cip_reductions.specs.Forms.{Form, form_value}
 
 -- a point has a value for each column

@@ -6,8 +6,8 @@ use Rattle.cip_problem.specs.WellFormed.{IsWellFormed}
 use Rattle.cip_problem.specs.Activity.{value_at}
 use Rattle.cip_problem.specs.Box.{Between, sides_at, sides_inside}
 use Rattle.cip_problem.specs.Points.{IsSatisfied, IsFeasible}
-use Rattle.cip_cuts.specs.Cuts.{IsCrossed}
-use Rattle.cip_cuts.specs.Reduced.{IsRelaxed, IsReduction}
+use Rattle.cip_linear.specs.Cuts.{IsCrossed}
+use Rattle.cip_linear.specs.Reduced.{IsRelaxed, IsReduction}
 use Rattle.cip_search.specs.SearchState.{IsWayBack}
 use Rattle.cip_reductions.specs.NarrowedPrograms.{AllSatisfied, IsStep, IsExactStep, IsInfeasible, with_row, with_sides, with_cost}
 use Rattle.cip_reductions.specs.Forms.{Form, form_value, spread, gathered, kept_at, kept_from}

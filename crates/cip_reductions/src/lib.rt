@@ -4,6 +4,8 @@
 // Each function here does nothing. Its contract is one of the laws of the definitions, so that the check proves it.
 #![tactic(auto)]
 
+pub mod seen;
+
 ghost use Rattle.cip_reductions.specs.Examples.{Examples};
 ghost use Rattle.cip_reductions.specs.Statements.{StepsFollow, PairsFollow, PairsLeadBack, CompactedIsExact, RowsAreReplaced, SidesDivide, ColumnsAreFixed, ColumnsMove, EqualitiesTell, RowsStandFor};
 

@@ -9,7 +9,7 @@ use Rattle.cip_rational.specs.Rational.{ℚ}
 use Rattle.std.specs.Prelude.{pos}
 use Rattle.cip_rational.specs.Rational.{integer, denominator}
 use Rattle.cip_rational.proofs.Rational.Lowest.{numerator-integer, denominator-integer}
-use Rattle.cip_numerals.specs.NumberText.{natural_text, integer_text, denominator_text, fraction_text}
+use Rattle.cip_number_text.specs.NumberText.{natural_text, integer_text, denominator_text, fraction_text}
 use Rattle.cip_answers.specs.Figures.{line, point_lines, ray_name, ray_lines}
 use Rattle.cip_report.specs.Writing.{Passes, Writes}
 

@@ -6,8 +6,8 @@ use Rattle.cip_problem.specs.Program.{Sides, Program}
 use Rattle.cip_problem.specs.Box.{IsInBox}
 use Rattle.cip_problem.specs.Points.{cost_of}
 use Rattle.cip_problem.specs.Log.{matters}
-use Rattle.cip_cuts.specs.Improving.{IsImproving, HoldsInBox, IsBoundIn, IsNoDearer}
-use Rattle.cip_cuts.proofs.Improving.{holds_later}
+use Rattle.cip_linear.specs.Improving.{IsImproving, HoldsInBox, IsBoundIn, IsNoDearer}
+use Rattle.cip_linear.proofs.Improving.{holds_later}
 use Rattle.cip_answers.specs.Searched.{NoMore}
 
 -- a bound holds in a box

@@ -7,9 +7,9 @@ use Rattle.cip_problem.specs.Program.{Program}
 use Rattle.cip_problem.specs.Points.{IsFeasible, cost_of}
 use Rattle.cip_problem.specs.Choices.{decided}
 use Rattle.cip_problem.specs.Log.{Entry, Node, AllFollow}
-use Rattle.cip_cuts.specs.Improving.{IsNoDearer}
-use Rattle.cip_cuts.proofs.Improving.{fewer}
-use Rattle.cip_cuts.proofs.Reductions.{reduction_itself}
+use Rattle.cip_linear.specs.Improving.{IsNoDearer}
+use Rattle.cip_linear.proofs.Improving.{fewer}
+use Rattle.cip_linear.proofs.Reductions.{reduction_itself}
 use Rattle.cip_answers.specs.Leaf.{Leaf}
 use Rattle.cip_answers.specs.Searched.{first_node}
 use Rattle.cip_answers.specs.WideLeaf.{Shown, IsWideLeaf}

@@ -11,11 +11,11 @@ use Rattle.cip_problem.specs.Choices.{AreMade, AreStillOpen, decided, made_on}
 use Rattle.cip_problem.specs.Log.{Entry, Node, AllFollow, matters}
 use Rattle.cip_problem.specs.Statements.{IsNodeOf}
 use Rattle.cip_problem.proofs.Log.Given.{node_of_log}
-use Rattle.cip_cuts.specs.Improving.{IsImproving}
-use Rattle.cip_cuts.specs.Cover.{IsInOneOf, IsCover, HasBoundFrom}
-use Rattle.cip_cuts.specs.Reduced.{HasNoDearer}
-use Rattle.cip_cuts.proofs.Covers as covers
-use Rattle.cip_cuts.proofs.Reductions.{reduction_bound, reduction_no_point}
+use Rattle.cip_linear.specs.Improving.{IsImproving}
+use Rattle.cip_linear.specs.Cover.{IsInOneOf, IsCover, HasBoundFrom}
+use Rattle.cip_linear.specs.Reduced.{HasNoDearer}
+use Rattle.cip_linear.proofs.Covers as covers
+use Rattle.cip_linear.proofs.Reductions.{reduction_bound, reduction_no_point}
 use Rattle.cip_answers.specs.Searched.{first_node}
 use Rattle.cip_search.specs.SearchState.{State, WayBack, unended, all_nodes, IsGiven, IsSearch}
 use Rattle.cip_search.specs.Endings.{NoneMatters, HasWidePoint}

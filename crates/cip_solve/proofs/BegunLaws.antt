@@ -6,8 +6,8 @@ use Rattle.cip_problem.specs.Program.{Program}
 use Rattle.cip_problem.specs.Points.{IsLowerBound}
 use Rattle.cip_problem.specs.WellFormed.{IsWellFormed, columns}
 use Rattle.cip_problem.specs.Log.{Entry, Node, node_of}
-use Rattle.cip_cuts.specs.Improving.{IsBoundIn}
-use Rattle.cip_cuts.proofs.Reductions.{reduction_itself}
+use Rattle.cip_linear.specs.Improving.{IsBoundIn}
+use Rattle.cip_linear.proofs.Reductions.{reduction_itself}
 use Rattle.cip_leaves.specs.Searched.{NoMore, first_node, nodes_given}
 use Rattle.cip_leaves.specs.WideLeaf.{IsWideLeaf}
 use Rattle.cip_incumbent.specs.HeldPoint.{Holding, nothing_held}

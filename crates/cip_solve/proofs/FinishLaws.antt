@@ -20,7 +20,7 @@ use Rattle.cip_search.specs.Endings.{IsLeastBound}
 use Rattle.cip_search.specs.SearchEnds as ends
 use Rattle.cip_search.specs.SearchEnds.{IsAnswer}
 use Rattle.cip_search.specs.SearchAnswers.{IsParkedLast, IsSearchAnswer}
-use Rattle.cip_seen.specs.SeenLogs.{log_seen}
+use Rattle.cip_reductions.specs.SeenLogs.{log_seen}
 use Rattle.cip_search.proofs.StartBounds.{answer_above}
 use Rattle.cip_tree.specs.Moves as tree
 use Rattle.cip_tree.specs.Nodes.{Nodes}

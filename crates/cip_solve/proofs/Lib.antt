@@ -2,12 +2,15 @@ pub mod AnswerLaws
 pub mod BegunLaws
 pub mod ComesTo
 pub mod FinishLaws
-pub mod FirstRows
 pub mod FirstLaws
+pub mod FirstRows
 pub mod Fits
 pub mod KeptPairs
+pub mod KitLaws
 pub mod LeastBounds
+pub mod Lives
 pub mod OpenBounds
+pub mod PassedOn
 pub mod Reduced
 pub mod Renamed
 pub mod SameColumns
@@ -16,7 +19,5 @@ pub mod SeenLaws
 pub mod Serving
 pub mod SolvedLaws
 pub mod TurnLaws
-pub mod Working
 pub mod WorkedNodes
-pub mod KitLaws
-pub mod PassedOn
+pub mod Working

@@ -2,7 +2,7 @@
 use Rattle.std.proofs.Common.{◌≡◌, ℕ, zero, suc, ◌+◌, List, [], ◌∷◌, refl, ap, ◌∙◌, subst, arith}
 use Rattle.std.specs.Prelude.{slice_index_or}
 use Rattle.cip_problem.specs.Log.{End, Split, Closed, Parked, Entry}
-use Rattle.cip_seen.specs.SeenLogs.{end_seen, log_seen}
+use Rattle.cip_reductions.specs.SeenLogs.{end_seen, log_seen}
 use Rattle.cip_processing.specs.PresolvedPrograms.{counted}
 use Rattle.cip_solve.specs.Logs.{renamed}
 

@@ -10,10 +10,10 @@ use Rattle.cip_leaves.specs.WideLeaf.{IsWideLeaf}
 use Rattle.cip_search.specs.SearchState.{State, WayBack, all_nodes, IsSearch, IsAsGiven}
 use Rattle.cip_search.specs.Endings.{IsLeastBound}
 use Rattle.cip_search.proofs.Members.{mapped, of_mapped}
-use Rattle.cip_seen.specs.SeenLogs.{entry_seen, log_seen, with_box_of, node_seen, state_seen}
-use Rattle.cip_seen.specs.Statements.{IsReducedTo, IsLogSeen, IsSeen}
-use Rattle.cip_seen.proofs.LogsSeen.{logs_are_seen}
-use Rattle.cip_seen.proofs.SeenEnds.{searches_are_seen}
+use Rattle.cip_reductions.specs.SeenLogs.{entry_seen, log_seen, with_box_of, node_seen, state_seen}
+use Rattle.cip_reductions.specs.SeenStatements.{IsReducedTo, IsLogSeen, IsSeen}
+use Rattle.cip_reductions.proofs.LogsSeen.{logs_are_seen}
+use Rattle.cip_reductions.proofs.SeenEnds.{searches_are_seen}
 use Rattle.cip_processing.specs.KeptNodes.{cost_held, state_of, AllMatter}
 use Rattle.cip_solve.specs.FirstStops.{IsShortAt, IsFirstStop}
 use Rattle.cip_solve.specs.Searching.{WasShortAt, WasShort, CanBeSeen}

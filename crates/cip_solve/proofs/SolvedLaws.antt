@@ -6,7 +6,7 @@ use Rattle.cip_problem.specs.Program.{Program}
 use Rattle.cip_problem.specs.WellFormed.{columns}
 use Rattle.cip_problem.specs.Log.{End, Split, Closed, Parked, Entry, Node}
 use Rattle.cip_search.specs.SearchEnds as ends
-use Rattle.cip_seen.specs.SeenLogs.{end_seen, entry_seen, log_seen}
+use Rattle.cip_reductions.specs.SeenLogs.{end_seen, entry_seen, log_seen}
 use Rattle.cip_processing.specs.Presolved.{Presolved}
 use Rattle.cip_processing.specs.Mark.{Mark}
 use Rattle.cip_processing.specs.CoreStates.{CoreState, reduced_of, way_of}

@@ -6,7 +6,7 @@ use Rattle.cip_rational.proofs.Rational.Order.{≤ℚ_refl}
 use Rattle.cip_problem.specs.Program.{Program}
 use Rattle.cip_processing.specs.StepsBack.{StepsTaken, way_back}
 use Rattle.cip_problem.specs.Log.{End, Split, Closed, Parked, Entry, Node}
-use Rattle.cip_cuts.specs.Improving.{IsNoDearer}
+use Rattle.cip_linear.specs.Improving.{IsNoDearer}
 use Rattle.cip_processing.specs.LeafAnswers.{shown_as}
 use Rattle.cip_incumbent.specs.HeldPoint.{Holding}
 use Rattle.cip_search.specs.SearchState.{WayBack}

@@ -1,5 +1,6 @@
 pub mod Answered
 pub mod FirstStops
+pub mod KitsServed
 pub mod Logs
 pub mod NodesWorked
 pub mod Outsets
@@ -10,7 +11,7 @@ pub mod SplitsServed
 pub mod Statements
 pub mod Stopping
 pub mod Stops
-pub mod KitsServed
+pub mod WholeLives
 pub use Rattle.cip_endings.specs.AnswerOf
 pub use Rattle.cip_processing.specs.Beginning
 pub use Rattle.cip_processing.specs.CoreStates

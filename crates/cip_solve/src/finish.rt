@@ -6,7 +6,7 @@ ghost use Rattle.cip_problem.specs.Program.{Program};
 ghost use Rattle.cip_problem.specs.Log.{Entry};
 ghost use Rattle.cip_problem.specs.WellFormed.{columns};
 ghost use Rattle.cip_search.specs.SearchState.{WayBack};
-ghost use Rattle.cip_seen.specs.SeenLogs.{log_seen};
+ghost use Rattle.cip_reductions.specs.SeenLogs.{log_seen};
 ghost use Rattle.cip_tree.specs.Nodes.{Nodes};
 ghost use Rattle.cip_processing.specs.Mark.{Mark};
 ghost use Rattle.cip_processing.specs.PresolvedPrograms.{IsUnchanged};

@@ -3,6 +3,7 @@
 
 mod asking;
 mod finish;
+mod kit_lives;
 mod laws;
 mod logs;
 mod outsets;
@@ -18,6 +19,7 @@ pub use cip_processing::{
     Asked, Core, Done, Mark, NoPlugins, NodeEnd, NodeRecord, NodeWork, Plugins, Presolved,
     Scratches, process,
 };
+pub use kit_lives::lives_are_whole;
 pub use laws::answers_fit;
 pub use logs::Log;
 pub use solving::{Options, solve, solve_by, unsearched};

@@ -1,19 +1,36 @@
-//! Tests of presolve and of the search behind it: single calls on programs worked out by hand, what splits that are
-//! proposed come to, random programs, of which the reduced and the whole one are searched, and random programs with
-//! semi-continuous columns, whose choices are enumerated.
+//! Tests of the roster, of presolve and of the search behind it: single calls on programs worked out by hand, what
+//! splits that are proposed come to, random programs, of which the reduced and the whole one are searched, and random
+//! programs with semi-continuous columns, whose choices are enumerated.
 #![tactic(auto)]
 
 #[cfg(test)]
 mod calls;
 #[cfg(test)]
+mod cases;
+#[cfg(test)]
 mod choices;
+#[cfg(test)]
+mod deliveries;
 #[cfg(test)]
 mod drawn;
 #[cfg(test)]
 mod endings;
+#[cfg(test)]
+mod fakes;
 #[cfg(test)]
 mod parted;
 #[cfg(test)]
 mod programs;
 #[cfg(test)]
 mod random;
+#[cfg(test)]
+mod roster_calls;
+#[cfg(test)]
+mod roster_endings;
+mod tellers;
+mod told;
+#[cfg(test)]
+mod wishes;
+
+pub use tellers::Teller;
+pub use told::Told;

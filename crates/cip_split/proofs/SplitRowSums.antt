@@ -19,8 +19,8 @@ use Rattle.cip_problem.specs.Program.{Sides}
 use Rattle.cip_problem.specs.Activity.{activity, value_at}
 use Rattle.cip_linear.specs.Aggregate.{Part, Inequality, Holds}
 use Rattle.cip_linear.proofs.Aggregates.{aggregate_holds}
-use Rattle.cip_cuts.specs.Splits.{IsWholeForm, left_part, right_part, IsWithPart}
-use Rattle.cip_cuts.proofs.Splits.{split_holds}
+use Rattle.cip_linear.specs.Splits.{IsWholeForm, left_part, right_part, IsWithPart}
+use Rattle.cip_linear.proofs.Splits.{split_holds}
 use Rattle.cip_cert.specs.declared.faults.CutFault.{CutFault}
 use Rattle.cip_cert.specs.declared.splits.FormTerm.{FormTerm}
 use Rattle.cip_cert.specs.declared.splits.SplitCut.{SplitCut}

@@ -1,6 +1,9 @@
 pub mod Drafted
+pub mod Enclosing
+pub mod FixedColumns
+pub mod PassedOn
 pub mod Recosted
 pub mod RowTermsKept
+pub mod RowsPassedOn
 pub mod Ruled
 pub mod Singled
-pub mod PassedOn

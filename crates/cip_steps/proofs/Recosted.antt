@@ -7,11 +7,11 @@ use Rattle.cip_rational.proofs.Rational.Order.{≤ℚ_antisymm, le_of_test}
 use Rattle.cip_problem.specs.Program.{Sides, Program}
 use Rattle.cip_problem.specs.Activity.{value_at}
 use Rattle.cip_problem.specs.Box.{sides_at, sides_equal}
-use Rattle.cip_row_reading.specs.Outcomes.{product_added}
-use Rattle.cip_row_reading.proofs.PassedOn.{product_added-value}
-use Rattle.cip_row_reading.specs.NarrowedPrograms.{IsExactStep, IsInfeasible, with_cost}
-use Rattle.cip_row_reading.proofs.PassedOn.{recosted, not_whole}
-use Rattle.cip_row_reading.specs.RowReading.{only_value}
+use Rattle.cip_steps.specs.Outcomes.{product_added}
+use Rattle.cip_steps.proofs.RowsPassedOn.{product_added-value}
+use Rattle.cip_steps.specs.NarrowedPrograms.{IsExactStep, IsInfeasible, with_cost}
+use Rattle.cip_steps.proofs.RowsPassedOn.{recosted, not_whole}
+use Rattle.cip_steps.specs.RowReading.{only_value}
 use Rattle.cip_steps.proofs.Ruled.{stays}
 
 and_parts : (a b : Bool) → (a && b) ≡ true → (a ≡ true) × (b ≡ true)

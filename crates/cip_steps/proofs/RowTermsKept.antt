@@ -3,7 +3,7 @@ use Rattle.std.proofs.Common.{◌≡◌, ℕ, ◌+◌, ◌<◌, List, length, su
 use Rattle.cip_rational.specs.Rational.{zeroℚ}
 use Rattle.cip_problem.specs.Program.{Term}
 use Rattle.cip_problem.specs.RowTerms.{column_at, coefficient_at, AreTerms}
-use Rattle.cip_row_reading.specs.RowFaults.{FallsBackAt}
+use Rattle.cip_steps.specs.RowFaults.{FallsBackAt}
 
 pub never_back : (terms : List Term) (at : ℕ) → AreTerms terms → at < length terms → FallsBackAt terms at → ⊥
 never_back terms at h i f =

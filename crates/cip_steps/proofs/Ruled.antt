@@ -2,12 +2,12 @@
 use Rattle.std.proofs.Common.{◌≡◌, ℕ, zero, suc, ◌<◌, List, [], ◌∷◌, length, Option, None, Some, IfSome, Result, Ok, Err, slice_get, refl, sym, subst, arith}
 use Rattle.std.specs.Prelude.{IfOk}
 use Rattle.cip_problem.specs.Program.{Sides, Row, Program}
-use Rattle.cip_row_reading.specs.NarrowedPrograms.{IsExactStep, IsInfeasible, with_row}
-use Rattle.cip_row_reading.specs.RowSteps.{HoldsInAll, HoldsNowhere}
+use Rattle.cip_steps.specs.NarrowedPrograms.{IsExactStep, IsInfeasible, with_row}
+use Rattle.cip_steps.specs.RowSteps.{HoldsInAll, HoldsNowhere}
 use Rattle.cip_problem.specs.Program.{no_row}
-use Rattle.cip_row_reading.proofs.PassedOn.{exact_self, exact_after}
-use Rattle.cip_row_reading.proofs.PassedOn.{dropped, broken, shifted}
-use Rattle.cip_row_reading.specs.RowReading.{IsLeftRow}
+use Rattle.cip_steps.proofs.RowsPassedOn.{exact_self, exact_after}
+use Rattle.cip_steps.proofs.RowsPassedOn.{dropped, broken, shifted}
+use Rattle.cip_steps.specs.RowReading.{IsLeftRow}
 use Rattle.cip_steps.specs.RuleEnds.{IsCleaned}
 
 some_row : (rows : List Row) (number : ℕ) → number < length rows → (row : Row) × (slice_get rows number ≡ Some row)

@@ -13,16 +13,16 @@ use Rattle.cip_problem.specs.Choices.{greater, lesser, met, choice_at, is_open}
 use Rattle.cip_problem.specs.Points.{IsSatisfied, IsFeasible}
 use Rattle.cip_problem.proofs.Points.AtPlaces.{in_box_at, satisfied_at, whole_at}
 use Rattle.cip_problem.proofs.Choices.Meeting.{between_both, between_met}
-use Rattle.cip_cuts.specs.Cuts.{rounded_low, rounded_high, rounded_sides}
-use Rattle.cip_cuts.proofs.Rounding.{sides_rounded}
-use Rattle.cip_row_reading.specs.MetSides.{is_past}
-use Rattle.cip_row_reading.specs.NarrowedPrograms.{IsExactStep, IsInfeasible, with_row, with_sides}
-use Rattle.cip_row_reading.specs.RowSteps.{divided_sides}
+use Rattle.cip_linear.specs.Cuts.{rounded_low, rounded_high, rounded_sides}
+use Rattle.cip_linear.proofs.Rounding.{sides_rounded}
+use Rattle.cip_steps.specs.MetSides.{is_past}
+use Rattle.cip_steps.specs.NarrowedPrograms.{IsExactStep, IsInfeasible, with_row, with_sides}
+use Rattle.cip_steps.specs.RowSteps.{divided_sides}
 use Rattle.cip_problem.specs.Program.{no_row}
-use Rattle.cip_row_reading.proofs.PassedOn.{single_taken, divided, multiplied}
-use Rattle.cip_row_reading.specs.SingleRows.{HasOneTerm, inward_if, single_sides}
+use Rattle.cip_steps.proofs.RowsPassedOn.{single_taken, divided, multiplied}
+use Rattle.cip_steps.specs.SingleRows.{HasOneTerm, inward_if, single_sides}
 use Rattle.cip_steps.specs.RuleEnds.{IsSingled}
-use Rattle.cip_row_reading.proofs.Enclosing.{past_below}
+use Rattle.cip_steps.proofs.Enclosing.{past_below}
 use Rattle.cip_steps.proofs.Ruled.{stays, cleaned_by}
 
 -- ---- met sides

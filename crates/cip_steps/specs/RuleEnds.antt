@@ -3,8 +3,8 @@ use Rattle.std.specs.Prelude.{◌≡◌, ℕ, ◌<◌, true, false, length, ⊤}
 use Rattle.cip_problem.specs.Program.{Sides, Row, Program}
 use Rattle.cip_problem.specs.Activity.{StandsBelow}
 use Rattle.cip_problem.specs.Choices.{choice_at, is_open}
-use Rattle.cip_row_reading.specs.MetSides.{is_past}
-use Rattle.cip_row_reading.specs.NarrowedPrograms.{IsExactStep, IsInfeasible, with_row, with_sides}
+use Rattle.cip_steps.specs.MetSides.{is_past}
+use Rattle.cip_steps.specs.NarrowedPrograms.{IsExactStep, IsInfeasible, with_row, with_sides}
 use Rattle.cip_problem.specs.Program.{no_row}
 use Rattle.cip_steps.specs.declared.rules.Outcome.{Outcome}
 use Rattle.cip_steps.specs.declared.rules.Outcome.TheVariants.{Kept, Gone, Tightened, NoPoint}

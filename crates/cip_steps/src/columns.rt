@@ -1,13 +1,13 @@
 //! The rule that looks at one column: one with equal sides costs nothing from then on.
 ghost use Rattle.std.specs.Prelude.{◌≡◌, ◌<◌, length, Ok, IfSome};
 ghost use Rattle.cip_problem.specs.Activity.{value_at};
-ghost use Rattle.cip_row_reading.specs.Outcomes.{product_added};
-ghost use Rattle.cip_row_reading.specs.NarrowedPrograms.{IsExactStep, with_cost};
+ghost use Rattle.cip_steps.specs.Outcomes.{product_added};
+ghost use Rattle.cip_steps.specs.NarrowedPrograms.{IsExactStep, with_cost};
 ghost use Rattle.cip_steps.specs.RuleEnds.{EndsRightly};
 
 use crate::drafts::Draft;
 use crate::rules::Outcome;
-use cip_row_reading::{Frac, only_value};
+use crate::{Frac, only_value};
 
 impl Draft {
     /// The cost of a column.

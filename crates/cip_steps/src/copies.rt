@@ -4,8 +4,8 @@ ghost use Rattle.cip_problem.specs.RowTerms.{AreTerms};
 ghost use Rattle.cip_steps.specs.DraftParts.{unnamed};
 
 use crate::drafts::Draft;
+use crate::{Frac, Row, RowFault, Term};
 use cip_model::Program;
-use cip_row_reading::{Frac, Row, RowFault, Term};
 use std::alloc::{AllocError, Global};
 
 /// The row of terms that are a row's already; `Err` where the memory for it was refused.

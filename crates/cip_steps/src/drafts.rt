@@ -2,10 +2,10 @@
 ghost use Rattle.std.specs.Prelude.{◌≡◌, ◌<◌, ◌≤◌, false, length, slice_get, Some, All};
 ghost use Rattle.cip_problem.specs.Activity.{StandsBelow};
 ghost use Rattle.cip_problem.specs.Choices.{choice_at, is_open};
-ghost use Rattle.cip_row_reading.specs.NarrowedPrograms.{with_row, with_sides};
+ghost use Rattle.cip_steps.specs.NarrowedPrograms.{with_row, with_sides};
 ghost use Rattle.cip_steps.specs.DraftParts.{IsDraft};
 
-use cip_row_reading::{Bounds, Choices, Frac, Row, Sides};
+use crate::{Bounds, Choices, Frac, Row, Sides};
 use std::marker::Model;
 
 /// A program in work, without names. Contracts see it as a program.

@@ -1,14 +1,14 @@
 //! The rules that look at one row.
 ghost use Rattle.std.specs.Prelude.{◌≡◌, ◌<◌, length, slice_get, Some, IfOk, IfSome};
-ghost use Rattle.cip_row_reading.specs.NarrowedPrograms.{IsExactStep, with_row};
+ghost use Rattle.cip_steps.specs.NarrowedPrograms.{IsExactStep, with_row};
 ghost use Rattle.cip_problem.specs.Program.{no_row};
 ghost use Rattle.cip_problem.specs.Program as problem;
-ghost use Rattle.cip_row_reading.specs.RowReading.{SaysRightly};
+ghost use Rattle.cip_steps.specs.RowReading.{SaysRightly};
 ghost use Rattle.cip_problem.specs.Activity.{StandsBelow};
 ghost use Rattle.cip_steps.specs.RuleEnds.{EndsRightly, IsSingled, IsCleaned};
 
 use crate::drafts::Draft;
-use cip_row_reading::{
+use crate::{
     Bounds, Frac, Row, RowSays, Sides, Term, one_term, row_says, single_sides, without_fixed,
 };
 use std::alloc::{AllocError, Global};

@@ -31,7 +31,7 @@ use Rattle.cip_io.specs.Store.{StoreTells}
 use Rattle.cip_words.specs.Jobs.{Limits, Job, Solve, Check, Generate, AsksForSome}
 use Rattle.cip_generator.specs.Generated.{most_drawn}
 use Rattle.cip_tasks.specs.declared.plain.Plain.{Plain}
-use Rattle.cip_parts.specs.BlockParts.{Blocks as Parts}
+use Rattle.cip_problem.specs.BlockParts.{Blocks as Parts}
 use Rattle.cip_tasks.specs.Tasks.{IsPlain, model_of, model_in, TakesBlocks, IsSolve, IsCheck, TaskCause}
 
 -- it is that of the text that the store tells

@@ -8,7 +8,7 @@ use Rattle.cip_io.specs.Store.{StoreTells}
 use Rattle.cip_problem.specs.Program.{Program}
 use Rattle.cip_problem.specs.WellFormed.{columns}
 use Rattle.cip_line_texts.specs.LineTexts.{HasFault}
-use Rattle.cip_parts.specs.BlockParts.{Blocks as Parts}
+use Rattle.cip_problem.specs.BlockParts.{Blocks as Parts}
 use Rattle.cip_block_rules.specs.BlockRules.{block_reading}
 use Rattle.cip_point_rules.specs.PointRules.{point_reading}
 use Rattle.cip_input.specs.BlockKindTexts.{kind_number as block_kind_number}

@@ -1,9 +1,14 @@
 pub mod Amounts
+pub mod Begun
 pub mod Cuts
 pub mod Decided
 pub mod DigitLists
+pub mod FaultsTold
+pub mod FeedCuts
+pub mod FieldsOfLine
 pub mod Grown
 pub mod OneLine
 pub mod Places
 pub mod Reduced
+pub mod Streams
 pub mod TextParts

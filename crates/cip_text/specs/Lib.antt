@@ -1,6 +1,12 @@
 pub mod Amounts
+pub mod EndedFaults
 pub mod LineStarts
 pub mod NumberFaults
+pub mod PieceCuts
+pub mod PieceFaults
+pub mod PieceReaders
+pub mod PieceStands
 pub mod Readings
 pub mod Statements
+pub mod TextFaults
 pub mod TextLines

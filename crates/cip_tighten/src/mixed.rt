@@ -5,11 +5,10 @@ use crate::mixing::{Scored, best_division, list_divisors};
 use crate::paths::go_on;
 use crate::split_cuts::mixed_cut;
 use cip_frac::Frac;
-use cip_narrowing::ColumnRows;
 use cip_plugin::{Cut, Plugin, Separator, View};
 use cip_row_sums::{
-    Candidates, Gains, Shift, Shifted, Standings, Stop, Sum, Terms, list_nearest, tight_at,
-    unless_refused,
+    Candidates, ColumnRows, Gains, Shift, Shifted, Standings, Stop, Sum, Terms, list_nearest,
+    tight_at, unless_refused,
 };
 use std::alloc::{AllocError, Global};
 

@@ -1,10 +1,9 @@
 //! Which row is added to a sum: one that takes a continuous column between its sides out of it.
 use cip_frac::{Frac, short_gcd};
 use cip_lin::{RowId, Sides, Term};
-use cip_narrowing::ColumnRows;
 use cip_plugin::View;
 use cip_row_sums::{
-    Standing, Standings, Stop, Sum, TightRow, found, place_of, raised, rough, tight_row,
+    ColumnRows, Standing, Standings, Stop, Sum, TightRow, found, place_of, raised, rough, tight_row,
 };
 
 // The most rows of a column that are looked at.

@@ -1,4 +1,4 @@
-use Rattle.cip_line_stream.proofs.Streams.{stay}
+use Rattle.cip_text.proofs.Streams.{stay}
 use Rattle.cip_block_rules.specs.BlockRules.{block_reading}
 use Rattle.cip_block_rules.specs.BlockSteps.{block_steps}
 use Rattle.cip_blocks.proofs.laws.known_block_faults_stay.Goals as goal

@@ -1,5 +1,5 @@
 use Rattle.std.proofs.Common.{[], rules, inl, inr}
-use Rattle.cip_line_stream.proofs.Begun.{begun_or_spent}
+use Rattle.cip_text.proofs.Begun.{begun_or_spent}
 use Rattle.cip_blocks.specs.BlockTexts.{program_of}
 use Rattle.cip_blocks.specs.BlockReaders.{HasCome}
 use Rattle.cip_blocks.specs.EndedBlocks.{IsFaultOf}

@@ -1,5 +1,5 @@
 use Rattle.std.proofs.Common.{◌≡◌, replicate, None}
-use Rattle.cip_parts.specs.BlockMeaning.{part_at}
+use Rattle.cip_problem.specs.BlockMeaning.{part_at}
 use Rattle.cip_decomposition.specs.Owners.{owned_below}
 use Rattle.cip_decomposition.proofs.owners.row_owners.Given as goal
 

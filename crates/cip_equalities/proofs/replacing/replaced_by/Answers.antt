@@ -1,8 +1,8 @@
 use Rattle.std.proofs.Common.{◌≡◌, List, refl, sym, ap, ◌∙◌, subst}
 use Rattle.cip_rational.specs.Rational.{◌*ℚ◌}
 use Rattle.cip_problem.specs.Program.{Term, Row}
-use Rattle.cip_implied_sides.specs.Forms.{Form}
-use Rattle.cip_implied_sides.specs.RowSteps.{side_less}
+use Rattle.cip_equalities.specs.Forms.{Form}
+use Rattle.cip_equalities.specs.RowSteps.{side_less}
 use Rattle.cip_equalities.specs.PutTerms.{HasAll}
 use Rattle.cip_equalities.proofs.RowsReplaced.{replaced_is}
 use Rattle.cip_equalities.proofs.replacing.replaced_by.Goals as goal

@@ -2,8 +2,8 @@ use Rattle.std.proofs.Common.{◌≡◌, Ok, sym, ap, ◌∙◌, subst}
 use Rattle.cip_rational.specs.Rational.{ℚ}
 use Rattle.cip_problem.specs.Activity.{value_at}
 use Rattle.cip_frac.specs.Outcomes.{product_added}
-use Rattle.cip_implied_sides.specs.NarrowedPrograms.{with_cost}
-use Rattle.cip_implied_sides.specs.Forms.{Form}
+use Rattle.cip_equalities.specs.NarrowedPrograms.{with_cost}
+use Rattle.cip_equalities.specs.Forms.{Form}
 use Rattle.cip_equalities.proofs.Substituting.{cost_moved_by}
 use Rattle.cip_equalities.proofs.steps.move_cost.Goals as goal
 

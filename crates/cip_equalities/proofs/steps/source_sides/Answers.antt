@@ -3,9 +3,9 @@ use Rattle.cip_rational.specs.Rational.{zeroℚ}
 use Rattle.cip_problem.specs.Program.{Term, Sides, Row}
 use Rattle.cip_problem.specs.Box.{sides_at}
 use Rattle.cip_problem.specs.Choices.{met}
-use Rattle.cip_implied_sides.specs.Forms.{Form}
-use Rattle.cip_implied_sides.specs.RowSteps.{side_less}
-use Rattle.cip_implied_sides.specs.SingleRows.{single_sides}
+use Rattle.cip_equalities.specs.Forms.{Form}
+use Rattle.cip_equalities.specs.RowSteps.{side_less}
+use Rattle.cip_equalities.specs.SingleRows.{single_sides}
 use Rattle.cip_equalities.proofs.SourceSides.{source_implied}
 use Rattle.cip_equalities.proofs.steps.source_sides.Goals as goal
 

@@ -1,6 +1,6 @@
 use Rattle.std.proofs.Common.{◌≡◌, ℕ, ◌<◌, ◌^◌, List, [], ◌∷◌, ◌++◌, sym, ap, ◌∙◌, arith, rules}
-use Rattle.cip_numerals.specs.NumberText.{natural_text}
-use Rattle.cip_numerals.proofs.NumberText.{natural_text_decimal}
+use Rattle.cip_number_text.specs.NumberText.{natural_text}
+use Rattle.cip_number_text.proofs.NumberText.{natural_text_decimal}
 use Rattle.cip_generator.proofs.columns.name_with.Goals as goal
 
 pub returns : goal.returns

@@ -1,6 +1,6 @@
 use Rattle.std.proofs.Common.{◌≡◌, ◌∙◌, if◌then◌else◌, length, sym, ap, subst, arith}
 use Rattle.cip_problem.specs.Program.{Program}
-use Rattle.cip_cuts.specs.Improving.{IsValid}
+use Rattle.cip_linear.specs.Improving.{IsValid}
 use Rattle.cip_linear.specs.Aggregate.{Inequality}
 use Rattle.cip_cert.specs.Lent.{Lent, Fits, lent_of}
 use Rattle.cip_cert.specs.Resting.{valid_below}

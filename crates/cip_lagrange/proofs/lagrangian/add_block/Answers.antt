@@ -2,7 +2,7 @@ use Rattle.std.proofs.Common.{◌≡◌, ◌<◌, ℕ, List, length, Some, slice
 use Rattle.std.specs.Prelude.{All}
 use Rattle.std.proofs.lemmas.Option.{same_Some, slice_get_read}
 use Rattle.cip_rational.specs.Rational.{ℚ}
-use Rattle.cip_parts.specs.BlockMeaning.{part_at}
+use Rattle.cip_problem.specs.BlockMeaning.{part_at}
 use Rattle.cip_decomposition.specs.Numbers.{found}
 use Rattle.cip_decomposition.specs.declared.parts.Subproblem.{Subproblem}
 use Rattle.cip_lagrange.specs.LagrangeOutcomes.{block_outcome, block_added}

@@ -1,6 +1,6 @@
 use Rattle.std.proofs.Common.{◌<◌, ℕ, List, length, ap₂, ◌∙◌, arith}
 use Rattle.cip_rational.specs.Rational.{ℚ}
-use Rattle.cip_parts.specs.BlockMeaning.{part_at}
+use Rattle.cip_problem.specs.BlockMeaning.{part_at}
 use Rattle.cip_lagrange.specs.LagrangeOutcomes.{block_outcome, block_added}
 use Rattle.cip_lagrange.proofs.Stepped.{item_at, blocks_next, blocks_stop}
 use Rattle.cip_lagrange.proofs.lagrangian.add_blocks.Goals as goal

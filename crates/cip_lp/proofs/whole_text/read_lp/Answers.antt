@@ -1,5 +1,5 @@
 use Rattle.std.proofs.Common.{[], refl}
-use Rattle.cip_line_stream.proofs.Begun.{begun}
+use Rattle.cip_text.proofs.Begun.{begun}
 use Rattle.cip_lp.specs.LpReaders.{HasCome}
 use Rattle.cip_lp.proofs.LpAnswers.{whole_fault}
 use Rattle.cip_lp.proofs.whole_text.read_lp.Goals as goal

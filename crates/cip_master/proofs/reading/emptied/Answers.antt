@@ -1,7 +1,7 @@
 use Rattle.std.proofs.Common.{◌≡◌, List, replicate, sym, ap, ◌∙◌, subst, true≢false}
 use Rattle.cip_rational.specs.Rational.{ℚ, zeroℚ, ◌<ℚ◌}
 use Rattle.cip_problem.specs.WellFormed.{columns}
-use Rattle.cip_master_prices.specs.MasterTasks.{Task, task_of}
+use Rattle.cip_master.specs.MasterTasks.{Task, task_of}
 use Rattle.cip_master.specs.MasterAnswers.{ShowsOther, IsMasterAnswer}
 use Rattle.cip_master.proofs.Answered.{other_sum, no_sum, emptiness_unshown, is_farkas}
 use Rattle.cip_master.proofs.reading.emptied.Goals as goal

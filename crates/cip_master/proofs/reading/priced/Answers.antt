@@ -1,7 +1,7 @@
 use Rattle.std.proofs.Common.{◌≡◌, ℕ, ◌-◌, ◌≤◌, true, List, length, take, drop, refl, sym, ap, ◌∙◌, subst, true≢false}
 use Rattle.cip_rational.specs.Rational.{ℚ, ◌+ℚ◌}
 use Rattle.cip_rational.specs.Range.{sum_overflows}
-use Rattle.cip_master_prices.specs.MasterTasks.{Task, task_of}
+use Rattle.cip_master.specs.MasterTasks.{Task, task_of}
 use Rattle.cip_master.specs.MasterAnswers.{ShowsOther, IsMasterAnswer}
 use Rattle.cip_master.proofs.Answered.{other_sum, no_sum, total_overflows, optimum_unshown, is_priced, ids_fit}
 use Rattle.cip_master.proofs.reading.priced.Goals as goal

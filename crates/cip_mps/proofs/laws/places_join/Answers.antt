@@ -1,4 +1,4 @@
-use Rattle.cip_mps_draft.proofs.TakenLaws.{places}
+use Rattle.cip_mps.proofs.TakenLaws.{places}
 use Rattle.cip_mps.proofs.laws.places_join.Goals as goal
 
 pub returns : goal.returns

@@ -1,5 +1,5 @@
 use Rattle.std.proofs.Common.{[], refl}
-use Rattle.cip_line_stream.proofs.Begun.{begun}
+use Rattle.cip_text.proofs.Begun.{begun}
 use Rattle.cip_mps.specs.MpsReaders.{HasCome}
 use Rattle.cip_mps.proofs.MpsAnswers.{whole_fault}
 use Rattle.cip_mps.proofs.whole_text.read_mps.Goals as goal

@@ -1,4 +1,4 @@
-use Rattle.cip_line_stream.proofs.Streams.{stay}
+use Rattle.cip_text.proofs.Streams.{stay}
 use Rattle.cip_point_rules.specs.PointRules.{point_reading}
 use Rattle.cip_point_rules.specs.PointSteps.{point_steps}
 use Rattle.cip_point.proofs.laws.known_point_faults_stay.Goals as goal

@@ -1,5 +1,5 @@
 use Rattle.std.proofs.Common.{[], rules, inl, inr}
-use Rattle.cip_line_stream.proofs.Begun.{begun_or_spent}
+use Rattle.cip_text.proofs.Begun.{begun_or_spent}
 use Rattle.cip_point.specs.PointTexts.{program_of}
 use Rattle.cip_point.specs.PointReaders.{HasCome}
 use Rattle.cip_point.proofs.PointAnswers.{whole_fault}

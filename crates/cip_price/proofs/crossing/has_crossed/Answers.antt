@@ -1,7 +1,7 @@
 use Rattle.std.proofs.Common.{ℕ, ◌<◌, List, length, sym, subst}
 use Rattle.std.specs.Prelude.{All}
 use Rattle.cip_problem.specs.Program.{Row}
-use Rattle.cip_master_program.proofs.Numbers.{masters_inside}
+use Rattle.cip_master.proofs.Numbers.{masters_inside}
 use Rattle.cip_price.proofs.crossing.has_crossed.Goals as goal
 
 pub crosses_row-requires : goal.crosses_row-requires

@@ -3,7 +3,7 @@ use Rattle.std.proofs.lemmas.Result.{MatchResult-weaker}
 use Rattle.cip_rational.specs.Rational.{ℚ}
 use Rattle.cip_master.specs.MasterAnswers.{IsMasterAnswer}
 use Rattle.cip_master.specs.declared.answers.MasterAnswer.TheVariants.{Prices, Farkas}
-use Rattle.cip_price_rounds.specs.PriceTasks.{task_at}
+use Rattle.cip_price.specs.PriceTasks.{task_at}
 use Rattle.cip_price.specs.PricedRounds.{with_cause}
 use Rattle.cip_price.specs.Worked.{IsStep, At_cause, At_round}
 use Rattle.cip_price.specs.declared.answers.PriceCause.TheVariants.{Master}

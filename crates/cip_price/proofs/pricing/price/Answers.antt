@@ -1,8 +1,8 @@
 use Rattle.std.proofs.Common.{Bool, [], refl, sym, subst}
 use Rattle.std.specs.Prelude.{MatchResult}
 use Rattle.std.proofs.lemmas.Result.{MatchResult-from_err}
-use Rattle.cip_price_rounds.specs.PriceTasks.{task_at}
-use Rattle.cip_price_rounds.proofs.Telling.{tells_none}
+use Rattle.cip_price.specs.PriceTasks.{task_at}
+use Rattle.cip_price.proofs.Telling.{tells_none}
 use Rattle.cip_price.specs.PricedRounds.{IsPricedUnless, IsCutShort}
 use Rattle.cip_price.specs.declared.answers.PriceAnswer.TheVariants.{NoPoint}
 use Rattle.cip_price.proofs.Crossed.{crossed_empties}

@@ -1,7 +1,7 @@
 use Rattle.std.proofs.Common.{◌≡◌, ℕ, suc, ◌+◌, [], sym, subst, arith}
 use Rattle.std.proofs.lemmas.Result.{MatchResult-from_err}
-use Rattle.cip_price_rounds.specs.PriceTasks.{task_at}
-use Rattle.cip_price_rounds.proofs.Offered.{grows_none, grows_by}
+use Rattle.cip_price.specs.PriceTasks.{task_at}
+use Rattle.cip_price.proofs.Offered.{grows_none, grows_by}
 use Rattle.cip_price.specs.PriceAnswers.{PriceHolds}
 use Rattle.cip_price.specs.Worked.{BestHolds, StandsBehind}
 use Rattle.cip_price.specs.declared.answers.PriceCause.TheVariants.{Rounds}

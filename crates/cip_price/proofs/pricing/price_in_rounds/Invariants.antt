@@ -1,7 +1,7 @@
 use Rattle.std.proofs.Common.{[]}
-use Rattle.cip_master_prices.specs.MasterTasks.{IsTask}
-use Rattle.cip_price_rounds.specs.PriceTasks.{task_at}
-use Rattle.cip_price_rounds.specs.OfferedPoints.{Grows}
+use Rattle.cip_master.specs.MasterTasks.{IsTask}
+use Rattle.cip_price.specs.PriceTasks.{task_at}
+use Rattle.cip_price.specs.OfferedPoints.{Grows}
 use Rattle.cip_price.specs.Worked.{IsReady, BestHolds}
 use Rattle.cip_price.proofs.Led.{IsRanTo}
 use Rattle.cip_price.proofs.pricing.price_in_rounds.Given as goal

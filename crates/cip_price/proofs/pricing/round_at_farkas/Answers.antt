@@ -1,5 +1,5 @@
 use Rattle.std.proofs.Common.{[], refl}
-use Rattle.cip_price_rounds.specs.PriceTasks.{task_at}
+use Rattle.cip_price.specs.PriceTasks.{task_at}
 use Rattle.cip_price.specs.declared.bounding.Summed.TheVariants.{Nothing}
 use Rattle.cip_price.proofs.Standing.{ready_grown, farkas_stands}
 use Rattle.cip_price.proofs.pricing.round_at_farkas.Goals as goal

@@ -1,6 +1,6 @@
 use Rattle.std.proofs.Common.{[], refl, ◌∙◌}
 use Rattle.std.proofs.lemmas.Result.{MatchResult-from_err}
-use Rattle.cip_price_rounds.specs.PriceTasks.{task_at}
+use Rattle.cip_price.specs.PriceTasks.{task_at}
 use Rattle.cip_price.proofs.Standing.{none_held, open_going, round_trees, ready_grown, prices_stand}
 use Rattle.cip_price.proofs.Led.{round_may}
 use Rattle.cip_price.proofs.pricing.round_at_prices.Goals as goal

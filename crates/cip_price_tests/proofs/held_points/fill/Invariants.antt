@@ -1,4 +1,4 @@
-use Rattle.cip_master_program.specs.KeptMasters.{ArePoolPoints}
+use Rattle.cip_master.specs.KeptMasters.{ArePoolPoints}
 use Rattle.cip_price_tests.proofs.held_points.fill.Given as goal
 
 abbrev pub invariant-loop-at : goal.invariant-loop-at

@@ -1,5 +1,5 @@
 use Rattle.std.proofs.Common.{ap}
-use Rattle.cip_turns.specs.CoreStates.{CoreState}
+use Rattle.cip_calls.specs.CoreStates.{CoreState}
 use Rattle.cip_processing.proofs.Closing.{pruned_here}
 use Rattle.cip_processing.proofs.ending.end_pruned.Goals as goal
 

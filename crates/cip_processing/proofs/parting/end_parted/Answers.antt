@@ -1,7 +1,7 @@
 use Rattle.std.proofs.Common.{ap, subst, sym}
 use Rattle.cip_problem.specs.Log.{Split}
-use Rattle.cip_turns.specs.CoreStates.{CoreState}
-use Rattle.cip_turns.specs.Steps.{HasLeft}
+use Rattle.cip_calls.specs.CoreStates.{CoreState}
+use Rattle.cip_calls.specs.Steps.{HasLeft}
 use Rattle.cip_node.specs.declared.ends.NodeEnd.TheVariants as by
 use Rattle.cip_processing.specs.NodesDone.{HasParted}
 use Rattle.cip_processing.proofs.Closing.{parted_here}

@@ -2,13 +2,13 @@ use Rattle.std.proofs.Common.{◌≡◌, ap, sym, subst, inl, ◌∙◌}
 use Rattle.cip_problem.specs.WellFormed.{columns}
 use Rattle.cip_tree.specs.Nodes.{region_of}
 use Rattle.cip_tree.specs.Walks.{IsEntered}
-use Rattle.cip_turns.specs.CoreStates.{CoreState, reduced_of, IsTakenUp}
-use Rattle.cip_turns.specs.Steps.{aged}
+use Rattle.cip_calls.specs.CoreStates.{CoreState, reduced_of, IsTakenUp}
+use Rattle.cip_calls.specs.Steps.{aged}
 use Rattle.cip_node.proofs.EndLaws.{looked_core}
 use Rattle.cip_node.proofs.Looked.{look_empty}
-use Rattle.cip_turns.specs.ProposalsJudged.{HaveRoom}
-use Rattle.cip_turns.specs.Noted.{IsReady, HasMoreRows}
-use Rattle.cip_turns.proofs.PassedOn.{more_same}
+use Rattle.cip_calls.specs.ProposalsJudged.{HaveRoom}
+use Rattle.cip_calls.specs.Noted.{IsReady, HasMoreRows}
+use Rattle.cip_calls.proofs.TurnsPassedOn.{more_same}
 use Rattle.cip_processing.specs.NodesReached.{HasMoved}
 use Rattle.cip_processing.proofs.Closing.{moved_looked, moved_further}
 use Rattle.cip_processing.proofs.Coming.{ran_none}

@@ -1,9 +1,9 @@
 use Rattle.std.proofs.Common.{◌≡◌, ◌≢◌, ◌∷◌, []}
 use Rattle.cip_plugin.specs.Calls.{Separate}
 use Rattle.cip_tree.specs.Nodes.{region_of}
-use Rattle.cip_turns.specs.Noted.{HasCome}
-use Rattle.cip_turns.specs.Served.{Used}
-use Rattle.cip_turns.specs.Came.TheVariants.{Emptied}
+use Rattle.cip_calls.specs.Noted.{HasCome}
+use Rattle.cip_calls.specs.Served.{Used}
+use Rattle.cip_calls.specs.declared.judging.Came.TheVariants.{Emptied}
 use Rattle.cip_processing.specs.NodesReached.{IsFoundBy}
 use Rattle.cip_processing.proofs.separating.cut_in_rounds.Given as goal
 

@@ -1,5 +1,5 @@
 use Rattle.std.proofs.Common.{sym, ap}
-use Rattle.cip_turns.specs.Came.{Came}
+use Rattle.cip_calls.specs.declared.judging.Came.{Came}
 use Rattle.cip_processing.specs.NodesReached.{left_by}
 use Rattle.cip_processing.proofs.separating.left_by.Goals as goal
 

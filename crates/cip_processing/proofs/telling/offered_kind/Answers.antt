@@ -1,6 +1,6 @@
 use Rattle.std.proofs.Common.{◌≡◌, length, subst}
 use Rattle.cip_problem.specs.WellFormed.{columns}
-use Rattle.cip_turns.specs.CoreStates.{reduced_of}
+use Rattle.cip_calls.specs.CoreStates.{reduced_of}
 use Rattle.cip_node.specs.Bounding.{IsBounded}
 use Rattle.cip_processing.proofs.Standing.{found_long, some_map}
 use Rattle.cip_processing.proofs.telling.offered_kind.Goals as goal

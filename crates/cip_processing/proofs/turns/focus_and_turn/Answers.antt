@@ -2,8 +2,8 @@ use Rattle.std.proofs.Common.{◌∷◌, []}
 use Rattle.cip_events.specs.Events.{event_at}
 use Rattle.cip_events.specs.declared.events.EventKind.TheVariants.{NodeFocused}
 use Rattle.cip_plugin.specs.Calls.{OnEvent}
-use Rattle.cip_turns.proofs.PassedOn.{come_further}
-use Rattle.cip_turns.proofs.PassedOn.{if_ok}
+use Rattle.cip_calls.proofs.TurnsPassedOn.{come_further}
+use Rattle.cip_calls.proofs.TurnsPassedOn.{if_ok}
 use Rattle.cip_processing.specs.NodesReached.{asks_in_pass}
 use Rattle.cip_processing.proofs.Coming.{come_told}
 use Rattle.cip_processing.proofs.Using.{in_further}

@@ -1,6 +1,6 @@
 use Rattle.std.proofs.Common.{[]}
-use Rattle.cip_turns.specs.Noted.{HasCome}
-use Rattle.cip_turns.specs.Served.{Used}
+use Rattle.cip_calls.specs.Noted.{HasCome}
+use Rattle.cip_calls.specs.Served.{Used}
 use Rattle.cip_processing.proofs.turns.go_in_turns.Given as goal
 
 abbrev pub invariant-loop : goal.invariant-loop

@@ -4,7 +4,7 @@ use Rattle.cip_problem.specs.Program.{Program}
 use Rattle.cip_problem.specs.Log.{Entry}
 use Rattle.cip_incumbent.specs.HeldPoint.{Holding}
 use Rattle.cip_search.specs.SearchState.{WayBack}
-use Rattle.cip_seen.specs.SeenLogs.{log_seen}
+use Rattle.cip_reductions.specs.SeenLogs.{log_seen}
 use Rattle.cip_tree.specs.Nodes.{Nodes}
 use Rattle.cip_processing.specs.Mark.{Mark}
 use Rattle.cip_processing.specs.CoreStates.{reduced_of, way_of}

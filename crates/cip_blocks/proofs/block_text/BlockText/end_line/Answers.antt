@@ -1,5 +1,5 @@
 use Rattle.cip_blocks.specs.BlockTexts.{steps_of, kept_of, state_of}
-use Rattle.cip_line_stream.proofs.Streams.{line_ended}
+use Rattle.cip_text.proofs.Streams.{line_ended}
 use Rattle.cip_blocks.proofs.block_text.BlockText.end_line.Goals as goal
 
 pub returns-clause-reads : goal.returns-clause-reads

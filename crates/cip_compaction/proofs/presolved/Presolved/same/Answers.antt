@@ -1,5 +1,5 @@
 use Rattle.std.proofs.Common.{◌≡◌, None, sym, ap, ◌∙◌, subst, rules}
-use Rattle.cip_leaving.specs.Forms.{spread}
+use Rattle.cip_postsolve.specs.Forms.{spread}
 use Rattle.cip_postsolve.specs.StepsBack.{StepsTaken}
 use Rattle.std.specs.Prelude.{replicate}
 use Rattle.cip_problem.specs.WellFormed.{columns}

@@ -1,7 +1,7 @@
 use Rattle.std.proofs.Common.{◌≡◌, ◌∙◌, if◌then◌else◌, length, sym, ap, subst}
 use Rattle.std.specs.Prelude.{MatchResult}
-use Rattle.cip_cuts.specs.Cuts.{row_of}
-use Rattle.cip_cuts.specs.Improving.{IsValid}
+use Rattle.cip_linear.specs.Cuts.{row_of}
+use Rattle.cip_linear.specs.Improving.{IsValid}
 use Rattle.cip_linear.specs.Aggregate.{Inequality}
 use Rattle.cip_cert.specs.Resting.{valid_below}
 use Rattle.cip_rows.specs.Adding.{IsAdded}

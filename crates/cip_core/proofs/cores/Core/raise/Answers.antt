@@ -1,8 +1,8 @@
 use Rattle.std.proofs.Common.{Some, sym, subst}
 use Rattle.std.specs.Prelude.{MatchBool}
 use Rattle.cip_rational.specs.Rational.{IsWhole}
-use Rattle.cip_cuts.specs.Cuts.{HasWholeCosts}
-use Rattle.cip_cuts.specs.Improving.{IsBoundIn}
+use Rattle.cip_linear.specs.Cuts.{HasWholeCosts}
+use Rattle.cip_linear.specs.Improving.{IsBoundIn}
 use Rattle.cip_leaves.specs.Searched.{NoMore}
 use Rattle.cip_search.proofs.Bounds.{no_more_itself}
 use Rattle.cip_tree.specs.Nodes.{TakenNode, box_of}

@@ -1,7 +1,7 @@
 use Rattle.std.proofs.Common.{◌≡◌, ◌<◌, ℕ, List, length, IfSome, sym, ap, ap₂, ◌∙◌, subst, arith}
 use Rattle.std.specs.Prelude.{All}
 use Rattle.cip_problem.specs.Program.{Row}
-use Rattle.cip_parts.specs.BlockParts.{blocks_by}
+use Rattle.cip_problem.specs.BlockParts.{blocks_by}
 use Rattle.cip_pricing.specs.Decomposition.{Owner}
 use Rattle.cip_decomposition.specs.Owners.{owned_below}
 use Rattle.cip_decomposition.specs.Places.{ArePlaces}

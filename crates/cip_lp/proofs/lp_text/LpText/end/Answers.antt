@@ -1,8 +1,8 @@
 use Rattle.std.proofs.Common.{◌≡◌, Err, true, subst}
 use Rattle.std.specs.Prelude.{option_map}
-use Rattle.cip_line_stream.specs.PieceFaults.{has_kind_to}
-use Rattle.cip_line_stream.specs.TextFaults.{IsSaid}
-use Rattle.cip_line_stream.specs.declared.text_faults.ReadFault.TheVariants.{Faulty}
+use Rattle.cip_text.specs.PieceFaults.{has_kind_to}
+use Rattle.cip_text.specs.TextFaults.{IsSaid}
+use Rattle.cip_text.specs.declared.text_faults.ReadFault.TheVariants.{Faulty}
 use Rattle.cip_lp.specs.LpKindTexts.{kind_number}
 use Rattle.cip_lp.specs.LpReaders.{as_told, IsFaultOf}
 use Rattle.cip_lp.proofs.LpAnswers.{known_cause, passed_on}

@@ -1,5 +1,5 @@
 use Rattle.std.proofs.Common.{◌+◌, sym, ap, ◌∙◌}
-use Rattle.cip_line_stream.specs.PieceStands.{progress_of}
+use Rattle.cip_text.specs.PieceStands.{progress_of}
 use Rattle.cip_lp.specs.LpTexts.{stage_of, bytes_of}
 use Rattle.cip_lp.proofs.ByteSteps.{none_is}
 use Rattle.cip_lp.proofs.LpAnswers.{beyond_going, beyond_failed}

@@ -1,4 +1,4 @@
-use Rattle.cip_master_prices.specs.MasterTasks.{task_of}
+use Rattle.cip_master.specs.MasterTasks.{task_of}
 use Rattle.cip_master.proofs.Solvable.{solvable}
 use Rattle.cip_master.proofs.kept.Master.answer.Goals as goal
 

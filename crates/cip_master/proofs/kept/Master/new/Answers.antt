@@ -1,4 +1,4 @@
-use Rattle.cip_master_prices.specs.MasterTasks.{task_of}
+use Rattle.cip_master.specs.MasterTasks.{task_of}
 use Rattle.cip_master.proofs.Grown.{begun}
 use Rattle.cip_master.proofs.kept.Master.new.Goals as goal
 

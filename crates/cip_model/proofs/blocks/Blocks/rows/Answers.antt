@@ -1,6 +1,6 @@
 use Rattle.std.proofs.Common.{◌<◌, ◌∙◌, ap, arith, length}
-use Rattle.cip_parts.specs.BlockMeaning.{part_at}
-use Rattle.cip_parts.specs.BlockParts as shapes
+use Rattle.cip_problem.specs.BlockMeaning.{part_at}
+use Rattle.cip_problem.specs.BlockParts as shapes
 use Rattle.cip_model.proofs.GroupLaws.{counted, rows_kept}
 use Rattle.cip_model.proofs.blocks.Blocks.rows.Goals as goal
 

@@ -1,6 +1,6 @@
 use Rattle.std.proofs.Common.{◌≡◌, take}
 use Rattle.std.specs.Prelude.{is_none}
-use Rattle.cip_parts.specs.BlockParts.{rows_where, grouped}
+use Rattle.cip_problem.specs.BlockParts.{rows_where, grouped}
 use Rattle.cip_model.specs.NumberLists.{lists_of}
 use Rattle.cip_model.proofs.groups.Groups.of.Given as goal
 

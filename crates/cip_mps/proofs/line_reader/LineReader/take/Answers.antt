@@ -1,5 +1,5 @@
-use Rattle.cip_mps_draft.specs.MpsLines.{saying_of}
-use Rattle.cip_mps_draft.specs.DraftStates.{kept}
+use Rattle.cip_mps.specs.MpsLines.{saying_of}
+use Rattle.cip_mps.specs.DraftStates.{kept}
 use Rattle.cip_mps.proofs.LineLaws.{kind_to}
 use Rattle.cip_mps.proofs.line_reader.LineReader.take.Goals as goal
 

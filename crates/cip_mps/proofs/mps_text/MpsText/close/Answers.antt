@@ -1,4 +1,4 @@
-use Rattle.cip_line_stream.proofs.Streams.{ends_with}
+use Rattle.cip_text.proofs.Streams.{ends_with}
 use Rattle.cip_mps_rules.specs.MpsOutcome.{mps_reading}
 use Rattle.cip_mps_steps.specs.MpsSteps.{mps_steps}
 use Rattle.cip_mps.specs.MpsTexts.{kept_of, stage_of}

@@ -1,6 +1,6 @@
 use Rattle.std.proofs.Common.{subst}
-use Rattle.cip_line_stream.specs.TextFaults.{IsSaid}
-use Rattle.cip_line_stream.proofs.FaultsTold.{told_by}
+use Rattle.cip_text.specs.TextFaults.{IsSaid}
+use Rattle.cip_text.proofs.FaultsTold.{told_by}
 use Rattle.cip_mps_rules.specs.MpsOutcome.{mps_reading}
 use Rattle.cip_mps_steps.specs.MpsSteps.{mps_steps}
 use Rattle.cip_mps.specs.MpsKindTexts.{kind_number}

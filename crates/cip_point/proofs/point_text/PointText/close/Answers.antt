@@ -1,4 +1,4 @@
-use Rattle.cip_line_stream.proofs.Streams.{ends_with}
+use Rattle.cip_text.proofs.Streams.{ends_with}
 use Rattle.cip_point_rules.specs.PointRules.{point_reading}
 use Rattle.cip_point.specs.PointTexts.{steps_of, kept_of, values_of, program_of}
 use Rattle.cip_point.proofs.point_text.PointText.close.Goals as goal

@@ -1,5 +1,5 @@
 use Rattle.cip_point.specs.PointTexts.{steps_of, kept_of, values_of}
-use Rattle.cip_line_stream.proofs.Streams.{line_ended}
+use Rattle.cip_text.proofs.Streams.{line_ended}
 use Rattle.cip_point.proofs.point_text.PointText.end_line.Goals as goal
 
 pub returns-clause-reads : goal.returns-clause-reads

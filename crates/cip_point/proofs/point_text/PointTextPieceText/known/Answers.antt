@@ -1,6 +1,6 @@
 use Rattle.std.proofs.Common.{subst}
-use Rattle.cip_line_stream.specs.TextFaults.{IsSaid}
-use Rattle.cip_line_stream.proofs.FaultsTold.{told_by}
+use Rattle.cip_text.specs.TextFaults.{IsSaid}
+use Rattle.cip_text.proofs.FaultsTold.{told_by}
 use Rattle.cip_point_rules.specs.PointRules.{point_reading}
 use Rattle.cip_point.specs.PointKindTexts.{kind_number}
 use Rattle.cip_point.specs.PointTexts.{kept_of, values_of, program_of, steps_of}

@@ -2,7 +2,7 @@ use Rattle.std.proofs.Common.{◌≡◌, false, List, length, Some, slice_get, s
 use Rattle.cip_problem.specs.Program.{Term, Sides}
 use Rattle.cip_problem.specs.Box.{sides_at}
 use Rattle.cip_problem.specs.Choices.{met, choice_at, is_open}
-use Rattle.cip_row_reading.specs.SingleRows.{single_sides}
+use Rattle.cip_steps.specs.SingleRows.{single_sides}
 use Rattle.cip_steps.specs.RuleEnds.{IsSingled}
 use Rattle.cip_steps.proofs.Singled.{singled, one_stands}
 use Rattle.cip_steps.proofs.drafts.Draft.singled.Goals as goal

@@ -1,8 +1,8 @@
 use Rattle.std.proofs.Common.{◌≡◌, List, Some, length, refl, sym, ap, ◌∙◌, arith}
 use Rattle.cip_problem.specs.Program.{Sides, Program}
 use Rattle.cip_problem.specs.Box.{sides_at}
-use Rattle.cip_row_reading.specs.NarrowedPrograms.{with_cost}
-use Rattle.cip_row_reading.specs.RowReading.{only_value}
+use Rattle.cip_steps.specs.NarrowedPrograms.{with_cost}
+use Rattle.cip_steps.specs.RowReading.{only_value}
 use Rattle.cip_steps.proofs.Recosted.{recosted_by}
 use Rattle.cip_steps.proofs.Ruled.{stays}
 use Rattle.cip_steps.proofs.drafts.Draft.try_fixed.Goals as goal

@@ -1,6 +1,6 @@
 use Rattle.std.proofs.Common.{length, refl, sym, ap, ◌∙◌, arith}
 use Rattle.cip_problem.specs.Program.{Program, no_row}
-use Rattle.cip_row_reading.specs.NarrowedPrograms.{with_row}
+use Rattle.cip_steps.specs.NarrowedPrograms.{with_row}
 use Rattle.cip_steps.proofs.Ruled.{stays}
 use Rattle.cip_steps.proofs.Singled.{taken_by, count_same}
 use Rattle.cip_steps.proofs.drafts.Draft.try_single.Goals as goal

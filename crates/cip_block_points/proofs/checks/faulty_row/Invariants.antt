@@ -1,6 +1,0 @@
-use Rattle.std.proofs.Common.{◌≡◌, drop}
-use Rattle.cip_block_points.specs.BlockVerdicts.{first_faulty}
-use Rattle.cip_block_points.proofs.checks.faulty_row.Given as goal
-
-abbrev pub invariant-loop-at : goal.invariant-loop-at
-invariant-loop-at l = first_faulty l.at (drop l.at l.rows) l.point ≡ first_faulty 0 l.rows l.point

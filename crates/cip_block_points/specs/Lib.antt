@@ -1,2 +1,0 @@
-pub mod BlockVerdicts
-pub mod TakenPoints

@@ -1,0 +1,210 @@
+//! What a handler says of a point is judged.
+ghost use Rattle.std.specs.Prelude.{◌≡◌, IfOk, OnOk, IsSome, is_some, slice_get, if◌then◌else◌};
+ghost use Rattle.cip_plugin.specs.Asking.{answer_of};
+ghost use Rattle.cip_plugin.specs.Calls.{Enforce};
+ghost use Rattle.cip_calls.specs.Turns.{IsSound};
+ghost use Rattle.cip_calls.specs.Noted.{IsReady, HasGone, HasJudged};
+ghost use Rattle.cip_calls.specs.Served.{count_for};
+ghost use Rattle.cip_calls.specs.Enforcing.{made, IsVerdict};
+
+use crate::enforcing::Verdict;
+use crate::rules::take_split;
+use crate::{Asks, Core, Judged, Plugins, judge_cutoff};
+use cip_lin::Combo;
+use cip_plugin::{Cut, Enforced, Given, Reduction, Split};
+use cip_tree::Node;
+use std::alloc::AllocError;
+
+/// What a handler gave, if it is what it says of a point.
+fn said_in(given: Given) -> Option<Enforced>
+    ensures { count_for Enforce (answer_of given) ≡ if is_some result then 1 else 0 }
+{
+    match given {
+        Given::Enforced(said) => Some(said),
+        Given::Cuts(_) => None,
+        Given::Reductions(_) => None,
+        Given::Priced(_) => None,
+        Given::Guesses(_) => None,
+        Given::Split(_) => None,
+        Given::Wishes(_) => None,
+    }
+}
+
+/// What a handler says of a point, if it says something.
+pub(crate) fn said_of(given: Option<Given>) -> Option<Enforced>
+    ensures { made Enforce given ≡ if is_some result then 1 else 0 }
+{
+    match given {
+        None => None,
+        Some(given) => said_in(given),
+    }
+}
+
+/// Judges a combination by which a node is to be empty. `Err` comes where memory was refused.
+fn take_cutoff<R: Asks>(
+    plugins: &mut Plugins<R>,
+    core: &mut Core<'_>,
+    node: &mut Node,
+    id: u32,
+    combo: &Combo,
+) -> Result<Verdict, AllocError>
+    requires ready { IsReady core.old node.old plugins.old.scratches }
+    requires sound { IsSound (R.state plugins.old.roster) (R.room plugins.old.roster) }
+    requires seat { IsSome (slice_get (R.state plugins.old.roster).seats id) }
+    ensures gone { HasGone core.old node.old (R.state plugins.old.roster) core.new node.new plugins.new.scratches
+        (R.state plugins.new.roster) (R.room plugins.new.roster) }
+    ensures judged { OnOk result (HasJudged id 1 plugins.old.judged.items plugins.new.judged.items) }
+    ensures verdict { IfOk result (IsVerdict core.old core.new node.old node.new) }
+{
+    plugins.judged.reserve(1)?;
+    let came = judge_cutoff(core, node, combo, &mut plugins.scratches.first);
+    plugins.finish(id, &came, None)?;
+    match came {
+        Judged::Emptied => Ok(Verdict::Emptied),
+        _ => Ok(Verdict::Quiet),
+    }
+}
+
+/// Judges a side that became stronger. `Err` comes where memory was refused.
+fn take_reduced<R: Asks>(
+    plugins: &mut Plugins<R>,
+    core: &mut Core<'_>,
+    node: &mut Node,
+    id: u32,
+    told: &Reduction,
+) -> Result<Verdict, AllocError>
+    requires ready { IsReady core.old node.old plugins.old.scratches }
+    requires sound { IsSound (R.state plugins.old.roster) (R.room plugins.old.roster) }
+    requires seat { IsSome (slice_get (R.state plugins.old.roster).seats id) }
+    ensures gone { HasGone core.old node.old (R.state plugins.old.roster) core.new node.new plugins.new.scratches
+        (R.state plugins.new.roster) (R.room plugins.new.roster) }
+    ensures judged { OnOk result (HasJudged id 1 plugins.old.judged.items plugins.new.judged.items) }
+    ensures verdict { IfOk result (IsVerdict core.old core.new node.old node.new) }
+{
+    match plugins.take_side(core, node, id, told)? {
+        Judged::Accepted => Ok(Verdict::Changed),
+        Judged::Emptied => Ok(Verdict::Emptied),
+        _ => Ok(Verdict::Quiet),
+    }
+}
+
+/// Judges a row that the point breaks. `Err` comes where memory was refused.
+fn take_separated<R: Asks>(
+    plugins: &mut Plugins<R>,
+    core: &mut Core<'_>,
+    node: &mut Node,
+    id: u32,
+    cut: &Cut,
+) -> Result<Verdict, AllocError>
+    requires ready { IsReady core.old node.old plugins.old.scratches }
+    requires sound { IsSound (R.state plugins.old.roster) (R.room plugins.old.roster) }
+    requires seat { IsSome (slice_get (R.state plugins.old.roster).seats id) }
+    ensures gone { HasGone core.old node.old (R.state plugins.old.roster) core.new node.new plugins.new.scratches
+        (R.state plugins.new.roster) (R.room plugins.new.roster) }
+    ensures judged { OnOk result (HasJudged id 1 plugins.old.judged.items plugins.new.judged.items) }
+    ensures verdict { IfOk result (IsVerdict core.old core.new node.old node.new) }
+{
+    match plugins.take_cut(core, node, id, cut)? {
+        Judged::Accepted => Ok(Verdict::Changed),
+        _ => Ok(Verdict::Quiet),
+    }
+}
+
+/// Judges a split, which is not made here. `Err` comes where memory was refused.
+fn take_branched<R: Asks>(
+    plugins: &mut Plugins<R>,
+    core: &mut Core<'_>,
+    node: &mut Node,
+    id: u32,
+    split: Split,
+) -> Result<Verdict, AllocError>
+    requires ready { IsReady core.old node.old plugins.old.scratches }
+    requires sound { IsSound (R.state plugins.old.roster) (R.room plugins.old.roster) }
+    requires seat { IsSome (slice_get (R.state plugins.old.roster).seats id) }
+    ensures gone { HasGone core.old node.old (R.state plugins.old.roster) core.new node.new plugins.new.scratches
+        (R.state plugins.new.roster) (R.room plugins.new.roster) }
+    ensures judged { OnOk result (HasJudged id 1 plugins.old.judged.items plugins.new.judged.items) }
+    ensures verdict { IfOk result (IsVerdict core.old core.new node.old node.new) }
+{
+    let is_place = take_split(plugins, core, node, id, split)?;
+    if is_place {
+        return Ok(Verdict::Place(split));
+    }
+    Ok(Verdict::Quiet)
+}
+
+/// Writes down that a handler said whether the point keeps its rows, which changes nothing. `Err` comes where memory
+/// was refused.
+fn take_word<R: Asks>(
+    plugins: &mut Plugins<R>,
+    core: &mut Core<'_>,
+    node: &mut Node,
+    id: u32,
+) -> Result<Verdict, AllocError>
+    requires ready { IsReady core.old node.old plugins.old.scratches }
+    requires sound { IsSound (R.state plugins.old.roster) (R.room plugins.old.roster) }
+    requires seat { IsSome (slice_get (R.state plugins.old.roster).seats id) }
+    ensures gone { HasGone core.old node.old (R.state plugins.old.roster) core.new node.new plugins.new.scratches
+        (R.state plugins.new.roster) (R.room plugins.new.roster) }
+    ensures judged { OnOk result (HasJudged id 1 plugins.old.judged.items plugins.new.judged.items) }
+    ensures verdict { IfOk result (IsVerdict core.old core.new node.old node.new) }
+{
+    let _ = core;
+    let _ = node;
+    plugins.judged.reserve(1)?;
+    plugins.finish(id, &Judged::Accepted, None)?;
+    Ok(Verdict::Quiet)
+}
+
+/// Judges what a handler says of a point, each as its own call does. `Err` comes where memory was refused.
+fn take_said<R: Asks>(
+    plugins: &mut Plugins<R>,
+    core: &mut Core<'_>,
+    node: &mut Node,
+    id: u32,
+    said: &Enforced,
+) -> Result<Verdict, AllocError>
+    requires ready { IsReady core.old node.old plugins.old.scratches }
+    requires sound { IsSound (R.state plugins.old.roster) (R.room plugins.old.roster) }
+    requires seat { IsSome (slice_get (R.state plugins.old.roster).seats id) }
+    ensures gone { HasGone core.old node.old (R.state plugins.old.roster) core.new node.new plugins.new.scratches
+        (R.state plugins.new.roster) (R.room plugins.new.roster) }
+    ensures judged { OnOk result (HasJudged id 1 plugins.old.judged.items plugins.new.judged.items) }
+    ensures verdict { IfOk result (IsVerdict core.old core.new node.old node.new) }
+{
+    match said {
+        Enforced::Cutoff(combo) => take_cutoff(plugins, core, node, id, combo),
+        Enforced::Reduced(told) => take_reduced(plugins, core, node, id, told),
+        Enforced::Separated(cut) => take_separated(plugins, core, node, id, cut),
+        Enforced::Branched(split) => take_branched(plugins, core, node, id, *split),
+        Enforced::Infeasible => take_word(plugins, core, node, id),
+        Enforced::Feasible => take_word(plugins, core, node, id),
+    }
+}
+
+/// Judges what a handler says of a point, if it says something. `Err` comes where memory was refused.
+pub(crate) fn take_verdict<R: Asks>(
+    plugins: &mut Plugins<R>,
+    core: &mut Core<'_>,
+    node: &mut Node,
+    id: u32,
+    given: Option<Enforced>,
+) -> Result<Verdict, AllocError>
+    requires ready { IsReady core.old node.old plugins.old.scratches }
+    requires sound { IsSound (R.state plugins.old.roster) (R.room plugins.old.roster) }
+    requires seat { IsSome (slice_get (R.state plugins.old.roster).seats id) }
+    ensures gone { HasGone core.old node.old (R.state plugins.old.roster) core.new node.new plugins.new.scratches
+        (R.state plugins.new.roster) (R.room plugins.new.roster) }
+    ensures judged { OnOk result (HasJudged id (if is_some given then 1 else 0) plugins.old.judged.items
+        plugins.new.judged.items) }
+    ensures verdict { IfOk result (IsVerdict core.old core.new node.old node.new) }
+{
+    match given {
+        None => Ok(Verdict::Quiet),
+        Some(said) => {
+            let verdict = take_said(plugins, core, node, id, &said);
+            drop(said);
+            verdict
+        }
+    }
+}

@@ -1,5 +1,0 @@
-use Rattle.cip_global_steps.proofs.Merged.{SameTo}
-use Rattle.cip_global_steps.proofs.merging.are_same.Given as goal
-
-abbrev pub invariant-loop-at : goal.invariant-loop-at
-invariant-loop-at l = SameTo l.ones l.others l.at

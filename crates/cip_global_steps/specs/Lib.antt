@@ -1,3 +1,0 @@
-pub mod FreeColumns
-pub mod Moves
-pub mod RowsMet

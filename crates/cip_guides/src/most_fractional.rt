@@ -1,0 +1,103 @@
+//! The rule that takes the column that is farthest from a whole value.
+ghost use Rattle.std.specs.Prelude.{None, codes, IfOk, IfSome, option_map};
+ghost use Rattle.cip_guides.specs.PointSplits.{IsAtValue, IsByPoint};
+
+use crate::splits::split_at;
+use cip_frac::Frac;
+use cip_lin::Sides;
+use cip_plugin::{BranchRule, Plugin, Split, View};
+use cip_row_sums::short;
+use std::alloc::{AllocError, Global};
+
+/// A branching rule: the whole column whose value at the last point is farthest from a whole number, the first of such
+/// columns, at that value rounded down.
+#[derive(Clone, Copy, Drop)]
+pub struct MostFractionalRule;
+
+/// How far a value is from the nearest whole number; none where that leaves the range.
+fn distance(value: Frac) -> Option<Frac> {
+    let below = value.sub(value.rounded_down()).ok()?;
+    let above = Frac::one().sub(below).ok()?;
+    if above < below {
+        Some(above)
+    } else {
+        Some(below)
+    }
+}
+
+/// The distance of a column that can be split, where it is more than so much.
+fn farther(whole: &[bool], sides: &[Sides], point: &[Frac], col: u32, than: Frac) -> Option<Frac> {
+    split_at(whole, sides, point, col)?;
+    let distance = distance(*point.get(col as usize)?)?;
+    if distance > than {
+        Some(distance)
+    } else {
+        None
+    }
+}
+
+/// The column that can be split and is farthest from a whole value, if there is one.
+fn farthest(whole: &[bool], sides: &[Sides], point: &[Frac]) -> Option<u32> {
+    let mut best = None;
+    let mut most = Frac::zero();
+    for col in 0..short(point.len()) {
+        if let Some(distance) = farther(whole, sides, point, col, most) {
+            best = Some(col);
+            most = distance;
+        }
+    }
+    best
+}
+
+/// Its split.
+fn farthest_split(whole: &[bool], sides: &[Sides], point: &[Frac]) -> Option<Split>
+    ensures { IfSome result (λ split. IsAtValue whole.now point.now split) }
+{
+    let col = farthest(whole, sides, point)?;
+    split_at(whole, sides, point, col)
+}
+
+impl MostFractionalRule {
+    /// The rule. It keeps nothing.
+    pub fn new() -> MostFractionalRule {
+        MostFractionalRule
+    }
+}
+
+impl Plugin for MostFractionalRule {
+    ghost told = { λ _. None };
+
+    ghost label = { λ _. codes "mostfrac" };
+
+    fn name(&self) -> &str {
+        "mostfrac"
+    }
+
+    fn priority(&self) -> i32 {
+        20
+    }
+
+    fn init(&mut self, _alloc: Global) -> Result<(), AllocError> {
+        Ok(())
+    }
+
+    fn init_solve(&mut self, _alloc: Global, _view: &View<'_>) -> Result<(), AllocError> {
+        Ok(())
+    }
+
+    fn exit_solve(&mut self) {}
+
+    fn exit(&mut self) {}
+}
+
+impl BranchRule for MostFractionalRule {
+    fn branch(&mut self, _alloc: Global, view: &View<'_>) -> Result<Option<Split>, AllocError>
+        ensures split { IfOk result (λ split.
+            IsByPoint view.now.whole.now (option_map (λ values. values.now) view.now.point) split) }
+    {
+        match view.point {
+            Some(point) => Ok(farthest_split(view.whole, view.bounds.as_slice(), point)),
+            None => Ok(None),
+        }
+    }
+}

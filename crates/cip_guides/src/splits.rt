@@ -1,0 +1,51 @@
+//! Splits at values of the last point.
+ghost use Rattle.std.specs.Prelude.{IfSome};
+ghost use Rattle.cip_guides.specs.PointSplits.{IsAtValue};
+
+use cip_frac::Frac;
+use cip_lin::Sides;
+use cip_plugin::Split;
+use cip_row_sums::{UNIT, rough};
+
+// The greatest size of a number at which a column is split.
+const MOST: u128 = 1 << 100;
+
+/// Whether a number and the next one lie between two sides, and the first isn't far from 0.
+fn leaves_both(sides: Sides, at: i128) -> bool {
+    at.unsigned_abs() <= MOST
+        && sides.low.is_none_or(|low| low.ceil() <= at)
+        && sides.high.is_none_or(|high| high.floor() > at)
+}
+
+/// The split of a column at its value, where the column is whole, the value isn't, and both halves keep a whole value.
+pub(crate) fn split_at(whole: &[bool], sides: &[Sides], point: &[Frac], col: u32) -> Option<Split>
+    ensures { IfSome result (λ split. IsAtValue whole.now point.now split) }
+{
+    let place = col as usize;
+    if place >= whole.len() || place >= point.len() || place >= sides.len() {
+        return None;
+    }
+    let value = point[place];
+    if !whole[place] || value.is_whole() {
+        return None;
+    }
+    let at = value.floor();
+    if leaves_both(sides[place], at) {
+        Some(Split { col, at })
+    } else {
+        None
+    }
+}
+
+/// How far a value roughly lies above the next whole number below it, over 2^24.
+pub(crate) fn rough_part(value: Frac) -> i64 {
+    rough(value).checked_rem_euclid(UNIT).unwrap_or(0)
+}
+
+/// Whether a column is whole.
+pub(crate) fn is_whole_at(whole: &[bool], col: u32) -> bool {
+    match whole.get(col as usize) {
+        Some(is_whole) => *is_whole,
+        None => false,
+    }
+}

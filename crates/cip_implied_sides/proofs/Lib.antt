@@ -1,3 +1,0 @@
-pub mod ImpliedSides
-pub mod RestSums
-pub mod PassedOn

@@ -1,3 +1,0 @@
-pub mod MayLeave
-pub mod StayingColumns
-pub mod PassedOn

@@ -1,5 +1,0 @@
-pub mod Begun
-pub mod FaultsTold
-pub mod FeedCuts
-pub mod OneLine
-pub mod Streams

@@ -1,0 +1,95 @@
+//! The statements of a text, as far as its tokens have come.
+ghost use Rattle.std.specs.Prelude.{◌≡◌, IfOk};
+ghost use Rattle.cip_lp_rules.specs.LpOutcome as text;
+ghost use Rattle.cip_lp_rules.specs.LpFacts as facts;
+ghost use Rattle.cip_lp_tokens.specs.LpLines.{token_shown};
+ghost use Rattle.cip_lp_rules.specs.LpPlaces as places;
+ghost use Rattle.cip_lp.specs.LpStages.{place_at, context_of};
+ghost use Rattle.cip_lp.specs.LpTaken.{IsTokenTaken};
+
+use crate::places::{Place, Stage};
+use cip_frac::Frac;
+use cip_lp_draft::{Amount, Limit, LpDraft, Program};
+use cip_lp_tokens::{LpPart, Relation, Token};
+use std::alloc::{AllocError, Global};
+
+/// What the tokens of a text have said, and where the next one stands.
+#[derive(Drop)]
+pub struct Statements {
+    /// The program as far as it goes.
+    pub(crate) draft: LpDraft,
+    /// The section of the next token.
+    pub(crate) part: LpPart,
+    /// Bounds was opened.
+    pub(crate) bounds: bool,
+    /// Generals was opened.
+    pub(crate) generals: bool,
+    /// Binaries was opened.
+    pub(crate) binaries: bool,
+    /// The objective has its constant.
+    pub(crate) constant: bool,
+    /// The place of the next token.
+    pub(crate) place: Place,
+}
+
+/// Before the first statement.
+fn first_place(alloc: Global) -> Place
+    ensures { place_at result.stage result ≡ places.Start }
+{
+    let zero = Amount {
+        value: Frac::zero(),
+    };
+    let none = Amount {
+        value: Frac::zero(),
+    };
+    Place {
+        stage: Stage::Start,
+        name: Vec::new(alloc),
+        minus: false,
+        amount: zero,
+        given: false,
+        first: none,
+        first_relation: Relation::EqualTo,
+        relation: Relation::EqualTo,
+        limit: Limit {
+            value: None,
+            minus: false,
+        },
+    }
+}
+
+impl Statements {
+    /// Before the first token.
+    pub fn new(alloc: Global) -> Statements
+        ensures { context_of result ≡ text.no_context }
+    {
+        Statements {
+            draft: LpDraft::new(alloc),
+            part: LpPart::NoPart,
+            bounds: false,
+            generals: false,
+            binaries: false,
+            constant: false,
+            place: first_place(alloc),
+        }
+    }
+
+    /// Takes one token more, and answers the kind of its fault, if it has one. `Err` comes where a growth was refused.
+    pub fn take(&mut self, token: Token<'_>) -> Result<Option<u32>, AllocError>
+        ensures { IfOk result (IsTokenTaken self.old self.new (token_shown token.entry)) }
+    {
+        let kind = self.settle(token)?;
+        if kind.is_some() {
+            return Ok(kind);
+        }
+        self.read(token)
+    }
+
+    /// The program of the tokens. `Err` comes where a growth was refused.
+    pub fn into_program(self) -> Result<Program, AllocError>
+        ensures { IfOk result (λ program. program ≡ facts.program_of self.draft) }
+    {
+        let Statements { draft, .. } = self;
+        draft.into_program()
+    }
+}

@@ -1,3 +1,0 @@
-pub mod LpStages
-pub mod LpTaken
-pub use Rattle.cip_lp_draft.specs.LpEvents

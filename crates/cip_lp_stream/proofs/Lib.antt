@@ -1,4 +1,0 @@
-pub mod PartedPieces
-pub mod PartedTokens
-pub mod PieceEnds
-pub mod TakenTexts

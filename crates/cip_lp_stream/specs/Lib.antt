@@ -1,3 +1,0 @@
-pub mod LpBytes
-pub mod LpParts
-pub mod LpTakenTexts

@@ -1,3 +1,0 @@
-pub mod LpAmounts
-pub mod LpLimits
-pub mod LpNumbers

@@ -1,6 +1,0 @@
-use Rattle.std.proofs.Common.{◌≡◌, drop}
-use Rattle.cip_master_prices.specs.ShownSums.{prices_added}
-use Rattle.cip_master_prices.proofs.lowering.add_prices.Given as goal
-
-abbrev pub invariant-loop-price : goal.invariant-loop-price
-invariant-loop-price l = prices_added (drop l.price-index l.prices) l.sum ≡ prices_added l.prices l.fn.start

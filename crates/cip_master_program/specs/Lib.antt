@@ -1,4 +1,0 @@
-pub mod BlockSums
-pub mod FirstRows
-pub mod KeptMasters
-pub mod WeightTerms

@@ -1,5 +1,0 @@
-pub mod Multiplied
-pub mod Points
-pub mod Spread
-pub mod Sums
-pub mod Tried

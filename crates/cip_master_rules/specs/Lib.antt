@@ -1,3 +1,0 @@
-pub mod MasterExamples
-pub mod MasterPrograms
-pub mod MasterStatements

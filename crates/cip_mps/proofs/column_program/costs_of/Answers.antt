@@ -1,0 +1,24 @@
+use Rattle.std.proofs.Common.{◌≡◌, arith, sym, ap, add-one, subst, true, ℕ}
+use Rattle.cip_mps_steps.specs.MpsState.{costs_from}
+use Rattle.cip_mps.specs.Costs.{held_behind}
+use Rattle.cip_mps.proofs.CostLaws.{from, one_cost, behind_rises, behind_later, from_zero}
+use Rattle.cip_mps.proofs.column_program.costs_of.Goals as goal
+
+pub loop-column-init : goal.loop-column-init
+loop-column-init c = record {
+  costs = rw c.new-costs.ensures.items (ap (costs_from c.args.sense c.args.held.now 0) (omega arith));
+  rising = c.requires.rising;
+  from = from_zero c.args.held.now;
+}
+
+pub loop-column-preserved : goal.loop-column-preserved
+loop-column-preserved c =
+    let at = c.loop-column in
+    let rest = c.value_at-cost.ensures.rest in
+    record {
+      costs =
+          one_cost c.args.sense c.args.held.now at.rest.now at.column c.args.columns at.costs.items c.push.new.self.items c.value_at-cost.result.0 c.minimized.result c.value_at-cost.result.1.now
+          c.loop-column-test.true at.invariant.costs c.value_at-cost.ensures.value c.minimized.ensures rest c.in_ok-push.ensures.items;
+      rising = rw rest (behind_rises at.rest.now at.column at.invariant.rising);
+      from = rw rest (subst (λ (n : ℕ). from n (held_behind at.rest.now at.column) ≡ true) (sym (add-one at.column)) (behind_later at.rest.now at.column at.invariant.rising at.invariant.from));
+    }

@@ -1,0 +1,14 @@
+use Rattle.cip_mps_rules.specs.MpsBounds.{Bounded, settled, choice_of}
+use Rattle.cip_mps.proofs.ListLaws.{mapped_more, mapped_all}
+use Rattle.cip_mps.proofs.column_program.each_choice.Goals as goal
+
+pub loop-column-init : goal.loop-column-init
+loop-column-init c = c.new-choices.ensures
+
+pub loop-column-preserved : goal.loop-column-preserved
+loop-column-preserved c =
+    mapped_more (λ (column : Bounded). choice_of (settled column)) c.args.columns.now c.loop-column.column-index c.column-item.result c.choice.result c.loop-column.choices c.push.new.self
+    c.loop-column-test.true c.column-item.is c.loop-column.invariant c.choice.ensures c.in_ok-push.ensures.ok
+
+pub returns : goal.returns
+returns c = mapped_all (λ (column : Bounded). choice_of (settled column)) c.args.columns.now c.loop-column.column-index c.loop-column.choices c.loop-column-test.false c.loop-column.invariant

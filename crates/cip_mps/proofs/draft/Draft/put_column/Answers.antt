@@ -1,0 +1,39 @@
+use Rattle.std.proofs.Common.{◌+◌, ap, refl, arith, ◌∙◌}
+use Rattle.std.proofs.lemmas.Bool.{ltb-false}
+use Rattle.cip_problem.specs.Limits.{most_entries}
+use Rattle.std.specs.List.{list_any}
+use Rattle.cip_mps_lines.specs.MpsLines.{values_of, value_in, second_in}
+use Rattle.cip_mps_rules.specs.MpsWords.{number_in}
+use Rattle.cip_mps_rules.proofs.Quiet.{right_false}
+use Rattle.cip_mps_steps.specs.MpsState.{State, row_at}
+use Rattle.cip_mps_steps.specs.MpsSteps.{holds}
+use Rattle.cip_mps.specs.DraftLines.{entries_in}
+use Rattle.cip_mps.specs.DraftStates.{kept}
+use Rattle.cip_mps.proofs.ColumnLaws.{passes_column, first_free, second_free, opened}
+use Rattle.cip_mps.proofs.draft.Draft.put_column.Goals as goal
+
+pub hold_values-requires-clause-open_first : goal.hold_values-requires-clause-open_first
+hold_values-requires-clause-open_first c =
+    let state = kept c.args.self.now in
+    let p = passes_column state c.args.name.now (values_of c.args.values.now) c.requires.passed in
+    let column = number_in state.column_names c.args.name.now in
+    let free = first_free state column c.args.values.now.first.row.now (second_in c.args.values.now.second) (value_in c.args.values.now.first) c.args.rows.first refl c.requires.rows.first p.none_held in
+    opened state c.args.name.now c.args.rows.first c.in_ok-number.number c.make_column.new.self.rows c.in_ok-number.ensures.number
+    (ap (λ s. s.rows) c.in_ok-number.ensures.state) c.args.self.now.rows_below free p.last
+
+pub hold_values-requires-clause-open_second : goal.hold_values-requires-clause-open_second
+hold_values-requires-clause-open_second c =
+    let state = kept c.args.self.now in
+    let p = passes_column state c.args.name.now (values_of c.args.values.now) c.requires.passed in
+    let column = number_in state.column_names c.args.name.now in
+    let free = second_free state column c.args.values.now.second c.args.rows.second c.requires.rows.second (right_false _ (list_any (λ value. holds column (row_at state value.row)) (second_in c.args.values.now.second)) p.none_held) in
+    opened state c.args.name.now c.args.rows.second c.in_ok-number.number c.make_column.new.self.rows c.in_ok-number.ensures.number
+    (ap (λ s. s.rows) c.in_ok-number.ensures.state) c.args.self.now.rows_below free p.last
+
+pub invariant_of-self-clause-few_entries : goal.invariant_of-self-clause-few_entries
+invariant_of-self-clause-few_entries c =
+    let state = kept c.args.self.now in
+    let p = passes_column state c.args.name.now (values_of c.args.values.now) c.requires.passed in
+    let few = ltb-false most_entries (state.entries + entries_in (values_of c.args.values.now)) p.few in
+    let same = ap (λ (s : State). s.entries) c.in_ok-hold_values.ensures ∙ ap (λ (s : State). s.entries) c.in_ok-number.ensures.state in
+    omega (arith, few, same, c.count_entries.ensures.count)

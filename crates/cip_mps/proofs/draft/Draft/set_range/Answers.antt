@@ -1,0 +1,27 @@
+use Rattle.std.proofs.Common.{◌≡◌, ◌<◌, List, true, length, refl, sym, subst, ◌∙◌}
+use Rattle.std.specs.Prelude.{slice_index_or}
+use Rattle.std.specs.List.{filter, list_all}
+use Rattle.std.proofs.Math.ListN.{length-set}
+use Rattle.cip_mps_steps.specs.MpsState.{RowRead, no_row, is_kept}
+use Rattle.cip_mps_steps.specs.MpsSteps.{with_range}
+use Rattle.cip_mps_steps.specs.MpsSoundState.{held_below}
+use Rattle.cip_mps.proofs.RowLaws.{changed_counted, changed_below}
+use Rattle.cip_mps.proofs.draft.Draft.set_range.Goals as goal
+
+pub invariant_of-self : goal.invariant_of-self
+invariant_of-self c =
+    let self = c.args.self.now in
+    let number = c.in-Some.number in
+    let n = length self.column_names in
+    let put = with_range c.args.value in
+    let within : number < length self.rows = rw c.in-Some.is at c.requires.within in
+    let new = sym c.set_range.ensures in
+    record {
+      rows_named = subst (λ (rows : List RowRead). length rows ≡ length self.row_names) new (length-set self.rows number (put (slice_index_or self.rows number no_row)) ∙ self.rows_named);
+      columns_named = self.columns_named;
+      rows_counted = subst (λ (rows : List RowRead). self.row_count ≡ length (filter is_kept rows)) new (changed_counted self.row_count self.rows number put within (λ row. refl) self.rows_counted);
+      few_rows = self.few_rows;
+      few_columns = self.few_columns;
+      few_entries = self.few_entries;
+      rows_below = subst (λ (rows : List RowRead). list_all (λ row. held_below n row.held) rows ≡ true) new (changed_below n self.rows number put (λ row below. below) self.rows_below);
+    }

@@ -1,0 +1,21 @@
+use Rattle.std.proofs.Common.{◌++◌, ◌∷◌, [], cond, refl, ap, sym, ◌∙◌, take, add-one, arith}
+use Rattle.std.specs.Prelude.{slice_index_or}
+use Rattle.cip_mps_steps.specs.MpsState.{no_row, is_kept, kept_names}
+use Rattle.cip_mps.proofs.ProgramLaws.{kept_absent, take_absent, kept_more, kept_unless}
+use Rattle.cip_mps.proofs.program.names_of.Goals as goal
+
+pub keep_name-requires : goal.keep_name-requires
+keep_name-requires c =
+    let n = c.loop-number.number in
+    rw c.loop-number.invariant
+    (kept_absent (take n c.args.names.now) (take n c.args.rows.now) c.name.result.now (take_absent c.args.names.now c.name.result.now n c.name.ensures.number))
+
+pub loop-number-preserved : goal.loop-number-preserved
+loop-number-preserved c =
+    let n = c.loop-number.number in
+    let name = c.name.result.now in
+    let row = slice_index_or c.args.rows.now n no_row in
+    c.in_ok-keep_name.ensures ∙ kept_unless c.is_free.result row c.loop-number.kept name c.is_free.ensures
+    ∙ ap (λ ns. cond (is_kept row) (ns ++ name ∷ []) ns) c.loop-number.invariant
+    ∙ sym (kept_more c.args.names.now c.args.rows.now n name row c.name.ensures.name (omega (arith, c.loop-number-test.true, c.len-number-end.ensures)) refl)
+    ∙ ap (λ k. kept_names (take k c.args.names.now) (take k c.args.rows.now)) (sym (add-one n))

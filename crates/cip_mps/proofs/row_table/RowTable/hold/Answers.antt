@@ -1,0 +1,49 @@
+use Rattle.std.proofs.Common.{◌+◌, ◌/◌, List, Some, ap, sym, subst, ◌∙◌, arith}
+use Rattle.std.specs.Prelude.{slice_set}
+use Rattle.cip_mps_steps.specs.MpsState.{RowRead, no_row}
+use Rattle.cip_mps_steps.specs.MpsSteps.{changed, with_held}
+use Rattle.cip_mps_steps.specs.MpsSoundState.{held_below}
+use Rattle.cip_mps.specs.Entries.{Entry}
+use Rattle.cip_mps.specs.Tables.{IsSoundTable, rows_of}
+use Rattle.cip_mps.proofs.TableLaws.{within, has_group, held_is, numbers_are, group_pushed, rows_held, sound_held}
+use Rattle.cip_mps.proofs.row_table.RowTable.hold.Goals as goal
+
+pub index_mut-group-requires : goal.index_mut-group-requires
+index_mut-group-requires c =
+    let there = has_group c.self.inside.heads.items c.self.inside.groups.items c.args.self.now c.args.number c.self.view_is c.requires.within c.self.invariant.enough in
+    omega (arith, there, c.self.inside.groups.ok.0)
+
+pub push-requires : goal.push-requires
+push-requires c =
+    let held = held_is c.self.inside.heads.items c.self.inside.groups.items c.args.self.now c.args.number c.index_mut-group.result.now c.self.view_is c.requires.within c.self.invariant.enough c.index_mut-group.ensures.value in
+    ap (held_below c.args.column) (sym held) ∙ c.requires.behind
+
+pub index_mut-requires : goal.index_mut-requires
+index_mut-requires c =
+    let there = within c.self.inside.heads.items c.self.inside.groups.items c.args.self.now c.args.number c.self.view_is c.requires.within in
+    let same = c.self.invariant.as_many in
+    omega (arith, there, same, c.self.inside.held_to.ok.0)
+
+pub invariant_of-self-2 : goal.invariant_of-self-2
+invariant_of-self-2 c =
+    let heads = c.self.inside.heads.items in
+    let groups = c.self.inside.groups.items in
+    let number = c.args.number in
+    let there = within heads groups c.args.self.now number c.self.view_is c.requires.within in
+    let group = has_group heads groups c.args.self.now number c.self.view_is c.requires.within c.self.invariant.enough in
+    let pushed = group_pushed groups (number / 64) c.index_mut-group.result.now c.push.new.self _ group c.index_mut-group.ensures.value c.in_ok-push.ensures.ok in
+    let below = ap (held_below c.args.column) (sym (numbers_are heads groups c.args.self.now number c.self.view_is c.requires.within)) ∙ c.requires.behind in
+    subst (λ (g : List Entry). IsSoundTable (slice_set c.self.inside.held_to.items number (c.args.column + 1)) heads (slice_set groups (number / 64) g)) (sym pushed)
+    (sound_held number c.args.column c.args.value c.self.inside.held_to.items heads groups c.self.invariant there below)
+
+pub returns-clause-ok : goal.returns-clause-ok
+returns-clause-ok c =
+    let heads = c.self.inside.heads.items in
+    let groups = c.self.inside.groups.items in
+    let number = c.args.number in
+    let there = within heads groups c.args.self.now number c.self.view_is c.requires.within in
+    let group = has_group heads groups c.args.self.now number c.self.view_is c.requires.within c.self.invariant.enough in
+    let pushed = group_pushed groups (number / 64) c.index_mut-group.result.now c.push.new.self _ group c.index_mut-group.ensures.value c.in_ok-push.ensures.ok in
+    ap (λ (g : List Entry). rows_of heads (slice_set groups (number / 64) g)) pushed
+    ∙ rows_held number c.args.column c.args.value heads groups there group
+    ∙ ap (λ (rs : List RowRead). changed no_row rs (Some number) (with_held c.args.column c.args.value)) c.self.view_is

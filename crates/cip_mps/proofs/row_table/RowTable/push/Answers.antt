@@ -1,0 +1,48 @@
+use Rattle.std.proofs.Common.{◌*◌, ◌<◌, ◌≤◌, ℕ, List, [], ◌∷◌, ◌++◌, length, refl, ap, ◌∙◌, arith}
+use Rattle.cip_mps_lines.specs.MpsKinds.{row_kind_in}
+use Rattle.cip_mps_steps.specs.MpsState.{RowRead}
+use Rattle.cip_mps_steps.specs.MpsSteps.{new_row}
+use Rattle.cip_mps.specs.Tables.{rows_of}
+use Rattle.cip_mps.proofs.TableLaws.{rows_pushed, sound_kept, sound_others, sound_pushed}
+use Rattle.cip_mps.proofs.row_table.RowTable.push.Goals as goal
+
+pub returns-clause-ok : goal.returns-clause-ok
+returns-clause-ok c =
+    let heads = c.self.inside.heads.items in
+    let groups = c.self.inside.groups.items in
+    let others = c.make_group.new.groups.items in
+    let kind = row_kind_in c.args.kind in
+    let more = c.push_head.ensures ∙ ap (λ (hs : List RowRead). hs ++ c.new.result ∷ []) c.in-Ok.ensures.items ∙ ap (λ (h : RowRead). heads ++ h ∷ []) c.new.ensures in
+    ap (λ (hs : List RowRead). rows_of hs others) more ∙ rows_pushed c.self.inside.held_to.items heads groups others kind c.self.invariant c.in-Ok-make_group.ensures.same
+    ∙ ap (λ (rs : List RowRead). rs ++ new_row kind ∷ []) c.self.view_is
+
+pub invariant_of-self : goal.invariant_of-self
+invariant_of-self c =
+    let held_to = c.self.inside.held_to.items in
+    sound_kept held_to held_to c.self.inside.heads.items c.reserve.new.self.items c.self.inside.groups.items refl c.in_default.ensures.items c.self.invariant
+
+pub invariant_of-self-in_default-reserve : goal.invariant_of-self-in_default-reserve
+invariant_of-self-in_default-reserve c =
+    sound_kept c.self.inside.held_to.items c.reserve-2.new.self.items c.self.inside.heads.items c.reserve.new.self.items c.self.inside.groups.items c.in_default-reserve.ensures.items c.in-Ok.ensures.items c.self.invariant
+
+pub invariant_of-self-in_default-make_group : goal.invariant_of-self-in_default-make_group
+invariant_of-self-in_default-make_group c =
+    let heads = c.self.inside.heads.items in
+    let held_to = c.self.inside.held_to.items in
+    let groups = c.self.inside.groups.items in
+    let others = c.make_group.new.groups.items in
+    let enough : length heads ≤ 64 * length others = omega (arith, c.in_default-make_group.ensures.enough, c.len-number.ensures, c.self.inside.heads.ok.0) in
+    sound_kept held_to c.reserve-2.new.self.items heads c.reserve.new.self.items others c.in-Ok-reserve.ensures.items c.in-Ok.ensures.items
+    (sound_others held_to heads groups others c.self.invariant c.in_default-make_group.ensures.same enough)
+
+pub invariant_of-self-2 : goal.invariant_of-self-2
+invariant_of-self-2 c =
+    let heads = c.self.inside.heads.items in
+    let held_to = c.self.inside.held_to.items in
+    let groups = c.self.inside.groups.items in
+    let others = c.make_group.new.groups.items in
+    let room : length heads < 64 * length others = omega (arith, c.in-Ok-make_group.ensures.room, c.len-number.ensures, c.self.inside.heads.ok.0) in
+    let more = c.push_head.ensures ∙ ap (λ (hs : List RowRead). hs ++ c.new.result ∷ []) c.in-Ok.ensures.items in
+    let ends = c.push_end.ensures ∙ ap (λ (ns : List ℕ). ns ++ 0 ∷ []) c.in-Ok-reserve.ensures.items in
+    sound_kept (held_to ++ 0 ∷ []) c.push_end.new.held_to.items (heads ++ c.new.result ∷ []) c.push_head.new.heads.items others ends more
+    (sound_pushed held_to heads groups others c.new.result c.self.invariant c.in-Ok-make_group.ensures.same room)

@@ -1,0 +1,21 @@
+use Rattle.std.proofs.Common.{rules, ap, sym}
+use Rattle.std.specs.Prelude.{not}
+use Rattle.std.specs.Vec.Iter.{into_iter_items}
+use Rattle.cip_mps.proofs.GroupedLaws.{kept_taken, kept_dropped}
+use Rattle.cip_mps.proofs.table_rows.keep_rows.Goals as goal
+
+pub loop-row-preserved-in_ok-push : goal.loop-row-preserved-in_ok-push
+loop-row-preserved-in_ok-push c = record {
+  finished =
+      kept_taken c.loop-row.finished.items c.push.new.self.items c.loop-row.rest.now c.in-Some-split_first.behind.now c.in-Some-split_first.head.now (into_iter_items c.loop-row.row-iterator) (into_iter_items c.next.new.self) c.in-Some.row _
+      c.in-Some-split_first.ensures.cases.0 c.in-Some.ensures.steps.0 (ap not (sym c.if-not-is_free.ensures)) c.in_ok-push.ensures.items c.loop-row.invariant.finished;
+  left = search rules;
+}
+
+pub loop-row-preserved : goal.loop-row-preserved
+loop-row-preserved c = record {
+  finished =
+      kept_dropped c.loop-row.finished.items c.loop-row.rest.now c.in-Some-split_first.behind.now c.in-Some-split_first.head.now (into_iter_items c.loop-row.row-iterator) (into_iter_items c.next.new.self) c.in-Some.row _
+      c.in-Some-split_first.ensures.cases.0 c.in-Some.ensures.steps.0 (ap not (sym c.if-not-is_free.ensures)) c.loop-row.invariant.finished;
+  left = search rules;
+}

@@ -1,0 +1,87 @@
+//! The lines of BOUNDS.
+ghost use Rattle.std.specs.Prelude.{◌≡◌, ℕ, ◌<◌, ◌||◌, List, false, vec_len, IfSome};
+ghost use Rattle.cip_number_text.specs.Numeral.{Numeral};
+ghost use Rattle.cip_mps_lines.specs.MpsKinds.{bound_kind_in};
+ghost use Rattle.cip_mps_rules.specs.MpsWords.{number_in};
+ghost use Rattle.cip_mps_rules.specs.MpsBounds.{unbounded, with_bound};
+ghost use Rattle.cip_mps_rules.specs.MpsRules as text;
+ghost use Rattle.cip_mps_rules.specs.MpsRules.{least, is_mixed_by};
+ghost use Rattle.cip_mps_steps.specs.MpsState.{item_at};
+ghost use Rattle.cip_mps_steps.specs.MpsSteps.{changed};
+ghost use Rattle.cip_mps_steps.specs.MpsLineTests.{bound_tests};
+ghost use Rattle.cip_mps.specs.DraftStates.{kept};
+
+use crate::draft::Draft;
+use cip_mps_lines::{BoundKind, BoundNumber};
+
+/// Whether a value is no bound on a side on which it can't be left out, or that of a bound of type SC isn't above 0.
+fn is_no_bound(kind: BoundKind, value: &BoundNumber<'_>) -> bool
+    ensures { result ≡ text.is_no_bound (bound_kind_in kind) value.now }
+{
+    match kind {
+        BoundKind::SemiContinuous => !value.is_positive(),
+        BoundKind::Low | BoundKind::WholeLow => value.is_huge() && !value.is_negative(),
+        BoundKind::High | BoundKind::WholeHigh => value.is_huge() && value.is_negative(),
+        BoundKind::Fixed => value.is_huge(),
+        _ => false,
+    }
+}
+
+impl Draft {
+    /// Whether a bound record of this type makes the column of a number both whole and semi-continuous.
+    fn mixes(&self, kind: BoundKind, column: Option<usize>) -> bool
+        requires { IfSome column (λ number. number < vec_len self.now.columns) }
+        ensures { (value : Numeral) → result
+            ≡ is_mixed_by (bound_kind_in kind) value (item_at (unbounded false) self.now.columns.items column) }
+    {
+        match column {
+            None => false,
+            Some(number) => self.columns[number].is_mixed_by(kind),
+        }
+    }
+
+    /// The least kind of fault of a line of BOUNDS, of which the number of the column is given.
+    pub(crate) fn bound_fault(
+        &self,
+        kind: BoundKind,
+        value: &BoundNumber<'_>,
+        column: Option<usize>,
+    ) -> Option<u32>
+        requires { IfSome column (λ number. number < vec_len self.now.columns) }
+        ensures { (name : List ℕ) → column ≡ number_in self.now.column_names name
+            → result ≡ least (bound_tests (kept self.now) (bound_kind_in kind) name value.now) }
+    {
+        if value.is_no_number() {
+            return Some(5);
+        }
+        if value.is_too_fine() {
+            return Some(7);
+        }
+        if column.is_none() {
+            return Some(9);
+        }
+        if is_no_bound(kind, value) || self.mixes(kind, column) {
+            return Some(21);
+        }
+        None
+    }
+
+    /// Takes a line of BOUNDS, of which the number of the column is given.
+    pub(crate) fn put_bound(
+        &mut self,
+        kind: BoundKind,
+        value: &BoundNumber<'_>,
+        column: Option<usize>,
+    )
+        requires { IfSome column (λ number. number < vec_len self.old.columns) }
+        ensures { kept self.new ≡ record (kept self.old) {
+          columns = changed (unbounded false) self.old.columns.items column
+              (λ b. with_bound b (bound_kind_in kind) value.now);
+        } }
+    {
+        if let Some(number) = column {
+            let column = &mut self.columns[number];
+            column.take(kind, value);
+        }
+    }
+}

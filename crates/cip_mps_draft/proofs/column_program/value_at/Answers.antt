@@ -1,9 +1,0 @@
-use Rattle.std.proofs.Common.{sym, ◌∙◌, ap}
-use Rattle.cip_mps_draft.proofs.CostLaws.{none_first}
-use Rattle.cip_mps_draft.proofs.column_program.value_at.Goals as goal
-
-pub returns-else-first-column-clause-value : goal.returns-else-first-column-clause-value
-returns-else-first-column-clause-value c =
-    c.zero-else-first-column.ensures
-    ∙ sym (none_first c.args.held.now c.args.column c.first-item.result c.in-len1-up.len_at_least c.first-item.is c.requires.from c.requires.rising
-    (λ p. c.if-first-column.false (ap (λ h. h.column) c.first.view_is ∙ p)))

@@ -1,8 +1,0 @@
-use Rattle.std.proofs.Common.{◌≡◌, ◌++◌, drop, map}
-use Rattle.cip_mps_rows.specs.Entries.{numbers_of}
-use Rattle.cip_mps_rows.specs.GroupEntries.{far_entry}
-use Rattle.cip_mps_rows.proofs.groups.add_far.Given as goal
-
-abbrev pub invariant-loop-number : goal.invariant-loop-number
-invariant-loop-number l =
-    l.numbers.items ++ numbers_of l.fn.row (map far_entry (drop l.number-index l.far)) ≡ l.fn.numbers.items ++ numbers_of l.fn.row (map far_entry l.far)

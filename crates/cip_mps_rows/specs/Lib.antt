@@ -1,4 +1,0 @@
-pub mod Entries
-pub mod GroupEntries
-pub mod Tables
-pub mod GroupedRows

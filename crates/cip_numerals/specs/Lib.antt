@@ -1,2 +1,0 @@
-pub mod NumberText
-pub mod Statements

@@ -1,4 +1,0 @@
-pub mod BlockCodes
-pub mod BlockMeaning
-pub mod BlockParts
-pub mod NamesOnce

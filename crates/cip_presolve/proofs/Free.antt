@@ -1,0 +1,157 @@
+-- Columns that are free after a term, and after a row.
+use Rattle.std.proofs.Common.{◌≡◌, ℕ, zero, suc, ◌+◌, ◌<◌, ◌≤◌, Bool, true, false, List, [], ◌∷◌, length, take, Option, Some, IfSome, slice_get, refl, sym, ap, ◌∙◌, subst, arith, inl, inr, true≢false}
+use Rattle.std.specs.Prelude.{slice_set, All, not, IsTrue, ◌↔◌}
+use Rattle.std.specs.Bool.{OnTrue}
+use Rattle.std.specs.List.{AllByRecursion}
+use Rattle.std.proofs.lemmas.Option.{none-some, same_Some, slice_get_within, get_or_from_slice_get, slice_get_read}
+use Rattle.std.proofs.Math.ListN.{get_or}
+use Rattle.cip_rational.specs.Rational.{ℚ, zeroℚ, ◌≤ℚ◌, ◌<ℚ◌}
+use Rattle.cip_rational.proofs.Rational.Order.{le_of_not_lt}
+use Rattle.cip_problem.specs.Program.{Term, Row}
+use Rattle.cip_problem.specs.Activity.{StandsBelow}
+use Rattle.cip_reductions.specs.Moving.{LetsFall}
+use Rattle.cip_reductions.specs.Forms.{Form}
+use Rattle.cip_postsolve.specs.SpentRows.{IsSpent}
+use Rattle.cip_presolve.specs.FreeColumns.{turned, FreeFewer, TermFree, TermsFree, RowFree, RowsFree}
+
+-- ---- flags
+
+set_long : (free : List Bool) (n : ℕ) → length (slice_set free n false) ≡ length free
+set_long [] n = refl
+set_long (f ∷ free) zero = refl
+set_long (f ∷ free) (suc n) = ap (λ k. suc k) (set_long free n)
+
+set_free : (free : List Bool) (n column : ℕ) → slice_get (slice_set free n false) column ≡ Some true → slice_get free column ≡ Some true
+set_free [] n column h = h
+set_free (f ∷ free) zero zero h = absurd (true≢false (sym (same_Some false true h)))
+set_free (f ∷ free) zero (suc column) h = h
+set_free (f ∷ free) (suc n) zero h = h
+set_free (f ∷ free) (suc n) (suc column) h = set_free free n column h
+
+set_locked : (free : List Bool) (n : ℕ) → slice_get (slice_set free n false) n ≡ Some true → ⊥
+set_locked [] n h = none-some true h
+set_locked (f ∷ free) zero h = true≢false (sym (same_Some false true h))
+set_locked (f ∷ free) (suc n) h = set_locked free n h
+
+pub fewer_self : (free : List Bool) → FreeFewer free free
+fewer_self free = record { long = refl; free = λ column h. h }
+
+fewer_after : (first second third : List Bool) → FreeFewer first second → FreeFewer second third → FreeFewer first third
+fewer_after first second third a b = record { long = b.long ∙ a.long; free = λ column h. a.free column (b.free column h) }
+
+set_fewer : (free : List Bool) (n : ℕ) → FreeFewer free (slice_set free n false)
+set_fewer free n = record { long = set_long free n; free = set_free free n }
+
+terms_stay : (rising : Bool) (old new : List Bool) (low high : Option ℚ) (terms : List Term) → FreeFewer old new → TermsFree rising old low high terms → TermsFree rising new low high terms
+terms_stay rising old new low high [] f h = tt
+terms_stay rising old new low high (t ∷ ts) f h = (λ e. h.0 (f.free t.column e), terms_stay rising old new low high ts f h.1)
+
+row_stays : (rising : Bool) (old new : List Bool) (forms : List (Option Form)) (row : Row) → FreeFewer old new → RowFree rising old forms row → RowFree rising new forms row
+row_stays rising old new forms row f (inl s) = inl s
+row_stays rising old new forms row f (inr h) = inr (terms_stay rising old new row.low row.high row.terms f h)
+
+rows_stay : (rising : Bool) (old new : List Bool) (forms : List (Option Form)) (rows : List Row) → FreeFewer old new → RowsFree rising old forms rows → RowsFree rising new forms rows
+rows_stay rising old new forms [] f h = tt
+rows_stay rising old new forms (r ∷ rs) f h = (row_stays rising old new forms r f h.0, rows_stay rising old new forms rs f h.1)
+
+all_more : {X : Type 0} (P : X → Type 0) (xs : List X) (n : ℕ) (x : X) → slice_get xs n ≡ Some x → AllByRecursion P (take n xs) → P x → AllByRecursion P (take (suc n) xs)
+all_more P [] n x e h p = absurd (none-some x e)
+all_more P (y ∷ xs) zero x e h p = (subst P (sym (same_Some y x e)) p, tt)
+all_more P (y ∷ xs) (suc n) x e h p = (h.0, all_more P xs n x e h.1 p)
+
+all_more_one : {X : Type 0} (P : X → Type 0) (xs : List X) (n : ℕ) (x : X) → slice_get xs n ≡ Some x → AllByRecursion P (take n xs) → P x → AllByRecursion P (take (n + 1) xs)
+all_more_one P xs n x e h p =
+    let one : suc n ≡ n + 1 = omega arith in
+    subst (λ m. AllByRecursion P (take m xs)) one (all_more P xs n x e h p)
+
+all_at : {X : Type 0} (P : X → Type 0) (xs : List X) (n : ℕ) (x : X) → All P xs → slice_get xs n ≡ Some x → P x
+all_at P xs n x a g = subst P (get_or_from_slice_get xs n x x g) (a n x (slice_get_within xs n x g))
+
+take_whole : {X : Type 0} (xs : List X) (n : ℕ) → length xs ≤ n → take n xs ≡ xs
+take_whole [] zero e = refl
+take_whole [] (suc n) e = refl
+take_whole (x ∷ xs) zero e = absurd (omega (arith, e))
+take_whole (x ∷ xs) (suc n) e = ap (λ t. x ∷ t) (take_whole xs n (omega (arith, e)))
+
+-- ---- one term
+
+pub not_up : (c : ℚ) (r : Bool) → (IsTrue r ↔ (zeroℚ <ℚ c)) → OnTrue (not r) (c ≤ℚ zeroℚ)
+not_up c true h = tt
+not_up c false h = le_of_not_lt zeroℚ c (λ l. true≢false (sym (h.1 l)))
+
+pub not_down : (c : ℚ) (r : Bool) → (IsTrue r ↔ (c <ℚ zeroℚ)) → OnTrue (not r) (zeroℚ ≤ℚ c)
+not_down c true h = tt
+not_down c false h = le_of_not_lt c zeroℚ (λ l. true≢false (sym (h.1 l)))
+
+pub both_let : (low high : Option ℚ) (c : ℚ) (r : Bool) → IfSome low (λ side. c ≤ℚ zeroℚ) → OnTrue r (IfSome high (λ side. zeroℚ ≤ℚ c)) → OnTrue r (LetsFall low high c)
+both_let low high c true h k = record { low = h; high = k }
+both_let low high c false h k = tt
+
+-- ---- after so many terms
+
+pub record LockedTo (rising : Bool) (old free : List Bool) (low high : Option ℚ) (terms : List Term) (n : ℕ) : Type 0 where
+  pub fewer : FreeFewer old free
+  pub stay : TermsFree rising free low high (take n terms)
+
+pub none_locked : (rising : Bool) (old : List Bool) (low high : Option ℚ) (terms : List Term) → LockedTo rising old old low high terms 0
+none_locked rising old low high terms = record { fewer = fewer_self old; stay = tt }
+
+pub term_next : (rising : Bool) (old free new : List Bool) (low high : Option ℚ) (terms : List Term) (n : ℕ) (t : Term) → LockedTo rising old free low high terms n → n < length terms → t ≡ get_or terms n t → FreeFewer free new → TermFree rising new low high t → LockedTo rising old new low high terms (n + 1)
+term_next rising old free new low high terms n t k below is f l = record {
+  fewer = fewer_after old free new k.fewer f;
+  stay = all_more_one (TermFree rising new low high) terms n t (slice_get_read terms (length terms) n t refl below is) (terms_stay rising free new low high (take n terms) f k.stay) l;
+}
+
+pub term_within : (rising : Bool) (old free : List Bool) (low high : Option ℚ) (terms : List Term) (n : ℕ) (t : Term) → LockedTo rising old free low high terms n → StandsBelow (length old) terms → n < length terms → t ≡ get_or terms n t → t.column < length free
+term_within rising old free low high terms n t k s below is = let g : slice_get terms n ≡ Some t = slice_get_read terms (length terms) n t refl below is in let e = k.fewer.long in let l = all_at (λ u. u.column < length old) terms n t s g in omega (arith, e, l)
+
+pub all_locked : (rising : Bool) (old free : List Bool) (low high : Option ℚ) (terms : List Term) (n : ℕ) → LockedTo rising old free low high terms n → length terms ≤ n → TermsFree rising free low high terms
+all_locked rising old free low high terms n k e = subst (λ (ts : List Term). TermsFree rising free low high ts) (take_whole terms n e) k.stay
+
+pub ruleset locked_terms = (none_locked, term_next, term_within, all_locked)
+
+pub term_lets : (rising : Bool) (free : List Bool) (low high : Option ℚ) (t : Term) → LetsFall low high (turned rising t.coefficient) → TermFree rising free low high t
+term_lets rising free low high t l e = l
+
+pub term_locks : (rising : Bool) (free new : List Bool) (low high : Option ℚ) (t : Term) → new ≡ slice_set free t.column false → TermFree rising new low high t
+term_locks rising free new low high t e h = absurd (set_locked free t.column (subst (λ (f : List Bool). slice_get f t.column ≡ Some true) e h))
+
+pub lock_fewer : (free new : List Bool) (n : ℕ) → new ≡ slice_set free n false → FreeFewer free new
+lock_fewer free new n e = subst (λ (f : List Bool). FreeFewer free f) (sym e) (set_fewer free n)
+
+pub ruleset locked_term = (fewer_self, term_lets, term_locks, lock_fewer)
+
+-- ---- a row
+
+pub row_spent : (rising : Bool) (free : List Bool) (forms : List (Option Form)) (row : Row) → IsSpent forms row → RowFree rising free forms row
+row_spent rising free forms row s = inl s
+
+pub row_free : (rising : Bool) (free : List Bool) (forms : List (Option Form)) (row : Row) → TermsFree rising free row.low row.high row.terms → RowFree rising free forms row
+row_free rising free forms row h = inr h
+
+pub ruleset locked_row = (fewer_self, row_spent)
+
+-- ---- after so many rows
+
+pub record RowsLockedTo (rising : Bool) (old free : List Bool) (forms : List (Option Form)) (rows : List Row) (n : ℕ) : Type 0 where
+  pub fewer : FreeFewer old free
+  pub stay : RowsFree rising free forms (take n rows)
+
+pub no_rows : (rising : Bool) (old : List Bool) (forms : List (Option Form)) (rows : List Row) → RowsLockedTo rising old old forms rows 0
+no_rows rising old forms rows = record { fewer = fewer_self old; stay = tt }
+
+pub row_locked : (rising : Bool) (old free new : List Bool) (forms : List (Option Form)) (rows : List Row) (n : ℕ) (row : Row) → RowsLockedTo rising old free forms rows n → n < length rows → row ≡ get_or rows n row → FreeFewer free new → RowFree rising new forms row → RowsLockedTo rising old new forms rows (n + 1)
+row_locked rising old free new forms rows n row k below is f t = record {
+  fewer = fewer_after old free new k.fewer f;
+  stay = all_more_one (λ r. RowFree rising new forms r) rows n row (slice_get_read rows (length rows) n row refl below is) (rows_stay rising free new forms (take n rows) f k.stay) t;
+}
+
+pub row_stands : (rising : Bool) (old free : List Bool) (forms : List (Option Form)) (rows : List Row) (n : ℕ) (row : Row) → RowsLockedTo rising old free forms rows n → All (λ r. StandsBelow (length old) r.terms) rows → n < length rows → row ≡ get_or rows n row → StandsBelow (length free) row.terms
+row_stands rising old free forms rows n row k s below is =
+    let g : slice_get rows n ≡ Some row = slice_get_read rows (length rows) n row refl below is in
+    subst (λ m. StandsBelow m row.terms) (sym k.fewer.long) (all_at (λ r. StandsBelow (length old) r.terms) rows n row s g)
+
+pub all_rows : (rising : Bool) (old free : List Bool) (forms : List (Option Form)) (rows : List Row) (n : ℕ) → RowsLockedTo rising old free forms rows n → length rows ≤ n → RowsFree rising free forms rows
+all_rows rising old free forms rows n k e = subst (λ (rs : List Row). RowsFree rising free forms rs) (take_whole rows n e) k.stay
+
+pub ruleset locked_rows = (no_rows, row_locked, row_stands, all_rows)

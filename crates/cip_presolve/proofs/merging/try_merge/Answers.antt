@@ -1,0 +1,23 @@
+use Rattle.std.proofs.Common.{◌≡◌, sym, ap, ◌∙◌}
+use Rattle.std.proofs.lemmas.Option.{same_Some}
+use Rattle.cip_problem.specs.Program.{Sides, Row}
+use Rattle.cip_problem.specs.Choices.{met}
+use Rattle.cip_reductions.specs.NarrowedPrograms.{with_row}
+use Rattle.cip_presolve.specs.RowsMet.{sides_of}
+use Rattle.cip_presolve.proofs.Merged.{merged_by, made_by}
+use Rattle.cip_presolve.proofs.merging.try_merge.Goals as goal
+
+pub returns-clause-step : goal.returns-clause-step
+returns-clause-step c =
+    let one : c.row-2.result.now ≡ c.row.result.now = same_Some _ _ (sym c.row-2.ensures.row ∙ c.row.ensures.row) in
+    let other : c.row-3.result.now ≡ c.row-else-first-second.result.now = same_Some _ _ (sym c.row-3.ensures.row ∙ c.row-else-first-second.ensures.row) in
+    let again : c.row-4.result.now ≡ c.row.result.now = same_Some _ _ (sym c.row-4.ensures.row ∙ c.row.ensures.row) in
+    let terms : c.row.result.now.terms ≡ c.row-else-first-second.result.now.terms =
+    sym c.terms.ensures.terms ∙ c.if-not-are_same.ensures ∙ c.terms-else-first-second.ensures.terms in
+    let sides : c.met_sides-sides.result ≡ met (sides_of c.row.result.now) (sides_of c.row-else-first-second.result.now) =
+    c.met_sides-sides.ensures ∙ ap (λ (r : Row). met (sides_of r) (sides_of c.row-3.result.now)) one ∙ ap (λ (r : Row). met (sides_of c.row.result.now) (sides_of r)) other in
+    merged_by c.args.draft.now c.set_row.new.self c.set_row-2.new.self c.args.first c.args.second c.row.result.now c.row-else-first-second.result.now c.in_ok-row.row c.met_sides-sides.result
+    c.if-first-second.false c.row.ensures.row c.row-else-first-second.ensures.row terms sides
+    (made_by c.row.result.now c.in_ok-row.row c.terms-2.result.now c.sides.inside.low c.sides.inside.high c.met_sides-sides.result c.in_ok-row.ensures
+    (c.terms-2.ensures.terms ∙ ap (λ (r : Row). r.terms) again) (ap (λ (s : Sides). s.low) c.sides.view_is) (ap (λ (s : Sides). s.high) c.sides.view_is))
+    c.set_row.ensures (c.set_row-2.ensures ∙ ap (λ (r : Row). with_row c.set_row.new.self c.args.second r) c.empty.ensures)

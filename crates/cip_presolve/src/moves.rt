@@ -1,0 +1,287 @@
+//! Dual fixing: columns that no row holds go to the side at which they cost least, and columns whose value is a form of
+//! one of these go with it.
+ghost use Rattle.std.specs.Prelude.{◌≡◌, ◌<◌, ◌^◌, ℕ, false, true, length, slice_get, slice_index_or};
+ghost use Rattle.std.specs.Prelude.{None, Some, IfOk, IfSome};
+ghost use Rattle.std.specs.Bool.{OnTrue};
+ghost use Rattle.cip_rational.specs.Rational.{ℚ};
+ghost use Rattle.cip_problem.specs.Choices.{choice_at, is_open};
+ghost use Rattle.cip_reductions.specs.NarrowedPrograms.{IsStep};
+ghost use Rattle.cip_postsolve.specs.ColumnsOut.{MayAllGo, SourcesStay};
+ghost use Rattle.cip_postsolve.specs.SpentRows.{RowsGo};
+ghost use Rattle.cip_presolve.specs.Moves.{MayTake, least_value, greatest_value, MovesTo, target_at, Follows};
+ghost use Rattle.cip_presolve.specs.Moves.{AreTargets, IsEntry, AreEntries, IsPlanned, with_target, IsTaken};
+
+use crate::locks::free_columns;
+use cip_frac::{Frac, Wide};
+use cip_lin::Sides;
+use cip_postsolve::{ColumnForm, Draft};
+use std::alloc::{AllocError, Global};
+
+/// The least value that a low side leaves a column.
+fn least_value(low: Option<Frac>, whole: bool) -> Option<Frac>
+    ensures { result ≡ least_value whole low }
+{
+    match low {
+        None => None,
+        Some(low) => Some(if whole { low.rounded_up() } else { low }),
+    }
+}
+
+/// The greatest value that a high side leaves a column.
+fn greatest_value(high: Option<Frac>, whole: bool) -> Option<Frac>
+    ensures { result ≡ greatest_value whole high }
+{
+    match high {
+        None => None,
+        Some(high) => Some(if whole { high.rounded_down() } else { high }),
+    }
+}
+
+/// Whether a column is among those that are free.
+fn is_free(free: &[bool], column: u32) -> bool
+    ensures { OnTrue result (slice_get free.now column ≡ Some true) }
+{
+    match free.get(column as usize) {
+        Some(is_free) => *is_free,
+        None => false,
+    }
+}
+
+/// Whether a column may take a value: its sides are other ones, with the value between them, and it isn't
+/// semi-continuous.
+fn can_take(draft: &Draft, column: u32, fixed: Sides) -> bool
+    requires { column < length draft.now.bounds }
+    ensures { OnTrue result (MayTake draft.now column fixed) }
+{
+    let sides = draft.bounds().sides(column);
+    if draft.is_semi(column) || sides.is_fixed() {
+        return false;
+    }
+    fixed.is_inside(sides)
+}
+
+/// The least value of a column that no row keeps from falling, where it costs at least 0 and has a low side.
+fn fallen(draft: &Draft, column: u32, free: &[bool]) -> Option<Frac>
+    requires { column < length draft.now.bounds }
+    ensures { IfSome result (MovesTo false free.now draft.now column) }
+{
+    if !is_free(free, column) {
+        return None;
+    }
+    if draft.cost(column).is_negative() {
+        return None;
+    }
+    let Some(value) = least_value(draft.bounds().sides(column).low, draft.is_whole(column)) else {
+        return None;
+    };
+    let fixed = Sides {
+        low: Some(value),
+        high: Some(value),
+    };
+    if !can_take(draft, column, fixed) {
+        return None;
+    }
+    Some(value)
+}
+
+/// The greatest value of a column that no row keeps from rising, where it costs at most 0 and has a high side.
+fn risen(draft: &Draft, column: u32, free: &[bool]) -> Option<Frac>
+    requires { column < length draft.now.bounds }
+    ensures { IfSome result (MovesTo true free.now draft.now column) }
+{
+    if !is_free(free, column) {
+        return None;
+    }
+    if draft.cost(column).is_positive() {
+        return None;
+    }
+    let Some(value) = greatest_value(draft.bounds().sides(column).high, draft.is_whole(column))
+    else {
+        return None;
+    };
+    let fixed = Sides {
+        low: Some(value),
+        high: Some(value),
+    };
+    if !can_take(draft, column, fixed) {
+        return None;
+    }
+    Some(value)
+}
+
+/// The value that a column goes to, as `risen` and `fallen` have it.
+fn moved(draft: &Draft, column: u32, free: &[bool], rising: bool) -> Option<Frac>
+    requires { column < length draft.now.bounds }
+    ensures { IfSome result (MovesTo rising free.now draft.now column) }
+{
+    if rising {
+        risen(draft, column, free)
+    } else {
+        fallen(draft, column, free)
+    }
+}
+
+/// The values that the columns may go to by themselves. `Err` where the memory for them was refused.
+#[tactic(auto, using(crate::proofs::Plans::one_target))]
+fn targets(
+    alloc: Global,
+    draft: &Draft,
+    free: &[bool],
+    rising: bool,
+) -> Result<Vec<Option<Frac>>, AllocError>
+    ensures { IfOk result (λ targets. AreTargets rising free.now draft.now targets.items) }
+{
+    let mut targets = Vec::new(alloc);
+    for column in 0..draft.bounds().len() as u32 {
+        targets.push(moved(draft, column, free, rising))?;
+    }
+    Ok(targets)
+}
+
+/// The value that a column goes to; `None` where it doesn't move.
+fn target_at(targets: &[Option<Frac>], column: u32) -> Option<Frac>
+    ensures { result ≡ target_at targets.now column }
+{
+    match targets.get(column as usize) {
+        Some(target) => *target,
+        None => None,
+    }
+}
+
+/// The value that a column with a form goes to with its source, or the operation that overflows.
+fn follower(form: &ColumnForm, targets: &[Option<Frac>]) -> Result<Option<Frac>, Wide>
+    ensures { IfOk result (Follows targets.now form.now) }
+{
+    if form.factor.is_zero() {
+        return Ok(None);
+    }
+    let Some(value) = target_at(targets, form.source) else {
+        return Ok(None);
+    };
+    match form.constant.plus_product(form.factor, value) {
+        Ok(target) => Ok(Some(target)),
+        Err(wide) => Err(wide),
+    }
+}
+
+/// What a plan has for a column, or the operation that overflows.
+fn entry(
+    form: &Option<ColumnForm>,
+    targets: &[Option<Frac>],
+    column: u32,
+) -> Result<Option<Frac>, Wide>
+    ensures { IfOk result (IsEntry targets.now form.now column) }
+{
+    match form {
+        Some(form) => follower(form, targets),
+        None => Ok(target_at(targets, column)),
+    }
+}
+
+/// What a plan has for all columns; `None` where a number isn't in range. `Err` where the memory for it was refused.
+#[tactic(auto, using(crate::proofs::Plans::one_entry))]
+fn entries(
+    alloc: Global,
+    forms: &[Option<ColumnForm>],
+    targets: &[Option<Frac>],
+) -> Result<Option<Vec<Option<Frac>>>, AllocError>
+    requires { length forms.now < 2 ^ 32 }
+    ensures { IfOk result (λ found. IfSome found (λ plan. AreEntries forms.now targets.now plan.items)) }
+{
+    let mut plan = Vec::new(alloc);
+    for column in 0..forms.len() {
+        let form = &forms[column];
+        match entry(form, targets, column as u32) {
+            Ok(target) => plan.push(target)?,
+            Err(_) => return Ok(None),
+        }
+    }
+    Ok(Some(plan))
+}
+
+/// Where all columns go; `None` where a number isn't in range. `Err` where the memory for it was refused.
+#[tactic(auto, using(crate::proofs::Plans::planning))]
+fn planned(
+    alloc: Global,
+    draft: &Draft,
+    forms: &[Option<ColumnForm>],
+    rising: bool,
+) -> Result<Option<Vec<Option<Frac>>>, AllocError>
+    requires may { MayAllGo draft.now forms.now }
+    requires sources { SourcesStay forms.now }
+    ensures { IfOk result (λ found. IfSome found (λ plan. IsPlanned rising draft.now forms.now plan.items)) }
+{
+    let columns = draft.bounds().len();
+    let free = free_columns(alloc, draft.rows(), forms, columns, rising)?;
+    let targets = targets(alloc, draft, free.as_slice(), rising)?;
+    entries(alloc, forms, targets.as_slice())
+}
+
+/// Gives a column its target as both sides, where it has one.
+fn take_one(draft: &mut Draft, column: u32, target: Option<Frac>)
+    requires inside { column < length draft.old.bounds }
+    requires plain { IfSome target (λ value. is_open (choice_at draft.old.choices column) ≡ false) }
+    ensures { draft.new ≡ with_target draft.old column target }
+{
+    match target {
+        Some(value) => draft.set_sides(
+            column,
+            Sides {
+                low: Some(value),
+                high: Some(value),
+            },
+        ),
+        None => {}
+    }
+}
+
+/// Gives each column that moves its target as both sides.
+#[tactic(auto, using(crate::proofs::Plans::taking_plans))]
+fn take_plan(draft: &mut Draft, plan: &[Option<Frac>])
+    requires { (column : ℕ) (value : ℚ)
+        → target_at plan.now column ≡ Some value → is_open (choice_at draft.old.choices column) ≡ false }
+    ensures { IsTaken plan.now draft.old draft.new }
+{
+    for column in 0..draft.bounds().len() as u32 {
+        take_one(draft, column, target_at(plan, column));
+    }
+}
+
+/// The numbers of the columns that move. `Err` comes where a growth was refused.
+fn moved_columns(alloc: Global, plan: &[Option<Frac>]) -> Result<Vec<u32>, AllocError>
+    requires { length plan.now < 2 ^ 32 }
+{
+    let mut numbers = Vec::new(alloc);
+    for column in 0..plan.len() {
+        if plan[column].is_some() {
+            numbers.push(column as u32)?;
+        }
+    }
+    Ok(numbers)
+}
+
+/// Moves all columns that no row keeps from rising, or from falling, to their greatest or least values, where these
+/// cost no more, and those whose forms have such a column as source with it: the numbers of the columns that moved. A
+/// row that gives a column that is left out its form holds nothing. Nothing is done where a number isn't in range.
+/// `Err` comes where a growth was refused.
+#[tactic(auto, using(crate::proofs::Planned::taking))]
+pub fn try_moves(
+    alloc: Global,
+    draft: &mut Draft,
+    forms: &[Option<ColumnForm>],
+    rising: bool,
+) -> Result<Vec<u32>, AllocError>
+    requires may { MayAllGo draft.old forms.now }
+    requires sources { SourcesStay forms.now }
+    requires rows { RowsGo forms.now draft.old.rows }
+    ensures step { IsStep draft.old draft.new }
+    ensures rows { draft.new.rows ≡ draft.old.rows }
+{
+    let _bounds = draft.bounds();
+    let Some(plan) = planned(alloc, draft, forms, rising)? else {
+        return Ok(Vec::new(alloc));
+    };
+    let numbers = moved_columns(alloc, plan.as_slice())?;
+    take_plan(draft, plan.as_slice());
+    Ok(numbers)
+}

@@ -1,0 +1,8 @@
+use Rattle.std.proofs.Common.{Some, sym, ap, ◌∙◌}
+use Rattle.cip_rational.proofs.Comparisons.{is_le-compare}
+use Rattle.cip_price.specs.BlockAsks.{closes}
+use Rattle.cip_price.proofs.block_rounds.closes.Goals as goal
+
+pub returns-in-Finite : goal.returns-in-Finite
+returns-in-Finite c =
+    c.le.ensures ∙ (is_le-compare _ _ ∙ sym (ap (closes c.args.price) (c.in-Some.is ∙ ap Some c.in-Finite.is)))

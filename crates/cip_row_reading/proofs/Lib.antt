@@ -1,3 +1,0 @@
-pub mod Enclosing
-pub mod FixedColumns
-pub mod PassedOn

@@ -1,0 +1,197 @@
+//! The propagator of reduced costs.
+ghost use Rattle.std.specs.Prelude.{None, codes};
+
+use crate::cost_rows::CostRow;
+use cip_frac::Frac;
+use cip_lin::{Combo, Row, RowMultiple};
+use cip_plugin::{Plugin, Propagator, Reduction, View};
+use cip_row_sums::{
+    Implied, Narrowing, Patience, Region, Source, UNIT, cost_of, list_implied, most_cost,
+    reduction_of, rough,
+};
+use std::alloc::{AllocError, Global};
+
+// The most sides of a call: each is judged with all rows of the bound.
+const MOST_SIDES: usize = 8;
+
+// So many calls go by behind one that brought sides.
+const REST: u32 = 32;
+
+// The greatest denominator of a factor of the bound.
+const MOST_UNDER: i128 = 1 << 48;
+
+/// A propagator: where a cost is held, sides of whole columns that the multipliers of the last linear program imply.
+/// Its rows added up with the cutoff row leave minus the reduced costs, so a column with one is near its side at each
+/// point that is cheaper. Behind the root it looks only where the last point's cost is near the one held; 32 calls
+/// go by behind one that brought sides, and behind each that brought none twice as many as before.
+#[derive(Drop)]
+pub struct ReducedCostPropagator {
+    cost_row: CostRow,
+    implied: Vec<Implied>,
+    patience: Patience,
+}
+
+/// Whether what a point costs is less than the most that a cheaper one may cost by at most a sixteenth of that,
+/// roughly.
+fn is_near(costs: &[Frac], point: &[Frac], most: Frac) -> bool {
+    let Some(cost) = cost_of(costs, point) else {
+        return false;
+    };
+    let far = i128::from(rough(most));
+    let gap = far.wrapping_sub(i128::from(cost));
+    gap.wrapping_mul(16) <= far.wrapping_abs().max(i128::from(UNIT))
+}
+
+/// Whether reduced costs may imply sides: of the root, or where the last point's cost is near the one held.
+fn may_pay(view: &View<'_>) -> bool {
+    match (view.point, most_cost(view)) {
+        (Some(point), Some(most)) => view.node == 0 || is_near(view.costs, point, most),
+        _ => false,
+    }
+}
+
+/// Whether a factor of the bound's rows has a long denominator: then work on these rows is long, and so is the judge's
+/// on each side.
+fn is_long(combo: &Combo) -> bool {
+    for multiple in combo.rows.as_slice() {
+        if multiple.factor.denominator() > MOST_UNDER {
+            return true;
+        }
+    }
+    false
+}
+
+/// Whether a column is whole.
+fn is_whole(whole: &[bool], col: u32) -> bool {
+    match whole.get(col as usize) {
+        Some(is_whole) => *is_whole,
+        None => false,
+    }
+}
+
+/// Adds sides of whole columns, or all of them where they show that the box has no point.
+fn add_sides(
+    alloc: Global,
+    view: &View<'_>,
+    implied: &[Implied],
+    rows: &[RowMultiple],
+    narrowing: Narrowing,
+    reductions: &mut Vec<Reduction>,
+) -> Result<(), AllocError> {
+    for item in implied {
+        if reductions.len() >= MOST_SIDES {
+            return Ok(());
+        }
+        if narrowing == Narrowing::Contradiction || is_whole(view.whole, item.col) {
+            reductions.push(reduction_of(alloc, *item, rows)?)?;
+        }
+    }
+    Ok(())
+}
+
+impl ReducedCostPropagator {
+    /// One that was never called. It takes no memory.
+    pub fn new(alloc: Global) -> ReducedCostPropagator {
+        ReducedCostPropagator {
+            cost_row: CostRow::new(alloc),
+            implied: Vec::new(alloc),
+            patience: Patience::new(),
+        }
+    }
+
+    /// Adds what the row of reduced costs implies.
+    fn narrow(
+        &mut self,
+        alloc: Global,
+        view: &View<'_>,
+        row: &Row,
+        reductions: &mut Vec<Reduction>,
+    ) -> Result<(), AllocError> {
+        let region = Region {
+            sides: view.bounds.as_slice(),
+            whole: view.whole,
+            is_exact: false,
+        };
+        self.implied.clear();
+        let most = view.costs.len();
+        let narrowing = list_implied(row, Source::AtLeast, &region, most, &mut self.implied)?;
+        add_sides(
+            alloc,
+            view,
+            self.implied.as_slice(),
+            self.cost_row.rows.as_slice(),
+            narrowing,
+            reductions,
+        )
+    }
+
+    /// The row of reduced costs, where the last linear program has a combination.
+    fn row(&mut self, alloc: Global, view: &View<'_>) -> Result<Option<Row>, AllocError> {
+        match (view.combo, view.cutoff) {
+            (Some(combo), Some(cutoff)) if !is_long(combo) => self
+                .cost_row
+                .take(alloc, view, combo, cutoff),
+            _ => Ok(None),
+        }
+    }
+
+    /// Adds what is implied, where that may pay, and notes whether there was anything.
+    fn narrow_all(
+        &mut self,
+        alloc: Global,
+        view: &View<'_>,
+        reductions: &mut Vec<Reduction>,
+    ) -> Result<(), AllocError> {
+        if !self.patience.is_turn() || !may_pay(view) {
+            return Ok(());
+        }
+        if let Some(row) = self.row(alloc, view)? {
+            self.narrow(alloc, view, &row, reductions)?;
+        }
+        if reductions.is_empty() {
+            self.patience.lose();
+        } else {
+            self.patience.gain(REST);
+        }
+        Ok(())
+    }
+}
+
+impl Plugin for ReducedCostPropagator {
+    ghost told = { λ _. None };
+
+    ghost label = { λ _. codes "redcost" };
+
+    fn name(&self) -> &str {
+        "redcost"
+    }
+
+    fn priority(&self) -> i32 {
+        10
+    }
+
+    fn init(&mut self, _alloc: Global) -> Result<(), AllocError> {
+        Ok(())
+    }
+
+    fn init_solve(&mut self, _alloc: Global, _view: &View<'_>) -> Result<(), AllocError> {
+        self.patience = Patience::new();
+        Ok(())
+    }
+
+    fn exit_solve(&mut self) {
+        self.implied.clear();
+    }
+
+    fn exit(&mut self) {}
+}
+
+impl Propagator for ReducedCostPropagator {
+    fn propagate(&mut self, alloc: Global, view: &View<'_>) -> Result<Vec<Reduction>, AllocError> {
+        let mut reductions = Vec::new(alloc);
+        match self.narrow_all(alloc, view, &mut reductions) {
+            Ok(()) => Ok(reductions),
+            Err(fault) => Err(fault),
+        }
+    }
+}

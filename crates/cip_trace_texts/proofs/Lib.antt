@@ -1,3 +1,0 @@
-pub mod FrontTexts
-pub mod SelfLines
-pub mod TraceTexts

@@ -1,3 +1,0 @@
-pub mod SelfTexts
-pub mod Statements
-pub mod TraceTexts
