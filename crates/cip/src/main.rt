@@ -7,13 +7,26 @@ use cip_io::{HostSink, HostStore};
 use std::process::ExitCode;
 use std::{env, io};
 
+/// Adds the words of the command line, without the program's name.
+fn add_words(rt: &(impl std::rt::Env + AllocGlobal), words: &mut Words) -> io::Result<()> {
+    for word in env::args(rt)?.skip(1) {
+        let added = words.add(word.as_str());
+        drop(word);
+        added?;
+    }
+    Ok(())
+}
+
 /// The words of the command line, without the program's name.
 fn words(rt: &(impl std::rt::Env + AllocGlobal)) -> io::Result<Words> {
     let mut words = Words::new(rt.alloc())?;
-    for word in env::args(rt)?.skip(1) {
-        words.add(word.as_str())?;
+    match add_words(rt, &mut words) {
+        Ok(()) => Ok(words),
+        Err(fault) => {
+            drop(words);
+            Err(fault)
+        }
     }
-    Ok(words)
 }
 
 fn main(rt: HostRuntime) -> ExitCode {
@@ -22,7 +35,11 @@ fn main(rt: HostRuntime) -> ExitCode {
         Ok(words) => {
             let mut store = HostStore::new(&rt);
             let mut logs = Vec::new(rt.alloc());
-            match run_with_builtins(rt.alloc(), &words, &mut store, &mut out, &mut logs) {
+            let ran = run_with_builtins(rt.alloc(), &words, &mut store, &mut out, &mut logs);
+            drop(logs);
+            drop(store);
+            drop(words);
+            match ran {
                 Ok(status) => status,
                 Err(_) => say(&mut out, Plain::NoMemory),
             }

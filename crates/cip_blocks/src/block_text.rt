@@ -216,6 +216,8 @@ impl<'a> PieceText for BlockText<'a> {
     fn finish(self) -> Result<Blocks, ReadFault<BlockKind>> {
         let mut text = self;
         text.names_stand_once();
-        text.end()
+        let blocks = text.end();
+        drop(text);
+        blocks
     }
 }

@@ -102,8 +102,13 @@ fn rows_left(alloc: Global, draft: Draft, gone: &[bool]) -> Result<Vec<Row>, All
 {
     let mut rows = draft.into_rows();
     leave_out(&mut rows, gone);
-    renumber(alloc, &mut rows, gone)?;
-    Ok(rows)
+    match renumber(alloc, &mut rows, gone) {
+        Ok(()) => Ok(rows),
+        Err(error) => {
+            drop(rows);
+            Err(error)
+        }
+    }
 }
 
 /// The program of these parts, with other rows.
@@ -241,9 +246,12 @@ fn copied(alloc: Global, program: &Program) -> Result<Program, AllocError>
         return Err(AllocError);
     };
     let Ok(column_names) = copied_names(alloc, program.column_names()) else {
+        drop(rows);
         return Err(AllocError);
     };
     let Ok(row_names) = copied_names(alloc, program.row_names()) else {
+        drop(rows);
+        drop(column_names);
         return Err(AllocError);
     };
     Ok(Program::new(Parts {

@@ -25,10 +25,19 @@ fn subproblem(
     ensures { IfOk result (IsBuilt program.now places.now (part_at blocks.now block)) }
 {
     let columns = blocks.columns(block);
-    let rows = rows_at(alloc, program.rows(), blocks.rows(block), places)?;
-    let whole = flags_at(alloc, program.whole(), columns)?;
-    let choices = choices_at(alloc, program.choices(), columns)?;
-    let bounds = sides_at(alloc, program.bounds(), columns)?;
+    let Ok(rows) = rows_at(alloc, program.rows(), blocks.rows(block), places) else {
+        return Err(AllocError);
+    };
+    let Ok(whole) = flags_at(alloc, program.whole(), columns) else {
+        return Err(AllocError);
+    };
+    let Ok(choices) = choices_at(alloc, program.choices(), columns) else {
+        return Err(AllocError);
+    };
+    let Ok(bounds) = sides_at(alloc, program.bounds(), columns) else {
+        drop(choices);
+        return Err(AllocError);
+    };
     Ok(Subproblem {
         rows,
         whole,

@@ -38,7 +38,10 @@ pub(crate) fn sides_at(
     let mut kept = Bounds::new(alloc, 0)?;
     for number in numbers {
         if (*number as usize) < bounds.len() {
-            kept.push(bounds.sides(*number))?;
+            let Ok(()) = kept.push(bounds.sides(*number)) else {
+                drop(kept);
+                return Err(AllocError);
+            };
         }
     }
     Ok(kept)
@@ -56,7 +59,10 @@ pub(crate) fn choices_at(
     let mut kept = Choices::new(alloc);
     for number in numbers {
         if (*number as usize) < choices.len() {
-            kept.push(choices.at(*number))?;
+            let Ok(()) = kept.push(choices.at(*number)) else {
+                drop(kept);
+                return Err(AllocError);
+            };
         }
     }
     Ok(kept)
@@ -73,6 +79,7 @@ fn placed_row(alloc: Global, row: &Row, places: &[u32]) -> Result<Row, AllocErro
         let col = places[term.col as usize];
         let coef = term.coef;
         if placed.append(Term { col, coef }).is_err() {
+            drop(placed);
             return Err(AllocError);
         }
     }

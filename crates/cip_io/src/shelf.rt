@@ -64,13 +64,22 @@ impl Shelf {
         ensures ok { OnOk result (self.new ≡ with_text self.old name.now text.now) }
         ensures err { OnErr result (self.new ≡ self.old) }
     {
-        let file = File {
-            name: String::from_str(self.alloc, name)?,
-            text: text.to_vec(self.alloc)?,
+        let Ok(text) = text.to_vec(self.alloc) else {
+            return Err(AllocError);
         };
-        self.files.insert(0, file)?;
-        self.chosen += 1;
-        Ok(())
+        let Ok(name) = String::from_str(self.alloc, name) else {
+            return Err(AllocError);
+        };
+        match self.files.insert(0, File { name, text }) {
+            Ok(()) => {
+                self.chosen += 1;
+                Ok(())
+            }
+            Err(refused) => {
+                drop(refused);
+                Err(AllocError)
+            }
+        }
     }
 
     /// Makes the text of a name the current one; false where the name isn't there, and then nothing changes.

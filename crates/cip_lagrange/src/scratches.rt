@@ -61,9 +61,16 @@ impl BlockScratch {
         requires { length part.now.bounds ≡ length part.now.whole.items }
         ensures { IfOk result (FitsBlock part.now) }
     {
-        let bounds = part.bounds.copied(alloc)?;
-        let choices = part.choices.copied(alloc)?;
-        let costs = vec![in alloc; Frac::zero(); part.whole.len()]?;
+        let Ok(costs) = vec![in alloc; Frac::zero(); part.whole.len()] else {
+            return Err(AllocError);
+        };
+        let Ok(bounds) = part.bounds.copied(alloc) else {
+            return Err(AllocError);
+        };
+        let Ok(choices) = part.choices.copied(alloc) else {
+            drop(bounds);
+            return Err(AllocError);
+        };
         Ok(BlockScratch {
             region: TreeRegion { bounds, choices },
             costs,
@@ -109,9 +116,15 @@ impl LagrangeScratch {
         ensures { IfOk result (FitsScratch program.now blocks.now) }
     {
         let columns = program.columns();
-        let rests = vec![in alloc; Frac::zero(); columns]?;
-        let row = SparseRow::new(alloc, columns)?;
-        let blocks = rooms(alloc, blocks.subproblems.as_slice())?;
+        let Ok(rests) = vec![in alloc; Frac::zero(); columns] else {
+            return Err(AllocError);
+        };
+        let Ok(blocks) = rooms(alloc, blocks.subproblems.as_slice()) else {
+            return Err(AllocError);
+        };
+        let Ok(row) = SparseRow::new(alloc, columns) else {
+            return Err(AllocError);
+        };
         Ok(LagrangeScratch { rests, blocks, row })
     }
 }

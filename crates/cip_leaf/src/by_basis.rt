@@ -58,7 +58,10 @@ pub(crate) fn shown_by_basis(
     ensures { IfOk result (λ found. IfSome found (IsValuesAnswer program.now leaf.now)) }
 {
     match shown_of(alloc, parts)? {
-        Some(Shown::Optimal { point, .. }) => best_of(alloc, program, leaf, point.as_slice()),
+        Some(Shown::Optimal { point, combo, .. }) => {
+            drop(combo);
+            best_of(alloc, program, leaf, point.as_slice())
+        }
         Some(Shown::Empty) => Ok(Some(LeafAnswer::NoPoint)),
         None => Ok(None),
     }

@@ -196,7 +196,10 @@ fn answer_at(
             drop(combo);
             optimum(alloc, program, wholes, point.as_slice())
         }
-        LpAnswer::Infeasible { .. } => Ok(LeafAnswer::NoPoint),
+        LpAnswer::Infeasible { combo } => {
+            drop(combo);
+            Ok(LeafAnswer::NoPoint)
+        }
         LpAnswer::Unbounded { point, ray } => {
             endless(alloc, program, wholes, point.as_slice(), ray.as_slice())
         }
@@ -220,11 +223,13 @@ fn answer_by_moves(
     ensures { IfOk result (IsValuesAnswer program.now wholes.now) }
 {
     let lp = Lp::new(parts.rows.as_slice(), &parts.bounds, parts.costs.as_slice());
-    if let Some(found) = shown_by_few(alloc, solver, program, wholes, &lp)? {
-        return Ok(found);
+    match shown_by_few(alloc, solver, program, wholes, &lp)? {
+        Some(found) => Ok(found),
+        None => match solve_fully(alloc, solver, &lp) {
+            Ok(end) => answer_at(alloc, program, wholes, parts, end),
+            Err(error) => Err(error),
+        },
     }
-    let end = solve_fully(alloc, solver, &lp)?;
-    answer_at(alloc, program, wholes, parts, end)
 }
 
 /// The answer on a leaf with this program: what a basis that is guessed shows of it, else what few moves do, and else
@@ -266,7 +271,11 @@ fn values_answer(
         return tested(alloc, program, wholes);
     }
     match parts_of_leaf(alloc, program, wholes) {
-        Ok(parts) => answer_on(alloc, program, wholes, &parts),
+        Ok(parts) => {
+            let answer = answer_on(alloc, program, wholes, &parts);
+            drop(parts);
+            answer
+        }
         Err(RowsFault::Wide(number)) => Ok(LeafAnswer::Wide {
             shown: Shown::Place(Place::Row(number)),
         }),

@@ -20,10 +20,11 @@ use std::alloc::AllocError;
 fn set_bound(draft: &mut LpDraft, name: &[u8], relation: Relation, limit: &Limit)
     ensures { draft.new ≡ facts_with draft.old (bound_set name.now (relation_shown relation) (limit_shown limit.now)) }
 {
+    let value = limit.value;
     match relation {
-        Relation::AtMost => draft.set_high(name, limit.value),
-        Relation::EqualTo => draft.set_both(name, limit.value),
-        Relation::AtLeast => draft.set_low(name, limit.value),
+        Relation::AtMost => draft.set_high(name, value),
+        Relation::EqualTo => draft.set_both(name, value),
+        Relation::AtLeast => draft.set_low(name, value),
     }
 }
 

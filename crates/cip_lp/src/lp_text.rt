@@ -323,7 +323,8 @@ impl LpText {
     fn into_program(self) -> Result<Program, AllocError>
         ensures { IfOk result (λ program. program ≡ lp_reading.result (stage_of self)) }
     {
-        let LpText { lines, .. } = self;
+        let LpText { lines, rest, .. } = self;
+        drop(rest);
         lines.into_program()
     }
 }

@@ -89,7 +89,8 @@ impl Statements {
     pub fn into_program(self) -> Result<Program, AllocError>
         ensures { IfOk result (λ program. program ≡ facts.program_of self.draft) }
     {
-        let Statements { draft, .. } = self;
+        let Statements { draft, place, .. } = self;
+        drop(place);
         draft.into_program()
     }
 }

@@ -17,7 +17,10 @@ fn bounds_of(alloc: Global, sides: &[Sides]) -> Result<Bounds, AllocError>
 {
     let mut bounds = Bounds::new(alloc, 0)?;
     for own in sides {
-        bounds.push(*own)?;
+        let Ok(()) = bounds.push(*own) else {
+            drop(bounds);
+            return Err(AllocError);
+        };
     }
     Ok(bounds)
 }
@@ -97,6 +100,12 @@ impl LpDraft {
     pub fn into_program(self) -> Result<Program, AllocError>
         ensures { IfOk result (λ program. program ≡ facts.program_of self) }
     {
-        bounds_of(self.alloc, self.sides.as_slice()).map(|bounds| self.into_bounded(bounds))
+        match bounds_of(self.alloc, self.sides.as_slice()) {
+            Ok(bounds) => Ok(self.into_bounded(bounds)),
+            Err(error) => {
+                drop(self);
+                Err(error)
+            }
+        }
     }
 }

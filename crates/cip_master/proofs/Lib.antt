@@ -12,5 +12,5 @@ pub mod Parts
 pub mod Says
 pub mod ShownLeast
 pub mod Solvable
-pub mod Taken
+pub mod OnePointMore
 pub mod Weighed

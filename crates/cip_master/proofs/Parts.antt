@@ -17,7 +17,7 @@ use Rattle.cip_decomposition.specs.declared.parts.Subproblem.{Subproblem}
 use Rattle.cip_decomposition.specs.declared.parts.Decomposed.{Decomposed}
 use Rattle.cip_decomposition.specs.Decompositions.{owners_in, IsSubproblem, IsDecompositionOf}
 use Rattle.cip_master.specs.KeptMasters.{ArePoolPoints}
-use Rattle.cip_master.proofs.Taken.{picked_few}
+use Rattle.cip_master.proofs.OnePointMore.{picked_few}
 use Rattle.cip_master.specs.declared.verdicts.PointVerdict.{PointVerdict}
 use Rattle.cip_master.specs.BlockVerdicts.{verdict_on, block_verdict, BlockVerdictSays}
 use Rattle.cip_master.proofs.Says.{verdict_says}

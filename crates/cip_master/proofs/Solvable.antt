@@ -17,7 +17,7 @@ use Rattle.cip_decomposition.proofs.Numbered.{few_numbers}
 use Rattle.cip_simplex.specs.LpShape.{IsSolvable}
 use Rattle.cip_master.specs.KeptMasters.{held_in, program_in, IsMasterOf}
 use Rattle.cip_master.specs.declared.masters.MasterProgram.{MasterProgram}
-use Rattle.cip_master.proofs.Taken.{masters_long, most_columns_kept}
+use Rattle.cip_master.proofs.OnePointMore.{masters_long, most_columns_kept}
 use Rattle.cip_master.proofs.Weighed.{form_long}
 use Rattle.cip_master.specs.MasterTasks.{Task, IsTask}
 use Rattle.cip_master.specs.MasterSolving.{IsKept, IsWhole}

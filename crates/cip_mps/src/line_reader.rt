@@ -81,7 +81,8 @@ impl LineReader {
     pub(crate) fn into_program(self) -> Result<Program, AllocError>
         ensures { IfOk result (λ program. program ≡ mps_steps.result (stage_of self)) }
     {
-        let LineReader { draft, .. } = self;
+        let LineReader { place, draft, .. } = self;
+        drop(place);
         draft.into_program()
     }
 }

@@ -19,6 +19,7 @@ use crate::line_reader::LineReader;
 use cip_mps_steps::{faults_of_ended_lines, texts_are_read};
 use cip_text::{KnownFault, PieceText, Pieces, ReadFault, TextFault, cut_line, told};
 use std::alloc::{AllocError, Global};
+use std::mem;
 
 /// The number of the kind of a text that is too long.
 const TOO_MANY: u32 = 18;
@@ -91,7 +92,7 @@ impl MpsText {
             ≡ progress_after number kind (stage_of self.old) }
     {
         if let Some(_) = kind {
-            self.lines = LineReader::new(self.alloc);
+            drop(mem::replace(&mut self.lines, LineReader::new(self.alloc)));
         }
     }
 
@@ -180,7 +181,8 @@ impl MpsText {
     fn into_program(self) -> Result<Program, AllocError>
         ensures { IfOk result (λ program. program ≡ mps_steps.result (stage_of self)) }
     {
-        let MpsText { lines, .. } = self;
+        let MpsText { pieces, lines, .. } = self;
+        drop(pieces);
         lines.into_program()
     }
 }

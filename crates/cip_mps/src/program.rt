@@ -145,15 +145,20 @@ impl Draft {
         ensures rows { IfOk result (λ parts. parts.1.items ≡ map finished_row (filter is_kept self.rows)) }
     {
         let Draft {
+            opened,
             row_names,
             rows,
             column_names,
             columns,
             ..
         } = self;
+        drop(opened);
         drop(row_names);
         drop(columns);
-        let rows = rows.into_rows()?;
+        let Ok(rows) = rows.into_rows() else {
+            drop(column_names);
+            return Err(AllocError);
+        };
         Ok((column_names.into_names(), rows))
     }
 

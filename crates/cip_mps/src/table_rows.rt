@@ -17,6 +17,7 @@ fn keep_rows(finished: &mut Vec<Row>, heads: &[RowHead], rows: Vec<Row>) -> Resu
     let mut rest = heads;
     for row in rows {
         let Some((head, behind)) = rest.split_first() else {
+            drop(row);
             return Ok(());
         };
         if !head.is_free() {

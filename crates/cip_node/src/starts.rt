@@ -155,6 +155,7 @@ impl Starts {
             return;
         };
         let Some(split) = split_of(low) else {
+            drop(start);
             return;
         };
         if self.are_too_many(start.len(), waiting) {
@@ -164,20 +165,30 @@ impl Starts {
         if self.splits.is_empty() {
             self.first = split;
         }
-        if let Some(place) = split.checked_sub(self.first) {
-            self.put(place, start);
+        match split.checked_sub(self.first) {
+            Some(place) => self.put(place, start),
+            None => drop(start),
         }
+    }
+
+    /// Puts places without a start behind the others, as many as stand before a place; whether the next one is that.
+    fn reach(&mut self, place: usize) -> bool {
+        for _ in self.splits.len()..place {
+            if self.splits.push(None).is_err() {
+                return false;
+            }
+        }
+        self.splits.len() == place
     }
 
     /// Puts a start to a place behind the others.
     fn put(&mut self, place: usize, start: Start) {
-        for _ in self.splits.len()..place {
-            if self.splits.push(None).is_err() {
-                return;
-            }
+        if !self.reach(place) {
+            drop(start);
+            return;
         }
         let shared = Shared { start, used: false };
-        if self.splits.len() == place && self.splits.push(Some(shared)).is_ok() {
+        if self.splits.push(Some(shared)).is_ok() {
             self.kept = self.kept.saturating_add(1);
         }
     }

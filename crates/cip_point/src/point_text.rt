@@ -189,8 +189,17 @@ impl<'a> PieceText for PointText<'a> {
     fn finish(self) -> Result<Vec<Frac>, ReadFault<PointKind>> {
         let mut text = self;
         text.names_stand_once();
-        told::<PointKind>(text.close())?;
-        let PointText { alloc, lines, .. } = text;
+        if let Err(fault) = told::<PointKind>(text.close()) {
+            drop(text);
+            return Err(ReadFault::Faulty(fault));
+        }
+        let PointText {
+            alloc,
+            pieces,
+            lines,
+            ..
+        } = text;
+        drop(pieces);
         Ok(lines.into_point(alloc)?)
     }
 }

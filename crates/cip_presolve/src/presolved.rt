@@ -24,9 +24,19 @@ pub fn presolve(alloc: Global, program: &Program) -> Result<PresolveEnd, AllocEr
 {
     let _columns = program.columns();
     let mut draft = Draft::new(alloc, program)?;
-    match reduce(alloc, &mut draft)? {
-        RoundEnd::NoPoint { place } => Ok(PresolveEnd::NoPoint { place }),
-        RoundEnd::Open => Ok(PresolveEnd::Reduced(compacted(alloc, program, draft, true)?)),
+    match reduce(alloc, &mut draft) {
+        Ok(RoundEnd::Open) => match compacted(alloc, program, draft, true) {
+            Ok(presolved) => Ok(PresolveEnd::Reduced(presolved)),
+            Err(error) => Err(error),
+        },
+        Ok(RoundEnd::NoPoint { place }) => {
+            drop(draft);
+            Ok(PresolveEnd::NoPoint { place })
+        }
+        Err(error) => {
+            drop(draft);
+            Err(error)
+        }
     }
 }
 
@@ -37,9 +47,19 @@ pub fn presolve_all(alloc: Global, program: &Program) -> Result<PresolveEnd, All
 {
     let _columns = program.columns();
     let mut draft = Draft::new(alloc, program)?;
-    match reduce_exactly(alloc, &mut draft)? {
-        RoundEnd::NoPoint { place } => Ok(PresolveEnd::NoPoint { place }),
-        RoundEnd::Open => Ok(PresolveEnd::Reduced(compacted(alloc, program, draft, false)?)),
+    match reduce_exactly(alloc, &mut draft) {
+        Ok(RoundEnd::Open) => match compacted(alloc, program, draft, false) {
+            Ok(presolved) => Ok(PresolveEnd::Reduced(presolved)),
+            Err(error) => Err(error),
+        },
+        Ok(RoundEnd::NoPoint { place }) => {
+            drop(draft);
+            Ok(PresolveEnd::NoPoint { place })
+        }
+        Err(error) => {
+            drop(draft);
+            Err(error)
+        }
     }
 }
 

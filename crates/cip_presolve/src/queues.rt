@@ -12,12 +12,16 @@ pub struct Queue {
 }
 
 impl Queue {
-    /// No row of so many waits. `Err` where the memory for it was refused.
-    pub fn new(alloc: Global, rows: usize) -> Result<Queue, AllocError> {
-        Ok(Queue {
-            waiting: Vec::new(alloc),
-            marked: vec![in alloc; false; rows]?,
-        })
+    /// All of so many rows wait, the first one to be looked at first. `Err` where the memory for it was refused.
+    fn full(alloc: Global, rows: usize) -> Result<Queue, AllocError>
+        requires { rows < 2 ^ 32 }
+    {
+        let marked = vec![in alloc; true; rows]?;
+        let mut waiting = Vec::new(alloc);
+        for back in 0..rows {
+            waiting.push((rows - 1 - back) as u32)?;
+        }
+        Ok(Queue { waiting, marked })
     }
 
     /// A row waits from now on. `Err` comes where a growth was refused.
@@ -70,9 +74,17 @@ impl RowLists {
     /// Puts a row into the list of each of its columns.
     fn add(&mut self, row: &Row, number: u32) -> Result<(), AllocError> {
         for term in row.terms() {
-            if let Some(list) = self.lists.get_mut(term.col as usize) {
-                list.push(number)?;
-            }
+            self.put(number, term.col)?;
+        }
+        Ok(())
+    }
+
+    /// Puts these rows into the lists of their columns.
+    fn add_all(&mut self, rows: &[Row]) -> Result<(), AllocError>
+        requires { length rows.now < 2 ^ 32 }
+    {
+        for number in 0..rows.len() {
+            self.add(&rows[number], number as u32)?;
         }
         Ok(())
     }
@@ -82,18 +94,21 @@ impl RowLists {
         requires { length rows.now < 2 ^ 32 }
     {
         let mut lists = RowLists::empty(alloc, columns)?;
-        for number in 0..rows.len() {
-            lists.add(&rows[number], number as u32)?;
+        match lists.add_all(rows) {
+            Ok(()) => Ok(lists),
+            Err(error) => {
+                drop(lists);
+                Err(error)
+            }
         }
-        Ok(lists)
     }
 
     /// A row has a term on a column from now on. `Err` comes where a growth was refused.
     pub fn put(&mut self, row: u32, column: u32) -> Result<(), AllocError> {
-        if let Some(list) = self.lists.get_mut(column as usize) {
-            list.push(row)?;
+        match self.lists.get_mut(column as usize) {
+            Some(list) => Ok(list.push(row)?),
+            None => Ok(()),
         }
-        Ok(())
     }
 
     /// The rows of a column.
@@ -123,18 +138,20 @@ impl Work {
     pub fn new(alloc: Global, rows: &[Row], columns: usize) -> Result<Work, AllocError>
         requires { length rows.now < 2 ^ 32 }
     {
-        let lists = RowLists::new(alloc, rows, columns)?;
         let used = vec![in alloc; false; rows.len()]?;
-        let mut queue = Queue::new(alloc, rows.len())?;
-        for back in 0..rows.len() {
-            queue.add((rows.len() - 1 - back) as u32)?;
+        let queue = Queue::full(alloc, rows.len())?;
+        match RowLists::new(alloc, rows, columns) {
+            Ok(lists) => Ok(Work {
+                queue,
+                lists,
+                used,
+                steps: 0,
+            }),
+            Err(error) => {
+                drop(queue);
+                Err(error)
+            }
         }
-        Ok(Work {
-            queue,
-            lists,
-            used,
-            steps: 0,
-        })
     }
 
     /// Whether as many steps were taken as may be.
@@ -193,10 +210,8 @@ impl Work {
 
     /// Whether a row gave a column its form for a substitution.
     pub fn is_used(&self, row: u32) -> bool {
-        match self.used.get(row as usize) {
-            Some(used) => *used,
-            None => true,
-        }
+        let at = row as usize;
+        at >= self.used.len() || self.used[at]
     }
 
     /// A row gives a column its form for a substitution.

@@ -6,7 +6,7 @@ ghost use Rattle.cip_presolve.specs.RoundEnds.{RoundEndsRightly};
 
 use crate::keys::sorted_keys;
 use crate::queues::Work;
-use crate::row_looks::{Place, RoundEnd, look_at, merge_pair};
+use crate::row_looks::{Place, RoundEnd, look_at, merge_pair, open_after};
 use crate::substituting::substitute_all;
 use crate::try_moves;
 use cip_compaction::{Draft, Outcome, forms_out};
@@ -29,9 +29,9 @@ fn look_at_all(alloc: Global, draft: &mut Draft, work: &mut Work) -> Result<Roun
         let Some(row) = work.next() else {
             return Ok(RoundEnd::Open);
         };
-        match look_at(alloc, draft, row, work)? {
-            RoundEnd::Open => {}
-            end => return Ok(end),
+        match look_at(alloc, draft, row, work) {
+            Ok(RoundEnd::Open) => {}
+            end => return end,
         }
     }
     Ok(RoundEnd::Open)
@@ -47,9 +47,9 @@ fn merge_rows(alloc: Global, draft: &mut Draft, work: &mut Work) -> Result<Round
 {
     let keys = sorted_keys(alloc, draft.rows())?;
     for at in 1..keys.len() {
-        match merge_pair(alloc, draft, keys[at - 1], keys[at], work)? {
-            RoundEnd::Open => {}
-            end => return Ok(end),
+        match merge_pair(alloc, draft, keys[at - 1], keys[at], work) {
+            Ok(RoundEnd::Open) => {}
+            end => return end,
         }
     }
     Ok(RoundEnd::Open)
@@ -84,9 +84,9 @@ fn look_and_merge(alloc: Global, draft: &mut Draft, work: &mut Work) -> Result<R
     ensures end { IfOk result (RoundEndsRightly draft.new) }
     ensures rows { length draft.new.rows ≡ length draft.old.rows }
 {
-    match look_at_all(alloc, draft, work)? {
-        RoundEnd::Open => merge_rows(alloc, draft, work),
-        end => Ok(end),
+    match look_at_all(alloc, draft, work) {
+        Ok(RoundEnd::Open) => merge_rows(alloc, draft, work),
+        end => end,
     }
 }
 
@@ -99,9 +99,9 @@ fn settle(alloc: Global, draft: &mut Draft, work: &mut Work) -> Result<RoundEnd,
     ensures rows { length draft.new.rows ≡ length draft.old.rows }
 {
     for _ in 0..MOST_ROUNDS {
-        match look_and_merge(alloc, draft, work)? {
-            RoundEnd::Open => {}
-            end => return Ok(end),
+        match look_and_merge(alloc, draft, work) {
+            Ok(RoundEnd::Open) => {}
+            end => return end,
         }
         if work.is_done() {
             return Ok(settle_columns(draft));
@@ -118,7 +118,9 @@ pub(crate) fn reduce_exactly(alloc: Global, draft: &mut Draft) -> Result<RoundEn
     ensures rows { length draft.new.rows ≡ length draft.old.rows }
 {
     let mut work = Work::new(alloc, draft.rows(), draft.bounds().len())?;
-    settle(alloc, draft, &mut work)
+    let end = settle(alloc, draft, &mut work);
+    drop(work);
+    end
 }
 
 /// The rows of columns that were moved wait from now on. `Err` comes where a growth was refused.
@@ -170,9 +172,9 @@ fn settle_and_substitute(
     ensures end { IfOk result (RoundEndsRightly draft.new) }
     ensures rows { length draft.new.rows ≡ length draft.old.rows }
 {
-    match settle(alloc, draft, work)? {
-        RoundEnd::Open => substitute_all(alloc, draft, work),
-        end => Ok(end),
+    match settle(alloc, draft, work) {
+        Ok(RoundEnd::Open) => substitute_all(alloc, draft, work),
+        end => end,
     }
 }
 
@@ -189,17 +191,33 @@ fn settle_and_move(
     ensures end { IfOk result (RoundEndsRightly draft.new) }
     ensures rows { length draft.new.rows ≡ length draft.old.rows }
 {
-    match settle_and_substitute(alloc, draft, work)? {
-        RoundEnd::Open => {
-            move_both(alloc, draft, work)?;
-            Ok(RoundEnd::Open)
-        }
-        end => Ok(end),
+    match settle_and_substitute(alloc, draft, work) {
+        Ok(RoundEnd::Open) => open_after(move_both(alloc, draft, work)),
+        end => end,
     }
 }
 
-/// Takes the steps until none applies. `Err` comes where a growth was refused.
+/// Takes rounds of all steps until none applies. `Err` comes where a growth was refused.
 #[tactic(auto, using(crate::proofs::Chained::dual_chains))]
+fn take_rounds(alloc: Global, draft: &mut Draft, work: &mut Work) -> Result<RoundEnd, AllocError>
+    requires { length draft.old.rows ≤ most_rows }
+    ensures step { IsStep draft.old draft.new }
+    ensures end { IfOk result (RoundEndsRightly draft.new) }
+    ensures rows { length draft.new.rows ≡ length draft.old.rows }
+{
+    for _ in 0..MOST_ROUNDS {
+        match settle_and_move(alloc, draft, work) {
+            Ok(RoundEnd::Open) => {}
+            end => return end,
+        }
+        if work.is_done() {
+            return Ok(settle_columns(draft));
+        }
+    }
+    Ok(settle_columns(draft))
+}
+
+/// Takes the steps until none applies. `Err` comes where a growth was refused.
 pub(crate) fn reduce(alloc: Global, draft: &mut Draft) -> Result<RoundEnd, AllocError>
     requires { length draft.old.rows ≤ most_rows }
     ensures step { IsStep draft.old draft.new }
@@ -207,14 +225,7 @@ pub(crate) fn reduce(alloc: Global, draft: &mut Draft) -> Result<RoundEnd, Alloc
     ensures rows { length draft.new.rows ≡ length draft.old.rows }
 {
     let mut work = Work::new(alloc, draft.rows(), draft.bounds().len())?;
-    for _ in 0..MOST_ROUNDS {
-        match settle_and_move(alloc, draft, &mut work)? {
-            RoundEnd::Open => {}
-            end => return Ok(end),
-        }
-        if work.is_done() {
-            return Ok(settle_columns(draft));
-        }
-    }
-    Ok(settle_columns(draft))
+    let end = take_rounds(alloc, draft, &mut work);
+    drop(work);
+    end
 }

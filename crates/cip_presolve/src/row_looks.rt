@@ -2,6 +2,7 @@
 ghost use Rattle.std.specs.Prelude.{IfOk, length, ◌<◌, ◌≡◌};
 ghost use Rattle.cip_reductions.specs.NarrowedPrograms.{IsExactStep};
 ghost use Rattle.cip_compaction.specs.Taken.{IsEnclosed};
+ghost use Rattle.cip_problem.specs.Program.{Program};
 ghost use Rattle.cip_presolve.specs.RoundEnds.{RoundEndsRightly};
 
 use crate::keys::{are_alike, row_of};
@@ -12,7 +13,7 @@ use cip_lin::Sides;
 use std::alloc::{AllocError, Global};
 
 /// A row or a column at which no point is feasible.
-#[derive(Clone, Copy, PartialEq, Eq)]
+#[derive(Clone, Copy)]
 pub enum Place {
     /// The row of this number, from 0.
     Row(u32),
@@ -29,15 +30,27 @@ pub enum RoundEnd {
     NoPoint { place: Place },
 }
 
-/// Tells the work of a step, if one was taken. `Err` comes where a growth was refused.
-pub(crate) fn tell(work: &mut Work, outcome: Outcome) -> Result<(), AllocError> {
+/// That all is open once the work was told of a step.
+pub(crate) fn open_after(told: Result<(), AllocError>) -> Result<RoundEnd, AllocError>
+    ensures { IfOk result (λ end. (program : Program) → RoundEndsRightly program end) }
+{
+    match told {
+        Ok(()) => Ok(RoundEnd::Open),
+        Err(error) => Err(error),
+    }
+}
+
+/// Tells the work of a step, if one was taken; all is open then. `Err` comes where a growth was refused.
+pub(crate) fn tell(work: &mut Work, outcome: Outcome) -> Result<RoundEnd, AllocError>
+    ensures { IfOk result (λ end. (program : Program) → RoundEndsRightly program end) }
+{
     match outcome {
-        Outcome::Tightened(column) => work.column_changed(column),
+        Outcome::Tightened(column) => open_after(work.column_changed(column)),
         Outcome::Gone => {
             work.count_step();
-            Ok(())
+            Ok(RoundEnd::Open)
         }
-        _ => Ok(()),
+        _ => Ok(RoundEnd::Open),
     }
 }
 
@@ -66,14 +79,12 @@ fn imply_at(
     ensures rows { draft.new.rows ≡ draft.old.rows }
 {
     let TermPlace { row, at, is_open } = term;
-    match try_implied(alloc, draft, row as usize, at, extent, is_open)? {
-        Outcome::NoPoint => Ok(RoundEnd::NoPoint {
+    match try_implied(alloc, draft, row as usize, at, extent, is_open) {
+        Ok(Outcome::NoPoint) => Ok(RoundEnd::NoPoint {
             place: Place::Row(row),
         }),
-        outcome => {
-            tell(work, outcome)?;
-            Ok(RoundEnd::Open)
-        }
+        Ok(outcome) => tell(work, outcome),
+        Err(error) => Err(error),
     }
 }
 
@@ -99,9 +110,9 @@ fn imply(
             at,
             is_open: open.has(at),
         };
-        match imply_at(alloc, draft, term, extent, work)? {
-            RoundEnd::Open => {}
-            end => return Ok(end),
+        match imply_at(alloc, draft, term, extent, work) {
+            Ok(RoundEnd::Open) => {}
+            end => return end,
         }
     }
     Ok(RoundEnd::Open)
@@ -123,15 +134,13 @@ pub(crate) fn look_at(
     if number >= draft.count() || says_nothing(draft.row(number)) {
         return Ok(RoundEnd::Open);
     }
-    match draft.reduce_row(alloc, number)? {
-        Outcome::NoPoint => Ok(RoundEnd::NoPoint {
+    match draft.reduce_row(alloc, number) {
+        Ok(Outcome::NoPoint) => Ok(RoundEnd::NoPoint {
             place: Place::Row(row),
         }),
-        Outcome::Kept => imply(alloc, draft, row, work),
-        outcome => {
-            tell(work, outcome)?;
-            Ok(RoundEnd::Open)
-        }
+        Ok(Outcome::Kept) => imply(alloc, draft, row, work),
+        Ok(outcome) => tell(work, outcome),
+        Err(error) => Err(error),
     }
 }
 
@@ -154,14 +163,12 @@ pub(crate) fn merge_pair(
     if !are_alike(first, second) || gone >= draft.count() || stays as usize >= draft.count() {
         return Ok(RoundEnd::Open);
     }
-    match try_merge(alloc, draft, stays as usize, gone)? {
-        Outcome::NoPoint => Ok(RoundEnd::NoPoint {
+    match try_merge(alloc, draft, stays as usize, gone) {
+        Ok(Outcome::NoPoint) => Ok(RoundEnd::NoPoint {
             place: Place::Row(stays),
         }),
-        Outcome::Gone => {
-            work.row_changed(stays)?;
-            Ok(RoundEnd::Open)
-        }
-        _ => Ok(RoundEnd::Open),
+        Ok(Outcome::Gone) => open_after(work.row_changed(stays)),
+        Ok(_) => Ok(RoundEnd::Open),
+        Err(error) => Err(error),
     }
 }

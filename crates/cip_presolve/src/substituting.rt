@@ -11,6 +11,7 @@ use crate::row_looks::{Place, RoundEnd, tell};
 use cip_compaction::{
     ColumnForm, Draft, Outcome, form_at, is_substitute, move_cost, take_sides, try_replace,
 };
+use cip_lin::Term;
 use std::alloc::{AllocError, Global};
 
 /// A column, and the form that a row gives it.
@@ -53,21 +54,27 @@ fn fewer_first(work: &Work, first: u32, second: u32) -> (u32, u32) {
     }
 }
 
+/// The columns of two terms; `None` where there are more or fewer.
+fn two_columns(terms: &[Term]) -> Option<(u32, u32)> {
+    match terms {
+        [first, second] => Some((first.col, second.col)),
+        _ => None,
+    }
+}
+
 /// The substitution by a row: of the column that stands in fewer rows, or else of the other one; `None` where it gives
 /// neither.
 fn found_by(draft: &Draft, row: u32, work: &Work) -> Option<Substitution>
     requires { row < length draft.now.rows }
     ensures { IfSome result (IsFound draft.now) }
 {
-    match draft.row(row as usize).terms() {
-        [first, second] => {
-            let (own, other) = fewer_first(work, first.col, second.col);
-            match found_for(draft, row, own) {
-                Some(found) => Some(found),
-                None => found_for(draft, row, other),
-            }
-        }
-        _ => None,
+    let Some((first, second)) = two_columns(draft.row(row as usize).terms()) else {
+        return None;
+    };
+    let (own, other) = fewer_first(work, first, second);
+    match found_for(draft, row, own) {
+        None => found_for(draft, row, other),
+        found => found,
     }
 }
 
@@ -145,10 +152,7 @@ fn take_over_sides(
         Outcome::NoPoint => Ok(RoundEnd::NoPoint {
             place: Place::Row(found.row),
         }),
-        outcome => {
-            tell(work, outcome)?;
-            Ok(RoundEnd::Open)
-        }
+        outcome => tell(work, outcome),
     }
 }
 
@@ -185,8 +189,10 @@ fn substitute(
     ensures end { IfOk result (RoundEndsRightly draft.new) }
     ensures rows { length draft.new.rows ≡ length draft.old.rows }
 {
-    replace_all(alloc, draft, found, work)?;
-    take_over(alloc, draft, found, work)
+    match replace_all(alloc, draft, found, work) {
+        Ok(()) => take_over(alloc, draft, found, work),
+        Err(error) => Err(error),
+    }
 }
 
 /// Substitutes a column by a row that gives one its form, unless the row was used before. `Err` comes where a growth
@@ -229,9 +235,9 @@ pub(crate) fn substitute_all(
     ensures rows { length draft.new.rows ≡ length draft.old.rows }
 {
     for row in 0..draft.count() {
-        match substitute_by(alloc, draft, row as u32, work)? {
-            RoundEnd::Open => {}
-            end => return Ok(end),
+        match substitute_by(alloc, draft, row as u32, work) {
+            Ok(RoundEnd::Open) => {}
+            end => return end,
         }
     }
     Ok(RoundEnd::Open)

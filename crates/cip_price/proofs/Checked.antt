@@ -14,7 +14,7 @@ use Rattle.cip_lagrange.specs.TreeOutcomes.{tree_outcome}
 use Rattle.cip_lagrange.specs.TreeMeaning.{own_rows}
 use Rattle.cip_lagrange.proofs.Ready.{are_ready}
 use Rattle.cip_lagrange.proofs.RowsAlone.{fits_alone}
-use Rattle.cip_master.proofs.Taken.{picked_few}
+use Rattle.cip_master.proofs.OnePointMore.{picked_few}
 use Rattle.cip_master.specs.MasterTasks.{Task, IsTask}
 use Rattle.cip_price.specs.BlockAsks.{block_node, bound_if_ok, shown_by}
 

@@ -27,7 +27,7 @@ use Rattle.cip_lagrange.specs.TreeOutcomes.{tree_outcome}
 use Rattle.cip_lagrange.specs.TreeMeaning.{own_rows as rows_alone, TreeFollows, number_of}
 use Rattle.cip_lagrange.proofs.FollowedTrees.{tree_follows, tree_bounds}
 use Rattle.cip_lagrange.proofs.RowsAlone.{fits_alone}
-use Rattle.cip_master.proofs.Taken.{picked_few}
+use Rattle.cip_master.proofs.OnePointMore.{picked_few}
 use Rattle.cip_master.specs.MasterTasks.{Task, IsTask}
 use Rattle.cip_price.specs.Asks.{Asked}
 use Rattle.cip_price.specs.BlockAsks.{costs_in, tree_in, tree_asked, block_node, bound_if_ok, shown_by, shown_in, closes}

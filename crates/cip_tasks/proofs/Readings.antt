@@ -150,23 +150,22 @@ is_check job model name old between new program point limited lines asked r same
   long = long model _ program _ between new point limited lines r.is_read p;
 }
 
--- a cause over what a call answers
-pub not_done : {X : Type 0} (Done : X → Type 0) (Cause : Plain → Type 0) (answer : Plain) (result : Result X Plain) → Cause answer → IsErr result × IsErrAnd result (λ given. given ≡ answer) → MatchResult result Done Cause
-not_done Done Cause answer (Ok x) h e = let no : ⊥ = let failed = e.0 in cc in absurd no
-not_done Done Cause answer (Err given) h e = subst Cause (sym e.1) h
+-- the answer that is given for a cause
+plain_for : {K : Type 0} (faulty : TextFault K → FaultyText) (cause : Unread K) (given : Plain) → IsPlain (λ fault said. said ≡ faulty fault) cause given → given ≡ plain_of faulty cause
+plain_for faulty StoreFailed given p = p
+plain_for faulty (Faulty fault) plain.Usage p = absurd p
+plain_for faulty (Faulty fault) plain.ReadFault p = absurd p
+plain_for faulty (Faulty fault) (plain.Refused text) p = ap plain.Refused p
+plain_for faulty (Faulty fault) plain.NoMemory p = absurd p
+plain_for faulty NoMemory given p = p
+
+cause_told : {K : Type 0} (faulty : TextFault K → FaultyText) (Cause : Plain → Type 0) (cause : Unread K) (given : Plain) → Cause (plain_of faulty cause) → IsPlain (λ fault said. said ≡ faulty fault) cause given → Cause given
+cause_told faulty Cause cause given h p = subst Cause (sym (plain_for faulty cause given p)) h
 
 -- nothing was read of a text
 pub not_read : {X K : Type 0} (faulty : TextFault K → FaultyText) (Done : X → Type 0) (Cause : Plain → Type 0) (cause : Unread K) (result : Result X Plain) → Cause (plain_of faulty cause) → IsErr result × IsErrAnd result (IsPlain (λ fault said. said ≡ faulty fault) cause) → MatchResult result Done Cause
-not_read {K = K} faulty Done Cause cause (Ok x) h e = let no : ⊥ = let failed = e.0 in cc in absurd no
-not_read {K = K} faulty Done Cause cause (Err given) h e = subst Cause (sym (is cause given e.1)) h
-  where
-    is : (cause : Unread K) (given : Plain) → IsPlain (λ fault said. said ≡ faulty fault) cause given → given ≡ plain_of faulty cause
-    is StoreFailed given p = p
-    is (Faulty fault) plain.Usage p = absurd p
-    is (Faulty fault) plain.ReadFault p = absurd p
-    is (Faulty fault) (plain.Refused text) p = ap plain.Refused p
-    is (Faulty fault) plain.NoMemory p = absurd p
-    is NoMemory given p = p
+not_read faulty Done Cause cause (Ok x) h e = let no : ⊥ = let failed = e.0 in cc in absurd no
+not_read faulty Done Cause cause (Err given) h e = cause_told faulty Cause cause given h e.1
 
 -- a job to solve a program that is drawn asks for few columns and rows
 pub few_columns : (asked : Job) (seed columns rows : ℕ) → AsksForSome asked → asked ≡ Generate seed columns rows → columns ≤ most_drawn

@@ -121,9 +121,16 @@ fn read_solve<S: Store>(
         (TaskCause job (S.tells store.old) (S.tells store.new)) }
 {
     let program = read_program(alloc, store, model)?;
-    take_blocks(alloc, store, blocks, &program)?;
-    programs_are_limited();
-    Ok(program)
+    match take_blocks(alloc, store, blocks, &program) {
+        Err(answer) => {
+            drop(program);
+            Err(answer)
+        }
+        Ok(()) => {
+            programs_are_limited();
+            Ok(program)
+        }
+    }
 }
 
 /// Reads the texts of a model and of a point.
@@ -240,16 +247,20 @@ pub fn read_task<'a, S: Store, P: Tells>(
         (S.tells store.new)) }
 {
     match job_for(words, plugins) {
+        Err(fault) => Err(Plain::from(fault)),
         Ok(
             Job::Solve {
                 model,
                 blocks,
                 limits,
             },
-        ) => {
-            let program = read_solve(alloc, store, model, blocks)?;
-            Ok(Task::Solve { program, limits })
-        }
+        ) => match read_solve(alloc, store, model, blocks) {
+            Err(answer) => {
+                drop(limits);
+                Err(answer)
+            }
+            Ok(program) => Ok(Task::Solve { program, limits }),
+        },
         Ok(Job::Check { model, point }) => read_check(alloc, store, model, point),
         Ok(
             Job::Generate {
@@ -258,6 +269,5 @@ pub fn read_task<'a, S: Store, P: Tells>(
                 rows,
             },
         ) => draw(alloc, seed, columns, rows),
-        Err(fault) => Err(Plain::from(fault)),
     }
 }

@@ -20,4 +20,4 @@ pub answer_at-requires-clause-end : goal.answer_at-requires-clause-end
 answer_at-requires-clause-end c =
     let made = rw (c.as_slice.ensures.value, c.as_slice-2.ensures.value) at c.new-lp.ensures in
     let linear : c.new-lp.result ≡ program_of_leaf c.args.program.now c.args.wholes.now = made ∙ c.requires.parts in
-    subst (λ (p : LinearProgram). IsAnswer (whole_answer p) c.in_ok-end.end) linear c.in_ok-end.ensures.answer
+    subst (λ (p : LinearProgram). IsAnswer (whole_answer p) c.in-Ok.end) linear c.in-Ok.ensures.answer

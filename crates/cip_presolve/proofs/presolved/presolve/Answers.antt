@@ -6,10 +6,10 @@ use Rattle.cip_compaction.specs.DraftParts.{unnamed}
 use Rattle.cip_compaction.proofs.LeftPairs.{infeasible_named}
 use Rattle.cip_presolve.proofs.presolved.presolve.Goals as goal
 
-pub returns-in-NoPoint : goal.returns-in-NoPoint
-returns-in-NoPoint c =
+pub returns-in-Ok-NoPoint : goal.returns-in-Ok-NoPoint
+returns-in-Ok-NoPoint c =
     let step : IsStep (unnamed c.args.program.now) c.reduce.new.draft = subst (λ (p : Program). IsStep p c.reduce.new.draft) c.in_ok-draft.ensures c.reduce.ensures.step in
-    let none : IsInfeasible c.reduce.new.draft = rw c.in-NoPoint.is at c.in_ok-place.ensures.end in
+    let none : IsInfeasible c.reduce.new.draft = rw c.in-Ok-NoPoint.field-0-is at c.in-Ok-NoPoint.ensures.end in
     infeasible_named c.args.program.now c.reduce.new.draft step none
 
 pub reduce-requires : goal.reduce-requires

@@ -7,10 +7,10 @@ use Rattle.cip_presolve.proofs.Chained.{is_step}
 use Rattle.cip_compaction.proofs.LeftPairs.{infeasible_exactly}
 use Rattle.cip_presolve.proofs.presolved.presolve_all.Goals as goal
 
-pub returns-in-NoPoint : goal.returns-in-NoPoint
-returns-in-NoPoint c =
+pub returns-in-Ok-NoPoint : goal.returns-in-Ok-NoPoint
+returns-in-Ok-NoPoint c =
     let step : IsExactStep (unnamed c.args.program.now) c.reduce_exactly.new.draft = subst (λ (p : Program). IsExactStep p c.reduce_exactly.new.draft) c.in_ok-draft.ensures c.reduce_exactly.ensures.step in
-    let none : IsInfeasible c.reduce_exactly.new.draft = rw c.in-NoPoint.is at c.in_ok-place.ensures.end in
+    let none : IsInfeasible c.reduce_exactly.new.draft = rw c.in-Ok-NoPoint.field-0-is at c.in-Ok-NoPoint.ensures.end in
     infeasible_exactly c.args.program.now c.reduce_exactly.new.draft step none
 
 pub reduce_exactly-requires : goal.reduce_exactly-requires

@@ -8,8 +8,8 @@ loop-preserved c = record {
   rows = c.look_at.ensures.rows ∙ c.loop.invariant.rows;
 }
 
-pub returns-in_err-end-clause-step : goal.returns-in_err-end-clause-step
-returns-in_err-end-clause-step c = follows _ _ _ c.loop.invariant.step c.look_at.ensures.step
+pub returns-in_default-look_at-clause-step : goal.returns-in_default-look_at-clause-step
+returns-in_default-look_at-clause-step c = follows _ _ _ c.loop.invariant.step c.look_at.ensures.step
 
-pub returns-in_default-2-clause-step : goal.returns-in_default-2-clause-step
-returns-in_default-2-clause-step c = follows _ _ _ c.loop.invariant.step c.look_at.ensures.step
+pub returns-in_default-look_at-2-clause-step : goal.returns-in_default-look_at-2-clause-step
+returns-in_default-look_at-2-clause-step c = follows _ _ _ c.loop.invariant.step c.look_at.ensures.step

@@ -8,8 +8,5 @@ loop-at-preserved c = record {
   rows = c.merge_pair.ensures.rows ∙ c.loop-at.invariant.rows;
 }
 
-pub returns-in_err-end-clause-step : goal.returns-in_err-end-clause-step
-returns-in_err-end-clause-step c = follows _ _ _ c.loop-at.invariant.step c.merge_pair.ensures.step
-
 pub returns-in_default-clause-step : goal.returns-in_default-clause-step
 returns-in_default-clause-step c = follows _ _ _ c.loop-at.invariant.step c.merge_pair.ensures.step

@@ -8,11 +8,11 @@ loop-preserved c = record {
   rows = c.look_and_merge.ensures.rows ∙ c.loop.invariant.rows;
 }
 
-pub returns-in_err-end-clause-step : goal.returns-in_err-end-clause-step
-returns-in_err-end-clause-step c = follows _ _ _ c.loop.invariant.step c.look_and_merge.ensures.step
-
 pub returns-in_default-clause-step : goal.returns-in_default-clause-step
 returns-in_default-clause-step c = follows _ _ _ c.loop.invariant.step c.look_and_merge.ensures.step
+
+pub returns-in_default-2-clause-step : goal.returns-in_default-2-clause-step
+returns-in_default-2-clause-step c = follows _ _ _ c.loop.invariant.step c.look_and_merge.ensures.step
 
 pub returns-then-is_done-clause-step : goal.returns-then-is_done-clause-step
 returns-then-is_done-clause-step c =

@@ -10,8 +10,8 @@ loop-at-preserved c = record {
   enclosed = stays_enclosed _ _ _ _ c.imply_at.ensures.step c.imply_at.ensures.rows c.loop-at.invariant.enclosed;
 }
 
-pub returns-in_err-end-clause-step : goal.returns-in_err-end-clause-step
-returns-in_err-end-clause-step c = follows _ _ _ c.loop-at.invariant.step c.imply_at.ensures.step
-
 pub returns-in_default-clause-step : goal.returns-in_default-clause-step
 returns-in_default-clause-step c = follows _ _ _ c.loop-at.invariant.step c.imply_at.ensures.step
+
+pub returns-in_default-2-clause-step : goal.returns-in_default-2-clause-step
+returns-in_default-2-clause-step c = follows _ _ _ c.loop-at.invariant.step c.imply_at.ensures.step

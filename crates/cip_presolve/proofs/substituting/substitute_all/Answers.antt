@@ -8,8 +8,8 @@ loop-row-preserved c = record {
   rows = c.substitute_by.ensures.rows ∙ c.loop-row.invariant.rows;
 }
 
-pub returns-in_err-end-clause-step : goal.returns-in_err-end-clause-step
-returns-in_err-end-clause-step c = follows _ _ _ c.loop-row.invariant.step c.substitute_by.ensures.step
-
 pub returns-in_default-clause-step : goal.returns-in_default-clause-step
 returns-in_default-clause-step c = follows _ _ _ c.loop-row.invariant.step c.substitute_by.ensures.step
+
+pub returns-in_default-2-clause-step : goal.returns-in_default-2-clause-step
+returns-in_default-2-clause-step c = follows _ _ _ c.loop-row.invariant.step c.substitute_by.ensures.step

@@ -12,7 +12,7 @@ use Rattle.cip_master.specs.BlockSums.{coefficient_in}
 use Rattle.cip_master.specs.WeightTerms.{with_weight, weighted}
 use Rattle.cip_master.specs.KeptMasters.{Wide_cost}
 use Rattle.cip_master.proofs.Numbers.{count_is, block_inside, block_found}
-use Rattle.cip_master.proofs.Taken.{puts_point}
+use Rattle.cip_master.proofs.OnePointMore.{puts_point}
 use Rattle.cip_master.proofs.masters.MasterProgram.put_point.Goals as goal
 
 pub columns-numbers-requires : goal.columns-numbers-requires

@@ -1,6 +1,6 @@
 use Rattle.std.proofs.Common.{◌<◌, List, length, get_or, ap, refl, sym, ◌∙◌, subst}
 use Rattle.cip_columns.specs.PoolPoints.{PoolPoint}
-use Rattle.cip_master.proofs.Taken.{all_seen, few_columns, masters_long, seen_more, taken_fault}
+use Rattle.cip_master.proofs.OnePointMore.{all_seen, few_columns, masters_long, seen_more, taken_fault}
 use Rattle.cip_master.specs.KeptMasters.{held_in}
 use Rattle.std.proofs.Common.{take}
 use Rattle.cip_master.proofs.masters.MasterProgram.take_points.Goals as goal

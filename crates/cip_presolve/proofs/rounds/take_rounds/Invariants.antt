@@ -1,6 +1,6 @@
 use Rattle.std.proofs.Common.{◌≡◌, length}
 use Rattle.cip_reductions.specs.NarrowedPrograms.{IsStep}
-use Rattle.cip_presolve.proofs.rounds.reduce.Given as goal
+use Rattle.cip_presolve.proofs.rounds.take_rounds.Given as goal
 
 abbrev pub invariant-loop : goal.invariant-loop
 invariant-loop l = record {
