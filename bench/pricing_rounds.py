@@ -6,7 +6,7 @@
     bench/pricing_rounds.py PROGRAM            prints the table, by crates/pricing_rounds/out/pricing_rounds
 
 The program prices the blocks of an LP text with a pricer that goes through all points of 0 and 1 of a block. Its sources
-are pricing/rounds.rt.txt and those of crates/cip_price_tests. The status is 0 where each program is closed at the least
+are pricing/rounds.rt.txt and those of crates/cip_cert_tests. The status is 0 where each program is closed at the least
 cost of a mixture, which this script works out by itself, in fractions.
 """
 import itertools
@@ -31,7 +31,7 @@ USES = "cip_lp cip_blocks cip_price cip_master cip_simplex " \
 def build(folder):
     """Copies the crates, with that of the program beside them."""
     shutil.copytree(f"{TOP}/crates", f"{folder}/crates", ignore=shutil.ignore_patterns("out", "must-fail"))
-    crate, tests = f"{folder}/crates/pricing_rounds", f"{TOP}/crates/cip_price_tests"
+    crate, tests = f"{folder}/crates/pricing_rounds", f"{TOP}/crates/cip_cert_tests"
     for part in ("src", "specs", "proofs/fill", "proofs/fill_block", "proofs/walks/+grow"):
         os.makedirs(f"{crate}/{part}")
     shutil.copy(f"{TOP}/bench/pricing/rounds.rt.txt", f"{crate}/src/main.rt")
@@ -40,7 +40,7 @@ def build(folder):
     for name in ("fill", "fill_block"):
         shutil.copy(f"{TOP}/bench/pricing/{name}.antt.txt", f"{crate}/proofs/{name}/Invariants.antt")
     with open(f"{tests}/proofs/walks/+grow/Invariants.antt", encoding="utf-8") as it:
-        grow = it.read().replace("cip_price_tests", "pricing_rounds")
+        grow = it.read().replace("cip_cert_tests", "pricing_rounds")
     for path, text in (("proofs/walks/+grow/Invariants", grow), ("proofs/Lib", ""), ("specs/Lib", "")):
         with open(f"{crate}/{path}.antt", "w", encoding="utf-8") as it:
             it.write(text)

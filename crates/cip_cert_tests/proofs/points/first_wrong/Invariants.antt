@@ -1,5 +1,5 @@
 use Rattle.cip_master.specs.KeptMasters.{ArePoolPoints}
-use Rattle.cip_price_tests.proofs.held_points.fill.Given as goal
+use Rattle.cip_cert_tests.proofs.points.first_wrong.Given as goal
 
 abbrev pub invariant-loop-at : goal.invariant-loop-at
 invariant-loop-at l = ArePoolPoints l.program l.blocks l.pool

@@ -1,5 +1,5 @@
 //! The rows and columns of blocks that a text names.
-use crate::programs::{APART, program_of};
+use crate::text_programs::{APART, program_of};
 use cip_blocks::read_blocks;
 use cip_model::{Blocks, Program};
 use std::alloc::Global;

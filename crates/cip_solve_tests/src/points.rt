@@ -1,5 +1,5 @@
 //! Texts of points that are read as a whole.
-use crate::programs::{JOINED, cost_at, program_of};
+use crate::text_programs::{JOINED, cost_at, program_of};
 use cip_model::Program;
 use cip_point::read_point;
 use std::alloc::Global;

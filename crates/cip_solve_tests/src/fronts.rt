@@ -1,5 +1,5 @@
 //! Texts of programs without their ends.
-use crate::programs::JOINED;
+use crate::text_programs::JOINED;
 use cip_input::read_program;
 use cip_io::SoundStore;
 use std::alloc::Global;

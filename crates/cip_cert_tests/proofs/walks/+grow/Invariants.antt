@@ -1,5 +1,5 @@
 use Rattle.std.proofs.Common.{◌-◌, length}
-use Rattle.cip_price_tests.proofs.walks.+grow.Given as goal
+use Rattle.cip_cert_tests.proofs.walks.+grow.Given as goal
 
 abbrev pub decreases-grow : goal.decreases-grow
 decreases-grow l = length l.costs.now - l.first

@@ -3,8 +3,8 @@
 ghost use Rattle.cip_decomposition.specs.Decompositions.{IsDecompositionOf};
 ghost use Rattle.cip_lagrange.specs.Scratches.{FitsScratch};
 
+use crate::bounding_trees::{Shape, tree_of};
 use crate::regions::{bound, empty, halves};
-use crate::trees::{Shape, tree_of};
 use cip_blocks::read_blocks;
 use cip_cert::{BoundTree, CutFault};
 use cip_decomposition::Decomposed;
