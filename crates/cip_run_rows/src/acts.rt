@@ -73,6 +73,15 @@ impl Mix {
             lows: Vec::new(alloc),
             highs: Vec::new(alloc),
         };
+        if self.put(&mut combo).is_err() {
+            drop(combo);
+            return Err(AllocError);
+        }
+        Ok(combo)
+    }
+
+    /// Puts its parts into a combination.
+    fn put(&self, combo: &mut Combo) -> Result<(), AllocError> {
         if let Some(row) = self.row {
             combo.rows.push(row)?;
         }
@@ -82,7 +91,7 @@ impl Mix {
         if let Some(high) = self.high {
             combo.highs.push(high)?;
         }
-        Ok(combo)
+        Ok(())
     }
 }
 

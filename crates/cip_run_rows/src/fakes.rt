@@ -25,24 +25,36 @@ pub struct Fake {
     wishes: [Option<Wish>; 10],
 }
 
-/// The rows of an act.
-fn cuts_of(alloc: Global, act: Act) -> Result<Vec<Cut>, AllocError> {
-    let mut cuts = Vec::new(alloc);
-    if let Act::Cuts {
+/// Puts the rows of an act at the end of a list.
+fn put_cuts(alloc: Global, act: Act, cuts: &mut Vec<Cut>) -> Result<(), AllocError> {
+    let Act::Cuts {
         count,
         round,
         local,
         mix,
     } = act
-    {
-        for _ in 0..count {
-            cuts.push(Cut {
-                combo: mix.combo(alloc)?,
-                round,
-                local,
-                split: None,
-            })?;
-        }
+    else {
+        return Ok(());
+    };
+    for _ in 0..count {
+        cuts.reserve(1)?;
+        let combo = mix.combo(alloc)?;
+        cuts.push_reserved(Cut {
+            combo,
+            round,
+            local,
+            split: None,
+        });
+    }
+    Ok(())
+}
+
+/// The rows of an act.
+fn cuts_of(alloc: Global, act: Act) -> Result<Vec<Cut>, AllocError> {
+    let mut cuts = Vec::new(alloc);
+    if put_cuts(alloc, act, &mut cuts).is_err() {
+        drop(cuts);
+        return Err(AllocError);
     }
     Ok(cuts)
 }
@@ -92,17 +104,22 @@ fn rounded(alloc: Global, point: &[Frac]) -> Result<Vec<Frac>, AllocError> {
     Ok(values)
 }
 
+/// The values of the point of an act, if it has one.
+fn point_of(alloc: Global, act: Act, view: &View<'_>) -> Result<Option<Vec<Frac>>, AllocError> {
+    match act {
+        Act::Point { count, first, rest } => Ok(Some(values_of(alloc, count, first, rest)?)),
+        Act::Floor => Ok(Some(rounded(alloc, view.point.unwrap_or(&[]))?)),
+        _ => Ok(None),
+    }
+}
+
 /// The points of an act: one, or none.
 fn points_of(alloc: Global, act: Act, view: &View<'_>) -> Result<Vec<Guess>, AllocError> {
+    let point = point_of(alloc, act, view)?;
     let mut points = Vec::new(alloc);
-    match act {
-        Act::Point { count, first, rest } => points.push(Guess {
-            values: values_of(alloc, count, first, rest)?,
-        })?,
-        Act::Floor => points.push(Guess {
-            values: rounded(alloc, view.point.unwrap_or(&[]))?,
-        })?,
-        _ => {}
+    if let Some(values) = point {
+        points.reserve(1)?;
+        points.push_reserved(Guess { values });
     }
     Ok(points)
 }

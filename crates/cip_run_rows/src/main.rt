@@ -41,7 +41,9 @@ fn show(rt: &(impl Files + Print + AllocGlobal), name: &str) -> io::Result<()> {
 /// Shows the rows in order, and ends at the first that can't be read.
 fn show_all(rt: &(impl Env + Files + Print + AllocGlobal)) -> io::Result<()> {
     for name in env::args(rt)?.skip(1) {
-        show(rt, name.as_str())?;
+        let shown = show(rt, name.as_str());
+        drop(name);
+        shown?;
     }
     Ok(())
 }

@@ -62,13 +62,27 @@ impl<'a> Row<'a> {
     /// The store of a run, with the texts.
     pub fn store(&self, alloc: Global, setup: &Setup<'_>) -> Result<MemoryStore, AllocError> {
         let mut store = MemoryStore::new(alloc, setup.piece.max(1));
+        if self.fill(alloc, &mut store, setup).is_err() {
+            drop(store);
+            return Err(AllocError);
+        }
+        Ok(store)
+    }
+
+    /// Puts into a store which call fails, and the texts.
+    fn fill(
+        &self,
+        alloc: Global,
+        store: &mut MemoryStore,
+        setup: &Setup<'_>,
+    ) -> Result<(), AllocError> {
         if let Some(call) = setup.fail {
             store.fail_at(call)?;
         }
-        if let Some(texts) = self.texts {
-            add_texts(alloc, &mut store, texts, setup)?;
+        match self.texts {
+            Some(texts) => add_texts(alloc, store, texts, setup),
+            None => Ok(()),
         }
-        Ok(store)
     }
 
     /// The number of bytes of all texts, or some more.
@@ -103,8 +117,17 @@ fn add_texts(
     Ok(())
 }
 
-/// Adds a text under the name in its first line: the lines behind that, the last one without its line feed where it
-/// is cut; of these the first bytes, where not all are kept.
+/// The bytes of a text of this name: the last line without its line feed where it is cut; of these the first, where not
+/// all are kept.
+fn kept_of<'t>(name: &str, whole: &'t str, setup: &Setup<'_>) -> &'t [u8] {
+    let bytes = match whole.strip_suffix('\n') {
+        Some(short) if setup.cut == Some(name) => short.as_bytes(),
+        _ => whole.as_bytes(),
+    };
+    bytes.get(..setup.kept).unwrap_or(bytes)
+}
+
+/// Adds a text under the name in its first line: the lines behind that, as far as they are kept.
 fn add_text(
     alloc: Global,
     store: &mut MemoryStore,
@@ -114,12 +137,11 @@ fn add_text(
     let Some((name, lines)) = text.split_once('\n') else {
         return store.add(text, b"");
     };
-    let mut text = String::new(alloc);
-    put_lines(lines, &mut text)?;
-    let whole = text.as_str();
-    let bytes = match whole.strip_suffix('\n') {
-        Some(short) if setup.cut == Some(name) => short.as_bytes(),
-        _ => whole.as_bytes(),
+    let mut whole = String::new(alloc);
+    let added = match put_lines(lines, &mut whole) {
+        Ok(()) => store.add(name, kept_of(name, whole.as_str(), setup)),
+        Err(error) => Err(error),
     };
-    store.add(name, bytes.get(..setup.kept).unwrap_or(bytes))
+    drop(whole);
+    added
 }
